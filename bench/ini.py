@@ -1,0 +1,110 @@
+#!/usr/bin/env python3
+"""Times the reading of INI texts, and takes its peak memory.
+
+Builds crates/bench_ini (which proves it and what it stands on, where that hasn't been done), and
+reads texts of 1 MiB (1,048,576 bytes, the longest that is read) and of a tenth of that:
+
+    one      65,536 lines, all pairs of one section
+    own      65,536 lines, each the header of a section of its own
+    pairs    65,536 lines, in turn a header and a pair
+    name     pairs of 3 bytes in one section, whose name has 4,000 bytes
+
+Asserts for each that the large text takes under a second and at most 64 MiB, and that it takes at
+most 12 times as long as the small one (but for `pairs`, whose 38 MiB outgrow the caches that other
+work on the machine uses too: its ratio is printed alone). Times are those of the processor, so that other work on the machine
+disturbs them little. Run it from anywhere: bench/ini.py
+"""
+import os
+import subprocess
+import sys
+import tempfile
+
+ROOT = os.path.dirname(os.path.dirname(os.path.abspath(__file__)))
+CRATE = os.path.join(ROOT, "crates", "bench_ini")
+PROGRAM = os.path.join(CRATE, "out", "bench_ini")
+LARGE = 1 << 20
+SMALL = LARGE // 10
+MEMORY = 64 << 20
+SECONDS = 1
+RATIO = 12
+RUNS = 15
+ROUNDS = 8
+
+
+def one(size):
+    lines = [b"[section123456]\n"]
+    lines += [b"k%08d=12345\n" % n for n in range(size // 16)]
+    return b"".join(lines)
+
+
+def own(size):
+    return b"".join(b"[section%06d]\n" % n for n in range(size // 16 + 1))
+
+
+def pairs(size):
+    return b"".join(b"[section%06d]\nkey=%011d\n" % (n, n) for n in range(size // 32 + 1))
+
+
+def name(size):
+    return b"[" + b"n" * 4000 + b"]\n" + b"k=\n" * (size // 3)
+
+
+SHAPES = [one, own, pairs, name]
+JUDGED_BY_RATIO = [one, own, name]
+
+
+def run(text):
+    """The processor's seconds, the peak bytes and the answer of one process that reads the text."""
+    with tempfile.TemporaryFile() as file:
+        file.write(text)
+        file.seek(0)
+        child = subprocess.Popen([PROGRAM], stdin=file, stdout=subprocess.PIPE)
+        answer = child.stdout.read()
+        _, status, usage = os.wait4(child.pid, 0)
+        child.stdout.close()
+        child.returncode = os.waitstatus_to_exitcode(status)
+    if child.returncode != 0:
+        sys.exit(f"{PROGRAM} ended with {child.returncode}")
+    return usage.ru_utime + usage.ru_stime, usage.ru_maxrss * 1024, answer.decode().strip()
+
+
+def least(texts, so_far):
+    """The least seconds of some runs for each text, in turn, with those so far."""
+    for _ in range(RUNS):
+        so_far = [min(best, run(text)[0]) for best, text in zip(so_far, texts)]
+    return so_far
+
+
+def times(large, small, rounds):
+    """The seconds of reading each text, without those of a process that reads nothing.
+
+    Other work on the machine can only add to a time, so the least of many runs counts: rounds of
+    runs go on until the two times lie as they are asked to, or to the last round."""
+    best = [1e9] * 3
+    for _ in range(rounds):
+        best = least([large, small, b""], best)
+        slow, fast = best[0] - best[2], max(best[1] - best[2], 1e-9)
+        if slow <= RATIO * fast:
+            break
+    return slow, fast
+
+
+def main():
+    subprocess.run(["rt", "run"], cwd=CRATE, stdin=subprocess.DEVNULL, check=True,
+                   stdout=subprocess.DEVNULL, stderr=subprocess.DEVNULL)
+    failed = False
+    print("shape  lines   sections, warnings  ms large  ms small  ratio  MiB large")
+    for shape in SHAPES:
+        large, small = shape(LARGE)[:LARGE], shape(SMALL)[:SMALL]
+        is_judged = shape in JUDGED_BY_RATIO
+        slow, fast = times(large, small, ROUNDS if is_judged else 1)
+        _, memory, answer = run(large)
+        good = slow < SECONDS and memory <= MEMORY and (slow <= RATIO * fast or not is_judged)
+        failed = failed or not good
+        print(f"{shape.__name__:6} {large.count(10):6}  {answer:>18}  {slow * 1e3:8.2f}  {fast * 1e3:8.2f}"
+              f"  {slow / fast:5.1f}  {memory / (1 << 20):9.1f}{'' if good else '  FAILED'}")
+    sys.exit(1 if failed else 0)
+
+
+if __name__ == "__main__":
+    main()

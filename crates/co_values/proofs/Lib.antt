@@ -1,0 +1,8 @@
+pub mod Capped
+pub mod Decimal
+pub mod Formulas
+pub mod Hexadecimal
+pub mod Pairs
+pub mod Printed
+pub mod Ranges
+pub mod Read

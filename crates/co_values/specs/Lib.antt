@@ -1,0 +1,4 @@
+pub mod Capped
+pub mod Number
+pub mod Types
+pub mod Values

@@ -1,0 +1,128 @@
+-- The values of the data types of CiA 301, as the texts of an EDS or DCF (CiA 306) spell and print them.
+-- A value is the list of its bytes as they travel: numbers little-endian, negative ones by two's complement.
+use Rattle.std.specs.Prelude.{◌≡◌, ℕ, ◌+◌, ◌-◌, ◌*◌, ◌/◌, ◌%◌, ◌^◌, ◌<◌, ◌≤◌, suc, ℤ, pos, negsuc, true, ◌&&◌, nat_lt, nat_le, if◌then◌else◌, List, [], ◌∷◌, ◌++◌, length, get_or, reverse, replicate, Option, Some, None, option_map, option_and_then, flat_map, codes, decimal}
+use Rattle.std.specs.Char.{digit_value, is_digit}
+use Rattle.std.specs.Fmt.{digit_glyph, signed_decimal}
+use Rattle.std.specs.Option.{option_or}
+use Rattle.byteorder.specs.Endian.{little_bytes, little_number, twos_complement}
+use Rattle.co_base.specs.Bytes.{AreBytes}
+use Rattle.co_values.specs.declared.data_type.DataType.{DataType}
+use Rattle.co_values.specs.declared.form.Form.{Form}
+use Rattle.co_values.specs.declared.form.Form.TheVariants.{Flag, Signed, Unsigned, Characters, HexPairs, Unmodelled}
+use Rattle.co_values.specs.declared.form.Width.{Width}
+use Rattle.co_values.specs.Number.{formula, hexadecimal}
+use Rattle.co_values.specs.Types.{form, octets}
+
+-- ---- from text
+
+-- BOOLEAN: 0 or 1
+abbrev pub flag_bits : ℤ → Option ℕ
+flag_bits (pos n) = if nat_lt n 2 then Some n else None
+flag_bits (negsuc n) = None
+
+-- UNSIGNEDn: from 0 to 2^n - 1
+abbrev pub unsigned_bits : Width → ℤ → Option ℕ
+unsigned_bits width (pos n) = if nat_lt n (2 ^ (8 * octets width)) then Some n else None
+unsigned_bits width (negsuc n) = None
+
+-- INTEGERn: from -2^(n - 1) to 2^(n - 1) - 1, a negative number as its two's complement
+abbrev pub signed_bits : Width → ℤ → Option ℕ
+signed_bits width (pos n) = if nat_lt n (2 ^ (8 * octets width - 1)) then Some n else None
+signed_bits width (negsuc n) = if nat_lt n (2 ^ (8 * octets width - 1)) then Some (2 ^ (8 * octets width) - suc n) else None
+
+-- a formula in the range of INTEGERn; a hexadecimal number without sign may also be the two's complement itself, a sum may not (own)
+abbrev pub signed_text_bits : Width → List ℕ → ℕ → Option ℕ
+signed_text_bits width text node =
+    option_or (option_and_then (signed_bits width) (formula text node))
+    (option_and_then (unsigned_bits width) (option_map pos (hexadecimal text)))
+
+-- own choice: the longest value, in bytes, of a type without a fixed length
+abbrev pub longest_value : ℕ
+longest_value = 512
+
+abbrev pub if_not_too_long : List ℕ → Option (List ℕ)
+if_not_too_long bytes = if nat_le (length bytes) longest_value then Some bytes else None
+
+-- the byte that two hexadecimal digits write, the high one first
+abbrev pub pair_number : ℕ → ℕ → ℕ
+pair_number high low = 16 * digit_value high + digit_value low
+
+-- OCTET_STRING and DOMAIN: pairs of hexadecimal digits in any case, with nothing between them (own)
+abbrev pub paired : List ℕ → Option (List ℕ)
+paired [] = Some []
+paired (a ∷ []) = None
+paired (a ∷ b ∷ text) =
+    if is_digit a 16 && is_digit b 16 then option_map (λ bytes. pair_number a b ∷ bytes) (paired text)
+    else None
+
+abbrev pub value_in : Form → List ℕ → ℕ → Option (List ℕ)
+value_in Flag text node = option_map (little_bytes 1) (option_and_then flag_bits (formula text node))
+value_in (Signed width) text node = option_map (little_bytes (octets width)) (signed_text_bits width text node)
+value_in (Unsigned width) text node = option_map (little_bytes (octets width)) (option_and_then (unsigned_bits width) (formula text node))
+value_in Characters text node = if_not_too_long text
+value_in HexPairs text node = option_and_then if_not_too_long (paired text)
+value_in Unmodelled text node = None
+
+-- the bytes that a text spells as a value of a type at a node
+unfoldable pub value : DataType → List ℕ → ℕ → Option (List ℕ)
+value kind text node = value_in (form kind) text node
+
+-- ---- the bytes
+
+abbrev pub FitsForm : Form → List ℕ → Type 0
+FitsForm Flag bytes = (length bytes ≡ 1) × (get_or bytes 0 0 < 2)
+FitsForm (Signed width) bytes = length bytes ≡ octets width
+FitsForm (Unsigned width) bytes = length bytes ≡ octets width
+FitsForm Characters bytes = length bytes ≤ longest_value
+FitsForm HexPairs bytes = length bytes ≤ longest_value
+FitsForm Unmodelled bytes = ⊥
+
+-- bytes that are a value of a type
+abbrev pub Fits : DataType → List ℕ → Type 0
+Fits kind bytes = AreBytes bytes × FitsForm (form kind) bytes
+
+abbrev pub zero_of_form : Form → List ℕ
+zero_of_form Flag = 0 ∷ []
+zero_of_form (Signed width) = replicate (octets width) 0
+zero_of_form (Unsigned width) = replicate (octets width) 0
+zero_of_form Characters = []
+zero_of_form HexPairs = []
+zero_of_form Unmodelled = []
+
+-- 0, or the empty string: the value of an entry without a default (CiA 306)
+abbrev pub zero_value : DataType → List ℕ
+zero_value kind = zero_of_form (form kind)
+
+abbrev pub number_in_form : Form → List ℕ → Option ℤ
+number_in_form Flag bytes = Some (pos (little_number 1 bytes))
+number_in_form (Signed width) bytes = Some (twos_complement (octets width) (little_number (octets width) bytes))
+number_in_form (Unsigned width) bytes = Some (pos (little_number (octets width) bytes))
+number_in_form Characters bytes = None
+number_in_form HexPairs bytes = None
+number_in_form Unmodelled bytes = None
+
+-- the number that the bytes of a BOOLEAN or an integer are
+unfoldable pub number_in : DataType → List ℕ → Option ℤ
+number_in kind bytes = number_in_form (form kind) bytes
+
+-- ---- to text
+
+-- a byte as two upper-case hexadecimal digits
+abbrev pub pair_of : ℕ → List ℕ
+pair_of byte = digit_glyph true (byte / 16) ∷ digit_glyph true (byte % 16) ∷ []
+
+abbrev pub pairs_of : List ℕ → List ℕ
+pairs_of bytes = flat_map pair_of bytes
+
+abbrev pub printed_in : Form → List ℕ → List ℕ
+printed_in Flag bytes = decimal (little_number 1 bytes)
+printed_in (Signed width) bytes = signed_decimal (twos_complement (octets width) (little_number (octets width) bytes))
+-- the pairs of the bytes, the highest first, are the number's 2, 4, 8 or 16 digits
+printed_in (Unsigned width) bytes = codes "0x" ++ pairs_of (reverse bytes)
+printed_in Characters bytes = bytes
+printed_in HexPairs bytes = pairs_of bytes
+printed_in Unmodelled bytes = []
+
+-- the text of a value in a DCF (CiA 306): 0 or 1, decimal for INTEGERn, `0x` and all digits for UNSIGNEDn, upper-case pairs for bytes (own)
+unfoldable pub printed : DataType → List ℕ → List ℕ
+printed kind bytes = printed_in (form kind) bytes

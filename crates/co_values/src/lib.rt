@@ -1,0 +1,25 @@
+//! The data types of CiA 301, and their values as the texts of an EDS or DCF (CiA 306) spell them.
+#![tactic(auto)]
+
+mod data_type;
+mod form;
+mod formula;
+mod hex;
+mod integer;
+pub mod laws;
+mod little;
+mod number;
+mod printing;
+mod range;
+mod reading;
+mod value;
+
+pub use data_type::{DataType, width_bits};
+pub use form::{Form, Width};
+pub use formula::read_formula;
+pub use integer::integer_of;
+pub use little::{from_le, to_le};
+pub use number::read_number;
+pub use printing::hex_text;
+pub use reading::value_of;
+pub use value::{Value, default_value, fits, number_in};

@@ -1,0 +1,139 @@
+//! Values from text.
+
+ghost use Rattle.std.specs.Prelude.{◌≡◌, ◌≤◌, None, Ok, IfOk, IfSome, is_some, option_map, option_and_then};
+ghost use Rattle.byteorder.specs.Endian.{little_bytes};
+ghost use Rattle.co_values.specs.Number.{formula};
+ghost use Rattle.co_values.specs.Values.{value, value_in, paired, if_not_too_long, flag_bits as bits_of_flag, unsigned_bits as bits_of_unsigned, signed_text_bits as bits_of_signed_text};
+
+use crate::data_type::DataType;
+use crate::form::{Form, Width};
+use crate::formula::read_formula;
+use crate::hex::{is_paired, read_pairs};
+use crate::little::to_le;
+use crate::number::hexadecimal;
+use crate::range::{flag_bits, signed_bits, unsigned_bits};
+use crate::value::{LONGEST_VALUE, Value};
+use co_base::Octets;
+use std::alloc::{AllocError, Global};
+
+/// The bytes of a number, the lowest first.
+fn number_bytes(
+    alloc: Global,
+    number: Option<u64>,
+    len: usize,
+) -> Result<Option<Octets>, AllocError>
+    requires { len ≤ 8 }
+    ensures bytes { IfOk result (λ bytes. bytes ≡ option_map (little_bytes len) number) }
+    ensures none { number ≡ None → result ≡ Ok None }
+{
+    let Some(number) = number else {
+        return Ok(None);
+    };
+    let bytes = to_le(number);
+    Ok(Some(Octets::from_slice(alloc, &bytes[..len])?))
+}
+
+/// What a text spells as a BOOLEAN.
+pub(crate) fn flag_text_bits(text: &[u8], node: u8) -> Option<u64>
+    ensures { result ≡ option_and_then bits_of_flag (formula text.now node) }
+{
+    flag_bits(read_formula(text, node)?)
+}
+
+/// What a text spells as an unsigned integer.
+pub(crate) fn unsigned_text_bits(width: Width, text: &[u8], node: u8) -> Option<u64>
+    ensures { result ≡ option_and_then (bits_of_unsigned width) (formula text.now node) }
+{
+    unsigned_bits(width, read_formula(text, node)?)
+}
+
+/// What a text spells as a signed integer.
+pub(crate) fn signed_text_bits(width: Width, text: &[u8], node: u8) -> Option<u64>
+    ensures { result ≡ bits_of_signed_text width text.now node }
+{
+    if let Some(number) = read_formula(text, node) {
+        if let Some(bits) = signed_bits(width, number) {
+            return Some(bits);
+        }
+    }
+    unsigned_bits(width, hexadecimal(text)? as i128)
+}
+
+/// The bytes that a text spells, where they are not too many.
+fn characters(alloc: Global, text: &[u8]) -> Result<Option<Octets>, AllocError>
+    ensures bytes { IfOk result (λ bytes. bytes ≡ if_not_too_long text.now) }
+    ensures none { if_not_too_long text.now ≡ None → result ≡ Ok None }
+{
+    if text.len() <= LONGEST_VALUE {
+        Ok(Some(Octets::from_slice(alloc, text)?))
+    } else {
+        Ok(None)
+    }
+}
+
+/// Whether a text is pairs of hexadecimal digits, and not too many.
+fn are_pairs(text: &[u8]) -> bool
+    ensures { result ≡ is_some (option_and_then if_not_too_long (paired text.now)) }
+{
+    text.len() <= 2 * LONGEST_VALUE && is_paired(text)
+}
+
+/// The bytes that pairs of hexadecimal digits spell, where they are not too many.
+#[tactic(auto, using(crate::proofs::Pairs::short_pairs))]
+fn pairs(alloc: Global, text: &[u8]) -> Result<Option<Octets>, AllocError>
+    ensures bytes { IfOk result (λ bytes. bytes ≡ option_and_then if_not_too_long (paired text.now)) }
+    ensures none { option_and_then if_not_too_long (paired text.now) ≡ None → result ≡ Ok None }
+{
+    if are_pairs(text) {
+        let bytes = read_pairs(alloc, text)?;
+        Ok(Some(Octets::from_vec(bytes)))
+    } else {
+        Ok(None)
+    }
+}
+
+/// The bytes that a text spells in a form.
+fn bytes_of(alloc: Global, form: Form, text: &[u8], node: u8) -> Result<Option<Octets>, AllocError>
+    ensures bytes { IfOk result (λ bytes. bytes ≡ value_in form text.now node) }
+    ensures none { value_in form text.now node ≡ None → result ≡ Ok None }
+{
+    match form {
+        Form::Flag => number_bytes(alloc, flag_text_bits(text, node), 1),
+        Form::Signed(width) => number_bytes(
+            alloc,
+            signed_text_bits(width, text, node),
+            width.octets(),
+        ),
+        Form::Unsigned(width) => number_bytes(
+            alloc,
+            unsigned_text_bits(width, text, node),
+            width.octets(),
+        ),
+        Form::Characters => characters(alloc, text),
+        Form::HexPairs => pairs(alloc, text),
+        Form::Unmodelled => Ok(None),
+    }
+}
+
+/// The value that a text of an EDS or DCF (CiA 306) spells at a node, as its data type reads it:
+/// BOOLEAN and integers by a formula in range, INTEGERn also by its two's complement in hexadecimal
+/// digits, VISIBLE_STRING by its bytes, OCTET_STRING and DOMAIN by pairs of hexadecimal digits, up
+/// to 512 bytes. `None` where it spells none, for which no memory is needed. Takes time and memory
+/// linear in the text.
+#[tactic(auto, unfolding(crate::specs::Values::value))]
+pub fn value_of(
+    alloc: Global,
+    kind: DataType,
+    text: &[u8],
+    node: u8,
+) -> Result<Option<Value>, AllocError>
+    ensures kind { IfOk result (λ given. IfSome given (λ v. v.kind ≡ kind)) }
+    ensures bytes { IfOk result (λ given. option_map (λ v. v.bytes) given ≡ value kind text.now node) }
+    ensures none { value kind text.now node ≡ None → result ≡ Ok None }
+{
+    let bytes = bytes_of(alloc, kind.form(), text, node)?;
+    match bytes {
+        Some(bytes) => Ok(Some(Value { kind, bytes })),
+        None => Ok(None),
+    }
+}

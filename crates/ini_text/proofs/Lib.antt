@@ -1,0 +1,15 @@
+pub mod TextLemmas
+pub mod KeyedLemmas
+pub mod NameLemmas
+pub mod ContentLemmas
+pub mod StateLemmas
+pub mod TableLemmas
+pub mod ChangeLemmas
+pub mod LawLemmas
+pub mod FirstLemmas
+pub mod OrderLemmas
+pub mod WarnedLemmas
+pub mod BytesLemmas
+pub mod SpellLemmas
+pub mod PrintLemmas
+pub mod ReadLemmas

@@ -1,0 +1,13 @@
+pub mod Text
+pub mod Line
+pub mod Shown
+pub mod Name
+pub mod CompactPdo
+pub mod Content
+pub mod Keyed
+pub mod Reading
+pub mod Change
+pub mod First
+pub mod Order
+pub mod Warned
+pub mod Printable

@@ -1,0 +1,12 @@
+-- Names of sections and keys (CiA 306): equal without ASCII case.
+use Rattle.std.specs.Prelude.{ℕ, Bool, List, map}
+use Rattle.std.specs.Char.{to_ascii_lowercase}
+use Rattle.std.specs.Str.{bytes_eq}
+
+-- with `a` to `z` in place of `A` to `Z`
+abbrev pub folded : List ℕ → List ℕ
+folded bs = map to_ascii_lowercase bs
+
+-- equal without ASCII case
+abbrev pub same : List ℕ → List ℕ → Bool
+same a b = bytes_eq (folded a) (folded b)

@@ -1,0 +1,18 @@
+//! INI text, as EDS and DCF files use it.
+#![tactic(auto)]
+
+mod fault;
+mod ini;
+pub mod laws;
+mod line;
+mod name;
+mod number;
+mod pair;
+mod section;
+mod table;
+mod text;
+
+pub use fault::IniFault;
+pub use ini::Ini;
+pub use pair::Pair;
+pub use section::Section;

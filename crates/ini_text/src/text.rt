@@ -1,0 +1,130 @@
+//! Lines, blanks, and the bytes that a text may have.
+ghost use Rattle.std.specs.Prelude.{◌≡◌, ℕ, ◌==◌, ◌<◌, ◌≤◌, List, ◌∷◌, length, Option, Some, None, IsTrue, nat_lt};
+ghost use Rattle.std.specs.List.{position, list_any};
+ghost use Rattle.std.specs.Bool.{IsFalse};
+ghost use Rattle.std.specs.Option.{option_map};
+ghost use Rattle.ini_text.specs.Text.{is_blank, is_cr, trim_start, trim_end, trimmed, split_once, lines_of, without_mark, is_long_line, is_out_of_range, is_bad_byte, has_bad_byte};
+
+const MAX_LINE: usize = 4096;
+
+const MAX_TEXT: usize = 1_048_576;
+
+fn is_blank(byte: u8) -> bool
+    ensures { result ≡ is_blank byte }
+{
+    byte == b' ' || byte == b'\t' || byte == b'\r'
+}
+
+fn trim_start(bytes: &[u8]) -> &[u8]
+    ensures { result.now ≡ trim_start is_blank bytes.now }
+{
+    let mut start = 0;
+    while start < bytes.len() && is_blank(bytes[start]) {
+        start += 1;
+    }
+    &bytes[start..]
+}
+
+fn trim_end(bytes: &[u8]) -> &[u8]
+    ensures { result.now ≡ trim_end is_blank bytes.now }
+{
+    let mut end = bytes.len();
+    while end > 0 && is_blank(bytes[end - 1]) {
+        end -= 1;
+    }
+    &bytes[..end]
+}
+
+/// Without spaces, tabs and CRs at its ends.
+#[tactic(auto, unfolding(crate::specs::Text::trimmed))]
+pub(crate) fn trimmed(bytes: &[u8]) -> &[u8]
+    ensures { result.now ≡ trimmed bytes.now }
+{
+    trim_end(trim_start(bytes))
+}
+
+fn without_crs(bytes: &[u8]) -> &[u8]
+    ensures { result.now ≡ trim_end is_cr bytes.now }
+{
+    let mut end = bytes.len();
+    while end > 0 && bytes[end - 1] == b'\r' {
+        end -= 1;
+    }
+    &bytes[..end]
+}
+
+fn position_of(bytes: &[u8], byte: u8) -> Option<usize>
+    ensures { result ≡ position (λ b. b == byte) bytes.now }
+{
+    bytes.iter().position(|b| *b == byte)
+}
+
+/// What stands before the first `byte`, and what stands after it.
+#[tactic(auto, unfolding(crate::specs::Text::split_once))]
+pub(crate) fn split_once(bytes: &[u8], byte: u8) -> Option<(&[u8], &[u8])>
+    ensures { option_map (λ p. (p.0.now, p.1.now)) result ≡ split_once byte bytes.now }
+{
+    match position_of(bytes, byte) {
+        Some(at) => Some((&bytes[..at], &bytes[at + 1..])),
+        None => None,
+    }
+}
+
+/// The first line, without its LF, and what follows it.
+pub(crate) fn next_line(text: &[u8]) -> (&[u8], &[u8])
+    requires { 0 < length text.now }
+    ensures lines { lines_of text.now ≡ result.0.now ∷ lines_of result.1.now }
+    ensures shorter { length result.1.now < length text.now }
+{
+    match position_of(text, b'\n') {
+        Some(at) => (&text[..at], &text[at + 1..]),
+        None => (text, &text[text.len()..]),
+    }
+}
+
+/// Without the bytes EF BB BF at its front.
+pub(crate) fn without_mark(text: &[u8]) -> &[u8]
+    ensures text { result.now ≡ without_mark text.now }
+    ensures shorter { length result.now ≤ length text.now }
+{
+    if text.starts_with(b"\xEF\xBB\xBF") {
+        &text[3..]
+    } else {
+        text
+    }
+}
+
+pub(crate) fn has_bad_byte(text: &[u8]) -> bool
+    ensures { result ≡ has_bad_byte text.now }
+{
+    text.iter().any(|b| *b < 32 && !(*b == b'\t' || *b == b'\n' || *b == b'\r'))
+}
+
+fn is_long_line(line: &[u8]) -> bool
+    ensures { result ≡ is_long_line line.now }
+{
+    without_crs(line).len() > MAX_LINE
+}
+
+#[tactic(auto, using(crate::proofs::TextLemmas::lines_of_empty))]
+fn has_long_line(text: &[u8]) -> bool
+    ensures { result ≡ list_any is_long_line (lines_of text.now) }
+{
+    let mut rest = text;
+    while !rest.is_empty() {
+        let (line, after) = next_line(rest);
+        if is_long_line(line) {
+            return true;
+        }
+        rest = after;
+    }
+    false
+}
+
+/// Over 1,048,576 bytes, or with a line over 4,096.
+pub(crate) fn is_out_of_range(text: &[u8]) -> bool
+    ensures test { result ≡ is_out_of_range text.now }
+    ensures short { IsFalse result → length text.now ≤ 1048576 }
+{
+    text.len() > MAX_TEXT || has_long_line(text)
+}
