@@ -1,0 +1,4 @@
+pub mod Accesses
+pub mod Places
+pub mod Shapes
+pub mod Values

@@ -1,0 +1,2 @@
+pub mod EdsLemmas
+pub mod TableLemmas

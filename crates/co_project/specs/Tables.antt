@@ -1,0 +1,69 @@
+-- Tables in the order of their keys: EDS texts by name, nodes by number, parameters by entry.
+use Rattle.std.specs.Prelude.{ℕ, Bool, not, ◌&&◌, ◌==◌, nat_le, List, [], ◌∷◌, map, length, Option, Some, None, is_some, Result, Err, Vec}
+use Rattle.std.specs.List.{list_any}
+use Rattle.std.specs.Str.{bytes_eq}
+use Rattle.std.specs.Ordering.{nat_cmp, ordering_then}
+use Rattle.std.specs.declared.cmp.Ordering.{Ordering}
+use Rattle.std.specs.Cmp.Lexicographic.{slice_cmp}
+use Rattle.std.specs.Map.{lookup}
+use Rattle.std.specs.BTreeMap.{is_at, insert_entry}
+use Rattle.co_project.specs.declared.node.Node.{Node}
+use Rattle.co_project.specs.declared.fault.EditFault.{EditFault}
+use Rattle.co_project.specs.declared.fault.EditFault.TheVariants.{Unknown, Limit}
+use Rattle.co_project.specs.Accepts.{unless}
+
+-- names in the order of their bytes
+abbrev pub name_cmp : List ℕ → List ℕ → Ordering
+name_cmp = slice_cmp nat_cmp
+
+-- entries of an object dictionary (CiA 301) by index and then by sub-index
+abbrev pub entry_cmp : ℕ × ℕ → ℕ × ℕ → Ordering
+entry_cmp a b = ordering_then (nat_cmp a.0 b.0) (nat_cmp a.1 b.1)
+
+-- the text of an EDS
+abbrev pub text_at : List (List ℕ × List ℕ) → List ℕ → Option (List ℕ)
+text_at texts name = lookup (is_at (name_cmp name)) texts
+
+-- a project has at most 64 texts (this profile's own): no new name can have one
+abbrev pub has_no_room : List (List ℕ × List ℕ) → List ℕ → Bool
+has_no_room texts name = nat_le 64 (length texts) && not (is_some (text_at texts name))
+
+-- the node of a number
+abbrev pub node_at : List (ℕ × Node) → ℕ → Option Node
+node_at nodes id = lookup (is_at (nat_cmp id)) nodes
+
+-- the text of a parameter
+abbrev pub param_at : List ((ℕ × ℕ) × List ℕ) → ℕ × ℕ → Option (List ℕ)
+param_at params entry = lookup (is_at (entry_cmp entry)) params
+
+-- a node has at most 4,096 parameters (this profile's own): no new entry can have a text
+abbrev pub is_full_for : List ((ℕ × ℕ) × List ℕ) → ℕ × ℕ → Bool
+is_full_for params entry = nat_le 4096 (length params) && not (is_some (param_at params entry))
+
+abbrev pub params_in : Option Node → List ((ℕ × ℕ) × List ℕ)
+params_in None = []
+params_in (Some node) = node.params
+
+-- the parameters of the node of a number, none where there is no such node
+abbrev pub params_at : List (ℕ × Node) → ℕ → List ((ℕ × ℕ) × List ℕ)
+params_at nodes id = params_in (node_at nodes id)
+
+-- another node than that of this number has the name
+abbrev pub name_taken : List (ℕ × Node) → ℕ → List ℕ → Bool
+name_taken nodes id name = list_any (λ e. not (e.0 == id) && bytes_eq e.1.name name) nodes
+
+module _ {A : Type 0} where
+  -- a map of texts as contracts see it
+  abbrev pub texts_of : List (Vec ℕ A × List ℕ) → List (List ℕ × List ℕ)
+  texts_of texts = map (λ e. (e.0.items, e.1)) texts
+
+-- a node with the text of a parameter
+abbrev pub with_param : List (ℕ × Node) → ℕ → ℕ × ℕ → List ℕ → Option Node → Result (List (ℕ × Node)) EditFault
+with_param nodes id entry text None = Err Unknown
+with_param nodes id entry text (Some node) =
+    unless ((is_full_for node.params entry, Limit) ∷ [])
+    (insert_entry nat_cmp nodes id (record node { params = insert_entry entry_cmp node.params entry text }))
+
+-- the nodes, where that of a number gets the text of a parameter
+abbrev pub put_param : List (ℕ × Node) → ℕ → ℕ × ℕ → List ℕ → Result (List (ℕ × Node)) EditFault
+put_param nodes id entry text = with_param nodes id entry text (node_at nodes id)

@@ -1,0 +1,264 @@
+-- What a section `[xxxxValue]` has at the key of a sub.
+use Rattle.std.proofs.Common.{◌≡◌, ◌==◌, ℕ, zero, suc, ◌+◌, ◌^◌, ◌<◌, ◌≤◌, Bool, true, false, cond, not, ◌&&◌, ◌||◌, List, [], ◌∷◌, ◌++◌, length, filter, filter_map, option_to_list, codes, decimal, Option, None, Some, option_map, option_and_then, ℤ, pos, negsuc, nat_lt, nat_le, inl, inr, ◌⊎◌, refl, sym, ap, subst, ◌∙◌, arith}
+use Rattle.std.proofs.lemmas.Bool.{cases_lt, false≢true}
+use Rattle.std.proofs.lemmas.Bool.Decides.{nat_tests}
+use Rattle.std.proofs.lemmas.Fmt.{decimal_injective, decimal_is_IsNumeral}
+use Rattle.std.proofs.lemmas.List.{length-map, nil_from_length}
+use Rattle.std.proofs.lemmas.List.Folds.{list_all-map}
+use Rattle.std.specs.Char.{digit_value, is_digit, to_ascii_lowercase}
+use Rattle.std.specs.List.{list_all, list_any}
+use Rattle.std.specs.Option.{option_map_or, option_or, unwrap_or}
+use Rattle.std.specs.Str.Parse.{AllDigits}
+use Rattle.ini_text.proofs.NameLemmas.{same_as, same_folded, same_refl, same_sym}
+use Rattle.ini_text.specs.Change.{put_value}
+use Rattle.ini_text.specs.Content.{Pair, Section, folded, same, value_at}
+use Rattle.co_values.specs.declared.data_type.DataType.{DataType}
+use Rattle.co_values.specs.Types.{is_modelled}
+use Rattle.co_values.specs.Values.{printed}
+use Rattle.eds_device.specs.Described.{kind_at}
+use Rattle.eds_device.specs.Places.{first_subs}
+use Rattle.eds_device.specs.Sections.{compact_count, in_subs, is_compact_type, kind_of, number_at, object_type}
+use Rattle.eds_device.specs.Sources.{object_section, source_of}
+use Rattle.eds_dcf.specs.Compact.{compact_object, is_compact, is_decimal, value_pair, values_pairs, values_pairs_at, values_set, with_count}
+use Rattle.eds_dcf.proofs.LawLemmas.{or_none, value_append}
+use Rattle.eds_dcf.proofs.TextLemmas.{filter_map-push}
+
+-- ---- digits
+
+lower_digit : (c : ℕ) → is_digit (to_ascii_lowercase c) 10 ≡ is_digit c 10
+lower_digit c = grind (arith, nat_tests)
+
+low_digit : (c : ℕ) → digit_value c < 10 → to_ascii_lowercase c ≡ c
+low_digit c h = grind (arith, nat_tests)
+
+below_test : (a b : ℕ) → a < b → nat_lt a b ≡ true
+below_test a b h = grind (arith, nat_tests)
+
+decimal_folded : (a : List ℕ) → is_decimal (folded a) ≡ is_decimal a
+decimal_folded a =
+    ap (λ n. not (n == 0) && list_all (λ c. is_digit c 10) (folded a)) (length-map a to_ascii_lowercase)
+    ∙ ap (λ t. not (length a == 0) && t) (list_all-map (λ c. is_digit c 10) to_ascii_lowercase a ∙ (let q : (λ (c : ℕ). is_digit (to_ascii_lowercase c) 10) ≡ (λ (c : ℕ). is_digit c 10) = λ i c. lower_digit c i in ap (λ (p : ℕ → Bool). list_all p a) q))
+
+-- keys that are equal without case are decimal together
+decimal_same : (a b : List ℕ) → same a b ≡ true → is_decimal a ≡ is_decimal b
+decimal_same a b h = sym (decimal_folded a) ∙ ap is_decimal (same_folded a b h) ∙ decimal_folded b
+
+all_digits : (ds : List ℕ) → AllDigits 10 ds → list_all (λ c. is_digit c 10) ds ≡ true
+all_digits [] h = refl
+all_digits (c ∷ cs) h = rw (below_test (digit_value c) 10 h.0) (all_digits cs h.1)
+
+folded_digits : (ds : List ℕ) → AllDigits 10 ds → folded ds ≡ ds
+folded_digits [] h = refl
+folded_digits (c ∷ cs) h = λ i. low_digit c h.0 i ∷ folded_digits cs h.1 i
+
+some_digit : (n : ℕ) → 0 < n → not (n == 0) ≡ true
+some_digit n h = grind (arith, nat_tests)
+
+decimal_is : (n : ℕ) → n < 2 ^ 64 → is_decimal (decimal n) ≡ true
+decimal_is n h =
+    let numeral = decimal_is_IsNumeral n h in
+    ap (λ t. t && list_all (λ c. is_digit c 10) (decimal n)) (some_digit (length (decimal n)) numeral.0.0) ∙ all_digits (decimal n) numeral.0.1
+
+same_decimal : (j k : ℕ) → j < 2 ^ 64 → k < 2 ^ 64 → same (decimal j) (decimal k) ≡ true → j ≡ k
+same_decimal j k hj hk h =
+    decimal_injective j k hj hk (sym (folded_digits (decimal j) (decimal_is_IsNumeral j hj).0.1) ∙ same_folded (decimal j) (decimal k) h ∙ folded_digits (decimal k) (decimal_is_IsNumeral k hk).0.1)
+
+untrue : (t : Bool) → (t ≡ true → ⊥) → t ≡ false
+untrue true denied = absurd (denied refl)
+untrue false denied = refl
+
+-- ---- pairs that stay and go
+
+module _ (key : List ℕ) where
+  none_kept : is_decimal key ≡ true → (ps : List Pair) → value_at (filter (λ p. not (is_decimal p.key)) ps) key ≡ None
+  none_kept is [] = refl
+  none_kept is (p ∷ ps) = by (is_decimal p.key) (same key p.key) refl refl (none_kept is ps)
+    where
+      by : (t u : Bool) → is_decimal p.key ≡ t → same key p.key ≡ u → value_at (filter (λ p. not (is_decimal p.key)) ps) key ≡ None
+          → value_at (cond (not t) (p ∷ filter (λ p. not (is_decimal p.key)) ps) (filter (λ p. not (is_decimal p.key)) ps)) key ≡ None
+      by true u e f ih = ih
+      by false true e f ih = absurd (false≢true (sym e ∙ sym (decimal_same key p.key f) ∙ is))
+      by false false e f ih = rw f ih
+
+  none_decimal : is_decimal key ≡ true → (ps : List Pair) → list_any (λ p. is_decimal p.key) ps ≡ false → value_at ps key ≡ None
+  none_decimal is [] none = refl
+  none_decimal is (p ∷ ps) none = by (is_decimal p.key) (same key p.key) refl refl none (none_decimal is ps)
+    where
+      by : (t u : Bool) → is_decimal p.key ≡ t → same key p.key ≡ u → (t || list_any (λ p. is_decimal p.key) ps) ≡ false → (list_any (λ p. is_decimal p.key) ps ≡ false → value_at ps key ≡ None) → cond u (Some p.value) (value_at ps key) ≡ None
+      by true u e f none ih = absurd (false≢true (sym none))
+      by false true e f none ih = absurd (false≢true (sym e ∙ sym (decimal_same key p.key f) ∙ is))
+      by false false e f none ih = ih none
+
+  kept_others : is_decimal key ≡ false → (ps : List Pair) → value_at (filter (λ p. not (is_decimal p.key)) ps) key ≡ value_at ps key
+  kept_others is [] = refl
+  kept_others is (p ∷ ps) = by (is_decimal p.key) (same key p.key) refl refl (kept_others is ps)
+    where
+      by : (t u : Bool) → is_decimal p.key ≡ t → same key p.key ≡ u → value_at (filter (λ p. not (is_decimal p.key)) ps) key ≡ value_at ps key
+          → value_at (cond (not t) (p ∷ filter (λ p. not (is_decimal p.key)) ps) (filter (λ p. not (is_decimal p.key)) ps)) key ≡ cond u (Some p.value) (value_at ps key)
+      by true true e f ih = absurd (false≢true (sym is ∙ decimal_same key p.key f ∙ e))
+      by true false e f ih = ih
+      by false true e f ih = rw f refl
+      by false false e f ih = rw f ih
+
+-- another key has what it had
+put_aside : (ps : List Pair) (key value k : List ℕ) → same key k ≡ false → value_at (put_value ps key value) k ≡ value_at ps k
+put_aside [] key value k other = ap (λ t. cond t (Some value) None) (same_sym k key ∙ other)
+put_aside (p ∷ ps) key value k other = by (same key p.key) (same k p.key) refl refl (put_aside ps key value k other)
+  where
+    by : (t u : Bool) → same key p.key ≡ t → same k p.key ≡ u → value_at (put_value ps key value) k ≡ value_at ps k
+        → value_at (cond t (record { key = p.key; value = value } ∷ ps) (p ∷ put_value ps key value)) k ≡ cond u (Some p.value) (value_at ps k)
+    by true true e f ih = absurd (false≢true (sym other ∙ same_as key p.key k e ∙ same_sym p.key k ∙ f))
+    by true false e f ih = rw f refl
+    by false true e f ih = rw f refl
+    by false false e f ih = rw f ih
+
+count_is_no_number : (key : List ℕ) → is_decimal key ≡ true → same (codes "NrOfEntries") key ≡ false
+count_is_no_number key is = untrue (same (codes "NrOfEntries") key) (λ h. false≢true (decimal_same (codes "NrOfEntries") key h ∙ is))
+
+-- ---- the set values
+
+module _ (h : ℕ × ℕ → Option Pair) (keyed : (place : ℕ × ℕ) (p : Pair) → h place ≡ Some p → p.key ≡ decimal place.1) (index : ℕ) where
+  one_other : (j k : ℕ) → j < 2 ^ 64 → k < 2 ^ 64 → (j ≡ k → ⊥) → value_at (option_to_list (h (index, j))) (decimal k) ≡ None
+  one_other j k hj hk apart = by (h (index, j)) refl
+    where
+      by : (o : Option Pair) → h (index, j) ≡ o → value_at (option_to_list o) (decimal k) ≡ None
+      by None e = refl
+      by (Some p) e =
+          let other : same (decimal k) p.key ≡ false = untrue (same (decimal k) p.key) (λ is. apart (sym (same_decimal k j hk hj (subst (λ (key : List ℕ). same (decimal k) key ≡ true) (keyed (index, j) p e) is)))) in
+          rw other refl
+
+  one_there : (j : ℕ) → value_at (option_to_list (h (index, j))) (decimal j) ≡ option_map (λ p. p.value) (h (index, j))
+  one_there j = by (h (index, j)) refl
+    where
+      by : (o : Option Pair) → h (index, j) ≡ o → value_at (option_to_list o) (decimal j) ≡ option_map (λ p. p.value) o
+      by None e = refl
+      by (Some p) e =
+          let here : same (decimal j) p.key ≡ true = subst (λ (key : List ℕ). same (decimal j) key ≡ true) (sym (keyed (index, j) p e)) (same_refl (decimal j)) in
+          rw here refl
+
+  pushed : (n : ℕ) (key : List ℕ) → value_at (filter_map h (first_subs index (suc n))) key ≡ option_or (value_at (filter_map h (first_subs index n)) key) (value_at (option_to_list (h (index, n))) key)
+  pushed n key = ap (λ ps. value_at ps key) (filter_map-push h (first_subs index n) (index, n)) ∙ value_append (filter_map h (first_subs index n)) (option_to_list (h (index, n))) key
+
+  none_before : (n k : ℕ) → n ≤ k → k < 2 ^ 64 → value_at (filter_map h (first_subs index n)) (decimal k) ≡ None
+  none_before zero k le hk = refl
+  none_before (suc n) k le hk =
+      pushed n (decimal k)
+      ∙ ap (λ o. option_or o (value_at (option_to_list (h (index, n))) (decimal k))) (none_before n k (omega arith) hk)
+      ∙ one_other n k (omega arith) hk (λ e. omega arith)
+
+  all_there : (n k : ℕ) → k < n → n ≤ 2 ^ 64 → value_at (filter_map h (first_subs index n)) (decimal k) ≡ option_map (λ p. p.value) (h (index, k))
+  all_there zero k lt hn = absurd (omega arith)
+  all_there (suc n) k lt hn = by (cases_lt k n) (λ below. all_there n k below (omega arith))
+    where
+      by : (k < n) ⊎ (n ≤ k) → (k < n → value_at (filter_map h (first_subs index n)) (decimal k) ≡ option_map (λ p. p.value) (h (index, k))) → value_at (filter_map h (first_subs index (suc n))) (decimal k) ≡ option_map (λ p. p.value) (h (index, k))
+      by (inl below) ih =
+          pushed n (decimal k)
+          ∙ ap (option_or (value_at (filter_map h (first_subs index n)) (decimal k))) (one_other n k (omega arith) (omega arith) (λ e. omega arith))
+          ∙ or_none (value_at (filter_map h (first_subs index n)) (decimal k)) ∙ ih below
+      by (inr above) ih =
+          let last : k ≡ n = omega arith in
+          subst (λ (m : ℕ). value_at (filter_map h (first_subs index (suc n))) (decimal m) ≡ option_map (λ p. p.value) (h (index, m))) (sym last)
+          (pushed n (decimal n) ∙ ap (λ o. option_or o (value_at (option_to_list (h (index, n))) (decimal n))) (none_before n n (omega arith) (omega arith)) ∙ one_there n)
+
+  none_elsewhere : (n : ℕ) (key : List ℕ) → is_decimal key ≡ false → n ≤ 2 ^ 64 → value_at (filter_map h (first_subs index n)) key ≡ None
+  none_elsewhere zero key is hn = refl
+  none_elsewhere (suc n) key is hn =
+      pushed n key
+      ∙ ap (λ o. option_or o (value_at (option_to_list (h (index, n))) key)) (none_elsewhere n key is (omega arith))
+      ∙ by (h (index, n)) refl (λ p e. untrue (same key p.key) (λ f. false≢true (sym is ∙ decimal_same key p.key f ∙ ap is_decimal (keyed (index, n) p e) ∙ decimal_is n (omega arith))))
+    where
+      by : (o : Option Pair) → h (index, n) ≡ o → ((p : Pair) → h (index, n) ≡ Some p → same key p.key ≡ false) → value_at (option_to_list o) key ≡ None
+      by None e other = refl
+      by (Some p) e other = rw (other p e) refl
+
+keyed_value : (values : Option (List ℕ)) (t : Bool) (key : List ℕ) (kind : DataType) (p : Pair) → cond t (option_map (λ bytes. record { key = key; value = printed kind bytes }) values) None ≡ Some p → p.key ≡ key
+keyed_value None true key kind p e = absurd (cc)
+keyed_value (Some bytes) true key kind p e = let is : record { key = key; value = printed kind bytes } ≡ p = cc in ap (λ (q : Pair). q.key) (sym is)
+keyed_value values false key kind p e = absurd (cc)
+
+value_pair_keyed : (ss : List Section) (values : ℕ × ℕ → Option (List ℕ)) (place : ℕ × ℕ) (p : Pair) → value_pair ss values place ≡ Some p → p.key ≡ decimal place.1
+unfolding value_pair
+value_pair_keyed ss values place p e = keyed_value (values place) (is_compact (source_of ss place.0 place.1)) (decimal place.1) (kind_at ss place) p e
+
+value_of_pair : (values : Option (List ℕ)) (key : List ℕ) (kind : DataType) → option_map (λ (p : Pair). p.value) (option_map (λ bytes. record { key = key; value = printed kind bytes }) values) ≡ option_map (printed kind) values
+value_of_pair None key kind = refl
+value_of_pair (Some bytes) key kind = refl
+
+value_pair_value : (ss : List Section) (values : ℕ × ℕ → Option (List ℕ)) (place : ℕ × ℕ) → is_compact (source_of ss place.0 place.1) ≡ true → option_map (λ (p : Pair). p.value) (value_pair ss values place) ≡ option_map (printed (kind_at ss place)) (values place)
+unfolding value_pair
+value_pair_value ss values place is = rw is (value_of_pair (values place) (decimal place.1) (kind_at ss place))
+
+-- ---- the section
+
+module _ (pairs set : List Pair) (key : List ℕ) where
+  changed_pairs : is_decimal key ≡ true → value_at (with_count (filter (λ p. not (is_decimal p.key)) pairs ++ set)) key ≡ value_at set key
+  changed_pairs is =
+      put_aside (filter (λ p. not (is_decimal p.key)) pairs ++ set) (codes "NrOfEntries") _ key (count_is_no_number key is)
+      ∙ value_append (filter (λ p. not (is_decimal p.key)) pairs) set key
+      ∙ ap (λ o. option_or o (value_at set key)) (none_kept key is pairs)
+
+  neither : (t u : Bool) → ((true && t) || not u) ≡ false → (t ≡ false) × (u ≡ true)
+  neither true u e = absurd (false≢true (sym e))
+  neither false true e = (refl, refl)
+  neither false false e = absurd (false≢true (sym e))
+
+  empty_from_test : (length set == 0) ≡ true → set ≡ []
+  empty_from_test h = let none : length set ≡ 0 = grind (arith, nat_tests) in nil_from_length set none
+
+  set_value : is_decimal key ≡ true → value_at (values_pairs true pairs set) key ≡ value_at set key
+  unfolding values_pairs
+  set_value is = by ((true && list_any (λ p. is_decimal p.key) pairs) || not (length set == 0)) refl
+    where
+      by : (t : Bool) → ((true && list_any (λ p. is_decimal p.key) pairs) || not (length set == 0)) ≡ t → value_at (cond t (with_count (filter (λ p. not (is_decimal p.key)) pairs ++ set)) pairs) key ≡ value_at set key
+      by true e = changed_pairs is
+      by false e =
+          let both = neither (list_any (λ p. is_decimal p.key) pairs) (length set == 0) e in
+          none_decimal key is pairs both.0 ∙ sym (ap (λ ps. value_at ps key) (empty_from_test both.1))
+
+highest_bound : (z : ℤ) (n : ℕ) → in_subs z ≡ Some n → n ≤ 254
+highest_bound (pos m) n e = by (nat_le m 254) refl (nat_lt 0 m) e
+  where
+    by : (t : Bool) → nat_le m 254 ≡ t → (u : Bool) → cond (u && t) (Some m) None ≡ Some n → n ≤ 254
+    by true h true e = let le : m ≤ 254 = grind (arith, nat_tests) in let is : m ≡ n = cc in subst (λ (k : ℕ). k ≤ 254) is le
+    by true h false e = absurd (cc)
+    by false h true e = absurd (cc)
+    by false h false e = absurd (cc)
+highest_bound (negsuc m) n e = absurd (cc)
+
+count_bound : (s : Section) (n : ℕ) → compact_count s ≡ Some n → n ≤ 254
+unfolding compact_count
+count_bound s n e = by (is_compact_type (object_type s)) (number_at s (codes "CompactSubObj")) e
+  where
+    by : (t : Bool) (o : Option ℤ) → cond t (option_and_then in_subs o) None ≡ Some n → n ≤ 254
+    by true None e = absurd (cc)
+    by true (Some z) e = highest_bound z n e
+    by false o e = absurd (cc)
+
+object_bound : (ss : List Section) (index : ℕ) (object : Section) (highest : ℕ) → compact_object ss index ≡ Some (object, highest) → highest ≤ 254
+unfolding compact_object
+object_bound ss index object highest e = by (object_section ss index) e
+  where
+    one : (s : Section) (o : Option ℕ) → compact_count s ≡ o → option_map {T = ℕ} {U = Section × ℕ} (λ n. (s, n)) o ≡ Some (object, highest) → highest ≤ 254
+    one s None h e = absurd (cc)
+    one s (Some n) h e =
+        let given : Section × ℕ = (s, n) in
+        let is : given ≡ (object, highest) = ap (λ (o : Option (Section × ℕ)). unwrap_or o given) e in
+        subst (λ (k : ℕ). k ≤ 254) (ap (λ (p : Section × ℕ). p.1) is) (count_bound s n h)
+
+    by : (o : Option Section) → option_and_then (λ s. option_map {T = ℕ} {U = Section × ℕ} (λ n. (s, n)) (compact_count s)) o ≡ Some (object, highest) → highest ≤ 254
+    by None e = absurd (cc)
+    by (Some s) e = one s (compact_count s) refl e
+
+-- a sub of a compact object has its value there
+pub compact_there : (ss : List Section) (values : ℕ × ℕ → Option (List ℕ)) (index sub : ℕ) (object : Section) (highest : ℕ) (pairs : List Pair) → compact_object ss index ≡ Some (object, highest)
+    → is_modelled (kind_of object) ≡ true → sub ≤ highest → is_compact (source_of ss index sub) ≡ true
+    → value_at (values_pairs_at ss values index pairs) (decimal sub) ≡ option_map (printed (kind_at ss (index, sub))) (values (index, sub))
+unfolding values_pairs_at values_set
+compact_there ss values index sub object highest pairs is modelled within compacted =
+    let bound : highest ≤ 254 = object_bound ss index object highest is in
+    let place : ℕ × ℕ = (index, sub) in
+    ap (λ (o : Option (Section × ℕ)). value_at (option_map_or (λ c. values_pairs (is_modelled (kind_of c.0)) pairs (filter_map (value_pair ss values) (first_subs index (c.1 + 1)))) o pairs) (decimal sub)) is
+    ∙ ap (λ t. value_at (values_pairs t pairs (filter_map (value_pair ss values) (first_subs index (highest + 1)))) (decimal sub)) modelled
+    ∙ set_value pairs (filter_map (value_pair ss values) (first_subs index (highest + 1))) (decimal sub) (decimal_is sub (omega arith))
+    ∙ all_there (value_pair ss values) (value_pair_keyed ss values) index (highest + 1) sub (omega arith) (omega arith)
+    ∙ value_pair_value ss values place compacted

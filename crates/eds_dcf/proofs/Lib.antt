@@ -1,0 +1,6 @@
+pub mod ChangeLemmas
+pub mod CompactLemmas
+pub mod EntryLemmas
+pub mod LastLemmas
+pub mod LawLemmas
+pub mod TextLemmas

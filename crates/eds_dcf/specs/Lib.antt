@@ -1,0 +1,6 @@
+pub mod Commissioning
+pub mod Compact
+pub mod Dcf
+pub mod Entries
+pub mod Pairs
+pub mod Writes

@@ -1,0 +1,109 @@
+//! The DCF text of a device.
+ghost use Rattle.std.specs.Prelude.{◌≡◌, ◌++◌, ℕ, All, IfOk, IfSome, OnOk, filter, map, not};
+ghost use Rattle.std.specs.FinMap.{get};
+ghost use Rattle.ini_text.specs.Change.{section_text, text_of};
+ghost use Rattle.co_values.specs.Values.{Fits};
+ghost use Rattle.eds_dcf.specs.Commissioning.{is_commissioning as is_commissioning_name};
+ghost use Rattle.eds_dcf.specs.Dcf.{dcf_sections, made, with_values};
+ghost use Rattle.eds_device.specs.Described.{kind_at};
+
+use crate::commissioning::{is_commissioning, put_commissioning};
+use crate::compact::{put_made, put_values_section};
+use crate::entry::{parameter_place, put_entry};
+use crate::last::last_values;
+use crate::printing::put_section;
+use co_dict::Dict;
+use concise_dcf::Write;
+use eds_device::{Device, Section, values_named};
+use std::alloc::{AllocError, Global};
+
+/// Writes a section with the values.
+fn put_with_values(
+    out: &mut Vec<u8>,
+    alloc: Global,
+    device: &Device,
+    values: &Dict,
+    section: &Section,
+) -> Result<(), AllocError>
+    requires { (place : ℕ × ℕ) → IfSome (get values.now place) (Fits (kind_at device.now.sections place)) }
+    ensures { OnOk result (out.new.items ≡ out.old.items ++ section_text (with_values device.now.sections (get values.now) section.now)) }
+{
+    if let Some((index, sub)) = parameter_place(device, section.name()) {
+        put_entry(
+            out,
+            alloc,
+            section,
+            device.kind(index, sub),
+            values.read(index, sub),
+        )?;
+        return Ok(());
+    }
+    if let Some(index) = values_named(section.name()) {
+        put_values_section(out, alloc, device, values, section, index)?;
+        return Ok(());
+    }
+    put_section(out, section)?;
+    Ok(())
+}
+
+/// Writes the sections of the text but the node's, with the values.
+fn put_sections(
+    out: &mut Vec<u8>,
+    alloc: Global,
+    device: &Device,
+    values: &Dict,
+) -> Result<(), AllocError>
+    requires { (place : ℕ × ℕ) → IfSome (get values.now place) (Fits (kind_at device.now.sections place)) }
+    ensures { OnOk result (out.new.items ≡ out.old.items
+        ++ text_of (map (with_values device.now.sections (get values.now)) (filter (λ s. not (is_commissioning_name s.name)) device.now.sections))) }
+{
+    for section in device.sections() {
+        if !is_commissioning(section.name()) {
+            put_with_values(out, alloc, device, values, section)?;
+        }
+    }
+    Ok(())
+}
+
+/// Writes the sections that are made for compact objects, by index.
+fn put_all_made(
+    out: &mut Vec<u8>,
+    alloc: Global,
+    device: &Device,
+    values: &Dict,
+) -> Result<(), AllocError>
+    requires { (place : ℕ × ℕ) → IfSome (get values.now place) (Fits (kind_at device.now.sections place)) }
+    ensures { OnOk result (out.new.items ≡ out.old.items ++ text_of (made device.now.sections (get values.now))) }
+{
+    for (index, sub) in device.pairs() {
+        put_made(out, alloc, device, values, *index, *sub)?;
+    }
+    Ok(())
+}
+
+/// The DCF text (CiA 306) of a device as a node of a network: the sections of its EDS text, in which
+/// each modelled entry has the bytes of its last write as its ParameterValue, or none where no write
+/// is to it. The values of a compact object's subs stand in its section `[xxxxValue]`, and where it
+/// has none, in one that is made behind the sections of the text. Last comes `[DeviceComissioning]`
+/// with the node's number, its name and the bit rate in kbit/s. The only error is want of memory.
+///
+/// Takes time and memory linear in the text and in the writes, but for the look-ups of entries,
+/// which take the logarithm of their number.
+pub fn dcf_text(
+    alloc: Global,
+    device: &Device,
+    node: u8,
+    name: &[u8],
+    bitrate: u16,
+    writes: &[Write],
+) -> Result<Vec<u8>, AllocError>
+    requires { All (λ w. Fits (kind_at device.now.sections (w.index, w.sub)) w.bytes) writes.now }
+    ensures { IfOk result (λ text. text.items ≡ text_of (dcf_sections device.now.sections node name.now bitrate writes.now)) }
+{
+    let values = last_values(alloc, writes)?;
+    let mut out = Vec::new(alloc);
+    put_sections(&mut out, alloc, device, &values)?;
+    put_all_made(&mut out, alloc, device, &values)?;
+    put_commissioning(&mut out, alloc, device.sections(), node, name, bitrate)?;
+    Ok(out)
+}

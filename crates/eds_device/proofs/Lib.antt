@@ -1,0 +1,11 @@
+pub mod AddingLemmas
+pub mod ConverseLemmas
+pub mod DigitLemmas
+pub mod IndexLemmas
+pub mod LawLemmas
+pub mod LengthLemmas
+pub mod ListedLemmas
+pub mod MapLemmas
+pub mod NameLemmas
+pub mod PlaceLemmas
+pub mod ReadLemmas

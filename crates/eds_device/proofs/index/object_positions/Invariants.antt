@@ -1,0 +1,9 @@
+use Rattle.std.proofs.Common.{take}
+use Rattle.std.specs.Ordering.{nat_cmp}
+use Rattle.eds_device.specs.Names.{index_named}
+use Rattle.eds_device.specs.Sources.{is_index}
+use Rattle.eds_device.specs.Index.{FindsFirsts}
+use Rattle.eds_device.proofs.index.object_positions.Given as goal
+
+abbrev pub invariant-loop-position : goal.invariant-loop-position
+invariant-loop-position l = FindsFirsts nat_cmp (λ key s. is_index key (index_named s.name)) l.table.entries l.sections (take l.position l.sections)

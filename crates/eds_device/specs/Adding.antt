@@ -1,0 +1,8 @@
+-- The program's own step, which no contract of a public call shows: places are added while they are not too many.
+use Rattle.std.specs.Prelude.{ℕ, List, Result}
+use Rattle.eds_device.specs.declared.fault.DeviceFault.{DeviceFault}
+use Rattle.eds_device.specs.Faults.{limited}
+use Rattle.eds_device.specs.Places.{put_in_order}
+
+abbrev pub added : List (ℕ × ℕ) → List (ℕ × ℕ) → Result (List (ℕ × ℕ)) DeviceFault
+added done ps = limited (put_in_order done ps) (put_in_order done ps)

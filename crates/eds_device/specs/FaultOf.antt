@@ -1,0 +1,10 @@
+-- Faults of an INI text, as faults of a device.
+use Rattle.ini_text.specs.declared.IniFault.{IniFault}
+use Rattle.ini_text.specs.declared.IniFault.TheVariants as ini
+use Rattle.eds_device.specs.declared.fault.DeviceFault.{DeviceFault}
+use Rattle.eds_device.specs.declared.fault.DeviceFault.TheVariants.{Memory, Range, BadByte}
+
+abbrev pub fault_of : IniFault → DeviceFault
+fault_of ini.Memory = Memory
+fault_of ini.Range = Range
+fault_of ini.BadByte = BadByte

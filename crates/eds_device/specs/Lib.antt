@@ -1,0 +1,13 @@
+pub mod Adding
+pub mod Capped
+pub mod Described
+pub mod Entries
+pub mod FaultOf
+pub mod Faults
+pub mod Identity
+pub mod Index
+pub mod Names
+pub mod Places
+pub mod Sections
+pub mod Shown
+pub mod Sources

@@ -1,0 +1,169 @@
+//! What an EDS says of an entry (CiA 306).
+ghost use Rattle.std.specs.Prelude.{◌≡◌, [], unwrap_or};
+ghost use Rattle.std.specs.Option.{option_copied, option_map};
+ghost use Rattle.eds_device.specs.Described.{text_at, access_named, access_of, is_not_zero, is_set, described_in, highest_sub, described, kind_at, listed_value, unless_empty, value_text};
+ghost use Rattle.eds_device.specs.Shown.{shown_described};
+
+use crate::device::Device;
+use crate::name::same;
+use crate::section::{kind_of, number_at};
+use crate::source::Source;
+use co_dict::Access;
+use co_values::DataType;
+use ini_text::Section;
+
+/// The default of an entry.
+#[derive(Clone, Copy)]
+pub enum DefaultText<'a> {
+    /// The text of DefaultValue, empty where it is missing.
+    Written(&'a [u8]),
+    /// The highest sub-index of a compact object, which is the value of its sub 0.
+    Count(u8),
+}
+
+/// What an EDS says of an entry, its texts as they stand. A text is empty where it is missing.
+#[derive(Clone, Copy)]
+pub struct Described<'a> {
+    pub kind: DataType,
+    pub access: Access,
+    pub mappable: bool,
+    pub default: DefaultText<'a>,
+    pub low: &'a [u8],
+    pub high: &'a [u8],
+}
+
+/// The value of a key, empty where it is missing.
+fn text_at<'a>(section: &'a Section, key: &[u8]) -> &'a [u8]
+    ensures { result.now ≡ text_at section.now key.now }
+{
+    match section.get(key) {
+        Some(text) => text,
+        None => &[],
+    }
+}
+
+/// The access that a word says, in any case.
+#[tactic(auto, unfolding(crate::specs::Described::access_named))]
+fn access_named(word: &[u8]) -> Access
+    ensures { result ≡ access_named word.now }
+{
+    if same(word, b"ro") {
+        Access::ReadOnly
+    } else if same(word, b"wo") {
+        Access::WriteOnly
+    } else if same(word, b"rwr") {
+        Access::ReadWriteOnInput
+    } else if same(word, b"rww") {
+        Access::ReadWriteOnOutput
+    } else if same(word, b"const") {
+        Access::Constant
+    } else {
+        Access::ReadWrite
+    }
+}
+
+/// The access of a section's entries: AccessType, and rw where it is missing or another word.
+#[tactic(auto, unfolding(crate::specs::Described::access_of))]
+pub fn access_of(section: &Section) -> Access
+    ensures { result ≡ access_of section.now }
+{
+    access_named(text_at(section, b"AccessType"))
+}
+
+/// Whether a key of a section is a number other than 0.
+#[tactic(auto, unfolding(crate::specs::Described::is_set))]
+fn is_set(section: &Section, key: &[u8]) -> bool
+    ensures { result ≡ is_set section.now key.now }
+{
+    match number_at(section, key) {
+        Some(number) => is_not_zero(number),
+        None => false,
+    }
+}
+
+/// Whether a number isn't 0.
+pub(crate) fn is_not_zero(number: i128) -> bool
+    ensures { result ≡ is_not_zero number }
+{
+    number != 0
+}
+
+/// What a section says of its entry.
+fn described_in(section: &Section) -> Described<'_>
+    ensures { shown_described result ≡ described_in section.now }
+{
+    Described {
+        kind: kind_of(section),
+        access: access_of(section),
+        mappable: is_set(section, b"PDOMapping"),
+        default: DefaultText::Written(text_at(section, b"DefaultValue")),
+        low: text_at(section, b"LowLimit"),
+        high: text_at(section, b"HighLimit"),
+    }
+}
+
+/// What is said of sub 0 of a compact object.
+fn highest_sub(count: u8) -> Described<'static>
+    ensures { shown_described result ≡ highest_sub count }
+{
+    Described {
+        kind: DataType::Unsigned8,
+        access: Access::ReadOnly,
+        mappable: false,
+        default: DefaultText::Count(count),
+        low: &[],
+        high: &[],
+    }
+}
+
+/// A text, unless it is empty.
+fn unless_empty(text: &[u8]) -> Option<&[u8]>
+    ensures { option_copied result ≡ unless_empty text.now }
+{
+    if text.is_empty() { None } else { Some(text) }
+}
+
+impl Device {
+    /// What the EDS says of an entry; `None` where there is no such entry.
+    #[tactic(auto, unfolding(crate::specs::Described::described))]
+    pub fn described(&self, index: u16, sub: u8) -> Option<Described<'_>>
+        ensures { option_map shown_described result ≡ described self.now.sections index sub }
+    {
+        let source = self.source(index, sub)?;
+        match source {
+            Source::Own(section) => Some(described_in(section)),
+            Source::Compact(section, count) => {
+                if sub == 0 {
+                    Some(highest_sub(count))
+                } else {
+                    Some(described_in(section))
+                }
+            }
+        }
+    }
+
+    /// The type of an entry; `NotModelled` too where there is no such entry.
+    #[tactic(auto, unfolding(crate::specs::Described::kind_at))]
+    pub fn kind(&self, index: u16, sub: u8) -> DataType
+        ensures { result ≡ kind_at self.now.sections (index, sub) }
+    {
+        match self.described(index, sub) {
+            Some(described) => described.kind,
+            None => DataType::NotModelled,
+        }
+    }
+
+    /// The ParameterValue of an entry as it stands: of a compact sub its value in `[xxxxValue]`.
+    /// `None` where it is missing or empty, or where there is no such entry.
+    #[tactic(auto, unfolding(crate::specs::Described::value_text))]
+    pub fn value_text(&self, index: u16, sub: u8) -> Option<&[u8]>
+        ensures { option_copied result ≡ value_text self.now.sections index sub }
+    {
+        let source = self.source(index, sub)?;
+        let text = match source {
+            Source::Own(section) => section.get(b"ParameterValue")?,
+            Source::Compact(_section, _count) => self.listed_value(index, sub)?,
+        };
+        unless_empty(text)
+    }
+}

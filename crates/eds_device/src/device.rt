@@ -1,0 +1,184 @@
+//! A device, and where its entries stand.
+ghost use Rattle.std.specs.Prelude.{◌≡◌, ◌≤◌, length, IfOk, IsTrue, ◌↔◌, IsErrOf};
+ghost use Rattle.std.specs.Bool.{IsFalse};
+ghost use Rattle.std.specs.Option.{option_and_then, option_copied, option_map};
+ghost use Rattle.std.specs.List.{find, slice_get};
+ghost use Rattle.std.specs.Ordering.{nat_cmp};
+ghost use Rattle.eds_device.specs.Index.{FindsFirsts};
+ghost use Rattle.ini_text.specs.Content.{content_at};
+ghost use Rattle.eds_device.specs.Described.{listed_value, sub_listed};
+ghost use Rattle.ini_text.specs.Text.{is_out_of_range, has_bad_byte};
+ghost use Rattle.co_base.specs.Gives.{Gives};
+ghost use Rattle.eds_device.specs.Faults.{is_memory, device_of, most_entries};
+ghost use Rattle.eds_device.specs.Places.{pairs_of};
+ghost use Rattle.eds_device.specs.Shown.{shown};
+ghost use Rattle.eds_device.specs.Sources.{is_index, sub_section, object_section, values_section, source_of};
+
+use crate::fault::DeviceFault;
+use crate::index::{Listed, object_positions, sub_positions, values_positions};
+use crate::places::places_of;
+use crate::section::{compact_count, is_plain};
+use crate::source::Source;
+use ini_text::{Ini, Pair, Section};
+use std::alloc::Global;
+use std::collections::BTreeMap;
+use std::marker::Model;
+
+/// The device that an EDS text describes (CiA 306). Contracts see it as the content of the text.
+///
+/// It has at most 4,096 entries. A look-up takes time by the logarithm of the sections.
+#[derive(Drop)]
+pub struct Device {
+    ini: Ini,
+    subs: BTreeMap<(u16, u8), usize>,
+    objects: BTreeMap<u16, usize>,
+    values: BTreeMap<u16, Listed>,
+    places: Vec<(u16, u8)>,
+}
+
+impl Model for Device {
+    ghost use Rattle.ini_text.specs.Content.{Content};
+    ghost use Rattle.eds_device.specs.Index.{IsIndexed};
+
+    ghost Value = { Content };
+
+    ghost view = { λ a. a.ini };
+
+    ghost invariant = { λ a. IsIndexed a.ini.sections a.subs.entries a.objects.entries a.values.entries a.places.items };
+}
+
+/// The section at a position that a table has.
+fn section_at<'a>(sections: &'a [Section], position: Option<&usize>) -> Option<&'a Section>
+    ensures { option_copied result ≡ option_and_then (slice_get sections.now) (option_copied position.entry) }
+{
+    sections.get(*position?)
+}
+
+/// The pair at a position that a table has.
+fn pair_at<'a>(pairs: &'a [Pair], position: Option<&usize>) -> Option<&'a Pair>
+    ensures { option_copied result ≡ option_and_then (slice_get pairs.now) (option_copied position.entry) }
+{
+    pairs.get(*position?)
+}
+
+/// The first pair whose key is a sub.
+fn listed_pair<'a>(section: &'a Section, listed: &Listed, sub: u8) -> Option<&'a Pair>
+    requires { FindsFirsts nat_cmp (λ key p. is_index key (sub_listed p.key)) listed.now.pairs.entries section.now.pairs section.now.pairs }
+    ensures { option_copied result ≡ find (λ p. is_index sub (sub_listed p.key)) section.now.pairs }
+{
+    pair_at(section.pairs(), listed.pairs.get(&sub))
+}
+
+impl Device {
+    /// Reads an EDS text: `Range` where it or a line of it is too long, else `BadByte` where it has
+    /// a byte that no INI text may have, else `Limit` where it gives over 4,096 entries. `Memory` can
+    /// come in place of the content or of `Limit` alone. Takes time by the length of the text and its
+    /// logarithm, and no memory for the entries past the limit.
+    pub fn read(alloc: Global, text: &[u8]) -> Result<Device, DeviceFault>
+        ensures content { Gives is_memory (λ device. device) result (device_of text.now) }
+        ensures range { IsErrOf result DeviceFault.Range ↔ IsTrue (is_out_of_range text.now) }
+        ensures bad_byte { IsErrOf result DeviceFault.BadByte ↔ (IsFalse (is_out_of_range text.now) × IsTrue (has_bad_byte text.now)) }
+    {
+        let ini = Ini::read(alloc, text)?;
+        let places = places_of(alloc, ini.sections())?;
+        let subs = sub_positions(alloc, ini.sections())?;
+        let objects = object_positions(alloc, ini.sections())?;
+        let values = values_positions(alloc, ini.sections())?;
+        Ok(Device {
+            ini,
+            subs,
+            objects,
+            values,
+            places,
+        })
+    }
+
+    /// Where this device takes its memory.
+    pub(crate) fn allocator(&self) -> Global {
+        *self.places.allocator()
+    }
+
+    /// The sections of the text, in order.
+    pub fn sections(&self) -> &[Section]
+        ensures { result.now ≡ self.now.sections }
+    {
+        self.ini.sections()
+    }
+
+    /// The numbers of the warned lines, from 1, in rising order.
+    pub fn warnings(&self) -> &[u32]
+        ensures { result.now ≡ self.now.warnings }
+    {
+        self.ini.warnings()
+    }
+
+    /// The index and sub-index of each entry, in order, at most 4,096.
+    pub fn pairs(&self) -> &[(u16, u8)]
+        ensures pairs { result.now ≡ pairs_of self.now.sections }
+        ensures bound { length result.now ≤ most_entries }
+    {
+        self.places.as_slice()
+    }
+
+    /// The first section that is named for an entry, as `[1018sub1]`.
+    pub fn sub_section(&self, index: u16, sub: u8) -> Option<&Section>
+        ensures { option_copied result ≡ sub_section self.now.sections index sub }
+    {
+        section_at(self.ini.sections(), self.subs.get(&(index, sub)))
+    }
+
+    /// The first section that is named for an object, as `[1018]`.
+    pub fn object_section(&self, index: u16) -> Option<&Section>
+        ensures { option_copied result ≡ object_section self.now.sections index }
+    {
+        section_at(self.ini.sections(), self.objects.get(&index))
+    }
+
+    /// The first section that is named for an object's compact values, as `[1003Value]`.
+    pub fn values_section(&self, index: u16) -> Option<&Section>
+        ensures { option_copied result ≡ values_section self.now.sections index }
+    {
+        let listed = self.values.get(&index)?;
+        section_at(self.ini.sections(), Some(&listed.position))
+    }
+
+    /// The value of a key in a section, each in any case.
+    pub fn text(&self, section: &[u8], key: &[u8]) -> Option<&[u8]>
+        ensures { option_copied result ≡ content_at self.now.sections section.now key.now }
+    {
+        self.ini.get(section, key)
+    }
+
+    /// The value that `[xxxxValue]` lists for a sub of a compact object: of two spellings of the sub
+    /// the first counts.
+    #[tactic(auto, unfolding(crate::specs::Described::listed_value))]
+    pub fn listed_value(&self, index: u16, sub: u8) -> Option<&[u8]>
+        ensures { option_copied result ≡ listed_value self.now.sections index sub }
+    {
+        let listed = self.values.get(&index)?;
+        let section = section_at(self.ini.sections(), Some(&listed.position))?;
+        let pair = listed_pair(section, listed, sub)?;
+        Some(pair.value())
+    }
+
+    /// Where an entry stands: in `[xxxxsubN]`; else, of sub 0, in `[xxxx]` of a VAR or DOMAIN; else in
+    /// `[xxxx]` of a compact object. `None` where there is no such entry.
+    #[tactic(auto, unfolding(crate::specs::Sources::source_of))]
+    pub fn source(&self, index: u16, sub: u8) -> Option<Source<'_>>
+        ensures { option_map shown result ≡ source_of self.now.sections index sub }
+    {
+        if let Some(section) = self.sub_section(index, sub) {
+            return Some(Source::Own(section));
+        }
+        let object = self.object_section(index)?;
+        if sub == 0 && is_plain(object) {
+            return Some(Source::Own(object));
+        }
+        let highest = compact_count(object)?;
+        if sub <= highest {
+            Some(Source::Compact(object, highest))
+        } else {
+            None
+        }
+    }
+}

@@ -1,0 +1,58 @@
+//! Laws of the entries of a device, each a function whose contract is the law.
+ghost use Rattle.std.specs.Prelude.{◌≡◌, ◌↔◌, ℕ, List, [], ◌∷◌, Some, None, true, false, IsSome};
+ghost use Rattle.std.specs.FinMap as map;
+ghost use Rattle.std.specs.List.{Contains};
+ghost use Rattle.std.specs.List.Sorted.{IsStrictlySortedBy};
+ghost use Rattle.ini_text.specs.Content.{Section};
+ghost use Rattle.co_values.specs.declared.data_type.DataType.TheVariants.{Unsigned8};
+ghost use Rattle.co_values.specs.Types.{is_modelled};
+ghost use Rattle.co_dict.specs.declared.access.Access.TheVariants.{ReadOnly};
+ghost use Rattle.co_dict.specs.declared.entry.Entry.{Entry};
+ghost use Rattle.co_dict.specs.Places.{place_cmp};
+ghost use Rattle.eds_device.specs.Entries.{entry_at, default_at, shape_of, defaults_of, HasLength};
+ghost use Rattle.eds_device.specs.Places.{places_given, pairs_of, AreNamedOnce};
+ghost use Rattle.eds_device.specs.Sources.{Source, compact, source_of};
+
+/// The entries of a device stand by index and sub-index, each once, and are those that some section
+/// gives.
+#[tactic(auto, using(crate::proofs::PlaceLemmas::pairs_sorted))]
+pub fn entries_are_those_given()
+    ensures sorted { (ss : List Section) → IsStrictlySortedBy place_cmp (pairs_of ss) }
+    ensures given { (ss : List Section) (place : ℕ × ℕ) → Contains (pairs_of ss) place ↔ ((s : Section) × (Contains ss s × Contains (places_given s) place)) }
+{}
+
+/// What one of the three rules gives is an entry of the device.
+#[tactic(auto, using(crate::proofs::LawLemmas::rules_give))]
+pub fn rules_give_entries()
+    ensures { (ss : List Section) (index sub : ℕ) (source : Source) → source_of ss index sub ≡ Some source → Contains (pairs_of ss) (index, sub) }
+{}
+
+/// Each entry of a device is one that a rule gives, where no two sections are named for one object.
+#[tactic(auto, using(crate::proofs::ConverseLemmas::entries_have))]
+pub fn entries_have_sources()
+    ensures { (ss : List Section) (index sub : ℕ) → AreNamedOnce ss → Contains (pairs_of ss) (index, sub) → IsSome (source_of ss index sub) }
+{}
+
+/// A shape has each entry as the device describes it, and no other; the defaults likewise.
+#[tactic(auto, using(crate::proofs::LawLemmas::shape_at, crate::proofs::LawLemmas::defaults_at))]
+pub fn shape_and_defaults_are_complete()
+    ensures shape { (ss : List Section) (node index sub : ℕ) → map.get (shape_of ss node).entries (index, sub) ≡ entry_at ss node index sub }
+    ensures defaults { (ss : List Section) (node index sub : ℕ) → map.get (defaults_of ss node) (index, sub) ≡ default_at ss node index sub }
+{}
+
+/// The defaults have, for each entry of a modelled type in the shape, a value of that type's length.
+#[tactic(auto, using(crate::proofs::LawLemmas::values_have_lengths))]
+pub fn defaults_have_lengths()
+    ensures { (ss : List Section) (node index sub : ℕ) (entry : Entry) → map.get (shape_of ss node).entries (index, sub) ≡ Some entry → is_modelled entry.kind ≡ true
+        → (bytes : List ℕ) × ((map.get (defaults_of ss node) (index, sub) ≡ Some bytes) × HasLength entry.kind bytes) }
+{}
+
+/// Sub 0 of a compact object is an UNSIGNED8 that nobody writes or maps, and its value is the
+/// highest sub-index.
+#[tactic(auto, using(crate::proofs::LawLemmas::compact_entry, crate::proofs::LawLemmas::compact_default))]
+pub fn sub_0_counts_compact_subs()
+    ensures entry { (ss : List Section) (node index : ℕ) (s : Section) (n : ℕ) → source_of ss index 0 ≡ Some (compact s n)
+        → entry_at ss node index 0 ≡ Some (record { kind = Unsigned8; access = ReadOnly; low = None; high = None; mappable = false }) }
+    ensures value { (ss : List Section) (node index : ℕ) (s : Section) (n : ℕ) → source_of ss index 0 ≡ Some (compact s n)
+        → default_at ss node index 0 ≡ Some (n ∷ []) }
+{}

@@ -1,0 +1,25 @@
+//! The device that an EDS text describes (CiA 306).
+#![tactic(auto)]
+
+mod described;
+mod device;
+mod entries;
+mod fault;
+mod identity;
+mod index;
+pub mod laws;
+mod name;
+mod object_type;
+mod places;
+mod section;
+mod source;
+mod values;
+
+pub use described::{DefaultText, Described, access_of};
+pub use device::Device;
+pub use fault::DeviceFault;
+pub use ini_text::{Pair, Section};
+pub use name::{index_named, place_named, sub_listed, values_named};
+pub use object_type::ObjectType;
+pub use section::{compact_count, is_plain, kind_of};
+pub use source::Source;

@@ -1,0 +1,5 @@
+mod JudgedLemmas
+mod PairLemmas
+mod ParameterLemmas
+mod SizeLemmas
+mod WrittenLemmas

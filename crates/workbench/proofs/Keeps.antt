@@ -1,0 +1,50 @@
+-- What doesn't answer `ok` leaves the project as it is.
+use Rattle.std.proofs.Common.{◌≡◌, ◌≢◌, ℕ, zero, suc, true, false, List, [], ◌∷◌, ◌++◌, Option, Some, None, Result, Ok, Err, refl}
+use Rattle.std.specs.Prelude.{if◌then◌else◌, ◌-◌}
+use Rattle.ini_text.specs.Text.{trim_end, is_cr}
+use Rattle.co_project.specs.declared.fault.EditFault.{EditFault}
+use Rattle.co_project.specs.declared.command.Order.{Order}
+use Rattle.co_project.specs.declared.request.Request.{Request}
+use Rattle.co_project.specs.declared.request.Request.TheVariants.{Edit, Dcf, Cdcf, Block}
+use Rattle.co_project.specs.Requests.{request}
+use Rattle.co_project.specs.Project.{Content, accept}
+use Rattle.workbench.specs.Queries.{dcf_reply, cdcf_reply}
+use Rattle.workbench.specs.Replies.{Pending, Place, Progress, accepted, silent, edited, ordered, queried, block_order, in_block, asked, is_skipped, taken, after_line}
+
+abbrev Keeps : Content → Progress → Type 0
+Keeps p progress = progress.replies ≢ accepted ∷ [] → progress.place.project ≡ p
+
+keeps-edited : (p : Content) (r : Result Content EditFault) → Keeps p (edited p r)
+keeps-edited p (Ok q) h = absurd (h refl)
+keeps-edited p (Err fault) h = refl
+
+keeps-ordered : (p : Content) (r : Result Order EditFault) → Keeps p (ordered p r)
+keeps-ordered p (Ok order) = keeps-edited p (accept p order)
+keeps-ordered p (Err fault) = λ _. refl
+
+keeps-queried : (p : Content) (r : Result (List ℕ) EditFault) → Keeps p (queried p r)
+keeps-queried p (Ok text) h = refl
+keeps-queried p (Err fault) h = refl
+
+keeps-in_block : (p : Content) (name : Option (List ℕ)) (n : ℕ) (lines : List (List ℕ)) → Keeps p (in_block p name n lines)
+keeps-in_block p name zero lines = keeps-ordered p (block_order name lines)
+keeps-in_block p name (suc n) lines = λ _. refl
+
+keeps-asked : (p : Content) (r : Result Request EditFault) → Keeps p (asked p r)
+keeps-asked p (Ok (Edit order)) = keeps-edited p (accept p order)
+keeps-asked p (Ok (Dcf id)) = keeps-queried p (dcf_reply p id)
+keeps-asked p (Ok (Cdcf id)) = keeps-queried p (cdcf_reply p id)
+keeps-asked p (Ok (Block name n)) = keeps-in_block p name n []
+keeps-asked p (Err fault) = λ _. refl
+
+keeps-taken : (p : Content) (block : Option Pending) (line : List ℕ) → Keeps p (taken p block line)
+keeps-taken p None line =
+    elim (is_skipped line) as (λ t. Keeps p (if t then silent (record { project = p; block = None }) else asked p (request line))) [
+      | true ↦ λ _. refl
+      | false ↦ keeps-asked p (request line)
+    ]
+keeps-taken p (Some block) line = keeps-in_block p block.name (block.left - 1) (block.lines ++ line ∷ [])
+
+pub refused_changes_nothing : (place : Place) (line : List ℕ) → (after_line place line).replies ≢ accepted ∷ [] → (after_line place line).place.project ≡ place.project
+unfolding after_line
+refused_changes_nothing place line = keeps-taken place.project place.block (trim_end is_cr line)

@@ -1,0 +1,7 @@
+pub mod Known
+pub mod Hexes
+pub mod Runs
+pub mod Bytewise
+pub mod Ends
+pub mod Lines
+pub mod Keeps

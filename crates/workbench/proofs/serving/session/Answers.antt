@@ -1,0 +1,112 @@
+use Rattle.std.proofs.Common.{◌≡◌, ◌≤◌, ◌++◌, [], refl, rules, take, drop, sym, ◌∙◌, arith, length, length-append, length-take, length-drop}
+use Rattle.std.proofs.KnownBytes.{Appends-nil, Consumes-nil}
+use Rattle.std.proofs.lemmas.Result.{on_ok_weaker, err_from_is_err_and}
+use Rattle.workbench.specs.Views.{standing_of}
+use Rattle.workbench.specs.declared.serving.TheConstants.{LIMIT}
+use Rattle.workbench.proofs.Ends.{all_at_end, first_at_end, front_at_end, first_in_piece, front_in_piece, all_in_piece, read_too_much, came-none, read-failed, cut_at, came-all, standing_both, known-all, nothing_yet, none_complete, not_begun}
+use Rattle.workbench.proofs.serving.session.Goals as goal
+
+pub returns-in-Err-clause-read : goal.returns-in-Err-clause-read
+returns-in-Err-clause-read g c =
+    let inv = c.loop-turn.invariant in
+    λ _. read-failed _ _ _ _ _ inv.0 LIMIT _ (omega arith) inv.1 c.in-Err.ensures.bytes (rw inv.6 at c.in-Err.ensures.failed) inv.3
+
+pub returns-then-n-eq0-clause-replies : goal.returns-then-n-eq0-clause-replies
+returns-then-n-eq0-clause-replies g c =
+    let inv = c.loop-turn.invariant in
+    let read = c.in-Ok.ensures.bytes in
+    on_ok_weaker c.finish.result (λ h. all_at_end _ _ _ _ inv.0 (standing_of c.loop-turn.desk) (came-none _ _ _ inv.0 c.read.new.buf c.in-Ok.n c.if-n-eq0.true inv.1 read.0) inv.2 inv.3 _ (read.1 c.if-n-eq0.true (omega arith)) h)
+    c.finish.ensures.ok
+
+pub returns-then-n-eq0-clause-memory : goal.returns-then-n-eq0-clause-memory
+returns-then-n-eq0-clause-memory g c =
+    let inv = c.loop-turn.invariant in
+    let read = c.in-Ok.ensures.bytes in
+    λ e. first_at_end _ _ _ _ inv.0 (standing_of c.loop-turn.desk) (came-none _ _ _ inv.0 c.read.new.buf c.in-Ok.n c.if-n-eq0.true inv.1 read.0) inv.2 inv.3 _ (read.1 c.if-n-eq0.true (omega arith)) (c.finish.ensures.memory e)
+
+pub returns-then-n-eq0-clause-taken : goal.returns-then-n-eq0-clause-taken
+returns-then-n-eq0-clause-taken g c =
+    let inv = c.loop-turn.invariant in
+    let read = c.in-Ok.ensures.bytes in
+    λ e. front_at_end _ _ _ _ inv.0 (standing_of c.loop-turn.desk) (came-none _ _ _ inv.0 c.read.new.buf c.in-Ok.n c.if-n-eq0.true inv.1 read.0) inv.2 inv.3 _ (read.1 c.if-n-eq0.true (omega arith)) (c.finish.ensures.write e).1
+
+pub returns-in_err-take_piece-clause-memory : goal.returns-in_err-take_piece-clause-memory
+returns-in_err-take_piece-clause-memory g c =
+    let inv = c.loop-turn.invariant in
+    let p = err_from_is_err_and c.from_residual-in_err-take_piece.result c.from_residual-in_err-take_piece.ensures.1 in
+    λ e. first_in_piece _ _ _ _ inv.0 (standing_of c.loop-turn.desk) inv.1 inv.2 inv.3 _ _ _ (take c.min-used.result c.read.new.buf) _
+    (cut_at c.read.new.buf c.in-Ok.n c.min-used.result (omega (arith, c.min-used.ensures))) c.in-Ok.ensures.bytes.0 (c.in_err-take_piece.ensures.memory (cc))
+
+pub returns-in_err-take_piece-clause-taken : goal.returns-in_err-take_piece-clause-taken
+returns-in_err-take_piece-clause-taken g c =
+    let inv = c.loop-turn.invariant in
+    let p = err_from_is_err_and c.from_residual-in_err-take_piece.result c.from_residual-in_err-take_piece.ensures.1 in
+    λ e. front_in_piece _ _ _ _ inv.0 (standing_of c.loop-turn.desk) inv.1 inv.2 inv.3 _ _ _ (take c.min-used.result c.read.new.buf) _
+    (cut_at c.read.new.buf c.in-Ok.n c.min-used.result (omega (arith, c.min-used.ensures))) c.in-Ok.ensures.bytes.0 (c.in_err-take_piece.ensures.write (cc)).1
+
+pub returns-then-room-n-clause-read : goal.returns-then-room-n-clause-read
+returns-then-room-n-clause-read g c =
+    let inv = c.loop-turn.invariant in
+    let buffer = c.read.new.buf in
+    let used = c.min-used.result in
+    let n = c.in-Ok.n in
+    let fits : n ≤ length buffer = omega (arith, c.in-Ok.ensures.bound) in
+    let is_room : used ≡ c.loop-turn.room = omega (arith, c.min-used.ensures) in
+    λ _. read_too_much _ _ _ _ inv.0 (standing_of c.loop-turn.desk) inv.1 inv.2 inv.3 _ _ (take n buffer) (take used buffer) (drop used (take n buffer))
+    (cut_at buffer n used (omega (arith, c.min-used.ensures))) c.in-Ok.ensures.bytes.0 LIMIT _
+    (omega (arith, length-append inv.0 (take used buffer), length-take used buffer))
+    (omega (arith, length-drop used (take n buffer), length-take n buffer))
+    c.in_ok-take_piece.ensures.ok.1
+
+pub loop-turn-preserved : goal.loop-turn-preserved
+loop-turn-preserved g c =
+    let inv = c.loop-turn.invariant in
+    let buffer = c.read.new.buf in
+    let used = c.min-used.result in
+    let n = c.in-Ok.n in
+    let fits : n ≤ length buffer = omega (arith, c.in-Ok.ensures.bound) in
+    let all : used ≡ n = omega (arith, c.min-used.ensures) in
+    let both = standing_both _ _ _ _ inv.0 (standing_of c.loop-turn.desk) inv.1 inv.2 inv.3 _ (g.W.Outlet.contents c.take_piece.new.writer) (take n buffer) (take used buffer) (drop used (take n buffer))
+    (cut_at buffer n used (omega (arith, c.min-used.ensures))) c.in-Ok.ensures.bytes.0 in (
+      inv.0 ++ take used buffer,
+      came-all _ _ _ inv.0 buffer n used all inv.1 c.in-Ok.ensures.bytes.0,
+      c.in_ok-take_piece.ensures.ok.0 ∙ both,
+      all_in_piece _ _ _ _ inv.0 (standing_of c.loop-turn.desk) inv.1 inv.2 inv.3 _ _ (take n buffer) (take used buffer) (drop used (take n buffer))
+          (cut_at buffer n used (omega (arith, c.min-used.ensures))) c.in-Ok.ensures.bytes.0 c.in_ok-take_piece.ensures.ok.1,
+      omega (arith, length-append inv.0 (take used buffer), length-take used buffer),
+      omega (arith, length-append inv.0 (take used buffer), length-take used buffer),
+      c.in-Ok.ensures.failed ∙ inv.6,
+      c.in_ok-take_piece.ensures.quiet ∙ inv.7,
+      c.read.auto.buf ∙ inv.8,
+      c.in_ok-take_piece.ensures.empty,
+    )
+
+pub returns-then-n-eq0-clause-ended : goal.returns-then-n-eq0-clause-ended
+returns-then-n-eq0-clause-ended g c =
+    let read = c.in-Ok.ensures.bytes in
+    let inv = c.loop-turn.invariant in
+    on_ok_weaker c.finish.result (λ _. read.1 c.if-n-eq0.true (omega arith)) c.finish.ensures.ok
+
+pub returns-then-n-eq0-clause-limit : goal.returns-then-n-eq0-clause-limit
+returns-then-n-eq0-clause-limit g c =
+    let inv = c.loop-turn.invariant in
+    let read = c.in-Ok.ensures.bytes in
+    on_ok_weaker c.finish.result (λ _. known-all _ _ inv.0 (λ input. length input ≤ LIMIT) (came-none _ _ _ inv.0 c.read.new.buf c.in-Ok.n c.if-n-eq0.true inv.1 read.0) (read.1 c.if-n-eq0.true (omega arith)) (omega arith))
+    c.finish.ensures.ok
+
+pub returns-in_err-outbox-clause-memory : goal.returns-in_err-outbox-clause-memory
+returns-in_err-outbox-clause-memory g c = λ _. nothing_yet _ _
+
+pub loop-turn-init : goal.loop-turn-init
+loop-turn-init g c = (
+  [],
+  Consumes-nil _,
+  c.new-desk.ensures ∙ sym not_begun,
+  rw none_complete (Appends-nil _),
+  omega arith,
+  omega arith,
+  refl,
+  refl,
+  search rules,
+  c.in_ok-outbox.ensures,
+)

@@ -1,0 +1,8 @@
+pub mod Streams
+pub mod Hex
+pub mod Queries
+pub mod Replies
+pub mod Lines
+pub mod Written
+pub mod Machine
+pub mod Views

@@ -1,0 +1,120 @@
+-- The replies to an input: a fold over its lines, from the first project (this profile's own).
+use Rattle.std.specs.Prelude.{ℕ, zero, suc, ◌-◌, Bool, ◌||◌, ◌&&◌, length, nat_le, List, [], ◌∷◌, ◌++◌, codes, if◌then◌else◌, ◌==◌, Option, Some, None, Result, Ok, Err}
+use Rattle.std.specs.List.{list_all}
+use Rattle.ini_text.specs.Text.{lines_of, trim_end, is_cr}
+use Rattle.co_project.specs.declared.fault.EditFault.{EditFault}
+use Rattle.co_project.specs.declared.fault.EditFault.TheVariants.{Syntax, Truncated}
+use Rattle.co_project.specs.Faults.{refusal_text}
+use Rattle.co_project.specs.declared.command.Order.{Order}
+use Rattle.co_project.specs.declared.request.Request.{Request}
+use Rattle.co_project.specs.declared.request.Request.TheVariants.{Edit, Dcf, Cdcf, Block}
+use Rattle.co_project.specs.Requests.{request}
+use Rattle.co_project.specs.Eds.{eds_order}
+use Rattle.co_project.specs.Project.{Content, first, accept}
+use Rattle.workbench.specs.Queries.{dcf_reply, cdcf_reply}
+
+-- an `eds` command whose block isn't complete: its name (none where its line wasn't of its form; then the command is refused once its lines have come), how many lines are to come, those that came
+pub record Pending : Type 0 where
+  pub name : Option (List ℕ)
+  pub left : ℕ
+  pub lines : List (List ℕ)
+
+-- what stands between two lines: the project, and the open block
+pub record Place : Type 0 where
+  pub project : Content
+  pub block : Option Pending
+
+-- the first project, and no block
+abbrev pub start : Place
+start = record { project = first; block = None }
+
+-- where some lines lead, and the replies to the commands that they complete
+pub record Progress : Type 0 where
+  pub place : Place
+  pub replies : List (List ℕ)
+
+abbrev pub silent : Place → Progress
+silent place = record { place = place; replies = [] }
+
+-- the reply to an edit that was taken
+abbrev pub accepted : List ℕ
+accepted = codes "ok" ++ 10 ∷ []
+
+abbrev pub replied : Content → List ℕ → Progress
+replied p text = record { place = record { project = p; block = None }; replies = text ∷ [] }
+
+-- an edit: `ok` and the new project, or a refusal and the same project
+abbrev pub edited : Content → Result Content EditFault → Progress
+edited p (Ok q) = replied q accepted
+edited p (Err fault) = replied p (refusal_text fault)
+
+abbrev pub ordered : Content → Result Order EditFault → Progress
+ordered p (Ok order) = edited p (accept p order)
+ordered p (Err fault) = replied p (refusal_text fault)
+
+abbrev pub queried : Content → Result (List ℕ) EditFault → Progress
+queried p (Ok text) = replied p text
+queried p (Err fault) = replied p (refusal_text fault)
+
+-- the edit of an `eds` line and its block
+abbrev pub block_order : Option (List ℕ) → List (List ℕ) → Result Order EditFault
+block_order None lines = Err Syntax
+block_order (Some name) lines = eds_order name lines
+
+-- an `eds` command with some lines of its block, and the number of those to come
+abbrev pub in_block : Content → Option (List ℕ) → ℕ → List (List ℕ) → Progress
+in_block p name zero lines = ordered p (block_order name lines)
+in_block p name (suc n) lines = silent (record { project = p; block = Some (record { name = name; left = suc n; lines = lines }) })
+
+abbrev pub asked : Content → Result Request EditFault → Progress
+asked p (Ok (Edit order)) = edited p (accept p order)
+asked p (Ok (Dcf id)) = queried p (dcf_reply p id)
+asked p (Ok (Cdcf id)) = queried p (cdcf_reply p id)
+asked p (Ok (Block name n)) = in_block p name n []
+asked p (Err fault) = replied p (refusal_text fault)
+
+-- at most 4,096 spaces and tabs, or nothing
+abbrev pub is_skipped : List ℕ → Bool
+is_skipped line = nat_le (length line) 4096 && list_all (λ b. b == 32 || b == 9) line
+
+abbrev pub taken : Content → Option Pending → List ℕ → Progress
+taken p None line = if is_skipped line then silent (record { project = p; block = None }) else asked p (request line)
+taken p (Some block) line = in_block p block.name (block.left - 1) (block.lines ++ line ∷ [])
+
+-- one more line: the CRs at its end are removed, and it belongs to the open block or is a command
+unfoldable pub after_line : Place → List ℕ → Progress
+after_line place line = taken place.project place.block (trim_end is_cr line)
+
+abbrev pub after_lines : Place → List (List ℕ) → Progress
+after_lines place [] = silent place
+after_lines place (line ∷ lines) =
+    let one = after_line place line in
+    let others = after_lines one.place lines in
+    record { place = others.place; replies = one.replies ++ others.replies }
+
+-- the end of the input cuts an open block off
+abbrev pub cut_off : Option Pending → List (List ℕ)
+cut_off None = []
+cut_off (Some block) = refusal_text Truncated ∷ []
+
+-- the replies to these lines, after which the input ends
+abbrev pub replies_to_lines : List (List ℕ) → List (List ℕ)
+replies_to_lines lines = let all = after_lines start lines in all.replies ++ cut_off all.place.block
+
+-- THE REPLIES to all of an input, whose lines end by LF or, where the last isn't empty, by its end
+unfoldable pub replies : List ℕ → List (List ℕ)
+replies input = replies_to_lines (lines_of input)
+
+-- b put before the first of the lines, if there is one
+abbrev pub lengthened : ℕ → List (List ℕ) → List (List ℕ)
+lengthened b [] = []
+lengthened b (line ∷ lines) = (b ∷ line) ∷ lines
+
+-- the lines of these bytes that an LF ends, each without it
+unfoldable pub ended_lines : List ℕ → List (List ℕ)
+ended_lines [] = []
+ended_lines (b ∷ bs) = if b == 10 then [] ∷ ended_lines bs else lengthened b (ended_lines bs)
+
+-- THE REPLIES to the commands that are complete in these bytes, whatever follows
+unfoldable pub complete_replies : List ℕ → List (List ℕ)
+complete_replies bytes = (after_lines start (ended_lines bytes)).replies

@@ -1,0 +1,28 @@
+-- What a session has written.
+use Rattle.std.specs.Prelude.{◌≡◌, ℕ, List, ◌++◌, Option}
+use Rattle.std.specs.List.{concat}
+use Rattle.std.specs.Io.KnownBytes.{Appends}
+
+-- a front of this text was written, and nothing else
+abbrev pub Took : Option (List ℕ) → Option (List ℕ) → List ℕ → Type 0
+Took old new text = (front : List ℕ) × (rest : List ℕ) × (text ≡ front ++ rest) × Appends old new front
+
+-- these replies were written, and nothing else
+abbrev pub WroteAll : Option (List ℕ) → Option (List ℕ) → List (List ℕ) → Type 0
+WroteAll old new replies = Appends old new (concat replies)
+
+-- the first of these replies were written, each whole
+abbrev pub WroteFirst : Option (List ℕ) → Option (List ℕ) → List (List ℕ) → Type 0
+WroteFirst old new replies = (first : List (List ℕ)) × (others : List (List ℕ)) × (replies ≡ first ++ others) × WroteAll old new first
+
+-- what was written is a front of these replies
+abbrev pub WroteFront : Option (List ℕ) → Option (List ℕ) → List (List ℕ) → Type 0
+WroteFront old new replies = Took old new (concat replies)
+
+-- private: what was written, and then what waits now, is what waited before, and then this text
+abbrev pub Posts : Option (List ℕ) → List ℕ → Option (List ℕ) → List ℕ → List ℕ → Type 0
+Posts old waited new waits text = (sent : List ℕ) × (waited ++ text ≡ sent ++ waits) × Appends old new sent
+
+-- private: the same of the first of these replies, each whole
+abbrev pub PostsFirst : Option (List ℕ) → List ℕ → Option (List ℕ) → List ℕ → List (List ℕ) → Type 0
+PostsFirst old waited new waits replies = (first : List (List ℕ)) × (others : List (List ℕ)) × (replies ≡ first ++ others) × Posts old waited new waits (concat first)

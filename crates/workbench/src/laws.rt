@@ -1,0 +1,41 @@
+//! Laws of the replies, each in the words of inputs and lines.
+ghost use Rattle.std.specs.Prelude.{◌≡◌, ◌≢◌, ◌<◌, ◌≤◌, ◌++◌, ◌==◌, ◌∷◌, [], ℕ, List, false, length};
+ghost use Rattle.std.specs.List.{count_by};
+ghost use Rattle.workbench.specs.Hex.{hex_line, hex_text, row_count};
+ghost use Rattle.workbench.specs.Lines.{AreLines, has_break, with_breaks, if_some};
+ghost use Rattle.workbench.specs.Replies.{Place, accepted, after_line, replies, replies_to_lines, complete_replies};
+
+/// An input that is made of lines, each ended by LF, and of a last one that its end ends, has the
+/// replies to these lines, taken one after the other.
+pub fn replies_line_by_line()
+    ensures { (lines : List (List ℕ)) (last : List ℕ) → AreLines lines → has_break last ≡ false
+        → replies (with_breaks lines ++ last) ≡ replies_to_lines (lines ++ if_some last) }
+{}
+
+/// The replies to the commands that are complete in some bytes stay, whatever follows these bytes:
+/// they begin the replies to each input that begins so.
+pub fn complete_come_first()
+    ensures { (bytes rest : List ℕ) → (more : List (List ℕ))
+        × (replies (bytes ++ rest) ≡ complete_replies bytes ++ more) }
+{}
+
+/// A line that isn't answered by `ok` leaves the project as it was.
+pub fn refused_changes_nothing()
+    ensures { (place : Place) (line : List ℕ) → (after_line place line).replies ≢ accepted ∷ []
+        → (after_line place line).place.project ≡ place.project }
+{}
+
+/// Bytes in hexadecimal digits begin with a line of the first 16, where there are 16.
+pub fn full_rows()
+    ensures { (row rest : List ℕ) → length row ≡ 16 → hex_text (row ++ rest) ≡ hex_line row ++ hex_text rest }
+{}
+
+/// The lines of a text in hexadecimal digits, each ended by LF, are as many as the rows of 16.
+pub fn rows_are_counted()
+    ensures { (bytes : List ℕ) → count_by (λ b. b == 10) (hex_text bytes) ≡ row_count bytes }
+{}
+
+/// Up to 16 bytes are one line.
+pub fn last_row()
+    ensures { (row : List ℕ) → 0 < length row → length row ≤ 16 → hex_text row ≡ hex_line row }
+{}
