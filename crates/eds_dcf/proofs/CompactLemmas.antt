@@ -215,6 +215,23 @@ module _ (pairs set : List Pair) (key : List ℕ) where
           let both = neither (list_any (λ p. is_decimal p.key) pairs) (length set == 0) e in
           none_decimal key is pairs both.0 ∙ sym (ap (λ ps. value_at ps key) (empty_from_test both.1))
 
+  changed_others : is_decimal key ≡ false → same (codes "NrOfEntries") key ≡ false → value_at set key ≡ None
+      → value_at (with_count (filter (λ p. not (is_decimal p.key)) pairs ++ set)) key ≡ value_at pairs key
+  changed_others is other unset =
+      put_aside (filter (λ p. not (is_decimal p.key)) pairs ++ set) (codes "NrOfEntries") _ key other
+      ∙ value_append (filter (λ p. not (is_decimal p.key)) pairs) set key
+      ∙ ap (option_or (value_at (filter (λ p. not (is_decimal p.key)) pairs) key)) unset
+      ∙ or_none (value_at (filter (λ p. not (is_decimal p.key)) pairs) key)
+      ∙ kept_others key is pairs
+
+  other_value : is_decimal key ≡ false → same (codes "NrOfEntries") key ≡ false → value_at set key ≡ None → value_at (values_pairs true pairs set) key ≡ value_at pairs key
+  unfolding values_pairs
+  other_value is other unset = by ((true && list_any (λ p. is_decimal p.key) pairs) || not (length set == 0))
+    where
+      by : (t : Bool) → value_at (cond t (with_count (filter (λ p. not (is_decimal p.key)) pairs ++ set)) pairs) key ≡ value_at pairs key
+      by true = changed_others is other unset
+      by false = refl
+
 highest_bound : (z : ℤ) (n : ℕ) → in_subs z ≡ Some n → n ≤ 254
 highest_bound (pos m) n e = by (nat_le m 254) refl (nat_lt 0 m) e
   where
@@ -262,3 +279,15 @@ compact_there ss values index sub object highest pairs is modelled within compac
     ∙ set_value pairs (filter_map (value_pair ss values) (first_subs index (highest + 1))) (decimal sub) (decimal_is sub (omega arith))
     ∙ all_there (value_pair ss values) (value_pair_keyed ss values) index (highest + 1) sub (omega arith) (omega arith)
     ∙ value_pair_value ss values place compacted
+
+-- every key that is no number, but NrOfEntries, has what it had
+pub others_there : (ss : List Section) (values : ℕ × ℕ → Option (List ℕ)) (index : ℕ) (object : Section) (highest : ℕ) (pairs : List Pair) (key : List ℕ) → compact_object ss index ≡ Some (object, highest)
+    → is_modelled (kind_of object) ≡ true → is_decimal key ≡ false → same (codes "NrOfEntries") key ≡ false
+    → value_at (values_pairs_at ss values index pairs) key ≡ value_at pairs key
+unfolding values_pairs_at values_set
+others_there ss values index object highest pairs key is modelled plain other =
+    let bound : highest ≤ 254 = object_bound ss index object highest is in
+    ap (λ (o : Option (Section × ℕ)). value_at (option_map_or (λ c. values_pairs (is_modelled (kind_of c.0)) pairs (filter_map (value_pair ss values) (first_subs index (c.1 + 1)))) o pairs) key) is
+    ∙ ap (λ t. value_at (values_pairs t pairs (filter_map (value_pair ss values) (first_subs index (highest + 1)))) key) modelled
+    ∙ other_value pairs (filter_map (value_pair ss values) (first_subs index (highest + 1))) key plain other
+    (none_elsewhere (value_pair ss values) (value_pair_keyed ss values) index (highest + 1) key plain (omega arith))

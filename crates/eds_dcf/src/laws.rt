@@ -9,7 +9,7 @@ ghost use Rattle.eds_device.specs.Described.{kind_at};
 ghost use Rattle.eds_device.specs.Names.{values_named};
 ghost use Rattle.eds_device.specs.Sections.{kind_of};
 ghost use Rattle.eds_device.specs.Sources.{own, source_of};
-ghost use Rattle.eds_dcf.specs.Compact.{compact_object, is_compact, values_pairs_at};
+ghost use Rattle.eds_dcf.specs.Compact.{compact_object, is_compact, is_decimal, values_pairs_at};
 ghost use Rattle.eds_dcf.specs.Dcf.{with_values};
 ghost use Rattle.eds_dcf.specs.Entries.{parameter_place};
 ghost use Rattle.eds_dcf.specs.Writes.{last_of};
@@ -31,11 +31,15 @@ pub fn an_entry_has_its_section()
 {}
 
 /// A sub that stands in the section of a compact object with a modelled type has the bytes of its last
-/// write in the object's section `[xxxxValue]`, and no value there where no write is to it.
+/// write in the object's section `[xxxxValue]`, and no value there where no write is to it. The keys
+/// there that are no numbers, but NrOfEntries, have what they had.
 pub fn a_compact_sub_has_its_last_value()
-    ensures { (ss : List Section) (writes : List written) (index sub : ℕ) (object : Section) (highest : ℕ) (pairs : List Pair)
+    ensures value { (ss : List Section) (writes : List written) (index sub : ℕ) (object : Section) (highest : ℕ) (pairs : List Pair)
         → compact_object ss index ≡ Some (object, highest) → is_modelled (kind_of object) ≡ true → sub ≤ highest → is_compact (source_of ss index sub) ≡ true
         → value_at (values_pairs_at ss (last_of writes) index pairs) (decimal sub) ≡ option_map (printed (kind_at ss (index, sub))) (last_of writes (index, sub)) }
+    ensures others { (ss : List Section) (writes : List written) (index : ℕ) (object : Section) (highest : ℕ) (pairs : List Pair) (key : List ℕ)
+        → compact_object ss index ≡ Some (object, highest) → is_modelled (kind_of object) ≡ true → is_decimal key ≡ false → same (codes "NrOfEntries") key ≡ false
+        → value_at (values_pairs_at ss (last_of writes) index pairs) key ≡ value_at pairs key }
 {}
 
 /// A section that is neither that of a modelled entry nor one of compact values stands as it was.
