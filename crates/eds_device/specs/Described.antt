@@ -97,6 +97,14 @@ abbrev pub unless_empty : List ℕ → Option (List ℕ)
 unless_empty [] = None
 unless_empty (b ∷ bs) = Some (b ∷ bs)
 
+abbrev pub written_text : Default → Option (List ℕ)
+written_text (written text) = unless_empty text
+written_text (count n) = None
+
+-- an entry's DefaultValue, unless it is empty; sub 0 of a compact object has none
+unfoldable pub default_text : List Section → ℕ → ℕ → Option (List ℕ)
+default_text ss index sub = option_and_then (λ (d : Described). written_text d.default) (described ss index sub)
+
 abbrev pub value_by : List Section → ℕ → ℕ → Source → Option (List ℕ)
 value_by ss index sub (own section) = value_at section.pairs (codes "ParameterValue")
 value_by ss index sub (compact section n) = listed_value ss index sub

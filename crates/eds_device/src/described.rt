@@ -1,7 +1,7 @@
 //! What an EDS says of an entry (CiA 306).
 ghost use Rattle.std.specs.Prelude.{◌≡◌, [], unwrap_or};
 ghost use Rattle.std.specs.Option.{option_copied, option_map};
-ghost use Rattle.eds_device.specs.Described.{text_at, access_named, access_of, is_not_zero, is_set, described_in, highest_sub, described, kind_at, listed_value, unless_empty, value_text};
+ghost use Rattle.eds_device.specs.Described.{text_at, access_named, access_of, is_not_zero, is_set, described_in, highest_sub, described, kind_at, listed_value, unless_empty, default_text, value_text};
 ghost use Rattle.eds_device.specs.Shown.{shown_described};
 
 use crate::device::Device;
@@ -150,6 +150,19 @@ impl Device {
         match self.described(index, sub) {
             Some(described) => described.kind,
             None => DataType::NotModelled,
+        }
+    }
+
+    /// The DefaultValue of an entry as it stands. `None` where it is missing or empty, of sub 0 of a
+    /// compact object (whose default is its highest sub-index), and where there is no such entry.
+    #[tactic(auto, unfolding(crate::specs::Described::default_text))]
+    pub fn default_text(&self, index: u16, sub: u8) -> Option<&[u8]>
+        ensures { option_copied result ≡ default_text self.now.sections index sub }
+    {
+        let described = self.described(index, sub)?;
+        match described.default {
+            DefaultText::Written(text) => unless_empty(text),
+            DefaultText::Count(_count) => None,
         }
     }
 

@@ -75,10 +75,14 @@ fn add_given(places: &mut BTreeSet<(u16, u8)>, section: &Section) -> Result<(), 
 }
 
 /// The elements of a set, in order.
-fn in_order(alloc: Global, places: BTreeSet<(u16, u8)>) -> Result<Vec<(u16, u8)>, AllocError>
-    ensures { IfOk result (λ v. v.items ≡ places.keys) }
+fn in_order(alloc: Global, places: &BTreeSet<(u16, u8)>) -> Result<Vec<(u16, u8)>, AllocError>
+    ensures { IfOk result (λ v. v.items ≡ places.now.keys) }
 {
-    places.into_iter().collect(alloc)
+    let mut all = Vec::with_capacity(alloc, places.len())?;
+    for place in places {
+        all.push(*place)?;
+    }
+    Ok(all)
 }
 
 /// The entries that sections give, by index and sub-index, each once. No more than 4,096 are taken,
@@ -90,6 +94,6 @@ pub(crate) fn places_of(alloc: Global, sections: &[Section]) -> Result<Vec<(u16,
     for section in sections {
         add_given(&mut places, section)?;
     }
-    let places = in_order(alloc, places)?;
+    let places = in_order(alloc, &places)?;
     Ok(places)
 }
