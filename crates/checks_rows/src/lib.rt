@@ -1,7 +1,9 @@
-//! Checks of whole sessions: worked scripts, forms of input, and readers and writers that watch,
-//! fail or stop.
+//! Checks of whole sessions: worked scripts, edits and their refusals, the text of a project, forms of
+//! input, and readers and writers that watch, fail or stop; and of the calls of a workbench.
 #![tactic(auto)]
 
+#[cfg(test)]
+mod edits;
 #[cfg(test)]
 mod expect;
 #[cfg(test)]
@@ -11,6 +13,12 @@ mod narrow;
 #[cfg(test)]
 mod pieces;
 #[cfg(test)]
+mod project_text;
+#[cfg(test)]
+mod refusals;
+#[cfg(test)]
 mod streams;
+#[cfg(test)]
+mod surface;
 #[cfg(test)]
 mod worked;

@@ -8,8 +8,8 @@ use workbench::{Counted, SessionFault, session};
 
 #[test]
 fn any_pieces_have_the_same_replies(rt: HostRuntime) {
-    // the five replies go out as their commands come, or in one write where all come at once
-    for (step, writes) in [(1, 5), (3, 5), (4096, 1)] {
+    // the six replies go out as their commands come, or in one write where all come at once
+    for (step, writes) in [(1, 6), (3, 6), (4096, 1)] {
         let taken = Cell::new(0);
         let mut reader = Counted::new(Pieces::new(rt.alloc(), HEARTBEAT, step, false, &taken));
         let mut writer = Counted::new(Narrow::new(rt.alloc(), usize::MAX, &taken));
@@ -36,7 +36,7 @@ fn replies_go_out_before_the_next_read(rt: HostRuntime) {
 #[test]
 fn a_reader_fails(rt: HostRuntime) {
     let taken = Cell::new(0);
-    let script = b"bitrate 500\nhor";
+    let script = b"diag\ntra";
     let mut reader = Counted::new(Pieces::new(rt.alloc(), script, 4096, true, &taken));
     let mut writer = Counted::new(Narrow::new(rt.alloc(), usize::MAX, &taken));
     let outcome = session(rt.alloc(), &mut reader, &mut writer);
@@ -47,7 +47,7 @@ fn a_reader_fails(rt: HostRuntime) {
 #[test]
 fn a_writer_stops(rt: HostRuntime) {
     let taken = Cell::new(0);
-    let mut reader = Counted::new(b"bitrate 500".as_slice());
+    let mut reader = Counted::new(b"diag".as_slice());
     let mut writer = Counted::new(Narrow::new(rt.alloc(), 1, &taken));
     let outcome = session(rt.alloc(), &mut reader, &mut writer);
     assert_eq!(rt; outcome, Err(SessionFault::Write));

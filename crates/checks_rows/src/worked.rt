@@ -23,12 +23,14 @@ pub const HEARTBEAT: &[u8] = b"\
     DataType=0x0009\n\
     AccessType=rw\n\
     node 5 pump a\n\
+    horizon 150000\n\
     param 5 1017 0 100\n\
     cdcf 5\n\
     dcf 5\n";
 
 /// The replies to it.
 pub const HEARTBEAT_REPLIES: &[u8] = b"\
+    ok\n\
     ok\n\
     ok\n\
     ok\n\
@@ -114,8 +116,48 @@ const REPLACED_REPLIES: &[u8] = b"\
     NodeName=q\n\
     Baudrate=1000\n";
 
-/// A block that is refused, between two queries.
-const REFUSED_BLOCK: &[u8] = b"\
+/// A text with CR LF, a comment, a doubled key, a byte E4h and a type that is not modelled, whose
+/// entry can have a parameter that is not written.
+const KEPT: &[u8] = b"\
+    eds x 8\n\
+    ; made by hand\r\n\
+    [2000]\r\n\
+    ParameterName=K\xE4lte\r\n\
+    ParameterName=Other\r\n\
+    DataType=0x0008\r\n\
+    DefaultValue=1.5\r\n\
+    junk\r\n\
+    [2000]\r\n\
+    node 9 q x\n\
+    dcf 9\n\
+    param 9 2000 0 1\n\
+    dcf 9\n";
+
+const KEPT_REPLIES: &[u8] = b"\
+    ok\n\
+    ok\n\
+    lines 8\n\
+    [2000]\n\
+    ParameterName=K\xE4lte\n\
+    DataType=0x0008\n\
+    DefaultValue=1.5\n\
+    [DeviceComissioning]\n\
+    NodeID=9\n\
+    NodeName=q\n\
+    Baudrate=1000\n\
+    ok\n\
+    lines 8\n\
+    [2000]\n\
+    ParameterName=K\xE4lte\n\
+    DataType=0x0008\n\
+    DefaultValue=1.5\n\
+    [DeviceComissioning]\n\
+    NodeID=9\n\
+    NodeName=q\n\
+    Baudrate=1000\n";
+
+/// A text that comes again with one other line.
+const LABEL: &[u8] = b"\
     eds a 16\n\
     [FileInfo]\n\
     FileName=a.eds\n\
@@ -134,17 +176,10 @@ const REFUSED_BLOCK: &[u8] = b"\
     DataType=0x0009\n\
     AccessType=rw\n\
     node 5 pump a\n\
+    horizon 150000\n\
+    param 5 1017 0 100\n\
     dcf 5\n\
-    eds a 1\n\
-    \0\n\
-    dcf 5\n\
-    hello\n";
-
-/// The same DCF before and after it.
-const REFUSED_BLOCK_REPLIES: &[u8] = b"\
-    ok\n\
-    ok\n\
-    lines 20\n\
+    eds a 16\n\
     [FileInfo]\n\
     FileName=a.eds\n\
     [1000]\n\
@@ -158,15 +193,18 @@ const REFUSED_BLOCK_REPLIES: &[u8] = b"\
     AccessType=rw\n\
     DefaultValue=0\n\
     [2001]\n\
-    ParameterName=Label\n\
+    ParameterName=Tag\n\
     DataType=0x0009\n\
     AccessType=rw\n\
-    [DeviceComissioning]\n\
-    NodeID=5\n\
-    NodeName=pump\n\
-    Baudrate=1000\n\
-    refused 8 BadByte\n\
-    lines 20\n\
+    dcf 5\n";
+
+/// The DCF differs in that line alone.
+const LABEL_REPLIES: &[u8] = b"\
+    ok\n\
+    ok\n\
+    ok\n\
+    ok\n\
+    lines 21\n\
     [FileInfo]\n\
     FileName=a.eds\n\
     [1000]\n\
@@ -179,6 +217,7 @@ const REFUSED_BLOCK_REPLIES: &[u8] = b"\
     DataType=0x0006\n\
     AccessType=rw\n\
     DefaultValue=0\n\
+    ParameterValue=0x0064\n\
     [2001]\n\
     ParameterName=Label\n\
     DataType=0x0009\n\
@@ -187,87 +226,29 @@ const REFUSED_BLOCK_REPLIES: &[u8] = b"\
     NodeID=5\n\
     NodeName=pump\n\
     Baudrate=1000\n\
-    refused 2 Syntax\n";
-
-/// A text with CR LF, a comment, a doubled key, a byte E4h and a type that is not modelled.
-const KEPT: &[u8] = b"\
-    eds x 8\n\
-    ; made by hand\r\n\
-    [2000]\r\n\
-    ParameterName=K\xE4lte\r\n\
-    ParameterName=Other\r\n\
-    DataType=0x0008\r\n\
-    DefaultValue=1.5\r\n\
-    junk\r\n\
-    [2000]\r\n\
-    node 9 q x\n\
-    dcf 9\n";
-
-const KEPT_REPLIES: &[u8] = b"\
     ok\n\
-    ok\n\
-    lines 8\n\
-    [2000]\n\
-    ParameterName=K\xE4lte\n\
-    DataType=0x0008\n\
-    DefaultValue=1.5\n\
+    lines 21\n\
+    [FileInfo]\n\
+    FileName=a.eds\n\
+    [1000]\n\
+    ParameterName=Device type\n\
+    DataType=0x0007\n\
+    AccessType=ro\n\
+    DefaultValue=0\n\
+    [1017]\n\
+    ParameterName=Producer heartbeat time\n\
+    DataType=0x0006\n\
+    AccessType=rw\n\
+    DefaultValue=0\n\
+    ParameterValue=0x0064\n\
+    [2001]\n\
+    ParameterName=Tag\n\
+    DataType=0x0009\n\
+    AccessType=rw\n\
     [DeviceComissioning]\n\
-    NodeID=9\n\
-    NodeName=q\n\
+    NodeID=5\n\
+    NodeName=pump\n\
     Baudrate=1000\n";
-
-/// Numbers and words outside their limits and forms, and what is not there.
-const REFUSED: &[u8] = b"\
-    node 0 x a\n\
-    node 128 x a\n\
-    node 5 x a\n\
-    eds a 0\n\
-    node 5 pump a\n\
-    node 127 x a\n\
-    node 6 pump a\n\
-    node 6 x b\n\
-    node 5 pump\n\
-    node 5 pump a a\n\
-    param 5 13FF 0 1\n\
-    param 5 1400 1 0\n\
-    param 5 1bff 1 0\n\
-    param 5 1C00 0 1\n\
-    param 6 2000 0 1\n\
-    param 128 2000 0 1\n\
-    param 5 2000 0\n\
-    param 5 2000 0 \t\n\
-    param 5 12345 0 1\n\
-    param 5 2000 100 1\n\
-    param 5 20g0 0 1\n\
-    param 5 0x20 0 1\n\
-    param 5 F FF 1 2\xE4\t3\n\
-    hello\n";
-
-const REFUSED_REPLIES: &[u8] = b"\
-    refused 3 Range\n\
-    refused 3 Range\n\
-    refused 4 Unknown\n\
-    ok\n\
-    ok\n\
-    refused 5 Taken\n\
-    refused 5 Taken\n\
-    refused 4 Unknown\n\
-    refused 2 Syntax\n\
-    refused 2 Syntax\n\
-    ok\n\
-    refused 3 Range\n\
-    refused 3 Range\n\
-    ok\n\
-    refused 4 Unknown\n\
-    refused 3 Range\n\
-    refused 2 Syntax\n\
-    refused 2 Syntax\n\
-    refused 2 Syntax\n\
-    refused 2 Syntax\n\
-    refused 2 Syntax\n\
-    refused 2 Syntax\n\
-    ok\n\
-    refused 2 Syntax\n";
 
 #[test]
 fn empty_input(rt: HostRuntime) -> Result<(), SessionFault> {
@@ -294,16 +275,11 @@ fn replaced_commands(rt: HostRuntime) -> Result<(), SessionFault> {
 }
 
 #[test]
-fn refused_block_changes_nothing(rt: HostRuntime) -> Result<(), SessionFault> {
-    expect(&rt, REFUSED_BLOCK, REFUSED_BLOCK_REPLIES)
-}
-
-#[test]
-fn text_is_kept(rt: HostRuntime) -> Result<(), SessionFault> {
+fn byte_kept_text(rt: HostRuntime) -> Result<(), SessionFault> {
     expect(&rt, KEPT, KEPT_REPLIES)
 }
 
 #[test]
-fn refused_commands(rt: HostRuntime) -> Result<(), SessionFault> {
-    expect(&rt, REFUSED, REFUSED_REPLIES)
+fn label_edit(rt: HostRuntime) -> Result<(), SessionFault> {
+    expect(&rt, LABEL, LABEL_REPLIES)
 }

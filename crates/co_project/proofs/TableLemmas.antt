@@ -1,6 +1,6 @@
 -- What is done to a table, seen in its list.
-use Rattle.std.proofs.Common.{◌≡◌, ℕ, Vec, sym, ◌∙◌, List, [], ◌∷◌, Bool, true, false, cond, Some, Ok, Err, refl, ap}
-use Rattle.std.specs.Map.{lookup, set_value, keys_of}
+use Rattle.std.proofs.Common.{◌≡◌, ℕ, Vec, sym, ◌∙◌, List, [], ◌∷◌, Bool, true, false, cond, Some, Ok, Err, refl, ap, is_some}
+use Rattle.std.specs.Map.{lookup, set_value, remove_entry, keys_of}
 use Rattle.std.specs.BTreeMap.{insert_entry, is_at}
 use Rattle.std.specs.Cmp.{IsTotalOrder}
 use Rattle.std.specs.List.Sorted.{IsStrictlySortedBy}
@@ -12,8 +12,8 @@ use Rattle.std.proofs.lemmas.Map.Entries.{none_below_head, lookup_tail}
 use Rattle.std.proofs.lemmas.Map.Keys.{sorted_tail}
 use Rattle.std.proofs.lemmas.Cmp.{nat_cmp_total}
 use Rattle.co_project.specs.declared.node.Node.{Node}
-use Rattle.co_project.specs.Tables.{texts_of, node_at, params_at, params_in, entry_cmp, is_full_for, put_param}
-use Rattle.co_project.specs.declared.fault.EditFault.TheVariants.{Limit}
+use Rattle.co_project.specs.Tables.{texts_of, node_at, params_at, params_in, entry_cmp, param_at, is_full_for, put_param, drop_param}
+use Rattle.co_commands.specs.declared.fault.EditFault.TheVariants.{Limit, Unknown}
 use Rattle.std.proofs.lemmas.Map.Steps.{set_value_same}
 
 -- a look-up by the bytes of a key
@@ -76,3 +76,24 @@ module _ (nodes : List (ℕ × Node)) (id : ℕ) (entry : ℕ × ℕ) (text : Li
   -- a node whose parameters stay
   pub param_stays : (params : List ((ℕ × ℕ) × List ℕ)) → params ≡ node.params → set_value (is_at (nat_cmp id)) nodes (with_params node params) ≡ nodes
   param_stays params same = ap (λ p. set_value (is_at (nat_cmp id)) nodes (with_params node p)) same ∙ set_value_same (is_at (nat_cmp id)) nodes node found
+
+-- an entry that goes by the bytes of its key
+pub texts_of-remove : {A : Type 0} (test : List ℕ → Bool) (es : List (Vec ℕ A × List ℕ)) → texts_of (remove_entry (λ k. test k.items) es) ≡ remove_entry test (texts_of es)
+texts_of-remove test [] = refl
+texts_of-remove test (e ∷ es) =
+    elim (test e.0.items) as (λ t. texts_of (cond t es (e ∷ remove_entry (λ k. test k.items) es)) ≡ cond t (texts_of es) ((e.0.items, e.1) ∷ remove_entry test (texts_of es))) [
+      | true ↦ refl
+      | false ↦ ap (λ (t : List (List ℕ × List ℕ)). (e.0.items, e.1) ∷ t) (texts_of-remove test es)
+    ]
+
+module _ (nodes : List (ℕ × Node)) (id : ℕ) (entry : ℕ × ℕ) (node : Node) (found : node_at nodes id ≡ Some node) where
+  -- a known node without the parameter
+  pub param_missing : is_some (param_at node.params entry) ≡ false → drop_param nodes id entry ≡ Err Unknown
+  param_missing none = rw (found, none) refl
+
+  -- a known node that loses it
+  pub param_dropped : is_some (param_at node.params entry) ≡ true → IsStrictlySortedBy nat_cmp (keys_of nodes) → (params : List ((ℕ × ℕ) × List ℕ)) → params ≡ remove_entry (is_at (entry_cmp entry)) node.params
+      → drop_param nodes id entry ≡ Ok (set_value (is_at (nat_cmp id)) nodes (with_params node params))
+  param_dropped there sorted params gone =
+      let new : drop_param nodes id entry ≡ Ok (insert_entry nat_cmp nodes id (with_params node (remove_entry (is_at (entry_cmp entry)) node.params))) = rw (found, there) refl in
+      new ∙ ap (λ p. Ok (insert_entry nat_cmp nodes id (with_params node p))) (sym gone) ∙ ap Ok (sym (put_known nodes id node (with_params node params) sorted found))

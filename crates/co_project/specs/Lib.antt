@@ -1,7 +1,4 @@
-pub mod Faults
-pub mod Accepts
-pub mod Words
-pub mod Eds
-pub mod Requests
 pub mod Tables
 pub mod Project
+pub mod Script
+pub mod Sound

@@ -1,16 +1,20 @@
--- Tables in the order of their keys: EDS texts by name, nodes by number, parameters by entry.
-use Rattle.std.specs.Prelude.{ℕ, Bool, not, ◌&&◌, ◌==◌, nat_le, List, [], ◌∷◌, map, length, Option, Some, None, is_some, Result, Err, Vec}
+-- Tables in the order of their keys: EDS texts by name, nodes by number, parameters by entry, events by number.
+use Rattle.std.specs.Prelude.{ℕ, Bool, true, false, not, ◌&&◌, ◌==◌, nat_le, List, [], ◌∷◌, map, length, Option, Some, None, is_some, Result, Err, Vec}
 use Rattle.std.specs.List.{list_any}
 use Rattle.std.specs.Str.{bytes_eq}
 use Rattle.std.specs.Ordering.{nat_cmp, ordering_then}
 use Rattle.std.specs.declared.cmp.Ordering.{Ordering}
 use Rattle.std.specs.Cmp.Lexicographic.{slice_cmp}
-use Rattle.std.specs.Map.{lookup}
+use Rattle.std.specs.Map.{lookup, remove_entry}
+use Rattle.std.specs.Option.{option_map_or}
 use Rattle.std.specs.BTreeMap.{is_at, insert_entry}
+use Rattle.co_scenario.specs.declared.event.Event.{Event}
+use Rattle.co_scenario.specs.declared.timed_event.TimedEvent.{TimedEvent}
+use Rattle.co_scenario.specs.Scenario.{node_of}
 use Rattle.co_project.specs.declared.node.Node.{Node}
-use Rattle.co_project.specs.declared.fault.EditFault.{EditFault}
-use Rattle.co_project.specs.declared.fault.EditFault.TheVariants.{Unknown, Limit}
-use Rattle.co_project.specs.Accepts.{unless}
+use Rattle.co_commands.specs.declared.fault.EditFault.{EditFault}
+use Rattle.co_commands.specs.declared.fault.EditFault.TheVariants.{Unknown, Limit}
+use Rattle.co_commands.specs.Accepts.{unless}
 
 -- names in the order of their bytes
 abbrev pub name_cmp : List ℕ → List ℕ → Ordering
@@ -67,3 +71,30 @@ with_param nodes id entry text (Some node) =
 -- the nodes, where that of a number gets the text of a parameter
 abbrev pub put_param : List (ℕ × Node) → ℕ → ℕ × ℕ → List ℕ → Result (List (ℕ × Node)) EditFault
 put_param nodes id entry text = with_param nodes id entry text (node_at nodes id)
+
+-- a node uses the text of an EDS
+abbrev pub is_used : List (ℕ × Node) → List ℕ → Bool
+is_used nodes name = list_any (λ e. bytes_eq e.1.eds name) nodes
+
+-- an event is of the node of this number
+abbrev pub is_of : ℕ → Event → Bool
+is_of id event = option_map_or (λ node. node == id) (node_of event) false
+
+-- some event is of the node of this number
+abbrev pub is_named : List (ℕ × TimedEvent) → ℕ → Bool
+is_named events id = list_any (λ e. is_of id e.1.event) events
+
+-- the node that an event is of is there, or it is of all
+abbrev pub is_of_known : List (ℕ × Node) → Event → Bool
+is_of_known nodes event = option_map_or (λ node. is_some (node_at nodes node)) (node_of event) true
+
+-- a node without a parameter
+abbrev pub without_param : List (ℕ × Node) → ℕ → ℕ × ℕ → Option Node → Result (List (ℕ × Node)) EditFault
+without_param nodes id entry None = Err Unknown
+without_param nodes id entry (Some node) =
+    unless ((not (is_some (param_at node.params entry)), Unknown) ∷ [])
+    (insert_entry nat_cmp nodes id (record node { params = remove_entry (is_at (entry_cmp entry)) node.params }))
+
+-- the nodes, where that of a number loses a parameter
+abbrev pub drop_param : List (ℕ × Node) → ℕ → ℕ × ℕ → Result (List (ℕ × Node)) EditFault
+drop_param nodes id entry = without_param nodes id entry (node_at nodes id)

@@ -1,21 +1,19 @@
-//! The project that a script's commands edit: what each line asks, and what each edit does.
+//! The project that a script's commands edit: what each edit does, and the script that makes it
+//! again.
 #![tactic(auto)]
 
-mod block;
-mod command;
-mod fault;
-mod manager;
+mod contents;
+mod event_lines;
+pub mod laws;
+mod lines;
 mod node;
 mod params;
+mod printing;
 mod project;
-mod request;
+mod script;
 mod tables;
-mod words;
 
-pub use command::Command;
-pub use fault::{EditFault, refusal};
-pub use manager::Manager;
+pub use co_commands::{Command, EditFault, Manager, Request, refusal};
 pub use node::Node;
 pub use params::Params;
 pub use project::Project;
-pub use request::Request;

@@ -1,10 +1,9 @@
 //! The parameters of a node.
-ghost use Rattle.std.specs.Prelude.{◌≡◌, ◌∷◌, [], ◌==◌, length, is_some, OnOk, OnErr, IfErr, option_copied};
-ghost use Rattle.std.specs.Map.{lookup};
+ghost use Rattle.std.specs.Prelude.{◌≡◌, [], ◌==◌, length, is_some, OnOk, OnErr, option_copied};
+ghost use Rattle.std.specs.Map.{remove_entry};
 ghost use Rattle.std.specs.BTreeMap.{insert_entry, is_at};
 ghost use Rattle.co_project.specs.Tables.{entry_cmp, param_at, is_full_for};
 
-use crate::fault::EditFault;
 use co_base::Octets;
 use std::alloc::{AllocError, Global};
 use std::collections::BTreeMap;
@@ -69,11 +68,18 @@ impl Params {
         self.texts.iter()
     }
 
+    /// Whether an entry has a text.
+    pub(crate) fn contains(&self, index: u16, sub: u8) -> bool
+        ensures { result ≡ is_some (param_at self.now (index, sub)) }
+    {
+        self.get(index, sub).is_some()
+    }
+
     /// Whether no other entry than the known ones can have a text.
     pub(crate) fn is_full_for(&self, index: u16, sub: u8) -> bool
         ensures { result ≡ is_full_for self.now (index, sub) }
     {
-        self.len() >= MAX_PARAMS && self.get(index, sub).is_none()
+        self.len() >= MAX_PARAMS && !self.contains(index, sub)
     }
 
     /// Sets the text of an entry.
@@ -83,5 +89,12 @@ impl Params {
     {
         self.texts.insert((index, sub), text)?;
         Ok(())
+    }
+
+    /// Takes the text of an entry away, if it has one.
+    pub(crate) fn remove(&mut self, index: u16, sub: u8)
+        ensures { self.new ≡ remove_entry (is_at (entry_cmp (index, sub))) self.old }
+    {
+        self.texts.remove(&(index, sub));
     }
 }

@@ -1,46 +1,41 @@
 //! The project.
-ghost use Rattle.std.specs.Prelude.{◌≡◌, option_copied};
-ghost use Rattle.co_project.specs.Accepts.{Accepts};
-ghost use Rattle.co_project.specs.Tables.{text_at, node_at};
+ghost use Rattle.std.specs.Prelude.{◌≡◌, IfOk, IfSome, IsTrue, Ok, is_some, option_copied};
+ghost use Rattle.eds_device.specs.Faults.{device_of};
+ghost use Rattle.ini_text.specs.Content.{content_of};
+ghost use Rattle.co_commands.specs.Accepts.{Accepts};
+ghost use Rattle.co_project.specs.Tables.{texts_of, text_at, node_at};
 ghost use Rattle.co_project.specs.Project.{accept, first};
+ghost use Rattle.co_project.specs.Script.{script};
+ghost use Rattle.co_project.specs.Sound.{IsSound};
 
-use crate::command::{Command, Order};
-use crate::fault::EditFault;
-use crate::manager::Manager;
+use crate::contents::Contents;
 use crate::node::Node;
-use crate::tables::{
-    Nodes, Texts, find_node, find_text, has_no_room, has_text, name_taken, put_node, put_param,
-    put_text,
-};
-use std::alloc::Global;
-use std::collections::BTreeMap;
+use crate::script::script_text;
+use crate::tables::{find_node, find_text};
+use co_base::Octets;
+use co_commands::laws::eds_are_devices;
+use co_commands::{Command, EditFault, Manager};
+use co_scenario::Script;
+use std::alloc::{AllocError, Global};
+use std::collections::btree_map::Iter;
 use std::marker::Model;
 
-/// A project: the bit rate, the horizon, the manager, the texts of EDS by name, and the nodes by
-/// number with their parameters.
+/// A project: the bit rate, the horizon, the manager, the texts of EDS by name, the nodes by number
+/// with their parameters, and the events by number.
 #[derive(Drop)]
 pub struct Project {
-    alloc: Global,
-    bitrate: u16,
-    horizon: u32,
-    manager: Manager,
-    texts: Texts,
-    nodes: Nodes,
+    contents: Contents,
 }
 
 impl Model for Project {
     ghost use Rattle.co_project.specs.Project.{Content};
-    ghost use Rattle.co_project.specs.Tables.{texts_of};
+    ghost use Rattle.co_project.specs.Sound.{IsSound};
 
     ghost Value = { Content };
 
-    ghost view = { λ p. record {
-      bitrate = p.bitrate;
-      horizon = p.horizon;
-      manager = p.manager;
-      texts = texts_of p.texts.entries;
-      nodes = p.nodes.entries;
-    } };
+    ghost view = { λ p. p.contents };
+
+    ghost invariant = { λ p. IsSound p.contents };
 }
 
 impl Project {
@@ -50,88 +45,92 @@ impl Project {
         ensures { result ≡ first }
     {
         Project {
-            alloc,
-            bitrate: 1000,
-            horizon: 1_000_000,
-            manager: Manager {
-                id: 127,
-                sync_us: 0,
-                heartbeat_ms: 0,
-                timeout_ms: 500,
-            },
-            texts: BTreeMap::new(alloc),
-            nodes: BTreeMap::new(alloc),
+            contents: Contents::new(alloc),
         }
     }
 
     /// Takes an edit, or refuses it with the first fault that applies and changes nothing.
     ///
-    /// Unknown: an EDS or a node that is named isn't there. Taken: the number is the manager's, or
-    /// the name another node's. Limit: a 65th text, or a 4,097th parameter of a node. Memory can
-    /// come in place of each, and changes nothing either.
-    #[tactic(auto, unfolding(crate::specs::Project::accept))]
+    /// Unknown: an EDS, a node, a parameter or an event that is named isn't there. Taken: the
+    /// number is the manager's or a node's, or the name another node's. InUse: a node still uses
+    /// the EDS, or an event is of the node. Limit: a 65th text, or a 4,097th parameter of a node.
+    /// Memory can come in place of each, and changes nothing either.
+    ///
+    /// `drop-eds` and `node` take time by the number of nodes, `drop-node` by that of events and of
+    /// the node's parameters, every other edit by the logarithm of its table.
     pub fn accept(&mut self, command: Command) -> Result<(), EditFault>
         ensures { Accepts self.old self.new result (accept self.old command) }
     {
-        match command.into_order() {
-            Order::Eds { name, text } => {
-                if has_no_room(&self.texts, name.as_slice()) {
-                    return Err(EditFault::Limit);
-                }
-                put_text(&mut self.texts, name, text)?;
-                Ok(())
-            }
-            Order::Node { id, name, eds } => {
-                if !has_text(&self.texts, eds.as_slice()) {
-                    return Err(EditFault::Unknown);
-                }
-                if id == self.manager.id || name_taken(&self.nodes, id, name.as_slice()) {
-                    return Err(EditFault::Taken);
-                }
-                put_node(&mut self.nodes, self.alloc, id, name, eds)?;
-                Ok(())
-            }
-            Order::Param {
-                id,
-                index,
-                sub,
-                text,
-            } => { put_param(&mut self.nodes, id, index, sub, text) }
-        }
+        self.contents.accept(command.into_order())
     }
 
     /// The bit rate in kbit/s.
     pub fn bitrate(&self) -> u16
         ensures { result ≡ self.now.bitrate }
     {
-        self.bitrate
+        self.contents.bitrate
     }
 
     /// The horizon in microseconds.
     pub fn horizon(&self) -> u32
         ensures { result ≡ self.now.horizon }
     {
-        self.horizon
+        self.contents.horizon
     }
 
     /// The manager.
     pub fn manager(&self) -> Manager
         ensures { result ≡ self.now.manager }
     {
-        self.manager
+        self.contents.manager
     }
 
-    /// The text of an EDS: its lines without the CRs at their ends, each ended by LF.
+    /// The text of an EDS: its lines without the CRs at their ends, each ended by LF. It is that of
+    /// a device.
     pub fn text(&self, name: &[u8]) -> Option<&[u8]>
-        ensures { option_copied result ≡ text_at self.now.texts name.now }
+        ensures text { option_copied result ≡ text_at self.now.texts name.now }
+        ensures device { IfSome result (λ text. device_of text.now ≡ Ok (content_of text.now)) }
     {
-        find_text(&self.texts, name)
+        eds_are_devices();
+        find_text(&self.contents.texts, name)
     }
 
-    /// The node of a number.
-    pub fn node(&self, id: u8) -> Option<&Node>
-        ensures { option_copied result ≡ node_at self.now.nodes id }
+    /// The texts of EDS by name.
+    pub fn texts(&self) -> Iter<'_, Vec<u8>, Octets>
+        ensures { texts_of result ≡ self.now.texts }
     {
-        find_node(&self.nodes, id)
+        self.contents.texts.iter()
+    }
+
+    /// The node of a number. Its EDS is there.
+    pub fn node(&self, id: u8) -> Option<&Node>
+        ensures node { option_copied result ≡ node_at self.now.nodes id }
+        ensures eds { IfSome result (λ node. IsTrue (is_some (text_at self.now.texts node.now.eds))) }
+    {
+        find_node(&self.contents.nodes, id)
+    }
+
+    /// The nodes by number.
+    pub fn nodes(&self) -> Iter<'_, u8, Node>
+        ensures { result ≡ self.now.nodes }
+    {
+        self.contents.nodes.iter()
+    }
+
+    /// The events of the scenario.
+    pub fn events(&self) -> &Script
+        ensures { result.now ≡ self.now.events }
+    {
+        &self.contents.events
+    }
+
+    /// The commands that make this project of the first one, as text: its settings, the EDS by name
+    /// with their lines, the nodes by number, their parameters by entry, the events by number. Takes
+    /// time and memory by the length of the text.
+    pub fn script(&self) -> Result<Vec<u8>, AllocError>
+        ensures text { IfOk result (λ text. text.items ≡ script self.now) }
+        ensures sound { IsSound self.now }
+    {
+        script_text(self.contents.alloc, &self.contents)
     }
 }

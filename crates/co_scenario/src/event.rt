@@ -1,4 +1,6 @@
 //! What happens to a node from outside.
+ghost use Rattle.std.specs.Prelude.{◌≡◌};
+ghost use Rattle.co_scenario.specs.Scenario.{node_of};
 
 use crate::nmt_command::NmtCommand;
 use co_base::Octets;
@@ -31,4 +33,18 @@ pub enum Event {
         /// The command.
         command: NmtCommand,
     },
+}
+
+impl Event {
+    /// The number of the node that the event is of; none where it is of all nodes.
+    pub fn node(&self) -> Option<u8>
+        ensures { result ≡ node_of self.now }
+    {
+        match self {
+            Event::Set { node, .. } => Some(*node),
+            Event::Power { node, .. } => Some(*node),
+            Event::Nmt { node: 0, .. } => None,
+            Event::Nmt { node, .. } => Some(*node),
+        }
+    }
 }

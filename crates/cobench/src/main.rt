@@ -2,9 +2,7 @@
 //! output.
 #![tactic(auto)]
 
-mod command;
-
-use command::{complain, run};
+use command_line::{complain, run};
 use std::process::ExitCode;
 use std::{env, io};
 

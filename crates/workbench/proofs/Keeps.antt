@@ -2,11 +2,11 @@
 use Rattle.std.proofs.Common.{◌≡◌, ◌≢◌, ℕ, zero, suc, true, false, List, [], ◌∷◌, ◌++◌, Option, Some, None, Result, Ok, Err, refl}
 use Rattle.std.specs.Prelude.{if◌then◌else◌, ◌-◌}
 use Rattle.ini_text.specs.Text.{trim_end, is_cr}
-use Rattle.co_project.specs.declared.fault.EditFault.{EditFault}
-use Rattle.co_project.specs.declared.command.Order.{Order}
-use Rattle.co_project.specs.declared.request.Request.{Request}
-use Rattle.co_project.specs.declared.request.Request.TheVariants.{Edit, Dcf, Cdcf, Block}
-use Rattle.co_project.specs.Requests.{request}
+use Rattle.co_commands.specs.declared.fault.EditFault.{EditFault}
+use Rattle.co_commands.specs.declared.order.Order.{Order}
+use Rattle.co_commands.specs.declared.request.Request.{Request}
+use Rattle.co_commands.specs.declared.request.Request.TheVariants.{Edit, Dcf, Cdcf, Project, Block}
+use Rattle.co_commands.specs.Requests.{request}
 use Rattle.co_project.specs.Project.{Content, accept}
 use Rattle.workbench.specs.Queries.{dcf_reply, cdcf_reply}
 use Rattle.workbench.specs.Replies.{Pending, Place, Progress, accepted, silent, edited, ordered, queried, block_order, in_block, asked, is_skipped, taken, after_line}
@@ -34,6 +34,7 @@ keeps-asked : (p : Content) (r : Result Request EditFault) → Keeps p (asked p 
 keeps-asked p (Ok (Edit order)) = keeps-edited p (accept p order)
 keeps-asked p (Ok (Dcf id)) = keeps-queried p (dcf_reply p id)
 keeps-asked p (Ok (Cdcf id)) = keeps-queried p (cdcf_reply p id)
+keeps-asked p (Ok Project) = λ _. refl
 keeps-asked p (Ok (Block name n)) = keeps-in_block p name n []
 keeps-asked p (Err fault) = λ _. refl
 

@@ -5,3 +5,5 @@ pub mod Bytewise
 pub mod Ends
 pub mod Lines
 pub mod Keeps
+pub mod LineEnds
+pub mod Fed

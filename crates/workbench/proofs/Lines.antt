@@ -11,7 +11,7 @@ neither : (x y : Bool) → (x || y) ≡ false → (x ≡ false) × (y ≡ false)
 neither true y h = (h, absurd (true≢false h))
 neither false y h = (refl, h)
 
-lines-ended : (l rest : List ℕ) → has_break l ≡ false → lines_of ((l ++ 10 ∷ []) ++ rest) ≡ l ∷ lines_of rest
+pub lines-ended : (l rest : List ℕ) → has_break l ≡ false → lines_of ((l ++ 10 ∷ []) ++ rest) ≡ l ∷ lines_of rest
 unfolding lines_of
 lines-ended [] rest h = refl
 lines-ended (b ∷ bs) rest h =

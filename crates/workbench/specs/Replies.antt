@@ -2,16 +2,16 @@
 use Rattle.std.specs.Prelude.{ℕ, zero, suc, ◌-◌, Bool, ◌||◌, ◌&&◌, length, nat_le, List, [], ◌∷◌, ◌++◌, codes, if◌then◌else◌, ◌==◌, Option, Some, None, Result, Ok, Err}
 use Rattle.std.specs.List.{list_all}
 use Rattle.ini_text.specs.Text.{lines_of, trim_end, is_cr}
-use Rattle.co_project.specs.declared.fault.EditFault.{EditFault}
-use Rattle.co_project.specs.declared.fault.EditFault.TheVariants.{Syntax, Truncated}
-use Rattle.co_project.specs.Faults.{refusal_text}
-use Rattle.co_project.specs.declared.command.Order.{Order}
-use Rattle.co_project.specs.declared.request.Request.{Request}
-use Rattle.co_project.specs.declared.request.Request.TheVariants.{Edit, Dcf, Cdcf, Block}
-use Rattle.co_project.specs.Requests.{request}
-use Rattle.co_project.specs.Eds.{eds_order}
+use Rattle.co_commands.specs.declared.fault.EditFault.{EditFault}
+use Rattle.co_commands.specs.declared.fault.EditFault.TheVariants.{Syntax, Truncated}
+use Rattle.co_commands.specs.Faults.{refusal_text}
+use Rattle.co_commands.specs.declared.order.Order.{Order}
+use Rattle.co_commands.specs.declared.request.Request.{Request}
+use Rattle.co_commands.specs.declared.request.Request.TheVariants.{Edit, Dcf, Cdcf, Project, Block}
+use Rattle.co_commands.specs.Requests.{request}
+use Rattle.co_commands.specs.Eds.{eds_order}
 use Rattle.co_project.specs.Project.{Content, first, accept}
-use Rattle.workbench.specs.Queries.{dcf_reply, cdcf_reply}
+use Rattle.workbench.specs.Queries.{dcf_reply, cdcf_reply, project_reply}
 
 -- an `eds` command whose block isn't complete: its name (none where its line wasn't of its form; then the command is refused once its lines have come), how many lines are to come, those that came
 pub record Pending : Type 0 where
@@ -70,6 +70,7 @@ abbrev pub asked : Content → Result Request EditFault → Progress
 asked p (Ok (Edit order)) = edited p (accept p order)
 asked p (Ok (Dcf id)) = queried p (dcf_reply p id)
 asked p (Ok (Cdcf id)) = queried p (cdcf_reply p id)
+asked p (Ok Project) = replied p (project_reply p)
 asked p (Ok (Block name n)) = in_block p name n []
 asked p (Err fault) = replied p (refusal_text fault)
 

@@ -1,14 +1,14 @@
 -- Private: a desk without where it lies in memory.
 use Rattle.std.specs.Prelude.{◌≡◌, ℕ, List, [], ◌∷◌, Option, Some, None, Result, Ok, Err, Vec}
-use Rattle.co_project.specs.declared.fault.EditFault.{EditFault}
-use Rattle.co_project.specs.declared.fault.EditFault.TheVariants.{Memory}
-use Rattle.co_project.specs.Faults.{refusal_text}
+use Rattle.co_commands.specs.declared.fault.EditFault.{EditFault}
+use Rattle.co_commands.specs.declared.fault.EditFault.TheVariants.{Memory}
+use Rattle.co_commands.specs.Faults.{refusal_text}
 use Rattle.co_project.specs.Project.{Content}
 use Rattle.workbench.specs.declared.block.Block.{Block}
 use Rattle.workbench.specs.declared.desk.Desk.{Desk}
 use Rattle.workbench.specs.declared.reply.Reply.{Reply}
 use Rattle.workbench.specs.declared.reply.Reply.TheVariants.{Nothing, Fixed, Lines}
-use Rattle.co_project.specs.Eds.{lines_of}
+use Rattle.co_commands.specs.Eds.{lines_of}
 use Rattle.workbench.specs.declared.member.Member.{Member as TheMember}
 use Rattle.workbench.specs.Queries.{Member}
 use Rattle.workbench.specs.Replies.{Pending, Progress}
@@ -19,7 +19,7 @@ block_of None = None
 block_of (Some b) = Some (record { name = b.name; left = b.left; lines = lines_of b.lines.items })
 
 abbrev pub standing_of : Desk → Standing
-standing_of d = record { place = record { project = d.project; block = block_of d.block }; line = d.line.items }
+standing_of d = record { place = record { project = d.workbench; block = block_of d.block }; line = d.line.items }
 
 abbrev pub replies_of : Reply → List (List ℕ)
 replies_of Nothing = []

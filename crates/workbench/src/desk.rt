@@ -7,13 +7,13 @@ ghost use Rattle.workbench.specs.Views.{standing_of, reached_of};
 use crate::block::Block;
 use crate::reply::Reply;
 use crate::turns::take_line;
-use co_project::Project;
+use crate::workbench::Workbench;
 use std::alloc::{AllocError, Global};
 
 #[derive(Drop)]
 pub struct Desk {
     pub alloc: Global,
-    pub project: Project,
+    pub workbench: Workbench,
     pub block: Option<Block>,
     /// The line so far.
     pub line: Vec<u8>,
@@ -25,7 +25,7 @@ impl Desk {
     {
         Desk {
             alloc,
-            project: Project::new(alloc),
+            workbench: Workbench::new(alloc),
             block: None,
             line: Vec::new(alloc),
         }
@@ -37,7 +37,7 @@ impl Desk {
             ≡ at_break (after_line (standing_of self.old).place self.old.line.items)) }
     {
         let block = self.block.take();
-        let (reply, block) = take_line(self.alloc, &mut self.project, block, &self.line)?;
+        let (reply, block) = take_line(self.alloc, &mut self.workbench, block, &self.line)?;
         self.block = block;
         self.line.clear();
         Ok(reply)

@@ -1,9 +1,16 @@
 //! Laws of the replies, each in the words of inputs and lines.
-ghost use Rattle.std.specs.Prelude.{◌≡◌, ◌≢◌, ◌<◌, ◌≤◌, ◌++◌, ◌==◌, ◌∷◌, [], ℕ, List, false, length};
+ghost use Rattle.std.specs.Prelude.{◌≡◌, ◌≢◌, ◌<◌, ◌≤◌, ◌++◌, ◌==◌, ◌∷◌, [], ℕ, List, None, false, length, map};
 ghost use Rattle.std.specs.List.{count_by};
+ghost use Rattle.ini_text.specs.Text.{lines_of};
+ghost use Rattle.co_project.specs.Project.{Content};
+ghost use Rattle.co_project.specs.Script.{orders, script};
+ghost use Rattle.co_project.specs.Sound.{IsSound};
 ghost use Rattle.workbench.specs.Hex.{hex_line, hex_text, row_count};
 ghost use Rattle.workbench.specs.Lines.{AreLines, has_break, with_breaks, if_some};
-ghost use Rattle.workbench.specs.Replies.{Place, accepted, after_line, replies, replies_to_lines, complete_replies};
+ghost use Rattle.workbench.specs.Replies.{Place, start, accepted, after_line, after_lines, replies, replies_to_lines, complete_replies};
+
+use co_commands::laws::{printed_blocks_are_read, printed_edits_are_lines, printed_lines_are_read};
+use co_project::laws::{script_has_edits, script_makes_the_project_again};
 
 /// An input that is made of lines, each ended by LF, and of a last one that its end ends, has the
 /// replies to these lines, taken one after the other.
@@ -39,3 +46,17 @@ pub fn rows_are_counted()
 pub fn last_row()
     ensures { (row : List ℕ) → 0 < length row → length row ≤ 16 → hex_text row ≡ hex_line row }
 {}
+
+/// The script of a project, fed to a new session, is answered by `ok` alone, one for each edit, and
+/// makes the equal project.
+pub fn script_is_fed_again()
+    ensures replies { (p : Content) → IsSound p → replies (script p) ≡ map (λ _. accepted) (orders p) }
+    ensures project { (p : Content) → IsSound p
+        → (after_lines start (lines_of (script p))).place ≡ record { project = p; block = None } }
+{
+    printed_lines_are_read();
+    printed_blocks_are_read();
+    printed_edits_are_lines();
+    script_has_edits();
+    script_makes_the_project_again();
+}

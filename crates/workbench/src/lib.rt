@@ -16,6 +16,7 @@ mod reply;
 mod serving;
 mod turns;
 mod work;
+mod workbench;
 
 pub use counted::Counted;
 pub use fault::SessionFault;
@@ -23,3 +24,4 @@ pub use intake::Intake;
 pub use outlet::Outlet;
 pub use serving::{LIMIT, session};
 pub use work::Work;
+pub use workbench::Workbench;

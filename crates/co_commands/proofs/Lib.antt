@@ -1,0 +1,10 @@
+pub mod EdsLemmas
+pub mod KeptLemmas
+pub mod TextLemmas
+pub mod WordLemmas
+pub mod NumberLemmas
+pub mod LineLemmas
+pub mod CommandLemmas
+pub mod BlockLemmas
+pub mod PrintedLemmas
+pub mod ScriptLemmas

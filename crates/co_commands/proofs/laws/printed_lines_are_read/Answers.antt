@@ -1,0 +1,5 @@
+use Rattle.co_commands.proofs.PrintedLemmas.{read_again}
+use Rattle.co_commands.proofs.laws.printed_lines_are_read.Goals as goal
+
+pub returns : goal.returns
+returns c = λ order is. (read_again order is).is

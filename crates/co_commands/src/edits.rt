@@ -1,0 +1,146 @@
+//! The edits of the network: its numbers, its EDS files, its nodes and their parameters.
+ghost use Rattle.std.specs.Prelude.{◌≡◌, true, IfOk};
+ghost use Rattle.co_base.specs.Gives.{Gives};
+ghost use Rattle.co_commands.specs.Faults.{is_memory};
+ghost use Rattle.co_commands.specs.Words.{is_node_number, is_name};
+ghost use Rattle.co_commands.specs.Requests.{id_of, name_of, bitrate_of, horizon_of, manager_of, drop_eds_of, node_of, drop_node_of, param_of, unparam_of};
+
+use crate::command::Command;
+use crate::fault::EditFault;
+use crate::manager::Manager;
+use crate::numbers::{
+    bit_rate, decimal, index, limited, node_number, own_index, sub_index, sync_period, time,
+};
+use crate::order::Order;
+use crate::words::{last_word, name, next_word, text};
+use co_base::Octets;
+use std::alloc::Global;
+
+/// The number of a node, which is the only word.
+#[tactic(auto, unfolding(crate::specs::Requests::id_of))]
+pub(crate) fn id(rest: &[u8]) -> Result<u8, EditFault>
+    ensures value { Gives is_memory (λ n. n) result (id_of rest.now) }
+    ensures within { IfOk result (λ n. is_node_number n ≡ true) }
+{
+    let id = decimal(last_word(rest)?)?;
+    node_number(id)
+}
+
+/// `bitrate K`, in kbit/s.
+#[tactic(auto, unfolding(crate::specs::Requests::bitrate_of, crate::specs::Orders::IsOrder))]
+pub(crate) fn bitrate(rest: &[u8]) -> Result<Command, EditFault>
+    ensures { Gives is_memory (λ c. c) result (bitrate_of rest.now) }
+{
+    let rate = decimal(last_word(rest)?)?;
+    let rate = bit_rate(rate)?;
+    Ok(Command::new(Order::Bitrate(rate)))
+}
+
+/// `horizon US`, in microseconds from power-on.
+#[tactic(auto, unfolding(crate::specs::Requests::horizon_of, crate::specs::Orders::IsOrder))]
+pub(crate) fn horizon(rest: &[u8]) -> Result<Command, EditFault>
+    ensures { Gives is_memory (λ c. c) result (horizon_of rest.now) }
+{
+    let end = decimal(last_word(rest)?)?;
+    let end = time(end)?;
+    Ok(Command::new(Order::Horizon(end)))
+}
+
+/// `manager ID SYNC_US HB_MS TIMEOUT_MS`
+#[tactic(auto, unfolding(crate::specs::Requests::manager_of, crate::specs::Orders::IsOrder, crate::specs::Orders::IsManager))]
+pub(crate) fn manager(rest: &[u8]) -> Result<Command, EditFault>
+    ensures { Gives is_memory (λ c. c) result (manager_of rest.now) }
+{
+    let (id, rest) = next_word(rest);
+    let (sync, rest) = next_word(rest);
+    let (heartbeat, rest) = next_word(rest);
+    let timeout = last_word(rest)?;
+    let id = decimal(id)?;
+    let sync = decimal(sync)?;
+    let heartbeat = decimal(heartbeat)?;
+    let timeout = decimal(timeout)?;
+    let id = node_number(id)?;
+    let sync = sync_period(sync)?;
+    let heartbeat = limited(heartbeat, 0, 65_535)?;
+    let timeout = limited(timeout, 1, 65_535)?;
+    Ok(Command::new(Order::Manager(Manager {
+        id,
+        sync_us: sync,
+        heartbeat_ms: heartbeat as u16,
+        timeout_ms: timeout as u16,
+    })))
+}
+
+/// `drop-eds NAME`
+#[tactic(auto, unfolding(crate::specs::Requests::drop_eds_of, crate::specs::Orders::IsOrder))]
+pub(crate) fn drop_eds(alloc: Global, rest: &[u8]) -> Result<Command, EditFault>
+    ensures { Gives is_memory (λ c. c) result (drop_eds_of rest.now) }
+{
+    let called = name(last_word(rest)?)?;
+    let name = Octets::from_slice(alloc, called)?;
+    Ok(Command::new(Order::DropEds { name }))
+}
+
+/// `node ID NAME EDS`
+#[tactic(auto, unfolding(crate::specs::Requests::node_of, crate::specs::Orders::IsOrder))]
+pub(crate) fn node(alloc: Global, rest: &[u8]) -> Result<Command, EditFault>
+    ensures { Gives is_memory (λ c. c) result (node_of rest.now) }
+{
+    let (id, rest) = next_word(rest);
+    let (called, rest) = next_word(rest);
+    let eds = last_word(rest)?;
+    let id = decimal(id)?;
+    let called = name(called)?;
+    let eds = name(eds)?;
+    let id = node_number(id)?;
+    let name = Octets::from_slice(alloc, called)?;
+    let eds = Octets::from_slice(alloc, eds)?;
+    Ok(Command::new(Order::Node { id, name, eds }))
+}
+
+/// `drop-node ID`
+#[tactic(auto, unfolding(crate::specs::Requests::drop_node_of, crate::specs::Orders::IsOrder))]
+pub(crate) fn drop_node(rest: &[u8]) -> Result<Command, EditFault>
+    ensures { Gives is_memory (λ c. c) result (drop_node_of rest.now) }
+{
+    let id = id(rest)?;
+    Ok(Command::new(Order::DropNode { id }))
+}
+
+/// `param ID INDEX SUB TEXT`
+#[tactic(auto, unfolding(crate::specs::Requests::param_of, crate::specs::Orders::IsOrder, crate::specs::Orders::IsSetting))]
+pub(crate) fn param(alloc: Global, rest: &[u8]) -> Result<Command, EditFault>
+    ensures { Gives is_memory (λ c. c) result (param_of rest.now) }
+{
+    let (id, rest) = next_word(rest);
+    let (entry, rest) = next_word(rest);
+    let (sub, rest) = next_word(rest);
+    let id = decimal(id)?;
+    let index = index(entry)?;
+    let sub = sub_index(sub)?;
+    let text = text(rest)?;
+    let id = node_number(id)?;
+    let index = own_index(index)?;
+    let text = Octets::from_slice(alloc, text)?;
+    Ok(Command::new(Order::Param {
+        id,
+        index,
+        sub,
+        text,
+    }))
+}
+
+/// `unparam ID INDEX SUB`
+#[tactic(auto, unfolding(crate::specs::Requests::unparam_of, crate::specs::Orders::IsOrder))]
+pub(crate) fn unparam(rest: &[u8]) -> Result<Command, EditFault>
+    ensures { Gives is_memory (λ c. c) result (unparam_of rest.now) }
+{
+    let (id, rest) = next_word(rest);
+    let (entry, rest) = next_word(rest);
+    let sub = last_word(rest)?;
+    let id = decimal(id)?;
+    let index = index(entry)?;
+    let sub = sub_index(sub)?;
+    let id = node_number(id)?;
+    Ok(Command::new(Order::Unparam { id, index, sub }))
+}

@@ -1,0 +1,131 @@
+//! What one line asks.
+ghost use Rattle.std.specs.Prelude.{◌≡◌};
+ghost use Rattle.co_base.specs.Gives.{Gives};
+ghost use Rattle.co_commands.specs.Faults.{is_memory};
+ghost use Rattle.co_commands.specs.Requests.{block_of, query_of, command_of, edits, request};
+
+use crate::command::Command;
+use crate::edits::{bitrate, drop_eds, drop_node, horizon, id, manager, node, param, unparam};
+use crate::events::{drop_event, event};
+use crate::fault::EditFault;
+use crate::numbers::decimal;
+use crate::words::{is_bad_line, is_blank_line, is_name, last_word, next_word};
+use co_base::Octets;
+use std::alloc::Global;
+
+const MAX_BLOCK: u64 = 65_536;
+
+/// What one line asks.
+#[derive(Debug, Drop)]
+pub enum Request {
+    /// An edit of the project.
+    Edit(Command),
+    /// The DCF (CiA 306) of a node.
+    Dcf(u8),
+    /// The concise DCF (CiA 302) of a node.
+    Cdcf(u8),
+    /// The commands that make the project.
+    Project,
+    /// The lines of an EDS (CiA 306) follow. Without a name the command is refused with Syntax
+    /// once they have come.
+    Block {
+        /// The name of the EDS, if the command is of its form.
+        name: Option<Octets>,
+        /// The number of lines, 0 to 65,536.
+        lines: u32,
+    },
+}
+
+impl Request {
+    /// What a line asks. The line has neither the LF nor the CRs at its end.
+    ///
+    /// Syntax: an unknown command, a wrong number of words, a word not of its form, over 4,096
+    /// bytes, or a byte 00h to 1Fh other than tab. Range: a number outside its limits, or not
+    /// allowed there. An `eds` line of three words with a number of lines up to 65,536 is a block
+    /// whatever else is wrong with it.
+    #[tactic(auto, unfolding(crate::specs::Requests::request))]
+    pub fn read(alloc: Global, line: &[u8]) -> Result<Request, EditFault>
+        ensures { Gives is_memory (λ r. r) result (request line.now) }
+    {
+        let (first, rest) = next_word(line);
+        if first == b"eds".as_slice() {
+            return block(alloc, is_bad_line(line), rest);
+        }
+        if is_bad_line(line) {
+            return Err(EditFault::Syntax);
+        }
+        command(alloc, first, rest)
+    }
+}
+
+/// `eds NAME LINES`
+#[tactic(auto, unfolding(crate::specs::Requests::block_of))]
+fn block(alloc: Global, is_bad: bool, rest: &[u8]) -> Result<Request, EditFault>
+    ensures { Gives is_memory (λ r. r) result (block_of is_bad rest.now) }
+{
+    let (called, rest) = next_word(rest);
+    let lines = decimal(last_word(rest)?)?;
+    if lines > MAX_BLOCK {
+        return Err(EditFault::Syntax);
+    }
+    let lines = lines as u32;
+    if is_bad || !is_name(called) {
+        return Ok(Request::Block { name: None, lines });
+    }
+    let name = Octets::from_slice(alloc, called)?;
+    Ok(Request::Block {
+        name: Some(name),
+        lines,
+    })
+}
+
+fn edit(command: Result<Command, EditFault>) -> Result<Request, EditFault>
+    ensures { Gives is_memory (λ r. r) result (edits command) }
+{
+    Ok(Request::Edit(command?))
+}
+
+#[tactic(auto, unfolding(crate::specs::Requests::command_of))]
+fn command(alloc: Global, first: &[u8], rest: &[u8]) -> Result<Request, EditFault>
+    ensures { Gives is_memory (λ r. r) result (command_of first.now rest.now) }
+{
+    if first == b"bitrate".as_slice() {
+        edit(bitrate(rest))
+    } else if first == b"horizon".as_slice() {
+        edit(horizon(rest))
+    } else if first == b"manager".as_slice() {
+        edit(manager(rest))
+    } else if first == b"drop-eds".as_slice() {
+        edit(drop_eds(alloc, rest))
+    } else if first == b"node".as_slice() {
+        edit(node(alloc, rest))
+    } else if first == b"drop-node".as_slice() {
+        edit(drop_node(rest))
+    } else if first == b"param".as_slice() {
+        edit(param(alloc, rest))
+    } else if first == b"unparam".as_slice() {
+        edit(unparam(rest))
+    } else if first == b"event".as_slice() {
+        edit(event(alloc, rest))
+    } else if first == b"drop-event".as_slice() {
+        edit(drop_event(rest))
+    } else {
+        query(first, rest)
+    }
+}
+
+/// `dcf ID`, `cdcf ID` or `project`
+#[tactic(auto, unfolding(crate::specs::Requests::query_of))]
+fn query(first: &[u8], rest: &[u8]) -> Result<Request, EditFault>
+    ensures { Gives is_memory (λ r. r) result (query_of first.now rest.now) }
+{
+    if first == b"dcf".as_slice() {
+        Ok(Request::Dcf(id(rest)?))
+    } else if first == b"cdcf".as_slice() {
+        Ok(Request::Cdcf(id(rest)?))
+    } else if first == b"project".as_slice() && is_blank_line(rest) {
+        Ok(Request::Project)
+    } else {
+        Err(EditFault::Syntax)
+    }
+}

@@ -1,6 +1,0 @@
-use Rattle.std.proofs.Common.{◌≡◌, drop}
-use Rattle.co_project.specs.Eds.{has_bad_line, lines_of}
-use Rattle.co_project.proofs.block.has_bad_line.Given as goal
-
-abbrev pub invariant-loop-line : goal.invariant-loop-line
-invariant-loop-line l = has_bad_line (lines_of (drop l.line-index l.lines)) ≡ has_bad_line (lines_of l.lines)

@@ -1,0 +1,189 @@
+//! What a project holds, and what edits do to it.
+ghost use Rattle.std.specs.Prelude.{◌≡◌};
+ghost use Rattle.co_commands.specs.Accepts.{Accepts};
+ghost use Rattle.co_commands.specs.declared.order.Order.TheVariants as order;
+ghost use Rattle.co_project.specs.Project.{accept, first};
+
+use crate::tables::{
+    Nodes, Texts, drop_node, drop_param, drop_text, find_node, has_no_room, has_text, is_named,
+    is_of_known, is_used, name_taken, put_node, put_param, put_text,
+};
+use co_base::Octets;
+use co_commands::{EditFault, Manager, Order};
+use co_scenario::{Script, TimedEvent};
+use std::alloc::Global;
+use std::collections::BTreeMap;
+use std::marker::Model;
+
+/// What a project holds.
+#[derive(Drop)]
+pub(crate) struct Contents {
+    pub alloc: Global,
+    pub bitrate: u16,
+    pub horizon: u32,
+    pub manager: Manager,
+    pub texts: Texts,
+    pub nodes: Nodes,
+    pub events: Script,
+}
+
+impl Model for Contents {
+    ghost use Rattle.co_project.specs.Project.{Content};
+    ghost use Rattle.co_project.specs.Tables.{texts_of};
+
+    ghost Value = { Content };
+
+    ghost view = { λ c. record {
+      bitrate = c.bitrate;
+      horizon = c.horizon;
+      manager = c.manager;
+      texts = texts_of c.texts.entries;
+      nodes = c.nodes.entries;
+      events = c.events;
+    } };
+}
+
+impl Contents {
+    pub fn new(alloc: Global) -> Self
+        ensures { result ≡ first }
+    {
+        Contents {
+            alloc,
+            bitrate: 1000,
+            horizon: 1_000_000,
+            manager: Manager {
+                id: 127,
+                sync_us: 0,
+                heartbeat_ms: 0,
+                timeout_ms: 500,
+            },
+            texts: BTreeMap::new(alloc),
+            nodes: BTreeMap::new(alloc),
+            events: Script::new(alloc),
+        }
+    }
+
+    /// Does an edit, or refuses it with the first fault that applies and changes nothing.
+    #[tactic(auto, unfolding(crate::specs::Project::accept))]
+    pub fn accept(&mut self, order: Order) -> Result<(), EditFault>
+        ensures { Accepts self.old self.new result (accept self.old order) }
+    {
+        match order {
+            Order::Bitrate(rate) => {
+                self.bitrate = rate;
+                Ok(())
+            }
+            Order::Horizon(time) => {
+                self.horizon = time;
+                Ok(())
+            }
+            Order::Manager(manager) => self.manage(manager),
+            Order::Eds { name, text } => self.put_text(name, text),
+            Order::DropEds { name } => self.drop_text(name.as_slice()),
+            Order::Node { id, name, eds } => self.put_node(id, name, eds),
+            Order::DropNode { id } => self.drop_node(id),
+            Order::Param {
+                id,
+                index,
+                sub,
+                text,
+            } => put_param(&mut self.nodes, id, index, sub, text),
+            Order::Unparam { id, index, sub } => drop_param(&mut self.nodes, id, index, sub),
+            Order::Event { number, event } => self.put_event(number, event),
+            Order::DropEvent { number } => self.drop_event(number),
+        }
+    }
+
+    /// Gives the manager other numbers.
+    #[tactic(auto, unfolding(crate::specs::Project::accept))]
+    fn manage(&mut self, manager: Manager) -> Result<(), EditFault>
+        ensures { Accepts self.old self.new result (accept self.old (order.Manager manager)) }
+    {
+        if find_node(&self.nodes, manager.id).is_some() {
+            return Err(EditFault::Taken);
+        }
+        self.manager = manager;
+        Ok(())
+    }
+
+    /// Gives a name a text, in place of the one that it has.
+    #[tactic(auto, unfolding(crate::specs::Project::accept))]
+    fn put_text(&mut self, name: Octets, text: Octets) -> Result<(), EditFault>
+        ensures { Accepts self.old self.new result (accept self.old (order.Eds name text)) }
+    {
+        if has_no_room(&self.texts, name.as_slice()) {
+            return Err(EditFault::Limit);
+        }
+        put_text(&mut self.texts, name, text)?;
+        Ok(())
+    }
+
+    /// Takes a text away that no node uses.
+    #[tactic(auto, unfolding(crate::specs::Project::accept))]
+    fn drop_text(&mut self, name: &[u8]) -> Result<(), EditFault>
+        ensures { Accepts self.old self.new result (accept self.old (order.DropEds name.now)) }
+    {
+        if !has_text(&self.texts, name) {
+            return Err(EditFault::Unknown);
+        }
+        if is_used(&self.nodes, name) {
+            return Err(EditFault::InUse);
+        }
+        drop_text(&mut self.texts, name);
+        Ok(())
+    }
+
+    /// Gives a number a node. A known one keeps its parameters.
+    #[tactic(auto, unfolding(crate::specs::Project::accept))]
+    fn put_node(&mut self, id: u8, name: Octets, eds: Octets) -> Result<(), EditFault>
+        ensures { Accepts self.old self.new result (accept self.old (order.Node id name eds)) }
+    {
+        if !has_text(&self.texts, eds.as_slice()) {
+            return Err(EditFault::Unknown);
+        }
+        if id == self.manager.id || name_taken(&self.nodes, id, name.as_slice()) {
+            return Err(EditFault::Taken);
+        }
+        put_node(&mut self.nodes, self.alloc, id, name, eds)?;
+        Ok(())
+    }
+
+    /// Takes a node away that no event is of, and its parameters with it.
+    #[tactic(auto, unfolding(crate::specs::Project::accept))]
+    fn drop_node(&mut self, id: u8) -> Result<(), EditFault>
+        ensures { Accepts self.old self.new result (accept self.old (order.DropNode id)) }
+    {
+        if find_node(&self.nodes, id).is_none() {
+            return Err(EditFault::Unknown);
+        }
+        if is_named(&self.events, id) {
+            return Err(EditFault::InUse);
+        }
+        drop_node(&mut self.nodes, id);
+        Ok(())
+    }
+
+    /// Gives a number an event, in place of the one that it has.
+    #[tactic(auto, unfolding(crate::specs::Project::accept))]
+    fn put_event(&mut self, number: u16, event: TimedEvent) -> Result<(), EditFault>
+        ensures { Accepts self.old self.new result (accept self.old (order.Event number event)) }
+    {
+        if !is_of_known(&self.nodes, &event.event) {
+            return Err(EditFault::Unknown);
+        }
+        self.events.put(number, event)?;
+        Ok(())
+    }
+
+    /// Takes an event away.
+    #[tactic(auto, unfolding(crate::specs::Project::accept))]
+    fn drop_event(&mut self, number: u16) -> Result<(), EditFault>
+        ensures { Accepts self.old self.new result (accept self.old (order.DropEvent number)) }
+    {
+        if self.events.get(number).is_none() {
+            return Err(EditFault::Unknown);
+        }
+        self.events.remove(number);
+        Ok(())
+    }
+}

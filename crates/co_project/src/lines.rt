@@ -1,0 +1,109 @@
+//! Edits as text, written at the end of an output.
+#![tactic(auto, unfolding(co_commands::specs::Lines::text_of, co_commands::specs::Lines::line_of, co_commands::specs::Lines::words_of))]
+
+ghost use Rattle.std.specs.Prelude.{◌≡◌, ◌++◌, ◌∷◌, OnOk};
+ghost use Rattle.co_commands.specs.Lines.{line_count, text_of};
+ghost use Rattle.co_commands.specs.declared.order.Order.TheVariants as order;
+
+use crate::printing::{write_index, write_number, write_sub, write_word};
+use co_commands::Manager;
+use std::alloc::{AllocError, Global};
+
+/// Writes `bitrate K`.
+pub(crate) fn write_bitrate(out: &mut Vec<u8>, alloc: Global, rate: u16) -> Result<(), AllocError>
+    ensures { OnOk result (out.new.items ≡ out.old.items ++ text_of (order.Bitrate rate)) }
+{
+    out.extend_from_slice(b"bitrate")?;
+    write_number(out, alloc, u64::from(rate))?;
+    out.push(b'\n')?;
+    Ok(())
+}
+
+/// Writes `horizon US`.
+pub(crate) fn write_horizon(out: &mut Vec<u8>, alloc: Global, time: u32) -> Result<(), AllocError>
+    ensures { OnOk result (out.new.items ≡ out.old.items ++ text_of (order.Horizon time)) }
+{
+    out.extend_from_slice(b"horizon")?;
+    write_number(out, alloc, u64::from(time))?;
+    out.push(b'\n')?;
+    Ok(())
+}
+
+/// Writes `manager ID SYNC_US HB_MS TIMEOUT_MS`.
+pub(crate) fn write_manager(
+    out: &mut Vec<u8>,
+    alloc: Global,
+    manager: Manager,
+) -> Result<(), AllocError>
+    ensures { OnOk result (out.new.items ≡ out.old.items ++ text_of (order.Manager manager)) }
+{
+    out.extend_from_slice(b"manager")?;
+    write_number(out, alloc, u64::from(manager.id))?;
+    write_number(out, alloc, u64::from(manager.sync_us))?;
+    write_number(out, alloc, u64::from(manager.heartbeat_ms))?;
+    write_number(out, alloc, u64::from(manager.timeout_ms))?;
+    out.push(b'\n')?;
+    Ok(())
+}
+
+/// The number of lines of a text, each ended by LF.
+fn line_count(text: &[u8]) -> usize
+    ensures { result ≡ line_count text.now }
+{
+    text.iter().filter(|b| **b == b'\n').count()
+}
+
+/// Writes `eds NAME LINES` and the lines.
+pub(crate) fn write_eds(
+    out: &mut Vec<u8>,
+    alloc: Global,
+    name: &[u8],
+    text: &[u8],
+) -> Result<(), AllocError>
+    ensures { OnOk result (out.new.items ≡ out.old.items ++ text_of (order.Eds name.now text.now)) }
+{
+    out.extend_from_slice(b"eds")?;
+    write_word(out, name)?;
+    write_number(out, alloc, line_count(text) as u64)?;
+    out.push(b'\n')?;
+    out.extend_from_slice(text)?;
+    Ok(())
+}
+
+/// Writes `node ID NAME EDS`.
+pub(crate) fn write_node(
+    out: &mut Vec<u8>,
+    alloc: Global,
+    id: u8,
+    name: &[u8],
+    eds: &[u8],
+) -> Result<(), AllocError>
+    ensures { OnOk result (out.new.items ≡ out.old.items ++ text_of (order.Node id name.now eds.now)) }
+{
+    out.extend_from_slice(b"node")?;
+    write_number(out, alloc, u64::from(id))?;
+    write_word(out, name)?;
+    write_word(out, eds)?;
+    out.push(b'\n')?;
+    Ok(())
+}
+
+/// Writes `param ID INDEX SUB TEXT`.
+pub(crate) fn write_param(
+    out: &mut Vec<u8>,
+    alloc: Global,
+    id: u8,
+    index: u16,
+    sub: u8,
+    text: &[u8],
+) -> Result<(), AllocError>
+    ensures { OnOk result (out.new.items ≡ out.old.items ++ text_of (order.Param id index sub text.now)) }
+{
+    out.extend_from_slice(b"param")?;
+    write_number(out, alloc, u64::from(id))?;
+    write_index(out, index)?;
+    write_sub(out, sub)?;
+    write_word(out, text)?;
+    out.push(b'\n')?;
+    Ok(())
+}

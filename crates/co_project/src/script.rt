@@ -1,0 +1,85 @@
+//! The script of a project.
+ghost use Rattle.std.specs.Prelude.{◌≡◌, ◌++◌, IfOk, OnOk, map};
+ghost use Rattle.std.specs.List.{flat_map};
+ghost use Rattle.co_commands.specs.Lines.{text_of};
+ghost use Rattle.co_project.specs.Script.{event_orders, node_order, param_order, param_orders, script, text_orders};
+ghost use Rattle.co_project.specs.Tables.{texts_of};
+
+use crate::contents::Contents;
+use crate::event_lines::write_event;
+use crate::lines::{
+    write_bitrate, write_eds, write_horizon, write_manager, write_node, write_param,
+};
+use crate::params::Params;
+use crate::tables::{Nodes, Texts};
+use co_scenario::Script;
+use std::alloc::{AllocError, Global};
+
+/// Writes the commands that make the texts, by name.
+fn write_texts(out: &mut Vec<u8>, alloc: Global, texts: &Texts) -> Result<(), AllocError>
+    ensures { OnOk result (out.new.items ≡ out.old.items
+        ++ flat_map text_of (text_orders (texts_of texts.now.entries))) }
+{
+    for (name, text) in texts {
+        write_eds(out, alloc, name, text.as_slice())?;
+    }
+    Ok(())
+}
+
+/// Writes the commands that make the nodes without parameters, by number.
+fn write_nodes(out: &mut Vec<u8>, alloc: Global, nodes: &Nodes) -> Result<(), AllocError>
+    ensures { OnOk result (out.new.items ≡ out.old.items ++ flat_map text_of (map node_order nodes.now.entries)) }
+{
+    for (id, node) in nodes {
+        write_node(out, alloc, *id, node.name.as_slice(), node.eds.as_slice())?;
+    }
+    Ok(())
+}
+
+/// Writes the commands that make the parameters of a node, by entry.
+fn write_params(out: &mut Vec<u8>, alloc: Global, id: u8, params: &Params) -> Result<(), AllocError>
+    ensures { OnOk result (out.new.items ≡ out.old.items ++ flat_map text_of (map (param_order id) params.now)) }
+{
+    for ((index, sub), text) in params.iter() {
+        write_param(out, alloc, id, *index, *sub, text.as_slice())?;
+    }
+    Ok(())
+}
+
+/// Writes the commands that make the parameters of all nodes, by number and entry.
+fn write_all_params(out: &mut Vec<u8>, alloc: Global, nodes: &Nodes) -> Result<(), AllocError>
+    ensures { OnOk result (out.new.items ≡ out.old.items
+        ++ flat_map text_of (flat_map param_orders nodes.now.entries)) }
+{
+    for (id, node) in nodes {
+        write_params(out, alloc, *id, &node.params)?;
+    }
+    Ok(())
+}
+
+/// Writes the commands that make the events, by number.
+fn write_events(out: &mut Vec<u8>, alloc: Global, events: &Script) -> Result<(), AllocError>
+    ensures { OnOk result (out.new.items ≡ out.old.items ++ flat_map text_of (event_orders events.now)) }
+{
+    for (number, event) in events.iter() {
+        write_event(out, alloc, *number, event)?;
+    }
+    Ok(())
+}
+
+/// The commands that make a project of the first one, as text: its settings, the EDS by name with
+/// their lines, the nodes by number, their parameters by entry, the events by number.
+#[tactic(auto, using(crate::proofs::LineLemmas::script_parts))]
+pub(crate) fn script_text(alloc: Global, contents: &Contents) -> Result<Vec<u8>, AllocError>
+    ensures { IfOk result (λ text. text.items ≡ script contents.now) }
+{
+    let mut out = Vec::new(alloc);
+    write_bitrate(&mut out, alloc, contents.bitrate)?;
+    write_horizon(&mut out, alloc, contents.horizon)?;
+    write_manager(&mut out, alloc, contents.manager)?;
+    write_texts(&mut out, alloc, &contents.texts)?;
+    write_nodes(&mut out, alloc, &contents.nodes)?;
+    write_all_params(&mut out, alloc, &contents.nodes)?;
+    write_events(&mut out, alloc, &contents.events)?;
+    Ok(out)
+}

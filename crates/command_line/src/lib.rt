@@ -1,0 +1,6 @@
+//! The command line of cobench: what its words ask for, and the exit status.
+#![tactic(auto)]
+
+mod command;
+
+pub use command::{complain, run};

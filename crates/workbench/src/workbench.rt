@@ -1,0 +1,107 @@
+//! The workbench.
+ghost use Rattle.std.specs.Prelude.{◌≡◌, ◌↔◌, ◌≤◌, All, IfOk, IsErrOf, None, length};
+ghost use Rattle.co_base.specs.Gives.{Gives};
+ghost use Rattle.concise_dcf.specs.Concise.{text_of as concise_text};
+ghost use Rattle.co_commands.specs.Accepts.{Accepts};
+ghost use Rattle.co_commands.specs.Faults.{is_memory};
+ghost use Rattle.co_project.specs.Project.{accept, first};
+ghost use Rattle.co_project.specs.Script.{script};
+ghost use Rattle.co_project.specs.Sound.{IsSound};
+ghost use Rattle.co_project.specs.Tables.{node_at};
+ghost use Rattle.workbench.specs.Queries.{or_unknown, dcf_of, concise_of};
+
+use crate::member::find_member;
+use co_project::{Command, EditFault, Project};
+use concise_dcf::{Write, encode};
+use eds_dcf::dcf_text;
+use pdo_links::writes;
+use std::alloc::{AllocError, Global};
+use std::marker::Model;
+
+/// A workbench: a project, and the files that its nodes get. Contracts see it as its project.
+///
+/// Each file is made anew from the project of now, in time and memory by the length of the node's
+/// EDS and of the file.
+#[derive(Drop)]
+pub struct Workbench {
+    alloc: Global,
+    project: Project,
+}
+
+impl Model for Workbench {
+    ghost use Rattle.co_project.specs.Project.{Content};
+
+    ghost Value = { Content };
+
+    ghost view = { λ workbench. workbench.project };
+}
+
+impl Workbench {
+    /// A workbench with the first project.
+    pub fn new(alloc: Global) -> Self
+        ensures { result ≡ first }
+    {
+        Workbench {
+            alloc,
+            project: Project::new(alloc),
+        }
+    }
+
+    /// Takes an edit, or refuses it with the first fault that applies and changes nothing. Memory
+    /// can come in place of each, and changes nothing either.
+    pub fn edit(&mut self, command: Command) -> Result<(), EditFault>
+        ensures { Accepts self.old self.new result (accept self.old command) }
+    {
+        self.project.accept(command)
+    }
+
+    /// The device configuration file (CiA 306) of a node, of the project as it is now.
+    ///
+    /// Unknown: the number isn't a node's. Memory can come in place of the file.
+    #[tactic(auto, unfolding(crate::specs::Queries::dcf_of))]
+    pub fn dcf(&self, node: u8) -> Result<Vec<u8>, EditFault>
+        ensures file { Gives is_memory (λ v. v.items) result (or_unknown (dcf_of self.now node)) }
+        ensures unknown { IsErrOf result EditFault.Unknown ↔ (node_at self.now.nodes node ≡ None) }
+    {
+        let member = find_member(self.alloc, &self.project, node)?;
+        let writes = writes(self.alloc, &member.node.params, &member.device, node)?;
+        let name = member.node.name.as_slice();
+        let rate = self.project.bitrate();
+        let text = dcf_text(self.alloc, &member.device, node, name, rate, &writes)?;
+        Ok(text)
+    }
+
+    /// The bytes of the concise device configuration file (CiA 302) of a node, of the project as it
+    /// is now.
+    ///
+    /// Unknown: the number isn't a node's. Memory can come in place of the file.
+    #[tactic(auto, unfolding(crate::specs::Queries::concise_of))]
+    pub fn concise(&self, node: u8) -> Result<Vec<u8>, EditFault>
+        ensures file { Gives is_memory (λ v. v.items) result (or_unknown (concise_of self.now node)) }
+        ensures unknown { IsErrOf result EditFault.Unknown ↔ (node_at self.now.nodes node ≡ None) }
+    {
+        let member = find_member(self.alloc, &self.project, node)?;
+        let writes = writes(self.alloc, &member.node.params, &member.device, node)?;
+        let bytes = encoded(self.alloc, &writes)?;
+        Ok(bytes)
+    }
+
+    /// The commands that make this project of the first one, as text.
+    pub fn script(&self) -> Result<Vec<u8>, AllocError>
+        ensures text { IfOk result (λ text. text.items ≡ script self.now) }
+
+        // So these commands make it again.
+        ensures sound { IsSound self.now }
+    {
+        self.project.script()
+    }
+}
+
+fn encoded(alloc: Global, writes: &[Write]) -> Result<Vec<u8>, AllocError>
+    requires count { length writes.now ≤ 4294967295 }
+    requires sizes { All (λ w. (1 ≤ length w.bytes) × (length w.bytes ≤ 512)) writes.now }
+    ensures { IfOk result (λ bytes. bytes.items ≡ concise_text writes.now) }
+{
+    let bytes = encode(alloc, writes)?;
+    Ok(bytes)
+}
