@@ -98,7 +98,7 @@ fn entries(alloc: Global) -> Result<String, AllocError> {
     Ok(script)
 }
 
-const ENTRIES_REPLIES: &str = "\
+const ENTRIES_REPLIES: &[u8] = b"\
     ok\n\
     refused 7 Limit\n\
     ok\n\
@@ -113,16 +113,18 @@ const ENTRIES_REPLIES: &str = "\
 #[test]
 fn most_texts_and_nodes(rt: HostRuntime) -> Result<(), SessionFault> {
     let alloc = rt.alloc();
-    expect(&rt, &texts(alloc)?, &oks(alloc, 64, TEXTS_REPLIES)?)?;
-    expect(&rt, &nodes(alloc)?, &oks(alloc, 127, NODES_REPLIES)?)?;
-    expect(&rt, &entries(alloc)?, ENTRIES_REPLIES)
+    let replies = oks(alloc, 64, TEXTS_REPLIES)?;
+    expect(&rt, texts(alloc)?.as_bytes(), replies.as_bytes())?;
+    let replies = oks(alloc, 127, NODES_REPLIES)?;
+    expect(&rt, nodes(alloc)?.as_bytes(), replies.as_bytes())?;
+    expect(&rt, entries(alloc)?.as_bytes(), ENTRIES_REPLIES)
 }
 
 #[test]
 fn most_parameters_and_events(rt: HostRuntime) -> Result<(), SessionFault> {
     let alloc = rt.alloc();
     let replies = oks(alloc, 4099, PARAMETERS_REPLIES)?;
-    expect(&rt, &parameters(alloc)?, &replies)?;
+    expect(&rt, parameters(alloc)?.as_bytes(), replies.as_bytes())?;
     let replies = oks(alloc, 10_002, &events_replies(alloc)?)?;
-    expect(&rt, &events(alloc)?, &replies)
+    expect(&rt, events(alloc)?.as_bytes(), replies.as_bytes())
 }

@@ -1,9 +1,7 @@
-//! Checks of whole sessions: worked scripts, edits and their refusals, the text of a project, forms of
-//! input, and readers and writers that watch, fail or stop; and of the calls of a workbench.
+//! Checks of whole sessions: worked scripts, refusals, the text of a project, forms of input, and
+//! readers and writers that watch, fail or stop; and of the calls of a workbench.
 #![tactic(auto)]
 
-#[cfg(test)]
-mod edits;
 #[cfg(test)]
 mod expect;
 #[cfg(test)]
