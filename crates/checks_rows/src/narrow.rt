@@ -5,7 +5,8 @@ use std::cell::Cell;
 use std::io;
 use std::io::Write;
 
-/// Takes so many bytes and no more, and counts its writes.
+/// Takes so many bytes and no more, counts its writes, and notes how many bytes have gone out: those
+/// that it had at the last flush.
 #[derive(Drop)]
 pub struct Narrow<'a> {
     text: Vec<u8>,
@@ -39,11 +40,11 @@ impl Write for Narrow<'_> {
         self.text.extend_from_slice(&buf[..given])?;
         self.room -= given;
         self.writes = self.writes.saturating_add(1);
-        self.taken.set(self.text.len());
         Ok(given)
     }
 
     fn flush(&mut self) -> io::Result<()> {
+        self.taken.set(self.text.len());
         Ok(())
     }
 }
