@@ -47,8 +47,8 @@ pub fn last_row()
     ensures { (row : List ℕ) → 0 < length row → length row ≤ 16 → hex_text row ≡ hex_line row }
 {}
 
-/// The script of a project, fed to a new session, is answered by `ok` alone, one for each edit, and
-/// makes the equal project.
+/// The script of a project, as an input, has `ok` alone for replies, one for each edit, and makes the
+/// equal project. A session takes it where it is at most 64 MiB.
 pub fn script_is_fed_again()
     ensures replies { (p : Content) → IsSound p → replies (script p) ≡ map (λ _. accepted) (orders p) }
     ensures project { (p : Content) → IsSound p
