@@ -2,7 +2,7 @@
 use Rattle.std.proofs.Common.{◌≡◌, ℕ, zero, suc, Bool, true, false, ◌||◌, ◌&&◌, not, ◌==◌, ◌-◌, List, [], ◌∷◌, take, length, refl, Err, Ok, nat_lt}
 use Rattle.std.specs.List.{list_any, suffix_len}
 use Rattle.std.proofs.lemmas.List.Folds.{list_any-append}
-use Rattle.co_base.specs.Gives.{Refuses}
+use Rattle.std.specs.Bool.{OnFalse}
 use Rattle.ini_text.specs.Text as ini
 use Rattle.co_commands.specs.declared.fault.EditFault.{EditFault}
 use Rattle.co_commands.specs.declared.fault.EditFault.TheVariants.{Syntax, Range, Limit, BadByte}
@@ -58,18 +58,18 @@ bad_text (line ∷ lines) h =
     ] refl parts
 
 -- a refusal says the same of any result
-refusal_stays : (X Y : Type 0) (m : Bool) (e f : EditFault) → Refuses {Y = X} m e (Err f) → Refuses {Y = Y} m e (Err f)
+refusal_stays : (X Y : Type 0) (m : Bool) (e f : EditFault) → OnFalse m (let r : Result X EditFault = Err f in r ≡ Err e) → OnFalse m (let r : Result Y EditFault = Err f in r ≡ Err e)
 refusal_stays X Y true e f h = tt
 refusal_stays X Y false e f h = cc
 
-no_refusal : {X Y : Type 0} (m : Bool) (e : EditFault) (x : X) (y : Y) → Refuses m e (Ok x) → Refuses m e (Ok y)
+no_refusal : {X Y : Type 0} (m : Bool) (e : EditFault) (x : X) (y : Y) → OnFalse m (let r : Result X EditFault = Ok x in r ≡ Err e) → OnFalse m (let r : Result Y EditFault = Ok y in r ≡ Err e)
 no_refusal true e x y h = tt
 no_refusal false e x y h = cc
 
 -- the fault of the text is that of the command
 pub same_fault : (out bad bad_in_text many : Bool) (m : Bool) (e : EditFault) (order : Order) → (bad_in_text ≡ true → bad ≡ true)
-    → Refuses {Y = Unit {0}} m e (unless ((out, Range) ∷ (bad || bad_in_text, BadByte) ∷ (many, Limit) ∷ []) tt)
-    → Refuses m e (unless ((false, Syntax) ∷ (false, Range) ∷ (out, Range) ∷ (bad, BadByte) ∷ (many, Limit) ∷ []) order)
+    → OnFalse m (let r : Result (Unit {0}) EditFault = unless ((out, Range) ∷ (bad || bad_in_text, BadByte) ∷ (many, Limit) ∷ []) tt in r ≡ Err e)
+    → OnFalse m (unless ((false, Syntax) ∷ (false, Range) ∷ (out, Range) ∷ (bad, BadByte) ∷ (many, Limit) ∷ []) order ≡ Err e)
 same_fault true bad bad_in_text many m e order from h = refusal_stays (Unit {0}) Order m e Range h
 same_fault false true bad_in_text many m e order from h = refusal_stays (Unit {0}) Order m e BadByte h
 same_fault false false true many m e order from h = let wrong = from refl in cc wrong
@@ -78,7 +78,7 @@ same_fault false false false false m e order from h = no_refusal m e tt order h
 
 -- the fault of a command whose name and count of lines are good is that of its text
 pub refused_so : (name : List ℕ) (lines : List (List ℕ)) (e : EditFault) → is_name name ≡ true → nat_lt 65536 (length lines) ≡ false
-    → Refuses (is_memory e) e (checked (text_of lines) (has_bad_line lines)) → Refuses (is_memory e) e (eds_order name lines)
+    → OnFalse (is_memory e) (checked (text_of lines) (has_bad_line lines) ≡ Err e) → OnFalse (is_memory e) (eds_order name lines ≡ Err e)
 unfolding eds_order
 refused_so name lines e named few h =
     rw (named, few) (same_fault (ini.is_out_of_range (text_of lines)) (has_bad_line lines) (ini.has_bad_byte (text_of lines)) (has_too_many_entries (text_of lines)) (is_memory e) e (Eds name (text_of lines)) (bad_text lines) h)

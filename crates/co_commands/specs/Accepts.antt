@@ -1,6 +1,6 @@
 -- Edits that are taken or refused.
 use Rattle.std.specs.Prelude.{◌≡◌, Bool, true, false, List, [], ◌∷◌, Result, Ok, Err}
-use Rattle.co_base.specs.Gives.{Refuses}
+use Rattle.std.specs.Bool.{OnFalse}
 use Rattle.co_commands.specs.declared.fault.EditFault.{EditFault}
 use Rattle.co_commands.specs.Faults.{is_memory}
 
@@ -10,7 +10,7 @@ unless [] new = Ok new
 unless ((true, fault) ∷ others) new = Err fault
 unless ((false, fault) ∷ others) new = unless others new
 
--- the edit was taken as given, or refused with nothing changed; want of memory can come in place of each
+-- an edit is answered as expected: it is taken, and what there is now is what was expected; or it is refused with the expected fault, unless that is want of memory, and nothing is changed
 abbrev pub Accepts : {X : Type 0} → X → X → Result (Unit {0}) EditFault → Result X EditFault → Type 0
-Accepts old new (Ok _) given = given ≡ Ok new
-Accepts old new (Err fault) given = Refuses (is_memory fault) fault given × (new ≡ old)
+Accepts old new (Ok _) expected = expected ≡ Ok new
+Accepts old new (Err fault) expected = OnFalse (is_memory fault) (expected ≡ Err fault) × (new ≡ old)

@@ -5,6 +5,7 @@ use Rattle.std.specs.Str.{bytes_eq}
 use Rattle.std.specs.Char.{digit_value, is_digit}
 use Rattle.std.specs.Int.Digits.{number_from_digits}
 use Rattle.ini_text.specs.Text.{trim_start, trim_end}
+use Rattle.co_dict.specs.Pdos.{is_of_pdos}
 use Rattle.co_commands.specs.declared.fault.EditFault.{EditFault}
 use Rattle.co_commands.specs.declared.fault.EditFault.TheVariants.{Syntax, Range}
 
@@ -92,7 +93,7 @@ is_node_or_all n = is_between 0 127 n
 
 -- an index outside 1400h to 1BFFh, the PDO objects (CiA 301) that the plan of messages owns
 abbrev pub is_own_index : ℕ → Bool
-is_own_index index = not (is_between 0x1400 0x1BFF index)
+is_own_index index = not (is_of_pdos index)
 
 -- a bit rate in kbit/s (those of CiA 301 but 800)
 abbrev pub is_bit_rate : ℕ → Bool

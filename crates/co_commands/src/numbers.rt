@@ -5,6 +5,7 @@ ghost use Rattle.co_commands.specs.Faults.{is_memory};
 ghost use Rattle.co_commands.specs.Words.{decimal, hexadecimal, is_between, limited, is_node_number, is_node_or_all, is_own_index, is_bit_rate, is_time, is_sync_period, is_event_number};
 
 use crate::fault::EditFault;
+use co_dict::is_of_pdos;
 
 const MAX_TIME: u64 = 10_000_000;
 
@@ -96,7 +97,7 @@ pub(crate) fn own_index(index: u16) -> Result<u16, EditFault>
     ensures value { Gives is_memory (λ n. n) result (limited is_own_index index) }
     ensures within { IfOk result (λ n. is_own_index n ≡ true) }
 {
-    if matches!(index, 0x1400..=0x1BFF) {
+    if is_of_pdos(index) {
         return Err(EditFault::Range);
     }
     Ok(index)

@@ -3,7 +3,7 @@
 ghost use Rattle.std.specs.Prelude.{◌≡◌, ◌≤◌, length, OnOk, OnErr, IfOk, IfSome, option_copied};
 ghost use Rattle.std.specs.FinMap as map;
 ghost use Rattle.co_dict.specs.Places.{place_cmp};
-ghost use Rattle.co_dict.specs.Values.{longest};
+ghost use Rattle.co_values.specs.Values.{longest_value};
 
 use co_base::Octets;
 use std::alloc::{AllocError, Global};
@@ -46,7 +46,7 @@ impl Dict {
 
     /// Sets the value of an entry, and of that entry alone.
     pub fn write(&mut self, index: u16, sub: u8, bytes: &[u8]) -> Result<(), AllocError>
-        requires { length bytes.now ≤ longest }
+        requires { length bytes.now ≤ longest_value }
         ensures ok { OnOk result (self.new ≡ map.insert self.old (index, sub) bytes.now) }
         ensures err { OnErr result (self.new ≡ self.old) }
     {
@@ -58,7 +58,7 @@ impl Dict {
     /// The value of an entry, if it has one.
     pub fn read(&self, index: u16, sub: u8) -> Option<&[u8]>
         ensures value { option_copied result ≡ map.get self.now (index, sub) }
-        ensures short { IfSome result (λ bytes. length bytes.now ≤ longest) }
+        ensures short { IfSome result (λ bytes. length bytes.now ≤ longest_value) }
     {
         match self.values.get(&(index, sub)) {
             Some(value) => Some(value.as_slice()),

@@ -26,7 +26,9 @@ use Rattle.co_commands.specs.Accepts.{unless}
 use Rattle.co_commands.specs.Orders.{IsOrder, IsManager, IsEds, IsSetting}
 use Rattle.co_commands.specs.Words.{is_bit_rate, is_time}
 use Rattle.co_project.specs.declared.node.Node.{Node}
-use Rattle.co_project.specs.Tables.{name_cmp, entry_cmp, text_at, node_at, params_at, params_in, param_at, name_taken, has_no_room, is_full_for, is_used, is_named, is_of, is_of_known, with_param, without_param}
+use Rattle.co_dict.specs.Places.{place_cmp}
+use Rattle.co_params.specs.Params.{param_at, is_full_for}
+use Rattle.co_project.specs.Tables.{name_cmp, text_at, node_at, params_at, params_in, name_taken, has_no_room, is_used, is_named, is_of, is_of_known, with_param, without_param}
 use Rattle.co_project.specs.Project.{Content, first, accept, with_nodes}
 use Rattle.co_project.specs.Sound.{AreTexts, AreParams, IsNodeOf, IsEventOf, IsSound}
 use Rattle.co_project.proofs.EntryLemmas.{none_passes, All-both, All-remove, All-insert, All-found, length-remove, length-insert, sorted-remove, sorted-insert, stays_known, lookup-without}
@@ -34,12 +36,12 @@ use Rattle.co_project.proofs.EntryLemmas.{none_passes, All-both, All-remove, All
 -- ---- the orders of keys
 
 -- entries of an object dictionary are in a total order
-pub entry_cmp_total : IsTotalOrder entry_cmp
-entry_cmp_total = then_total (on_total (λ (p : ℕ × ℕ). p.0) nat_cmp_total) (on_total (λ (p : ℕ × ℕ). p.1) nat_cmp_total)
+pub place_cmp_total : IsTotalOrder place_cmp
+place_cmp_total = then_total (on_total (λ (p : ℕ × ℕ). p.0) nat_cmp_total) (on_total (λ (p : ℕ × ℕ). p.1) nat_cmp_total)
 
 -- entries that compare alike are one
-pub entry_cmp_exact : CmpEqualImpliesEq entry_cmp
-entry_cmp_exact = exact_pairs nat_cmp nat_cmp exact_unsigned exact_unsigned
+pub place_cmp_exact : CmpEqualImpliesEq place_cmp
+place_cmp_exact = exact_pairs nat_cmp nat_cmp exact_unsigned exact_unsigned
 
 -- ---- texts
 
@@ -74,21 +76,21 @@ unfolding AreParams IsStrictlySortedBy
 no_params = (tt, omega arith, All-nil _)
 
 -- parameters with one more, or with another in its place
-params_put : (params : List ((ℕ × ℕ) × List ℕ)) (entry : ℕ × ℕ) (text : List ℕ) → AreParams params → IsSetting entry.0 entry.1 text → is_full_for params entry ≡ false → AreParams (insert_entry entry_cmp params entry text)
+params_put : (params : List ((ℕ × ℕ) × List ℕ)) (entry : ℕ × ℕ) (text : List ℕ) → AreParams params → IsSetting entry.0 entry.1 text → is_full_for params entry ≡ false → AreParams (insert_entry place_cmp params entry text)
 unfolding AreParams
 params_put params entry text are setting room = (
-  sorted-insert entry_cmp_total params entry text are.0,
-  length-insert entry_cmp_total 4096 params entry text are.0 are.1 room,
-  All-insert entry_cmp_exact (λ e. IsSetting e.0.0 e.0.1 e.1) params entry text are.2 setting,
+  sorted-insert place_cmp_total params entry text are.0,
+  length-insert place_cmp_total 4096 params entry text are.0 are.1 room,
+  All-insert place_cmp_exact (λ e. IsSetting e.0.0 e.0.1 e.1) params entry text are.2 setting,
 )
 
 -- parameters without one
-params_dropped : (params : List ((ℕ × ℕ) × List ℕ)) (entry : ℕ × ℕ) → AreParams params → AreParams (remove_entry (is_at (entry_cmp entry)) params)
+params_dropped : (params : List ((ℕ × ℕ) × List ℕ)) (entry : ℕ × ℕ) → AreParams params → AreParams (remove_entry (is_at (place_cmp entry)) params)
 unfolding AreParams
 params_dropped params entry are = (
-  sorted-remove entry_cmp (is_at (entry_cmp entry)) params are.0,
-  omega (arith, length-remove (is_at (entry_cmp entry)) params),
-  All-remove (λ e. IsSetting e.0.0 e.0.1 e.1) (is_at (entry_cmp entry)) params are.2,
+  sorted-remove place_cmp (is_at (place_cmp entry)) params are.0,
+  omega (arith, length-remove (is_at (place_cmp entry)) params),
+  All-remove (λ e. IsSetting e.0.0 e.0.1 e.1) (is_at (place_cmp entry)) params are.2,
 )
 
 -- ---- keys that differ
@@ -385,7 +387,7 @@ module _ (p q : Content) (sound : IsSound p) (id : ℕ) (entry : ℕ × ℕ) whe
   param_keeps text (Some node) found setting taken =
       let h = nodes_passed p (is_full_for node.params entry) _ _ q taken in
       let old : AreParams node.params = params_of p (id, node) (found_node p sound id node found) in
-      subst IsSound h.1 (params_keep p sound id node (insert_entry entry_cmp node.params entry text) found (params_put node.params entry text old setting h.0))
+      subst IsSound h.1 (params_keep p sound id node (insert_entry place_cmp node.params entry text) found (params_put node.params entry text old setting h.0))
 
   -- a node loses a parameter
   unparam_keeps : (found : Option Node) → node_at p.nodes id ≡ found → with_nodes p (without_param p.nodes id entry found) ≡ Ok q → IsSound q
@@ -393,7 +395,7 @@ module _ (p q : Content) (sound : IsSound p) (id : ℕ) (entry : ℕ × ℕ) whe
   unparam_keeps (Some node) found taken =
       let h = nodes_passed p (not (is_some (param_at node.params entry))) _ _ q taken in
       let old : AreParams node.params = params_of p (id, node) (found_node p sound id node found) in
-      subst IsSound h.1 (params_keep p sound id node (remove_entry (is_at (entry_cmp entry)) node.params) found (params_dropped node.params entry old))
+      subst IsSound h.1 (params_keep p sound id node (remove_entry (is_at (place_cmp entry)) node.params) found (params_dropped node.params entry old))
 
 -- ---- the laws
 

@@ -19,12 +19,14 @@ use Rattle.co_commands.specs.declared.order.Order.{Order}
 use Rattle.co_commands.specs.declared.order.Order.TheVariants as order
 use Rattle.co_commands.specs.Accepts.{unless}
 use Rattle.co_project.specs.declared.node.Node.{Node}
-use Rattle.co_project.specs.Tables.{name_cmp, entry_cmp, params_at, params_in, name_taken, has_no_room, is_full_for, with_param}
+use Rattle.co_dict.specs.Places.{place_cmp}
+use Rattle.co_params.specs.Params.{is_full_for}
+use Rattle.co_project.specs.Tables.{name_cmp, params_at, params_in, name_taken, has_no_room, with_param}
 use Rattle.co_project.specs.Project.{Content, first, accept, accept_all, with_nodes}
 use Rattle.co_project.specs.Script.{orders, node_order, param_order, param_orders, text_orders, event_orders}
 use Rattle.co_project.specs.Sound.{AreTexts, AreParams, IsNodeOf, IsEventOf, IsSound}
 use Rattle.co_project.proofs.EndLemmas.{IsAfter, after_front, new_after, insert-last, found_after, insert-over}
-use Rattle.co_project.proofs.KeepsSound.{entry_cmp_total}
+use Rattle.co_project.proofs.KeepsSound.{place_cmp_total}
 use Rattle.co_project.proofs.ScriptEdits.{settings}
 
 -- ---- edits one after the other
@@ -129,15 +131,15 @@ nodes_again p front (e ∷ back) is sorted all =
 
 -- one parameter more of a node
 param_taken : (p : Content) (front rest : List (ℕ × Node)) (id : ℕ) (node : Node) (e : (ℕ × ℕ) × List ℕ) → IsAfter nat_cmp id (keys_of front)
-    → IsAfter entry_cmp e.0 (keys_of node.params) → is_full_for node.params e.0 ≡ false
+    → IsAfter place_cmp e.0 (keys_of node.params) → is_full_for node.params e.0 ≡ false
     → accept (record p { nodes = front ++ (id, node) ∷ rest }) (param_order id e) ≡ Ok (record p { nodes = front ++ (id, record node { params = node.params ++ e ∷ [] }) ∷ rest })
 unfolding accept
 param_taken p front rest id node e after last free =
     let nodes = front ++ (id, node) ∷ rest in
     let put : List ((ℕ × ℕ) × List ℕ) → List (ℕ × Node) = λ params. insert_entry nat_cmp nodes id (record node { params = params }) in
     ap (λ found. with_nodes p (with_param nodes id e.0 e.1 found)) (found_after nat_cmp_total front id node rest after)
-    ∙ ap (λ t. with_nodes p (unless ((t, Limit) ∷ []) (put (insert_entry entry_cmp node.params e.0 e.1)))) free
-    ∙ ap (λ params. Ok (record p { nodes = put params })) (insert-last entry_cmp_total node.params e.0 e.1 last)
+    ∙ ap (λ t. with_nodes p (unless ((t, Limit) ∷ []) (put (insert_entry place_cmp node.params e.0 e.1)))) free
+    ∙ ap (λ params. Ok (record p { nodes = put params })) (insert-last place_cmp_total node.params e.0 e.1 last)
     ∙ ap (λ l. Ok (record p { nodes = l })) (insert-over nat_cmp_total front id node (record node { params = node.params ++ e ∷ [] }) rest after)
 
 module _ (p : Content) (before rest : List (ℕ × Node)) (id : ℕ) (node : Node) (after : IsAfter nat_cmp id (keys_of before)) where
@@ -146,14 +148,14 @@ module _ (p : Content) (before rest : List (ℕ × Node)) (id : ℕ) (node : Nod
   with_params params = record p { nodes = before ++ (id, record node { params = params }) ∷ rest }
 
   -- the parameters that are still to come
-  params_again : (front back : List ((ℕ × ℕ) × List ℕ)) → IsStrictlySortedBy entry_cmp (keys_of (front ++ back)) → length (front ++ back) ≤ 4096
+  params_again : (front back : List ((ℕ × ℕ) × List ℕ)) → IsStrictlySortedBy place_cmp (keys_of (front ++ back)) → length (front ++ back) ≤ 4096
       → accept_all (Ok (with_params front)) (map (param_order id) back) ≡ Ok (with_params (front ++ back))
   unfolding accept_all
   params_again front [] sorted small = ap (λ params. Ok (with_params params)) (sym (append-nil front))
   params_again front (e ∷ back) sorted small =
       let assoc = append_assoc front (e ∷ []) back in
       one_then (with_params front) (param_order id e) (map (param_order id) back) (with_params (front ++ e ∷ []))
-      (param_taken p before rest id (record node { params = front }) e after (after_front entry_cmp front e back sorted) (room 4096 front e back _ small))
+      (param_taken p before rest id (record node { params = front }) e after (after_front place_cmp front e back sorted) (room 4096 front e back _ small))
       (params_again (front ++ e ∷ []) back (rw assoc sorted) (rw assoc small) ∙ ap (λ params. Ok (with_params params)) assoc)
 
 -- the parameters of a node

@@ -12,7 +12,9 @@ use Rattle.std.proofs.lemmas.Map.Entries.{none_below_head, lookup_tail}
 use Rattle.std.proofs.lemmas.Map.Keys.{sorted_tail}
 use Rattle.std.proofs.lemmas.Cmp.{nat_cmp_total}
 use Rattle.co_project.specs.declared.node.Node.{Node}
-use Rattle.co_project.specs.Tables.{texts_of, node_at, params_at, params_in, entry_cmp, param_at, is_full_for, put_param, drop_param}
+use Rattle.co_dict.specs.Places.{place_cmp}
+use Rattle.co_params.specs.Params.{param_at, is_full_for}
+use Rattle.co_project.specs.Tables.{texts_of, node_at, params_at, params_in, put_param, drop_param}
 use Rattle.co_commands.specs.declared.fault.EditFault.TheVariants.{Limit, Unknown}
 use Rattle.std.proofs.lemmas.Map.Steps.{set_value_same}
 
@@ -67,10 +69,10 @@ module _ (nodes : List (ℕ × Node)) (id : ℕ) (entry : ℕ × ℕ) (text : Li
   param_refused full = rw (found, full) refl
 
   -- a known node that gets one
-  pub param_put : is_full_for node.params entry ≡ false → IsStrictlySortedBy nat_cmp (keys_of nodes) → (params : List ((ℕ × ℕ) × List ℕ)) → params ≡ insert_entry entry_cmp node.params entry text
+  pub param_put : is_full_for node.params entry ≡ false → IsStrictlySortedBy nat_cmp (keys_of nodes) → (params : List ((ℕ × ℕ) × List ℕ)) → params ≡ insert_entry place_cmp node.params entry text
       → put_param nodes id entry text ≡ Ok (set_value (is_at (nat_cmp id)) nodes (with_params node params))
   param_put room sorted params put =
-      let new : put_param nodes id entry text ≡ Ok (insert_entry nat_cmp nodes id (with_params node (insert_entry entry_cmp node.params entry text))) = rw (found, room) refl in
+      let new : put_param nodes id entry text ≡ Ok (insert_entry nat_cmp nodes id (with_params node (insert_entry place_cmp node.params entry text))) = rw (found, room) refl in
       new ∙ ap (λ p. Ok (insert_entry nat_cmp nodes id (with_params node p))) (sym put) ∙ ap Ok (sym (put_known nodes id node (with_params node params) sorted found))
 
   -- a node whose parameters stay
@@ -92,8 +94,8 @@ module _ (nodes : List (ℕ × Node)) (id : ℕ) (entry : ℕ × ℕ) (node : No
   param_missing none = rw (found, none) refl
 
   -- a known node that loses it
-  pub param_dropped : is_some (param_at node.params entry) ≡ true → IsStrictlySortedBy nat_cmp (keys_of nodes) → (params : List ((ℕ × ℕ) × List ℕ)) → params ≡ remove_entry (is_at (entry_cmp entry)) node.params
+  pub param_dropped : is_some (param_at node.params entry) ≡ true → IsStrictlySortedBy nat_cmp (keys_of nodes) → (params : List ((ℕ × ℕ) × List ℕ)) → params ≡ remove_entry (is_at (place_cmp entry)) node.params
       → drop_param nodes id entry ≡ Ok (set_value (is_at (nat_cmp id)) nodes (with_params node params))
   param_dropped there sorted params gone =
-      let new : drop_param nodes id entry ≡ Ok (insert_entry nat_cmp nodes id (with_params node (remove_entry (is_at (entry_cmp entry)) node.params))) = rw (found, there) refl in
+      let new : drop_param nodes id entry ≡ Ok (insert_entry nat_cmp nodes id (with_params node (remove_entry (is_at (place_cmp entry)) node.params))) = rw (found, there) refl in
       new ∙ ap (λ p. Ok (insert_entry nat_cmp nodes id (with_params node p))) (sym gone) ∙ ap Ok (sym (put_known nodes id node (with_params node params) sorted found))

@@ -7,7 +7,8 @@ use Rattle.co_scenario.specs.declared.timed_event.TimedEvent.{TimedEvent}
 use Rattle.co_commands.specs.Words.{is_name, is_node_number, is_bit_rate, is_time, is_event_number}
 use Rattle.co_commands.specs.Orders.{IsEds, IsManager, IsSetting, IsEvent}
 use Rattle.co_project.specs.declared.node.Node.{Node}
-use Rattle.co_project.specs.Tables.{name_cmp, entry_cmp, text_at, name_taken, is_of_known}
+use Rattle.co_dict.specs.Places.{place_cmp}
+use Rattle.co_project.specs.Tables.{name_cmp, text_at, name_taken, is_of_known}
 use Rattle.co_project.specs.Project.{Content}
 
 -- at most 64 texts by name, each of an EDS
@@ -18,7 +19,7 @@ AreTexts texts =
 -- at most 4,096 parameters by entry
 unfoldable pub AreParams : List ((ℕ × ℕ) × List ℕ) → Type 0
 AreParams params =
-    IsStrictlySortedBy entry_cmp (keys_of params) × (length params ≤ 4096) × All (λ e. IsSetting e.0.0 e.0.1 e.1) params
+    IsStrictlySortedBy place_cmp (keys_of params) × (length params ≤ 4096) × All (λ e. IsSetting e.0.0 e.0.1 e.1) params
 
 -- a node of the project: its number isn't the manager's, its name no other node's, its EDS is there
 unfoldable pub IsNodeOf : Content → ℕ × Node → Type 0

@@ -2,7 +2,7 @@
 use Rattle.std.specs.Prelude.{ℕ, Bool, true, false, not, ◌&&◌, ◌==◌, nat_le, List, [], ◌∷◌, map, length, Option, Some, None, is_some, Result, Err, Vec}
 use Rattle.std.specs.List.{list_any}
 use Rattle.std.specs.Str.{bytes_eq}
-use Rattle.std.specs.Ordering.{nat_cmp, ordering_then}
+use Rattle.std.specs.Ordering.{nat_cmp}
 use Rattle.std.specs.declared.cmp.Ordering.{Ordering}
 use Rattle.std.specs.Cmp.Lexicographic.{slice_cmp}
 use Rattle.std.specs.Map.{lookup, remove_entry}
@@ -11,6 +11,8 @@ use Rattle.std.specs.BTreeMap.{is_at, insert_entry}
 use Rattle.co_scenario.specs.declared.event.Event.{Event}
 use Rattle.co_scenario.specs.declared.timed_event.TimedEvent.{TimedEvent}
 use Rattle.co_scenario.specs.Scenario.{node_of}
+use Rattle.co_dict.specs.Places.{place_cmp}
+use Rattle.co_params.specs.Params.{param_at, is_full_for}
 use Rattle.co_project.specs.declared.node.Node.{Node}
 use Rattle.co_commands.specs.declared.fault.EditFault.{EditFault}
 use Rattle.co_commands.specs.declared.fault.EditFault.TheVariants.{Unknown, Limit}
@@ -19,10 +21,6 @@ use Rattle.co_commands.specs.Accepts.{unless}
 -- names in the order of their bytes
 abbrev pub name_cmp : List ℕ → List ℕ → Ordering
 name_cmp = slice_cmp nat_cmp
-
--- entries of an object dictionary (CiA 301) by index and then by sub-index
-abbrev pub entry_cmp : ℕ × ℕ → ℕ × ℕ → Ordering
-entry_cmp a b = ordering_then (nat_cmp a.0 b.0) (nat_cmp a.1 b.1)
 
 -- the text of an EDS
 abbrev pub text_at : List (List ℕ × List ℕ) → List ℕ → Option (List ℕ)
@@ -35,14 +33,6 @@ has_no_room texts name = nat_le 64 (length texts) && not (is_some (text_at texts
 -- the node of a number
 abbrev pub node_at : List (ℕ × Node) → ℕ → Option Node
 node_at nodes id = lookup (is_at (nat_cmp id)) nodes
-
--- the text of a parameter
-abbrev pub param_at : List ((ℕ × ℕ) × List ℕ) → ℕ × ℕ → Option (List ℕ)
-param_at params entry = lookup (is_at (entry_cmp entry)) params
-
--- a node has at most 4,096 parameters (this profile's own): no new entry can have a text
-abbrev pub is_full_for : List ((ℕ × ℕ) × List ℕ) → ℕ × ℕ → Bool
-is_full_for params entry = nat_le 4096 (length params) && not (is_some (param_at params entry))
 
 abbrev pub params_in : Option Node → List ((ℕ × ℕ) × List ℕ)
 params_in None = []
@@ -66,7 +56,7 @@ abbrev pub with_param : List (ℕ × Node) → ℕ → ℕ × ℕ → List ℕ �
 with_param nodes id entry text None = Err Unknown
 with_param nodes id entry text (Some node) =
     unless ((is_full_for node.params entry, Limit) ∷ [])
-    (insert_entry nat_cmp nodes id (record node { params = insert_entry entry_cmp node.params entry text }))
+    (insert_entry nat_cmp nodes id (record node { params = insert_entry place_cmp node.params entry text }))
 
 -- the nodes, where that of a number gets the text of a parameter
 abbrev pub put_param : List (ℕ × Node) → ℕ → ℕ × ℕ → List ℕ → Result (List (ℕ × Node)) EditFault
@@ -93,7 +83,7 @@ abbrev pub without_param : List (ℕ × Node) → ℕ → ℕ × ℕ → Option 
 without_param nodes id entry None = Err Unknown
 without_param nodes id entry (Some node) =
     unless ((not (is_some (param_at node.params entry)), Unknown) ∷ [])
-    (insert_entry nat_cmp nodes id (record node { params = remove_entry (is_at (entry_cmp entry)) node.params }))
+    (insert_entry nat_cmp nodes id (record node { params = remove_entry (is_at (place_cmp entry)) node.params }))
 
 -- the nodes, where that of a number loses a parameter
 abbrev pub drop_param : List (ℕ × Node) → ℕ → ℕ × ℕ → Result (List (ℕ × Node)) EditFault

@@ -7,7 +7,6 @@ mod event_lines;
 pub mod laws;
 mod lines;
 mod node;
-mod params;
 mod printing;
 mod project;
 mod script;
@@ -15,5 +14,5 @@ mod tables;
 
 pub use co_commands::{Command, EditFault, Manager, Request, refusal};
 pub use node::Node;
-pub use params::Params;
+pub use co_params::Params;
 pub use project::Project;

@@ -1,6 +1,6 @@
 //! A node of the network.
 
-use crate::params::Params;
+use co_params::Params;
 use co_base::Octets;
 
 /// A node of the network, which its number names.

@@ -10,7 +10,7 @@ use crate::event_lines::write_event;
 use crate::lines::{
     write_bitrate, write_eds, write_horizon, write_manager, write_node, write_param,
 };
-use crate::params::Params;
+use co_params::Params;
 use crate::tables::{Nodes, Texts};
 use co_scenario::Script;
 use std::alloc::{AllocError, Global};

@@ -7,7 +7,7 @@ ghost use Rattle.co_project.specs.Tables.{texts_of, name_cmp, text_at, node_at, 
 ghost use Rattle.co_commands.specs.Accepts.{Accepts};
 
 use crate::node::Node;
-use crate::params::Params;
+use co_params::Params;
 use co_base::Octets;
 use co_commands::EditFault;
 use co_scenario::{Event, Script};

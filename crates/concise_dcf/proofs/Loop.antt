@@ -6,7 +6,7 @@ use Rattle.concise_dcf.specs.declared.fault.ConciseFault.{ConciseFault}
 use Rattle.concise_dcf.specs.declared.fault.ConciseFault.TheVariants.{Memory, Short, Extra, Empty}
 use Rattle.concise_dcf.specs.Reading.{entry_at, entries_at}
 use Rattle.concise_dcf.specs.Concise.{is_memory}
-use Rattle.co_base.specs.Gives.{Refuses}
+use Rattle.std.specs.Bool.{OnFalse}
 use Rattle.concise_dcf.proofs.Entries.{with_front, regroup}
 
 pub goes_on : (front : List Write) (count i : ℕ) (bytes : List ℕ) (w : Write) (after : List ℕ) (total : Result (List Write × List ℕ) ConciseFault) → i < count → entry_at bytes ≡ Ok (w, after)
@@ -25,8 +25,8 @@ stopped f front count i bytes total lt h so_far =
     let one : with_front front (entries_at (count - i) bytes) ≡ Err f = rw (k, h) refl in
     sym so_far ∙ one
 
-pub ends : (e : ConciseFault) (front : List Write) (count i : ℕ) (bytes : List ℕ) (total : Result (List Write × List ℕ) ConciseFault) → i < count → Refuses (is_memory e) e (entry_at bytes)
-    → with_front front (entries_at (count - i) bytes) ≡ total → Refuses (is_memory e) e total
+pub ends : (e : ConciseFault) (front : List Write) (count i : ℕ) (bytes : List ℕ) (total : Result (List Write × List ℕ) ConciseFault) → i < count → OnFalse (is_memory e) (entry_at bytes ≡ Err e)
+    → with_front front (entries_at (count - i) bytes) ≡ total → OnFalse (is_memory e) (total ≡ Err e)
 ends Memory front count i bytes total lt h so_far = tt
 ends Short front count i bytes total lt h so_far = stopped Short front count i bytes total lt h so_far
 ends Extra front count i bytes total lt h so_far = stopped Extra front count i bytes total lt h so_far

@@ -18,7 +18,7 @@ use Rattle.co_values.specs.Values.{printed}
 use Rattle.eds_device.specs.Described.{kind_at}
 use Rattle.eds_device.specs.Places.{first_subs}
 use Rattle.eds_device.specs.Sections.{compact_count, in_subs, is_compact_type, kind_of, number_at, object_type}
-use Rattle.eds_device.specs.Sources.{object_section, source_of}
+use Rattle.eds_device.specs.Origins.{object_section, origin_of}
 use Rattle.eds_dcf.specs.Compact.{compact_object, is_compact, is_decimal, value_pair, values_pairs, values_pairs_at, values_set, with_count}
 use Rattle.eds_dcf.proofs.LawLemmas.{or_none, value_append}
 use Rattle.eds_dcf.proofs.TextLemmas.{filter_map-push}
@@ -178,13 +178,13 @@ keyed_value values false key kind p e = absurd (cc)
 
 value_pair_keyed : (ss : List Section) (values : ℕ × ℕ → Option (List ℕ)) (place : ℕ × ℕ) (p : Pair) → value_pair ss values place ≡ Some p → p.key ≡ decimal place.1
 unfolding value_pair
-value_pair_keyed ss values place p e = keyed_value (values place) (is_compact (source_of ss place.0 place.1)) (decimal place.1) (kind_at ss place) p e
+value_pair_keyed ss values place p e = keyed_value (values place) (is_compact (origin_of ss place.0 place.1)) (decimal place.1) (kind_at ss place) p e
 
 value_of_pair : (values : Option (List ℕ)) (key : List ℕ) (kind : DataType) → option_map (λ (p : Pair). p.value) (option_map (λ bytes. record { key = key; value = printed kind bytes }) values) ≡ option_map (printed kind) values
 value_of_pair None key kind = refl
 value_of_pair (Some bytes) key kind = refl
 
-value_pair_value : (ss : List Section) (values : ℕ × ℕ → Option (List ℕ)) (place : ℕ × ℕ) → is_compact (source_of ss place.0 place.1) ≡ true → option_map (λ (p : Pair). p.value) (value_pair ss values place) ≡ option_map (printed (kind_at ss place)) (values place)
+value_pair_value : (ss : List Section) (values : ℕ × ℕ → Option (List ℕ)) (place : ℕ × ℕ) → is_compact (origin_of ss place.0 place.1) ≡ true → option_map (λ (p : Pair). p.value) (value_pair ss values place) ≡ option_map (printed (kind_at ss place)) (values place)
 unfolding value_pair
 value_pair_value ss values place is = rw is (value_of_pair (values place) (decimal place.1) (kind_at ss place))
 
@@ -268,7 +268,7 @@ object_bound ss index object highest e = by (object_section ss index) e
 
 -- a sub of a compact object has its value there
 pub compact_there : (ss : List Section) (values : ℕ × ℕ → Option (List ℕ)) (index sub : ℕ) (object : Section) (highest : ℕ) (pairs : List Pair) → compact_object ss index ≡ Some (object, highest)
-    → is_modelled (kind_of object) ≡ true → sub ≤ highest → is_compact (source_of ss index sub) ≡ true
+    → is_modelled (kind_of object) ≡ true → sub ≤ highest → is_compact (origin_of ss index sub) ≡ true
     → value_at (values_pairs_at ss values index pairs) (decimal sub) ≡ option_map (printed (kind_at ss (index, sub))) (values (index, sub))
 unfolding values_pairs_at values_set
 compact_there ss values index sub object highest pairs is modelled within compacted =

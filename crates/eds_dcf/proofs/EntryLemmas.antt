@@ -17,10 +17,10 @@ use Rattle.co_values.specs.declared.form.Width.{Width}
 use Rattle.co_values.specs.declared.form.Width.TheVariants.{Bits8, Bits16, Bits32, Bits64}
 use Rattle.co_values.specs.Types.{form, octets}
 use Rattle.co_values.specs.Values.{Fits, FitsForm, printed}
-use Rattle.co_dict.specs.Values.{longest}
+use Rattle.co_values.specs.Values.{longest_value}
 use Rattle.eds_device.specs.Described.{kind_at}
 use Rattle.eds_device.specs.Names.{values_named}
-use Rattle.eds_device.specs.Sources.{source_of, values_section}
+use Rattle.eds_device.specs.Origins.{origin_of, values_section}
 use Rattle.eds_dcf.specs.Compact.{compact_object, is_compact, made_section, new_values, value_pair, values_pairs_at, values_set}
 use Rattle.eds_dcf.specs.Dcf.{made_at, pairs_with}
 use Rattle.eds_dcf.specs.Entries.{parameter_pairs, parameter_place}
@@ -32,23 +32,23 @@ use Rattle.eds_dcf.proofs.TextLemmas.{two_parts}
 abbrev FitsEntry : List Section → Write → Type 0
 FitsEntry ss write = Fits (kind_at ss (write.index, write.sub)) write.bytes
 
-few_octets : (width : Width) → octets width ≤ longest
+few_octets : (width : Width) → octets width ≤ longest_value
 few_octets Bits8 = omega arith
 few_octets Bits16 = omega arith
 few_octets Bits32 = omega arith
 few_octets Bits64 = omega arith
 
-short_form : (f : Form) (bytes : List ℕ) → FitsForm f bytes → length bytes ≤ longest
+short_form : (f : Form) (bytes : List ℕ) → FitsForm f bytes → length bytes ≤ longest_value
 short_form Flag bytes h = let one : length bytes ≡ 1 = h.0 in omega arith
-short_form (Signed width) bytes h = subst (λ (n : ℕ). n ≤ longest) (sym h) (few_octets width)
-short_form (Unsigned width) bytes h = subst (λ (n : ℕ). n ≤ longest) (sym h) (few_octets width)
+short_form (Signed width) bytes h = subst (λ (n : ℕ). n ≤ longest_value) (sym h) (few_octets width)
+short_form (Unsigned width) bytes h = subst (λ (n : ℕ). n ≤ longest_value) (sym h) (few_octets width)
 short_form Characters bytes h = h
 short_form HexPairs bytes h = h
 short_form Unmodelled bytes h = absurd h
 
 -- values of a type are not too long
-pub all_short : (ss : List Section) (writes : List Write) → All (FitsEntry ss) writes → All (λ w. length w.bytes ≤ longest) writes
-all_short ss writes all = All-weaker (FitsEntry ss) (λ w. length w.bytes ≤ longest) (λ w h. short_form (form (kind_at ss (w.index, w.sub))) w.bytes h.1) writes all
+pub all_short : (ss : List Section) (writes : List Write) → All (FitsEntry ss) writes → All (λ w. length w.bytes ≤ longest_value) writes
+all_short ss writes all = All-weaker (FitsEntry ss) (λ w. length w.bytes ≤ longest_value) (λ w h. short_form (form (kind_at ss (w.index, w.sub))) w.bytes h.1) writes all
 
 equal_from_test : (a b : ℕ) → (a == b) ≡ true → a ≡ b
 equal_from_test a b h = grind (arith, nat_tests)
@@ -92,15 +92,15 @@ found_fits_at ss values place kind bytes fits is found =
     subst (λ (k : DataType). Fits k bytes) (sym is) (subst (λ (o : Option (List ℕ)). IfSome o (Fits (kind_at ss place))) found (fits place))
 
 module _ (ss : List Section) (values : ℕ × ℕ → Option (List ℕ)) (place : ℕ × ℕ) where
-  pub no_compact_sub : is_compact (source_of ss place.0 place.1) ≡ false → None ≡ value_pair ss values place
+  pub no_compact_sub : is_compact (origin_of ss place.0 place.1) ≡ false → None ≡ value_pair ss values place
   unfolding value_pair
   no_compact_sub is = rw is refl
 
-  pub no_value : is_compact (source_of ss place.0 place.1) ≡ true → values place ≡ None → None ≡ value_pair ss values place
+  pub no_value : is_compact (origin_of ss place.0 place.1) ≡ true → values place ≡ None → None ≡ value_pair ss values place
   unfolding value_pair
   no_value is none = rw (is, none) refl
 
-  pub pair_of_value : (kind : DataType) (bytes key text : List ℕ) → is_compact (source_of ss place.0 place.1) ≡ true → values place ≡ Some bytes → kind ≡ kind_at ss place → key ≡ decimal place.1 → text ≡ printed kind bytes
+  pub pair_of_value : (kind : DataType) (bytes key text : List ℕ) → is_compact (origin_of ss place.0 place.1) ≡ true → values place ≡ Some bytes → kind ≡ kind_at ss place → key ≡ decimal place.1 → text ≡ printed kind bytes
       → Some (record { key = key; value = text }) ≡ value_pair ss values place
   unfolding value_pair
   pair_of_value kind bytes key text is found is_kind is_key is_text = rw (is, found, is_key, is_text, is_kind) refl

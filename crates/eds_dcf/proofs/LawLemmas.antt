@@ -16,7 +16,7 @@ use Rattle.co_values.specs.Values.{printed}
 use Rattle.eds_device.specs.Described.{kind_at}
 use Rattle.eds_device.specs.Names.{index_named, place_named, values_named}
 use Rattle.eds_device.specs.Sections.{compact_count, is_plain}
-use Rattle.eds_device.specs.Sources.{Source, own, compact, is_index, is_place, object_section, source_of, sub_section}
+use Rattle.eds_device.specs.Origins.{Origin, own, compact, is_index, is_place, object_section, origin_of, sub_section}
 use Rattle.eds_dcf.specs.Dcf.{with_values}
 use Rattle.eds_dcf.specs.Entries.{own_place, parameter_place}
 use Rattle.eds_dcf.specs.Pairs.{without}
@@ -165,7 +165,7 @@ module _ (ss : List Section) (index sub : ℕ) where
   named_so : (x s : Section) → x ≡ s → (own_place x.name ≡ Some (index, sub)) × ((i : ℕ) × (slice_get ss i ≡ Some x)) → (own_place s.name ≡ Some (index, sub)) × ((i : ℕ) × (slice_get ss i ≡ Some s))
   named_so x s is h = subst (λ (t : Section). (own_place t.name ≡ Some (index, sub)) × ((i : ℕ) × (slice_get ss i ≡ Some t))) is h
 
-  by_object : (s : Section) (rest : Option Source) → (rest ≡ Some (own s) → ⊥) → (t : Bool) → (sub == 0) ≡ t → (o : Option Section) → object_section ss index ≡ o
+  by_object : (s : Section) (rest : Option Origin) → (rest ≡ Some (own s) → ⊥) → (t : Bool) → (sub == 0) ≡ t → (o : Option Section) → object_section ss index ≡ o
       → option_or (cond t (option_and_then (λ x. cond (is_plain x) (Some (own x)) None) o) None) rest ≡ Some (own s) → (own_place s.name ≡ Some (index, sub)) × ((i : ℕ) × (slice_get ss i ≡ Some s))
   unfolding object_section
   by_object s rest none true zeroth None at e = absurd (none e)
@@ -185,13 +185,13 @@ module _ (ss : List Section) (index sub : ℕ) where
   by_sub s (Some x) at e = let is : x ≡ s = cc in named_so x s is (named_by_sub x at, stands (λ t. is_place (index, sub) (place_named t.name)) x at)
 
   -- an entry with a section of its own is the one that the section is named for, and the section stands in the text
-  own_named : (s : Section) → source_of ss index sub ≡ Some (own s) → (own_place s.name ≡ Some (index, sub)) × ((i : ℕ) × (slice_get ss i ≡ Some s))
-  unfolding source_of
+  own_named : (s : Section) → origin_of ss index sub ≡ Some (own s) → (own_place s.name ≡ Some (index, sub)) × ((i : ℕ) × (slice_get ss i ≡ Some s))
+  unfolding origin_of
   own_named s e = by_sub s (sub_section ss index sub) refl e
 
-  pub entry_stands : (s : Section) → source_of ss index sub ≡ Some (own s) → (i : ℕ) × (slice_get ss i ≡ Some s)
+  pub entry_stands : (s : Section) → origin_of ss index sub ≡ Some (own s) → (i : ℕ) × (slice_get ss i ≡ Some s)
   entry_stands s e = (own_named s e).1
 
-  pub entry_placed : (s : Section) → source_of ss index sub ≡ Some (own s) → is_modelled (kind_at ss (index, sub)) ≡ true → parameter_place ss s.name ≡ Some (index, sub)
+  pub entry_placed : (s : Section) → origin_of ss index sub ≡ Some (own s) → is_modelled (kind_at ss (index, sub)) ≡ true → parameter_place ss s.name ≡ Some (index, sub)
   unfolding parameter_place
   entry_placed s e modelled = rw ((own_named s e).0, e, (bytes_eq-Decides s.name s.name).1 refl, modelled) refl

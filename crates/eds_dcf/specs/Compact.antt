@@ -11,14 +11,14 @@ use Rattle.co_values.specs.Values.{printed}
 use Rattle.eds_device.specs.Described.{kind_at}
 use Rattle.eds_device.specs.Places.{first_subs}
 use Rattle.eds_device.specs.Sections.{compact_count, kind_of}
-use Rattle.eds_device.specs.Sources.{Source, own, compact, object_section, values_section, source_of}
+use Rattle.eds_device.specs.Origins.{Origin, own, compact, object_section, values_section, origin_of}
 
 -- a compact object: its section, and its highest sub-index
 unfoldable pub compact_object : List Section → ℕ → Option (Section × ℕ)
 compact_object ss index = option_and_then (λ s. option_map (λ n. (s, n)) (compact_count s)) (object_section ss index)
 
 -- whether an entry stands in the section of a compact object
-abbrev pub is_compact : Option Source → Bool
+abbrev pub is_compact : Option Origin → Bool
 is_compact None = false
 is_compact (Some (own section)) = false
 is_compact (Some (compact section highest)) = true
@@ -26,7 +26,7 @@ is_compact (Some (compact section highest)) = true
 -- `k=value` for a compact sub k with a value: k in decimal digits, and the value as a DCF prints it
 unfoldable pub value_pair : List Section → (ℕ × ℕ → Option (List ℕ)) → ℕ × ℕ → Option Pair
 value_pair ss values place =
-    if is_compact (source_of ss place.0 place.1)
+    if is_compact (origin_of ss place.0 place.1)
     then option_map (λ bytes. record { key = decimal place.1; value = printed (kind_at ss place) bytes }) (values place)
     else None
 

@@ -7,7 +7,7 @@ use Rattle.co_values.specs.Types.{is_modelled}
 use Rattle.co_values.specs.Values.{printed}
 use Rattle.eds_device.specs.Described.{kind_at}
 use Rattle.eds_device.specs.Names.{index_named, place_named}
-use Rattle.eds_device.specs.Sources.{Source, own, compact, source_of}
+use Rattle.eds_device.specs.Origins.{Origin, own, compact, origin_of}
 use Rattle.eds_dcf.specs.Pairs.{without}
 
 -- the entry that a section is named for: `[xxxxsubN]`, or `[xxxx]` for sub 0
@@ -15,7 +15,7 @@ unfoldable pub own_place : List ℕ → Option (ℕ × ℕ)
 own_place name = option_or (place_named name) (option_map (λ index. (index, 0)) (index_named name))
 
 -- whether an entry stands in the section of that name
-abbrev pub is_in : List ℕ → Option Source → Bool
+abbrev pub is_in : List ℕ → Option Origin → Bool
 is_in name None = false
 is_in name (Some (own section)) = bytes_eq section.name name
 is_in name (Some (compact section highest)) = false
@@ -23,7 +23,7 @@ is_in name (Some (compact section highest)) = false
 -- the modelled entry that stands in the section of a name
 unfoldable pub parameter_place : List Section → List ℕ → Option (ℕ × ℕ)
 parameter_place ss name = option_and_then
-    (λ place. if is_in name (source_of ss place.0 place.1) && is_modelled (kind_at ss place) then Some place else None)
+    (λ place. if is_in name (origin_of ss place.0 place.1) && is_modelled (kind_at ss place) then Some place else None)
     (own_place name)
 
 -- ParameterValue goes, and comes last where there is a value

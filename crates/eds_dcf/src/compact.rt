@@ -6,7 +6,7 @@ ghost use Rattle.std.specs.List.{flat_map};
 ghost use Rattle.std.specs.Option.{option_to_list};
 ghost use Rattle.ini_text.specs.Change.{section_text};
 ghost use Rattle.co_values.specs.Values.{Fits};
-ghost use Rattle.eds_dcf.specs.Compact.{compact_object as object_of, is_compact as is_compact_source, new_values, value_pair, values_set as values_set_of, values_name as name_of_values, values_pairs_at};
+ghost use Rattle.eds_dcf.specs.Compact.{compact_object as object_of, is_compact as is_compact_origin, new_values, value_pair, values_set as values_set_of, values_name as name_of_values, values_pairs_at};
 ghost use Rattle.eds_dcf.specs.Dcf.{made_at};
 ghost use Rattle.eds_device.specs.Shown.{shown};
 ghost use Rattle.eds_device.specs.Described.{kind_at};
@@ -16,7 +16,7 @@ use crate::printing::{put_line, put_name, put_pairs, put_settings};
 use crate::setting::Setting;
 use crate::values::{NR_OF_ENTRIES, put_values};
 use co_dict::Dict;
-use eds_device::{Device, Section, Source, compact_count, kind_of};
+use eds_device::{Device, Section, Origin, compact_count, kind_of};
 use std::alloc::{AllocError, Global};
 
 /// A compact object's section, and its highest sub-index.
@@ -30,10 +30,10 @@ fn compact_object(device: &Device, index: u16) -> Option<(&Section, u8)>
 }
 
 /// Whether an entry stands in the section of a compact object.
-fn is_compact(source: Option<Source<'_>>) -> bool
-    ensures { result ≡ is_compact_source (option_map shown source.entry) }
+fn is_compact(origin: Option<Origin<'_>>) -> bool
+    ensures { result ≡ is_compact_origin (option_map shown origin.entry) }
 {
-    matches!(source, Some(Source::Compact(_, _)))
+    matches!(origin, Some(Origin::Compact(_, _)))
 }
 
 /// `k=value` for a compact sub k with a value.
@@ -47,7 +47,7 @@ fn value_setting(
     requires { (place : ℕ × ℕ) → IfSome (get values.now place) (Fits (kind_at device.now.sections place)) }
     ensures { IfOk result (λ setting. setting ≡ value_pair device.now.sections (get values.now) (index, sub)) }
 {
-    if !is_compact(device.source(index, sub)) {
+    if !is_compact(device.origin(index, sub)) {
         return Ok(None);
     }
     let Some(bytes) = values.read(index, sub) else {

@@ -8,7 +8,7 @@ ghost use Rattle.eds_dcf.specs.Entries.{is_in as is_in_section, own_place as pla
 use crate::printing::{put_line, put_name, put_pairs_without};
 use co_base::Octets;
 use co_values::{DataType, Value, hex_text};
-use eds_device::{Device, Section, Source, index_named, place_named};
+use eds_device::{Device, Section, Origin, index_named, place_named};
 use std::alloc::{AllocError, Global};
 
 const PARAMETER_VALUE: &[u8] = b"ParameterValue";
@@ -26,12 +26,12 @@ fn own_place(name: &[u8]) -> Option<(u16, u8)>
 }
 
 /// Whether an entry stands in the section of that name.
-fn is_in(name: &[u8], source: Option<Source<'_>>) -> bool
-    ensures { result ≡ is_in_section name.now (option_map shown source.entry) }
+fn is_in(name: &[u8], origin: Option<Origin<'_>>) -> bool
+    ensures { result ≡ is_in_section name.now (option_map shown origin.entry) }
 {
-    match source {
-        Some(Source::Own(section)) => section.name() == name,
-        Some(Source::Compact(_, _)) | None => false,
+    match origin {
+        Some(Origin::Own(section)) => section.name() == name,
+        Some(Origin::Compact(_, _)) | None => false,
     }
 }
 
@@ -41,7 +41,7 @@ pub(crate) fn parameter_place(device: &Device, name: &[u8]) -> Option<(u16, u8)>
     ensures { result ≡ parameter_place device.now.sections name.now }
 {
     let (index, sub) = own_place(name)?;
-    if is_in(name, device.source(index, sub)) && device.kind(index, sub).is_modelled() {
+    if is_in(name, device.origin(index, sub)) && device.kind(index, sub).is_modelled() {
         Some((index, sub))
     } else {
         None

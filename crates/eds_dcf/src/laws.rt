@@ -8,7 +8,7 @@ ghost use Rattle.concise_dcf.specs.declared.write.Write.{Write as written};
 ghost use Rattle.eds_device.specs.Described.{kind_at};
 ghost use Rattle.eds_device.specs.Names.{values_named};
 ghost use Rattle.eds_device.specs.Sections.{kind_of};
-ghost use Rattle.eds_device.specs.Sources.{own, source_of};
+ghost use Rattle.eds_device.specs.Origins.{own, origin_of};
 ghost use Rattle.eds_dcf.specs.Compact.{compact_object, is_compact, is_decimal, values_pairs_at};
 ghost use Rattle.eds_dcf.specs.Dcf.{with_values};
 ghost use Rattle.eds_dcf.specs.Entries.{parameter_place};
@@ -25,8 +25,8 @@ pub fn an_entry_has_its_last_value()
 
 /// The section in which a modelled entry stands is one of the text, and it is that entry's alone.
 pub fn an_entry_has_its_section()
-    ensures stands { (ss : List Section) (index sub : ℕ) (s : Section) → source_of ss index sub ≡ Some (own s) → (i : ℕ) × (slice_get ss i ≡ Some s) }
-    ensures place { (ss : List Section) (index sub : ℕ) (s : Section) → source_of ss index sub ≡ Some (own s)
+    ensures stands { (ss : List Section) (index sub : ℕ) (s : Section) → origin_of ss index sub ≡ Some (own s) → (i : ℕ) × (slice_get ss i ≡ Some s) }
+    ensures place { (ss : List Section) (index sub : ℕ) (s : Section) → origin_of ss index sub ≡ Some (own s)
         → is_modelled (kind_at ss (index, sub)) ≡ true → parameter_place ss s.name ≡ Some (index, sub) }
 {}
 
@@ -35,7 +35,7 @@ pub fn an_entry_has_its_section()
 /// there that are no numbers, but NrOfEntries, have what they had.
 pub fn a_compact_sub_has_its_last_value()
     ensures value { (ss : List Section) (writes : List written) (index sub : ℕ) (object : Section) (highest : ℕ) (pairs : List Pair)
-        → compact_object ss index ≡ Some (object, highest) → is_modelled (kind_of object) ≡ true → sub ≤ highest → is_compact (source_of ss index sub) ≡ true
+        → compact_object ss index ≡ Some (object, highest) → is_modelled (kind_of object) ≡ true → sub ≤ highest → is_compact (origin_of ss index sub) ≡ true
         → value_at (values_pairs_at ss (last_of writes) index pairs) (decimal sub) ≡ option_map (printed (kind_at ss (index, sub))) (last_of writes (index, sub)) }
     ensures others { (ss : List Section) (writes : List written) (index : ℕ) (object : Section) (highest : ℕ) (pairs : List Pair) (key : List ℕ)
         → compact_object ss index ≡ Some (object, highest) → is_modelled (kind_of object) ≡ true → is_decimal key ≡ false → same (codes "NrOfEntries") key ≡ false

@@ -9,7 +9,7 @@ use Rattle.std.specs.List.{flat_map}
 use Rattle.std.proofs.lemmas.Bool.{cases_lt, lt-ltb}
 use Rattle.std.proofs.lemmas.List.{take_more}
 use Rattle.std.proofs.lemmas.List.Concat.{flat_map-append}
-use Rattle.co_base.specs.Gives.{Refuses}
+use Rattle.std.specs.Bool.{OnFalse}
 use Rattle.ini_text.specs.Content.{Section}
 use Rattle.eds_device.specs.declared.fault.DeviceFault.{DeviceFault}
 use Rattle.eds_device.specs.declared.fault.DeviceFault.TheVariants.{Memory, Range, Limit, BadByte}
@@ -50,7 +50,7 @@ not_refused all new h = elim (cases_lt most_entries (length all)) [
     by false s e = let same : new ≡ all = cc in (same, rw same s)
 
 -- what was refused for too many is refused with more
-pub still_refused : (fault : DeviceFault) (some all : List (ℕ × ℕ)) → length some ≤ length all → Refuses (is_memory fault) fault (limited some some) → Refuses (is_memory fault) fault (limited all all)
+pub still_refused : (fault : DeviceFault) (some all : List (ℕ × ℕ)) → length some ≤ length all → OnFalse (is_memory fault) (limited some some ≡ Err fault) → OnFalse (is_memory fault) (limited all all ≡ Err fault)
 still_refused Memory some all le h = tt
 still_refused Range some all le h = by (nat_lt most_entries (length some)) h
   where

@@ -1,4 +1,4 @@
--- Each entry of a device has a source, where no two sections are named for one object.
+-- Each entry of a device has a origin, where no two sections are named for one object.
 use Rattle.std.proofs.Common.{◌≡◌, ℕ, zero, suc, ◌+◌, ◌<◌, Bool, true, false, ◌||◌, ◌&&◌, List, [], ◌∷◌, length, get_or, Option, None, Some, refl, sym, ap, ◌∙◌, arith}
 use Rattle.std.specs.Prelude.{if◌then◌else◌, ◌==◌, nat_le, option_map, option_and_then, is_some}
 use Rattle.std.specs.BTreeMap.{is_at}
@@ -11,7 +11,7 @@ use Rattle.ini_text.specs.Content.{Section}
 use Rattle.eds_device.specs.Names.{index_named, place_named}
 use Rattle.eds_device.specs.Places.{first_subs, object_places, places_given, pairs_of, AreNamedOnce}
 use Rattle.eds_device.specs.Sections.{is_plain, compact_count}
-use Rattle.eds_device.specs.Sources.{Source, own, compact, is_index, is_place, sub_section, object_section, from_object, from_compact, source_of}
+use Rattle.eds_device.specs.Origins.{Origin, own, compact, is_index, is_place, sub_section, object_section, from_object, from_compact, origin_of}
 use Rattle.eds_device.proofs.LawLemmas.{given_by_some, contains_has}
 use Rattle.eds_device.proofs.MapLemmas.{alike}
 use Rattle.eds_device.proofs.PlaceLemmas.{has_place, index_is, found_passes, or_false}
@@ -27,25 +27,25 @@ among_subs index (suc n) q h = by (has_place q (first_subs index n)) (is_at (pla
     by false false e g k ih = cc
 
 -- what an object's own section gives, rules 2 and 3 find in it
-object_source : (s : Section) (index : ℕ) (q : ℕ × ℕ) → has_place q (object_places s index) ≡ true → (q.0 ≡ index)
-    × (let rule2 : Option Source = if q.1 == 0 then (if is_plain s then Some (own s) else None) else None in
+object_origin : (s : Section) (index : ℕ) (q : ℕ × ℕ) → has_place q (object_places s index) ≡ true → (q.0 ≡ index)
+    × (let rule2 : Option Origin = if q.1 == 0 then (if is_plain s then Some (own s) else None) else None in
     is_some (option_or rule2 (option_and_then (λ n. if nat_le q.1 n then Some (compact s n) else None) (compact_count s))) ≡ true)
-object_source s index q h = by (is_plain s) (compact_count s) refl refl h
+object_origin s index q h = by (is_plain s) (compact_count s) refl refl h
   where
-    zero_is : (b : Bool) (o : Option Source) → (q.1 == 0) ≡ b → q.1 < 1 → is_some (option_or (let rule2 : Option Source = if b then Some (own s) else None in rule2) o) ≡ true
+    zero_is : (b : Bool) (o : Option Origin) → (q.1 == 0) ≡ b → q.1 < 1 → is_some (option_or (let rule2 : Option Origin = if b then Some (own s) else None in rule2) o) ≡ true
     zero_is true o e lt = refl
     zero_is false o e lt = let z : q.1 ≡ 0 = omega (arith, lt) in let t : (q.1 == 0) ≡ true = eq-eqb q.1 0 z in cc
 
-    plain_none : (b : Bool) (o : Option Source) → is_some o ≡ true → is_some (option_or (let none : Option Source = None in if b then none else none) o) ≡ true
+    plain_none : (b : Bool) (o : Option Origin) → is_some o ≡ true → is_some (option_or (let none : Option Origin = None in if b then none else none) o) ≡ true
     plain_none true o e = e
     plain_none false o e = e
 
-    within : (n : ℕ) (b : Bool) → nat_le q.1 n ≡ b → q.1 < n + 1 → (let o : Option Source = if b then Some (compact s n) else None in is_some o ≡ true)
+    within : (n : ℕ) (b : Bool) → nat_le q.1 n ≡ b → q.1 < n + 1 → (let o : Option Origin = if b then Some (compact s n) else None in is_some o ≡ true)
     within n true e lt = refl
     within n false e lt = let t : nat_le q.1 n ≡ true = le-leb q.1 n (omega (arith, lt)) in cc
 
     by : (p : Bool) (c : Option ℕ) → is_plain s ≡ p → compact_count s ≡ c → has_place q (if p then first_subs index 1 else option_map_or (λ n. first_subs index (n + 1)) c []) ≡ true → (q.0 ≡ index)
-        × (let rule2 : Option Source = if q.1 == 0 then (if p then Some (own s) else None) else None in
+        × (let rule2 : Option Origin = if q.1 == 0 then (if p then Some (own s) else None) else None in
         is_some (option_or rule2 (option_and_then (λ n. if nat_le q.1 n then Some (compact s n) else None) c)) ≡ true)
     by true c e g k = let r = among_subs index 1 q k in (r.0, zero_is (q.1 == 0) (option_and_then (λ n. if nat_le q.1 n then Some (compact s n) else None) c) refl r.1)
     by false None e g k = cc
@@ -86,7 +86,7 @@ unfolding object_section
 object_in ss index t h = (found_in (λ x. is_index index (index_named x.name)) ss t h, index_is index (index_named t.name) (found_passes (λ x. is_index index (index_named x.name)) ss t h))
 
 in_object : (ss : List Section) (index sub : ℕ) (s : Section) → AreNamedOnce ss → Contains ss s → index_named s.name ≡ Some index
-    → (let rule2 : Option Source = if sub == 0 then (if is_plain s then Some (own s) else None) else None in is_some (option_or rule2 (option_and_then (λ n. if nat_le sub n then Some (compact s n) else None) (compact_count s))) ≡ true)
+    → (let rule2 : Option Origin = if sub == 0 then (if is_plain s then Some (own s) else None) else None in is_some (option_or rule2 (option_and_then (λ n. if nat_le sub n then Some (compact s n) else None) (compact_count s))) ≡ true)
     → is_some (option_or (from_object ss index sub) (from_compact ss index sub)) ≡ true
 in_object ss index sub s once c named g = by (object_section ss index) refl
   where
@@ -95,9 +95,9 @@ in_object ss index sub s once c named g = by (object_section ss index) refl
     by None e = absurd (object_there ss index s c named e)
     by (Some t) e = let r = object_in ss index t e in let same : t ≡ s = once t s index r.0 c r.1 named in rw same g
 
--- each entry has a source
-pub entries_have : (ss : List Section) (index sub : ℕ) → AreNamedOnce ss → Contains (pairs_of ss) (index, sub) → is_some (source_of ss index sub) ≡ true
-unfolding source_of places_given
+-- each entry has a origin
+pub entries_have : (ss : List Section) (index sub : ℕ) → AreNamedOnce ss → Contains (pairs_of ss) (index, sub) → is_some (origin_of ss index sub) ≡ true
+unfolding origin_of places_given
 entries_have ss index sub once h =
     let given = (given_by_some ss (index, sub)).0 h in
     by given.0 given.1.0 (place_named given.0.name) (index_named given.0.name) refl refl (contains_has (index, sub) (places_given given.0) given.1.1)
@@ -119,6 +119,6 @@ entries_have ss index sub once h =
         let same : (index, sub) ≡ q = alike (index, sub) q (sym (or_false (is_at (place_cmp (index, sub)) q)) ∙ g) in
         of_sub s c (e ∙ ap Some (sym same)) (sub_section ss index sub) refl
     by s c None (Some i) e f g =
-        let r = object_source s i (index, sub) g in
+        let r = object_origin s i (index, sub) g in
         or_later (sub_section ss index sub) (in_object ss index sub s once c (f ∙ ap Some (sym r.0)) r.1)
     by s c None None e f g = cc

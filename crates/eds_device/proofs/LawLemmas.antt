@@ -13,12 +13,13 @@ use Rattle.co_dict.specs.declared.entry.Entry.{Entry}
 use Rattle.co_dict.specs.Places.{place_cmp}
 use Rattle.ini_text.specs.Content.{Section}
 use Rattle.eds_device.specs.Described.{Described, described, described_by, described_in, highest_sub}
-use Rattle.eds_device.specs.Entries.{limit_at, entry_by, entry_at, default_bytes, default_by, default_at, given_at, shape_of, defaults_of, HasLength}
+use Rattle.eds_device.specs.Entries.{limit_at, entry_by, entry_at, default_bytes, default_by, default_at, given_at, shape_of, defaults_of}
+use Rattle.co_dict.specs.Values.{HasLength}
 use Rattle.eds_device.specs.Places.{places_given, pairs_of}
-use Rattle.eds_device.specs.Sources.{Source, own, compact, source_of}
+use Rattle.eds_device.specs.Origins.{Origin, own, compact, origin_of}
 use Rattle.eds_device.proofs.LengthLemmas.{written_length}
 use Rattle.eds_device.proofs.MapLemmas.{alike, among, get_given}
-use Rattle.eds_device.proofs.PlaceLemmas.{has_place, has_itself, pairs_given, source_has}
+use Rattle.eds_device.proofs.PlaceLemmas.{has_place, has_itself, pairs_given, origin_has}
 
 -- ---- elements
 
@@ -67,21 +68,21 @@ given_by_some ss place = (there, back)
         has_contains place (pairs_of ss) (pairs_given ss place ∙ contains_any (λ s. has_place place (places_given s)) ss h.0 h.1.0.0 h.1.0.1 h.1.0.2 has)
 
 -- what a rule gives is an entry
-pub rules_give : (ss : List Section) (index sub : ℕ) (src : Source) → source_of ss index sub ≡ Some src → Contains (pairs_of ss) (index, sub)
-rules_give ss index sub src h = has_contains (index, sub) (pairs_of ss) (source_has ss index sub src h)
+pub rules_give : (ss : List Section) (index sub : ℕ) (src : Origin) → origin_of ss index sub ≡ Some src → Contains (pairs_of ss) (index, sub)
+rules_give ss index sub src h = has_contains (index, sub) (pairs_of ss) (origin_has ss index sub src h)
 
 -- ---- place by place
 
-at_places : {X : Type 0} (f : ℕ × ℕ → Option X) (ss : List Section) (index sub : ℕ) → (source_of ss index sub ≡ None → f (index, sub) ≡ None) → get (from_entries {R = place_cmp} (given_at f (pairs_of ss))) (index, sub) ≡ f (index, sub)
-at_places {X} f ss index sub none = get_given f (pairs_of ss) (index, sub) ∙ by (source_of ss index sub) refl
+at_places : {X : Type 0} (f : ℕ × ℕ → Option X) (ss : List Section) (index sub : ℕ) → (origin_of ss index sub ≡ None → f (index, sub) ≡ None) → get (from_entries {R = place_cmp} (given_at f (pairs_of ss))) (index, sub) ≡ f (index, sub)
+at_places {X} f ss index sub none = get_given f (pairs_of ss) (index, sub) ∙ by (origin_of ss index sub) refl
   where
     same : (b : Bool) (o : Option X) → o ≡ None → (if b then o else None) ≡ o
     same true o e = refl
     same false o e = sym e
 
-    by : (o : Option Source) → source_of ss index sub ≡ o → among f (index, sub) (pairs_of ss) ≡ f (index, sub)
+    by : (o : Option Origin) → origin_of ss index sub ≡ o → among f (index, sub) (pairs_of ss) ≡ f (index, sub)
     by None e = same (has_place (index, sub) (pairs_of ss)) (f (index, sub)) (none e)
-    by (Some src) e = ap (λ (b : Bool). let other : Option X = None in if b then f (index, sub) else other) (source_has ss index sub src e)
+    by (Some src) e = ap (λ (b : Bool). let other : Option X = None in if b then f (index, sub) else other) (origin_has ss index sub src e)
 
 pub shape_at : (ss : List Section) (node index sub : ℕ) → get (shape_of ss node).entries (index, sub) ≡ entry_at ss node index sub
 unfolding shape_of entry_at described
@@ -93,7 +94,7 @@ defaults_at ss node index sub = at_places (λ p. default_at ss node p.0 p.1) ss 
 
 -- ---- lengths
 
-described_length : (sub : ℕ) (src : Source) (node : ℕ) → let d = described_by sub src in HasLength d.kind (default_bytes d.kind d.default node)
+described_length : (sub : ℕ) (src : Origin) (node : ℕ) → let d = described_by sub src in HasLength d.kind (default_bytes d.kind d.default node)
 described_length sub (own s) node = let d = described_in s in written_length d.kind _ node
 described_length sub (compact s n) node = by (sub == 0)
   where
@@ -107,9 +108,9 @@ default_given node d h m = (default_bytes d.kind d.default node, (rw m refl, h))
 pub default_has_length : (ss : List Section) (node index sub : ℕ) (e : Entry) → entry_at ss node index sub ≡ Some e → is_modelled e.kind ≡ true
     → (bytes : List ℕ) × ((default_at ss node index sub ≡ Some bytes) × HasLength e.kind bytes)
 unfolding entry_at default_at described
-default_has_length ss node index sub e h m = by (source_of ss index sub) h
+default_has_length ss node index sub e h m = by (origin_of ss index sub) h
   where
-    by : (o : Option Source) → option_map (entry_by node) (option_map (described_by sub) o) ≡ Some e → (bytes : List ℕ) × ((option_and_then (default_by node) (option_map (described_by sub) o) ≡ Some bytes) × HasLength e.kind bytes)
+    by : (o : Option Origin) → option_map (entry_by node) (option_map (described_by sub) o) ≡ Some e → (bytes : List ℕ) × ((option_and_then (default_by node) (option_map (described_by sub) o) ≡ Some bytes) × HasLength e.kind bytes)
     by None g = cc
     by (Some src) g =
         let same : entry_by node (described_by sub src) ≡ e = cc in
@@ -127,11 +128,11 @@ no_limit : (node : ℕ) → limit_at Unsigned8 [] node ≡ None
 unfolding limit_at value formula number
 no_limit node = refl
 
-pub compact_entry : (ss : List Section) (node index : ℕ) (s : Section) (n : ℕ) → source_of ss index 0 ≡ Some (compact s n)
+pub compact_entry : (ss : List Section) (node index : ℕ) (s : Section) (n : ℕ) → origin_of ss index 0 ≡ Some (compact s n)
     → entry_at ss node index 0 ≡ Some (record { kind = Unsigned8; access = ReadOnly; low = None; high = None; mappable = false })
 unfolding entry_at described
 compact_entry ss node index s n h = rw h (λ i. Some (record { kind = Unsigned8; access = ReadOnly; low = no_limit node i; high = no_limit node i; mappable = false }))
 
-pub compact_default : (ss : List Section) (node index : ℕ) (s : Section) (n : ℕ) → source_of ss index 0 ≡ Some (compact s n) → default_at ss node index 0 ≡ Some (n ∷ [])
+pub compact_default : (ss : List Section) (node index : ℕ) (s : Section) (n : ℕ) → origin_of ss index 0 ≡ Some (compact s n) → default_at ss node index 0 ≡ Some (n ∷ [])
 unfolding default_at described
 compact_default ss node index s n h = rw h refl

@@ -12,7 +12,8 @@ use Rattle.co_values.specs.Number.{formula}
 use Rattle.co_values.specs.Types.{form, octets, len_of_form}
 use Rattle.co_values.specs.Values.{value, value_in, zero_of_form, zero_value, longest_value, if_not_too_long, paired, flag_bits, unsigned_bits, signed_text_bits}
 use Rattle.eds_device.specs.Described.{Default, written, count}
-use Rattle.eds_device.specs.Entries.{default_bytes, HasLength}
+use Rattle.eds_device.specs.Entries.{default_bytes}
+use Rattle.co_dict.specs.Values.{HasLength}
 
 abbrev HasLengthIn : Form → List ℕ → Type 0
 HasLengthIn f bytes = MatchOption (len_of_form f) (length bytes ≤ longest_value) (λ n. length bytes ≡ n)

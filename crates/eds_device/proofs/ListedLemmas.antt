@@ -14,7 +14,7 @@ use Rattle.eds_device.specs.declared.index.Listed.{Listed}
 use Rattle.eds_device.specs.Described.{sub_listed, listed_value}
 use Rattle.eds_device.specs.Names.{values_named}
 use Rattle.eds_device.specs.Index.{FindsFirsts, IsListed, FindsListed}
-use Rattle.eds_device.specs.Sources.{is_index, values_section}
+use Rattle.eds_device.specs.Origins.{is_index, values_section}
 
 -- no section is seen
 pub none_listed : (entries : List (ℕ × Listed)) (all : List Section) → entries ≡ [] → FindsListed entries all []

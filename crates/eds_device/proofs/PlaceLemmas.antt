@@ -21,7 +21,7 @@ use Rattle.eds_device.specs.declared.object_type.ObjectType.TheVariants.{Domain,
 use Rattle.eds_device.specs.Names.{index_named, place_named}
 use Rattle.eds_device.specs.Places.{first_subs, object_places, places_given, put_in_order, pairs_of}
 use Rattle.eds_device.specs.Sections.{is_plain, is_plain_type, is_compact_type, object_type, compact_count, number_at, in_subs}
-use Rattle.eds_device.specs.Sources.{Source, own, compact, is_index, is_place, sub_section, object_section, source_of}
+use Rattle.eds_device.specs.Origins.{Origin, own, compact, is_index, is_place, sub_section, object_section, origin_of}
 use Rattle.eds_device.proofs.NameLemmas.{short_for_place}
 
 -- ---- in order
@@ -190,7 +190,7 @@ compact_has s index sub n e le = by (is_plain s) refl
     by false p = rw e (first_subs_has index sub (n + 1) (omega arith))
 
 -- the object's own section gives what rules 2 and 3 find in it
-object_given : (s : Section) (index sub : ℕ) (src : Source) → let rule2 : Option Source = if sub == 0 then (if is_plain s then Some (own s) else None) else None in
+object_given : (s : Section) (index sub : ℕ) (src : Origin) → let rule2 : Option Origin = if sub == 0 then (if is_plain s then Some (own s) else None) else None in
     option_or rule2 (option_and_then (λ n. if nat_le sub n then Some (compact s n) else None) (compact_count s)) ≡ Some src → has_place (index, sub) (object_places s index) ≡ true
 object_given s index sub src h = by (sub == 0) (is_plain s) refl refl h
   where
@@ -198,20 +198,20 @@ object_given s index sub src h = by (sub == 0) (is_plain s) refl refl h
     counted None e g = cc
     counted (Some n) e g = within (nat_le sub n) refl g
       where
-        within : (t : Bool) → nat_le sub n ≡ t → (let here : Option Source = if t then Some (compact s n) else None in here ≡ Some src) → has_place (index, sub) (object_places s index) ≡ true
+        within : (t : Bool) → nat_le sub n ≡ t → (let here : Option Origin = if t then Some (compact s n) else None in here ≡ Some src) → has_place (index, sub) (object_places s index) ≡ true
         within true le f = compact_has s index sub n e (leb-true sub n le)
         within false le f = cc
 
-    by : (a b : Bool) → (sub == 0) ≡ a → is_plain s ≡ b → (let rule2 : Option Source = if a then (if b then Some (own s) else None) else None in
+    by : (a b : Bool) → (sub == 0) ≡ a → is_plain s ≡ b → (let rule2 : Option Origin = if a then (if b then Some (own s) else None) else None in
         option_or rule2 (option_and_then (λ n. if nat_le sub n then Some (compact s n) else None) (compact_count s)) ≡ Some src) → has_place (index, sub) (object_places s index) ≡ true
     by true true z p g = rw (eqb-true sub 0 z) (plain_has s index p)
     by true false z p g = counted (compact_count s) refl g
     by false b z p g = counted (compact_count s) refl g
 
 -- an entry that a rule gives is an entry of the device
-pub source_has : (ss : List Section) (index sub : ℕ) (src : Source) → source_of ss index sub ≡ Some src → has_place (index, sub) (pairs_of ss) ≡ true
-unfolding source_of sub_section object_section places_given
-source_has ss index sub src h = pairs_given ss (index, sub) ∙ by (sub_section ss index sub) (object_section ss index) refl refl h
+pub origin_has : (ss : List Section) (index sub : ℕ) (src : Origin) → origin_of ss index sub ≡ Some src → has_place (index, sub) (pairs_of ss) ≡ true
+unfolding origin_of sub_section object_section places_given
+origin_has ss index sub src h = pairs_given ss (index, sub) ∙ by (sub_section ss index sub) (object_section ss index) refl refl h
   where
     of_sub : (s : Section) → sub_section ss index sub ≡ Some s → list_any (λ x. has_place (index, sub) (places_given x)) ss ≡ true
     of_sub s e =
@@ -225,7 +225,7 @@ source_has ss index sub src h = pairs_given ss (index, sub) ∙ by (sub_section 
         let test = found_passes (λ x. is_index index (index_named x.name)) ss s e in
         found_any (λ x. is_index index (index_named x.name)) (λ x. has_place (index, sub) (places_given x)) ss s e (ap (has_place (index, sub)) (of_object s index test) ∙ has)
 
-    no_object : (t : Bool) → (let none : Option Source = None in option_or (if t then none else none) none ≡ Some src) → ⊥
+    no_object : (t : Bool) → (let none : Option Origin = None in option_or (if t then none else none) none ≡ Some src) → ⊥
     no_object true g = cc
     no_object false g = cc
 

@@ -1,8 +1,7 @@
 -- What reading a device gives, and what reading the INI text gave.
 use Rattle.std.proofs.Common.{◌≡◌, ℕ, ◌≤◌, Bool, true, false, List, length, Result, Ok, Err, IsTrue, refl}
 use Rattle.std.specs.Prelude.{if◌then◌else◌, nat_lt}
-use Rattle.std.specs.Bool.{IsFalse}
-use Rattle.co_base.specs.Gives.{Refuses}
+use Rattle.std.specs.Bool.{IsFalse, OnFalse}
 use Rattle.ini_text.specs.Content.{Content, content_of}
 use Rattle.ini_text.specs.Text.{is_out_of_range, has_bad_byte}
 use Rattle.ini_text.specs.declared.IniFault.{IniFault}
@@ -15,7 +14,7 @@ use Rattle.eds_device.specs.Places.{pairs_of}
 use Rattle.eds_device.proofs.AddingLemmas.{not_refused}
 
 pub ini_refused : (fault : IniFault) (text : List ℕ) → (fault ≡ ini.Range → IsTrue (is_out_of_range text)) → (fault ≡ ini.BadByte → IsFalse (is_out_of_range text) × IsTrue (has_bad_byte text))
-    → Refuses (is_memory (fault_of fault)) (fault_of fault) (device_of text)
+    → OnFalse (is_memory (fault_of fault)) (device_of text ≡ Err (fault_of fault))
 unfolding device_of
 ini_refused ini.Memory text r b = tt
 ini_refused ini.Range text r b = rw (r refl) refl
@@ -32,7 +31,7 @@ read_as text content r b is = rw is (by (is_out_of_range text) (has_bad_byte tex
     by false true f g = absurd (g (refl, refl))
     by false false f g = refl
 
-pub places_refused : (fault : DeviceFault) (places : List (ℕ × ℕ)) (content : Content) → Refuses (is_memory fault) fault (limited places places) → Refuses (is_memory fault) fault (limited places content)
+pub places_refused : (fault : DeviceFault) (places : List (ℕ × ℕ)) (content : Content) → OnFalse (is_memory fault) (limited places places ≡ Err fault) → OnFalse (is_memory fault) (limited places content ≡ Err fault)
 places_refused Memory places content h = tt
 places_refused Range places content h = by (nat_lt most_entries (length places)) h
   where

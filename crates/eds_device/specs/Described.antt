@@ -9,7 +9,7 @@ use Rattle.co_values.specs.Number.{digits_number}
 use Rattle.co_dict.specs.declared.access.Access.{Access}
 use Rattle.co_dict.specs.declared.access.Access.TheVariants.{ReadOnly, WriteOnly, ReadWrite, ReadWriteOnInput, ReadWriteOnOutput, Constant}
 use Rattle.eds_device.specs.Sections.{number_at, kind_of}
-use Rattle.eds_device.specs.Sources.{Source, own, compact, is_index, source_of, values_section}
+use Rattle.eds_device.specs.Origins.{Origin, own, compact, is_index, origin_of, values_section}
 
 -- the value of a key, empty where it is missing
 abbrev pub text_at : Section → List ℕ → List ℕ
@@ -72,13 +72,13 @@ highest_sub n = record {
   high = [];
 }
 
-abbrev pub described_by : ℕ → Source → Described
+abbrev pub described_by : ℕ → Origin → Described
 described_by sub (own section) = described_in section
 described_by sub (compact section n) = if sub == 0 then highest_sub n else described_in section
 
 -- what is said of an entry
 unfoldable pub described : List Section → ℕ → ℕ → Option Described
-described ss index sub = option_map (described_by sub) (source_of ss index sub)
+described ss index sub = option_map (described_by sub) (origin_of ss index sub)
 
 -- the type of an entry, not modelled where there is none
 unfoldable pub kind_at : List Section → ℕ × ℕ → DataType
@@ -105,10 +105,10 @@ written_text (count n) = None
 unfoldable pub default_text : List Section → ℕ → ℕ → Option (List ℕ)
 default_text ss index sub = option_and_then (λ (d : Described). written_text d.default) (described ss index sub)
 
-abbrev pub value_by : List Section → ℕ → ℕ → Source → Option (List ℕ)
+abbrev pub value_by : List Section → ℕ → ℕ → Origin → Option (List ℕ)
 value_by ss index sub (own section) = value_at section.pairs (codes "ParameterValue")
 value_by ss index sub (compact section n) = listed_value ss index sub
 
 -- an entry's ParameterValue, unless it is empty
 unfoldable pub value_text : List Section → ℕ → ℕ → Option (List ℕ)
-value_text ss index sub = option_and_then unless_empty (option_and_then (value_by ss index sub) (source_of ss index sub))
+value_text ss index sub = option_and_then unless_empty (option_and_then (value_by ss index sub) (origin_of ss index sub))

@@ -1,12 +1,12 @@
 -- The entries of a device at a node (CiA 306): their limits and defaults as values of their types.
-use Rattle.std.specs.Prelude.{ℕ, ◌+◌, nat_le, ◌&&◌, ℤ, Bool, false, if◌then◌else◌, List, [], ◌∷◌, ◌++◌, Option, Some, None, option_map, option_and_then, map, codes, ◌≡◌, ◌≤◌, length, MatchOption}
+use Rattle.std.specs.Prelude.{ℕ, ◌+◌, nat_le, ◌&&◌, ℤ, Bool, false, if◌then◌else◌, List, [], ◌∷◌, ◌++◌, Option, Some, None, option_map, option_and_then, map, codes}
 use Rattle.std.specs.Option.{option_map_or, unwrap_or}
 use Rattle.std.specs.FinMap.{from_entries}
 use Rattle.ini_text.specs.Content.{Section, content_at}
 use Rattle.co_values.specs.declared.data_type.DataType.{DataType}
 use Rattle.co_values.specs.Number.{number}
-use Rattle.co_values.specs.Types.{is_integer, is_modelled, fixed_len}
-use Rattle.co_values.specs.Values.{value, number_in, zero_value, longest_value}
+use Rattle.co_values.specs.Types.{is_integer, is_modelled}
+use Rattle.co_values.specs.Values.{value, number_in, zero_value}
 use Rattle.co_dict.specs.declared.entry.Entry.{Entry}
 use Rattle.co_dict.specs.Shapes.{Shaped}
 use Rattle.co_dict.specs.Values.{Values}
@@ -45,10 +45,6 @@ default_by node d = if is_modelled d.kind then Some (default_bytes d.kind d.defa
 -- the default of an entry of a modelled type at a node
 unfoldable pub default_at : List Section → ℕ → ℕ → ℕ → Option (List ℕ)
 default_at ss node index sub = option_and_then (default_by node) (described ss index sub)
-
--- bytes as long as each value of a type is, or not too long where values differ
-abbrev pub HasLength : DataType → List ℕ → Type 0
-HasLength kind bytes = MatchOption (fixed_len kind) (length bytes ≤ longest_value) (λ n. length bytes ≡ n)
 
 -- the key of a dummy's type, from 1 to 7
 abbrev pub dummy_key : ℕ → List ℕ

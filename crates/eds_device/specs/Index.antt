@@ -11,7 +11,7 @@ use Rattle.eds_device.specs.Described.{sub_listed}
 use Rattle.eds_device.specs.Names.{index_named, place_named, values_named}
 use Rattle.co_dict.specs.Places.{place_cmp}
 use Rattle.eds_device.specs.Places.{pairs_of}
-use Rattle.eds_device.specs.Sources.{is_index, is_place}
+use Rattle.eds_device.specs.Origins.{is_index, is_place}
 use Rattle.eds_device.specs.Faults.{most_entries}
 
 -- the elements at the positions that a table has are the first ones, of those seen, that pass

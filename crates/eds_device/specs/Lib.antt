@@ -10,4 +10,4 @@ pub mod Names
 pub mod Places
 pub mod Sections
 pub mod Shown
-pub mod Sources
+pub mod Origins

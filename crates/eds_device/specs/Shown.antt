@@ -1,13 +1,13 @@
--- What a `Source`, a `Described` and a `DefaultText` of the program are.
-use Rattle.eds_device.specs.declared.source.Source.{Source as Read}
-use Rattle.eds_device.specs.declared.source.Source.TheVariants.{Own, Compact}
+-- What a `Origin`, a `Described` and a `DefaultText` of the program are.
+use Rattle.eds_device.specs.declared.origin.Origin.{Origin as Read}
+use Rattle.eds_device.specs.declared.origin.Origin.TheVariants.{Own, Compact}
 use Rattle.eds_device.specs.declared.described.DefaultText.{DefaultText}
 use Rattle.eds_device.specs.declared.described.DefaultText.TheVariants.{Written, Count}
 use Rattle.eds_device.specs.declared.described.Described.{Described as ReadDescribed}
 use Rattle.eds_device.specs.Described.{Default, written, count, Described}
-use Rattle.eds_device.specs.Sources.{Source, own, compact}
+use Rattle.eds_device.specs.Origins.{Origin, own, compact}
 
-abbrev pub shown : Read → Source
+abbrev pub shown : Read → Origin
 shown (Own section) = own section.now
 shown (Compact section highest) = compact section.now highest
 

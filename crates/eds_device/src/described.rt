@@ -7,7 +7,7 @@ ghost use Rattle.eds_device.specs.Shown.{shown_described};
 use crate::device::Device;
 use crate::name::same;
 use crate::section::{kind_of, number_at};
-use crate::source::Source;
+use crate::origin::Origin;
 use co_dict::Access;
 use co_values::DataType;
 use ini_text::Section;
@@ -129,10 +129,10 @@ impl Device {
     pub fn described(&self, index: u16, sub: u8) -> Option<Described<'_>>
         ensures { option_map shown_described result ≡ described self.now.sections index sub }
     {
-        let source = self.source(index, sub)?;
-        match source {
-            Source::Own(section) => Some(described_in(section)),
-            Source::Compact(section, count) => {
+        let origin = self.origin(index, sub)?;
+        match origin {
+            Origin::Own(section) => Some(described_in(section)),
+            Origin::Compact(section, count) => {
                 if sub == 0 {
                     Some(highest_sub(count))
                 } else {
@@ -172,10 +172,10 @@ impl Device {
     pub fn value_text(&self, index: u16, sub: u8) -> Option<&[u8]>
         ensures { option_copied result ≡ value_text self.now.sections index sub }
     {
-        let source = self.source(index, sub)?;
-        let text = match source {
-            Source::Own(section) => section.get(b"ParameterValue")?,
-            Source::Compact(_section, _count) => self.listed_value(index, sub)?,
+        let origin = self.origin(index, sub)?;
+        let text = match origin {
+            Origin::Own(section) => section.get(b"ParameterValue")?,
+            Origin::Compact(_section, _count) => self.listed_value(index, sub)?,
         };
         unless_empty(text)
     }

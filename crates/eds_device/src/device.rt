@@ -12,13 +12,13 @@ ghost use Rattle.co_base.specs.Gives.{Gives};
 ghost use Rattle.eds_device.specs.Faults.{is_memory, device_of, most_entries};
 ghost use Rattle.eds_device.specs.Places.{pairs_of};
 ghost use Rattle.eds_device.specs.Shown.{shown};
-ghost use Rattle.eds_device.specs.Sources.{is_index, sub_section, object_section, values_section, source_of};
+ghost use Rattle.eds_device.specs.Origins.{is_index, sub_section, object_section, values_section, origin_of};
 
 use crate::fault::DeviceFault;
 use crate::index::{Listed, object_positions, sub_positions, values_positions};
 use crate::places::places_of;
 use crate::section::{compact_count, is_plain};
-use crate::source::Source;
+use crate::origin::Origin;
 use ini_text::{Ini, Pair, Section};
 use std::alloc::Global;
 use std::collections::BTreeMap;
@@ -163,20 +163,20 @@ impl Device {
 
     /// Where an entry stands: in `[xxxxsubN]`; else, of sub 0, in `[xxxx]` of a VAR or DOMAIN; else in
     /// `[xxxx]` of a compact object. `None` where there is no such entry.
-    #[tactic(auto, unfolding(crate::specs::Sources::source_of))]
-    pub fn source(&self, index: u16, sub: u8) -> Option<Source<'_>>
-        ensures { option_map shown result ≡ source_of self.now.sections index sub }
+    #[tactic(auto, unfolding(crate::specs::Origins::origin_of))]
+    pub fn origin(&self, index: u16, sub: u8) -> Option<Origin<'_>>
+        ensures { option_map shown result ≡ origin_of self.now.sections index sub }
     {
         if let Some(section) = self.sub_section(index, sub) {
-            return Some(Source::Own(section));
+            return Some(Origin::Own(section));
         }
         let object = self.object_section(index)?;
         if sub == 0 && is_plain(object) {
-            return Some(Source::Own(object));
+            return Some(Origin::Own(object));
         }
         let highest = compact_count(object)?;
         if sub <= highest {
-            Some(Source::Compact(object, highest))
+            Some(Origin::Compact(object, highest))
         } else {
             None
         }

@@ -1,6 +1,6 @@
 //! The entries of a device at a node (CiA 306).
 ghost use Rattle.std.specs.Prelude.{◌≡◌, ◌≤◌, IfOk, IfSome, length};
-ghost use Rattle.co_dict.specs.Values.{longest};
+ghost use Rattle.co_values.specs.Values.{longest_value};
 ghost use Rattle.std.specs.Option.{option_copied, option_map, option_map_or};
 ghost use Rattle.eds_device.specs.Entries.{limit_at, entry_at, default_bytes, default_at, dummy_allowed};
 ghost use Rattle.eds_device.specs.Shown.{shown_default};
@@ -67,7 +67,7 @@ impl Device {
     #[tactic(auto, using(crate::proofs::LengthLemmas::default_short), unfolding(crate::specs::Entries::default_at))]
     pub fn default(&self, node: u8, index: u16, sub: u8) -> Result<Option<Octets>, AllocError>
         ensures bytes { IfOk result (λ bytes. bytes ≡ default_at self.now.sections node index sub) }
-        ensures short { IfOk result (λ bytes. IfSome bytes (λ b. length b ≤ longest)) }
+        ensures short { IfOk result (λ bytes. IfSome bytes (λ b. length b ≤ longest_value)) }
     {
         let Some(described) = self.described(index, sub) else {
             return Ok(None);

@@ -8,7 +8,7 @@ ghost use Rattle.eds_device.specs.Index.{FindsFirsts, FindsListed};
 ghost use Rattle.eds_device.specs.Described.{sub_listed};
 ghost use Rattle.eds_device.specs.Names.{index_named, place_named, values_named};
 ghost use Rattle.co_dict.specs.Places.{place_cmp};
-ghost use Rattle.eds_device.specs.Sources.{is_index, is_place};
+ghost use Rattle.eds_device.specs.Origins.{is_index, is_place};
 
 use crate::name::{index_named, place_named, sub_listed, values_named};
 use ini_text::{Pair, Section};

@@ -9,9 +9,10 @@ ghost use Rattle.co_values.specs.Types.{is_modelled};
 ghost use Rattle.co_dict.specs.declared.access.Access.TheVariants.{ReadOnly};
 ghost use Rattle.co_dict.specs.declared.entry.Entry.{Entry};
 ghost use Rattle.co_dict.specs.Places.{place_cmp};
-ghost use Rattle.eds_device.specs.Entries.{entry_at, default_at, shape_of, defaults_of, HasLength};
+ghost use Rattle.eds_device.specs.Entries.{entry_at, default_at, shape_of, defaults_of};
+ghost use Rattle.co_dict.specs.Values.{HasLength};
 ghost use Rattle.eds_device.specs.Places.{places_given, pairs_of, AreNamedOnce};
-ghost use Rattle.eds_device.specs.Sources.{Source, compact, source_of};
+ghost use Rattle.eds_device.specs.Origins.{Origin, compact, origin_of};
 
 /// The entries of a device stand by index and sub-index, each once, and are those that some section
 /// gives.
@@ -24,13 +25,13 @@ pub fn entries_are_those_given()
 /// What one of the three rules gives is an entry of the device.
 #[tactic(auto, using(crate::proofs::LawLemmas::rules_give))]
 pub fn rules_give_entries()
-    ensures { (ss : List Section) (index sub : ℕ) (source : Source) → source_of ss index sub ≡ Some source → Contains (pairs_of ss) (index, sub) }
+    ensures { (ss : List Section) (index sub : ℕ) (origin : Origin) → origin_of ss index sub ≡ Some origin → Contains (pairs_of ss) (index, sub) }
 {}
 
 /// Each entry of a device is one that a rule gives, where no two sections are named for one object.
 #[tactic(auto, using(crate::proofs::ConverseLemmas::entries_have))]
-pub fn entries_have_sources()
-    ensures { (ss : List Section) (index sub : ℕ) → AreNamedOnce ss → Contains (pairs_of ss) (index, sub) → IsSome (source_of ss index sub) }
+pub fn entries_have_origins()
+    ensures { (ss : List Section) (index sub : ℕ) → AreNamedOnce ss → Contains (pairs_of ss) (index, sub) → IsSome (origin_of ss index sub) }
 {}
 
 /// A shape has each entry as the device describes it, and no other; the defaults likewise.
@@ -51,8 +52,8 @@ pub fn defaults_have_lengths()
 /// highest sub-index.
 #[tactic(auto, using(crate::proofs::LawLemmas::compact_entry, crate::proofs::LawLemmas::compact_default))]
 pub fn sub_0_counts_compact_subs()
-    ensures entry { (ss : List Section) (node index : ℕ) (s : Section) (n : ℕ) → source_of ss index 0 ≡ Some (compact s n)
+    ensures entry { (ss : List Section) (node index : ℕ) (s : Section) (n : ℕ) → origin_of ss index 0 ≡ Some (compact s n)
         → entry_at ss node index 0 ≡ Some (record { kind = Unsigned8; access = ReadOnly; low = None; high = None; mappable = false }) }
-    ensures value { (ss : List Section) (node index : ℕ) (s : Section) (n : ℕ) → source_of ss index 0 ≡ Some (compact s n)
+    ensures value { (ss : List Section) (node index : ℕ) (s : Section) (n : ℕ) → origin_of ss index 0 ≡ Some (compact s n)
         → default_at ss node index 0 ≡ Some (n ∷ []) }
 {}

@@ -12,7 +12,7 @@ mod name;
 mod object_type;
 mod places;
 mod section;
-mod source;
+mod origin;
 mod values;
 
 pub use described::{DefaultText, Described, access_of};
@@ -22,4 +22,4 @@ pub use ini_text::{Pair, Section};
 pub use name::{index_named, place_named, sub_listed, values_named};
 pub use object_type::ObjectType;
 pub use section::{compact_count, is_plain, kind_of};
-pub use source::Source;
+pub use origin::Origin;

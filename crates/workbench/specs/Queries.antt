@@ -12,7 +12,7 @@ use Rattle.co_project.specs.declared.node.Node.{Node}
 use Rattle.co_project.specs.Project.{Content}
 use Rattle.co_project.specs.Tables.{node_at, text_at}
 use Rattle.co_project.specs.Script.{script}
-use Rattle.pdo_links.specs.Parameters.{parameter_writes}
+use Rattle.co_params.specs.Parameters.{parameter_writes}
 use Rattle.workbench.specs.Hex.{hex_text}
 
 -- what is named isn't there

@@ -14,7 +14,7 @@ use crate::member::find_member;
 use co_project::{Command, EditFault, Project};
 use concise_dcf::{Write, encode};
 use eds_dcf::dcf_text;
-use pdo_links::writes;
+use co_params::writes;
 use std::alloc::{AllocError, Global};
 use std::marker::Model;
 

@@ -1,5 +1,6 @@
 use Rattle.std.proofs.Common.{◌∙◌, ◌≡◌, sym, ap, refl, ℕ, true, false, is_some, Some, Ok, []}
-use Rattle.co_project.specs.Tables.{node_at, param_at}
+use Rattle.co_params.specs.Params.{param_at}
+use Rattle.co_project.specs.Tables.{node_at}
 use Rattle.co_project.proofs.TableLemmas.{with_params, param_missing, param_dropped, param_stays}
 use Rattle.co_project.proofs.tables.drop_param.Goals as goal
 

@@ -1,6 +1,7 @@
 use Rattle.std.proofs.Common.{◌∙◌, ◌≡◌, sym, ap, refl, ℕ, true, false, Some, Ok}
 use Rattle.std.proofs.lemmas.Result.{err_from_is_err_and}
-use Rattle.co_project.specs.Tables.{node_at, is_full_for}
+use Rattle.co_params.specs.Params.{is_full_for}
+use Rattle.co_project.specs.Tables.{node_at}
 use Rattle.co_project.proofs.TableLemmas.{with_params, param_refused, param_put, param_stays}
 use Rattle.co_project.proofs.tables.put_param.Goals as goal
 

@@ -4,7 +4,7 @@ use Rattle.std.specs.Option.{option_and_then, option_copied}
 use Rattle.std.specs.Ordering.{nat_cmp}
 use Rattle.ini_text.specs.Content.{Pair}
 use Rattle.eds_device.specs.Described.{sub_listed}
-use Rattle.eds_device.specs.Sources.{is_index}
+use Rattle.eds_device.specs.Origins.{is_index}
 use Rattle.eds_device.proofs.IndexLemmas.{finds}
 use Rattle.eds_device.proofs.device.listed_pair.Goals as goal
 

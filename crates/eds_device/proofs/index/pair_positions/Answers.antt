@@ -1,7 +1,7 @@
 use Rattle.std.specs.Ordering.{nat_cmp}
 use Rattle.ini_text.specs.Content.{Pair}
 use Rattle.eds_device.specs.Described.{sub_listed}
-use Rattle.eds_device.specs.Sources.{is_index}
+use Rattle.eds_device.specs.Origins.{is_index}
 use Rattle.eds_device.proofs.IndexLemmas.{no_sections, one_more}
 use Rattle.eds_device.proofs.index.pair_positions.Goals as goal
 

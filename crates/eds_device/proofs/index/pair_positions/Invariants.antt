@@ -3,7 +3,7 @@ use Rattle.std.specs.Ordering.{nat_cmp}
 use Rattle.ini_text.specs.Content.{Pair}
 use Rattle.eds_device.specs.Described.{sub_listed}
 use Rattle.eds_device.specs.Index.{FindsFirsts}
-use Rattle.eds_device.specs.Sources.{is_index}
+use Rattle.eds_device.specs.Origins.{is_index}
 use Rattle.eds_device.proofs.index.pair_positions.Given as goal
 
 abbrev pub invariant-loop-position : goal.invariant-loop-position

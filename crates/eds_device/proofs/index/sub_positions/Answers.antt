@@ -1,6 +1,6 @@
 use Rattle.eds_device.specs.Names.{place_named}
 use Rattle.co_dict.specs.Places.{place_cmp}
-use Rattle.eds_device.specs.Sources.{is_place}
+use Rattle.eds_device.specs.Origins.{is_place}
 use Rattle.eds_device.proofs.IndexLemmas.{no_sections, one_more}
 use Rattle.eds_device.proofs.index.sub_positions.Goals as goal
 

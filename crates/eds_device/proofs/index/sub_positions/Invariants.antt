@@ -1,7 +1,7 @@
 use Rattle.std.proofs.Common.{take}
 use Rattle.eds_device.specs.Names.{place_named}
 use Rattle.co_dict.specs.Places.{place_cmp}
-use Rattle.eds_device.specs.Sources.{is_place}
+use Rattle.eds_device.specs.Origins.{is_place}
 use Rattle.eds_device.specs.Index.{FindsFirsts}
 use Rattle.eds_device.proofs.index.sub_positions.Given as goal
 

@@ -1,7 +1,7 @@
-use Rattle.std.proofs.Common.{◌≡◌, true, false, length, nat_lt, arith, List, ℕ, ◌∙◌, Ok}
+use Rattle.std.proofs.Common.{◌≡◌, true, false, length, nat_lt, arith, List, ℕ, ◌∙◌, Ok, Err}
 use Rattle.std.proofs.lemmas.Result.{err_from_is_err_and}
 use Rattle.std.proofs.lemmas.Grind.{common_steps}
-use Rattle.co_base.specs.Gives.{Refuses}
+use Rattle.std.specs.Bool.{OnFalse}
 use Rattle.co_commands.specs.Faults.{is_memory}
 use Rattle.co_commands.specs.Words.{is_name}
 use Rattle.co_commands.specs.Eds.{lines_of, text_of, has_bad_line, checked}
@@ -16,7 +16,7 @@ returns-in_err-check c =
     let named : is_name c.args.name.now ≡ true = grind (arith, common_steps) in
     let few : nat_lt 65536 (length lines) ≡ false = grind (arith, common_steps) in
     let text : c.deref.result.now ≡ text_of lines = c.deref.ensures.value ∙ c.in_ok-text.ensures in
-    let refused : Refuses (is_memory c.in_err-check.field-0.0) c.in_err-check.field-0.0 (checked (text_of lines) (has_bad_line lines)) = rw (← text, ← c.has_bad_line.ensures) c.in_err-check.ensures in
+    let refused : OnFalse (is_memory c.in_err-check.field-0.0) (checked (text_of lines) (has_bad_line lines) ≡ Err c.in_err-check.field-0.0) = rw (← text, ← c.has_bad_line.ensures) c.in_err-check.ensures in
     let p = err_from_is_err_and c.from_residual-in_err-check.result c.from_residual-in_err-check.ensures.1 in
     rw (p.1, p.2) (refused_so c.args.name.now lines c.in_err-check.field-0.0 named few refused)
 

@@ -4,7 +4,7 @@ use Rattle.std.specs.Option.{option_and_then, option_copied}
 use Rattle.ini_text.specs.Content.{Section}
 use Rattle.eds_device.specs.Names.{place_named}
 use Rattle.co_dict.specs.Places.{place_cmp}
-use Rattle.eds_device.specs.Sources.{is_place, sub_section}
+use Rattle.eds_device.specs.Origins.{is_place, sub_section}
 use Rattle.eds_device.proofs.IndexLemmas.{finds}
 use Rattle.eds_device.proofs.device.Device.sub_section.Goals as goal
 

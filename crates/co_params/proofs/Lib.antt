@@ -1,0 +1,4 @@
+mod JudgedLemmas
+mod ParameterLemmas
+mod SizeLemmas
+mod WrittenLemmas

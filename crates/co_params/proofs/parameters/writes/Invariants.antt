@@ -1,0 +1,12 @@
+use Rattle.std.proofs.Common.{◌≡◌, All, take}
+use Rattle.std.specs.List.{filter_map}
+use Rattle.co_values.specs.Values.{Fits}
+use Rattle.eds_device.specs.Described.{kind_at}
+use Rattle.co_params.specs.Parameters.{parameter_write}
+use Rattle.co_params.proofs.parameters.writes.Given as goal
+
+-- the writes of the entries so far, each a value of its entry
+abbrev pub invariant-loop-index : goal.invariant-loop-index
+invariant-loop-index l =
+    (l.writes.items ≡ filter_map (parameter_write l.device.sections l.params l.node) (take l.index-index l.index-items))
+    × All (λ w. Fits (kind_at l.device.sections (w.index, w.sub)) w.bytes) l.writes.items

@@ -1,0 +1,14 @@
+//! The parameters of a node: the texts that it has for its entries, what each gives, and the writes
+//! that they are.
+#![tactic(auto)]
+
+mod judgement;
+pub mod laws;
+mod parameter_fault;
+mod parameters;
+mod params;
+
+pub use judgement::judge;
+pub use parameter_fault::ParameterFault;
+pub use parameters::writes;
+pub use params::Params;

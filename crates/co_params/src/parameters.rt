@@ -1,0 +1,77 @@
+//! The writes of a node's parameters.
+ghost use Rattle.std.specs.Prelude.{◌≡◌, ◌≤◌, length, All, IfOk, IfSome, option_copied};
+ghost use Rattle.co_values.specs.Values.{Fits};
+ghost use Rattle.eds_device.specs.Described.{kind_at};
+ghost use Rattle.co_params.specs.Parameters.{parameter_text, parameter_write, parameter_writes};
+
+use crate::judgement::judge;
+use crate::params::Params;
+use co_dict::is_of_pdos;
+use concise_dcf::Write;
+use eds_device::Device;
+use std::alloc::{AllocError, Global};
+
+/// The text of the parameter of an entry.
+#[tactic(auto, unfolding(crate::specs::Parameters::parameter_text))]
+fn parameter_text<'a>(
+    params: &'a Params,
+    device: &'a Device,
+    index: u16,
+    sub: u8,
+) -> Option<&'a [u8]>
+    ensures { option_copied result ≡ parameter_text device.now.sections params.now (index, sub) }
+{
+    let text = match params.get(index, sub) {
+        Some(text) => text,
+        None if is_of_pdos(index) => return None,
+        None => device.value_text(index, sub)?,
+    };
+    if text.is_empty() { None } else { Some(text) }
+}
+
+/// The write of the parameter of an entry, where it has a text and no fault.
+fn parameter_write(
+    alloc: Global,
+    params: &Params,
+    device: &Device,
+    node: u8,
+    index: u16,
+    sub: u8,
+) -> Result<Option<Write>, AllocError>
+    ensures write { IfOk result (λ write. write ≡ parameter_write device.now.sections params.now node (index, sub)) }
+    ensures fits { IfOk result (λ write. IfSome write (λ w. Fits (kind_at device.now.sections (w.index, w.sub)) w.bytes)) }
+{
+    let Some(text) = parameter_text(params, device, index, sub) else {
+        return Ok(None);
+    };
+    match judge(alloc, device, node, index, sub, text)? {
+        Ok(bytes) => Ok(Some(Write { index, sub, bytes })),
+        Err(_fault) => Ok(None),
+    }
+}
+
+/// The writes that give a node its parameters, by index and sub-index: for each entry the text that
+/// the node has for it, else the ParameterValue of the device's text (CiA 306) outside 1400h to
+/// 1BFFh. A parameter that has a fault isn't written.
+#[tactic(auto, unfolding(crate::specs::Parameters::parameter_writes))]
+pub fn writes(
+    alloc: Global,
+    params: &Params,
+    device: &Device,
+    node: u8,
+) -> Result<Vec<Write>, AllocError>
+    ensures writes { IfOk result (λ writes. writes.items ≡ parameter_writes device.now.sections params.now node) }
+
+    // Each is a value of its entry, of from 1 to 512 bytes, and they can be counted in 32 bits.
+    ensures fits { IfOk result (λ writes. All (λ w. Fits (kind_at device.now.sections (w.index, w.sub)) w.bytes) writes.items) }
+    ensures sizes { IfOk result (λ writes. All (λ w. (1 ≤ length w.bytes) × (length w.bytes ≤ 512)) writes.items) }
+    ensures count { IfOk result (λ writes. length writes.items ≤ 4294967295) }
+{
+    let mut writes = Vec::new(alloc);
+    for (index, sub) in device.pairs() {
+        if let Some(write) = parameter_write(alloc, params, device, node, *index, *sub)? {
+            writes.push(write)?;
+        }
+    }
+    Ok(writes)
+}

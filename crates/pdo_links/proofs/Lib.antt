@@ -1,5 +1,0 @@
-mod JudgedLemmas
-mod PairLemmas
-mod ParameterLemmas
-mod SizeLemmas
-mod WrittenLemmas

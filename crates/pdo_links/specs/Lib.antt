@@ -1,2 +1,0 @@
-pub mod Judgement
-pub mod Parameters
