@@ -7,11 +7,11 @@ use Rattle.std.proofs.lemmas.List.Sums.{sum_by-append, sum_by-cons, sum_by-take-
 use Rattle.ini_text.specs.Text.{lines_of, is_cr, trim_end, is_out_of_range}
 use Rattle.co_commands.specs.declared.fault.EditFault.{EditFault}
 use Rattle.co_commands.specs.declared.fault.EditFault.TheVariants.{Syntax, Range, Limit, BadByte}
-use Rattle.co_commands.specs.declared.order.Order.TheVariants.{Eds}
+use Rattle.co_commands.specs.declared.edit.Edit.TheVariants.{Eds}
 use Rattle.co_commands.specs.Accepts.{unless}
 use Rattle.co_commands.specs.Words.{is_name}
-use Rattle.co_commands.specs.Eds.{eds_order, text_of, text_line, has_bad_line, has_too_many_entries}
-use Rattle.co_commands.specs.Orders.{IsEds}
+use Rattle.co_commands.specs.Eds.{eds_edit, text_of, text_line, has_bad_line, has_too_many_entries}
+use Rattle.co_commands.specs.Edits.{IsEds}
 use Rattle.co_commands.specs.Lines.{line_count}
 
 -- ---- the LFs of lines
@@ -73,7 +73,7 @@ module _ (name text : List ℕ) (is : IsEds name text) where
 
   -- what its tests say: its name is one, its lines are not too many, and are its text
   pub passes : (is_name name ≡ true) × (length lines ≤ 65536) × (text_of lines ≡ text)
-  unfolding IsEds eds_order
+  unfolding IsEds eds_edit
   passes =
       let read = Eds name (text_of lines) in
       let named = passed (not (is_name name)) Syntax _ read (Eds name text) is in
@@ -88,6 +88,6 @@ module _ (name text : List ℕ) (is : IsEds name text) where
   pub lines_counted : length lines ≡ line_count text
   lines_counted = sym (counted lines (no_lf text)) ∙ ap line_count passes.2
 
-  pub block_again : (length lines ≡ line_count text) × (eds_order name lines ≡ Ok (Eds name text))
+  pub block_again : (length lines ≡ line_count text) × (eds_edit name lines ≡ Ok (Eds name text))
   unfolding IsEds
   block_again = (lines_counted, is)

@@ -6,12 +6,12 @@ use Rattle.std.specs.Bool.{OnFalse}
 use Rattle.ini_text.specs.Text as ini
 use Rattle.co_commands.specs.declared.fault.EditFault.{EditFault}
 use Rattle.co_commands.specs.declared.fault.EditFault.TheVariants.{Syntax, Range, Limit, BadByte}
-use Rattle.co_commands.specs.declared.order.Order.{Order}
+use Rattle.co_commands.specs.declared.edit.Edit.{Edit}
 use Rattle.co_commands.specs.Accepts.{unless}
-use Rattle.co_commands.specs.declared.order.Order.TheVariants.{Eds}
+use Rattle.co_commands.specs.declared.edit.Edit.TheVariants.{Eds}
 use Rattle.co_commands.specs.Faults.{is_memory}
 use Rattle.co_commands.specs.Words.{is_name}
-use Rattle.co_commands.specs.Eds.{text_line, text_of, is_bad_byte, has_bad_line, checked, has_too_many_entries, eds_order}
+use Rattle.co_commands.specs.Eds.{text_line, text_of, is_bad_byte, has_bad_line, checked, has_too_many_entries, eds_edit}
 
 or_right : (a b : Bool) → b ≡ true → (a || b) ≡ true
 or_right true b h = refl
@@ -67,18 +67,18 @@ no_refusal true e x y h = tt
 no_refusal false e x y h = cc
 
 -- the fault of the text is that of the command
-pub same_fault : (out bad bad_in_text many : Bool) (m : Bool) (e : EditFault) (order : Order) → (bad_in_text ≡ true → bad ≡ true)
+pub same_fault : (out bad bad_in_text many : Bool) (m : Bool) (e : EditFault) (edit : Edit) → (bad_in_text ≡ true → bad ≡ true)
     → OnFalse m (let r : Result (Unit {0}) EditFault = unless ((out, Range) ∷ (bad || bad_in_text, BadByte) ∷ (many, Limit) ∷ []) tt in r ≡ Err e)
-    → OnFalse m (unless ((false, Syntax) ∷ (false, Range) ∷ (out, Range) ∷ (bad, BadByte) ∷ (many, Limit) ∷ []) order ≡ Err e)
-same_fault true bad bad_in_text many m e order from h = refusal_stays (Unit {0}) Order m e Range h
-same_fault false true bad_in_text many m e order from h = refusal_stays (Unit {0}) Order m e BadByte h
-same_fault false false true many m e order from h = let wrong = from refl in cc wrong
-same_fault false false false true m e order from h = refusal_stays (Unit {0}) Order m e Limit h
-same_fault false false false false m e order from h = no_refusal m e tt order h
+    → OnFalse m (unless ((false, Syntax) ∷ (false, Range) ∷ (out, Range) ∷ (bad, BadByte) ∷ (many, Limit) ∷ []) edit ≡ Err e)
+same_fault true bad bad_in_text many m e edit from h = refusal_stays (Unit {0}) Edit m e Range h
+same_fault false true bad_in_text many m e edit from h = refusal_stays (Unit {0}) Edit m e BadByte h
+same_fault false false true many m e edit from h = let wrong = from refl in cc wrong
+same_fault false false false true m e edit from h = refusal_stays (Unit {0}) Edit m e Limit h
+same_fault false false false false m e edit from h = no_refusal m e tt edit h
 
 -- the fault of a command whose name and count of lines are good is that of its text
 pub refused_so : (name : List ℕ) (lines : List (List ℕ)) (e : EditFault) → is_name name ≡ true → nat_lt 65536 (length lines) ≡ false
-    → OnFalse (is_memory e) (checked (text_of lines) (has_bad_line lines) ≡ Err e) → OnFalse (is_memory e) (eds_order name lines ≡ Err e)
-unfolding eds_order
+    → OnFalse (is_memory e) (checked (text_of lines) (has_bad_line lines) ≡ Err e) → OnFalse (is_memory e) (eds_edit name lines ≡ Err e)
+unfolding eds_edit
 refused_so name lines e named few h =
     rw (named, few) (same_fault (ini.is_out_of_range (text_of lines)) (has_bad_line lines) (ini.has_bad_byte (text_of lines)) (has_too_many_entries (text_of lines)) (is_memory e) e (Eds name (text_of lines)) (bad_text lines) h)

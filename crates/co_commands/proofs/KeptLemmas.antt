@@ -7,12 +7,12 @@ use Rattle.ini_text.specs.Text as ini
 use Rattle.ini_text.specs.Content.{content_of}
 use Rattle.eds_device.specs.Faults.{device_of}
 use Rattle.co_commands.specs.declared.fault.EditFault.TheVariants.{Syntax, Range, Limit, BadByte}
-use Rattle.co_commands.specs.declared.order.Order.{Order}
-use Rattle.co_commands.specs.declared.order.Order.TheVariants.{Eds}
+use Rattle.co_commands.specs.declared.edit.Edit.{Edit}
+use Rattle.co_commands.specs.declared.edit.Edit.TheVariants.{Eds}
 use Rattle.co_commands.specs.Accepts.{unless}
 use Rattle.co_commands.specs.Words.{is_name}
-use Rattle.co_commands.specs.Eds.{text_of, is_bad_byte, has_bad_line, checked, has_too_many_entries, eds_order}
-use Rattle.co_commands.specs.Orders.{IsEds}
+use Rattle.co_commands.specs.Eds.{text_of, is_bad_byte, has_bad_line, checked, has_too_many_entries, eds_edit}
+use Rattle.co_commands.specs.Edits.{IsEds}
 use Rattle.co_commands.proofs.EdsLemmas.{bad_text}
 use Rattle.co_commands.proofs.TextLemmas.{trim_end_again}
 
@@ -80,7 +80,7 @@ record Passes (name : List ℕ) (lines : List (List ℕ)) : Type 0 where
 
 -- the lines of their text have none of the faults either
 kept_again : (name : List ℕ) (lines : List (List ℕ)) → Passes name lines → IsEds name (text_of lines)
-unfolding IsEds eds_order
+unfolding IsEds eds_edit
 kept_again name lines p = rw (lines_again lines p.good, text_again lines, good_again lines p.good, p.named, length-map, p.few, p.within, p.small) refl
 
 -- a text that is taken had none of its faults
@@ -98,14 +98,14 @@ accepted_again name lines named few h =
     kept_again name lines (record { named = named; few = few; within = p.0; good = p.1; small = p.2 })
 
 -- a command that is taken had none of the faults, and keeps what was given
-all_false : (unnamed many_lines out bad many : Bool) (given order : Order) → unless ((unnamed, Syntax) ∷ (many_lines, Range) ∷ (out, Range) ∷ (bad, BadByte) ∷ (many, Limit) ∷ []) given ≡ Ok order
-    → (out ≡ false) × (bad ≡ false) × (many ≡ false) × (given ≡ order)
-all_false true many_lines out bad many given order h = cc
-all_false false true out bad many given order h = cc
-all_false false false true bad many given order h = cc
-all_false false false false true many given order h = cc
-all_false false false false false true given order h = cc
-all_false false false false false false given order h = (refl, refl, refl, cc)
+all_false : (unnamed many_lines out bad many : Bool) (given edit : Edit) → unless ((unnamed, Syntax) ∷ (many_lines, Range) ∷ (out, Range) ∷ (bad, BadByte) ∷ (many, Limit) ∷ []) given ≡ Ok edit
+    → (out ≡ false) × (bad ≡ false) × (many ≡ false) × (given ≡ edit)
+all_false true many_lines out bad many given edit h = cc
+all_false false true out bad many given edit h = cc
+all_false false false true bad many given edit h = cc
+all_false false false false true many given edit h = cc
+all_false false false false false true given edit h = cc
+all_false false false false false false given edit h = (refl, refl, refl, cc)
 
 -- a text has no bad byte where its lines have none
 good_text : (lines : List (List ℕ)) → has_bad_line lines ≡ false → ini.has_bad_byte (text_of lines) ≡ false
@@ -117,7 +117,7 @@ good_text lines h = by (ini.has_bad_byte (text_of lines)) (bad_text lines)
 
 -- an EDS that a project keeps is a device
 pub eds_is_a_device : (name text : List ℕ) → IsEds name text → device_of text ≡ Ok (content_of text)
-unfolding IsEds eds_order device_of has_too_many_entries
+unfolding IsEds eds_edit device_of has_too_many_entries
 eds_is_a_device name text h =
     let lines : List (List ℕ) = ini.lines_of text in
     let p : (ini.is_out_of_range (text_of lines) ≡ false) × (has_bad_line lines ≡ false) × (has_too_many_entries (text_of lines) ≡ false) × (Eds name (text_of lines) ≡ Eds name text) =

@@ -7,8 +7,8 @@ use Rattle.eds_device.specs.Faults.{most_entries}
 use Rattle.eds_device.specs.Places.{pairs_of}
 use Rattle.co_commands.specs.declared.fault.EditFault.{EditFault}
 use Rattle.co_commands.specs.declared.fault.EditFault.TheVariants.{Syntax, Range, Limit, BadByte}
-use Rattle.co_commands.specs.declared.order.Order.{Order}
-use Rattle.co_commands.specs.declared.order.Order.TheVariants.{Eds}
+use Rattle.co_commands.specs.declared.edit.Edit.{Edit}
+use Rattle.co_commands.specs.declared.edit.Edit.TheVariants.{Eds}
 use Rattle.co_commands.specs.Accepts.{unless}
 use Rattle.co_commands.specs.Words.{is_name}
 
@@ -41,8 +41,8 @@ abbrev pub checked : List ℕ → Bool → Result (Unit {0}) EditFault
 checked text is_bad = unless ((is_out_of_range text, Range) ∷ (is_bad || has_bad_byte text, BadByte) ∷ (has_too_many_entries text, Limit) ∷ []) tt
 
 -- THE EDIT of an EDS from its name and lines, or the first fault that applies
-unfoldable pub eds_order : List ℕ → List (List ℕ) → Result Order EditFault
-eds_order name lines =
+unfoldable pub eds_edit : List ℕ → List (List ℕ) → Result Edit EditFault
+eds_edit name lines =
     unless (
     (not (is_name name), Syntax)
     ∷ (nat_lt 65536 (length lines), Range)

@@ -3,5 +3,5 @@ pub mod Accepts
 pub mod Words
 pub mod Eds
 pub mod Requests
-pub mod Orders
+pub mod Edits
 pub mod Lines

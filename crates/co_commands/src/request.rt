@@ -2,7 +2,7 @@
 ghost use Rattle.std.specs.Prelude.{◌≡◌};
 ghost use Rattle.co_base.specs.Gives.{Gives};
 ghost use Rattle.co_commands.specs.Faults.{is_memory};
-ghost use Rattle.co_commands.specs.Requests.{block_of, query_of, command_of, edits, request};
+ghost use Rattle.co_commands.specs.Requests.{block_of, query_of, command_of, asks_edit, request};
 
 use crate::command::Command;
 use crate::edits::{bitrate, drop_eds, drop_node, horizon, id, manager, node, param, unparam};
@@ -80,7 +80,7 @@ fn block(alloc: Global, is_bad: bool, rest: &[u8]) -> Result<Request, EditFault>
 }
 
 fn edit(command: Result<Command, EditFault>) -> Result<Request, EditFault>
-    ensures { Gives is_memory (λ r. r) result (edits command) }
+    ensures { Gives is_memory (λ r. r) result (asks_edit command) }
 {
     Ok(Request::Edit(command?))
 }

@@ -19,11 +19,11 @@ use Rattle.std.proofs.lemmas.Slice.Eq.{bytes_eq-Decides}
 use Rattle.co_scenario.specs.declared.timed_event.TimedEvent.{TimedEvent}
 use Rattle.co_scenario.specs.Scenario.{node_of}
 use Rattle.co_commands.specs.declared.fault.EditFault.{EditFault}
-use Rattle.co_commands.specs.declared.manager.Manager.{Manager}
-use Rattle.co_commands.specs.declared.order.Order.{Order}
-use Rattle.co_commands.specs.declared.order.Order.TheVariants as order
+use Rattle.co_commands.specs.declared.manager_settings.ManagerSettings.{ManagerSettings}
+use Rattle.co_commands.specs.declared.edit.Edit.{Edit}
+use Rattle.co_commands.specs.declared.edit.Edit.TheVariants as edit
 use Rattle.co_commands.specs.Accepts.{unless}
-use Rattle.co_commands.specs.Orders.{IsOrder, IsManager, IsEds, IsSetting}
+use Rattle.co_commands.specs.Edits.{IsEdit, IsManager, IsEds, IsSetting}
 use Rattle.co_commands.specs.Words.{is_bit_rate, is_time}
 use Rattle.co_project.specs.declared.node.Node.{Node}
 use Rattle.co_dict.specs.Places.{place_cmp}
@@ -219,12 +219,12 @@ module _ (p : Content) (sound : IsSound p) where
   horizon_keeps time h = record { bitrate = sound.bitrate; horizon = h; manager = sound.manager; texts = sound.texts; nodes_by_number = sound.nodes_by_number; nodes = sound.nodes; events_by_number = sound.events_by_number; events = sound.events }
 
   -- a node stays one where the manager has another number than its own
-  manager_of : (m : Manager) (e : ℕ × Node) → IsNodeOf p e → (e.0 == m.id) ≡ false → IsNodeOf (record p { manager = m }) e
+  manager_of : (m : ManagerSettings) (e : ℕ × Node) → IsNodeOf p e → (e.0 == m.id) ≡ false → IsNodeOf (record p { manager = m }) e
   unfolding IsNodeOf
   manager_of m e old other = (old.0, other, old.2, old.3, old.4, old.5, old.6)
 
   -- another manager
-  manager_keeps : (m : Manager) → IsManager m → is_some (node_at p.nodes m.id) ≡ false → IsSound (record p { manager = m })
+  manager_keeps : (m : ManagerSettings) → IsManager m → is_some (node_at p.nodes m.id) ≡ false → IsSound (record p { manager = m })
   unfolding IsEventOf
   manager_keeps m h free = record {
     bitrate = sound.bitrate;
@@ -280,9 +280,9 @@ module _ (p : Content) (sound : IsSound p) where
       )
 
   -- a node, new or with another name and EDS
-  node_keeps : (id : ℕ) (name eds : List ℕ) → IsOrder (order.Node id name eds) → is_some (text_at p.texts eds) ≡ true → (id == p.manager.id || name_taken p.nodes id name) ≡ false
+  node_keeps : (id : ℕ) (name eds : List ℕ) → IsEdit (edit.Node id name eds) → is_some (text_at p.texts eds) ≡ true → (id == p.manager.id || name_taken p.nodes id name) ≡ false
       → IsSound (record p { nodes = insert_entry nat_cmp p.nodes id (record { name = name; eds = eds; params = params_at p.nodes id }) })
-  unfolding IsOrder IsNodeOf
+  unfolding IsEdit IsNodeOf
   node_keeps id name eds h there free =
       let parts = or_parts (id == p.manager.id) (name_taken p.nodes id name) free in
       node_put p sound id (record { name = name; eds = eds; params = params_at p.nodes id })
@@ -327,8 +327,8 @@ module _ (p : Content) (sound : IsSound p) where
       event_without e old other = (old.0, old.1, old.2, still_known (node_of e.1.event) other old.3)
 
   -- an event of a known node
-  event_keeps : (number : ℕ) (e : TimedEvent) → IsOrder (order.Event number e) → is_of_known p.nodes e.event ≡ true → IsSound (record p { events = insert_entry nat_cmp p.events number e })
-  unfolding IsOrder IsNodeOf IsEventOf
+  event_keeps : (number : ℕ) (e : TimedEvent) → IsEdit (edit.Event number e) → is_of_known p.nodes e.event ≡ true → IsSound (record p { events = insert_entry nat_cmp p.events number e })
+  unfolding IsEdit IsNodeOf IsEventOf
   event_keeps number e h known = record {
     bitrate = sound.bitrate;
     horizon = sound.horizon;
@@ -414,16 +414,16 @@ first_sound = record {
 }
 
 -- an edit that is taken leaves a project that keeps to it
-pub edits_keep_sound : (p q : Content) (order : Order) → IsSound p → IsOrder order → accept p order ≡ Ok q → IsSound q
-unfolding accept IsOrder
-edits_keep_sound p q (order.Bitrate rate) sound h taken = subst IsSound (the_same _ q taken) (bitrate_keeps p sound rate h)
-edits_keep_sound p q (order.Horizon time) sound h taken = subst IsSound (the_same _ q taken) (horizon_keeps p sound time h)
-edits_keep_sound p q (order.Manager m) sound h taken = let e = passed _ _ _ q taken in subst IsSound e.1 (manager_keeps p sound m h e.0)
-edits_keep_sound p q (order.Eds name text) sound h taken = let e = passed _ _ _ q taken in subst IsSound e.1 (eds_keeps p sound name text h e.0)
-edits_keep_sound p q (order.DropEds name) sound h taken = let e = passed_both _ _ _ _ _ q taken in subst IsSound e.2 (drop_eds_keeps p sound name e.1)
-edits_keep_sound p q (order.Node id name eds) sound h taken = let e = passed_both _ _ _ _ _ q taken in subst IsSound e.2 (node_keeps p sound id name eds h (not-false _ e.0) e.1)
-edits_keep_sound p q (order.DropNode id) sound h taken = let e = passed_both _ _ _ _ _ q taken in subst IsSound e.2 (drop_node_keeps p sound id e.1)
-edits_keep_sound p q (order.Param id index sub text) sound h taken = param_keeps p q sound id (index, sub) text (node_at p.nodes id) refl h.1 taken
-edits_keep_sound p q (order.Unparam id index sub) sound h taken = unparam_keeps p q sound id (index, sub) (node_at p.nodes id) refl taken
-edits_keep_sound p q (order.Event number e) sound h taken = let t = passed _ _ _ q taken in subst IsSound t.1 (event_keeps p sound number e h (not-false _ t.0))
-edits_keep_sound p q (order.DropEvent number) sound h taken = let e = passed _ _ _ q taken in subst IsSound e.1 (drop_event_keeps p sound number)
+pub edits_keep_sound : (p q : Content) (edit : Edit) → IsSound p → IsEdit edit → accept p edit ≡ Ok q → IsSound q
+unfolding accept IsEdit
+edits_keep_sound p q (edit.Bitrate rate) sound h taken = subst IsSound (the_same _ q taken) (bitrate_keeps p sound rate h)
+edits_keep_sound p q (edit.Horizon time) sound h taken = subst IsSound (the_same _ q taken) (horizon_keeps p sound time h)
+edits_keep_sound p q (edit.Manager m) sound h taken = let e = passed _ _ _ q taken in subst IsSound e.1 (manager_keeps p sound m h e.0)
+edits_keep_sound p q (edit.Eds name text) sound h taken = let e = passed _ _ _ q taken in subst IsSound e.1 (eds_keeps p sound name text h e.0)
+edits_keep_sound p q (edit.DropEds name) sound h taken = let e = passed_both _ _ _ _ _ q taken in subst IsSound e.2 (drop_eds_keeps p sound name e.1)
+edits_keep_sound p q (edit.Node id name eds) sound h taken = let e = passed_both _ _ _ _ _ q taken in subst IsSound e.2 (node_keeps p sound id name eds h (not-false _ e.0) e.1)
+edits_keep_sound p q (edit.DropNode id) sound h taken = let e = passed_both _ _ _ _ _ q taken in subst IsSound e.2 (drop_node_keeps p sound id e.1)
+edits_keep_sound p q (edit.Param id index sub text) sound h taken = param_keeps p q sound id (index, sub) text (node_at p.nodes id) refl h.1 taken
+edits_keep_sound p q (edit.Unparam id index sub) sound h taken = unparam_keeps p q sound id (index, sub) (node_at p.nodes id) refl taken
+edits_keep_sound p q (edit.Event number e) sound h taken = let t = passed _ _ _ q taken in subst IsSound t.1 (event_keeps p sound number e h (not-false _ t.0))
+edits_keep_sound p q (edit.DropEvent number) sound h taken = let e = passed _ _ _ q taken in subst IsSound e.1 (drop_event_keeps p sound number)

@@ -5,10 +5,10 @@ use Rattle.std.proofs.lemmas.List.Concat.{flat_map-append}
 use Rattle.co_scenario.specs.declared.event.Event.{Event}
 use Rattle.co_scenario.specs.declared.event.Event.TheVariants as event
 use Rattle.co_scenario.specs.declared.timed_event.TimedEvent.{TimedEvent}
-use Rattle.co_commands.specs.declared.order.Order.TheVariants as order
+use Rattle.co_commands.specs.declared.edit.Edit.TheVariants as edit
 use Rattle.co_commands.specs.Lines.{event_words, line_of, spaced, text_of, words_of}
 use Rattle.co_project.specs.Project.{Content}
-use Rattle.co_project.specs.Script.{event_orders, node_order, orders, param_orders, script, text_orders}
+use Rattle.co_project.specs.Script.{event_edits, node_edit, edits, param_edits, script, text_edits}
 
 -- what happens to a node has a first word
 event_last : (word : List ℕ) (e : Event) → spaced (word ∷ event_words e) ≡ word ++ 32 ∷ spaced (event_words e)
@@ -28,7 +28,7 @@ words_in_turn out a b c d = simp (append_assoc, byte_before) refl
 -- an event at its time, what happens then, and the end of the line
 pub event_written : (number : ℕ) (e : TimedEvent) (out moment words line : List ℕ)
     → moment ≡ out ++ codes "event" ++ 32 ∷ decimal number ++ 32 ∷ decimal e.time → words ≡ moment ++ 32 ∷ spaced (event_words e.event)
-    → line ≡ words ++ 10 ∷ [] → line ≡ out ++ text_of (order.Event number e)
+    → line ≡ words ++ 10 ∷ [] → line ≡ out ++ text_of (edit.Event number e)
 unfolding line_of text_of words_of
 event_written number e out moment words line begun said ended =
     rw (ended, said, begun) (words_in_turn out (codes "event") (decimal number) (decimal e.time) (spaced (event_words e.event)))
@@ -40,9 +40,9 @@ three_texts a b c = rw (append-nil c, append_assoc a b c) refl
 
 -- a script is its settings, texts, nodes, parameters and events
 pub script_parts : (p : Content)
-    → script p ≡ text_of (order.Bitrate p.bitrate) ++ text_of (order.Horizon p.horizon) ++ text_of (order.Manager p.manager)
-    ++ flat_map text_of (text_orders p.texts) ++ flat_map text_of (map node_order p.nodes)
-    ++ flat_map text_of (flat_map param_orders p.nodes) ++ flat_map text_of (event_orders p.events)
-unfolding script orders
+    → script p ≡ text_of (edit.Bitrate p.bitrate) ++ text_of (edit.Horizon p.horizon) ++ text_of (edit.Manager p.manager)
+    ++ flat_map text_of (text_edits p.texts) ++ flat_map text_of (map node_edit p.nodes)
+    ++ flat_map text_of (flat_map param_edits p.nodes) ++ flat_map text_of (event_edits p.events)
+unfolding script edits
 script_parts p =
-    rw (sym (three_texts (text_of (order.Bitrate p.bitrate)) (text_of (order.Horizon p.horizon)) (text_of (order.Manager p.manager)))) (simp flat_map-append refl)
+    rw (sym (three_texts (text_of (edit.Bitrate p.bitrate)) (text_of (edit.Horizon p.horizon)) (text_of (edit.Manager p.manager)))) (simp flat_map-append refl)

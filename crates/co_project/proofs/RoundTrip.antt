@@ -15,15 +15,15 @@ use Rattle.std.specs.Str.{bytes_eq}
 use Rattle.co_scenario.specs.declared.timed_event.TimedEvent.{TimedEvent}
 use Rattle.co_commands.specs.declared.fault.EditFault.{EditFault}
 use Rattle.co_commands.specs.declared.fault.EditFault.TheVariants.{Unknown, Taken, Limit}
-use Rattle.co_commands.specs.declared.order.Order.{Order}
-use Rattle.co_commands.specs.declared.order.Order.TheVariants as order
+use Rattle.co_commands.specs.declared.edit.Edit.{Edit}
+use Rattle.co_commands.specs.declared.edit.Edit.TheVariants as edit
 use Rattle.co_commands.specs.Accepts.{unless}
 use Rattle.co_project.specs.declared.node.Node.{Node}
 use Rattle.co_dict.specs.Places.{place_cmp}
 use Rattle.co_params.specs.Params.{is_full_for}
 use Rattle.co_project.specs.Tables.{name_cmp, params_at, params_in, name_taken, has_no_room, with_param}
 use Rattle.co_project.specs.Project.{Content, first, accept, accept_all, with_nodes}
-use Rattle.co_project.specs.Script.{orders, node_order, param_order, param_orders, text_orders, event_orders}
+use Rattle.co_project.specs.Script.{edits, node_edit, param_edit, param_edits, text_edits, event_edits}
 use Rattle.co_project.specs.Sound.{AreTexts, AreParams, IsNodeOf, IsEventOf, IsSound}
 use Rattle.co_project.proofs.EndLemmas.{IsAfter, after_front, new_after, insert-last, found_after, insert-over}
 use Rattle.co_project.proofs.KeepsSound.{place_cmp_total}
@@ -32,18 +32,18 @@ use Rattle.co_project.proofs.ScriptEdits.{settings}
 -- ---- edits one after the other
 
 -- edits in two parts
-accept_all-append : (r : Result Content EditFault) (xs ys : List Order) → accept_all r (xs ++ ys) ≡ accept_all (accept_all r xs) ys
+accept_all-append : (r : Result Content EditFault) (xs ys : List Edit) → accept_all r (xs ++ ys) ≡ accept_all (accept_all r xs) ys
 unfolding accept_all
 accept_all-append (Err fault) xs ys = refl
 accept_all-append (Ok p) [] ys = refl
 accept_all-append (Ok p) (x ∷ xs) ys = accept_all-append (accept p x) xs ys
 
 -- edits that are taken, and then others
-then : (r : Result Content EditFault) (xs ys : List Order) (a : Content) {b : Result Content EditFault} → accept_all r xs ≡ Ok a → accept_all (Ok a) ys ≡ b → accept_all r (xs ++ ys) ≡ b
+then : (r : Result Content EditFault) (xs ys : List Edit) (a : Content) {b : Result Content EditFault} → accept_all r xs ≡ Ok a → accept_all (Ok a) ys ≡ b → accept_all r (xs ++ ys) ≡ b
 then r xs ys a ok others = accept_all-append r xs ys ∙ ap (λ t. accept_all t ys) ok ∙ others
 
 -- an edit that is taken, and then others
-one_then : (p : Content) (x : Order) (ys : List Order) (a : Content) {b : Result Content EditFault} → accept p x ≡ Ok a → accept_all (Ok a) ys ≡ b → accept_all (Ok p) (x ∷ ys) ≡ b
+one_then : (p : Content) (x : Edit) (ys : List Edit) (a : Content) {b : Result Content EditFault} → accept p x ≡ Ok a → accept_all (Ok a) ys ≡ b → accept_all (Ok p) (x ∷ ys) ≡ b
 unfolding accept_all
 one_then p x ys a ok others = ap (λ t. accept_all t ys) ok ∙ others
 
@@ -57,7 +57,7 @@ room most front x back known small = and_left _ _ (lt-leb most (length front) (o
 
 -- one text more
 text_taken : (p : Content) (front : List (List ℕ × List ℕ)) (e : List ℕ × List ℕ) → IsAfter name_cmp e.0 (keys_of front) → has_no_room front e.0 ≡ false
-    → accept (record p { texts = front }) (order.Eds e.0 e.1) ≡ Ok (record p { texts = front ++ e ∷ [] })
+    → accept (record p { texts = front }) (edit.Eds e.0 e.1) ≡ Ok (record p { texts = front ++ e ∷ [] })
 unfolding accept
 text_taken p front e after free =
     ap (λ t. unless ((t, Limit) ∷ []) (record p { texts = insert_entry name_cmp front e.0 e.1 })) free
@@ -65,12 +65,12 @@ text_taken p front e after free =
 
 -- the texts that are still to come
 texts_again : (p : Content) (front back : List (List ℕ × List ℕ)) → IsStrictlySortedBy name_cmp (keys_of (front ++ back)) → length (front ++ back) ≤ 64
-    → accept_all (Ok (record p { texts = front })) (text_orders back) ≡ Ok (record p { texts = front ++ back })
+    → accept_all (Ok (record p { texts = front })) (text_edits back) ≡ Ok (record p { texts = front ++ back })
 unfolding accept_all
 texts_again p front [] sorted small = ap (λ texts. Ok (record p { texts = texts })) (sym (append-nil front))
 texts_again p front (e ∷ back) sorted small =
     let assoc = append_assoc front (e ∷ []) back in
-    one_then (record p { texts = front }) (order.Eds e.0 e.1) (text_orders back) (record p { texts = front ++ e ∷ [] })
+    one_then (record p { texts = front }) (edit.Eds e.0 e.1) (text_edits back) (record p { texts = front ++ e ∷ [] })
     (text_taken p front e (after_front name_cmp front e back sorted) (room 64 front e back _ small))
     (texts_again p (front ++ e ∷ []) back (rw assoc sorted) (rw assoc small) ∙ ap (λ texts. Ok (record p { texts = texts })) assoc)
 
@@ -103,7 +103,7 @@ with_nodes_alone p nodes = record p { nodes = nodes; events = [] }
 
 -- one node more
 node_taken : (p : Content) (nodes : List (ℕ × Node)) (e : ℕ × Node) → IsAfter nat_cmp e.0 (keys_of nodes) → IsNodeOf p e → name_taken nodes e.0 e.1.name ≡ false
-    → accept (with_nodes_alone p nodes) (node_order e) ≡ Ok (with_nodes_alone p (nodes ++ bare e ∷ []))
+    → accept (with_nodes_alone p nodes) (node_edit e) ≡ Ok (with_nodes_alone p (nodes ++ bare e ∷ []))
 unfolding accept IsNodeOf
 node_taken p nodes e after is free =
     let bare_node : List ((ℕ × ℕ) × List ℕ) → Node = λ params. record { name = e.1.name; eds = e.1.eds; params = params } in
@@ -116,14 +116,14 @@ node_taken p nodes e after is free =
 
 -- the nodes that are still to come
 nodes_again : (p : Content) (front back : List (ℕ × Node)) → p.nodes ≡ front ++ back → IsStrictlySortedBy nat_cmp (keys_of (front ++ back)) → All (IsNodeOf p) back
-    → accept_all (Ok (with_nodes_alone p (map bare front))) (map node_order back) ≡ Ok (with_nodes_alone p (map bare (front ++ back)))
+    → accept_all (Ok (with_nodes_alone p (map bare front))) (map node_edit back) ≡ Ok (with_nodes_alone p (map bare (front ++ back)))
 unfolding accept_all
 nodes_again p front [] is sorted all = ap (λ nodes. Ok (with_nodes_alone p (map bare nodes))) (sym (append-nil front))
 nodes_again p front (e ∷ back) is sorted all =
     let assoc = append_assoc front (e ∷ []) back in
     let after : IsAfter nat_cmp e.0 (keys_of (map bare front)) = rw (keys-bare front) (after_front nat_cmp front e back sorted) in
     let free : name_taken (map bare front) e.0 e.1.name ≡ false = taken-bare front e.0 e.1.name ∙ free_before p e (All-head (IsNodeOf p) e back all) front (e ∷ back) is in
-    one_then (with_nodes_alone p (map bare front)) (node_order e) (map node_order back) (with_nodes_alone p (map bare (front ++ e ∷ [])))
+    one_then (with_nodes_alone p (map bare front)) (node_edit e) (map node_edit back) (with_nodes_alone p (map bare (front ++ e ∷ [])))
     (node_taken p (map bare front) e after (All-head (IsNodeOf p) e back all) free ∙ ap (λ nodes. Ok (with_nodes_alone p nodes)) (sym (map-append bare front (e ∷ []))))
     (nodes_again p (front ++ e ∷ []) back (is ∙ sym assoc) (rw assoc sorted) (All-tail (IsNodeOf p) e back all) ∙ ap (λ nodes. Ok (with_nodes_alone p (map bare nodes))) assoc)
 
@@ -132,7 +132,7 @@ nodes_again p front (e ∷ back) is sorted all =
 -- one parameter more of a node
 param_taken : (p : Content) (front rest : List (ℕ × Node)) (id : ℕ) (node : Node) (e : (ℕ × ℕ) × List ℕ) → IsAfter nat_cmp id (keys_of front)
     → IsAfter place_cmp e.0 (keys_of node.params) → is_full_for node.params e.0 ≡ false
-    → accept (record p { nodes = front ++ (id, node) ∷ rest }) (param_order id e) ≡ Ok (record p { nodes = front ++ (id, record node { params = node.params ++ e ∷ [] }) ∷ rest })
+    → accept (record p { nodes = front ++ (id, node) ∷ rest }) (param_edit id e) ≡ Ok (record p { nodes = front ++ (id, record node { params = node.params ++ e ∷ [] }) ∷ rest })
 unfolding accept
 param_taken p front rest id node e after last free =
     let nodes = front ++ (id, node) ∷ rest in
@@ -149,31 +149,31 @@ module _ (p : Content) (before rest : List (ℕ × Node)) (id : ℕ) (node : Nod
 
   -- the parameters that are still to come
   params_again : (front back : List ((ℕ × ℕ) × List ℕ)) → IsStrictlySortedBy place_cmp (keys_of (front ++ back)) → length (front ++ back) ≤ 4096
-      → accept_all (Ok (with_params front)) (map (param_order id) back) ≡ Ok (with_params (front ++ back))
+      → accept_all (Ok (with_params front)) (map (param_edit id) back) ≡ Ok (with_params (front ++ back))
   unfolding accept_all
   params_again front [] sorted small = ap (λ params. Ok (with_params params)) (sym (append-nil front))
   params_again front (e ∷ back) sorted small =
       let assoc = append_assoc front (e ∷ []) back in
-      one_then (with_params front) (param_order id e) (map (param_order id) back) (with_params (front ++ e ∷ []))
+      one_then (with_params front) (param_edit id e) (map (param_edit id) back) (with_params (front ++ e ∷ []))
       (param_taken p before rest id (record node { params = front }) e after (after_front place_cmp front e back sorted) (room 4096 front e back _ small))
       (params_again (front ++ e ∷ []) back (rw assoc sorted) (rw assoc small) ∙ ap (λ params. Ok (with_params params)) assoc)
 
 -- the parameters of a node
 node_filled : (p q : Content) (front rest : List (ℕ × Node)) (e : ℕ × Node) → IsAfter nat_cmp e.0 (keys_of front) → IsNodeOf q e
-    → accept_all (Ok (record p { nodes = front ++ bare e ∷ rest })) (param_orders e) ≡ Ok (record p { nodes = front ++ e ∷ rest })
+    → accept_all (Ok (record p { nodes = front ++ bare e ∷ rest })) (param_edits e) ≡ Ok (record p { nodes = front ++ e ∷ rest })
 unfolding IsNodeOf AreParams
 node_filled p q front rest e after is = params_again p front rest e.0 e.1 after [] e.1.params is.6.0 is.6.1
 
 -- the parameters of the nodes that are still to come
 nodes_filled : (p q : Content) (front back : List (ℕ × Node)) → IsStrictlySortedBy nat_cmp (keys_of (front ++ back)) → All (IsNodeOf q) back
-    → accept_all (Ok (record p { nodes = front ++ map bare back })) (flat_map param_orders back) ≡ Ok (record p { nodes = front ++ back })
+    → accept_all (Ok (record p { nodes = front ++ map bare back })) (flat_map param_edits back) ≡ Ok (record p { nodes = front ++ back })
 unfolding accept_all
 nodes_filled p q front [] sorted all = refl
 nodes_filled p q front (e ∷ back) sorted all =
     let assoc = append_assoc front (e ∷ []) back in
-    then (Ok (record p { nodes = front ++ bare e ∷ map bare back })) (param_orders e) (flat_map param_orders back) (record p { nodes = front ++ e ∷ map bare back })
+    then (Ok (record p { nodes = front ++ bare e ∷ map bare back })) (param_edits e) (flat_map param_edits back) (record p { nodes = front ++ e ∷ map bare back })
     (node_filled p q front (map bare back) e (after_front nat_cmp front e back sorted) (All-head (IsNodeOf q) e back all))
-    (ap (λ nodes. accept_all (Ok (record p { nodes = nodes })) (flat_map param_orders back)) (sym (append_assoc front (e ∷ []) (map bare back)))
+    (ap (λ nodes. accept_all (Ok (record p { nodes = nodes })) (flat_map param_edits back)) (sym (append_assoc front (e ∷ []) (map bare back)))
     ∙ nodes_filled p q (front ++ e ∷ []) back (rw assoc sorted) (All-tail (IsNodeOf q) e back all)
     ∙ ap (λ nodes. Ok (record p { nodes = nodes })) assoc)
 
@@ -181,7 +181,7 @@ nodes_filled p q front (e ∷ back) sorted all =
 
 -- one event more
 event_taken : (p : Content) (front : List (ℕ × TimedEvent)) (e : ℕ × TimedEvent) → IsAfter nat_cmp e.0 (keys_of front) → IsEventOf p e
-    → accept (record p { events = front }) (order.Event e.0 e.1) ≡ Ok (record p { events = front ++ e ∷ [] })
+    → accept (record p { events = front }) (edit.Event e.0 e.1) ≡ Ok (record p { events = front ++ e ∷ [] })
 unfolding accept IsEventOf
 event_taken p front e after is =
     ap (λ t. unless ((not t, Unknown) ∷ []) (record p { events = insert_entry nat_cmp front e.0 e.1 })) is.3
@@ -189,12 +189,12 @@ event_taken p front e after is =
 
 -- the events that are still to come
 events_again : (p : Content) (front back : List (ℕ × TimedEvent)) → IsStrictlySortedBy nat_cmp (keys_of (front ++ back)) → All (IsEventOf p) back
-    → accept_all (Ok (record p { events = front })) (event_orders back) ≡ Ok (record p { events = front ++ back })
+    → accept_all (Ok (record p { events = front })) (event_edits back) ≡ Ok (record p { events = front ++ back })
 unfolding accept_all
 events_again p front [] sorted all = ap (λ events. Ok (record p { events = events })) (sym (append-nil front))
 events_again p front (e ∷ back) sorted all =
     let assoc = append_assoc front (e ∷ []) back in
-    one_then (record p { events = front }) (order.Event e.0 e.1) (event_orders back) (record p { events = front ++ e ∷ [] })
+    one_then (record p { events = front }) (edit.Event e.0 e.1) (event_edits back) (record p { events = front ++ e ∷ [] })
     (event_taken p front e (after_front nat_cmp front e back sorted) (All-head (IsEventOf p) e back all))
     (events_again p (front ++ e ∷ []) back (rw assoc sorted) (All-tail (IsEventOf p) e back all) ∙ ap (λ events. Ok (record p { events = events })) assoc)
 
@@ -210,17 +210,17 @@ unfolding accept_all accept
 settings_again p = refl
 
 -- all texts
-all_texts : (p : Content) → IsSound p → accept_all (Ok (set_up p)) (text_orders p.texts) ≡ Ok (with_nodes_alone p [])
+all_texts : (p : Content) → IsSound p → accept_all (Ok (set_up p)) (text_edits p.texts) ≡ Ok (with_nodes_alone p [])
 unfolding AreTexts
 all_texts p sound = texts_again (set_up p) [] p.texts sound.texts.0 sound.texts.1
 
 -- the edits of a project's script, taken by the first project, make the equal project
-pub script_again : (p : Content) → IsSound p → accept_all (Ok first) (orders p) ≡ Ok p
-unfolding orders
+pub script_again : (p : Content) → IsSound p → accept_all (Ok first) (edits p) ≡ Ok p
+unfolding edits
 script_again p sound =
-    let nodes = map node_order p.nodes in
-    let params = flat_map param_orders p.nodes in
-    let text_made = then (Ok first) (settings p) (text_orders p.texts) (set_up p) (settings_again p) (all_texts p sound) in
+    let nodes = map node_edit p.nodes in
+    let params = flat_map param_edits p.nodes in
+    let text_made = then (Ok first) (settings p) (text_edits p.texts) (set_up p) (settings_again p) (all_texts p sound) in
     let nodes_made = then (Ok first) _ nodes (with_nodes_alone p []) text_made (nodes_again p [] p.nodes refl sound.nodes_by_number sound.nodes) in
     let params_made = then (Ok first) _ params (with_nodes_alone p (map bare p.nodes)) nodes_made (nodes_filled (with_nodes_alone p []) p [] p.nodes sound.nodes_by_number sound.nodes) in
-    then (Ok first) _ (event_orders p.events) (with_nodes_alone p p.nodes) params_made (events_again p [] p.events sound.events_by_number sound.events)
+    then (Ok first) _ (event_edits p.events) (with_nodes_alone p p.nodes) params_made (events_again p [] p.events sound.events_by_number sound.events)

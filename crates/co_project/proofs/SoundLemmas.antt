@@ -6,7 +6,7 @@ use Rattle.std.proofs.lemmas.List.Elements.{All-weaker}
 use Rattle.std.proofs.lemmas.Map.Entries.{All-lookup}
 use Rattle.ini_text.specs.Content.{content_of}
 use Rattle.eds_device.specs.Faults.{device_of}
-use Rattle.co_commands.specs.Orders.{IsEds}
+use Rattle.co_commands.specs.Edits.{IsEds}
 use Rattle.co_project.specs.Tables.{name_cmp, text_at, node_at}
 use Rattle.co_project.specs.Project.{Content}
 use Rattle.co_project.specs.Sound.{AreTexts, IsNodeOf, IsSound}

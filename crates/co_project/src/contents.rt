@@ -1,7 +1,7 @@
 //! What a project holds, and what edits do to it.
 ghost use Rattle.std.specs.Prelude.{◌≡◌};
 ghost use Rattle.co_commands.specs.Accepts.{Accepts};
-ghost use Rattle.co_commands.specs.declared.order.Order.TheVariants as order;
+ghost use Rattle.co_commands.specs.declared.edit.Edit.TheVariants as edit;
 ghost use Rattle.co_project.specs.Project.{accept, first};
 
 use crate::tables::{
@@ -9,7 +9,7 @@ use crate::tables::{
     is_of_known, is_used, name_taken, put_node, put_param, put_text,
 };
 use co_base::Octets;
-use co_commands::{EditFault, Manager, Order};
+use co_commands::{EditFault, ManagerSettings, Edit};
 use co_scenario::{Script, TimedEvent};
 use std::alloc::Global;
 use std::collections::BTreeMap;
@@ -21,7 +21,7 @@ pub(crate) struct Contents {
     pub alloc: Global,
     pub bitrate: u16,
     pub horizon: u32,
-    pub manager: Manager,
+    pub manager: ManagerSettings,
     pub texts: Texts,
     pub nodes: Nodes,
     pub events: Script,
@@ -51,7 +51,7 @@ impl Contents {
             alloc,
             bitrate: 1000,
             horizon: 1_000_000,
-            manager: Manager {
+            manager: ManagerSettings {
                 id: 127,
                 sync_us: 0,
                 heartbeat_ms: 0,
@@ -65,39 +65,39 @@ impl Contents {
 
     /// Does an edit, or refuses it with the first fault that applies and changes nothing.
     #[tactic(auto, unfolding(crate::specs::Project::accept))]
-    pub fn accept(&mut self, order: Order) -> Result<(), EditFault>
-        ensures { Accepts self.old self.new result (accept self.old order) }
+    pub fn accept(&mut self, edit: Edit) -> Result<(), EditFault>
+        ensures { Accepts self.old self.new result (accept self.old edit) }
     {
-        match order {
-            Order::Bitrate(rate) => {
+        match edit {
+            Edit::Bitrate(rate) => {
                 self.bitrate = rate;
                 Ok(())
             }
-            Order::Horizon(time) => {
+            Edit::Horizon(time) => {
                 self.horizon = time;
                 Ok(())
             }
-            Order::Manager(manager) => self.manage(manager),
-            Order::Eds { name, text } => self.put_text(name, text),
-            Order::DropEds { name } => self.drop_text(name.as_slice()),
-            Order::Node { id, name, eds } => self.put_node(id, name, eds),
-            Order::DropNode { id } => self.drop_node(id),
-            Order::Param {
+            Edit::Manager(manager) => self.manage(manager),
+            Edit::Eds { name, text } => self.put_text(name, text),
+            Edit::DropEds { name } => self.drop_text(name.as_slice()),
+            Edit::Node { id, name, eds } => self.put_node(id, name, eds),
+            Edit::DropNode { id } => self.drop_node(id),
+            Edit::Param {
                 id,
                 index,
                 sub,
                 text,
             } => put_param(&mut self.nodes, id, index, sub, text),
-            Order::Unparam { id, index, sub } => drop_param(&mut self.nodes, id, index, sub),
-            Order::Event { number, event } => self.put_event(number, event),
-            Order::DropEvent { number } => self.drop_event(number),
+            Edit::Unparam { id, index, sub } => drop_param(&mut self.nodes, id, index, sub),
+            Edit::Event { number, event } => self.put_event(number, event),
+            Edit::DropEvent { number } => self.drop_event(number),
         }
     }
 
     /// Gives the manager other numbers.
     #[tactic(auto, unfolding(crate::specs::Project::accept))]
-    fn manage(&mut self, manager: Manager) -> Result<(), EditFault>
-        ensures { Accepts self.old self.new result (accept self.old (order.Manager manager)) }
+    fn manage(&mut self, manager: ManagerSettings) -> Result<(), EditFault>
+        ensures { Accepts self.old self.new result (accept self.old (edit.Manager manager)) }
     {
         if find_node(&self.nodes, manager.id).is_some() {
             return Err(EditFault::Taken);
@@ -109,7 +109,7 @@ impl Contents {
     /// Gives a name a text, in place of the one that it has.
     #[tactic(auto, unfolding(crate::specs::Project::accept))]
     fn put_text(&mut self, name: Octets, text: Octets) -> Result<(), EditFault>
-        ensures { Accepts self.old self.new result (accept self.old (order.Eds name text)) }
+        ensures { Accepts self.old self.new result (accept self.old (edit.Eds name text)) }
     {
         if has_no_room(&self.texts, name.as_slice()) {
             return Err(EditFault::Limit);
@@ -121,7 +121,7 @@ impl Contents {
     /// Takes a text away that no node uses.
     #[tactic(auto, unfolding(crate::specs::Project::accept))]
     fn drop_text(&mut self, name: &[u8]) -> Result<(), EditFault>
-        ensures { Accepts self.old self.new result (accept self.old (order.DropEds name.now)) }
+        ensures { Accepts self.old self.new result (accept self.old (edit.DropEds name.now)) }
     {
         if !has_text(&self.texts, name) {
             return Err(EditFault::Unknown);
@@ -136,7 +136,7 @@ impl Contents {
     /// Gives a number a node. A known one keeps its parameters.
     #[tactic(auto, unfolding(crate::specs::Project::accept))]
     fn put_node(&mut self, id: u8, name: Octets, eds: Octets) -> Result<(), EditFault>
-        ensures { Accepts self.old self.new result (accept self.old (order.Node id name eds)) }
+        ensures { Accepts self.old self.new result (accept self.old (edit.Node id name eds)) }
     {
         if !has_text(&self.texts, eds.as_slice()) {
             return Err(EditFault::Unknown);
@@ -151,7 +151,7 @@ impl Contents {
     /// Takes a node away that no event is of, and its parameters with it.
     #[tactic(auto, unfolding(crate::specs::Project::accept))]
     fn drop_node(&mut self, id: u8) -> Result<(), EditFault>
-        ensures { Accepts self.old self.new result (accept self.old (order.DropNode id)) }
+        ensures { Accepts self.old self.new result (accept self.old (edit.DropNode id)) }
     {
         if find_node(&self.nodes, id).is_none() {
             return Err(EditFault::Unknown);
@@ -166,7 +166,7 @@ impl Contents {
     /// Gives a number an event, in place of the one that it has.
     #[tactic(auto, unfolding(crate::specs::Project::accept))]
     fn put_event(&mut self, number: u16, event: TimedEvent) -> Result<(), EditFault>
-        ensures { Accepts self.old self.new result (accept self.old (order.Event number event)) }
+        ensures { Accepts self.old self.new result (accept self.old (edit.Event number event)) }
     {
         if !is_of_known(&self.nodes, &event.event) {
             return Err(EditFault::Unknown);
@@ -178,7 +178,7 @@ impl Contents {
     /// Takes an event away.
     #[tactic(auto, unfolding(crate::specs::Project::accept))]
     fn drop_event(&mut self, number: u16) -> Result<(), EditFault>
-        ensures { Accepts self.old self.new result (accept self.old (order.DropEvent number)) }
+        ensures { Accepts self.old self.new result (accept self.old (edit.DropEvent number)) }
     {
         if self.events.get(number).is_none() {
             return Err(EditFault::Unknown);

@@ -4,7 +4,7 @@
 ghost use Rattle.std.specs.Prelude.{◌≡◌, ◌++◌, ◌∷◌, OnOk, codes, decimal};
 ghost use Rattle.co_scenario.specs.declared.event.Event.TheVariants as event;
 ghost use Rattle.co_commands.specs.Lines.{event_words, spaced, text_of};
-ghost use Rattle.co_commands.specs.declared.order.Order.TheVariants as order;
+ghost use Rattle.co_commands.specs.declared.edit.Edit.TheVariants as edit;
 
 use crate::printing::{write_index, write_number, write_sub, write_word};
 use co_scenario::{Event, NmtCommand, TimedEvent};
@@ -87,7 +87,7 @@ pub(crate) fn write_event(
     number: u16,
     event: &TimedEvent,
 ) -> Result<(), AllocError>
-    ensures { OnOk result (out.new.items ≡ out.old.items ++ text_of (order.Event number event.now)) }
+    ensures { OnOk result (out.new.items ≡ out.old.items ++ text_of (edit.Event number event.now)) }
 {
     write_moment(out, alloc, number, event.time)?;
     write_words(out, alloc, &event.event)?;

@@ -12,7 +12,7 @@ mod project;
 mod script;
 mod tables;
 
-pub use co_commands::{Command, EditFault, Manager, Request, refusal};
+pub use co_commands::{Command, EditFault, ManagerSettings, Request, refusal};
 pub use node::Node;
 pub use co_params::Params;
 pub use project::Project;

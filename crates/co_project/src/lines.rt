@@ -3,7 +3,7 @@
 
 ghost use Rattle.std.specs.Prelude.{◌≡◌, ◌++◌, ◌∷◌, OnOk};
 ghost use Rattle.co_commands.specs.Lines.{line_count, text_of};
-ghost use Rattle.co_commands.specs.declared.order.Order.TheVariants as order;
+ghost use Rattle.co_commands.specs.declared.edit.Edit.TheVariants as edit;
 
 use crate::printing::{write_index, write_number, write_sub, write_word};
 use co_commands::Manager;
@@ -11,7 +11,7 @@ use std::alloc::{AllocError, Global};
 
 /// Writes `bitrate K`.
 pub(crate) fn write_bitrate(out: &mut Vec<u8>, alloc: Global, rate: u16) -> Result<(), AllocError>
-    ensures { OnOk result (out.new.items ≡ out.old.items ++ text_of (order.Bitrate rate)) }
+    ensures { OnOk result (out.new.items ≡ out.old.items ++ text_of (edit.Bitrate rate)) }
 {
     out.extend_from_slice(b"bitrate")?;
     write_number(out, alloc, u64::from(rate))?;
@@ -21,7 +21,7 @@ pub(crate) fn write_bitrate(out: &mut Vec<u8>, alloc: Global, rate: u16) -> Resu
 
 /// Writes `horizon US`.
 pub(crate) fn write_horizon(out: &mut Vec<u8>, alloc: Global, time: u32) -> Result<(), AllocError>
-    ensures { OnOk result (out.new.items ≡ out.old.items ++ text_of (order.Horizon time)) }
+    ensures { OnOk result (out.new.items ≡ out.old.items ++ text_of (edit.Horizon time)) }
 {
     out.extend_from_slice(b"horizon")?;
     write_number(out, alloc, u64::from(time))?;
@@ -33,9 +33,9 @@ pub(crate) fn write_horizon(out: &mut Vec<u8>, alloc: Global, time: u32) -> Resu
 pub(crate) fn write_manager(
     out: &mut Vec<u8>,
     alloc: Global,
-    manager: Manager,
+    manager: ManagerSettings,
 ) -> Result<(), AllocError>
-    ensures { OnOk result (out.new.items ≡ out.old.items ++ text_of (order.Manager manager)) }
+    ensures { OnOk result (out.new.items ≡ out.old.items ++ text_of (edit.Manager manager)) }
 {
     out.extend_from_slice(b"manager")?;
     write_number(out, alloc, u64::from(manager.id))?;
@@ -60,7 +60,7 @@ pub(crate) fn write_eds(
     name: &[u8],
     text: &[u8],
 ) -> Result<(), AllocError>
-    ensures { OnOk result (out.new.items ≡ out.old.items ++ text_of (order.Eds name.now text.now)) }
+    ensures { OnOk result (out.new.items ≡ out.old.items ++ text_of (edit.Eds name.now text.now)) }
 {
     out.extend_from_slice(b"eds")?;
     write_word(out, name)?;
@@ -78,7 +78,7 @@ pub(crate) fn write_node(
     name: &[u8],
     eds: &[u8],
 ) -> Result<(), AllocError>
-    ensures { OnOk result (out.new.items ≡ out.old.items ++ text_of (order.Node id name.now eds.now)) }
+    ensures { OnOk result (out.new.items ≡ out.old.items ++ text_of (edit.Node id name.now eds.now)) }
 {
     out.extend_from_slice(b"node")?;
     write_number(out, alloc, u64::from(id))?;
@@ -97,7 +97,7 @@ pub(crate) fn write_param(
     sub: u8,
     text: &[u8],
 ) -> Result<(), AllocError>
-    ensures { OnOk result (out.new.items ≡ out.old.items ++ text_of (order.Param id index sub text.now)) }
+    ensures { OnOk result (out.new.items ≡ out.old.items ++ text_of (edit.Param id index sub text.now)) }
 {
     out.extend_from_slice(b"param")?;
     write_number(out, alloc, u64::from(id))?;

@@ -14,7 +14,7 @@ use crate::script::script_text;
 use crate::tables::{find_node, find_text};
 use co_base::Octets;
 use co_commands::laws::eds_are_devices;
-use co_commands::{Command, EditFault, Manager};
+use co_commands::{Command, EditFault, ManagerSettings};
 use co_scenario::Script;
 use std::alloc::{AllocError, Global};
 use std::collections::btree_map::Iter;
@@ -61,7 +61,7 @@ impl Project {
     pub fn accept(&mut self, command: Command) -> Result<(), EditFault>
         ensures { Accepts self.old self.new result (accept self.old command) }
     {
-        self.contents.accept(command.into_order())
+        self.contents.accept(command.into_edit())
     }
 
     /// The bit rate in kbit/s.
@@ -79,7 +79,7 @@ impl Project {
     }
 
     /// The manager.
-    pub fn manager(&self) -> Manager
+    pub fn manager(&self) -> ManagerSettings
         ensures { result ≡ self.now.manager }
     {
         self.contents.manager

@@ -2,7 +2,7 @@
 ghost use Rattle.std.specs.Prelude.{◌≡◌, ◌++◌, IfOk, OnOk, map};
 ghost use Rattle.std.specs.List.{flat_map};
 ghost use Rattle.co_commands.specs.Lines.{text_of};
-ghost use Rattle.co_project.specs.Script.{event_orders, node_order, param_order, param_orders, script, text_orders};
+ghost use Rattle.co_project.specs.Script.{event_edits, node_edit, param_edit, param_edits, script, text_edits};
 ghost use Rattle.co_project.specs.Tables.{texts_of};
 
 use crate::contents::Contents;
@@ -18,7 +18,7 @@ use std::alloc::{AllocError, Global};
 /// Writes the commands that make the texts, by name.
 fn write_texts(out: &mut Vec<u8>, alloc: Global, texts: &Texts) -> Result<(), AllocError>
     ensures { OnOk result (out.new.items ≡ out.old.items
-        ++ flat_map text_of (text_orders (texts_of texts.now.entries))) }
+        ++ flat_map text_of (text_edits (texts_of texts.now.entries))) }
 {
     for (name, text) in texts {
         write_eds(out, alloc, name, text.as_slice())?;
@@ -28,7 +28,7 @@ fn write_texts(out: &mut Vec<u8>, alloc: Global, texts: &Texts) -> Result<(), Al
 
 /// Writes the commands that make the nodes without parameters, by number.
 fn write_nodes(out: &mut Vec<u8>, alloc: Global, nodes: &Nodes) -> Result<(), AllocError>
-    ensures { OnOk result (out.new.items ≡ out.old.items ++ flat_map text_of (map node_order nodes.now.entries)) }
+    ensures { OnOk result (out.new.items ≡ out.old.items ++ flat_map text_of (map node_edit nodes.now.entries)) }
 {
     for (id, node) in nodes {
         write_node(out, alloc, *id, node.name.as_slice(), node.eds.as_slice())?;
@@ -38,7 +38,7 @@ fn write_nodes(out: &mut Vec<u8>, alloc: Global, nodes: &Nodes) -> Result<(), Al
 
 /// Writes the commands that make the parameters of a node, by entry.
 fn write_params(out: &mut Vec<u8>, alloc: Global, id: u8, params: &Params) -> Result<(), AllocError>
-    ensures { OnOk result (out.new.items ≡ out.old.items ++ flat_map text_of (map (param_order id) params.now)) }
+    ensures { OnOk result (out.new.items ≡ out.old.items ++ flat_map text_of (map (param_edit id) params.now)) }
 {
     for ((index, sub), text) in params.iter() {
         write_param(out, alloc, id, *index, *sub, text.as_slice())?;
@@ -49,7 +49,7 @@ fn write_params(out: &mut Vec<u8>, alloc: Global, id: u8, params: &Params) -> Re
 /// Writes the commands that make the parameters of all nodes, by number and entry.
 fn write_all_params(out: &mut Vec<u8>, alloc: Global, nodes: &Nodes) -> Result<(), AllocError>
     ensures { OnOk result (out.new.items ≡ out.old.items
-        ++ flat_map text_of (flat_map param_orders nodes.now.entries)) }
+        ++ flat_map text_of (flat_map param_edits nodes.now.entries)) }
 {
     for (id, node) in nodes {
         write_params(out, alloc, *id, &node.params)?;
@@ -59,7 +59,7 @@ fn write_all_params(out: &mut Vec<u8>, alloc: Global, nodes: &Nodes) -> Result<(
 
 /// Writes the commands that make the events, by number.
 fn write_events(out: &mut Vec<u8>, alloc: Global, events: &Script) -> Result<(), AllocError>
-    ensures { OnOk result (out.new.items ≡ out.old.items ++ flat_map text_of (event_orders events.now)) }
+    ensures { OnOk result (out.new.items ≡ out.old.items ++ flat_map text_of (event_edits events.now)) }
 {
     for (number, event) in events.iter() {
         write_event(out, alloc, *number, event)?;

@@ -3,13 +3,13 @@ use Rattle.std.proofs.Common.{◌≡◌, ◌≢◌, ℕ, zero, suc, true, false,
 use Rattle.std.specs.Prelude.{if◌then◌else◌, ◌-◌}
 use Rattle.ini_text.specs.Text.{trim_end, is_cr}
 use Rattle.co_commands.specs.declared.fault.EditFault.{EditFault}
-use Rattle.co_commands.specs.declared.order.Order.{Order}
+use Rattle.co_commands.specs.declared.edit.Edit.{Edit}
 use Rattle.co_commands.specs.declared.request.Request.{Request}
-use Rattle.co_commands.specs.declared.request.Request.TheVariants.{Edit, Dcf, Cdcf, Project, Block}
+use Rattle.co_commands.specs.declared.request.Request.TheVariants.{Edit as EditAsked, Dcf, Cdcf, Project, Block}
 use Rattle.co_commands.specs.Requests.{request}
 use Rattle.co_project.specs.Project.{Content, accept}
 use Rattle.workbench.specs.Queries.{dcf_reply, cdcf_reply}
-use Rattle.workbench.specs.Replies.{Pending, Place, Progress, accepted, silent, edited, ordered, queried, block_order, in_block, asked, is_skipped, taken, after_line}
+use Rattle.workbench.specs.Replies.{Pending, Place, Progress, accepted, silent, edited, after_edit, queried, block_edit, in_block, asked, is_skipped, taken, after_line}
 
 abbrev Keeps : Content → Progress → Type 0
 Keeps p progress = progress.replies ≢ accepted ∷ [] → progress.place.project ≡ p
@@ -18,20 +18,20 @@ keeps-edited : (p : Content) (r : Result Content EditFault) → Keeps p (edited 
 keeps-edited p (Ok q) h = absurd (h refl)
 keeps-edited p (Err fault) h = refl
 
-keeps-ordered : (p : Content) (r : Result Order EditFault) → Keeps p (ordered p r)
-keeps-ordered p (Ok order) = keeps-edited p (accept p order)
-keeps-ordered p (Err fault) = λ _. refl
+keeps-after_edit : (p : Content) (r : Result Edit EditFault) → Keeps p (after_edit p r)
+keeps-after_edit p (Ok edit) = keeps-edited p (accept p edit)
+keeps-after_edit p (Err fault) = λ _. refl
 
 keeps-queried : (p : Content) (r : Result (List ℕ) EditFault) → Keeps p (queried p r)
 keeps-queried p (Ok text) h = refl
 keeps-queried p (Err fault) h = refl
 
 keeps-in_block : (p : Content) (name : Option (List ℕ)) (n : ℕ) (lines : List (List ℕ)) → Keeps p (in_block p name n lines)
-keeps-in_block p name zero lines = keeps-ordered p (block_order name lines)
+keeps-in_block p name zero lines = keeps-after_edit p (block_edit name lines)
 keeps-in_block p name (suc n) lines = λ _. refl
 
 keeps-asked : (p : Content) (r : Result Request EditFault) → Keeps p (asked p r)
-keeps-asked p (Ok (Edit order)) = keeps-edited p (accept p order)
+keeps-asked p (Ok (EditAsked edit)) = keeps-edited p (accept p edit)
 keeps-asked p (Ok (Dcf id)) = keeps-queried p (dcf_reply p id)
 keeps-asked p (Ok (Cdcf id)) = keeps-queried p (cdcf_reply p id)
 keeps-asked p (Ok Project) = λ _. refl

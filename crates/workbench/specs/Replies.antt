@@ -5,11 +5,11 @@ use Rattle.ini_text.specs.Text.{lines_of, trim_end, is_cr}
 use Rattle.co_commands.specs.declared.fault.EditFault.{EditFault}
 use Rattle.co_commands.specs.declared.fault.EditFault.TheVariants.{Syntax, Truncated}
 use Rattle.co_commands.specs.Faults.{refusal_text}
-use Rattle.co_commands.specs.declared.order.Order.{Order}
+use Rattle.co_commands.specs.declared.edit.Edit.{Edit}
 use Rattle.co_commands.specs.declared.request.Request.{Request}
-use Rattle.co_commands.specs.declared.request.Request.TheVariants.{Edit, Dcf, Cdcf, Project, Block}
+use Rattle.co_commands.specs.declared.request.Request.TheVariants.{Edit as EditAsked, Dcf, Cdcf, Project, Block}
 use Rattle.co_commands.specs.Requests.{request}
-use Rattle.co_commands.specs.Eds.{eds_order}
+use Rattle.co_commands.specs.Eds.{eds_edit}
 use Rattle.co_project.specs.Project.{Content, first, accept}
 use Rattle.workbench.specs.Queries.{dcf_reply, cdcf_reply, project_reply}
 
@@ -48,26 +48,26 @@ abbrev pub edited : Content → Result Content EditFault → Progress
 edited p (Ok q) = replied q accepted
 edited p (Err fault) = replied p (refusal_text fault)
 
-abbrev pub ordered : Content → Result Order EditFault → Progress
-ordered p (Ok order) = edited p (accept p order)
-ordered p (Err fault) = replied p (refusal_text fault)
+abbrev pub after_edit : Content → Result Edit EditFault → Progress
+after_edit p (Ok edit) = edited p (accept p edit)
+after_edit p (Err fault) = replied p (refusal_text fault)
 
 abbrev pub queried : Content → Result (List ℕ) EditFault → Progress
 queried p (Ok text) = replied p text
 queried p (Err fault) = replied p (refusal_text fault)
 
 -- the edit of an `eds` line and its block
-abbrev pub block_order : Option (List ℕ) → List (List ℕ) → Result Order EditFault
-block_order None lines = Err Syntax
-block_order (Some name) lines = eds_order name lines
+abbrev pub block_edit : Option (List ℕ) → List (List ℕ) → Result Edit EditFault
+block_edit None lines = Err Syntax
+block_edit (Some name) lines = eds_edit name lines
 
 -- an `eds` command with some lines of its block, and the number of those to come
 abbrev pub in_block : Content → Option (List ℕ) → ℕ → List (List ℕ) → Progress
-in_block p name zero lines = ordered p (block_order name lines)
+in_block p name zero lines = after_edit p (block_edit name lines)
 in_block p name (suc n) lines = silent (record { project = p; block = Some (record { name = name; left = suc n; lines = lines }) })
 
 abbrev pub asked : Content → Result Request EditFault → Progress
-asked p (Ok (Edit order)) = edited p (accept p order)
+asked p (Ok (EditAsked edit)) = edited p (accept p edit)
 asked p (Ok (Dcf id)) = queried p (dcf_reply p id)
 asked p (Ok (Cdcf id)) = queried p (cdcf_reply p id)
 asked p (Ok Project) = replied p (project_reply p)

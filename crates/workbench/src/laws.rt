@@ -3,7 +3,7 @@ ghost use Rattle.std.specs.Prelude.{◌≡◌, ◌≢◌, ◌<◌, ◌≤◌, �
 ghost use Rattle.std.specs.List.{count_by};
 ghost use Rattle.ini_text.specs.Text.{lines_of};
 ghost use Rattle.co_project.specs.Project.{Content};
-ghost use Rattle.co_project.specs.Script.{orders, script};
+ghost use Rattle.co_project.specs.Script.{edits, script};
 ghost use Rattle.co_project.specs.Sound.{IsSound};
 ghost use Rattle.workbench.specs.Hex.{hex_line, hex_text, row_count};
 ghost use Rattle.workbench.specs.Lines.{AreLines, has_break, with_breaks, if_some};
@@ -50,7 +50,7 @@ pub fn last_row()
 /// The script of a project, as an input, has `ok` alone for replies, one for each edit, and makes the
 /// equal project. A session takes it where it is at most 64 MiB.
 pub fn script_is_fed_again()
-    ensures replies { (p : Content) → IsSound p → replies (script p) ≡ map (λ _. accepted) (orders p) }
+    ensures replies { (p : Content) → IsSound p → replies (script p) ≡ map (λ _. accepted) (edits p) }
     ensures project { (p : Content) → IsSound p
         → (after_lines start (lines_of (script p))).place ≡ record { project = p; block = None } }
 {

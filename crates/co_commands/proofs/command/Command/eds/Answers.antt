@@ -5,7 +5,7 @@ use Rattle.std.specs.Bool.{OnFalse}
 use Rattle.co_commands.specs.Faults.{is_memory}
 use Rattle.co_commands.specs.Words.{is_name}
 use Rattle.co_commands.specs.Eds.{lines_of, text_of, has_bad_line, checked}
-use Rattle.co_commands.specs.Orders.{IsOrder}
+use Rattle.co_commands.specs.Edits.{IsEdit}
 use Rattle.co_commands.proofs.EdsLemmas.{refused_so}
 use Rattle.co_commands.proofs.KeptLemmas.{accepted_again}
 use Rattle.co_commands.proofs.command.Command.eds.Goals as goal
@@ -21,7 +21,7 @@ returns-in_err-check c =
     rw (p.1, p.2) (refused_so c.args.name.now lines c.in_err-check.field-0.0 named few refused)
 
 pub new-requires : goal.new-requires
-unfolding IsOrder
+unfolding IsEdit
 new-requires c =
     let lines : List (List ℕ) = lines_of c.args.lines.now in
     let named : is_name c.args.name.now ≡ true = grind (arith, common_steps) in

@@ -1,18 +1,18 @@
 //! What an edit does.
 
-use crate::manager::Manager;
+use crate::manager_settings::ManagerSettings;
 use co_base::Octets;
 use co_scenario::TimedEvent;
 
 /// What an edit does to a project.
 #[derive(Debug, Drop)]
-pub enum Order {
+pub enum Edit {
     /// The network's bit rate is another one, in kbit/s.
     Bitrate(u16),
     /// The simulation ends at another time, in microseconds from power-on.
     Horizon(u32),
     /// The manager (CiA 302) has other numbers.
-    Manager(Manager),
+    Manager(ManagerSettings),
     /// A name gets the text of an EDS (CiA 306).
     Eds {
         /// The name of the EDS.

@@ -2,7 +2,7 @@
 
 /// The manager (CiA 302): its node number, and the times that it works by.
 #[derive(Clone, Copy, Debug, PartialEq, Eq)]
-pub struct Manager {
+pub struct ManagerSettings {
     /// Its node number, 1 to 127.
     pub id: u8,
     /// The time between two SYNC messages in microseconds; 0 for none.

@@ -3,11 +3,11 @@ use Rattle.std.specs.Prelude.{◌≡◌, ℕ, List, true, Ok}
 use Rattle.ini_text.specs.Text.{lines_of}
 use Rattle.co_scenario.specs.declared.event.Event.{Event}
 use Rattle.co_scenario.specs.declared.event.Event.TheVariants as event
-use Rattle.co_commands.specs.declared.order.Order.{Order}
-use Rattle.co_commands.specs.declared.order.Order.TheVariants as order
-use Rattle.co_commands.specs.declared.manager.Manager.{Manager}
+use Rattle.co_commands.specs.declared.edit.Edit.{Edit}
+use Rattle.co_commands.specs.declared.edit.Edit.TheVariants as edit
+use Rattle.co_commands.specs.declared.manager_settings.ManagerSettings.{ManagerSettings}
 use Rattle.co_commands.specs.Words.{is_name, is_text, is_between, is_node_number, is_node_or_all, is_own_index, is_bit_rate, is_time, is_sync_period, is_event_number}
-use Rattle.co_commands.specs.Eds.{eds_order}
+use Rattle.co_commands.specs.Eds.{eds_edit}
 
 -- an index of an object dictionary (CiA 301), and one of its sub-indices
 abbrev pub AreIndices : ℕ → ℕ → Type 0
@@ -15,9 +15,9 @@ AreIndices index sub = (is_between 0 65535 index ≡ true) × (is_between 0 255 
 
 -- the text of an EDS under its name: the edit of its own lines is it again
 unfoldable pub IsEds : List ℕ → List ℕ → Type 0
-IsEds name text = eds_order name (lines_of text) ≡ Ok (order.Eds name text)
+IsEds name text = eds_edit name (lines_of text) ≡ Ok (edit.Eds name text)
 
-unfoldable pub IsManager : Manager → Type 0
+unfoldable pub IsManager : ManagerSettings → Type 0
 IsManager m =
     (is_node_number m.id ≡ true) × (is_sync_period m.sync_us ≡ true) × (is_between 0 65535 m.heartbeat_ms ≡ true) × (is_between 1 65535 m.timeout_ms ≡ true)
 
@@ -31,15 +31,15 @@ IsEvent (event.Power node on) = is_node_number node ≡ true
 IsEvent (event.Nmt node command) = is_node_or_all node ≡ true
 
 -- EVERY EDIT: its names and texts are of their forms, its numbers within their limits, its EDS is one
-unfoldable pub IsOrder : Order → Type 0
-IsOrder (order.Bitrate rate) = is_bit_rate rate ≡ true
-IsOrder (order.Horizon time) = is_time time ≡ true
-IsOrder (order.Manager m) = IsManager m
-IsOrder (order.Eds name text) = IsEds name text
-IsOrder (order.DropEds name) = is_name name ≡ true
-IsOrder (order.Node id name eds) = (is_node_number id ≡ true) × (is_name name ≡ true) × (is_name eds ≡ true)
-IsOrder (order.DropNode id) = is_node_number id ≡ true
-IsOrder (order.Param id index sub text) = (is_node_number id ≡ true) × IsSetting index sub text
-IsOrder (order.Unparam id index sub) = (is_node_number id ≡ true) × AreIndices index sub
-IsOrder (order.Event number e) = (is_event_number number ≡ true) × (is_time e.time ≡ true) × IsEvent e.event
-IsOrder (order.DropEvent number) = is_event_number number ≡ true
+unfoldable pub IsEdit : Edit → Type 0
+IsEdit (edit.Bitrate rate) = is_bit_rate rate ≡ true
+IsEdit (edit.Horizon time) = is_time time ≡ true
+IsEdit (edit.Manager m) = IsManager m
+IsEdit (edit.Eds name text) = IsEds name text
+IsEdit (edit.DropEds name) = is_name name ≡ true
+IsEdit (edit.Node id name eds) = (is_node_number id ≡ true) × (is_name name ≡ true) × (is_name eds ≡ true)
+IsEdit (edit.DropNode id) = is_node_number id ≡ true
+IsEdit (edit.Param id index sub text) = (is_node_number id ≡ true) × IsSetting index sub text
+IsEdit (edit.Unparam id index sub) = (is_node_number id ≡ true) × AreIndices index sub
+IsEdit (edit.Event number e) = (is_event_number number ≡ true) × (is_time e.time ≡ true) × IsEvent e.event
+IsEdit (edit.DropEvent number) = is_event_number number ≡ true
