@@ -1,5 +1,5 @@
 -- Bad bytes of lines and of their text, and the first fault of an EDS.
-use Rattle.std.proofs.Common.{◌≡◌, ℕ, zero, suc, Bool, true, false, ◌||◌, ◌&&◌, not, ◌==◌, ◌-◌, List, [], ◌∷◌, take, length, refl, Err, Ok, nat_lt}
+use Rattle.std.proofs.Common.{Result, ◌≡◌, ℕ, zero, suc, Bool, true, false, ◌||◌, ◌&&◌, not, ◌==◌, ◌-◌, List, [], ◌∷◌, take, length, refl, Err, Ok, nat_lt}
 use Rattle.std.specs.List.{list_any, suffix_len}
 use Rattle.std.proofs.lemmas.List.Folds.{list_any-append}
 use Rattle.std.specs.Bool.{OnFalse}

@@ -6,7 +6,7 @@ ghost use Rattle.co_commands.specs.Lines.{line_count, text_of};
 ghost use Rattle.co_commands.specs.declared.edit.Edit.TheVariants as edit;
 
 use crate::printing::{write_index, write_number, write_sub, write_word};
-use co_commands::Manager;
+use co_commands::ManagerSettings;
 use std::alloc::{AllocError, Global};
 
 /// Writes `bitrate K`.

@@ -18,5 +18,5 @@ returns-else-not-contains c =
     let entry : ℕ × ℕ = (c.args.index, c.args.sub) in
     let found : node_at c.args.nodes.now.entries c.args.id ≡ Some c.in-Some.node.now = sym c.in-Some.ensures.value in
     let there : is_some (param_at c.in-Some.node.now.params entry) ≡ true = sym c.contains.ensures ∙ c.if-not-contains.false in
-    param_dropped c.args.nodes.now.entries c.args.id entry c.in-Some.node.now found there c.in-Some.ensures.after_edit c.remove.new.self c.remove.ensures
+    param_dropped c.args.nodes.now.entries c.args.id entry c.in-Some.node.now found there c.in-Some.ensures.ordered c.remove.new.self c.remove.ensures
     ∙ ap Ok (sym (c.get_mut.follows.holds (with_params c.in-Some.node.now c.remove.new.self)).0)

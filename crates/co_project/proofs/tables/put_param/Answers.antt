@@ -26,5 +26,5 @@ returns-in_ok-put-in-Some c =
     let entry : ℕ × ℕ = (c.args.index, c.args.sub) in
     let found : node_at c.args.nodes.now.entries c.args.id ≡ Some c.in-Some.node.now = sym c.in-Some.ensures.value in
     let room : is_full_for c.in-Some.node.now.params entry ≡ false = sym c.is_full_for.ensures ∙ c.if-is_full_for.false in
-    param_put c.args.nodes.now.entries c.args.id entry c.args.text c.in-Some.node.now found room c.in-Some.ensures.after_edit c.put.new.self c.in_ok-put-in-Some.ensures.ok
+    param_put c.args.nodes.now.entries c.args.id entry c.args.text c.in-Some.node.now found room c.in-Some.ensures.ordered c.put.new.self c.in_ok-put-in-Some.ensures.ok
     ∙ ap Ok (sym (c.get_mut.follows.holds (with_params c.in-Some.node.now c.put.new.self)).0)
