@@ -1,6 +1,5 @@
 //! The compact objects of a device, and the values that are set of them.
-ghost use Rattle.std.specs.Prelude.{◌≡◌, ◌<◌, ◌++◌, ℕ, true, IfOk, IfSome, OnOk, option_map};
-ghost use Rattle.std.specs.Fmt.{digit_glyph};
+ghost use Rattle.std.specs.Prelude.{◌≡◌, ◌++◌, ℕ, IfOk, IfSome, OnOk, option_map};
 ghost use Rattle.std.specs.FinMap.{get};
 ghost use Rattle.std.specs.List.{flat_map};
 ghost use Rattle.std.specs.Option.{option_to_list};
@@ -16,7 +15,8 @@ use crate::printing::{put_line, put_name, put_pairs, put_settings};
 use crate::setting::Setting;
 use crate::values::{NR_OF_ENTRIES, put_values};
 use co_dict::Dict;
-use eds_device::{Device, Section, Origin, compact_count, kind_of};
+use co_text::index_digits;
+use eds_device::{Device, Origin, Section, compact_count, kind_of};
 use std::alloc::{AllocError, Global};
 
 /// A compact object's section, and its highest sub-index.
@@ -89,29 +89,11 @@ fn values_set(
     Ok(set)
 }
 
-/// The upper-case digit of a number below 16.
-fn upper_digit(number: u16) -> u8
-    requires { number < 16 }
-    ensures { result ≡ digit_glyph true number }
-{
-    if number < 10 {
-        b'0' + number as u8
-    } else {
-        b'A' - 10 + number as u8
-    }
-}
-
 /// The name of a section of values that is made.
 fn values_name(alloc: Global, index: u16) -> Result<Vec<u8>, AllocError>
     ensures { IfOk result (λ name. name.items ≡ name_of_values index) }
 {
-    let digits = [
-        upper_digit(index / 4096),
-        upper_digit(index / 256 % 16),
-        upper_digit(index / 16 % 16),
-        upper_digit(index % 16),
-    ];
-    let mut name = Vec::from_slice(alloc, &digits)?;
+    let mut name = Vec::from_slice(alloc, &index_digits(index))?;
     name.extend_from_slice(b"Value")?;
     Ok(name)
 }

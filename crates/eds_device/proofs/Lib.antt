@@ -1,6 +1,5 @@
 pub mod AddingLemmas
 pub mod ConverseLemmas
-pub mod DigitLemmas
 pub mod IndexLemmas
 pub mod LawLemmas
 pub mod LengthLemmas

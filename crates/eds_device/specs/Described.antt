@@ -5,7 +5,7 @@ use Rattle.std.specs.Option.{option_map_or, unwrap_or}
 use Rattle.ini_text.specs.Content.{Section, Pair, same, value_at}
 use Rattle.co_values.specs.declared.data_type.DataType.{DataType}
 use Rattle.co_values.specs.declared.data_type.DataType.TheVariants.{Unsigned8, NotModelled}
-use Rattle.co_values.specs.Number.{digits_number}
+use Rattle.co_text.specs.Digits.{digits_number}
 use Rattle.co_dict.specs.declared.access.Access.{Access}
 use Rattle.co_dict.specs.declared.access.Access.TheVariants.{ReadOnly, WriteOnly, ReadWrite, ReadWriteOnInput, ReadWriteOnOutput, Constant}
 use Rattle.eds_device.specs.Sections.{number_at, kind_of}
