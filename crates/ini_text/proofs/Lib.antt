@@ -5,6 +5,7 @@ pub mod ContentLemmas
 pub mod StateLemmas
 pub mod TableLemmas
 pub mod ChangeLemmas
+pub mod PairLemmas
 pub mod LawLemmas
 pub mod FirstLemmas
 pub mod OrderLemmas

@@ -40,13 +40,6 @@ nothing_at (s ∷ ss) zero key value h = cc
 nothing_at (s ∷ ss) (suc i) key value h = ap (λ xs. s ∷ xs) (nothing_at ss i key value h)
 
 module _ (q k : List ℕ) (is_folded : k ≡ folded q) where
-  -- what a table of pairs has at a folded key
-  pub value_found : (es : List (Vec ℕ × Pair)) → AreFolded (λ p. p.key) es → value_at (values_of es) q ≡ option_map (λ p. p.value) (lookup (λ v. bytes_eq k v.items) es)
-  value_found [] h = refl
-  value_found (e ∷ es) h =
-      let t : bytes_eq k e.0.items ≡ same q e.1.key = rw (is_folded, h.0) refl in
-      rw t (elim (same q e.1.key) as (λ t. cond t (Some e.1.value) (value_at (values_of es) q) ≡ option_map (λ p. p.value) (cond t (Some e.1) (lookup (λ v. bytes_eq k v.items) es))) [ true ↦ refl | false ↦ value_found es h.1 ])
-
   -- what a table of sections has at a folded name
   pub content_found : (es : List (Vec ℕ × Section)) (key : List ℕ) → AreFolded (λ s. s.name) es → content_at (values_of es) q key ≡ option_and_then (λ s. value_at s.pairs key) (lookup (λ v. bytes_eq k v.items) es)
   content_found [] key h = refl

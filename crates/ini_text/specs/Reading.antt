@@ -12,8 +12,8 @@ abbrev pub has_name : List Section → List ℕ → Bool
 has_name ss name = list_any (λ s. same name s.name) ss
 
 -- where the section of this name stands, or would
-abbrev pub place_of : List Section → List ℕ → ℕ
-place_of ss name = position_or_len (λ s. same name s.name) ss
+abbrev pub position_of : List Section → List ℕ → ℕ
+position_of ss name = position_or_len (λ s. same name s.name) ss
 
 -- with the pair last, unless the key is there
 abbrev pub with_pair : Section → List ℕ → List ℕ → Section
@@ -23,17 +23,17 @@ with_pair s key value = if has_key s.pairs key then s else record { name = s.nam
 abbrev pub with_name : List Section → List ℕ → List Section
 with_name ss name = if has_name ss name then ss else ss ++ record { name = name; pairs = [] } ∷ []
 
--- with the pair in the section at the place
+-- with the pair in the section at the position
 abbrev pub with_pair_at : List Section → ℕ → List ℕ → List ℕ → List Section
 with_pair_at [] i key value = []
 with_pair_at (s ∷ ss) zero key value = with_pair s key value ∷ ss
 with_pair_at (s ∷ ss) (suc i) key value = s ∷ with_pair_at ss i key value
 
--- the section at the place has the key
+-- the section at the position has the key
 abbrev pub has_key_at : List Section → ℕ → List ℕ → Bool
 has_key_at ss i key = option_map_or (λ s. has_key s.pairs key) (slice_get ss i) false
 
--- the content so far, the place of the section that the next pair goes to, and the number of lines
+-- the content so far, the position of the section that the next pair goes to, and the number of lines
 pub record State : Type 0 where
   pub content : Content
   pub current : Option ℕ
@@ -51,7 +51,7 @@ sections_after ss o other = ss
 
 abbrev pub current_after : List Section → Option ℕ → Line → Option ℕ
 current_after ss o nothing = o
-current_after ss o (header n) = Some (place_of ss n)
+current_after ss o (header n) = Some (position_of ss n)
 current_after ss o (pair k v) = o
 current_after ss o other = o
 
