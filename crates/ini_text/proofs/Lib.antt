@@ -1,3 +1,4 @@
+pub mod FoundLemmas
 pub mod TextLemmas
 pub mod KeyedLemmas
 pub mod NameLemmas
