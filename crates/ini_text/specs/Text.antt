@@ -5,13 +5,15 @@ use Rattle.std.specs.List.{prefix_len, suffix_len, position_or_len, before_first
 use Rattle.std.specs.Bool.{nat_eq}
 use Rattle.std.specs.Str.{byte}
 
--- the bytes of blanks and line ends: a tab, an LF and a CR
+-- a tab
 abbrev pub tab : ℕ
 tab = 9
 
+-- a line feed, which ends a line
 abbrev pub lf : ℕ
 lf = 10
 
+-- a carriage return
 abbrev pub cr : ℕ
 cr = 13
 

@@ -7,7 +7,6 @@ ghost use Rattle.std.specs.Str.{bytes_eq};
 ghost use Rattle.ini_text.specs.Content.{folded, same};
 ghost use Rattle.ini_text.specs.Keyed.{name_writes, fed_alike};
 
-
 use crate::pair::Pair;
 use indexmap::Equivalent;
 use std::alloc::{AllocError, Global};

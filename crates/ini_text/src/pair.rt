@@ -6,7 +6,6 @@ ghost use Rattle.ini_text.specs.Content.{folded, same_key};
 ghost use Rattle.ini_text.specs.Change.{pair_text};
 ghost use Rattle.ini_text.specs.Keyed.{name_writes, fed_alike};
 
-
 use crate::name::{hash_name, same};
 use std::alloc::{AllocError, Global};
 use std::hash::{Hash, Hasher};
