@@ -2,10 +2,10 @@
 use Rattle.std.proofs.Common.{◌≡◌, ℕ, zero, suc, Bool, true, false, cond, List, [], ◌∷◌, ◌++◌, None, Some, Result, Ok, Err, OnOk, OnErr, slice_get, refl, ap, ◌∙◌, sym}
 use Rattle.std.specs.Global.{Vec}
 use Rattle.std.specs.Map.{lookup, set_value, values_of}
-use Rattle.std.specs.Option.{option_map, option_and_then}
+use Rattle.std.specs.Option.{option_and_then}
 use Rattle.std.specs.Str.{bytes_eq}
 use Rattle.indexmap.specs.IndexMap.{set_value_at}
-use Rattle.ini_text.specs.Content.{Pair, Section, folded, same, value_at, content_at}
+use Rattle.ini_text.specs.Content.{Section, folded, same, value_at, content_at}
 use Rattle.ini_text.specs.Keyed.{AreFolded}
 use Rattle.ini_text.specs.Reading.{has_key, with_pair, with_pair_at}
 use Rattle.ini_text.specs.Change.{put_in_section}

@@ -1,5 +1,4 @@
 use Rattle.std.proofs.Common.{◌≡◌, ◌∙◌, sym, ap}
-use Rattle.ini_text.specs.Content.{Pair, Section}
 use Rattle.ini_text.proofs.PairLemmas.{put_there, put_new}
 use Rattle.ini_text.proofs.section.Section.set.Goals as goal
 use Rattle.ini_text.proofs.section.Section.set.Goals.{in-Some, in-None}
