@@ -1,3 +1,4 @@
+pub mod FoundLemmas
 pub mod TextLemmas
 pub mod KeyedLemmas
 pub mod NameLemmas
@@ -5,6 +6,7 @@ pub mod ContentLemmas
 pub mod StateLemmas
 pub mod TableLemmas
 pub mod ChangeLemmas
+pub mod PairLemmas
 pub mod LawLemmas
 pub mod FirstLemmas
 pub mod OrderLemmas

@@ -5,6 +5,8 @@ ghost use Rattle.std.specs.Bool.{IsFalse};
 ghost use Rattle.std.specs.Option.{option_map};
 ghost use Rattle.ini_text.specs.Text.{is_blank, is_cr, trim_start, trim_end, trimmed, split_once, lines_of, without_mark, is_long_line, is_out_of_range, is_bad_byte, has_bad_byte};
 
+use memchr::memchr;
+
 const MAX_LINE: usize = 4096;
 
 const MAX_TEXT: usize = 1_048_576;
@@ -53,10 +55,11 @@ fn without_crs(bytes: &[u8]) -> &[u8]
     &bytes[..end]
 }
 
+#[tactic(auto, using(crate::proofs::FoundLemmas::first_is_position))]
 fn position_of(bytes: &[u8], byte: u8) -> Option<usize>
     ensures { result ≡ position (λ b. b == byte) bytes.now }
 {
-    bytes.iter().position(|b| *b == byte)
+    memchr(byte, bytes)
 }
 
 /// What stands before the first `byte`, and what stands after it.
@@ -94,10 +97,21 @@ pub(crate) fn without_mark(text: &[u8]) -> &[u8]
     }
 }
 
+fn is_bad_byte(byte: u8) -> bool
+    ensures { result ≡ is_bad_byte byte }
+{
+    byte < 0x20 && !(byte == b'\t' || byte == b'\n' || byte == b'\r')
+}
+
+/// Looks at each byte of the text, also after a bad one, so that many are taken at a time.
 pub(crate) fn has_bad_byte(text: &[u8]) -> bool
     ensures { result ≡ has_bad_byte text.now }
 {
-    text.iter().any(|b| *b < 32 && !(*b == b'\t' || *b == b'\n' || *b == b'\r'))
+    let mut has_bad = false;
+    for byte in text {
+        has_bad |= is_bad_byte(*byte);
+    }
+    has_bad
 }
 
 fn is_long_line(line: &[u8]) -> bool
