@@ -7,5 +7,6 @@ pub mod LengthLemmas
 pub mod ListedLemmas
 pub mod MapLemmas
 pub mod NameLemmas
+pub mod OnceLemmas
 pub mod PlaceLemmas
 pub mod ReadLemmas

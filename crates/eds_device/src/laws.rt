@@ -3,7 +3,7 @@ ghost use Rattle.std.specs.Prelude.{◌≡◌, ◌↔◌, ℕ, List, [], ◌∷�
 ghost use Rattle.std.specs.FinMap as map;
 ghost use Rattle.std.specs.List.{Contains};
 ghost use Rattle.std.specs.List.Sorted.{IsStrictlySortedBy};
-ghost use Rattle.ini_text.specs.Content.{Section};
+ghost use Rattle.ini_text.specs.Content.{Section, content_of};
 ghost use Rattle.co_values.specs.declared.data_type.DataType.TheVariants.{Unsigned8};
 ghost use Rattle.co_values.specs.Types.{is_modelled};
 ghost use Rattle.co_dict.specs.declared.access.Access.TheVariants.{ReadOnly};
@@ -11,8 +11,8 @@ ghost use Rattle.co_dict.specs.declared.entry.Entry.{Entry};
 ghost use Rattle.co_dict.specs.Places.{place_cmp};
 ghost use Rattle.eds_device.specs.Entries.{entry_at, default_at, shape_of, defaults_of};
 ghost use Rattle.co_dict.specs.Values.{HasLength};
-ghost use Rattle.eds_device.specs.Places.{places_given, pairs_of, AreNamedOnce};
-ghost use Rattle.eds_device.specs.Origins.{Origin, compact, origin_of};
+ghost use Rattle.eds_device.specs.Places.{places_given, pairs_of};
+ghost use Rattle.eds_device.specs.Origins.{compact, origin_of};
 
 /// The entries of a device stand by index and sub-index, each once, and are those that some section
 /// gives.
@@ -22,16 +22,11 @@ pub fn entries_are_those_given()
     ensures given { (ss : List Section) (place : ℕ × ℕ) → Contains (pairs_of ss) place ↔ ((s : Section) × (Contains ss s × Contains (places_given s) place)) }
 {}
 
-/// What one of the three rules gives is an entry of the device.
-#[tactic(auto, using(crate::proofs::LawLemmas::rules_give))]
-pub fn rules_give_entries()
-    ensures { (ss : List Section) (index sub : ℕ) (origin : Origin) → origin_of ss index sub ≡ Some origin → Contains (pairs_of ss) (index, sub) }
-{}
-
-/// Each entry of a device is one that a rule gives, where no two sections are named for one object.
-#[tactic(auto, using(crate::proofs::ConverseLemmas::entries_have))]
-pub fn entries_have_origins()
-    ensures { (ss : List Section) (index sub : ℕ) → AreNamedOnce ss → Contains (pairs_of ss) (index, sub) → IsSome (origin_of ss index sub) }
+/// The entries of a text are those that one of the three rules gives, each once: there are over
+/// 4,096, which `Limit` refuses, exactly where the rules give so many.
+#[tactic(auto, using(crate::proofs::ConverseLemmas::given_by_rules))]
+pub fn entries_are_those_of_the_rules()
+    ensures { (text : List ℕ) (index sub : ℕ) → let ss = (content_of text).sections in Contains (pairs_of ss) (index, sub) ↔ IsSome (origin_of ss index sub) }
 {}
 
 /// A shape has each entry as the device describes it, and no other; the defaults likewise.
