@@ -4,6 +4,7 @@ pub mod DigitLemmas
 pub mod IndexLemmas
 pub mod LawLemmas
 pub mod LengthLemmas
+pub mod LimitLemmas
 pub mod ListedLemmas
 pub mod MapLemmas
 pub mod NameLemmas
