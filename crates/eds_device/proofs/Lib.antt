@@ -1,6 +1,7 @@
 pub mod AddingLemmas
 pub mod ConverseLemmas
 pub mod DigitLemmas
+pub mod IdentityLemmas
 pub mod IndexLemmas
 pub mod LawLemmas
 pub mod LengthLemmas
