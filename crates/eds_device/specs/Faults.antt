@@ -10,6 +10,7 @@ use Rattle.eds_device.specs.declared.fault.DeviceFault.TheVariants.{Memory, Rang
 use Rattle.eds_device.specs.Origins.{origin_of}
 use Rattle.eds_device.specs.Places.{pairs_of}
 
+-- the fault that memory was refused
 abbrev pub is_memory : DeviceFault → Bool
 is_memory Memory = true
 is_memory Range = false

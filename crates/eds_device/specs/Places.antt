@@ -23,11 +23,11 @@ object_places section index =
 unfoldable pub places_given : Section → List (ℕ × ℕ)
 places_given section = option_map_or (λ p. p ∷ []) (place_named section.name) (option_map_or (object_places section) (index_named section.name) [])
 
--- each put into its place in the order, unless it is there
+-- each put in by index and sub, unless it is there
 abbrev pub put_in_order : List (ℕ × ℕ) → List (ℕ × ℕ) → List (ℕ × ℕ)
 put_in_order done [] = done
 put_in_order done (p ∷ ps) = put_in_order (insert_key place_cmp done p) ps
 
--- the entries of a device
+-- the entries of a device; of a text they are, by a law, those that the rules of `Origins` give
 unfoldable pub pairs_of : List Section → List (ℕ × ℕ)
 pairs_of ss = put_in_order [] (flat_map places_given ss)
