@@ -4,7 +4,7 @@ ghost use Rattle.eds_device.specs.Sections.{object_of_number};
 
 /// What an object of a dictionary is, as CiA 301's object codes say.
 #[derive(Clone, Copy, Debug, PartialEq, Eq)]
-pub enum ObjectType {
+pub(crate) enum ObjectType {
     Domain,
     Variable,
     Array,
@@ -15,7 +15,7 @@ pub enum ObjectType {
 
 impl ObjectType {
     /// The object that a code names.
-    pub fn of_code(number: i128) -> ObjectType
+    pub(crate) fn of_code(number: i128) -> ObjectType
         ensures { result ≡ object_of_number number }
     {
         match number {
