@@ -41,8 +41,8 @@ unfolding device_of
 limited_by_rules text = (
   by (is_out_of_range text) (has_bad_byte text) (nat_lt most_entries (length (pairs_of (content_of text).sections))) refl,
   λ h.
-  let large : nat_lt most_entries (length (pairs_of (content_of text).sections)) ≡ true = lt-ltb most_entries (length (pairs_of (content_of text).sections)) (omega (arith, no_more text h.1, h.1.over)) in
-  rw (h.0.0, h.0.1, large) refl,
+      let large : nat_lt most_entries (length (pairs_of (content_of text).sections)) ≡ true = lt-ltb most_entries (length (pairs_of (content_of text).sections)) (omega (arith, no_more text h.1, h.1.over)) in
+      rw (h.0.0, h.0.1, large) refl,
 )
   where
     by : (r b t : Bool) → nat_lt most_entries (length (pairs_of (content_of text).sections)) ≡ t
