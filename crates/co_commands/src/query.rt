@@ -1,12 +1,12 @@
 //! What a line asks without changing the project.
 ghost use Rattle.std.specs.Prelude.{◌≡◌};
 ghost use Rattle.co_base.specs.Gives.{Gives};
-ghost use Rattle.co_commands.specs.Faults.{is_memory};
+ghost use Rattle.co_edits.specs.Faults.{is_memory};
 ghost use Rattle.co_commands.specs.Requests.{query_of};
 
 use crate::edits::id;
-use crate::fault::EditFault;
-use crate::words::is_blank_line;
+use co_edits::EditFault;
+use co_text::is_blank_line;
 
 /// What a line asks without changing the project.
 #[derive(Clone, Copy, Debug)]

@@ -1,17 +1,18 @@
 //! What one line asks.
 ghost use Rattle.std.specs.Prelude.{◌≡◌};
 ghost use Rattle.co_base.specs.Gives.{Gives};
-ghost use Rattle.co_commands.specs.Faults.{is_memory};
+ghost use Rattle.co_edits.specs.Faults.{is_memory};
 ghost use Rattle.co_commands.specs.Requests.{block_of, command_of, asks_edit, asks_query, request};
 
 use crate::command::Command;
 use crate::edits::{bitrate, drop_eds, drop_node, horizon, manager, node, param, unparam};
 use crate::events::{drop_event, event};
-use crate::fault::EditFault;
 use crate::numbers::decimal;
 use crate::query::Query;
-use crate::words::{is_bad_line, is_name, last_word, next_word};
+use crate::words::{is_bad_line, is_name, last_word};
 use co_base::Octets;
+use co_edits::EditFault;
+use co_text::next_word;
 use std::alloc::Global;
 
 const MAX_BLOCK: u64 = 65_536;
