@@ -4,24 +4,27 @@ use Rattle.std.specs.Prelude.{if◌then◌else◌, Ok, codes, decimal}
 use Rattle.co_scenario.specs.declared.event.Event.{Event}
 use Rattle.co_scenario.specs.declared.event.Event.TheVariants as event
 use Rattle.co_scenario.specs.Commands.{number_of}
-use Rattle.co_commands.specs.declared.manager_settings.ManagerSettings.{ManagerSettings}
-use Rattle.co_commands.specs.declared.edit.Edit.{Edit}
-use Rattle.co_commands.specs.declared.edit.Edit.TheVariants as edit
+use Rattle.co_edits.specs.declared.manager_settings.ManagerSettings.{ManagerSettings}
+use Rattle.co_edits.specs.declared.edit.Edit.{Edit}
+use Rattle.co_edits.specs.declared.edit.Edit.TheVariants as edit
 use Rattle.co_commands.specs.declared.request.Request.TheVariants.{Edit as EditAsked}
-use Rattle.co_commands.specs.Words.{is_event_number, is_time}
+use Rattle.co_text.specs.Digits.{byte_digits, index_digits}
+use Rattle.co_text.specs.Lines.{line_count}
+use Rattle.co_edits.specs.Eds.{IsEds}
+use Rattle.co_edits.specs.Forms.{is_event_number, is_time}
 use Rattle.co_commands.specs.Requests.{command_of, asks_edit, event_at_time, happening_of}
-use Rattle.co_commands.specs.Edits.{IsEdit, IsManager, IsEds, IsSetting, IsEvent}
-use Rattle.co_commands.specs.Lines.{index_word, sub_word, event_words, words_of, line_of, line_count, asks}
+use Rattle.co_edits.specs.Edits.{IsEdit, IsManager, IsSetting, IsEvent}
+use Rattle.co_commands.specs.Lines.{event_words, words_of, line_of, asks}
 use Rattle.co_commands.proofs.WordLemmas.{IsWord}
 use Rattle.co_commands.proofs.NumberLemmas.{number_word, index_is_word, sub_is_word, name_word}
 use Rattle.co_commands.proofs.LineLemmas.{Has, Spells, Keeps, last, more, kept, is_short, short, IsRead, command, block}
 use Rattle.co_commands.proofs.CommandLemmas.{most, node_below, id_below, rate_below, time_below, period_below, key_below, short_below, command_below, block_is, bitrate_is, horizon_is, manager_is, drop_eds_is, node_is, drop_node_is, param_is, unparam_is, drop_event_is, event_is, set_is, power_is, nmt_is}
-use Rattle.co_commands.proofs.BlockLemmas.{passes, lines_counted}
+use Rattle.co_commands.proofs.BlockLemmas.{lines_counted}
 
 -- ---- words at the end of a line
 
 -- an index, a sub-index and a text
-setting : (index sub : ℕ) (text : List ℕ) → IsSetting index sub text → Spells (Keeps text) 4022 (index_word index ++ 32 ∷ (sub_word sub ++ 32 ∷ text)) (index_word index ∷ sub_word sub ∷ [])
+setting : (index sub : ℕ) (text : List ℕ) → IsSetting index sub text → Spells (Keeps text) 4022 (index_digits index ++ 32 ∷ (byte_digits sub ++ 32 ∷ text)) (index_digits index ∷ byte_digits sub ∷ [])
 unfolding IsSetting
 setting index sub text is = more (index_is_word index (most 0 65535 index is.0.0)) (more (sub_is_word sub (most 0 255 sub is.0.1)) (kept text is.2))
 
@@ -65,10 +68,9 @@ read_manager m is =
 read_eds : (name text : List ℕ) → IsEds name text → IsRead (line_of (edit.Eds name text)) (asks (edit.Eds name text))
 unfolding line_of words_of
 read_eds name text is =
-    let passed = passes name text is in
-    let few : line_count text ≤ 65536 = omega (arith, passed.1, lines_counted name text is) in
-    let line = more (name_word name passed.0) (last (number_word (line_count text) (omega arith))) in
-    block (codes "eds") refl (lit≤ tt) line refl (block_is _ name (line_count text) line.has passed.0 few)
+    let few : line_count text ≤ 65536 = omega (arith, is.lines, lines_counted name text is) in
+    let line = more (name_word name is.name) (last (number_word (line_count text) (omega arith))) in
+    block (codes "eds") refl (lit≤ tt) line refl (block_is _ name (line_count text) line.has is.name few)
 
 -- the line of each edit asks for it
 pub read_again : (o : Edit) → IsEdit o → IsRead (line_of o) (asks o)

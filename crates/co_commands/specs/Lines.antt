@@ -1,38 +1,27 @@
 -- Edits as lines, as `project` prints them (this profile's own).
-use Rattle.std.specs.Prelude.{ℕ, ◌/◌, ◌%◌, ◌==◌, true, List, [], ◌∷◌, ◌++◌, codes, decimal, if◌then◌else◌, Some}
-use Rattle.std.specs.Fmt.{digit_glyph}
-use Rattle.std.specs.List.{count_by}
+use Rattle.std.specs.Prelude.{ℕ, List, [], ◌∷◌, ◌++◌, codes, decimal, if◌then◌else◌, Some}
+use Rattle.std.specs.Str.{byte}
+use Rattle.co_text.specs.Digits.{byte_digits, index_digits}
+use Rattle.co_text.specs.Lines.{line_feed, line_count}
 use Rattle.co_scenario.specs.declared.event.Event.{Event}
 use Rattle.co_scenario.specs.declared.event.Event.TheVariants as event
 use Rattle.co_scenario.specs.Commands.{number_of}
-use Rattle.co_commands.specs.declared.edit.Edit.{Edit}
-use Rattle.co_commands.specs.declared.edit.Edit.TheVariants as edit
+use Rattle.co_edits.specs.declared.edit.Edit.{Edit}
+use Rattle.co_edits.specs.declared.edit.Edit.TheVariants as edit
 use Rattle.co_commands.specs.declared.request.Request.{Request}
 use Rattle.co_commands.specs.declared.request.Request.TheVariants.{Edit as EditAsked, Block}
-
--- INDEX: four upper-case hexadecimal digits
-abbrev pub index_word : ℕ → List ℕ
-index_word index = digit_glyph true (index / 4096) ∷ digit_glyph true (index / 256 % 16) ∷ digit_glyph true (index / 16 % 16) ∷ digit_glyph true (index % 16) ∷ []
-
--- SUB: two upper-case hexadecimal digits
-abbrev pub sub_word : ℕ → List ℕ
-sub_word sub = digit_glyph true (sub / 16) ∷ digit_glyph true (sub % 16) ∷ []
 
 -- words with one space between two of them
 abbrev pub spaced : List (List ℕ) → List ℕ
 spaced [] = []
 spaced (word ∷ []) = word
-spaced (word ∷ next ∷ words) = word ++ 32 ∷ spaced (next ∷ words)
+spaced (word ∷ next ∷ words) = word ++ byte " " ∷ spaced (next ∷ words)
 
 -- what happens to a node
 unfoldable pub event_words : Event → List (List ℕ)
-event_words (event.Set node index sub text) = codes "set" ∷ decimal node ∷ index_word index ∷ sub_word sub ∷ text ∷ []
+event_words (event.Set node index sub text) = codes "set" ∷ decimal node ∷ index_digits index ∷ byte_digits sub ∷ text ∷ []
 event_words (event.Power node on) = codes "power" ∷ decimal node ∷ (if on then codes "on" else codes "off") ∷ []
 event_words (event.Nmt node command) = codes "nmt" ∷ decimal (number_of command) ∷ decimal node ∷ []
-
--- how many lines a text has, each ended by LF
-abbrev pub line_count : List ℕ → ℕ
-line_count text = count_by (λ b. b == 10) text
 
 -- the words of an edit; a text that it keeps is its last word
 unfoldable pub words_of : Edit → List (List ℕ)
@@ -43,8 +32,8 @@ words_of (edit.Eds name text) = codes "eds" ∷ name ∷ decimal (line_count tex
 words_of (edit.DropEds name) = codes "drop-eds" ∷ name ∷ []
 words_of (edit.Node id name eds) = codes "node" ∷ decimal id ∷ name ∷ eds ∷ []
 words_of (edit.DropNode id) = codes "drop-node" ∷ decimal id ∷ []
-words_of (edit.Param id index sub text) = codes "param" ∷ decimal id ∷ index_word index ∷ sub_word sub ∷ text ∷ []
-words_of (edit.Unparam id index sub) = codes "unparam" ∷ decimal id ∷ index_word index ∷ sub_word sub ∷ []
+words_of (edit.Param id index sub text) = codes "param" ∷ decimal id ∷ index_digits index ∷ byte_digits sub ∷ text ∷ []
+words_of (edit.Unparam id index sub) = codes "unparam" ∷ decimal id ∷ index_digits index ∷ byte_digits sub ∷ []
 words_of (edit.Event number e) = codes "event" ∷ decimal number ∷ decimal e.time ∷ event_words e.event
 words_of (edit.DropEvent number) = codes "drop-event" ∷ decimal number ∷ []
 
@@ -64,4 +53,4 @@ asks other = EditAsked other
 
 -- AN EDIT as text: its line, ended by LF, and the lines that follow
 unfoldable pub text_of : Edit → List ℕ
-text_of edit = line_of edit ++ 10 ∷ block_of edit
+text_of edit = line_of edit ++ line_feed ∷ block_of edit

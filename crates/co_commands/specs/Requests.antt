@@ -1,18 +1,23 @@
 -- What one line asks (this profile's own).
 use Rattle.std.specs.Prelude.{ℕ, Bool, true, false, ◌||◌, ◌&&◌, not, List, nat_lt, if◌then◌else◌, Option, Some, None, Result, Ok, Err, codes}
-use Rattle.std.specs.List.{list_all}
 use Rattle.std.specs.Str.{bytes_eq}
-use Rattle.co_commands.specs.declared.fault.EditFault.{EditFault}
-use Rattle.co_commands.specs.declared.fault.EditFault.TheVariants.{Syntax, Range}
-use Rattle.co_commands.specs.declared.edit.Edit.{Edit}
-use Rattle.co_commands.specs.declared.edit.Edit.TheVariants as edit
+use Rattle.co_edits.specs.declared.fault.EditFault.{EditFault}
+use Rattle.co_edits.specs.declared.fault.EditFault.TheVariants.{Syntax, Range}
+use Rattle.co_edits.specs.declared.edit.Edit.{Edit}
+use Rattle.co_edits.specs.declared.edit.Edit.TheVariants as edit
 use Rattle.co_scenario.specs.declared.event.Event.{Event}
 use Rattle.co_scenario.specs.declared.event.Event.TheVariants as event
 use Rattle.co_scenario.specs.declared.nmt_command.NmtCommand.{NmtCommand}
 use Rattle.co_scenario.specs.Commands.{command_of as nmt_command}
 use Rattle.co_commands.specs.declared.request.Request.{Request}
-use Rattle.co_commands.specs.declared.request.Request.TheVariants.{Edit as EditAsked, Dcf, Cdcf, Project, Block}
-use Rattle.co_commands.specs.Words.{word, after, last_word, is_blank, is_bad_line, is_name, name, decimal, hexadecimal, text, is_between, limited, is_node_number, is_node_or_all, is_own_index, is_bit_rate, is_time, is_sync_period, is_event_number}
+use Rattle.co_commands.specs.declared.request.Request.TheVariants.{Edit as EditAsked, Query as QueryAsked, Block}
+use Rattle.co_commands.specs.declared.query.Query.{Query}
+use Rattle.co_commands.specs.declared.query.Query.TheVariants.{Dcf, Cdcf, Project}
+use Rattle.co_text.specs.Blanks.{is_blank_line}
+use Rattle.co_text.specs.Words.{word, after}
+use Rattle.co_edits.specs.Eds.{most_lines}
+use Rattle.co_edits.specs.Forms.{is_name, is_between, is_node_number, is_node_or_all, is_own_index, is_bit_rate, is_time, is_sync_period, is_event_number}
+use Rattle.co_commands.specs.Words.{last_word, is_bad_line, name, decimal, hexadecimal, text, limited}
 
 infixl 10 ◌>>=◌
 -- a step after a step; the first fault stays
@@ -25,6 +30,11 @@ abbrev pub asks_edit : Result Edit EditFault → Result Request EditFault
 asks_edit (Ok edit) = Ok (EditAsked edit)
 asks_edit (Err fault) = Err fault
 
+-- a query is asked
+abbrev pub asks_query : Result Query EditFault → Result Request EditFault
+asks_query (Ok query) = Ok (QueryAsked query)
+asks_query (Err fault) = Err fault
+
 -- nothing is what a number out of its limits names
 abbrev pub or_range : {X : Type 0} → Option X → Result X EditFault
 or_range None = Err Range
@@ -32,7 +42,7 @@ or_range (Some x) = Ok x
 
 -- a block has up to 65,536 lines
 abbrev pub block_lines : ℕ → Result ℕ EditFault
-block_lines n = if nat_lt 65536 n then Err Syntax else Ok n
+block_lines n = if nat_lt most_lines n then Err Syntax else Ok n
 
 -- the name of an EDS, where its command is of its form
 abbrev pub block_name : Bool → List ℕ → Option (List ℕ)
@@ -207,11 +217,11 @@ drop_event_of rest = do
   Ok (edit.DropEvent number)
 
 -- what a query asks
-unfoldable pub query_of : List ℕ → List ℕ → Result Request EditFault
+unfoldable pub query_of : List ℕ → List ℕ → Result Query EditFault
 query_of first rest =
     if bytes_eq first (codes "dcf") then (id_of rest >>= λ id. Ok (Dcf id))
     else if bytes_eq first (codes "cdcf") then (id_of rest >>= λ id. Ok (Cdcf id))
-    else if bytes_eq first (codes "project") && list_all is_blank rest then Ok Project
+    else if bytes_eq first (codes "project") && is_blank_line rest then Ok Project
     else Err Syntax
 
 -- what a first word and the rest of its line ask
@@ -227,7 +237,7 @@ command_of first rest =
     else if bytes_eq first (codes "unparam") then asks_edit (unparam_of rest)
     else if bytes_eq first (codes "event") then asks_edit (event_of rest)
     else if bytes_eq first (codes "drop-event") then asks_edit (drop_event_of rest)
-    else query_of first rest
+    else asks_query (query_of first rest)
 
 -- THE REQUEST: what a line asks. The line has neither the LF nor the CRs at its end
 unfoldable pub request : List ℕ → Result Request EditFault

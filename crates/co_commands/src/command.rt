@@ -1,19 +1,20 @@
 //! An edit that was read.
 ghost use Rattle.std.specs.Prelude.{◌≡◌};
 ghost use Rattle.co_base.specs.Gives.{Gives};
-ghost use Rattle.co_commands.specs.Faults.{is_memory};
-ghost use Rattle.co_commands.specs.Eds.{lines_of, eds_edit};
-ghost use Rattle.co_commands.specs.Edits.{IsEdit};
+ghost use Rattle.co_edits.specs.Faults.{is_memory};
+ghost use Rattle.co_edits.specs.Eds.{lines_of, eds_edit};
+ghost use Rattle.co_edits.specs.Edits.{IsEdit};
 
-use crate::block::{check, has_bad_line, text_of};
-use crate::fault::EditFault;
-use crate::edit::Edit;
+use crate::block::{check, has_bad_line, has_long_line, text_of};
 use crate::words::is_name;
 use co_base::Octets;
+use co_edits::{Edit, EditFault};
 use std::alloc::Global;
 use std::marker::Model;
 
 const MAX_LINES: usize = 65_536;
+
+const MAX_BYTES: usize = 1_048_576;
 
 /// An edit, whose words are of their forms and within their limits.
 #[derive(Debug, Drop)]
@@ -22,8 +23,8 @@ pub struct Command {
 }
 
 impl Model for Command {
-    ghost use Rattle.co_commands.specs.declared.edit.Edit.{Edit};
-    ghost use Rattle.co_commands.specs.Edits.{IsEdit};
+    ghost use Rattle.co_edits.specs.declared.edit.Edit.{Edit};
+    ghost use Rattle.co_edits.specs.Edits.{IsEdit};
 
     ghost Value = { Edit };
 
@@ -37,21 +38,27 @@ impl Command {
     /// LFs. The CRs at their ends are removed.
     ///
     /// The first fault that applies is answered. Syntax: the name isn't 1 to 32 of `A-Z a-z 0-9
-    /// _`. Range: over 65,536 lines, a line over 4,096 bytes, or a text over 1,048,576 bytes.
-    /// BadByte: a byte 00h to 1Fh other than tab and CR. Limit: over 4,096 entries. Memory can come
-    /// in place of each.
-    #[tactic(auto, unfolding(crate::specs::Eds::eds_edit))]
+    /// _`. Range: over 65,536 lines, a line over 4,096 bytes as it is handed over, or a text over
+    /// 1,048,576 bytes. BadByte: a byte 00h to 1Fh other than tab and CR, so also an LF. Limit:
+    /// over 4,096 entries. Memory can come in place of each.
+    #[tactic(auto, unfolding(co_edits::specs::Eds::eds_edit))]
     pub fn eds(alloc: Global, name: &[u8], lines: &[Vec<u8>]) -> Result<Command, EditFault>
         ensures { Gives is_memory (λ c. c) result (eds_edit name.now (lines_of lines.now)) }
     {
         if !is_name(name) {
             return Err(EditFault::Syntax);
         }
-        if lines.len() > MAX_LINES {
+        if lines.len() > MAX_LINES || has_long_line(lines) {
             return Err(EditFault::Range);
         }
         let text = text_of(alloc, lines)?;
-        check(alloc, &text, has_bad_line(lines))?;
+        if text.len() > MAX_BYTES {
+            return Err(EditFault::Range);
+        }
+        if has_bad_line(lines) {
+            return Err(EditFault::BadByte);
+        }
+        check(alloc, &text)?;
         let name = Octets::from_slice(alloc, name)?;
         Ok(Command::new(Edit::Eds {
             name,

@@ -1,19 +1,18 @@
 //! The edits of the network: its numbers, its EDS files, its nodes and their parameters.
 ghost use Rattle.std.specs.Prelude.{◌≡◌, true, IfOk};
 ghost use Rattle.co_base.specs.Gives.{Gives};
-ghost use Rattle.co_commands.specs.Faults.{is_memory};
-ghost use Rattle.co_commands.specs.Words.{is_node_number, is_name};
-ghost use Rattle.co_commands.specs.Requests.{id_of, name_of, bitrate_of, horizon_of, manager_of, drop_eds_of, node_of, drop_node_of, param_of, unparam_of};
+ghost use Rattle.co_edits.specs.Faults.{is_memory};
+ghost use Rattle.co_edits.specs.Forms.{is_node_number};
+ghost use Rattle.co_commands.specs.Requests.{id_of, bitrate_of, horizon_of, manager_of, drop_eds_of, node_of, drop_node_of, param_of, unparam_of};
 
 use crate::command::Command;
-use crate::fault::EditFault;
-use crate::manager_settings::ManagerSettings;
 use crate::numbers::{
     bit_rate, decimal, index, limited, node_number, own_index, sub_index, sync_period, time,
 };
-use crate::edit::Edit;
-use crate::words::{last_word, name, next_word, text};
+use crate::words::{last_word, name, text};
 use co_base::Octets;
+use co_edits::{Edit, EditFault, ManagerSettings};
+use co_text::next_word;
 use std::alloc::Global;
 
 /// The number of a node, which is the only word.
@@ -27,7 +26,7 @@ pub(crate) fn id(rest: &[u8]) -> Result<u8, EditFault>
 }
 
 /// `bitrate K`, in kbit/s.
-#[tactic(auto, unfolding(crate::specs::Requests::bitrate_of, crate::specs::Edits::IsEdit))]
+#[tactic(auto, unfolding(crate::specs::Requests::bitrate_of, co_edits::specs::Edits::IsEdit))]
 pub(crate) fn bitrate(rest: &[u8]) -> Result<Command, EditFault>
     ensures { Gives is_memory (λ c. c) result (bitrate_of rest.now) }
 {
@@ -37,7 +36,7 @@ pub(crate) fn bitrate(rest: &[u8]) -> Result<Command, EditFault>
 }
 
 /// `horizon US`, in microseconds from power-on.
-#[tactic(auto, unfolding(crate::specs::Requests::horizon_of, crate::specs::Edits::IsEdit))]
+#[tactic(auto, unfolding(crate::specs::Requests::horizon_of, co_edits::specs::Edits::IsEdit))]
 pub(crate) fn horizon(rest: &[u8]) -> Result<Command, EditFault>
     ensures { Gives is_memory (λ c. c) result (horizon_of rest.now) }
 {
@@ -47,7 +46,7 @@ pub(crate) fn horizon(rest: &[u8]) -> Result<Command, EditFault>
 }
 
 /// `manager ID SYNC_US HB_MS TIMEOUT_MS`
-#[tactic(auto, unfolding(crate::specs::Requests::manager_of, crate::specs::Edits::IsEdit, crate::specs::Edits::IsManager))]
+#[tactic(auto, unfolding(crate::specs::Requests::manager_of, co_edits::specs::Edits::IsEdit, co_edits::specs::Edits::IsManager))]
 pub(crate) fn manager(rest: &[u8]) -> Result<Command, EditFault>
     ensures { Gives is_memory (λ c. c) result (manager_of rest.now) }
 {
@@ -72,7 +71,7 @@ pub(crate) fn manager(rest: &[u8]) -> Result<Command, EditFault>
 }
 
 /// `drop-eds NAME`
-#[tactic(auto, unfolding(crate::specs::Requests::drop_eds_of, crate::specs::Edits::IsEdit))]
+#[tactic(auto, unfolding(crate::specs::Requests::drop_eds_of, co_edits::specs::Edits::IsEdit))]
 pub(crate) fn drop_eds(alloc: Global, rest: &[u8]) -> Result<Command, EditFault>
     ensures { Gives is_memory (λ c. c) result (drop_eds_of rest.now) }
 {
@@ -82,7 +81,7 @@ pub(crate) fn drop_eds(alloc: Global, rest: &[u8]) -> Result<Command, EditFault>
 }
 
 /// `node ID NAME EDS`
-#[tactic(auto, unfolding(crate::specs::Requests::node_of, crate::specs::Edits::IsEdit))]
+#[tactic(auto, unfolding(crate::specs::Requests::node_of, co_edits::specs::Edits::IsEdit))]
 pub(crate) fn node(alloc: Global, rest: &[u8]) -> Result<Command, EditFault>
     ensures { Gives is_memory (λ c. c) result (node_of rest.now) }
 {
@@ -99,7 +98,7 @@ pub(crate) fn node(alloc: Global, rest: &[u8]) -> Result<Command, EditFault>
 }
 
 /// `drop-node ID`
-#[tactic(auto, unfolding(crate::specs::Requests::drop_node_of, crate::specs::Edits::IsEdit))]
+#[tactic(auto, unfolding(crate::specs::Requests::drop_node_of, co_edits::specs::Edits::IsEdit))]
 pub(crate) fn drop_node(rest: &[u8]) -> Result<Command, EditFault>
     ensures { Gives is_memory (λ c. c) result (drop_node_of rest.now) }
 {
@@ -108,7 +107,7 @@ pub(crate) fn drop_node(rest: &[u8]) -> Result<Command, EditFault>
 }
 
 /// `param ID INDEX SUB TEXT`
-#[tactic(auto, unfolding(crate::specs::Requests::param_of, crate::specs::Edits::IsEdit, crate::specs::Edits::IsSetting))]
+#[tactic(auto, unfolding(crate::specs::Requests::param_of, co_edits::specs::Edits::IsEdit, co_edits::specs::Edits::IsSetting))]
 pub(crate) fn param(alloc: Global, rest: &[u8]) -> Result<Command, EditFault>
     ensures { Gives is_memory (λ c. c) result (param_of rest.now) }
 {
@@ -131,7 +130,7 @@ pub(crate) fn param(alloc: Global, rest: &[u8]) -> Result<Command, EditFault>
 }
 
 /// `unparam ID INDEX SUB`
-#[tactic(auto, unfolding(crate::specs::Requests::unparam_of, crate::specs::Edits::IsEdit))]
+#[tactic(auto, unfolding(crate::specs::Requests::unparam_of, co_edits::specs::Edits::IsEdit))]
 pub(crate) fn unparam(rest: &[u8]) -> Result<Command, EditFault>
     ensures { Gives is_memory (λ c. c) result (unparam_of rest.now) }
 {

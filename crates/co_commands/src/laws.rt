@@ -1,14 +1,12 @@
 //! Laws of the commands: what is printed is read.
 ghost use Rattle.std.specs.Prelude.{◌≡◌, ◌∷◌, ◌++◌, ℕ, List, Ok, length};
-ghost use Rattle.ini_text.specs.Content.{content_of};
-ghost use Rattle.ini_text.specs.Text.{lines_of};
-ghost use Rattle.eds_device.specs.Faults.{device_of};
-ghost use Rattle.co_commands.specs.declared.edit.Edit.{Edit};
-ghost use Rattle.co_commands.specs.declared.edit.Edit.TheVariants.{Eds};
+ghost use Rattle.co_text.specs.Lines.{lines_of, line_count};
+ghost use Rattle.co_edits.specs.declared.edit.Edit.{Edit};
+ghost use Rattle.co_edits.specs.declared.edit.Edit.TheVariants.{Eds};
 ghost use Rattle.co_commands.specs.Requests.{request};
-ghost use Rattle.co_commands.specs.Eds.{eds_edit};
-ghost use Rattle.co_commands.specs.Edits.{IsEdit, IsEds};
-ghost use Rattle.co_commands.specs.Lines.{line_of, line_count, asks, text_of, block_of};
+ghost use Rattle.co_edits.specs.Eds.{IsEds, eds_edit};
+ghost use Rattle.co_edits.specs.Edits.{IsEdit};
+ghost use Rattle.co_commands.specs.Lines.{line_of, asks, text_of, block_of};
 
 /// The line of each edit is read as that edit; that of an EDS asks for its lines.
 pub fn printed_lines_are_read()
@@ -19,12 +17,6 @@ pub fn printed_lines_are_read()
 pub fn printed_blocks_are_read()
     ensures { (name text : List ℕ) → IsEds name text
         → (length (lines_of text) ≡ line_count text) × (eds_edit name (lines_of text) ≡ Ok (Eds name text)) }
-{}
-
-/// The text that an edit keeps under a name can be read as a device.
-#[tactic(auto, using(crate::proofs::KeptLemmas::eds_is_a_device))]
-pub fn eds_are_devices()
-    ensures { (name text : List ℕ) → IsEds name text → device_of text ≡ Ok (content_of text) }
 {}
 
 /// An edit as text, whatever follows it, has the line of the edit, and then the lines of its block.

@@ -18,13 +18,14 @@ use Rattle.std.proofs.lemmas.Map.Views.{tells_apart}
 use Rattle.std.proofs.lemmas.Slice.Eq.{bytes_eq-Decides}
 use Rattle.co_scenario.specs.declared.timed_event.TimedEvent.{TimedEvent}
 use Rattle.co_scenario.specs.Scenario.{node_of}
-use Rattle.co_commands.specs.declared.fault.EditFault.{EditFault}
-use Rattle.co_commands.specs.declared.manager_settings.ManagerSettings.{ManagerSettings}
-use Rattle.co_commands.specs.declared.edit.Edit.{Edit}
-use Rattle.co_commands.specs.declared.edit.Edit.TheVariants as edit
-use Rattle.co_commands.specs.Accepts.{unless}
-use Rattle.co_commands.specs.Edits.{IsEdit, IsManager, IsEds, IsSetting}
-use Rattle.co_commands.specs.Words.{is_bit_rate, is_time}
+use Rattle.co_edits.specs.declared.fault.EditFault.{EditFault}
+use Rattle.co_edits.specs.declared.manager_settings.ManagerSettings.{ManagerSettings}
+use Rattle.co_edits.specs.declared.edit.Edit.{Edit}
+use Rattle.co_edits.specs.declared.edit.Edit.TheVariants as edit
+use Rattle.co_edits.specs.Accepts.{unless}
+use Rattle.co_edits.specs.Edits.{IsEdit, IsManager, IsSetting}
+use Rattle.co_edits.specs.Eds.{IsEds}
+use Rattle.co_edits.specs.Forms.{is_bit_rate, is_time}
 use Rattle.co_project.specs.declared.node.Node.{Node}
 use Rattle.co_dict.specs.Places.{place_cmp}
 use Rattle.co_params.specs.Params.{param_at, is_full_for}

@@ -4,9 +4,9 @@ use Rattle.std.proofs.lemmas.List.Elements.{All-nil, All-from_recursion, All-hea
 use Rattle.std.specs.Prelude.{All}
 use Rattle.std.specs.List.{flat_map}
 use Rattle.co_scenario.specs.declared.timed_event.TimedEvent.{TimedEvent}
-use Rattle.co_commands.specs.declared.edit.Edit.{Edit}
-use Rattle.co_commands.specs.declared.edit.Edit.TheVariants as edit
-use Rattle.co_commands.specs.Edits.{IsEdit}
+use Rattle.co_edits.specs.declared.edit.Edit.{Edit}
+use Rattle.co_edits.specs.declared.edit.Edit.TheVariants as edit
+use Rattle.co_edits.specs.Edits.{IsEdit}
 use Rattle.co_project.specs.declared.node.Node.{Node}
 use Rattle.co_project.specs.Project.{Content}
 use Rattle.co_project.specs.Script.{edits, node_edit, param_edit, param_edits, text_edits, event_edits}

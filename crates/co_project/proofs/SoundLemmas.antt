@@ -6,18 +6,18 @@ use Rattle.std.proofs.lemmas.List.Elements.{All-weaker}
 use Rattle.std.proofs.lemmas.Map.Entries.{All-lookup}
 use Rattle.ini_text.specs.Content.{content_of}
 use Rattle.eds_device.specs.Faults.{device_of}
-use Rattle.co_commands.specs.Edits.{IsEds}
+use Rattle.co_edits.specs.Eds.{IsEds}
 use Rattle.co_project.specs.Tables.{name_cmp, text_at, node_at}
 use Rattle.co_project.specs.Project.{Content}
 use Rattle.co_project.specs.Sound.{AreTexts, IsNodeOf, IsSound}
 
 -- each text of a project is that of a device
-pub texts_are_devices : (p : Content) (name : List ℕ) → ((name text : List ℕ) → IsEds name text → device_of text ≡ Ok (content_of text)) → IsSound p
+pub texts_are_devices : (p : Content) (name : List ℕ) → IsSound p
     → IfSome (text_at p.texts name) (λ text. device_of text ≡ Ok (content_of text))
 unfolding AreTexts
-texts_are_devices p name eds_is_a_device sound =
+texts_are_devices p name sound =
     All-lookup (λ text. device_of text ≡ Ok (content_of text)) (is_at (name_cmp name)) p.texts
-    (All-weaker (λ e. IsEds e.0 e.1) (λ e. device_of e.1 ≡ Ok (content_of e.1)) (λ e h. eds_is_a_device e.0 e.1 h) p.texts sound.texts.2)
+    (All-weaker (λ e. IsEds e.0 e.1) (λ e. device_of e.1 ≡ Ok (content_of e.1)) (λ e h. h.device) p.texts sound.texts.2)
 
 -- the EDS of each node of a project is there
 pub nodes_have_texts : (p : Content) (id : ℕ) → IsSound p → IfSome (node_at p.nodes id) (λ node. is_some (text_at p.texts node.eds) ≡ true)

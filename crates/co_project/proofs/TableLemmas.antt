@@ -15,7 +15,7 @@ use Rattle.co_project.specs.declared.node.Node.{Node}
 use Rattle.co_dict.specs.Places.{place_cmp}
 use Rattle.co_params.specs.Params.{param_at, is_full_for}
 use Rattle.co_project.specs.Tables.{texts_of, node_at, params_at, params_in, put_param, drop_param}
-use Rattle.co_commands.specs.declared.fault.EditFault.TheVariants.{Limit, Unknown}
+use Rattle.co_edits.specs.declared.fault.EditFault.TheVariants.{Limit, Unknown}
 use Rattle.std.proofs.lemmas.Map.Steps.{set_value_same}
 
 -- a look-up by the bytes of a key

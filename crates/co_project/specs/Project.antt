@@ -5,12 +5,12 @@ use Rattle.std.specs.Map.{remove_entry}
 use Rattle.std.specs.BTreeMap.{is_at, insert_entry}
 use Rattle.co_scenario.specs.declared.timed_event.TimedEvent.{TimedEvent}
 use Rattle.co_scenario.specs.Scenario.{event_at}
-use Rattle.co_commands.specs.declared.fault.EditFault.{EditFault}
-use Rattle.co_commands.specs.declared.fault.EditFault.TheVariants.{Unknown, Taken, InUse, Limit}
-use Rattle.co_commands.specs.declared.manager_settings.ManagerSettings.{ManagerSettings}
-use Rattle.co_commands.specs.declared.edit.Edit.{Edit}
-use Rattle.co_commands.specs.declared.edit.Edit.TheVariants as edit
-use Rattle.co_commands.specs.Accepts.{unless}
+use Rattle.co_edits.specs.declared.fault.EditFault.{EditFault}
+use Rattle.co_edits.specs.declared.fault.EditFault.TheVariants.{Unknown, Taken, InUse, Limit}
+use Rattle.co_edits.specs.declared.manager_settings.ManagerSettings.{ManagerSettings}
+use Rattle.co_edits.specs.declared.edit.Edit.{Edit}
+use Rattle.co_edits.specs.declared.edit.Edit.TheVariants as edit
+use Rattle.co_edits.specs.Accepts.{unless}
 use Rattle.co_project.specs.declared.node.Node.{Node}
 use Rattle.co_project.specs.Tables.{name_cmp, text_at, node_at, params_at, has_no_room, name_taken, is_used, is_named, is_of_known, put_param, drop_param}
 

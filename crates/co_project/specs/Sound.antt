@@ -4,8 +4,9 @@ use Rattle.std.specs.Ordering.{nat_cmp}
 use Rattle.std.specs.Map.{keys_of}
 use Rattle.std.specs.List.Sorted.{IsStrictlySortedBy}
 use Rattle.co_scenario.specs.declared.timed_event.TimedEvent.{TimedEvent}
-use Rattle.co_commands.specs.Words.{is_name, is_node_number, is_bit_rate, is_time, is_event_number}
-use Rattle.co_commands.specs.Edits.{IsEds, IsManager, IsSetting, IsEvent}
+use Rattle.co_edits.specs.Forms.{is_name, is_node_number, is_bit_rate, is_time, is_event_number}
+use Rattle.co_edits.specs.Edits.{IsManager, IsSetting, IsEvent}
+use Rattle.co_edits.specs.Eds.{IsEds}
 use Rattle.co_project.specs.declared.node.Node.{Node}
 use Rattle.co_dict.specs.Places.{place_cmp}
 use Rattle.co_project.specs.Tables.{name_cmp, text_at, name_taken, is_of_known}

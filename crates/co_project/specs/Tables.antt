@@ -14,9 +14,9 @@ use Rattle.co_scenario.specs.Scenario.{node_of}
 use Rattle.co_dict.specs.Places.{place_cmp}
 use Rattle.co_params.specs.Params.{param_at, is_full_for}
 use Rattle.co_project.specs.declared.node.Node.{Node}
-use Rattle.co_commands.specs.declared.fault.EditFault.{EditFault}
-use Rattle.co_commands.specs.declared.fault.EditFault.TheVariants.{Unknown, Limit}
-use Rattle.co_commands.specs.Accepts.{unless}
+use Rattle.co_edits.specs.declared.fault.EditFault.{EditFault}
+use Rattle.co_edits.specs.declared.fault.EditFault.TheVariants.{Unknown, Limit}
+use Rattle.co_edits.specs.Accepts.{unless}
 
 -- names in the order of their bytes
 abbrev pub name_cmp : List ℕ → List ℕ → Ordering

@@ -1,7 +1,7 @@
 //! What a project holds, and what edits do to it.
 ghost use Rattle.std.specs.Prelude.{◌≡◌};
-ghost use Rattle.co_commands.specs.Accepts.{Accepts};
-ghost use Rattle.co_commands.specs.declared.edit.Edit.TheVariants as edit;
+ghost use Rattle.co_edits.specs.Accepts.{Accepts};
+ghost use Rattle.co_edits.specs.declared.edit.Edit.TheVariants as edit;
 ghost use Rattle.co_project.specs.Project.{accept, first};
 
 use crate::tables::{
@@ -9,7 +9,7 @@ use crate::tables::{
     is_of_known, is_used, name_taken, put_node, put_param, put_text,
 };
 use co_base::Octets;
-use co_commands::{EditFault, ManagerSettings, Edit};
+use co_commands::{Edit, EditFault, ManagerSettings};
 use co_scenario::{Script, TimedEvent};
 use std::alloc::Global;
 use std::collections::BTreeMap;

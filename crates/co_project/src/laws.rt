@@ -1,7 +1,7 @@
 //! Laws of the project.
 ghost use Rattle.std.specs.Prelude.{◌≡◌, All, Ok};
-ghost use Rattle.co_commands.specs.declared.edit.Edit.{Edit};
-ghost use Rattle.co_commands.specs.Edits.{IsEdit};
+ghost use Rattle.co_edits.specs.declared.edit.Edit.{Edit};
+ghost use Rattle.co_edits.specs.Edits.{IsEdit};
 ghost use Rattle.co_project.specs.Project.{Content, first, accept, accept_all};
 ghost use Rattle.co_project.specs.Script.{edits};
 ghost use Rattle.co_project.specs.Sound.{IsSound};

@@ -3,16 +3,13 @@
 #![tactic(auto)]
 
 mod contents;
-mod event_lines;
 pub mod laws;
-mod lines;
 mod node;
-mod printing;
 mod project;
 mod script;
 mod tables;
 
 pub use co_commands::{Command, EditFault, ManagerSettings, Request, refusal};
-pub use node::Node;
 pub use co_params::Params;
+pub use node::Node;
 pub use project::Project;

@@ -2,7 +2,7 @@
 ghost use Rattle.std.specs.Prelude.{◌≡◌, IfOk, IfSome, IsTrue, Ok, is_some, option_copied};
 ghost use Rattle.eds_device.specs.Faults.{device_of};
 ghost use Rattle.ini_text.specs.Content.{content_of};
-ghost use Rattle.co_commands.specs.Accepts.{Accepts};
+ghost use Rattle.co_edits.specs.Accepts.{Accepts};
 ghost use Rattle.co_project.specs.Tables.{texts_of, text_at, node_at};
 ghost use Rattle.co_project.specs.Project.{accept, first};
 ghost use Rattle.co_project.specs.Script.{script};
@@ -13,7 +13,6 @@ use crate::node::Node;
 use crate::script::script_text;
 use crate::tables::{find_node, find_text};
 use co_base::Octets;
-use co_commands::laws::eds_are_devices;
 use co_commands::{Command, EditFault, ManagerSettings};
 use co_scenario::Script;
 use std::alloc::{AllocError, Global};
@@ -91,7 +90,6 @@ impl Project {
         ensures text { option_copied result ≡ text_at self.now.texts name.now }
         ensures device { IfSome result (λ text. device_of text.now ≡ Ok (content_of text.now)) }
     {
-        eds_are_devices();
         find_text(&self.contents.texts, name)
     }
 

@@ -6,12 +6,11 @@ ghost use Rattle.co_project.specs.Script.{event_edits, node_edit, param_edit, pa
 ghost use Rattle.co_project.specs.Tables.{texts_of};
 
 use crate::contents::Contents;
-use crate::event_lines::write_event;
-use crate::lines::{
-    write_bitrate, write_eds, write_horizon, write_manager, write_node, write_param,
+use crate::tables::{Nodes, Texts};
+use co_commands::printing::{
+    write_bitrate, write_eds, write_event, write_horizon, write_manager, write_node, write_param,
 };
 use co_params::Params;
-use crate::tables::{Nodes, Texts};
 use co_scenario::Script;
 use std::alloc::{AllocError, Global};
 

@@ -4,12 +4,12 @@ ghost use Rattle.std.specs.Ordering.{nat_cmp};
 ghost use Rattle.std.specs.Map.{remove_entry};
 ghost use Rattle.std.specs.BTreeMap.{insert_entry, is_at};
 ghost use Rattle.co_project.specs.Tables.{texts_of, name_cmp, text_at, node_at, has_no_room, name_taken, params_at, put_param, drop_param, is_used, is_of, is_named, is_of_known};
-ghost use Rattle.co_commands.specs.Accepts.{Accepts};
+ghost use Rattle.co_edits.specs.Accepts.{Accepts};
 
 use crate::node::Node;
-use co_params::Params;
 use co_base::Octets;
 use co_commands::EditFault;
+use co_params::Params;
 use co_scenario::{Event, Script};
 use std::alloc::{AllocError, Global};
 use std::collections::BTreeMap;

@@ -1,12 +1,13 @@
 //! Events of the scenario as text, written at the end of an output.
-#![tactic(auto, unfolding(co_commands::specs::Lines::event_words))]
+#![tactic(auto, unfolding(crate::specs::Lines::event_words))]
 
 ghost use Rattle.std.specs.Prelude.{◌≡◌, ◌++◌, ◌∷◌, OnOk, codes, decimal};
 ghost use Rattle.co_scenario.specs.declared.event.Event.TheVariants as event;
 ghost use Rattle.co_commands.specs.Lines.{event_words, spaced, text_of};
-ghost use Rattle.co_commands.specs.declared.edit.Edit.TheVariants as edit;
+ghost use Rattle.co_edits.specs.declared.edit.Edit.TheVariants as edit;
+ghost use Rattle.std.specs.Str.{byte};
 
-use crate::printing::{write_index, write_number, write_sub, write_word};
+use crate::written::{write_index, write_number, write_sub, write_word};
 use co_scenario::{Event, NmtCommand, TimedEvent};
 use std::alloc::{AllocError, Global};
 
@@ -19,7 +20,7 @@ fn write_set(
     sub: u8,
     text: &[u8],
 ) -> Result<(), AllocError>
-    ensures { OnOk result (out.new.items ≡ out.old.items ++ 32 ∷ spaced (event_words (event.Set node index sub text.now))) }
+    ensures { OnOk result (out.new.items ≡ out.old.items ++ byte " " ∷ spaced (event_words (event.Set node index sub text.now))) }
 {
     write_word(out, b"set")?;
     write_number(out, alloc, u64::from(node))?;
@@ -31,7 +32,7 @@ fn write_set(
 
 /// Writes ` power ID on` or ` power ID off`.
 fn write_power(out: &mut Vec<u8>, alloc: Global, node: u8, on: bool) -> Result<(), AllocError>
-    ensures { OnOk result (out.new.items ≡ out.old.items ++ 32 ∷ spaced (event_words (event.Power node on))) }
+    ensures { OnOk result (out.new.items ≡ out.old.items ++ byte " " ∷ spaced (event_words (event.Power node on))) }
 {
     write_word(out, b"power")?;
     write_number(out, alloc, u64::from(node))?;
@@ -46,7 +47,7 @@ fn write_command(
     node: u8,
     command: NmtCommand,
 ) -> Result<(), AllocError>
-    ensures { OnOk result (out.new.items ≡ out.old.items ++ 32 ∷ spaced (event_words (event.Nmt node command))) }
+    ensures { OnOk result (out.new.items ≡ out.old.items ++ byte " " ∷ spaced (event_words (event.Nmt node command))) }
 {
     write_word(out, b"nmt")?;
     write_number(out, alloc, u64::from(command.number()))?;
@@ -56,7 +57,7 @@ fn write_command(
 
 /// Writes a space and what happens to a node.
 fn write_words(out: &mut Vec<u8>, alloc: Global, event: &Event) -> Result<(), AllocError>
-    ensures { OnOk result (out.new.items ≡ out.old.items ++ 32 ∷ spaced (event_words event.now)) }
+    ensures { OnOk result (out.new.items ≡ out.old.items ++ byte " " ∷ spaced (event_words event.now)) }
 {
     match event {
         Event::Set {
@@ -72,7 +73,7 @@ fn write_words(out: &mut Vec<u8>, alloc: Global, event: &Event) -> Result<(), Al
 
 /// Writes `event K TIME`.
 fn write_moment(out: &mut Vec<u8>, alloc: Global, number: u16, time: u32) -> Result<(), AllocError>
-    ensures { OnOk result (out.new.items ≡ out.old.items ++ codes "event" ++ 32 ∷ decimal number ++ 32 ∷ decimal time) }
+    ensures { OnOk result (out.new.items ≡ out.old.items ++ codes "event" ++ byte " " ∷ decimal number ++ byte " " ∷ decimal time) }
 {
     out.extend_from_slice(b"event")?;
     write_number(out, alloc, u64::from(number))?;
@@ -81,7 +82,7 @@ fn write_moment(out: &mut Vec<u8>, alloc: Global, number: u16, time: u32) -> Res
 }
 
 /// Writes `event K TIME` and what happens then.
-pub(crate) fn write_event(
+pub fn write_event(
     out: &mut Vec<u8>,
     alloc: Global,
     number: u16,

@@ -1,8 +1,8 @@
 -- Edits that are taken or refused.
 use Rattle.std.specs.Prelude.{◌≡◌, Bool, true, false, List, [], ◌∷◌, Result, Ok, Err}
 use Rattle.std.specs.Bool.{OnFalse}
-use Rattle.co_commands.specs.declared.fault.EditFault.{EditFault}
-use Rattle.co_commands.specs.Faults.{is_memory}
+use Rattle.co_edits.specs.declared.fault.EditFault.{EditFault}
+use Rattle.co_edits.specs.Faults.{is_memory}
 
 -- the first fault whose test holds refuses what is asked
 abbrev pub unless : {X : Type 0} → List (Bool × EditFault) → X → Result X EditFault

@@ -1,8 +1,9 @@
 //! Why a command is refused.
 ghost use Rattle.std.specs.Prelude.{◌≡◌};
-ghost use Rattle.co_commands.specs.declared.fault.EditFault.TheVariants.{Memory};
-ghost use Rattle.co_commands.specs.Faults.{refusal_text};
+ghost use Rattle.co_edits.specs.declared.fault.EditFault.TheVariants.{Memory};
+ghost use Rattle.co_edits.specs.Faults.{fault_of, refusal_text};
 
+use eds_device::DeviceFault;
 use std::alloc::{AllocError, AllocFailed};
 use thiserror::Error;
 
@@ -51,6 +52,19 @@ impl<T: Drop> From<AllocFailed<T>> for EditFault {
 
     fn from(_e: AllocFailed<T>) -> EditFault {
         EditFault::Memory
+    }
+}
+
+impl From<DeviceFault> for EditFault {
+    ghost from_gives = { λ f e. e ≡ fault_of f };
+
+    fn from(fault: DeviceFault) -> EditFault {
+        match fault {
+            DeviceFault::Memory => EditFault::Memory,
+            DeviceFault::Range => EditFault::Range,
+            DeviceFault::Limit => EditFault::Limit,
+            DeviceFault::BadByte => EditFault::BadByte,
+        }
     }
 }
 

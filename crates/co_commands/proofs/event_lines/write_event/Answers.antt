@@ -1,5 +1,5 @@
-use Rattle.co_project.proofs.LineLemmas.{event_written}
-use Rattle.co_project.proofs.event_lines.write_event.Goals as goal
+use Rattle.co_commands.proofs.EventLemmas.{event_written}
+use Rattle.co_commands.proofs.event_lines.write_event.Goals as goal
 
 pub returns : goal.returns
 returns c =

@@ -1,22 +1,18 @@
 -- What every edit keeps to (this profile's own).
-use Rattle.std.specs.Prelude.{◌≡◌, ℕ, List, true, Ok}
-use Rattle.ini_text.specs.Text.{lines_of}
+use Rattle.std.specs.Prelude.{◌≡◌, ℕ, List, true}
 use Rattle.co_scenario.specs.declared.event.Event.{Event}
 use Rattle.co_scenario.specs.declared.event.Event.TheVariants as event
-use Rattle.co_commands.specs.declared.edit.Edit.{Edit}
-use Rattle.co_commands.specs.declared.edit.Edit.TheVariants as edit
-use Rattle.co_commands.specs.declared.manager_settings.ManagerSettings.{ManagerSettings}
-use Rattle.co_commands.specs.Words.{is_name, is_text, is_between, is_node_number, is_node_or_all, is_own_index, is_bit_rate, is_time, is_sync_period, is_event_number}
-use Rattle.co_commands.specs.Eds.{eds_edit}
+use Rattle.co_edits.specs.declared.edit.Edit.{Edit}
+use Rattle.co_edits.specs.declared.edit.Edit.TheVariants as edit
+use Rattle.co_edits.specs.declared.manager_settings.ManagerSettings.{ManagerSettings}
+use Rattle.co_edits.specs.Forms.{is_name, is_text, is_between, is_node_number, is_node_or_all, is_own_index, is_bit_rate, is_time, is_sync_period, is_event_number}
+use Rattle.co_edits.specs.Eds.{IsEds}
 
 -- an index of an object dictionary (CiA 301), and one of its sub-indices
 abbrev pub AreIndices : ℕ → ℕ → Type 0
-AreIndices index sub = (is_between 0 65535 index ≡ true) × (is_between 0 255 sub ≡ true)
+AreIndices index sub = (is_between 0 0xFFFF index ≡ true) × (is_between 0 0xFF sub ≡ true)
 
--- the text of an EDS under its name: the edit of its own lines is it again
-unfoldable pub IsEds : List ℕ → List ℕ → Type 0
-IsEds name text = eds_edit name (lines_of text) ≡ Ok (edit.Eds name text)
-
+-- the manager's numbers (CiA 302): a node's, a period, and times in milliseconds, of which an SDO server's is at least 1
 unfoldable pub IsManager : ManagerSettings → Type 0
 IsManager m =
     (is_node_number m.id ≡ true) × (is_sync_period m.sync_us ≡ true) × (is_between 0 65535 m.heartbeat_ms ≡ true) × (is_between 1 65535 m.timeout_ms ≡ true)
@@ -25,6 +21,7 @@ IsManager m =
 unfoldable pub IsSetting : ℕ → ℕ → List ℕ → Type 0
 IsSetting index sub text = AreIndices index sub × (is_own_index index ≡ true) × (is_text text ≡ true)
 
+-- what happens to a node, or to all
 unfoldable pub IsEvent : Event → Type 0
 IsEvent (event.Set node index sub text) = (is_node_number node ≡ true) × IsSetting index sub text
 IsEvent (event.Power node on) = is_node_number node ≡ true

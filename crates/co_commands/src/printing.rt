@@ -1,16 +1,18 @@
 //! Edits as text, written at the end of an output.
-#![tactic(auto, unfolding(co_commands::specs::Lines::text_of, co_commands::specs::Lines::line_of, co_commands::specs::Lines::words_of))]
+#![tactic(auto, unfolding(crate::specs::Lines::text_of, crate::specs::Lines::line_of, crate::specs::Lines::words_of))]
 
 ghost use Rattle.std.specs.Prelude.{◌≡◌, ◌++◌, ◌∷◌, OnOk};
-ghost use Rattle.co_commands.specs.Lines.{line_count, text_of};
-ghost use Rattle.co_commands.specs.declared.edit.Edit.TheVariants as edit;
+ghost use Rattle.co_commands.specs.Lines.{text_of};
+ghost use Rattle.co_edits.specs.declared.edit.Edit.TheVariants as edit;
 
-use crate::printing::{write_index, write_number, write_sub, write_word};
-use co_commands::ManagerSettings;
+pub use crate::event_lines::write_event;
+use crate::written::{write_index, write_number, write_sub, write_word};
+use co_edits::ManagerSettings;
+use co_text::line_count;
 use std::alloc::{AllocError, Global};
 
 /// Writes `bitrate K`.
-pub(crate) fn write_bitrate(out: &mut Vec<u8>, alloc: Global, rate: u16) -> Result<(), AllocError>
+pub fn write_bitrate(out: &mut Vec<u8>, alloc: Global, rate: u16) -> Result<(), AllocError>
     ensures { OnOk result (out.new.items ≡ out.old.items ++ text_of (edit.Bitrate rate)) }
 {
     out.extend_from_slice(b"bitrate")?;
@@ -20,7 +22,7 @@ pub(crate) fn write_bitrate(out: &mut Vec<u8>, alloc: Global, rate: u16) -> Resu
 }
 
 /// Writes `horizon US`.
-pub(crate) fn write_horizon(out: &mut Vec<u8>, alloc: Global, time: u32) -> Result<(), AllocError>
+pub fn write_horizon(out: &mut Vec<u8>, alloc: Global, time: u32) -> Result<(), AllocError>
     ensures { OnOk result (out.new.items ≡ out.old.items ++ text_of (edit.Horizon time)) }
 {
     out.extend_from_slice(b"horizon")?;
@@ -30,7 +32,7 @@ pub(crate) fn write_horizon(out: &mut Vec<u8>, alloc: Global, time: u32) -> Resu
 }
 
 /// Writes `manager ID SYNC_US HB_MS TIMEOUT_MS`.
-pub(crate) fn write_manager(
+pub fn write_manager(
     out: &mut Vec<u8>,
     alloc: Global,
     manager: ManagerSettings,
@@ -46,15 +48,8 @@ pub(crate) fn write_manager(
     Ok(())
 }
 
-/// The number of lines of a text, each ended by LF.
-fn line_count(text: &[u8]) -> usize
-    ensures { result ≡ line_count text.now }
-{
-    text.iter().filter(|b| **b == b'\n').count()
-}
-
 /// Writes `eds NAME LINES` and the lines.
-pub(crate) fn write_eds(
+pub fn write_eds(
     out: &mut Vec<u8>,
     alloc: Global,
     name: &[u8],
@@ -71,7 +66,7 @@ pub(crate) fn write_eds(
 }
 
 /// Writes `node ID NAME EDS`.
-pub(crate) fn write_node(
+pub fn write_node(
     out: &mut Vec<u8>,
     alloc: Global,
     id: u8,
@@ -89,7 +84,7 @@ pub(crate) fn write_node(
 }
 
 /// Writes `param ID INDEX SUB TEXT`.
-pub(crate) fn write_param(
+pub fn write_param(
     out: &mut Vec<u8>,
     alloc: Global,
     id: u8,
