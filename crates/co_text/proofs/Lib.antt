@@ -1,3 +1,4 @@
 pub mod Capped
 pub mod DigitLemmas
+pub mod FoundLemmas
 pub mod LineLemmas

@@ -4,6 +4,8 @@ ghost use Rattle.std.specs.List.{position, suffix_len};
 ghost use Rattle.co_text.specs.Blanks.{trim_end};
 ghost use Rattle.co_text.specs.Lines.{is_cr, split_once, lines_of, line_count};
 
+use memchr::memchr;
+
 /// The number of CRs that a line ends with.
 fn last_crs(line: &[u8]) -> usize
     ensures count { result ≡ suffix_len is_cr line.now }
@@ -19,11 +21,12 @@ pub fn without_crs(line: &[u8]) -> &[u8]
     &line[..line.len() - last_crs(line)]
 }
 
-/// The place of the first `byte`.
+/// The position of the first `byte`.
+#[tactic(auto, using(crate::proofs::FoundLemmas::first_is_position))]
 fn position_of(text: &[u8], byte: u8) -> Option<usize>
     ensures { result ≡ position (λ b. b == byte) text.now }
 {
-    text.iter().position(|b| *b == byte)
+    memchr(byte, text)
 }
 
 /// What stands before the first `byte`, and what stands after it; `None` where there is none.

@@ -1,5 +1,3 @@
-pub mod FoundLemmas
-pub mod TextLemmas
 pub mod KeyedLemmas
 pub mod NameLemmas
 pub mod ContentLemmas

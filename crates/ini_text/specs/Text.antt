@@ -4,18 +4,9 @@ use Rattle.std.specs.Prelude.{ℕ, ◌-◌, Bool, List, [], ◌∷◌, ◌==◌,
 use Rattle.std.specs.List.{prefix_len, suffix_len, position_or_len, before_first, after_first, onto_first, list_any, starts_with}
 use Rattle.std.specs.Bool.{nat_eq}
 use Rattle.std.specs.Str.{byte}
-
--- a tab
-abbrev pub tab : ℕ
-tab = 9
-
--- a line feed, which ends a line
-abbrev pub lf : ℕ
-lf = 10
-
--- a carriage return
-abbrev pub cr : ℕ
-cr = 13
+pub use Rattle.co_text.specs.Blanks.{tab, trim_start, trim_end}
+pub use Rattle.co_text.specs.Lines.{line_feed, carriage_return, is_cr}
+unfoldable pub use Rattle.co_text.specs.Lines.{split_once, lines_of}
 
 -- the byte order mark of UTF-8: EF BB BF
 abbrev pub byte_order_mark : List ℕ
@@ -23,32 +14,11 @@ byte_order_mark = 0xEF ∷ 0xBB ∷ 0xBF ∷ []
 
 -- a space, a tab or a CR
 abbrev pub is_blank : ℕ → Bool
-is_blank b = (b == byte " ") || (b == tab) || (b == cr)
-
--- a CR
-abbrev pub is_cr : ℕ → Bool
-is_cr b = b == cr
-
--- without what passes at the start
-abbrev pub trim_start : (ℕ → Bool) → List ℕ → List ℕ
-trim_start p bs = drop (prefix_len p bs) bs
-
--- without what passes at the end
-abbrev pub trim_end : (ℕ → Bool) → List ℕ → List ℕ
-trim_end p bs = take (length bs - suffix_len p bs) bs
+is_blank b = (b == byte " ") || (b == tab) || (b == carriage_return)
 
 -- without spaces, tabs and CRs at its ends
 unfoldable pub trimmed : List ℕ → List ℕ
 trimmed bs = trim_end is_blank (trim_start is_blank bs)
-
--- what stands before the first b and what stands after it, where there is one
-unfoldable pub split_once : ℕ → List ℕ → Option (List ℕ × List ℕ)
-split_once b bs = if nat_lt (position_or_len (λ c. c == b) bs) (length bs) then Some (before_first (λ c. c == b) bs, after_first (λ c. c == b) bs) else None
-
--- the lines, each without its LF. What follows the last LF is a line where it isn't empty
-unfoldable pub lines_of : List ℕ → List (List ℕ)
-lines_of [] = []
-lines_of (b ∷ bs) = if b == lf then [] ∷ lines_of bs else onto_first b (lines_of bs)
 
 -- without a byte order mark at its front
 abbrev pub without_mark : List ℕ → List ℕ
@@ -64,7 +34,7 @@ is_out_of_range text = nat_lt 1048576 (length text) || list_any is_long_line (li
 
 -- a byte below 20h other than tab, LF and CR
 abbrev pub is_bad_byte : ℕ → Bool
-is_bad_byte b = nat_lt b 0x20 && not ((b == tab) || (b == lf) || (b == cr))
+is_bad_byte b = nat_lt b 0x20 && not ((b == tab) || (b == line_feed) || (b == carriage_return))
 
 -- whether a text has such a byte
 abbrev pub has_bad_byte : List ℕ → Bool
