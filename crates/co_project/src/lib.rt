@@ -7,12 +7,14 @@ mod event_lines;
 pub mod laws;
 mod lines;
 mod node;
+mod node_events;
+mod nodes;
 mod printing;
 mod project;
 mod script;
-mod tables;
+mod texts;
 
 pub use co_commands::{Command, EditFault, ManagerSettings, Request, refusal};
-pub use node::Node;
 pub use co_params::Params;
+pub use node::Node;
 pub use project::Project;
