@@ -1,12 +1,16 @@
 -- The script of a project: the edits that make it (this profile's own).
 use Rattle.std.specs.Prelude.{ℕ, List, [], ◌∷◌, ◌++◌, map}
 use Rattle.std.specs.List.{flat_map}
+use Rattle.std.specs.FinMap.{entries}
 use Rattle.co_scenario.specs.declared.timed_event.TimedEvent.{TimedEvent}
 use Rattle.co_edits.specs.declared.edit.Edit.{Edit}
 use Rattle.co_edits.specs.declared.edit.Edit.TheVariants as edit
 use Rattle.co_commands.specs.Lines.{text_of}
 use Rattle.co_project.specs.declared.node.Node.{Node}
 use Rattle.co_project.specs.Project.{Content}
+
+abbrev pub text_edit : List ℕ × List ℕ → Edit
+text_edit e = edit.Eds e.0 e.1
 
 abbrev pub node_edit : ℕ × Node → Edit
 node_edit e = edit.Node e.0 e.1.name e.1.eds
@@ -15,19 +19,16 @@ abbrev pub param_edit : ℕ → (ℕ × ℕ) × List ℕ → Edit
 param_edit id e = edit.Param id e.0.0 e.0.1 e.1
 
 abbrev pub param_edits : ℕ × Node → List Edit
-param_edits e = map (param_edit e.0) e.1.params
+param_edits e = map (param_edit e.0) (entries e.1.params)
 
-abbrev pub text_edits : List (List ℕ × List ℕ) → List Edit
-text_edits texts = map (λ e. edit.Eds e.0 e.1) texts
-
-abbrev pub event_edits : List (ℕ × TimedEvent) → List Edit
-event_edits events = map (λ e. edit.Event e.0 e.1) events
+abbrev pub event_edit : ℕ × TimedEvent → Edit
+event_edit e = edit.Event e.0 e.1
 
 -- the edits that make a project of the first one: its settings, the texts by name, the nodes by number, their parameters by node and entry, the events by number
 unfoldable pub edits : Content → List Edit
 edits p =
     (edit.Bitrate p.bitrate ∷ edit.Horizon p.horizon ∷ edit.Manager p.manager ∷ [])
-    ++ text_edits p.texts ++ map node_edit p.nodes ++ flat_map param_edits p.nodes ++ event_edits p.events
+    ++ map text_edit (entries p.texts) ++ map node_edit (entries p.nodes) ++ flat_map param_edits (entries p.nodes) ++ map event_edit (entries p.events)
 
 -- THE SCRIPT: these edits as text
 unfoldable pub script : Content → List ℕ

@@ -4,15 +4,13 @@ ghost use Rattle.co_edits.specs.Accepts.{Accepts};
 ghost use Rattle.co_edits.specs.declared.edit.Edit.TheVariants as edit;
 ghost use Rattle.co_project.specs.Project.{accept, first};
 
-use crate::tables::{
-    Nodes, Texts, drop_node, drop_param, drop_text, find_node, has_no_room, has_text, is_named,
-    is_of_known, is_used, name_taken, put_node, put_param, put_text,
-};
+use crate::node_events::{is_named, is_of_known};
+use crate::nodes::Nodes;
+use crate::texts::Texts;
 use co_base::Octets;
 use co_commands::{Edit, EditFault, ManagerSettings};
 use co_scenario::{Script, TimedEvent};
 use std::alloc::Global;
-use std::collections::BTreeMap;
 use std::marker::Model;
 
 /// What a project holds.
@@ -28,17 +26,21 @@ pub(crate) struct Contents {
 }
 
 impl Model for Contents {
-    ghost use Rattle.co_project.specs.Project.{Content};
-    ghost use Rattle.co_project.specs.Tables.{texts_of};
+    ghost use Rattle.co_edits.specs.contracts.manager_settings.ManagerSettings as settings;
+    ghost use Rattle.co_scenario.specs.contracts.timed_event.TimedEvent as timed;
+    ghost use Rattle.co_project.specs.contracts.node.Node as node;
+    ghost use Rattle.co_project.specs.Project.{Content, content_code};
 
     ghost Value = { Content };
+
+    ghost coded = { content_code settings.the_row.coded node.the_row.coded timed.the_row.coded };
 
     ghost view = { λ c. record {
       bitrate = c.bitrate;
       horizon = c.horizon;
       manager = c.manager;
-      texts = texts_of c.texts.entries;
-      nodes = c.nodes.entries;
+      texts = c.texts;
+      nodes = c.nodes;
       events = c.events;
     } };
 }
@@ -57,8 +59,8 @@ impl Contents {
                 heartbeat_ms: 0,
                 timeout_ms: 500,
             },
-            texts: BTreeMap::new(alloc),
-            nodes: BTreeMap::new(alloc),
+            texts: Texts::new(alloc),
+            nodes: Nodes::new(alloc),
             events: Script::new(alloc),
         }
     }
@@ -87,8 +89,8 @@ impl Contents {
                 index,
                 sub,
                 text,
-            } => put_param(&mut self.nodes, id, index, sub, text),
-            Edit::Unparam { id, index, sub } => drop_param(&mut self.nodes, id, index, sub),
+            } => self.nodes.put_param(id, index, sub, text),
+            Edit::Unparam { id, index, sub } => self.nodes.drop_param(id, index, sub),
             Edit::Event { number, event } => self.put_event(number, event),
             Edit::DropEvent { number } => self.drop_event(number),
         }
@@ -99,7 +101,7 @@ impl Contents {
     fn manage(&mut self, manager: ManagerSettings) -> Result<(), EditFault>
         ensures { Accepts self.old self.new result (accept self.old (edit.Manager manager)) }
     {
-        if find_node(&self.nodes, manager.id).is_some() {
+        if self.nodes.contains(manager.id) {
             return Err(EditFault::Taken);
         }
         self.manager = manager;
@@ -111,10 +113,10 @@ impl Contents {
     fn put_text(&mut self, name: Octets, text: Octets) -> Result<(), EditFault>
         ensures { Accepts self.old self.new result (accept self.old (edit.Eds name text)) }
     {
-        if has_no_room(&self.texts, name.as_slice()) {
+        if self.texts.has_no_room(name.as_slice()) {
             return Err(EditFault::Limit);
         }
-        put_text(&mut self.texts, name, text)?;
+        self.texts.put(name, text)?;
         Ok(())
     }
 
@@ -123,28 +125,28 @@ impl Contents {
     fn drop_text(&mut self, name: &[u8]) -> Result<(), EditFault>
         ensures { Accepts self.old self.new result (accept self.old (edit.DropEds name.now)) }
     {
-        if !has_text(&self.texts, name) {
+        if !self.texts.contains(name) {
             return Err(EditFault::Unknown);
         }
-        if is_used(&self.nodes, name) {
+        if self.nodes.use_text(name) {
             return Err(EditFault::InUse);
         }
-        drop_text(&mut self.texts, name);
+        self.texts.remove(name);
         Ok(())
     }
 
-    /// Gives a number a node. A known one keeps its parameters.
+    /// Gives a number a node. A known one keeps all else that it has.
     #[tactic(auto, unfolding(crate::specs::Project::accept))]
     fn put_node(&mut self, id: u8, name: Octets, eds: Octets) -> Result<(), EditFault>
         ensures { Accepts self.old self.new result (accept self.old (edit.Node id name eds)) }
     {
-        if !has_text(&self.texts, eds.as_slice()) {
+        if !self.texts.contains(eds.as_slice()) {
             return Err(EditFault::Unknown);
         }
-        if id == self.manager.id || name_taken(&self.nodes, id, name.as_slice()) {
+        if id == self.manager.id || self.nodes.name_taken(id, name.as_slice()) {
             return Err(EditFault::Taken);
         }
-        put_node(&mut self.nodes, self.alloc, id, name, eds)?;
+        self.nodes.put(self.alloc, id, name, eds)?;
         Ok(())
     }
 
@@ -153,13 +155,13 @@ impl Contents {
     fn drop_node(&mut self, id: u8) -> Result<(), EditFault>
         ensures { Accepts self.old self.new result (accept self.old (edit.DropNode id)) }
     {
-        if find_node(&self.nodes, id).is_none() {
+        if !self.nodes.contains(id) {
             return Err(EditFault::Unknown);
         }
         if is_named(&self.events, id) {
             return Err(EditFault::InUse);
         }
-        drop_node(&mut self.nodes, id);
+        self.nodes.remove(id);
         Ok(())
     }
 

@@ -5,9 +5,11 @@
 mod contents;
 pub mod laws;
 mod node;
+mod node_events;
+mod nodes;
 mod project;
 mod script;
-mod tables;
+mod texts;
 
 pub use co_commands::{Command, EditFault, ManagerSettings, Request, refusal};
 pub use co_params::Params;

@@ -1,5 +1,6 @@
 //! The project.
-ghost use Rattle.std.specs.Prelude.{◌≡◌, IfOk, IfSome, IsTrue, Ok, is_some, option_copied};
+ghost use Rattle.std.specs.Prelude.{◌≡◌, IfOk, IfSome, IsTrue, Ok, option_copied};
+ghost use Rattle.std.specs.FinMap as map;
 ghost use Rattle.eds_device.specs.Faults.{device_of};
 ghost use Rattle.ini_text.specs.Content.{content_of};
 ghost use Rattle.co_edits.specs.Accepts.{Accepts};
@@ -11,8 +12,8 @@ ghost use Rattle.co_project.specs.Sound.{IsSound};
 use crate::contents::Contents;
 use crate::node::Node;
 use crate::script::script_text;
-use crate::tables::{find_node, find_text};
 use co_base::Octets;
+use co_commands::laws::eds_are_devices;
 use co_commands::{Command, EditFault, ManagerSettings};
 use co_scenario::Script;
 use std::alloc::{AllocError, Global};
@@ -27,10 +28,13 @@ pub struct Project {
 }
 
 impl Model for Project {
+    ghost use Rattle.co_project.specs.contracts.contents.Contents as held;
     ghost use Rattle.co_project.specs.Project.{Content};
     ghost use Rattle.co_project.specs.Sound.{IsSound};
 
     ghost Value = { Content };
+
+    ghost coded = { held.the_row.coded };
 
     ghost view = { λ p. p.contents };
 
@@ -90,12 +94,13 @@ impl Project {
         ensures text { option_copied result ≡ text_at self.now.texts name.now }
         ensures device { IfSome result (λ text. device_of text.now ≡ Ok (content_of text.now)) }
     {
-        find_text(&self.contents.texts, name)
+        eds_are_devices();
+        self.contents.texts.get(name)
     }
 
     /// The texts of EDS by name.
     pub fn texts(&self) -> Iter<'_, Vec<u8>, Octets>
-        ensures { texts_of result ≡ self.now.texts }
+        ensures { texts_of result ≡ map.entries self.now.texts }
     {
         self.contents.texts.iter()
     }
@@ -103,14 +108,14 @@ impl Project {
     /// The node of a number. Its EDS is there.
     pub fn node(&self, id: u8) -> Option<&Node>
         ensures node { option_copied result ≡ node_at self.now.nodes id }
-        ensures eds { IfSome result (λ node. IsTrue (is_some (text_at self.now.texts node.now.eds))) }
+        ensures eds { IfSome result (λ node. IsTrue (map.contains_key self.now.texts node.now.eds)) }
     {
-        find_node(&self.contents.nodes, id)
+        self.contents.nodes.get(id)
     }
 
     /// The nodes by number.
     pub fn nodes(&self) -> Iter<'_, u8, Node>
-        ensures { result ≡ self.now.nodes }
+        ensures { result ≡ map.entries self.now.nodes }
     {
         self.contents.nodes.iter()
     }
@@ -120,6 +125,13 @@ impl Project {
         ensures { result.now ≡ self.now.events }
     {
         &self.contents.events
+    }
+
+    /// Says to the callers' proofs what every project keeps to, and does nothing.
+    pub fn keeps_to_rules(&self)
+        ensures { IsSound self.now }
+    {
+        let _ = &self.contents;
     }
 
     /// The commands that make this project of the first one, as text: its settings, the EDS by name
