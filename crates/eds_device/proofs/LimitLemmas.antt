@@ -1,10 +1,7 @@
 -- The limit of entries, counted by the rules.
-use Rattle.std.proofs.Common.{◌≡◌, ℕ, ◌<◌, ◌≤◌, Bool, true, false, List, length, Result, Ok, Err, ◌↔◌, refl, sym, ap, ◌∙◌, arith, inl, inr, ltb-true}
+use Rattle.std.proofs.Common.{◌≡◌, ℕ, ◌<◌, ◌≤◌, Bool, true, false, List, length, Result, Ok, Err, ◌↔◌, refl, arith, ltb-true}
 use Rattle.std.specs.Prelude.{if◌then◌else◌, nat_lt}
 use Rattle.std.specs.Bool.{IsFalse}
-use Rattle.std.specs.List.{Contains}
-use Rattle.std.specs.Ordering.{eq_by_cmp}
-use Rattle.std.specs.Set.{is_member}
 use Rattle.std.proofs.lemmas.Bool.{lt-ltb}
 use Rattle.std.proofs.lemmas.Cmp.{eq_by_cmp_equiv}
 use Rattle.std.proofs.lemmas.Map.Keys.{IsDistinct-from_sorted}
@@ -41,8 +38,8 @@ unfolding device_of
 limited_by_rules text = (
   by (is_out_of_range text) (has_bad_byte text) (nat_lt most_entries (length (pairs_of (content_of text).sections))) refl,
   λ h.
-  let large : nat_lt most_entries (length (pairs_of (content_of text).sections)) ≡ true = lt-ltb most_entries (length (pairs_of (content_of text).sections)) (omega (arith, no_more text h.1, h.1.over)) in
-  rw (h.0.0, h.0.1, large) refl,
+      let large : nat_lt most_entries (length (pairs_of (content_of text).sections)) ≡ true = lt-ltb most_entries (length (pairs_of (content_of text).sections)) (omega (arith, no_more text h.1, h.1.over)) in
+      rw (h.0.0, h.0.1, large) refl,
 )
   where
     by : (r b t : Bool) → nat_lt most_entries (length (pairs_of (content_of text).sections)) ≡ t

@@ -6,8 +6,8 @@ ghost use Rattle.eds_device.specs.Shown.{shown_described};
 
 use crate::device::Device;
 use crate::name::same;
-use crate::section::{kind_of, number_at};
 use crate::origin::Origin;
+use crate::section::{kind_of, number_at};
 use co_dict::Access;
 use co_values::DataType;
 use ini_text::Section;

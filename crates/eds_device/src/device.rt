@@ -16,9 +16,9 @@ ghost use Rattle.eds_device.specs.Origins.{is_index, sub_section, object_section
 
 use crate::fault::DeviceFault;
 use crate::index::{Listed, object_positions, sub_positions, values_positions};
+use crate::origin::Origin;
 use crate::places::places_of;
 use crate::section::{compact_count, is_plain};
-use crate::origin::Origin;
 use ini_text::{Ini, Pair, Section};
 use std::alloc::Global;
 use std::collections::BTreeMap;

@@ -10,14 +10,14 @@ mod index;
 pub mod laws;
 mod name;
 mod object_type;
+mod origin;
 mod places;
 mod section;
-mod origin;
 mod values;
 
 pub use device::Device;
 pub use fault::DeviceFault;
 pub use ini_text::{Pair, Section};
 pub use name::{index_named, place_named, sub_listed, values_named};
-pub use section::{compact_count, kind_of};
 pub use origin::Origin;
+pub use section::{compact_count, kind_of};
