@@ -1,6 +1,6 @@
 -- The numbers of an identity, which are those of the defaults, and the dummies of a shape.
 use Rattle.std.proofs.Common.{◌≡◌, ℕ, zero, suc, ◌-◌, ◌<◌, ◌≤◌, Bool, true, false, ◌&&◌, List, [], ◌∷◌, get_or, Option, None, Some, refl, sym, ap, ◌∙◌, arith}
-use Rattle.std.specs.Prelude.{if◌then◌else◌, ℤ, pos, nat_le, nat_lt, option_map, option_and_then}
+use Rattle.std.specs.Prelude.{if◌then◌else◌, pos, nat_le, option_map, option_and_then}
 use Rattle.std.specs.FinMap.{get}
 use Rattle.std.specs.Option.{option_map_or, unwrap_or}
 use Rattle.std.proofs.lemmas.Bool.{lt-ltb, leb-true}
