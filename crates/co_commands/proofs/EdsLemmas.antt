@@ -25,9 +25,7 @@ use Rattle.co_commands.proofs.TextLemmas.{trim_end_again}
 
 -- an INI text has the lines of every text
 pub same_lines : (text : List ℕ) → ini.lines_of text ≡ text_lines text
-unfolding ini.lines_of text_lines
-same_lines [] = refl
-same_lines (b ∷ text) = ap (λ (ls : List (List ℕ)). if b == 10 then [] ∷ ls else onto_first b ls) (same_lines text)
+same_lines text = refl
 
 -- a line as the text keeps it
 abbrev pub kept : List ℕ → List ℕ

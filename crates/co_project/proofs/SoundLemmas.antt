@@ -9,11 +9,11 @@ use Rattle.co_project.specs.Sound.{AreTexts, IsNodeOf, IsSound}
 use Rattle.co_project.proofs.EachLemmas.{each_weaker}
 
 -- each text of a project is that of a device
-pub texts_are_devices : (p : Content) (name : List ℕ) → ((name text : List ℕ) → IsEds name text → device_of text ≡ Ok (content_of text)) → IsSound p
+pub texts_are_devices : (p : Content) (name : List ℕ) → IsSound p
     → IfSome (get p.texts name) (λ text. device_of text ≡ Ok (content_of text))
 unfolding AreTexts
-texts_are_devices p name eds_is_a_device sound =
-    each_weaker IsEds (λ _ text. device_of text ≡ Ok (content_of text)) p.texts (λ name text there. eds_is_a_device name text) sound.texts.1 name
+texts_are_devices p name sound =
+    each_weaker IsEds (λ _ text. device_of text ≡ Ok (content_of text)) p.texts (λ name text there is. is.device) sound.texts.1 name
 
 -- the EDS of each node of a project is there
 pub nodes_have_texts : (p : Content) (id : ℕ) → IsSound p → IfSome (get p.nodes id) (λ node. contains_key p.texts node.eds ≡ true)

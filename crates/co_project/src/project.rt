@@ -13,7 +13,6 @@ use crate::contents::Contents;
 use crate::node::Node;
 use crate::script::script_text;
 use co_base::Octets;
-use co_commands::laws::eds_are_devices;
 use co_commands::{Command, EditFault, ManagerSettings};
 use co_scenario::Script;
 use std::alloc::{AllocError, Global};
@@ -94,7 +93,6 @@ impl Project {
         ensures text { option_copied result ≡ text_at self.now.texts name.now }
         ensures device { IfSome result (λ text. device_of text.now ≡ Ok (content_of text.now)) }
     {
-        eds_are_devices();
         self.contents.texts.get(name)
     }
 

@@ -6,12 +6,11 @@ ghost use Rattle.co_commands.specs.Lines.{text_of};
 ghost use Rattle.co_project.specs.Script.{event_edit, node_edit, param_edit, param_edits, script, text_edit};
 
 use crate::contents::Contents;
-use crate::tables::{Nodes, Texts};
+use crate::nodes::Nodes;
+use crate::texts::Texts;
 use co_commands::printing::{
     write_bitrate, write_eds, write_event, write_horizon, write_manager, write_node, write_param,
 };
-use crate::nodes::Nodes;
-use crate::texts::Texts;
 use co_params::Params;
 use co_scenario::Script;
 use std::alloc::{AllocError, Global};
