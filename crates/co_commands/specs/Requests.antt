@@ -16,8 +16,8 @@ use Rattle.co_commands.specs.declared.query.Query.TheVariants.{Dcf, Cdcf, Projec
 use Rattle.co_text.specs.Blanks.{is_blank_line}
 use Rattle.co_text.specs.Words.{word, after}
 use Rattle.co_edits.specs.Eds.{most_lines}
-use Rattle.co_edits.specs.Forms.{is_name, is_between, is_node_number, is_node_or_all, is_own_index, is_bit_rate, is_time, is_sync_period, is_event_number}
-use Rattle.co_commands.specs.Words.{last_word, is_bad_line, name, decimal, hexadecimal, text, limited}
+use Rattle.co_edits.specs.Forms.{is_name, limited, is_between, is_node_number, is_node_or_all, is_own_index, is_bit_rate, is_time, is_sync_period, is_event_number}
+use Rattle.co_commands.specs.Words.{last_word, is_bad_line, name, decimal, hexadecimal, text}
 
 infixl 10 ◌>>=◌
 -- a step after a step; the first fault stays
@@ -36,7 +36,7 @@ asks_query (Ok query) = Ok (QueryAsked query)
 asks_query (Err fault) = Err fault
 
 -- nothing is what a number out of its limits names
-abbrev pub or_range : {X : Type 0} → Option X → Result X EditFault
+abbrev or_range : {X : Type 0} → Option X → Result X EditFault
 or_range None = Err Range
 or_range (Some x) = Ok x
 
@@ -45,7 +45,7 @@ abbrev pub block_lines : ℕ → Result ℕ EditFault
 block_lines n = if nat_lt most_lines n then Err Syntax else Ok n
 
 -- the name of an EDS, where its command is of its form
-abbrev pub block_name : Bool → List ℕ → Option (List ℕ)
+abbrev block_name : Bool → List ℕ → Option (List ℕ)
 block_name is_bad word = if is_bad || not (is_name word) then None else Some word
 
 -- `NAME LINES`: a block follows, whatever else is wrong with the line; then it has no name
@@ -64,7 +64,7 @@ id_of rest = do
   limited is_node_number id
 
 -- the only word that follows, a name
-abbrev pub name_of : List ℕ → Result (List ℕ) EditFault
+abbrev name_of : List ℕ → Result (List ℕ) EditFault
 name_of rest = do
   last ← last_word rest
   name last

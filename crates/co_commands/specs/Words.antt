@@ -5,7 +5,7 @@ use Rattle.co_text.specs.Blanks.{is_blank_line, trimmed}
 use Rattle.co_text.specs.Words.{word, after}
 use Rattle.co_text.specs.Digits.{digits_number}
 use Rattle.co_edits.specs.declared.fault.EditFault.{EditFault}
-use Rattle.co_edits.specs.declared.fault.EditFault.TheVariants.{Syntax, Range}
+use Rattle.co_edits.specs.declared.fault.EditFault.TheVariants.{Syntax}
 use Rattle.co_edits.specs.Forms.{is_control, is_name, is_plain}
 
 -- over 4,096 bytes, or with a control byte
@@ -35,7 +35,3 @@ hexadecimal most word = number 16 most word
 -- the rest of a line without blanks at its ends, where that is a text
 abbrev pub text : List ℕ → Result (List ℕ) EditFault
 text rest = if is_plain (trimmed rest) then Ok (trimmed rest) else Err Syntax
-
--- a number that passes a test
-abbrev pub limited : (ℕ → Bool) → ℕ → Result ℕ EditFault
-limited fits n = if fits n then Ok n else Err Range

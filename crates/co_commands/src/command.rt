@@ -6,9 +6,8 @@ ghost use Rattle.co_edits.specs.Eds.{lines_of, eds_edit};
 ghost use Rattle.co_edits.specs.Edits.{IsEdit};
 
 use crate::block::{check, has_bad_line, has_long_line, text_of};
-use crate::words::is_name;
 use co_base::Octets;
-use co_edits::{Edit, EditFault};
+use co_edits::{Edit, EditFault, is_name};
 use std::alloc::Global;
 use std::marker::Model;
 

@@ -6,11 +6,10 @@ ghost use Rattle.co_edits.specs.Forms.{is_node_number};
 ghost use Rattle.co_commands.specs.Requests.{id_of, bitrate_of, horizon_of, manager_of, drop_eds_of, node_of, drop_node_of, param_of, unparam_of};
 
 use crate::command::Command;
-use crate::numbers::{
-    bit_rate, decimal, index, limited, node_number, own_index, sub_index, sync_period, time,
-};
+use crate::numbers::{decimal, index, sub_index};
 use crate::words::{last_word, name, text};
 use co_base::Octets;
+use co_edits::limits::{bit_rate, limited, node_number, own_index, sync_period, time};
 use co_edits::{Edit, EditFault, ManagerSettings};
 use co_text::next_word;
 use std::alloc::Global;

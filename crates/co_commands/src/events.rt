@@ -5,11 +5,10 @@ ghost use Rattle.co_edits.specs.Faults.{is_memory};
 ghost use Rattle.co_commands.specs.Requests.{set_of, switch, power_of, nmt, nmt_of, happening_of, event_of, drop_event_of};
 
 use crate::command::Command;
-use crate::numbers::{
-    decimal, event_number, index, node_number, node_or_all, own_index, sub_index, time,
-};
+use crate::numbers::{decimal, index, sub_index};
 use crate::words::{last_word, text};
 use co_base::Octets;
+use co_edits::limits::{event_number, node_number, node_or_all, own_index, time};
 use co_edits::{Edit, EditFault};
 use co_scenario::{Event, NmtCommand, TimedEvent};
 use co_text::next_word;

@@ -9,9 +9,9 @@ use crate::edits::{bitrate, drop_eds, drop_node, horizon, manager, node, param, 
 use crate::events::{drop_event, event};
 use crate::numbers::decimal;
 use crate::query::Query;
-use crate::words::{is_bad_line, is_name, last_word};
+use crate::words::{is_bad_line, last_word};
 use co_base::Octets;
-use co_edits::EditFault;
+use co_edits::{EditFault, is_name};
 use co_text::next_word;
 use std::alloc::Global;
 

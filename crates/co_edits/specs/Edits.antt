@@ -8,11 +8,11 @@ use Rattle.co_edits.specs.declared.manager_settings.ManagerSettings.{ManagerSett
 use Rattle.co_edits.specs.Forms.{is_name, is_text, is_between, is_node_number, is_node_or_all, is_own_index, is_bit_rate, is_time, is_sync_period, is_event_number}
 use Rattle.co_edits.specs.Eds.{IsEds}
 
--- an index of an object dictionary (CiA 301), and one of its sub-indices
+-- an index of an object dictionary and a sub-index (CiA 301)
 abbrev pub AreIndices : ℕ → ℕ → Type 0
 AreIndices index sub = (is_between 0 0xFFFF index ≡ true) × (is_between 0 0xFF sub ≡ true)
 
--- the manager's numbers (CiA 302): a node's, a period, and times in milliseconds, of which an SDO server's is at least 1
+-- the manager (CiA 302): the number of its node, the period of SYNC, and in milliseconds its heartbeat's time and the longest wait for an SDO answer
 unfoldable pub IsManager : ManagerSettings → Type 0
 IsManager m =
     (is_node_number m.id ≡ true) × (is_sync_period m.sync_us ≡ true) × (is_between 0 65535 m.heartbeat_ms ≡ true) × (is_between 1 65535 m.timeout_ms ≡ true)

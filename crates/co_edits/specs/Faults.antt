@@ -33,7 +33,7 @@ judged (Ok content) = Ok tt
 judged (Err fault) = Err (fault_of fault)
 
 -- the number of a fault, and its name
-abbrev pub name_of : EditFault → List ℕ
+abbrev name_of : EditFault → List ℕ
 name_of Memory = codes "1 Memory"
 name_of Syntax = codes "2 Syntax"
 name_of Range = codes "3 Range"

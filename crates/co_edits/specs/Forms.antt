@@ -1,9 +1,11 @@
 -- The forms of words and texts, and the limits of numbers (this profile's own).
-use Rattle.std.specs.Prelude.{ℕ, Bool, ◌||◌, ◌&&◌, not, List, [], ◌∷◌, length, nat_lt, nat_le, ◌==◌}
+use Rattle.std.specs.Prelude.{ℕ, Bool, ◌||◌, ◌&&◌, not, List, [], ◌∷◌, length, nat_lt, nat_le, ◌==◌, if◌then◌else◌, Result, Ok, Err}
 use Rattle.std.specs.List.{list_any, list_all}
 use Rattle.std.specs.Str.{byte, bytes_eq}
 use Rattle.co_text.specs.Blanks.{tab, trimmed}
 use Rattle.co_dict.specs.Pdos.{is_of_pdos}
+use Rattle.co_edits.specs.declared.fault.EditFault.{EditFault}
+use Rattle.co_edits.specs.declared.fault.EditFault.TheVariants.{Range}
 
 -- from low to high, both included
 abbrev pub is_between : ℕ → ℕ → ℕ → Bool
@@ -32,6 +34,10 @@ abbrev pub is_text : List ℕ → Bool
 is_text text = is_plain text && bytes_eq (trimmed text) text
 
 -- ---- numbers
+
+-- a number that passes a test
+abbrev pub limited : (ℕ → Bool) → ℕ → Result ℕ EditFault
+limited fits n = if fits n then Ok n else Err Range
 
 -- the number of a node (CiA 301)
 abbrev pub is_node_number : ℕ → Bool

@@ -3,8 +3,11 @@
 
 mod edit;
 mod fault;
+mod forms;
+pub mod limits;
 mod manager_settings;
 
 pub use edit::Edit;
 pub use fault::{EditFault, refusal};
+pub use forms::{has_control, is_name, is_plain};
 pub use manager_settings::ManagerSettings;
