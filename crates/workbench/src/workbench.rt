@@ -30,8 +30,11 @@ pub struct Workbench {
 
 impl Model for Workbench {
     ghost use Rattle.co_project.specs.Project.{Content};
+    ghost use Rattle.co_project.specs.contracts.project.Project as held;
 
     ghost Value = { Content };
+
+    ghost coded = { held.the_row.coded };
 
     ghost view = { λ workbench. workbench.project };
 }
