@@ -11,8 +11,6 @@ mod numbers;
 #[cfg(test)]
 mod octets;
 #[cfg(test)]
-mod parameters;
-#[cfg(test)]
 mod scenarios;
 #[cfg(test)]
 mod texts;

@@ -64,18 +64,17 @@ fn is_write(write: &Write, index: u16, sub: u8, bytes: &[u8]) -> bool {
 }
 
 fn two_writes_are_encoded(alloc: Global) -> Result<bool, AllocError> {
-    let writes = [
-        Write {
-            index: 0x1400,
-            sub: 1,
-            bytes: Octets::from_slice(alloc, &[0x05, 0x02, 0, 0x80])?,
-        },
-        Write {
-            index: 0x6000,
-            sub: 0xFF,
-            bytes: Octets::from_slice(alloc, &[1])?,
-        },
-    ];
+    let mut writes = Vec::new(alloc);
+    writes.push(Write {
+        index: 0x1400,
+        sub: 1,
+        bytes: Octets::from_slice(alloc, &[0x05, 0x02, 0, 0x80])?,
+    })?;
+    writes.push(Write {
+        index: 0x6000,
+        sub: 0xFF,
+        bytes: Octets::from_slice(alloc, &[1])?,
+    })?;
     let bytes = encode(alloc, &writes)?;
     Ok(bytes.as_slice() == TWO.as_slice())
 }

@@ -323,6 +323,19 @@ fn spells(
     }
 }
 
+/// Whether a text spells these bytes, and what is printed spells them again.
+fn is_spelled_again(
+    alloc: Global,
+    kind: DataType,
+    text: &[u8],
+    bytes: &[u8],
+    printed: &[u8],
+) -> Result<bool, AllocError> {
+    let is_spelled = spells(alloc, kind, text, bytes, printed)?;
+    let is_again = spells(alloc, kind, printed, bytes, printed)?;
+    Ok(is_spelled && is_again)
+}
+
 /// Whether so many letters spell a value of 512 bytes, which has a text of as many digits or letters.
 fn is_longest(alloc: Global, kind: DataType, count: usize) -> Result<bool, AllocError> {
     let Some(text) = LETTERS.get(..count) else {
@@ -380,9 +393,7 @@ fn begins_with_zeros(alloc: Global, kind: DataType) -> Result<bool, AllocError> 
 #[test]
 fn texts_spell_values(rt: HostRuntime) -> Result<(), AllocError> {
     for (kind, text, bytes, printed) in &READABLE {
-        assert!(rt; spells(rt.alloc(), *kind, text, bytes, printed)?);
-        // what is printed spells the same again
-        assert!(rt; spells(rt.alloc(), *kind, printed, bytes, printed)?);
+        assert!(rt; is_spelled_again(rt.alloc(), *kind, text, bytes, printed)?);
     }
     Ok(())
 }

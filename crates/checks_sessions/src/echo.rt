@@ -13,6 +13,13 @@ pub struct Echo<'a, W> {
     shown: W,
 }
 
+/// Shows a line.
+fn show<W: Write>(shown: &mut W, line: &[u8]) -> io::Result<()> {
+    shown.write_all(b"> ")?;
+    shown.write_all(line.strip_suffix(b"\n").unwrap_or(line))?;
+    shown.write_all(b"\n")
+}
+
 impl<'a, W: Write> Echo<'a, W> {
     pub fn new(text: &'a [u8], shown: W) -> Self {
         Echo {
@@ -20,13 +27,6 @@ impl<'a, W: Write> Echo<'a, W> {
             begins: true,
             shown,
         }
-    }
-
-    fn show(&mut self, line: &[u8]) -> io::Result<()> {
-        self.shown.write_all(b"> ")?;
-        self.shown
-            .write_all(line.strip_suffix(b"\n").unwrap_or(line))?;
-        self.shown.write_all(b"\n")
     }
 }
 
@@ -37,7 +37,7 @@ impl<W: Write> Read for Echo<'_, W> {
         }
         let mut line = &self.rest[..line_len(self.rest)];
         if self.begins {
-            self.show(line)?;
+            show(&mut self.shown, line)?;
         }
         let given = line.read(buf)?;
         self.begins = line.is_empty();
