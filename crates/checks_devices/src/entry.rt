@@ -4,25 +4,27 @@ use crate::sheet::{NODE, Sheet};
 use crate::shown::{show_number, show_octets, show_text};
 use anyhow::Result;
 use co_params::judge;
-use eds_device::{Device, Origin};
+use eds_device::{Device, Origin, Section};
 use std::io;
 use std::io::Write;
 
 /// The texts that are judged as parameters.
 const TEXTS: [&str; 5] = ["1", "-1", "300", "$NODEID", "ABCD"];
 
-/// The section that an entry stands in, and the highest sub-index of a compact object.
-fn show_origin<W: Write>(out: &mut W, device: &Device, index: u16, sub: u8) -> io::Result<()> {
-    let (section, highest) = match device.origin(index, sub) {
-        Some(Origin::Own(section)) => (section, None),
-        Some(Origin::Compact(section, highest)) => (section, Some(highest)),
-        None => return Ok(()),
-    };
+fn show_section<W: Write>(out: &mut W, section: &Section) -> io::Result<()> {
     out.write_all(b" [")?;
     out.write_all(section.name())?;
-    out.write_all(b"]")?;
-    match highest {
-        Some(highest) => write!(out, " compact to {highest}"),
+    out.write_all(b"]")
+}
+
+/// The section that an entry stands in, and the highest sub-index of a compact object.
+fn show_origin<W: Write>(out: &mut W, device: &Device, index: u16, sub: u8) -> io::Result<()> {
+    match device.origin(index, sub) {
+        Some(Origin::Own(section)) => show_section(out, section),
+        Some(Origin::Compact(section, highest)) => {
+            show_section(out, section)?;
+            write!(out, " compact to {highest}")
+        }
         None => Ok(()),
     }
 }
@@ -51,7 +53,7 @@ fn show_texts<W: Write>(out: &mut W, device: &Device, index: u16, sub: u8) -> io
 }
 
 /// Whether the shape has this entry and its index, and the value that it begins with.
-fn show_kept<W: Write>(out: &mut W, sheet: &Sheet, index: u16, sub: u8) -> io::Result<()> {
+fn show_kept<W: Write>(out: &mut W, sheet: &Sheet<'_>, index: u16, sub: u8) -> io::Result<()> {
     let is_same = sheet.shape.entry(index, sub).copied() == sheet.device.entry(NODE, index, sub);
     let has_index = sheet.shape.has_index(index);
     writeln!(out, "  shape as said: {is_same}, index there: {has_index}")?;
@@ -60,17 +62,10 @@ fn show_kept<W: Write>(out: &mut W, sheet: &Sheet, index: u16, sub: u8) -> io::R
 }
 
 /// What some texts give it as parameters.
-fn show_judgements<W: Write>(out: &mut W, sheet: &Sheet, index: u16, sub: u8) -> Result<()> {
+fn show_judgements<W: Write>(out: &mut W, sheet: &Sheet<'_>, index: u16, sub: u8) -> Result<()> {
     for text in &TEXTS {
         write!(out, "  given {text}:")?;
-        let given = judge(
-            sheet.alloc,
-            &sheet.device,
-            NODE,
-            index,
-            sub,
-            text.as_bytes(),
-        )?;
+        let given = judge(sheet.alloc, sheet.device, NODE, index, sub, text.as_bytes())?;
         match given {
             Ok(bytes) => show_octets(out, Some(bytes.as_slice()))?,
             Err(fault) => writeln!(out, " {fault:?}")?,
@@ -80,9 +75,9 @@ fn show_judgements<W: Write>(out: &mut W, sheet: &Sheet, index: u16, sub: u8) ->
 }
 
 /// Shows all that is said of an entry.
-pub fn show_entry<W: Write>(out: &mut W, sheet: &Sheet, index: u16, sub: u8) -> Result<()> {
-    show_line(out, &sheet.device, index, sub)?;
-    show_texts(out, &sheet.device, index, sub)?;
+pub fn show_entry<W: Write>(out: &mut W, sheet: &Sheet<'_>, index: u16, sub: u8) -> Result<()> {
+    show_line(out, sheet.device, index, sub)?;
+    show_texts(out, sheet.device, index, sub)?;
     show_kept(out, sheet, index, sub)?;
     show_judgements(out, sheet, index, sub)
 }

@@ -21,11 +21,15 @@ fn ones(alloc: Global, device: &Device) -> Result<Params, AllocError> {
     Ok(params)
 }
 
+fn show_write<W: Write>(out: &mut W, entry: &Entry) -> io::Result<()> {
+    let (index, sub) = (entry.index, entry.sub);
+    write!(out, "  {index:04X}:{sub:02X}")?;
+    show_octets(out, Some(entry.bytes.as_slice()))
+}
+
 fn show_writes<W: Write>(out: &mut W, entries: &[Entry]) -> io::Result<()> {
     for entry in entries {
-        let (index, sub) = (entry.index, entry.sub);
-        write!(out, "  {index:04X}:{sub:02X}")?;
-        show_octets(out, Some(entry.bytes.as_slice()))?;
+        show_write(out, entry)?;
     }
     Ok(())
 }

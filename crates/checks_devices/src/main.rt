@@ -17,7 +17,7 @@ fn show(rt: &HostRuntime, path: &str) -> Result<()> {
     let text = fs::read(rt, path)?;
     match Device::read(rt.alloc(), &text) {
         Ok(device) => {
-            let sheet = Sheet::new(rt.alloc(), device)?;
+            let sheet = Sheet::new(rt.alloc(), &device)?;
             show_sheet(&mut rt.stdout(), &sheet)
         }
         Err(fault) => {

@@ -17,17 +17,18 @@ const ABSENT: [(u16, u8); 2] = [(0x1017, 0xFF), (0xFFFF, 0)];
 
 /// A device, with its shape and a copy of its defaults at the node.
 #[derive(Drop)]
-pub struct Sheet {
+pub struct Sheet<'a> {
     pub alloc: Global,
-    pub device: Device,
+    pub device: &'a Device,
     pub shape: Shape,
     pub defaults: Dict,
 }
 
-impl Sheet {
-    pub fn new(alloc: Global, device: Device) -> Result<Sheet, AllocError> {
+impl<'a> Sheet<'a> {
+    pub fn new(alloc: Global, device: &'a Device) -> Result<Self, AllocError> {
         let shape = device.shape(NODE)?;
-        let defaults = device.defaults(NODE)?.copy()?;
+        let defaults = device.defaults(NODE)?;
+        let defaults = defaults.copy()?;
         Ok(Sheet {
             alloc,
             device,
@@ -51,7 +52,7 @@ fn show_head<W: Write>(out: &mut W, device: &Device) -> io::Result<()> {
 }
 
 /// The types whose dummies an RPDO may map, as the device and as its shape has them.
-fn show_dummies<W: Write>(out: &mut W, sheet: &Sheet) -> io::Result<()> {
+fn show_dummies<W: Write>(out: &mut W, sheet: &Sheet<'_>) -> io::Result<()> {
     write!(out, "dummies:")?;
     for kind in 0..=8 {
         if sheet.device.dummy_allowed(kind) {
@@ -65,7 +66,7 @@ fn show_dummies<W: Write>(out: &mut W, sheet: &Sheet) -> io::Result<()> {
 }
 
 /// Shows each entry.
-fn show_entries<W: Write>(out: &mut W, sheet: &Sheet) -> Result<()> {
+fn show_entries<W: Write>(out: &mut W, sheet: &Sheet<'_>) -> Result<()> {
     let (count, is_empty) = (sheet.shape.len(), sheet.shape.is_empty());
     writeln!(out, "entries: {count}, none: {is_empty}")?;
     for (index, sub) in sheet.device.pairs() {
@@ -78,9 +79,9 @@ fn show_entries<W: Write>(out: &mut W, sheet: &Sheet) -> Result<()> {
 }
 
 /// Shows all that is said of a device, and the files that it gets.
-pub fn show_sheet<W: Write>(out: &mut W, sheet: &Sheet) -> Result<()> {
-    show_head(out, &sheet.device)?;
+pub fn show_sheet<W: Write>(out: &mut W, sheet: &Sheet<'_>) -> Result<()> {
+    show_head(out, sheet.device)?;
     show_dummies(out, sheet)?;
     show_entries(out, sheet)?;
-    show_files(sheet.alloc, out, &sheet.device)
+    show_files(sheet.alloc, out, sheet.device)
 }

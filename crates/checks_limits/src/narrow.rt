@@ -58,11 +58,11 @@ impl<'a> Narrow<'a> {
         }
     }
 
-    /// How many of some bytes are taken.
-    fn taken_of(&self, length: usize) -> usize {
+    /// How many more bytes are taken.
+    fn room(&self) -> usize {
         match self.trouble {
-            Trouble::Room(room) => length.min(room.saturating_sub(self.text.len())),
-            Trouble::Nothing | Trouble::Write(_) | Trouble::Flush(_) => length,
+            Trouble::Room(room) => room.saturating_sub(self.text.len()),
+            Trouble::Nothing | Trouble::Write(_) | Trouble::Flush(_) => usize::MAX,
         }
     }
 }
@@ -74,7 +74,7 @@ impl Write for Narrow<'_> {
         if self.trouble == Trouble::Write(number) {
             return Err(ErrorKind::Other.into());
         }
-        let taken = self.taken_of(buf.len());
+        let taken = buf.len().min(self.room());
         self.text.extend_from_slice(&buf[..taken])?;
         Ok(taken)
     }
