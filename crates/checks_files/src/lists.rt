@@ -1,7 +1,7 @@
 //! Lists of writes as concise DCFs, and the bytes that they carry.
 use co_base::Octets;
 use concise_dcf::{ConciseFault, Write, decode, encode};
-use std::test::Fail;
+use std::alloc::{AllocError, Global};
 
 /// 100 to 1017h:00, as an UNSIGNED16.
 const HEARTBEAT: [u8; 13] = [1, 0, 0, 0, 0x17, 0x10, 0, 2, 0, 0, 0, 0x64, 0];
@@ -58,58 +58,62 @@ const FAULTS: [(&[u8], ConciseFault); 14] = [
     ),
 ];
 
+/// Whether a write is of this entry and these bytes.
+fn is_write(write: &Write, index: u16, sub: u8, bytes: &[u8]) -> bool {
+    write.index == index && write.sub == sub && write.bytes.as_slice() == bytes
+}
+
+fn two_writes_are_encoded(alloc: Global) -> Result<bool, AllocError> {
+    let mut writes = Vec::new(alloc);
+    writes.push(Write {
+        index: 0x1400,
+        sub: 1,
+        bytes: Octets::from_slice(alloc, &[0x05, 0x02, 0, 0x80])?,
+    })?;
+    writes.push(Write {
+        index: 0x6000,
+        sub: 0xFF,
+        bytes: Octets::from_slice(alloc, &[1])?,
+    })?;
+    let bytes = encode(alloc, &writes)?;
+    Ok(bytes.as_slice() == TWO.as_slice())
+}
+
+fn two_writes_are_decoded(alloc: Global) -> Result<bool, ConciseFault> {
+    let writes = decode(alloc, &TWO)?;
+    let [first, second] = writes.as_slice() else {
+        return Ok(false);
+    };
+    Ok(is_write(first, 0x1400, 1, &[0x05, 0x02, 0, 0x80]) && is_write(second, 0x6000, 0xFF, &[1]))
+}
+
+fn a_heartbeat_is_decoded_and_copied(alloc: Global) -> Result<bool, ConciseFault> {
+    let writes = decode(alloc, &HEARTBEAT)?;
+    let [write] = writes.as_slice() else {
+        return Ok(false);
+    };
+    let copy = write.clone()?;
+    Ok(is_write(&copy, 0x1017, 0, &[0x64, 0]))
+}
+
+fn an_empty_list_has_four_bytes(alloc: Global) -> Result<bool, ConciseFault> {
+    let writes = decode(alloc, &[0; 4])?;
+    let bytes = encode(alloc, &[])?;
+    Ok(writes.is_empty() && bytes.as_slice() == [0; 4].as_slice())
+}
+
 #[test]
-fn lists(rt: HostRuntime) -> Result<(), Fail> {
-    let alloc = rt.alloc();
-    assert_eq!(rt; decode(alloc, &[0; 4])?.len(), 0);
-    assert_eq!(rt; encode(alloc, &[])?.as_slice(), [0; 4].as_slice());
-    let writes = [
-        Write {
-            index: 0x1400,
-            sub: 1,
-            bytes: Octets::from_slice(alloc, &[0x05, 0x02, 0, 0x80])?,
-        },
-        Write {
-            index: 0x6000,
-            sub: 0xFF,
-            bytes: Octets::from_slice(alloc, &[1])?,
-        },
-    ];
-    assert_eq!(rt; encode(alloc, &writes)?.as_slice(), TWO.as_slice());
-    let read = decode(alloc, &TWO)?;
-    assert_eq!(rt; read.len(), 2);
-    for (write, want) in read.iter().zip(&writes) {
-        assert_eq!(rt; write.index, want.index);
-        assert_eq!(rt; write.sub, want.sub);
-        assert_eq!(rt; write.bytes.as_slice(), want.bytes.as_slice());
-    }
-    for write in decode(alloc, &HEARTBEAT)? {
-        let copy = write.clone()?;
-        assert_eq!(rt; copy.index, 0x1017);
-        assert_eq!(rt; copy.sub, 0);
-        assert_eq!(rt; copy.bytes.as_slice(), [0x64, 0].as_slice());
-    }
+fn lists_and_their_bytes(rt: HostRuntime) -> Result<(), ConciseFault> {
+    assert!(rt; an_empty_list_has_four_bytes(rt.alloc())?);
+    assert!(rt; a_heartbeat_is_decoded_and_copied(rt.alloc())?);
+    assert!(rt; two_writes_are_encoded(rt.alloc())?);
+    assert!(rt; two_writes_are_decoded(rt.alloc())?);
     Ok(())
 }
 
 #[test]
-fn faults(rt: HostRuntime) {
-    for (bytes, want) in &FAULTS {
-        let fault = decode(rt.alloc(), bytes).err();
-        assert_eq!(rt; fault, Some(*want), "{bytes:?}");
+fn bytes_that_are_no_list_have_their_first_fault(rt: HostRuntime) {
+    for (bytes, fault) in &FAULTS {
+        assert!(rt; decode(rt.alloc(), bytes).err() == Some(*fault));
     }
-}
-
-#[test]
-fn octets(rt: HostRuntime) -> Result<(), Fail> {
-    let alloc = rt.alloc();
-    for bytes in [[].as_slice(), [0].as_slice(), [0, 1, 0xFF].as_slice()] {
-        let octets = Octets::from_slice(alloc, bytes)?;
-        assert_eq!(rt; octets.len(), bytes.len());
-        assert_eq!(rt; octets.is_empty(), bytes.is_empty());
-        assert_eq!(rt; octets.as_slice(), bytes);
-        assert_eq!(rt; octets.clone()?.as_slice(), bytes);
-        assert_eq!(rt; Octets::from_vec(octets.into_vec()).as_slice(), bytes);
-    }
-    Ok(())
 }

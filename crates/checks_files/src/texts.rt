@@ -1,7 +1,6 @@
 //! INI texts.
-use ini_text::{Ini, IniFault};
+use ini_text::{Ini, IniFault, Section};
 use std::alloc::{AllocError, Global};
-use std::test::Fail;
 
 /// A comment, a doubled key, the byte E4h, a type that is not modelled, junk, and a doubled section.
 const BYTE_KEPT: &[u8] =
@@ -83,84 +82,135 @@ const CHANGES: [(&[u8], &[u8], &[u8], &[u8]); 3] = [
 /// A comment that is one byte too long.
 const LINE: [u8; 4097] = [b';'; 4097];
 
-#[test]
-fn read_and_printed(rt: HostRuntime) -> Result<(), Fail> {
-    for (text, warnings, print) in &TEXTS {
-        let ini = Ini::read(rt.alloc(), text)?;
-        assert_eq!(rt; ini.warnings(), *warnings, "{text:?}");
-        assert_eq!(rt; ini.print()?.as_slice(), *print, "{text:?}");
-    }
-    Ok(())
+/// Parts of a text before and after so many bytes of `LINE`, and the fault.
+type LongRow = (&'static [u8], usize, &'static [u8], Option<IniFault>);
+
+const LONG_LINES: [LongRow; 13] = [
+    (b"", 4096, b"", None),
+    (b"", 4097, b"", Some(IniFault::Range)),
+    // the CRs at its end and its LF don't count, other blanks and CRs do
+    (b"[a]\n", 4096, b"\r\r\r\nk=1\n", None),
+    (b"[a]\n", 4097, b"\r\n", Some(IniFault::Range)),
+    (b"", 4096, b" \n", Some(IniFault::Range)),
+    (b"", 4095, b"\r;\n", Some(IniFault::Range)),
+    // a byte order mark does
+    (b"\xEF\xBB\xBF", 4093, b"\n", None),
+    (b"\xEF\xBB\xBF", 4094, b"\n", Some(IniFault::Range)),
+    // bytes of control, but for tab, LF and CR; the range comes first
+    (b"[a]\n\t;", 0, b"\0", Some(IniFault::BadByte)),
+    (b"\x1F", 0, b"\n", Some(IniFault::BadByte)),
+    (b"[a]\nk=", 0, b"\x0B\n", Some(IniFault::BadByte)),
+    (b"\0\n", 4096, b"\n", Some(IniFault::BadByte)),
+    (b"\0\n", 4097, b"\n", Some(IniFault::Range)),
+];
+
+/// Whether a text has these warnings, and is printed so.
+fn is_printed(
+    alloc: Global,
+    text: &[u8],
+    warnings: &[u32],
+    print: &[u8],
+) -> Result<bool, IniFault> {
+    let ini = Ini::read(alloc, text)?;
+    let printed = ini.print()?;
+    Ok(ini.warnings() == warnings && printed.as_slice() == print)
 }
 
-#[test]
-fn looked_up_and_set(rt: HostRuntime) -> Result<(), Fail> {
-    let mut ini = Ini::read(rt.alloc(), BYTE_KEPT)?;
-    assert_eq!(rt; ini.sections().len(), 1);
-    for section in ini.sections() {
-        assert_eq!(rt; section.name(), b"2000".as_slice());
-        assert_eq!(rt; section.get(b"defaultvalue"), Some(b"1.5".as_slice()));
-        assert_eq!(rt; section.get(b"junk"), None);
-        assert_eq!(rt; section.pairs().len(), 3);
-        for pair in section.pairs() {
-            assert_eq!(rt; section.get(pair.key()), Some(pair.value()));
-        }
+/// Whether a section of `BYTE_KEPT` has its name, its values, and each of its pairs.
+fn is_section_kept(section: &Section) -> bool {
+    let mut has_pairs = section.pairs().len() == 3;
+    for pair in section.pairs() {
+        has_pairs = has_pairs && section.get(pair.key()) == Some(pair.value());
     }
-    assert_eq!(rt;
-        ini.get(b"2000", b"PARAMETERNAME"),
-        Some(b"K\xE4lte".as_slice())
-    );
-    assert_eq!(rt; ini.get(b"2001", b"ParameterName"), None);
-    for (section, key, value, print) in &CHANGES {
-        ini.set(section, key, value)?;
-        assert_eq!(rt; ini.get(section, key), Some(*value));
-        assert_eq!(rt; ini.print()?.as_slice(), *print);
-    }
-    assert_eq!(rt; ini.warnings(), [4, 7].as_slice());
-    Ok(())
+    has_pairs
+        && section.name() == b"2000".as_slice()
+        && section.get(b"defaultvalue") == Some(b"1.5".as_slice())
+        && section.get(b"junk").is_none()
 }
 
-/// What reading three parts in a row answers.
-fn fault_of(alloc: Global, parts: [&[u8]; 3]) -> Result<Option<IniFault>, AllocError> {
-    let mut text = Vec::new(alloc);
-    for part in parts {
-        text.extend_from_slice(part)?;
+fn is_byte_kept_text_looked_up(alloc: Global) -> Result<bool, IniFault> {
+    let ini = Ini::read(alloc, BYTE_KEPT)?;
+    let [section] = ini.sections() else {
+        return Ok(false);
+    };
+    Ok(
+        is_section_kept(section)
+            && ini.get(b"2000", b"PARAMETERNAME") == Some(b"K\xE4lte".as_slice())
+            && ini.get(b"2001", b"ParameterName").is_none(),
+    )
+}
+
+/// Whether a value that is set is there, and the text is printed so; the warnings stay.
+fn is_set(
+    ini: &mut Ini,
+    section: &[u8],
+    key: &[u8],
+    value: &[u8],
+    print: &[u8],
+) -> Result<bool, AllocError> {
+    ini.set(section, key, value)?;
+    let printed = ini.print()?;
+    let is_there = ini.get(section, key) == Some(value);
+    Ok(is_there && printed.as_slice() == print && ini.warnings() == [4, 7].as_slice())
+}
+
+/// The fault of a text of three parts.
+fn fault_of(
+    alloc: Global,
+    first: &[u8],
+    second: &[u8],
+    third: &[u8],
+) -> Result<Option<IniFault>, AllocError> {
+    let mut text = Vec::from_slice(alloc, first)?;
+    text.extend_from_slice(second)?;
+    text.extend_from_slice(third)?;
+    Ok(Ini::read(alloc, &text).err())
+}
+
+/// Whether a row of `LONG_LINES` has its fault.
+fn has_fault(alloc: Global, row: &LongRow) -> Result<bool, AllocError> {
+    let (first, count, third, fault) = *row;
+    match LINE.get(..count) {
+        Some(second) => Ok(fault_of(alloc, first, second, third)? == fault),
+        None => Ok(false),
     }
+}
+
+/// The fault of so many LF.
+fn fault_of_breaks(alloc: Global, count: usize) -> Result<Option<IniFault>, AllocError> {
+    let text = vec![in alloc; b'\n'; count]?;
     Ok(Ini::read(alloc, &text).err())
 }
 
 #[test]
-fn faults(rt: HostRuntime) -> Result<(), Fail> {
-    for (first, count, last, want) in [
-        (b"".as_slice(), 4096, b"".as_slice(), None),
-        (b"", 4097, b"", Some(IniFault::Range)),
-        // the CRs at its end and its LF don't count, other blanks and CRs do
-        (b"[a]\n", 4096, b"\r\r\r\nk=1\n", None),
-        (b"[a]\n", 4097, b"\r\n", Some(IniFault::Range)),
-        (b"", 4096, b" \n", Some(IniFault::Range)),
-        (b"", 4095, b"\r;\n", Some(IniFault::Range)),
-        // a byte order mark does
-        (b"\xEF\xBB\xBF", 4093, b"\n", None),
-        (b"\xEF\xBB\xBF", 4094, b"\n", Some(IniFault::Range)),
-        // bytes of control, but for tab, LF and CR; the range comes first
-        (b"[a]\n\t;", 0, b"\0", Some(IniFault::BadByte)),
-        (b"\x1F", 0, b"\n", Some(IniFault::BadByte)),
-        (b"[a]\nk=", 0, b"\x0B\n", Some(IniFault::BadByte)),
-        (b"\0\n", 4096, b"\n", Some(IniFault::BadByte)),
-        (b"\0\n", 4097, b"\n", Some(IniFault::Range)),
-    ] {
-        let middle = LINE.get(..count).ok_or("over the line")?;
-        let fault = fault_of(rt.alloc(), [first, middle, last])?;
-        assert_eq!(rt; fault, want, "{first:?} {count} {last:?}");
+fn texts_are_read_and_printed(rt: HostRuntime) -> Result<(), IniFault> {
+    for (text, warnings, print) in &TEXTS {
+        assert!(rt; is_printed(rt.alloc(), text, warnings, print)?);
     }
     Ok(())
 }
 
 #[test]
-fn longest_text(rt: HostRuntime) -> Result<(), Fail> {
-    let mut text = vec![in rt.alloc(); b'\n'; 1_048_576]?;
-    assert!(rt; Ini::read(rt.alloc(), &text).is_ok());
-    text.push(b'\n')?;
-    assert_eq!(rt; Ini::read(rt.alloc(), &text).err(), Some(IniFault::Range));
+fn keys_are_looked_up_and_set(rt: HostRuntime) -> Result<(), IniFault> {
+    assert!(rt; is_byte_kept_text_looked_up(rt.alloc())?);
+    let mut ini = Ini::read(rt.alloc(), BYTE_KEPT)?;
+    for (section, key, value, print) in &CHANGES {
+        assert!(rt; is_set(&mut ini, section, key, value, print)?);
+    }
+    Ok(())
+}
+
+#[test]
+fn long_lines_and_bytes_of_control_are_faults(rt: HostRuntime) -> Result<(), AllocError> {
+    for row in &LONG_LINES {
+        assert!(rt; has_fault(rt.alloc(), row)?);
+    }
+    Ok(())
+}
+
+#[test]
+fn texts_of_1048576_bytes_and_one_more(rt: HostRuntime) -> Result<(), AllocError> {
+    assert!(rt; fault_of_breaks(rt.alloc(), 1_048_576)?.is_none());
+    assert!(rt; fault_of_breaks(rt.alloc(), 1_048_577)? == Some(IniFault::Range));
     Ok(())
 }

@@ -1,7 +1,6 @@
 //! Values of each type, and their texts.
 use co_values::{DataType, Form, default_value, from_le, hex_text, to_le, value_of, width_bits};
 use std::alloc::{AllocError, Global};
-use std::test::Fail;
 
 /// A type, a text, the bytes that it spells at node 127, and their text in a DCF.
 type Row = (DataType, &'static [u8], &'static [u8], &'static [u8]);
@@ -278,6 +277,22 @@ const TYPES: [(i128, DataType, Option<u32>); 16] = [
 /// 1,026 letters `a`, which are hexadecimal digits too.
 const LETTERS: [u8; 1026] = [b'a'; 1026];
 
+/// A type without a fixed length, the length of the longest text of letters that it has, and that of
+/// a longer one.
+const LONGEST: [(DataType, usize, usize); 3] = [
+    (DataType::VisibleString, 512, 513),
+    (DataType::OctetString, 1024, 1026),
+    (DataType::Domain, 1024, 1026),
+];
+
+/// A number, and its eight bytes.
+const LITTLE: [(u64, [u8; 8]); 4] = [
+    (0, [0; 8]),
+    (0x80000205, [0x05, 0x02, 0, 0x80, 0, 0, 0, 0]),
+    (0x0102030405060708, [8, 7, 6, 5, 4, 3, 2, 1]),
+    (u64::MAX, [0xFF; 8]),
+];
+
 /// The bytes that a text spells at node 127, and their text in a DCF.
 fn spelled(
     alloc: Global,
@@ -294,82 +309,125 @@ fn spelled(
     }
 }
 
+/// Whether a text spells these bytes, which are printed so.
+fn spells(
+    alloc: Global,
+    kind: DataType,
+    text: &[u8],
+    bytes: &[u8],
+    printed: &[u8],
+) -> Result<bool, AllocError> {
+    match spelled(alloc, kind, text)? {
+        Some((value, print)) => Ok(value.as_slice() == bytes && print.as_slice() == printed),
+        None => Ok(false),
+    }
+}
+
+/// Whether a text spells these bytes, and what is printed spells them again.
+fn is_spelled_again(
+    alloc: Global,
+    kind: DataType,
+    text: &[u8],
+    bytes: &[u8],
+    printed: &[u8],
+) -> Result<bool, AllocError> {
+    let is_spelled = spells(alloc, kind, text, bytes, printed)?;
+    let is_again = spells(alloc, kind, printed, bytes, printed)?;
+    Ok(is_spelled && is_again)
+}
+
+/// Whether so many letters spell a value of 512 bytes, which has a text of as many digits or letters.
+fn is_longest(alloc: Global, kind: DataType, count: usize) -> Result<bool, AllocError> {
+    let Some(text) = LETTERS.get(..count) else {
+        return Ok(false);
+    };
+    match spelled(alloc, kind, text)? {
+        Some((value, print)) => Ok(value.len() == 512 && print.len() == count),
+        None => Ok(false),
+    }
+}
+
+/// Whether a text spells no value at node 127.
+fn spells_none(alloc: Global, kind: DataType, text: &[u8]) -> Result<bool, AllocError> {
+    let value = value_of(alloc, kind, text, 127)?;
+    Ok(value.is_none())
+}
+
+/// Whether so many letters spell no value.
+fn is_longer(alloc: Global, kind: DataType, count: usize) -> Result<bool, AllocError> {
+    match LETTERS.get(..count) {
+        Some(text) => spells_none(alloc, kind, text),
+        None => Ok(false),
+    }
+}
+
+/// Whether an integer's form has this width.
+fn has_width(kind: DataType, bits: Option<u32>, octets: Option<usize>) -> bool {
+    match kind.form() {
+        Form::Signed(width) | Form::Unsigned(width) => {
+            Some(width.bits()) == bits && Some(width.octets()) == octets
+        }
+        _ => true,
+    }
+}
+
+/// Whether a type is that of a code, and is as wide as it says.
+fn is_type(code: i128, kind: DataType, bits: Option<u32>) -> bool {
+    let octets = bits.map(|bits| bits.div_ceil(8) as usize);
+    let is_integer = bits.is_some() && kind != DataType::Boolean;
+    DataType::of_code(code) == kind
+        && width_bits(kind) == bits
+        && kind.fixed_len() == octets
+        && kind.is_modelled() == (kind != DataType::NotModelled)
+        && kind.is_integer() == is_integer
+        && has_width(kind, bits, octets)
+}
+
+/// Whether an entry without a default begins with as many zeros as its type has bytes.
+fn begins_with_zeros(alloc: Global, kind: DataType) -> Result<bool, AllocError> {
+    let value = default_value(alloc, kind)?;
+    let is_zero = value.bytes.as_slice().iter().all(|byte| *byte == 0);
+    Ok(value.kind == kind && value.bytes.len() == kind.fixed_len().unwrap_or(0) && is_zero)
+}
+
 #[test]
-fn readable(rt: HostRuntime) -> Result<(), Fail> {
+fn texts_spell_values(rt: HostRuntime) -> Result<(), AllocError> {
     for (kind, text, bytes, printed) in &READABLE {
-        // what is printed spells the same again
-        for text in [text, printed] {
-            let (value, print) = spelled(rt.alloc(), *kind, text)?.ok_or("no value")?;
-            assert_eq!(rt; value.as_slice(), *bytes, "{kind:?} {text:?}");
-            assert_eq!(rt; print.as_slice(), *printed, "{kind:?} {text:?}");
-        }
+        assert!(rt; is_spelled_again(rt.alloc(), *kind, text, bytes, printed)?);
     }
     Ok(())
 }
 
 #[test]
-fn refused(rt: HostRuntime) -> Result<(), Fail> {
+fn texts_spell_no_value(rt: HostRuntime) -> Result<(), AllocError> {
     for (kind, text) in &REFUSED {
-        let value = value_of(rt.alloc(), *kind, text, 127)?;
-        assert!(rt; value.is_none(), "{kind:?} {text:?}");
+        assert!(rt; spells_none(rt.alloc(), *kind, text)?);
     }
     Ok(())
 }
 
 #[test]
-fn long_texts(rt: HostRuntime) -> Result<(), Fail> {
-    for (kind, most, longer) in [
-        (DataType::VisibleString, 512, 513),
-        (DataType::OctetString, 1024, 1026),
-        (DataType::Domain, 1024, 1026),
-    ] {
-        let most = LETTERS.get(..most).ok_or("over the letters")?;
-        let (value, print) = spelled(rt.alloc(), kind, most)?.ok_or("no value")?;
-        assert_eq!(rt; value.len(), 512, "{kind:?}");
-        assert_eq!(rt; print.len(), most.len(), "{kind:?}");
-        let longer = LETTERS.get(..longer).ok_or("over the letters")?;
-        let value = value_of(rt.alloc(), kind, longer, 127)?;
-        assert!(rt; value.is_none(), "{kind:?}");
+fn values_of_512_bytes_and_longer_texts(rt: HostRuntime) -> Result<(), AllocError> {
+    for (kind, longest, longer) in &LONGEST {
+        assert!(rt; is_longest(rt.alloc(), *kind, *longest)?);
+        assert!(rt; is_longer(rt.alloc(), *kind, *longer)?);
     }
     Ok(())
 }
 
 #[test]
-fn types(rt: HostRuntime) -> Result<(), Fail> {
-    for (code, kind, bits) in TYPES {
-        assert_eq!(rt; DataType::of_code(code), kind, "{code}");
-        assert_eq!(rt; width_bits(kind), bits, "{kind:?}");
-        let octets = bits.map(|bits| bits.div_ceil(8) as usize);
-        assert_eq!(rt; kind.fixed_len(), octets, "{kind:?}");
-        assert_eq!(rt;
-            kind.is_modelled(),
-            kind != DataType::NotModelled,
-            "{kind:?}"
-        );
-        let is_integer = bits.is_some() && kind != DataType::Boolean;
-        assert_eq!(rt; kind.is_integer(), is_integer, "{kind:?}");
-        if let Form::Signed(width) | Form::Unsigned(width) = kind.form() {
-            assert_eq!(rt; Some(width.bits()), bits, "{kind:?}");
-            assert_eq!(rt; Some(width.octets()), octets, "{kind:?}");
-        }
-        let value = default_value(rt.alloc(), kind)?;
-        assert_eq!(rt; value.kind, kind);
-        assert_eq!(rt; value.bytes.len(), octets.unwrap_or(0), "{kind:?}");
-        let is_zero = value.bytes.as_slice().iter().all(|byte| *byte == 0);
-        assert!(rt; is_zero, "{kind:?}");
+fn types_have_codes_and_widths(rt: HostRuntime) -> Result<(), AllocError> {
+    for (code, kind, bits) in &TYPES {
+        assert!(rt; is_type(*code, *kind, *bits));
+        assert!(rt; begins_with_zeros(rt.alloc(), *kind)?);
     }
     Ok(())
 }
 
 #[test]
-fn little_endian(rt: HostRuntime) {
-    for (number, bytes) in [
-        (0, [0; 8]),
-        (0x80000205, [0x05, 0x02, 0, 0x80, 0, 0, 0, 0]),
-        (0x0102030405060708, [8, 7, 6, 5, 4, 3, 2, 1]),
-        (u64::MAX, [0xFF; 8]),
-    ] {
-        assert_eq!(rt; to_le(number), bytes);
-        assert_eq!(rt; from_le(bytes), number);
+fn numbers_are_little_endian(rt: HostRuntime) {
+    for (number, bytes) in &LITTLE {
+        assert!(rt; to_le(*number) == *bytes);
+        assert!(rt; from_le(*bytes) == *number);
     }
 }

@@ -1,6 +1,6 @@
 //! As many texts, parameters, nodes, events and entries as there can be, and one more of each.
 
-use crate::expect::expect;
+use crate::expect::gives;
 use std::alloc::{AllocError, Global};
 use std::fmt::Write;
 use workbench::SessionFault;
@@ -110,21 +110,41 @@ const ENTRIES_REPLIES: &[u8] = b"\
     02 00 00 00 0F 20 FE 01 00 00 00 07 0F 30 00 01\n\
     00 00 00 08\n";
 
-#[test]
-fn most_texts_and_nodes(rt: HostRuntime) -> Result<(), SessionFault> {
-    let alloc = rt.alloc();
+fn has_most_texts(alloc: Global) -> Result<bool, SessionFault> {
     let replies = oks(alloc, 64, TEXTS_REPLIES)?;
-    expect(&rt, texts(alloc)?.as_bytes(), replies.as_bytes())?;
+    gives(alloc, texts(alloc)?.as_bytes(), replies.as_bytes())
+}
+
+fn has_most_nodes(alloc: Global) -> Result<bool, SessionFault> {
     let replies = oks(alloc, 127, NODES_REPLIES)?;
-    expect(&rt, nodes(alloc)?.as_bytes(), replies.as_bytes())?;
-    expect(&rt, entries(alloc)?.as_bytes(), ENTRIES_REPLIES)
+    gives(alloc, nodes(alloc)?.as_bytes(), replies.as_bytes())
+}
+
+fn has_most_entries(alloc: Global) -> Result<bool, SessionFault> {
+    gives(alloc, entries(alloc)?.as_bytes(), ENTRIES_REPLIES)
+}
+
+fn has_most_parameters(alloc: Global) -> Result<bool, SessionFault> {
+    let replies = oks(alloc, 4099, PARAMETERS_REPLIES)?;
+    gives(alloc, parameters(alloc)?.as_bytes(), replies.as_bytes())
+}
+
+fn has_most_events(alloc: Global) -> Result<bool, SessionFault> {
+    let replies = oks(alloc, 10_002, &events_replies(alloc)?)?;
+    gives(alloc, events(alloc)?.as_bytes(), replies.as_bytes())
 }
 
 #[test]
-fn most_parameters_and_events(rt: HostRuntime) -> Result<(), SessionFault> {
-    let alloc = rt.alloc();
-    let replies = oks(alloc, 4099, PARAMETERS_REPLIES)?;
-    expect(&rt, parameters(alloc)?.as_bytes(), replies.as_bytes())?;
-    let replies = oks(alloc, 10_002, &events_replies(alloc)?)?;
-    expect(&rt, events(alloc)?.as_bytes(), replies.as_bytes())
+fn most_texts_and_nodes(rt: HostRuntime) -> Result<(), SessionFault> {
+    assert!(rt; has_most_texts(rt.alloc())?);
+    assert!(rt; has_most_nodes(rt.alloc())?);
+    Ok(())
+}
+
+#[test]
+fn most_entries_parameters_and_events(rt: HostRuntime) -> Result<(), SessionFault> {
+    assert!(rt; has_most_entries(rt.alloc())?);
+    assert!(rt; has_most_parameters(rt.alloc())?);
+    assert!(rt; has_most_events(rt.alloc())?);
+    Ok(())
 }

@@ -1,5 +1,6 @@
-//! Checks of limits: the longest input that a session takes, the largest numbers that a project
-//! has, and each edit at its limits and beyond.
+//! Checks of what is generated or hostile: the longest inputs, lines and texts that a session takes,
+//! the largest numbers that a project has, and streams that come in pieces, fail or stop; and of the
+//! calls of a workbench.
 #![tactic(auto)]
 
 #[cfg(test)]
@@ -7,8 +8,20 @@ mod breaks;
 #[cfg(test)]
 mod counts;
 #[cfg(test)]
-mod edits;
-#[cfg(test)]
 mod expect;
 #[cfg(test)]
+mod failing_readers;
+#[cfg(test)]
+mod failing_writers;
+#[cfg(test)]
 mod longest_input;
+#[cfg(test)]
+mod longest_lines;
+#[cfg(test)]
+mod narrow;
+#[cfg(test)]
+mod pieces;
+#[cfg(test)]
+mod replies_in_time;
+#[cfg(test)]
+mod workbench_calls;

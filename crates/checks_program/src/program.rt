@@ -1,12 +1,14 @@
 //! Checks of the words, of FILE, and of streams that fail.
 
 use command_line::{complain, run};
-use std::alloc::AllocError;
+use std::alloc::{AllocError, Global};
 use std::io::{ErrorKind, Read, Write};
-use std::process::Abort;
 use std::rt::Files;
 use std::test::Fail;
 use std::{env, fs, io, process};
+
+/// The status of the program, its output and its faults.
+type Outcome<'a> = (u8, &'a [u8], &'a [u8]);
 
 /// A stream whose every call fails.
 #[derive(Drop)]
@@ -44,22 +46,53 @@ fn status_of<R: Files + AllocGlobal, I: Read, O: Write, E: Write>(
     Ok(run(rt, &words, input, output, faults))
 }
 
-/// Runs the program, which has to give this status, output and faults.
-fn expect<R: Abort + Files + AllocGlobal, I: Read>(
+/// Whether the program gives this status, output and faults, and leaves this of its input.
+fn gives<R: Files + AllocGlobal, I: Read>(
     rt: &R,
     rest: &[&str],
     input: &mut I,
-    want: (u8, &[u8], &[u8]),
-) -> Result<(), AllocError> {
-    let mut output = Vec::new(rt.alloc());
-    let mut faults = Vec::new(rt.alloc());
-    let status = status_of(rt, rest, input, &mut output, &mut faults)?;
-    assert_eq!(rt;
-        (status, output.as_slice(), faults.as_slice()),
-        want,
-        "{rest:?}"
-    );
-    Ok(())
+    want: Outcome<'_>,
+) -> Result<bool, AllocError> {
+    let (status, output, faults) = want;
+    let mut written = Vec::new(rt.alloc());
+    let mut told = Vec::new(rt.alloc());
+    let given = status_of(rt, rest, input, &mut written, &mut told)?;
+    Ok(given == status && written.as_slice() == output && told.as_slice() == faults)
+}
+
+/// Whether the program gives this, and has read none of its input.
+fn gives_unread<R: Files + AllocGlobal>(
+    rt: &R,
+    rest: &[&str],
+    want: Outcome<'_>,
+) -> Result<bool, AllocError> {
+    let mut input = SCRIPT;
+    let is_given = gives(rt, rest, &mut input, want)?;
+    Ok(is_given && input == SCRIPT)
+}
+
+/// Whether the program answers a script from its input, all of which it reads.
+fn answers_input<R: Files + AllocGlobal>(
+    rt: &R,
+    script: &[u8],
+    replies: &[u8],
+) -> Result<bool, AllocError> {
+    let mut input = script;
+    let is_given = gives(rt, &[], &mut input, (0, replies, b""))?;
+    Ok(is_given && input.is_empty())
+}
+
+/// Whether the program answers a script from a file, and reads none of its input.
+fn answers_file<R: Files + AllocGlobal>(
+    rt: &R,
+    path: &str,
+    script: &[u8],
+    replies: &[u8],
+) -> io::Result<bool> {
+    fs::write(rt, path, script)?;
+    let is_given = gives_unread(rt, &["--script", path], (0, replies, b""))?;
+    fs::remove_file(rt, path)?;
+    Ok(is_given)
 }
 
 const SCRIPT: &[u8] = b"dcf 5\nbitrate 500\n";
@@ -89,19 +122,63 @@ const NO_FILE: &[u8] = b"\
     \n\
     For more information, try '--help'.\n";
 
+/// Words after the program's name, and what it gives for them before FILE is opened.
+const WORDS: [(&[&str], Outcome<'static>); 5] = [
+    (&["--help"], (0, HELP, b"")),
+    (&["-h"], (0, HELP, b"")),
+    (&["--work"], (2, b"", UNEXPECTED)),
+    (&["--script"], (2, b"", NO_FILE)),
+    (&["--work", "--script", "/nosuch"], (2, b"", UNEXPECTED)),
+];
+
+/// Words after the program's name, and its status where every stream fails.
+const STATUSES: [(&[&str], u8); 4] = [
+    (&["--help"], 0),
+    (&[], 1),
+    (&["--script", "/nosuch"], 1),
+    (&["--work"], 2),
+];
+
+/// Why the words can't be had, the status, and what is told.
+const NO_WORDS: [(ErrorKind, u8, &[u8]); 2] = [
+    (ErrorKind::OutOfMemory, 1, b"cobench: 1 Memory\n"),
+    (
+        ErrorKind::InvalidData,
+        2,
+        b"error: invalid UTF-8 was detected in one or more arguments\n",
+    ),
+];
+
+/// Whether the program ends with this status where its output has no room.
+fn ends_without_room<R: Files + AllocGlobal>(rt: &R) -> Result<bool, AllocError> {
+    let mut told = Vec::new(rt.alloc());
+    let mut input = SCRIPT;
+    let status = status_of(rt, &[], &mut input, &mut [].as_mut_slice(), &mut told)?;
+    Ok(status == 1 && told.as_slice() == b"cobench: 3 Write\n".as_slice())
+}
+
+/// Whether the program ends with this status where its output and its faults fail.
+fn ends_broken<R: Files + AllocGlobal>(
+    rt: &R,
+    rest: &[&str],
+    status: u8,
+) -> Result<bool, AllocError> {
+    let mut input = SCRIPT;
+    let given = status_of(rt, rest, &mut input, &mut Broken, &mut Broken)?;
+    Ok(given == status)
+}
+
+/// Whether this is told where the words can't be had.
+fn complains(alloc: Global, kind: ErrorKind, status: u8, want: &[u8]) -> bool {
+    let mut told = Vec::new(alloc);
+    let given = complain(&kind.into(), &mut told);
+    given == status && told.as_slice() == want
+}
+
 #[test]
-fn words_are_judged_first(rt: HostRuntime) -> Result<(), Fail> {
-    for (rest, status, output, faults) in [
-        (["--help"].as_slice(), 0, HELP, b"".as_slice()),
-        (&["-h"], 0, HELP, b""),
-        (&["--work"], 2, b"", UNEXPECTED),
-        (&["--script"], 2, b"", NO_FILE),
-        // before FILE is opened
-        (&["--work", "--script", "/nosuch"], 2, b"", UNEXPECTED),
-    ] {
-        let mut input = SCRIPT;
-        expect(&rt, rest, &mut input, (status, output, faults))?;
-        assert_eq!(rt; input, SCRIPT);
+fn words_are_judged_first(rt: HostRuntime) -> Result<(), AllocError> {
+    for (rest, want) in &WORDS {
+        assert!(rt; gives_unread(&rt, rest, *want)?);
     }
     Ok(())
 }
@@ -111,67 +188,32 @@ fn commands_come_from_the_input_or_from_a_file(rt: HostRuntime) -> Result<(), Fa
     let folder = env::temp_dir(&rt)?;
     let id = process::id(rt.process());
     let file = format!(in rt.alloc(); "{}/cobench-{id}", folder.as_str())?;
-    let read_file = ["--script", file.as_str()];
-    for (script, replies) in [(b"".as_slice(), b"".as_slice()), (SCRIPT, REPLIES)] {
-        let mut input = script;
-        expect(&rt, &[], &mut input, (0, replies, b""))?;
-        assert!(rt; input.is_empty());
-        fs::write(&rt, file.as_str(), script)?;
-        let mut input = b"project\n".as_slice();
-        expect(&rt, &read_file, &mut input, (0, replies, b""))?;
-        assert_eq!(rt; input, b"project\n".as_slice());
-    }
-    fs::remove_file(&rt, file.as_str())?;
-    // no such file, and a folder
-    for path in [file.as_str(), folder.as_str()] {
-        let mut input = SCRIPT;
-        expect(&rt, &["--script", path], &mut input, (1, b"", CANNOT_READ))?;
-        assert_eq!(rt; input, SCRIPT);
+    let path = file.as_str();
+    assert!(rt; answers_input(&rt, b"", b"")?);
+    assert!(rt; answers_input(&rt, SCRIPT, REPLIES)?);
+    assert!(rt; answers_file(&rt, path, b"", b"")?);
+    assert!(rt; answers_file(&rt, path, SCRIPT, REPLIES)?);
+    // no such file now, and a folder
+    let unread = (1, b"".as_slice(), CANNOT_READ);
+    assert!(rt; gives_unread(&rt, &["--script", path], unread)?);
+    assert!(rt; gives_unread(&rt, &["--script", folder.as_str()], unread)?);
+    Ok(())
+}
+
+#[test]
+fn streams_that_fail_are_named(rt: HostRuntime) -> Result<(), AllocError> {
+    let mut input = SCRIPT.chain(Broken);
+    assert!(rt; gives(&rt, &[], &mut input, (1, REPLIES, CANNOT_READ))?);
+    assert!(rt; ends_without_room(&rt)?);
+    for (rest, status) in &STATUSES {
+        assert!(rt; ends_broken(&rt, rest, *status)?);
     }
     Ok(())
 }
 
 #[test]
-fn streams_fail(rt: HostRuntime) -> Result<(), Fail> {
-    expect(
-        &rt,
-        &[],
-        &mut SCRIPT.chain(Broken),
-        (1, REPLIES, CANNOT_READ),
-    )?;
-
-    let mut faults = Vec::new(rt.alloc());
-    let mut input = SCRIPT;
-    let status = status_of(&rt, &[], &mut input, &mut [].as_mut_slice(), &mut faults)?;
-    assert_eq!(rt; status, 1);
-    assert_eq!(rt; faults.as_slice(), b"cobench: 3 Write\n".as_slice());
-
-    for (rest, status) in [
-        (["--help"].as_slice(), 0),
-        (&[], 1),
-        (&["--script", "/nosuch"], 1),
-        (&["--work"], 2),
-    ] {
-        let mut input = SCRIPT;
-        let given = status_of(&rt, rest, &mut input, &mut Broken, &mut Broken)?;
-        assert_eq!(rt; given, status, "{rest:?}");
+fn words_cannot_be_had(rt: HostRuntime) {
+    for (kind, status, want) in &NO_WORDS {
+        assert!(rt; complains(rt.alloc(), *kind, *status, want));
     }
-    Ok(())
-}
-
-#[test]
-fn words_cannot_be_had(rt: HostRuntime) -> Result<(), Fail> {
-    for (kind, status, want) in [
-        (ErrorKind::OutOfMemory, 1, b"cobench: 1 Memory\n".as_slice()),
-        (
-            ErrorKind::InvalidData,
-            2,
-            b"error: invalid UTF-8 was detected in one or more arguments\n",
-        ),
-    ] {
-        let mut faults = Vec::new(rt.alloc());
-        assert_eq!(rt; complain(&kind.into(), &mut faults), status);
-        assert_eq!(rt; faults.as_slice(), want);
-    }
-    Ok(())
 }

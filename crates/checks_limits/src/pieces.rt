@@ -5,14 +5,15 @@ use std::cell::Cell;
 use std::io;
 use std::io::{ErrorKind, Read};
 
-/// Gives its bytes, at most so many a read, and then ends or fails. At each read it notes how many
-/// bytes the writer has taken.
+/// Gives its bytes, at most so many a read; one read may fail, and those after it go on. At each
+/// read it notes how many bytes the writer has let go out.
 #[derive(Drop)]
 pub struct Pieces<'a> {
     bytes: &'a [u8],
     step: usize,
-    fails: bool,
-    taken: &'a Cell<usize>,
+    /// The number of the read that fails, from 0.
+    failing: Option<usize>,
+    gone_out: &'a Cell<usize>,
     noted: Vec<usize>,
 }
 
@@ -21,18 +22,19 @@ impl<'a> Pieces<'a> {
         alloc: Global,
         bytes: &'a [u8],
         step: usize,
-        fails: bool,
-        taken: &'a Cell<usize>,
+        failing: Option<usize>,
+        gone_out: &'a Cell<usize>,
     ) -> Self {
         Pieces {
             bytes,
             step,
-            fails,
-            taken,
+            failing,
+            gone_out,
             noted: Vec::new(alloc),
         }
     }
 
+    /// For each read how many bytes had gone out.
     pub fn noted(&self) -> &[usize] {
         &self.noted
     }
@@ -40,8 +42,9 @@ impl<'a> Pieces<'a> {
 
 impl Read for Pieces<'_> {
     fn read(&mut self, buf: &mut [u8]) -> io::Result<usize> {
-        self.noted.push(self.taken.get())?;
-        if self.bytes.is_empty() && self.fails {
+        let number = self.noted.len();
+        self.noted.push(self.gone_out.get())?;
+        if self.failing == Some(number) {
             return Err(ErrorKind::Other.into());
         }
         let length = self.bytes.len().min(self.step);

@@ -1,0 +1,82 @@
+//! The calls of a workbench.
+
+use co_project::{Command, EditFault, Request};
+use std::alloc::Global;
+use workbench::Workbench;
+
+const DCF: &[u8] = b"\
+    [1017]\n\
+    DataType=6\n\
+    ParameterValue=0x0064\n\
+    [DeviceComissioning]\n\
+    NodeID=5\n\
+    NodeName=pump\n\
+    Baudrate=500\n";
+
+const CONCISE: &[u8] = b"\x01\0\0\0\x17\x10\0\x02\0\0\0\x64\0";
+
+const SCRIPT: &[u8] = b"\
+    bitrate 500\n\
+    horizon 1000000\n\
+    manager 127 0 0 500\n\
+    eds a 2\n\
+    [1017]\n\
+    DataType=6\n\
+    node 5 pump a\n\
+    param 5 1017 00 100\n";
+
+/// Lines that ask for edits, and the fault of each.
+const EDITS: [(&[u8], Option<EditFault>); 5] = [
+    (b"bitrate 500", None),
+    (b"node 5 pump a", None),
+    (b"param 5 1017 0 100", None),
+    (b"param 6 1017 0 100", Some(EditFault::Unknown)),
+    (b"drop-eds a", Some(EditFault::InUse)),
+];
+
+/// Numbers of no node: 127 is the manager's.
+const OTHERS: [u8; 4] = [0, 6, 127, 128];
+
+/// Gives a workbench the EDS `a`.
+fn give_eds(alloc: Global, workbench: &mut Workbench) -> Result<(), EditFault> {
+    let mut lines = Vec::new(alloc);
+    lines.push(Vec::from_slice(alloc, b"[1017]\r")?)?;
+    lines.push(Vec::from_slice(alloc, b"DataType=6")?)?;
+    workbench.edit(Command::eds(alloc, b"a", &lines)?)
+}
+
+/// Reads a line that asks for an edit, and takes it.
+fn edit(alloc: Global, workbench: &mut Workbench, line: &[u8]) -> Result<(), EditFault> {
+    match Request::read(alloc, line)? {
+        Request::Edit(command) => workbench.edit(command),
+        _ => Err(EditFault::Syntax),
+    }
+}
+
+/// Whether these are the files of node 5, and the commands of the project.
+fn has_files(workbench: &Workbench) -> Result<bool, EditFault> {
+    let dcf = workbench.dcf(5)?;
+    let concise = workbench.concise(5)?;
+    let script = workbench.script()?;
+    Ok(dcf.as_slice() == DCF && concise.as_slice() == CONCISE && script.as_slice() == SCRIPT)
+}
+
+/// Whether a number is answered by Unknown.
+fn is_unknown(workbench: &Workbench, number: u8) -> bool {
+    let unknown = Some(EditFault::Unknown);
+    workbench.dcf(number).err() == unknown && workbench.concise(number).err() == unknown
+}
+
+#[test]
+fn edits_and_files_of_a_workbench(rt: HostRuntime) -> Result<(), EditFault> {
+    let mut workbench = Workbench::new(rt.alloc());
+    give_eds(rt.alloc(), &mut workbench)?;
+    for (line, fault) in &EDITS {
+        assert!(rt; edit(rt.alloc(), &mut workbench, line).err() == *fault);
+    }
+    assert!(rt; has_files(&workbench)?);
+    for number in &OTHERS {
+        assert!(rt; is_unknown(&workbench, *number));
+    }
+    Ok(())
+}
