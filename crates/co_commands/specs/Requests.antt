@@ -11,7 +11,9 @@ use Rattle.co_scenario.specs.declared.event.Event.TheVariants as event
 use Rattle.co_scenario.specs.declared.nmt_command.NmtCommand.{NmtCommand}
 use Rattle.co_scenario.specs.Commands.{command_of as nmt_command}
 use Rattle.co_commands.specs.declared.request.Request.{Request}
-use Rattle.co_commands.specs.declared.request.Request.TheVariants.{Edit as EditAsked, Dcf, Cdcf, Project, Block}
+use Rattle.co_commands.specs.declared.request.Request.TheVariants.{Edit as EditAsked, Query as QueryAsked, Block}
+use Rattle.co_commands.specs.declared.query.Query.{Query}
+use Rattle.co_commands.specs.declared.query.Query.TheVariants.{Dcf, Cdcf, Project}
 use Rattle.co_commands.specs.Words.{word, after, last_word, is_blank, is_bad_line, is_name, name, decimal, hexadecimal, text, is_between, limited, is_node_number, is_node_or_all, is_own_index, is_bit_rate, is_time, is_sync_period, is_event_number}
 
 infixl 10 ◌>>=◌
@@ -24,6 +26,11 @@ abbrev pub ◌>>=◌ : {A B : Type 0} → Result A EditFault → (A → Result B
 abbrev pub asks_edit : Result Edit EditFault → Result Request EditFault
 asks_edit (Ok edit) = Ok (EditAsked edit)
 asks_edit (Err fault) = Err fault
+
+-- a query is asked
+abbrev pub asks_query : Result Query EditFault → Result Request EditFault
+asks_query (Ok query) = Ok (QueryAsked query)
+asks_query (Err fault) = Err fault
 
 -- nothing is what a number out of its limits names
 abbrev pub or_range : {X : Type 0} → Option X → Result X EditFault
@@ -207,7 +214,7 @@ drop_event_of rest = do
   Ok (edit.DropEvent number)
 
 -- what a query asks
-unfoldable pub query_of : List ℕ → List ℕ → Result Request EditFault
+unfoldable pub query_of : List ℕ → List ℕ → Result Query EditFault
 query_of first rest =
     if bytes_eq first (codes "dcf") then (id_of rest >>= λ id. Ok (Dcf id))
     else if bytes_eq first (codes "cdcf") then (id_of rest >>= λ id. Ok (Cdcf id))
@@ -227,7 +234,7 @@ command_of first rest =
     else if bytes_eq first (codes "unparam") then asks_edit (unparam_of rest)
     else if bytes_eq first (codes "event") then asks_edit (event_of rest)
     else if bytes_eq first (codes "drop-event") then asks_edit (drop_event_of rest)
-    else query_of first rest
+    else asks_query (query_of first rest)
 
 -- THE REQUEST: what a line asks. The line has neither the LF nor the CRs at its end
 unfoldable pub request : List ℕ → Result Request EditFault

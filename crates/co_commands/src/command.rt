@@ -6,8 +6,8 @@ ghost use Rattle.co_commands.specs.Eds.{lines_of, eds_edit};
 ghost use Rattle.co_commands.specs.Edits.{IsEdit};
 
 use crate::block::{check, has_bad_line, text_of};
-use crate::fault::EditFault;
 use crate::edit::Edit;
+use crate::fault::EditFault;
 use crate::words::is_name;
 use co_base::Octets;
 use std::alloc::Global;

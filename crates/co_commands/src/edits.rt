@@ -6,12 +6,12 @@ ghost use Rattle.co_commands.specs.Words.{is_node_number, is_name};
 ghost use Rattle.co_commands.specs.Requests.{id_of, name_of, bitrate_of, horizon_of, manager_of, drop_eds_of, node_of, drop_node_of, param_of, unparam_of};
 
 use crate::command::Command;
+use crate::edit::Edit;
 use crate::fault::EditFault;
 use crate::manager_settings::ManagerSettings;
 use crate::numbers::{
     bit_rate, decimal, index, limited, node_number, own_index, sub_index, sync_period, time,
 };
-use crate::edit::Edit;
 use crate::words::{last_word, name, next_word, text};
 use co_base::Octets;
 use std::alloc::Global;

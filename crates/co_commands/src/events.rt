@@ -5,11 +5,11 @@ ghost use Rattle.co_commands.specs.Faults.{is_memory};
 ghost use Rattle.co_commands.specs.Requests.{set_of, switch, power_of, nmt, nmt_of, happening_of, event_of, drop_event_of};
 
 use crate::command::Command;
+use crate::edit::Edit;
 use crate::fault::EditFault;
 use crate::numbers::{
     decimal, event_number, index, node_number, node_or_all, own_index, sub_index, time,
 };
-use crate::edit::Edit;
 use crate::words::{last_word, next_word, text};
 use co_base::Octets;
 use co_scenario::{Event, NmtCommand, TimedEvent};

@@ -3,19 +3,21 @@
 
 mod block;
 mod command;
+mod edit;
 mod edits;
 mod events;
 mod fault;
 pub mod laws;
 mod manager_settings;
 mod numbers;
-mod edit;
+mod query;
 mod request;
 mod words;
 
 pub use block::without_crs;
 pub use command::Command;
+pub use edit::Edit;
 pub use fault::{EditFault, refusal};
 pub use manager_settings::ManagerSettings;
-pub use edit::Edit;
+pub use query::Query;
 pub use request::Request;
