@@ -7,7 +7,9 @@ use Rattle.std.proofs.lemmas.Bool.{or_parts}
 use Rattle.std.proofs.lemmas.Bool.Decides.{nat_tests}
 use Rattle.std.proofs.lemmas.List.{reverse-append, take_all}
 use Rattle.std.proofs.lemmas.List.Folds.{list_any-append}
-use Rattle.ini_text.specs.Text.{lines_of, trim_end, is_cr}
+use Rattle.co_text.specs.Blanks.{trim_end}
+use Rattle.co_text.specs.Lines.{is_cr}
+use Rattle.ini_text.specs.Text.{lines_of}
 use Rattle.co_commands.specs.declared.fault.EditFault.{EditFault}
 use Rattle.co_commands.specs.declared.fault.EditFault.TheVariants.{Syntax}
 use Rattle.co_commands.specs.declared.edit.Edit.{Edit}
