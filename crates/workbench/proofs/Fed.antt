@@ -3,30 +3,32 @@ use Rattle.std.proofs.Common.{◌≡◌, ℕ, suc, false, List, [], ◌∷◌, �
 use Rattle.std.specs.List.{list_all}
 use Rattle.std.proofs.Math.Bool.{and-false}
 use Rattle.std.proofs.lemmas.List.Elements.{All-head, All-tail}
-use Rattle.ini_text.specs.Text.{lines_of, trim_end, is_cr}
-use Rattle.co_commands.specs.declared.fault.EditFault.{EditFault}
-use Rattle.co_commands.specs.declared.edit.Edit.{Edit}
-use Rattle.co_commands.specs.declared.edit.Edit.TheVariants as edit
-use Rattle.co_commands.specs.Words.{is_blank}
+use Rattle.co_text.specs.Blanks.{is_blank, trim_end}
+use Rattle.co_text.specs.Lines.{is_cr}
+use Rattle.ini_text.specs.Text.{lines_of}
+use Rattle.co_edits.specs.declared.fault.EditFault.{EditFault}
+use Rattle.co_edits.specs.declared.edit.Edit.{Edit}
+use Rattle.co_edits.specs.declared.edit.Edit.TheVariants as edit
 use Rattle.co_commands.specs.Requests.{request}
-use Rattle.co_commands.specs.Eds.{eds_edit}
-use Rattle.co_commands.specs.Edits.{IsEdit, IsEds}
+use Rattle.co_edits.specs.Eds.{eds_edit}
+use Rattle.co_edits.specs.Eds.{IsEds}
+use Rattle.co_edits.specs.Edits.{IsEdit}
 use Rattle.co_commands.specs.Lines.{words_of, line_of, line_count, block_of, asks, text_of}
 use Rattle.co_project.specs.Project.{Content, first, accept, accept_all}
 use Rattle.co_project.specs.Script.{edits, script}
 use Rattle.co_project.specs.Sound.{IsSound}
-use Rattle.workbench.specs.Replies.{Place, Progress, start, accepted, replied, in_block, asked, is_skipped, after_line, after_lines, cut_off, replies}
+use Rattle.workbench.specs.Replies.{State, After, start, accepted, replied, in_block, asked, is_skipped, after_line, after_lines, cut_off, replies}
 use Rattle.workbench.proofs.LineEnds.{asked_line, eds_lines}
 
 -- a project, and no block
-abbrev at : Content → Place
+abbrev at : Content → State
 at p = record { project = p; block = None }
 
 -- some lines more
-abbrev then_lines : Progress → List (List ℕ) → Progress
+abbrev then_lines : After State → List (List ℕ) → After State
 then_lines one lines =
-    let others = after_lines one.place lines in
-    record { place = others.place; replies = one.replies ++ others.replies }
+    let others = after_lines one.state lines in
+    record { state = others.state; replies = one.replies ++ others.replies }
 
 -- ---- an edit
 
@@ -61,7 +63,7 @@ module _ (p q : Content) (o : Edit) (taken : accept p o ≡ Ok q) where
   block_fed name came (line ∷ lines) rest ends is =
       let kept : trim_end is_cr line ≡ line = ap (λ (ls : List (List ℕ)). get_or ls 0 []) ends in
       let whole : eds_edit name ((came ++ line ∷ []) ++ lines) ≡ Ok o = ap (eds_edit name) (append_assoc came (line ∷ []) lines) ∙ is in
-      ap (λ (one : Progress). then_lines one (lines ++ rest)) (line_came p name line (length lines) came kept)
+      ap (λ (one : After State). then_lines one (lines ++ rest)) (line_came p name line (length lines) came kept)
       ∙ block_fed name (came ++ line ∷ []) lines rest (ap (drop 1) ends) whole
 
 -- ---- a script
@@ -84,34 +86,34 @@ module _
 
     -- edits that are taken one after the other are each answered by `ok`
     edits_fed : (p q : Content) (os : List Edit) → All IsEdit os → accept_all (Ok p) os ≡ Ok q
-        → after_lines (at p) (lines_of (flat_map text_of os)) ≡ record { place = at q; replies = map (λ _. accepted) os }
+        → after_lines (at p) (lines_of (flat_map text_of os)) ≡ record { state = at q; replies = map (λ _. accepted) os }
     unfolding lines_of accept_all
     edits_fed p q [] are made = let same : p ≡ q = cc in rw same refl
     edits_fed p q (o ∷ os) are made = by (accept p o) refl made (λ r. edits_fed r q os (All-tail IsEdit o os are))
       where
         by : (r : Result Content EditFault) → accept p o ≡ r → accept_all r os ≡ Ok q
-            → ((r : Content) → accept_all (Ok r) os ≡ Ok q → after_lines (at r) (lines_of (flat_map text_of os)) ≡ record { place = at q; replies = map (λ _. accepted) os })
-            → after_lines (at p) (lines_of (text_of o ++ flat_map text_of os)) ≡ record { place = at q; replies = map (λ _. accepted) (o ∷ os) }
+            → ((r : Content) → accept_all (Ok r) os ≡ Ok q → after_lines (at r) (lines_of (flat_map text_of os)) ≡ record { state = at q; replies = map (λ _. accepted) os })
+            → after_lines (at p) (lines_of (text_of o ++ flat_map text_of os)) ≡ record { state = at q; replies = map (λ _. accepted) (o ∷ os) }
         by (Err fault) taken made others = cc
         by (Ok r) taken made others =
             let is = All-head IsEdit o os are in
             ap (after_lines (at p)) (printed o (flat_map text_of os) is)
             ∙ edit_fed p r o (lines_of (flat_map text_of os)) is taken
-            ∙ ap (λ (more : Progress). record { place = more.place; replies = accepted ∷ more.replies }) (others r made)
+            ∙ ap (λ (more : After State). record { state = more.state; replies = accepted ∷ more.replies }) (others r made)
 
     -- the laws of scripts: they have edits, and these make the project again
     module _ (have : (p : Content) → IsSound p → All IsEdit (edits p)) (make : (p : Content) → IsSound p → accept_all (Ok first) (edits p) ≡ Ok p) where
       -- a script leads to its project, and each edit is answered by `ok`
-      script_fed : (p : Content) → IsSound p → after_lines start (lines_of (script p)) ≡ record { place = at p; replies = map (λ _. accepted) (edits p) }
+      script_fed : (p : Content) → IsSound p → after_lines start (lines_of (script p)) ≡ record { state = at p; replies = map (λ _. accepted) (edits p) }
       unfolding script
       script_fed p sound = edits_fed first p (edits p) (have p sound) (make p sound)
 
       -- so it makes the equal project
-      pub project_again : (p : Content) → IsSound p → (after_lines start (lines_of (script p))).place ≡ at p
-      project_again p sound = ap (λ (all : Progress). all.place) (script_fed p sound)
+      pub project_again : (p : Content) → IsSound p → (after_lines start (lines_of (script p))).state ≡ at p
+      project_again p sound = ap (λ (all : After State). all.state) (script_fed p sound)
 
       -- and is answered by `ok` alone
       pub answered_by_ok : (p : Content) → IsSound p → replies (script p) ≡ map (λ _. accepted) (edits p)
       unfolding replies
       answered_by_ok p sound =
-          ap (λ (all : Progress). all.replies ++ cut_off all.place.block) (script_fed p sound) ∙ append-nil (map (λ _. accepted) (edits p))
+          ap (λ (all : After State). all.replies ++ cut_off all.state.block) (script_fed p sound) ∙ append-nil (map (λ _. accepted) (edits p))

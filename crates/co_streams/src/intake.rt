@@ -2,11 +2,11 @@
 ghost use Rattle.std.specs.Prelude.{ℕ, List, Option};
 ghost use Rattle.std.specs.Io.{ReadsAtMost};
 ghost use Rattle.std.specs.Io.KnownBytes.{ReadConsumes};
-ghost use Rattle.workbench.specs.Streams.{CallFails};
+ghost use Rattle.co_streams.specs.Streams.{CallFails};
 
 use std::io;
 
-/// What commands are read from.
+/// What is read from.
 pub trait Intake {
     /// The bytes that reads will give from here on, where they are known.
     ghost remaining: { Self → Option (List ℕ) };

@@ -3,7 +3,7 @@
 use co_base::Octets;
 
 #[derive(Drop)]
-pub struct Block {
+pub struct OpenBlock {
     /// None where the `eds` line wasn't of its form.
     pub name: Option<Octets>,
     /// How many lines are to come, at least one.

@@ -1,29 +1,29 @@
-//! What stands between two bytes of the input.
+//! Where a session is in its input.
 ghost use Rattle.std.specs.Prelude.{◌≡◌, IfOk};
 ghost use Rattle.workbench.specs.Replies.{after_line};
-ghost use Rattle.workbench.specs.Machine.{first_standing, at_break};
-ghost use Rattle.workbench.specs.Views.{standing_of, reached_of};
+ghost use Rattle.workbench.specs.Machine.{first_cursor, at_break};
+ghost use Rattle.workbench.specs.Views.{cursor_of, ended_at};
 
-use crate::block::Block;
+use crate::open_block::OpenBlock;
 use crate::reply::Reply;
 use crate::turns::take_line;
 use crate::workbench::Workbench;
 use std::alloc::{AllocError, Global};
 
 #[derive(Drop)]
-pub struct Desk {
+pub struct Cursor {
     pub alloc: Global,
     pub workbench: Workbench,
-    pub block: Option<Block>,
+    pub block: Option<OpenBlock>,
     /// The line so far.
     pub line: Vec<u8>,
 }
 
-impl Desk {
+impl Cursor {
     pub fn new(alloc: Global) -> Self
-        ensures { standing_of result ≡ first_standing }
+        ensures { cursor_of result ≡ first_cursor }
     {
-        Desk {
+        Cursor {
             alloc,
             workbench: Workbench::new(alloc),
             block: None,
@@ -33,8 +33,8 @@ impl Desk {
 
     /// Takes the line so far as whole.
     pub fn end_line(&mut self) -> Result<Reply, AllocError>
-        ensures { IfOk result (λ reply. reached_of self.new reply
-            ≡ at_break (after_line (standing_of self.old).place self.old.line.items)) }
+        ensures { IfOk result (λ reply. ended_at self.new reply
+            ≡ at_break (after_line (cursor_of self.old).state self.old.line.items)) }
     {
         let block = self.block.take();
         let (reply, block) = take_line(self.alloc, &mut self.workbench, block, &self.line)?;

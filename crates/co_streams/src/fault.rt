@@ -1,17 +1,17 @@
-//! How a session ended before its input did.
+//! How a session over a reader and a writer ended before its input did.
 ghost use Rattle.std.specs.Prelude.{◌≡◌};
-ghost use Rattle.workbench.specs.declared.fault.SessionFault.TheVariants.{Memory};
+ghost use Rattle.co_streams.specs.declared.fault.SessionFault.TheVariants.{Memory};
 
 use std::alloc::{AllocError, AllocFailed};
 use thiserror::Error;
 
-/// How a session ended before its input did.
+/// How a session over a reader and a writer ended before its input did.
 #[derive(Clone, Copy, Debug, PartialEq, Eq, Error)]
 pub enum SessionFault {
     /// A growth was refused.
     #[error("1 Memory")]
     Memory,
-    /// The reader failed, or more than 64 MiB came.
+    /// The reader failed, or more came than the limit.
     #[error("2 Read")]
     Read,
     /// The writer failed, or took no byte.

@@ -1,9 +1,9 @@
 use Rattle.std.proofs.lemmas.Result.{on_ok_weaker}
-use Rattle.workbench.proofs.Runs.{posts_directly, took_more}
-use Rattle.workbench.proofs.outbox.Outbox.put.Goals as goal
+use Rattle.co_streams.proofs.Posted.{posts_directly, took_more}
+use Rattle.co_streams.proofs.outbox.Outbox.put.Goals as goal
 
 pub returns-in_err-send-clause-write : goal.returns-in_err-send-clause-write
-returns-in_err-send-clause-write g c = λ e. (c.in_err-send.ensures.failed, took_more _ _ _ c.args.text.now c.in_err-send.ensures.front)
+returns-in_err-send-clause-write g c = λ e. (c.in_err-send.ensures.write.1, took_more _ _ _ c.args.text.now c.in_err-send.ensures.write.2)
 
 pub returns-then-text-gt-ROOM-clause-ok : goal.returns-then-text-gt-ROOM-clause-ok
 returns-then-text-gt-ROOM-clause-ok g c =

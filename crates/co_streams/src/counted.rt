@@ -1,16 +1,18 @@
 //! Any reader or writer, with the number of its failed calls.
-ghost use Rattle.std.specs.Prelude.{◌≡◌};
+ghost use Rattle.std.specs.Prelude.{◌≡◌, true};
 
 use crate::intake::Intake;
 use crate::outlet::Outlet;
 use std::io;
 use std::io::{Read, Write};
 
-/// Any reader or writer, with the number of its failed calls. Each call is passed on as it is.
+/// Any reader or writer, with the number of its failed calls, and whether what it took was flushed.
+/// Each call is passed on as it is.
 #[derive(Drop)]
 pub struct Counted<T> {
     inner: T,
     failures: u64,
+    flushed: bool,
 }
 
 impl<T> Counted<T> {
@@ -18,8 +20,13 @@ impl<T> Counted<T> {
     pub fn new(inner: T) -> Self
         ensures inner { result.inner ≡ inner }
         ensures failures { result.failures ≡ 0 }
+        ensures flushed { result.flushed ≡ true }
     {
-        Counted { inner, failures: 0 }
+        Counted {
+            inner,
+            failures: 0,
+            flushed: true,
+        }
     }
 
     /// The reader or writer.
@@ -49,8 +56,11 @@ impl<T: Write> Outlet for Counted<T> {
 
     ghost failures = { λ c. c.failures };
 
+    ghost flushed = { λ c. c.flushed };
+
     fn write(&mut self, buf: &[u8]) -> io::Result<usize> {
         let outcome = self.inner.write(buf);
+        self.flushed = false;
         let failed = match &outcome {
             Ok(n) => *n == 0 && !buf.is_empty(),
             Err(_) => true,
@@ -63,7 +73,9 @@ impl<T: Write> Outlet for Counted<T> {
 
     fn flush(&mut self) -> io::Result<()> {
         let outcome = self.inner.flush();
-        if outcome.is_err() {
+        if outcome.is_ok() {
+            self.flushed = true;
+        } else {
             self.failures = self.failures.wrapping_add(1);
         }
         outcome
