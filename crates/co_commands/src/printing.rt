@@ -1,4 +1,5 @@
-//! Edits as text, written at the end of an output.
+//! Edits as text, written at the end of an output. Where memory runs out, a part of the text may
+//! stand there.
 #![tactic(auto, unfolding(crate::specs::Lines::text_of, crate::specs::Lines::line_of, crate::specs::Lines::words_of))]
 
 ghost use Rattle.std.specs.Prelude.{◌≡◌, ◌++◌, ◌∷◌, OnOk};
