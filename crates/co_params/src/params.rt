@@ -1,5 +1,5 @@
 //! The parameters of a node.
-ghost use Rattle.std.specs.Prelude.{◌≡◌, ◌==◌, OnOk, OnErr, option_copied};
+ghost use Rattle.std.specs.Prelude.{◌≡◌, ◌==◌, None, OnOk, OnErr, option_copied};
 ghost use Rattle.std.specs.FinMap as map;
 ghost use Rattle.co_params.specs.Params.{is_full_for};
 
@@ -86,10 +86,12 @@ impl Params {
         self.len() >= MAX_PARAMS && !self.contains(index, sub)
     }
 
-    /// Gives an entry a text, in place of any that it has. Want of memory changes nothing.
+    /// Gives an entry a text, in place of any that it has. Want of memory changes nothing, and can
+    /// come at an entry without a text alone.
     pub fn put(&mut self, index: u16, sub: u8, text: Octets) -> Result<(), AllocError>
         ensures ok { OnOk result (self.new ≡ map.insert self.old (index, sub) text) }
         ensures err { OnErr result (self.new ≡ self.old) }
+        ensures absent { OnErr result (map.get self.old (index, sub) ≡ None) }
     {
         self.texts.insert((index, sub), text)?;
         Ok(())

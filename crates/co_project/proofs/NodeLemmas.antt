@@ -9,7 +9,7 @@ use Rattle.co_scenario.proofs.TableLemmas.{alike, get_made, made_put}
 use Rattle.co_edits.specs.declared.fault.EditFault.TheVariants.{Limit, Unknown}
 use Rattle.co_params.specs.Params.{Texts, is_full_for}
 use Rattle.co_project.specs.declared.node.Node.{Node}
-use Rattle.co_project.specs.Tables.{Nodes, put_node, put_param, drop_param, renamed}
+use Rattle.co_project.specs.Tables.{Nodes, adds_param, put_node, put_param, drop_param, renamed}
 
 -- a node that is put where it is
 pub same_put : (nodes : Nodes) (id : ℕ) (node : Node) → get nodes id ≡ Some node → insert nodes id node ≡ nodes
@@ -82,3 +82,7 @@ module _ (nodes : Nodes) (id : ℕ) (place : ℕ × ℕ) where
     pub param_dropped : (new : Nodes) (params : Texts) → contains_key node.params place ≡ true → params ≡ remove node.params place
         → new ≡ insert nodes id (record node { params = params }) → drop_param nodes id place ≡ Ok new
     param_dropped new params there are is = rw (found, there) (ap Ok (sym (is ∙ ap (λ p. insert nodes id (record node { params = p })) are)))
+
+    -- or has no text for an entry yet
+    pub param_added : get node.params place ≡ None → adds_param nodes id place ≡ true
+    param_added none = rw (found, none) refl

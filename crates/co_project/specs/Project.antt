@@ -1,5 +1,5 @@
 -- The project, and what edits do to it (this profile's own).
-use Rattle.std.specs.Prelude.{ℕ, ◌||◌, not, ◌==◌, List, [], ◌∷◌, refl, Result, Ok, Err}
+use Rattle.std.specs.Prelude.{ℕ, Bool, false, ◌||◌, not, ◌==◌, List, [], ◌∷◌, refl, Result, Ok, Err}
 use Rattle.std.specs.Coded.{Coded, code_by, coded×, coded_ℕ, coded_list}
 use Rattle.std.specs.FinMap.{code, contains_key, empty, insert, remove}
 use Rattle.co_scenario.specs.declared.timed_event.TimedEvent.{TimedEvent}
@@ -11,7 +11,7 @@ use Rattle.co_edits.specs.declared.edit.Edit.{Edit}
 use Rattle.co_edits.specs.declared.edit.Edit.TheVariants as edit
 use Rattle.co_edits.specs.Accepts.{unless}
 use Rattle.co_project.specs.declared.node.Node.{Node}
-use Rattle.co_project.specs.Tables.{Texts, Nodes, has_no_room, name_taken, is_used, is_named, is_of_known, put_node, put_param, drop_param}
+use Rattle.co_project.specs.Tables.{Texts, Nodes, has_no_room, name_taken, is_used, is_named, is_of_known, adds_param, put_node, put_param, drop_param}
 
 -- a project: bit rate in kbit/s, horizon in microseconds, the manager, the texts of EDS by name, the nodes by number, and the events by number
 pub record Content : Type 0 where
@@ -66,6 +66,14 @@ accept p (edit.Event number e) =
 accept p (edit.DropEvent number) =
     unless ((not (contains_key p.events number), Unknown) ∷ [])
     (record p { events = remove p.events number })
+
+-- the edit gives a text, an event, a parameter or a node where there is none: no other takes memory
+unfoldable pub adds : Content → Edit → Bool
+adds p (edit.Eds name text) = not (contains_key p.texts name)
+adds p (edit.Node id name eds) = not (contains_key p.nodes id)
+adds p (edit.Param id index sub text) = adds_param p.nodes id (index, sub)
+adds p (edit.Event number e) = not (contains_key p.events number)
+adds p others = false
 
 -- edits one after the other, the first fault stays
 unfoldable pub accept_all : Result Content EditFault → List Edit → Result Content EditFault

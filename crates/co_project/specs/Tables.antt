@@ -79,6 +79,10 @@ with_param nodes id place text (Some node) =
 abbrev pub put_param : Nodes → ℕ → ℕ × ℕ → List ℕ → Result Nodes EditFault
 put_param nodes id place text = with_param nodes id place text (get nodes id)
 
+-- the node of a number has no text for an entry yet
+abbrev pub adds_param : Nodes → ℕ → ℕ × ℕ → Bool
+adds_param nodes id place = option_map_or (λ node. not (contains_key node.params place)) (get nodes id) false
+
 -- a node without a parameter
 abbrev pub without_param : Nodes → ℕ → ℕ × ℕ → Option Node → Result Nodes EditFault
 without_param nodes id place None = Err Unknown

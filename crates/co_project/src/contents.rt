@@ -1,8 +1,8 @@
 //! What a project holds, and what edits do to it.
-ghost use Rattle.std.specs.Prelude.{◌≡◌};
+ghost use Rattle.std.specs.Prelude.{◌≡◌, IsErrOf, IsTrue};
 ghost use Rattle.co_edits.specs.Accepts.{Accepts};
 ghost use Rattle.co_edits.specs.declared.edit.Edit.TheVariants as edit;
-ghost use Rattle.co_project.specs.Project.{accept, first};
+ghost use Rattle.co_project.specs.Project.{accept, adds, first};
 
 use crate::node_events::{is_named, is_of_known};
 use crate::nodes::Nodes;
@@ -66,9 +66,10 @@ impl Contents {
     }
 
     /// Does an edit, or refuses it with the first fault that applies and changes nothing.
-    #[tactic(auto, unfolding(crate::specs::Project::accept))]
+    #[tactic(auto, unfolding(crate::specs::Project::accept, crate::specs::Project::adds))]
     pub fn accept(&mut self, edit: Edit) -> Result<(), EditFault>
-        ensures { Accepts self.old self.new result (accept self.old edit) }
+        ensures accepts { Accepts self.old self.new result (accept self.old edit) }
+        ensures memory { IsErrOf result EditFault.Memory → IsTrue (adds self.old edit) }
     {
         match edit {
             Edit::Bitrate(rate) => {
@@ -97,9 +98,10 @@ impl Contents {
     }
 
     /// Gives the manager other numbers.
-    #[tactic(auto, unfolding(crate::specs::Project::accept))]
+    #[tactic(auto, unfolding(crate::specs::Project::accept, crate::specs::Project::adds))]
     fn manage(&mut self, manager: ManagerSettings) -> Result<(), EditFault>
-        ensures { Accepts self.old self.new result (accept self.old (edit.Manager manager)) }
+        ensures accepts { Accepts self.old self.new result (accept self.old (edit.Manager manager)) }
+        ensures memory { IsErrOf result EditFault.Memory → IsTrue (adds self.old (edit.Manager manager)) }
     {
         if self.nodes.contains(manager.id) {
             return Err(EditFault::Taken);
@@ -109,9 +111,10 @@ impl Contents {
     }
 
     /// Gives a name a text, in place of the one that it has.
-    #[tactic(auto, unfolding(crate::specs::Project::accept))]
+    #[tactic(auto, unfolding(crate::specs::Project::accept, crate::specs::Project::adds))]
     fn put_text(&mut self, name: Octets, text: Octets) -> Result<(), EditFault>
-        ensures { Accepts self.old self.new result (accept self.old (edit.Eds name text)) }
+        ensures accepts { Accepts self.old self.new result (accept self.old (edit.Eds name text)) }
+        ensures memory { IsErrOf result EditFault.Memory → IsTrue (adds self.old (edit.Eds name text)) }
     {
         if self.texts.has_no_room(name.as_slice()) {
             return Err(EditFault::Limit);
@@ -121,9 +124,10 @@ impl Contents {
     }
 
     /// Takes a text away that no node uses.
-    #[tactic(auto, unfolding(crate::specs::Project::accept))]
+    #[tactic(auto, unfolding(crate::specs::Project::accept, crate::specs::Project::adds))]
     fn drop_text(&mut self, name: &[u8]) -> Result<(), EditFault>
-        ensures { Accepts self.old self.new result (accept self.old (edit.DropEds name.now)) }
+        ensures accepts { Accepts self.old self.new result (accept self.old (edit.DropEds name.now)) }
+        ensures memory { IsErrOf result EditFault.Memory → IsTrue (adds self.old (edit.DropEds name.now)) }
     {
         if !self.texts.contains(name) {
             return Err(EditFault::Unknown);
@@ -136,9 +140,10 @@ impl Contents {
     }
 
     /// Gives a number a node. A known one keeps all else that it has.
-    #[tactic(auto, unfolding(crate::specs::Project::accept))]
+    #[tactic(auto, unfolding(crate::specs::Project::accept, crate::specs::Project::adds))]
     fn put_node(&mut self, id: u8, name: Octets, eds: Octets) -> Result<(), EditFault>
-        ensures { Accepts self.old self.new result (accept self.old (edit.Node id name eds)) }
+        ensures accepts { Accepts self.old self.new result (accept self.old (edit.Node id name eds)) }
+        ensures memory { IsErrOf result EditFault.Memory → IsTrue (adds self.old (edit.Node id name eds)) }
     {
         if !self.texts.contains(eds.as_slice()) {
             return Err(EditFault::Unknown);
@@ -151,9 +156,10 @@ impl Contents {
     }
 
     /// Takes a node away that no event is of, and its parameters with it.
-    #[tactic(auto, unfolding(crate::specs::Project::accept))]
+    #[tactic(auto, unfolding(crate::specs::Project::accept, crate::specs::Project::adds))]
     fn drop_node(&mut self, id: u8) -> Result<(), EditFault>
-        ensures { Accepts self.old self.new result (accept self.old (edit.DropNode id)) }
+        ensures accepts { Accepts self.old self.new result (accept self.old (edit.DropNode id)) }
+        ensures memory { IsErrOf result EditFault.Memory → IsTrue (adds self.old (edit.DropNode id)) }
     {
         if !self.nodes.contains(id) {
             return Err(EditFault::Unknown);
@@ -166,9 +172,10 @@ impl Contents {
     }
 
     /// Gives a number an event, in place of the one that it has.
-    #[tactic(auto, unfolding(crate::specs::Project::accept))]
+    #[tactic(auto, unfolding(crate::specs::Project::accept, crate::specs::Project::adds))]
     fn put_event(&mut self, number: u16, event: TimedEvent) -> Result<(), EditFault>
-        ensures { Accepts self.old self.new result (accept self.old (edit.Event number event)) }
+        ensures accepts { Accepts self.old self.new result (accept self.old (edit.Event number event)) }
+        ensures memory { IsErrOf result EditFault.Memory → IsTrue (adds self.old (edit.Event number event)) }
     {
         if !is_of_known(&self.nodes, &event.event) {
             return Err(EditFault::Unknown);
@@ -178,9 +185,10 @@ impl Contents {
     }
 
     /// Takes an event away.
-    #[tactic(auto, unfolding(crate::specs::Project::accept))]
+    #[tactic(auto, unfolding(crate::specs::Project::accept, crate::specs::Project::adds))]
     fn drop_event(&mut self, number: u16) -> Result<(), EditFault>
-        ensures { Accepts self.old self.new result (accept self.old (edit.DropEvent number)) }
+        ensures accepts { Accepts self.old self.new result (accept self.old (edit.DropEvent number)) }
+        ensures memory { IsErrOf result EditFault.Memory → IsTrue (adds self.old (edit.DropEvent number)) }
     {
         if self.events.get(number).is_none() {
             return Err(EditFault::Unknown);

@@ -1,8 +1,8 @@
 //! The nodes by number.
-ghost use Rattle.std.specs.Prelude.{◌≡◌, OnOk, OnErr, option_copied};
+ghost use Rattle.std.specs.Prelude.{◌≡◌, IsErrOf, IsTrue, None, OnOk, OnErr, option_copied};
 ghost use Rattle.std.specs.FinMap as map;
 ghost use Rattle.co_edits.specs.Accepts.{Accepts};
-ghost use Rattle.co_project.specs.Tables.{node_at, name_taken, is_used, put_node, put_param, drop_param};
+ghost use Rattle.co_project.specs.Tables.{node_at, name_taken, is_used, put_node, adds_param, put_param, drop_param};
 
 use crate::node::Node;
 use co_base::Octets;
@@ -74,7 +74,7 @@ impl Nodes {
     }
 
     /// Gives a node its name and EDS. A known one keeps all else that it has, a new one has no
-    /// parameters. Want of memory changes nothing.
+    /// parameters. Want of memory changes nothing, and can come at a new one alone.
     pub fn put(
         &mut self,
         alloc: Global,
@@ -84,6 +84,7 @@ impl Nodes {
     ) -> Result<(), AllocError>
         ensures ok { OnOk result (self.new ≡ put_node self.old id name eds) }
         ensures err { OnErr result (self.new ≡ self.old) }
+        ensures absent { OnErr result (map.get self.old id ≡ None) }
     {
         if let Some(node) = self.nodes.get_mut(&id) {
             node.name = name;
@@ -97,7 +98,8 @@ impl Nodes {
 
     /// Gives a node the text of a parameter.
     pub fn put_param(&mut self, id: u8, index: u16, sub: u8, text: Octets) -> Result<(), EditFault>
-        ensures { Accepts self.old self.new result (put_param self.old id (index, sub) text) }
+        ensures accepts { Accepts self.old self.new result (put_param self.old id (index, sub) text) }
+        ensures memory { IsErrOf result EditFault.Memory → IsTrue (adds_param self.old id (index, sub)) }
     {
         let Some(node) = self.nodes.get_mut(&id) else {
             return Err(EditFault::Unknown);
@@ -111,7 +113,8 @@ impl Nodes {
 
     /// Takes a parameter of a node away.
     pub fn drop_param(&mut self, id: u8, index: u16, sub: u8) -> Result<(), EditFault>
-        ensures { Accepts self.old self.new result (drop_param self.old id (index, sub)) }
+        ensures accepts { Accepts self.old self.new result (drop_param self.old id (index, sub)) }
+        ensures memory { IsErrOf result EditFault.Memory → ⊥ }
     {
         let Some(node) = self.nodes.get_mut(&id) else {
             return Err(EditFault::Unknown);

@@ -1,11 +1,11 @@
 //! The project.
-ghost use Rattle.std.specs.Prelude.{◌≡◌, IfOk, IfSome, IsTrue, Ok, option_copied};
+ghost use Rattle.std.specs.Prelude.{◌≡◌, IfOk, IfSome, IsErrOf, IsTrue, Ok, option_copied};
 ghost use Rattle.std.specs.FinMap as map;
 ghost use Rattle.eds_device.specs.Faults.{device_of};
 ghost use Rattle.ini_text.specs.Content.{content_of};
 ghost use Rattle.co_edits.specs.Accepts.{Accepts};
 ghost use Rattle.co_project.specs.Tables.{texts_of, text_at, node_at};
-ghost use Rattle.co_project.specs.Project.{accept, first};
+ghost use Rattle.co_project.specs.Project.{accept, adds, first};
 ghost use Rattle.co_project.specs.Script.{script};
 ghost use Rattle.co_project.specs.Sound.{IsSound};
 
@@ -56,12 +56,14 @@ impl Project {
     /// Unknown: an EDS, a node, a parameter or an event that is named isn't there. Taken: the
     /// number is the manager's or a node's, or the name another node's. InUse: a node still uses
     /// the EDS, or an event is of the node. Limit: a 65th text, or a 4,097th parameter of a node.
-    /// Memory can come in place of each, and changes nothing either.
+    /// Memory can come in place of each where the edit gives a text, a node, a parameter or an event
+    /// where there is none, and changes nothing either.
     ///
     /// `drop-eds` and `node` take time by the number of nodes, `drop-node` by that of events and of
     /// the node's parameters, every other edit by the logarithm of its table.
     pub fn accept(&mut self, command: Command) -> Result<(), EditFault>
-        ensures { Accepts self.old self.new result (accept self.old command) }
+        ensures accepts { Accepts self.old self.new result (accept self.old command) }
+        ensures memory { IsErrOf result EditFault.Memory → IsTrue (adds self.old command) }
     {
         self.contents.accept(command.into_edit())
     }

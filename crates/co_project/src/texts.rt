@@ -1,5 +1,5 @@
 //! The texts of EDS by name.
-ghost use Rattle.std.specs.Prelude.{◌≡◌, OnOk, OnErr, option_copied};
+ghost use Rattle.std.specs.Prelude.{◌≡◌, None, OnOk, OnErr, option_copied};
 ghost use Rattle.std.specs.FinMap as map;
 ghost use Rattle.co_project.specs.Tables.{texts_of, text_at, has_no_room};
 
@@ -72,10 +72,12 @@ impl Texts {
         self.texts.iter()
     }
 
-    /// Gives a name a text, in place of any that it has. Want of memory changes nothing.
+    /// Gives a name a text, in place of any that it has. Want of memory changes nothing, and can come
+    /// at a name without a text alone.
     pub fn put(&mut self, name: Octets, text: Octets) -> Result<(), AllocError>
         ensures ok { OnOk result (self.new ≡ map.insert self.old name text) }
         ensures err { OnErr result (self.new ≡ self.old) }
+        ensures absent { OnErr result (map.get self.old name ≡ None) }
     {
         self.texts.insert(name.into_vec(), text)?;
         Ok(())

@@ -1,5 +1,5 @@
 //! The events of a scenario.
-ghost use Rattle.std.specs.Prelude.{◌≡◌, ◌==◌, OnOk, OnErr, option_copied};
+ghost use Rattle.std.specs.Prelude.{◌≡◌, ◌==◌, None, OnOk, OnErr, option_copied};
 ghost use Rattle.std.specs.FinMap as map;
 
 use crate::timed_event::TimedEvent;
@@ -67,10 +67,12 @@ impl Script {
         self.events.iter()
     }
 
-    /// Gives a number an event, in place of any that it has. Want of memory changes nothing.
+    /// Gives a number an event, in place of any that it has. Want of memory changes nothing, and can
+    /// come at a number without an event alone.
     pub fn put(&mut self, number: u16, event: TimedEvent) -> Result<(), AllocError>
         ensures ok { OnOk result (self.new ≡ map.insert self.old number event) }
         ensures err { OnErr result (self.new ≡ self.old) }
+        ensures absent { OnErr result (map.get self.old number ≡ None) }
     {
         self.events.insert(number, event)?;
         Ok(())

@@ -4,8 +4,8 @@ use Rattle.co_project.specs.declared.node.Node.{Node}
 use Rattle.co_project.proofs.NodeLemmas.{drop_in_unknown, node_changed, node_found, node_missing, node_stays, nodes_stay, param_dropped, param_missing}
 use Rattle.co_project.proofs.nodes.Nodes.drop_param.Goals as goal
 
-pub returns-in_default : goal.returns-in_default
-returns-in_default c =
+pub returns-in_default-clause-accepts : goal.returns-in_default-clause-accepts
+returns-in_default-clause-accepts c =
     let tree = c.self.inside.nodes in
     let nodes = c.args.self.now in
     let place : ℕ × ℕ = (c.args.index, c.args.sub) in (
@@ -13,8 +13,8 @@ returns-in_default c =
       nodes_stay tree nodes c.args.id c.self.view_is c.get_mut.follows.lender-at-none c.get_mut.follows.holds-at-none,
     )
 
-pub returns-then-not-contains : goal.returns-then-not-contains
-returns-then-not-contains c =
+pub returns-then-not-contains-clause-accepts : goal.returns-then-not-contains-clause-accepts
+returns-then-not-contains-clause-accepts c =
     let tree = c.self.inside.nodes in
     let nodes = c.args.self.now in
     let place : ℕ × ℕ = (c.args.index, c.args.sub) in
@@ -24,8 +24,8 @@ returns-then-not-contains c =
       node_stays tree nodes c.args.id c.self.view_is (c.get_mut.follows.lender node) node node found (c.get_mut.follows.holds node) refl,
     )
 
-pub returns : goal.returns
-returns c =
+pub returns-clause-accepts : goal.returns-clause-accepts
+returns-clause-accepts c =
     let tree = c.self.inside.nodes in
     let nodes = c.args.self.now in
     let place : ℕ × ℕ = (c.args.index, c.args.sub) in

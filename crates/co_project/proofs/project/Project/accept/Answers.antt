@@ -14,4 +14,4 @@ accepts_keep_sound p q edit (Ok _) sound is taken = edits_keep_sound p q edit so
 accepts_keep_sound p q edit (Err fault) sound is refused = subst IsSound (sym refused.1) sound
 
 pub invariant_of-self : goal.invariant_of-self
-invariant_of-self c = accepts_keep_sound c.self.inside.contents c.accept.new.self c.into_edit.result c.accept.result c.self.invariant c.into_edit.ensures.kept c.accept.ensures
+invariant_of-self c = accepts_keep_sound c.self.inside.contents c.accept.new.self c.into_edit.result c.accept.result c.self.invariant c.into_edit.ensures.kept c.accept.ensures.accepts
