@@ -5,7 +5,7 @@ use Rattle.std.proofs.Math.Bool.{and-false}
 use Rattle.std.proofs.lemmas.List.Elements.{All-head, All-tail}
 use Rattle.co_text.specs.Blanks.{is_blank, trim_end}
 use Rattle.co_text.specs.Lines.{is_cr}
-use Rattle.ini_text.specs.Text.{lines_of}
+use Rattle.co_text.specs.Lines.{lines_of}
 use Rattle.co_edits.specs.declared.fault.EditFault.{EditFault}
 use Rattle.co_edits.specs.declared.edit.Edit.{Edit}
 use Rattle.co_edits.specs.declared.edit.Edit.TheVariants as edit
@@ -13,7 +13,8 @@ use Rattle.co_commands.specs.Requests.{request}
 use Rattle.co_edits.specs.Eds.{eds_edit}
 use Rattle.co_edits.specs.Eds.{IsEds}
 use Rattle.co_edits.specs.Edits.{IsEdit}
-use Rattle.co_commands.specs.Lines.{words_of, line_of, line_count, block_of, asks, text_of}
+use Rattle.co_commands.specs.Lines.{words_of, line_of, block_of, asks, text_of}
+use Rattle.co_text.specs.Lines.{line_count}
 use Rattle.co_project.specs.Project.{Content, first, accept, accept_all}
 use Rattle.co_project.specs.Script.{edits, script}
 use Rattle.co_project.specs.Sound.{IsSound}

@@ -9,7 +9,7 @@ use Rattle.std.proofs.lemmas.List.{reverse-append, take_all}
 use Rattle.std.proofs.lemmas.List.Folds.{list_any-append}
 use Rattle.co_text.specs.Blanks.{trim_end}
 use Rattle.co_text.specs.Lines.{is_cr}
-use Rattle.ini_text.specs.Text.{lines_of}
+use Rattle.co_text.specs.Lines.{lines_of}
 use Rattle.co_edits.specs.declared.fault.EditFault.{EditFault}
 use Rattle.co_edits.specs.declared.fault.EditFault.TheVariants.{Syntax}
 use Rattle.co_edits.specs.declared.edit.Edit.{Edit}
@@ -18,7 +18,8 @@ use Rattle.co_commands.specs.declared.request.Request.{Request}
 use Rattle.co_commands.specs.declared.request.Request.TheVariants.{Block}
 use Rattle.co_edits.specs.Accepts.{unless}
 use Rattle.co_edits.specs.Forms.{is_control}
-use Rattle.co_commands.specs.Words.{word, after, last_word, decimal, is_bad_line}
+use Rattle.co_commands.specs.Words.{last_word, decimal, is_bad_line}
+use Rattle.co_text.specs.Words.{word, after}
 use Rattle.co_commands.specs.Requests.{◌>>=◌, request, block_of as block_asked, block_lines, command_of}
 use Rattle.co_edits.specs.Eds.{eds_edit, text_of}
 use Rattle.co_commands.specs.Lines.{asks, block_of}

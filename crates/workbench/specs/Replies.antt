@@ -2,7 +2,7 @@
 use Rattle.std.specs.Prelude.{ℕ, zero, suc, ◌-◌, Bool, ◌&&◌, length, nat_le, List, [], ◌∷◌, ◌++◌, codes, if◌then◌else◌, ◌==◌, Option, Some, None, Result, Ok, Err}
 use Rattle.co_text.specs.Blanks.{is_blank_line, trim_end}
 use Rattle.co_text.specs.Lines.{line_feed, is_cr}
-use Rattle.ini_text.specs.Text.{lines_of}
+use Rattle.co_text.specs.Lines.{lines_of}
 use Rattle.co_edits.specs.declared.fault.EditFault.{EditFault}
 use Rattle.co_edits.specs.declared.fault.EditFault.TheVariants.{Syntax, Truncated}
 use Rattle.co_edits.specs.Faults.{refusal_text}

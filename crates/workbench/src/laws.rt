@@ -1,7 +1,7 @@
 //! Laws of the replies, each in the words of inputs and lines.
 ghost use Rattle.std.specs.Prelude.{◌≡◌, ◌≢◌, ◌<◌, ◌≤◌, ◌++◌, ◌==◌, ◌∷◌, [], ℕ, List, None, false, length, map};
 ghost use Rattle.co_text.specs.Lines.{line_count};
-ghost use Rattle.ini_text.specs.Text.{lines_of};
+ghost use Rattle.co_text.specs.Lines.{lines_of};
 ghost use Rattle.co_project.specs.Project.{Content};
 ghost use Rattle.co_project.specs.Script.{edits, script};
 ghost use Rattle.co_project.specs.Sound.{IsSound};

@@ -189,9 +189,10 @@ fn take_turn<W: Outlet>(
 /// Reads commands until the input ends, and answers each: the replies to what one read gave are
 /// written, and flushed, before the next.
 ///
-/// A session makes at most 67,108,866 reads. Reading takes time and memory linear in its input. A
-/// query takes time and memory by the length of its reply, and `dcf` and `cdcf` also by that of the
-/// node's EDS, which is read each time; an edit those of the project's tables.
+/// A session makes at most 67,108,865 reads. It takes time linear in its input, up to a logarithm
+/// where an EDS is read or a table is searched; `node` and `drop-eds` also walk the nodes, and
+/// `drop-node` the events. A query takes time and memory by the length of its reply, and `dcf` and
+/// `cdcf` also by that of the node's EDS, which they read anew.
 ///
 /// # Errors
 /// - Memory: a growth was refused. The replies to the commands before were written, each whole.

@@ -18,10 +18,11 @@ use eds_dcf::dcf_text;
 use std::alloc::{AllocError, Global};
 use std::marker::Model;
 
-/// A workbench: a project, and the files that its nodes get. Contracts see it as its project.
+/// A workbench: a project, and the files that its nodes get. Contracts see it as a record with its
+/// project.
 ///
-/// Each file is made anew from the project of now, in time and memory by the length of the node's
-/// EDS and of the file.
+/// Each file is made anew from the project of now: that of a node reads the node's EDS each time,
+/// and takes time and memory by the length of that EDS and of the file, up to a logarithm.
 #[derive(Drop)]
 pub struct Workbench {
     alloc: Global,
