@@ -22,7 +22,7 @@ use Rattle.eds_device.specs.Described.{kind_at}
 use Rattle.eds_device.specs.Names.{values_named}
 use Rattle.eds_device.specs.Origins.{origin_of, values_section}
 use Rattle.eds_dcf.specs.Compact.{compact_object, is_compact, made_section, new_values, value_pair, values_pairs_at, values_set}
-use Rattle.eds_dcf.specs.Dcf.{made_at, pairs_with}
+use Rattle.eds_dcf.specs.Dcf.{pairs_with}
 use Rattle.eds_dcf.specs.Entries.{parameter_pairs, parameter_place}
 use Rattle.eds_dcf.specs.Pairs.{without}
 use Rattle.eds_dcf.specs.Writes.{is_to, last_of}
@@ -139,25 +139,19 @@ module _ (ss : List Section) (values : ℕ × ℕ → Option (List ℕ)) (s : Se
   unfolding pairs_with
   with_none none unnamed = rw (none, unnamed) refl
 
-not_zero : (n : ℕ) → (n ≡ 0 → ⊥) → (n == 0) ≡ false
-not_zero n h = grind (arith, nat_tests)
-
-module _ (ss : List Section) (values : ℕ × ℕ → Option (List ℕ)) (index sub : ℕ) where
-  pub not_made_for_subs : (sub ≡ 0 → ⊥) → made_at ss values (index, sub) ≡ None
-  not_made_for_subs h = rw (not_zero sub h) refl
-
-  pub not_made_beside : sub ≡ 0 → is_some (values_section ss index) ≡ true → made_at ss values (index, sub) ≡ None
+module _ (ss : List Section) (values : ℕ × ℕ → Option (List ℕ)) (index : ℕ) where
+  pub not_made_beside : is_some (values_section ss index) ≡ true → made_section ss values index ≡ None
   unfolding made_section
-  not_made_beside zeroth there = rw (zeroth, there) refl
+  not_made_beside there = rw there refl
 
-  pub not_made_of_others : sub ≡ 0 → is_some (values_section ss index) ≡ false → compact_object ss index ≡ None → made_at ss values (index, sub) ≡ None
+  pub not_made_of_others : is_some (values_section ss index) ≡ false → compact_object ss index ≡ None → made_section ss values index ≡ None
   unfolding made_section
-  not_made_of_others zeroth there none = rw (zeroth, there, none) refl
+  not_made_of_others there none = rw (there, none) refl
 
-  pub made_of_compact : (section : Section) (highest : ℕ) → sub ≡ 0 → is_some (values_section ss index) ≡ false → compact_object ss index ≡ Some (section, highest)
-      → new_values index (values_set ss values index highest) ≡ made_at ss values (index, sub)
+  pub made_of_compact : (section : Section) (highest : ℕ) → is_some (values_section ss index) ≡ false → compact_object ss index ≡ Some (section, highest)
+      → new_values index (values_set ss values index highest) ≡ made_section ss values index
   unfolding made_section
-  made_of_compact section highest zeroth there is = rw (zeroth, there, is) refl
+  made_of_compact section highest there is = rw (there, is) refl
 
 pub is_some_copied : {X : Type 0} (o : Option (Bor X)) → is_some (option_copied o) ≡ is_some o
 is_some_copied None = refl
