@@ -40,7 +40,7 @@ decimal_folded a =
     ∙ ap (λ t. not (length a == 0) && t) (list_all-map (λ c. is_digit c 10) to_ascii_lowercase a ∙ (let q : (λ (c : ℕ). is_digit (to_ascii_lowercase c) 10) ≡ (λ (c : ℕ). is_digit c 10) = λ i c. lower_digit c i in ap (λ (p : ℕ → Bool). list_all p a) q))
 
 -- keys that are equal without case are decimal together
-decimal_same : (a b : List ℕ) → same a b ≡ true → is_decimal a ≡ is_decimal b
+pub decimal_same : (a b : List ℕ) → same a b ≡ true → is_decimal a ≡ is_decimal b
 decimal_same a b h = sym (decimal_folded a) ∙ ap is_decimal (same_folded a b h) ∙ decimal_folded b
 
 all_digits : (ds : List ℕ) → AllDigits 10 ds → list_all (λ c. is_digit c 10) ds ≡ true
@@ -59,11 +59,11 @@ decimal_is n h =
     let numeral = decimal_is_IsNumeral n h in
     ap (λ t. t && list_all (λ c. is_digit c 10) (decimal n)) (some_digit (length (decimal n)) numeral.0.0) ∙ all_digits (decimal n) numeral.0.1
 
-same_decimal : (j k : ℕ) → j < 2 ^ 64 → k < 2 ^ 64 → same (decimal j) (decimal k) ≡ true → j ≡ k
+pub same_decimal : (j k : ℕ) → j < 2 ^ 64 → k < 2 ^ 64 → same (decimal j) (decimal k) ≡ true → j ≡ k
 same_decimal j k hj hk h =
     decimal_injective j k hj hk (sym (folded_digits (decimal j) (decimal_is_IsNumeral j hj).0.1) ∙ same_folded (decimal j) (decimal k) h ∙ folded_digits (decimal k) (decimal_is_IsNumeral k hk).0.1)
 
-untrue : (t : Bool) → (t ≡ true → ⊥) → t ≡ false
+pub untrue : (t : Bool) → (t ≡ true → ⊥) → t ≡ false
 untrue true denied = absurd (denied refl)
 untrue false denied = refl
 
@@ -112,7 +112,7 @@ put_aside (p ∷ ps) key value k other = by (same key p.key) (same k p.key) refl
     by false true e f ih = rw f refl
     by false false e f ih = rw f ih
 
-count_is_no_number : (key : List ℕ) → is_decimal key ≡ true → same (codes "NrOfEntries") key ≡ false
+pub count_is_no_number : (key : List ℕ) → is_decimal key ≡ true → same (codes "NrOfEntries") key ≡ false
 count_is_no_number key is = untrue (same (codes "NrOfEntries") key) (λ h. false≢true (decimal_same (codes "NrOfEntries") key h ∙ is))
 
 -- ---- the set values
@@ -176,7 +176,7 @@ keyed_value None true key kind p e = absurd (cc)
 keyed_value (Some bytes) true key kind p e = let is : record { key = key; value = printed kind bytes } ≡ p = cc in ap (λ (q : Pair). q.key) (sym is)
 keyed_value values false key kind p e = absurd (cc)
 
-value_pair_keyed : (ss : List Section) (values : ℕ × ℕ → Option (List ℕ)) (place : ℕ × ℕ) (p : Pair) → value_pair ss values place ≡ Some p → p.key ≡ decimal place.1
+pub value_pair_keyed : (ss : List Section) (values : ℕ × ℕ → Option (List ℕ)) (place : ℕ × ℕ) (p : Pair) → value_pair ss values place ≡ Some p → p.key ≡ decimal place.1
 unfolding value_pair
 value_pair_keyed ss values place p e = keyed_value (values place) (is_compact (origin_of ss place.0 place.1)) (decimal place.1) (kind_at ss place) p e
 
@@ -251,7 +251,7 @@ count_bound s n e = by (is_compact_type (object_type s)) (number_at s (codes "Co
     by true (Some z) e = highest_bound z n e
     by false o e = absurd (cc)
 
-object_bound : (ss : List Section) (index : ℕ) (object : Section) (highest : ℕ) → compact_object ss index ≡ Some (object, highest) → highest ≤ 254
+pub object_bound : (ss : List Section) (index : ℕ) (object : Section) (highest : ℕ) → compact_object ss index ≡ Some (object, highest) → highest ≤ 254
 unfolding compact_object
 object_bound ss index object highest e = by (object_section ss index) e
   where

@@ -1,7 +1,13 @@
+pub mod ApartLemmas
 pub mod ChangeLemmas
 pub mod CompactLemmas
 pub mod EntryLemmas
 pub mod LastLemmas
 pub mod LawLemmas
+pub mod LineLemmas
 pub mod MadeLemmas
+pub mod PrintableLemmas
+pub mod PrintedLemmas
+pub mod SectionLemmas
 pub mod TextLemmas
+pub mod ValuesNameLemmas

@@ -3,4 +3,5 @@ pub mod Compact
 pub mod Dcf
 pub mod Entries
 pub mod Pairs
+pub mod Printable
 pub mod Writes

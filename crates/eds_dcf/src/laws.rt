@@ -1,7 +1,9 @@
 //! Laws of the definitions: what stands in the sections of a DCF.
 
-ghost use Rattle.std.specs.Prelude.{◌≡◌, ◌≤◌, ℕ, List, None, Some, option_map, slice_get, false, true, codes, decimal};
-ghost use Rattle.ini_text.specs.Content.{Pair, Section, same, value_at};
+ghost use Rattle.std.specs.Prelude.{◌≡◌, All, ◌≤◌, ℕ, List, None, Some, option_map, slice_get, false, true, codes, decimal};
+ghost use Rattle.ini_text.specs.Change.{text_of};
+ghost use Rattle.ini_text.specs.Content.{Pair, Section, content_of, same, value_at};
+ghost use Rattle.ini_text.specs.Printable.{IsPrintable, IsValue};
 ghost use Rattle.co_values.specs.Types.{is_modelled};
 ghost use Rattle.co_values.specs.Values.{printed};
 ghost use Rattle.concise_dcf.specs.declared.write.Write.{Write as written};
@@ -10,9 +12,18 @@ ghost use Rattle.eds_device.specs.Names.{values_named};
 ghost use Rattle.eds_device.specs.Sections.{kind_of};
 ghost use Rattle.eds_device.specs.Origins.{own, origin_of};
 ghost use Rattle.eds_dcf.specs.Compact.{compact_object, is_compact, is_decimal, values_pairs_at};
-ghost use Rattle.eds_dcf.specs.Dcf.{with_values};
+ghost use Rattle.eds_dcf.specs.Dcf.{dcf_sections, with_values};
 ghost use Rattle.eds_dcf.specs.Entries.{parameter_place};
+ghost use Rattle.eds_dcf.specs.Printable.{StandsInLine};
 ghost use Rattle.eds_dcf.specs.Writes.{last_of};
+
+/// Reading the text of a DCF gives the sections that it was printed of: for sections that a text
+/// gave, a node's name without blanks at its ends and without an LF, and writes whose values can
+/// stand in a line, as those of numbers and of pairs of digits always can.
+pub fn a_dcf_reads_as_its_sections()
+    ensures { (ss : List Section) (node : ℕ) (name : List ℕ) (bitrate : ℕ) (writes : List written) → IsPrintable ss → IsValue name → All (StandsInLine ss) writes
+        → (content_of (text_of (dcf_sections ss node name bitrate writes))).sections ≡ dcf_sections ss node name bitrate writes }
+{}
 
 /// The section of a modelled entry has the bytes of the entry's last write as its ParameterValue, and
 /// no ParameterValue where no write is to the entry. Its other keys have what they had.
