@@ -134,6 +134,22 @@ module _ (ss : List Section) (values : ℕ × ℕ → Option (List ℕ)) (spelle
       (λ p h. (ap is_decimal h.keyed ∙ decimal_is_decimal h.sub, subst IsKey (sym h.keyed) (decimal_key h.sub), subst IsOpen (sym h.keyed) (decimal_open h.sub)))
       (filter_map (value_pair ss values) (first_subs index (highest + 1))) (set_all index (highest + 1))
 
+-- their keys are numbers, whatever their values are
+keyed_decimal : (ss : List Section) (values : ℕ × ℕ → Option (List ℕ)) (place : ℕ × ℕ) (o : Option Pair) → value_pair ss values place ≡ o → AllByRecursion (λ p. is_decimal p.key ≡ true) (option_to_list o)
+keyed_decimal ss values place None e = tt
+keyed_decimal ss values place (Some p) e = (ap is_decimal (value_pair_keyed ss values place p e) ∙ decimal_is_decimal place.1, tt)
+
+some_decimal : (ss : List Section) (values : ℕ × ℕ → Option (List ℕ)) (index n : ℕ) → AllByRecursion (λ p. is_decimal p.key ≡ true) (filter_map (value_pair ss values) (first_subs index n))
+some_decimal ss values index zero = tt
+some_decimal ss values index (suc n) =
+    subst (AllByRecursion (λ p. is_decimal p.key ≡ true)) (sym (filter_map-push (value_pair ss values) (first_subs index n) (index, n)))
+    (all_append (λ p. is_decimal p.key ≡ true) (filter_map (value_pair ss values) (first_subs index n)) (option_to_list (value_pair ss values (index, n)))
+    (some_decimal ss values index n) (keyed_decimal ss values (index, n) (value_pair ss values (index, n)) refl))
+
+pub set_numbers : (ss : List Section) (values : ℕ × ℕ → Option (List ℕ)) (index highest : ℕ) → AllByRecursion (λ p. is_decimal p.key ≡ true) (values_set ss values index highest)
+unfolding values_set
+set_numbers ss values index highest = some_decimal ss values index (highest + 1)
+
 -- ---- a section of values
 
 pub counted_sound : (ps : List Pair) → AreSound ps → AreSound (with_count ps)

@@ -4,4 +4,5 @@ pub mod Dcf
 pub mod Entries
 pub mod Pairs
 pub mod Printable
+pub mod Standing
 pub mod Writes
