@@ -5,8 +5,7 @@ ghost use Rattle.std.specs.List.{flat_map};
 ghost use Rattle.std.specs.Option.{option_to_list};
 ghost use Rattle.ini_text.specs.Change.{section_text};
 ghost use Rattle.co_values.specs.Values.{Fits};
-ghost use Rattle.eds_dcf.specs.Compact.{compact_object as object_of, is_compact as is_compact_origin, new_values, value_pair, values_set as values_set_of, values_name as name_of_values, values_pairs_at};
-ghost use Rattle.eds_dcf.specs.Dcf.{made_at};
+ghost use Rattle.eds_dcf.specs.Compact.{compact_object as object_of, is_compact as is_compact_origin, made_section, new_values, value_pair, values_set as values_set_of, values_name as name_of_values, values_pairs_at};
 ghost use Rattle.eds_device.specs.Shown.{shown};
 ghost use Rattle.eds_device.specs.Described.{kind_at};
 
@@ -113,23 +112,18 @@ fn put_new(out: &mut Vec<u8>, alloc: Global, index: u16, set: &[Setting]) -> Res
     Ok(())
 }
 
-/// Writes the section that is made for a compact object without one, if values of it are set. It is
-/// written for its sub 0.
+/// Writes the section that is made for a compact object without one, if values of it are set.
 pub(crate) fn put_made(
     out: &mut Vec<u8>,
     alloc: Global,
     device: &Device,
     values: &Dict,
     index: u16,
-    sub: u8,
 ) -> Result<(), AllocError>
     requires { (place : ℕ × ℕ) → IfSome (get values.now place) (Fits (kind_at device.now.sections place)) }
     ensures { OnOk result (out.new.items ≡ out.old.items
-        ++ flat_map section_text (option_to_list (made_at device.now.sections (get values.now) (index, sub)))) }
+        ++ flat_map section_text (option_to_list (made_section device.now.sections (get values.now) index))) }
 {
-    if sub != 0 {
-        return Ok(());
-    }
     if device.values_section(index).is_some() {
         return Ok(());
     }
