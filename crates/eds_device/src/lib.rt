@@ -19,5 +19,6 @@ pub use device::Device;
 pub use fault::DeviceFault;
 pub use ini_text::{Pair, Section};
 pub use name::{index_named, place_named, sub_listed, values_named};
+pub use object_type::ObjectType;
 pub use origin::Origin;
 pub use section::{compact_count, kind_of};

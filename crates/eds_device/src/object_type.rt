@@ -4,7 +4,7 @@ ghost use Rattle.eds_device.specs.Sections.{object_of_number};
 
 /// What an object of a dictionary is, as CiA 301's object codes say.
 #[derive(Clone, Copy, Debug, PartialEq, Eq)]
-pub(crate) enum ObjectType {
+pub enum ObjectType {
     Domain,
     Variable,
     Array,
