@@ -32,6 +32,16 @@ judged_at entry text node =
 unfoldable pub judged : Option Entry → List ℕ → ℕ → Result (List ℕ) ParameterFault
 judged entry text node = option_map_or (λ e. judged_at e text node) entry (Err NoEntry)
 
+-- the type is modelled, and the text spells a value of it at the node
+abbrev pub set_at : Entry → List ℕ → ℕ → Result (List ℕ) ParameterFault
+set_at entry text node =
+    if not (is_modelled entry.kind) then Err NotModelled
+    else option_map_or Ok (value entry.kind text node) (Err Unreadable)
+
+-- the bytes that a text gives an entry at a node where its own application sets it, which asks for neither access nor limits; or the first fault that holds
+unfoldable pub judged_set : Option Entry → List ℕ → ℕ → Result (List ℕ) ParameterFault
+judged_set entry text node = option_map_or (λ e. set_at e text node) entry (Err NoEntry)
+
 -- in the subject's words: the text spells the bytes, and the entry may be given them
 pub record Suits (entry : Entry) (text bytes : List ℕ) (node : ℕ) : Type 0 where
   pub modelled : IsTrue (is_modelled entry.kind)

@@ -3,7 +3,7 @@ ghost use Rattle.std.specs.Prelude.{◌≡◌, IfOk, IfSome};
 ghost use Rattle.co_values.specs.Values.{Fits, value};
 ghost use Rattle.eds_device.specs.Described.{kind_at};
 ghost use Rattle.eds_device.specs.Entries.{entry_at};
-ghost use Rattle.co_params.specs.Judgement.{is_outside, breaks_limit, judged_at, judged};
+ghost use Rattle.co_params.specs.Judgement.{is_outside, breaks_limit, judged_at, judged, set_at, judged_set};
 
 use crate::parameter_fault::ParameterFault;
 use co_base::Octets;
@@ -102,5 +102,46 @@ pub fn judge(
         return Ok(Err(ParameterFault::NoEntry));
     };
     let given = judge_at(alloc, &entry, text, node)?;
+    Ok(given)
+}
+
+/// What a text gives an entry at a node where its application sets it.
+fn judge_set_at(
+    alloc: Global,
+    entry: &Entry,
+    text: &[u8],
+    node: u8,
+) -> Result<Result<Octets, ParameterFault>, AllocError>
+    ensures given { IfOk result (λ given. given ≡ set_at entry.now text.now node) }
+    ensures fits { IfOk result (λ given. IfOk given (Fits entry.now.kind)) }
+{
+    if !entry.kind.is_modelled() {
+        return Ok(Err(ParameterFault::NotModelled));
+    }
+    match read_value(alloc, entry.kind, text, node)? {
+        Some(bytes) => Ok(Ok(bytes)),
+        None => Ok(Err(ParameterFault::Unreadable)),
+    }
+}
+
+/// The bytes that a text gives an entry of a device at a node where the node's own application sets
+/// it, whatever its access and limits; or the first fault that holds: there is no such entry, its
+/// type is not modelled, the text spells no value of its type.
+#[tactic(auto, unfolding(crate::specs::Judgement::judged_set))]
+pub fn judge_set(
+    alloc: Global,
+    device: &Device,
+    node: u8,
+    index: u16,
+    sub: u8,
+    text: &[u8],
+) -> Result<Result<Octets, ParameterFault>, AllocError>
+    ensures given { IfOk result (λ given. given ≡ judged_set (entry_at device.now.sections node index sub) text.now node) }
+    ensures fits { IfOk result (λ given. IfOk given (Fits (kind_at device.now.sections (index, sub)))) }
+{
+    let Some(entry) = device.entry(node, index, sub) else {
+        return Ok(Err(ParameterFault::NoEntry));
+    };
+    let given = judge_set_at(alloc, &entry, text, node)?;
     Ok(given)
 }
