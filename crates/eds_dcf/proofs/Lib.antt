@@ -1,5 +1,8 @@
+pub mod AgainLemmas
 pub mod AlikeLemmas
 pub mod ApartLemmas
+pub mod CarriedLemmas
+pub mod CarriedTextLemmas
 pub mod ChangeLemmas
 pub mod CompactLemmas
 pub mod CountLemmas
