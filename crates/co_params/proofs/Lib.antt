@@ -1,5 +1,5 @@
-mod JudgedLemmas
-mod ParameterLemmas
+pub mod JudgedLemmas
+pub mod ParameterLemmas
 mod SizeLemmas
 mod TextLemmas
-mod WrittenLemmas
+pub mod WrittenLemmas

@@ -29,7 +29,7 @@ AreBytes-bytes_low_first i zero x k = lit< tt
 AreBytes-bytes_low_first i (suc n) x zero = byte_at-lt i x
 AreBytes-bytes_low_first i (suc n) x (suc k) = AreBytes-bytes_low_first (suc i) n x k
 
-number_fits : (n : ℕ) (o : Option ℕ) (bytes : List ℕ) → option_map (little_bytes n) o ≡ Some bytes → AreBytes bytes × (length bytes ≡ n)
+pub number_fits : (n : ℕ) (o : Option ℕ) (bytes : List ℕ) → option_map (little_bytes n) o ≡ Some bytes → AreBytes bytes × (length bytes ≡ n)
 number_fits n None bytes e = cc
 number_fits n (Some x) bytes e =
     let is : little_bytes n x ≡ bytes = given_same (little_bytes n x) bytes e in
@@ -42,14 +42,14 @@ flag_fits_at n true bytes test e =
     omega arith
 flag_fits_at n false bytes test e = cc
 
-flag_fits : (o : Option ℤ) (bytes : List ℕ) → option_map (little_bytes 1) (option_and_then flag_bits o) ≡ Some bytes → get_or bytes 0 0 < 2
+pub flag_fits : (o : Option ℤ) (bytes : List ℕ) → option_map (little_bytes 1) (option_and_then flag_bits o) ≡ Some bytes → get_or bytes 0 0 < 2
 flag_fits None bytes e = cc
 flag_fits (Some (pos n)) bytes e = flag_fits_at n (nat_lt n 2) bytes refl e
 flag_fits (Some (negsuc n)) bytes e = cc
 
 -- ---- bytes
 
-short_at : (text bytes : List ℕ) (b : Bool) → nat_le (length text) longest_value ≡ b → (if b then Some text else None) ≡ Some bytes → (text ≡ bytes) × (length bytes ≤ longest_value)
+pub short_at : (text bytes : List ℕ) (b : Bool) → nat_le (length text) longest_value ≡ b → (if b then Some text else None) ≡ Some bytes → (text ≡ bytes) × (length bytes ≤ longest_value)
 short_at text bytes true test e =
     let is : text ≡ bytes = given_same text bytes e in
     let few : length text ≤ longest_value = leb-true (length text) longest_value test in
@@ -77,12 +77,12 @@ pair_fits a b true true (Some bytes) high low h = both
 pair_fits a b true false o high low h = tt
 pair_fits a b false y o high low h = tt
 
-paired_fits : (text : List ℕ) → IfSome (paired text) AreBytes
+pub paired_fits : (text : List ℕ) → IfSome (paired text) AreBytes
 paired_fits [] = λ k. lit< tt
 paired_fits (a ∷ []) = tt
 paired_fits (a ∷ b ∷ text) = pair_fits a b (is_digit a 16) (is_digit b 16) (paired text) refl refl (paired_fits text)
 
-pairs_fit : (o : Option (List ℕ)) (bytes : List ℕ) → IfSome o AreBytes → option_and_then if_not_too_long o ≡ Some bytes → AreBytes bytes × (length bytes ≤ longest_value)
+pub pairs_fit : (o : Option (List ℕ)) (bytes : List ℕ) → IfSome o AreBytes → option_and_then if_not_too_long o ≡ Some bytes → AreBytes bytes × (length bytes ≤ longest_value)
 pairs_fit None bytes h e = cc
 pairs_fit (Some given) bytes h e = short_fits given bytes h e
 

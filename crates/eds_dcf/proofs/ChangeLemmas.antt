@@ -1,4 +1,4 @@
--- A change of the first element that passes, by its place.
+-- A change of the first element that passes, by its position.
 use Rattle.std.proofs.Common.{◌≡◌, ℕ, zero, suc, ◌+◌, ◌<◌, ◌≤◌, Bool, true, false, cond, not, ltb, List, [], ◌∷◌, ◌++◌, length, get_or, set, position, None, Some, refl, sym, ap, ◌∙◌, arith}
 use Rattle.std.proofs.lemmas.Bool.{ltb-false}
 use Rattle.std.proofs.lemmas.List.Quantifiers.{position-Some}
@@ -8,7 +8,7 @@ use Rattle.ini_text.specs.Change.{change_or_add, put_value}
 use Rattle.ini_text.specs.Content.{Pair, same}
 
 module _ {X : Type 0} (p : X → Bool) (f : X → X) (new : X) where
-  -- where the first one stands at a place
+  -- where the first one stands at a position
   changed_there : (xs : List X) (i : ℕ) (d : X) → i < length xs → p (get_or xs i d) ≡ true → ((k : ℕ) → k < i → p (get_or xs k d) ≡ false) → set xs i (f (get_or xs i d)) ≡ change_or_add p f new xs
   changed_there [] i d within here before = absurd (omega arith)
   changed_there (x ∷ xs) zero d within here before = rw here refl
@@ -28,14 +28,14 @@ module _ {X : Type 0} (p : X → Bool) (f : X → X) (new : X) where
       by true h rest = absurd (omega arith)
       by false h rest = ap (λ ys. x ∷ ys) (rest (omega arith))
 
-  no_place : (n m : ℕ) (t : Bool) → ltb n m ≡ t → cond t (Some n) None ≡ None → m ≤ n
-  no_place n m true e h = absurd (none-some n (sym h))
-  no_place n m false e h = ltb-false n m e
+  no_position : (n m : ℕ) (t : Bool) → ltb n m ≡ t → cond t (Some n) None ≡ None → m ≤ n
+  no_position n m true e h = absurd (none-some n (sym h))
+  no_position n m false e h = ltb-false n m e
 
   pub add_last : (xs : List X) → position p xs ≡ None → xs ++ new ∷ [] ≡ change_or_add p f new xs
-  add_last xs h = sym (none_passes xs (no_place (position_or_len p xs) (length xs) _ refl h))
+  add_last xs h = sym (none_passes xs (no_position (position_or_len p xs) (length xs) _ refl h))
 
--- a key that stands gets the value in its place
+-- a key that stands gets the value where it stands
 pub put_at : (seen pairs : List Pair) (i : ℕ) (shown key value : List ℕ) (there after : Pair) → seen ≡ pairs → shown ≡ key
     → position (λ p. same shown p.key) seen ≡ Some i → there ≡ get_or pairs i there → after ≡ record { key = there.key; value = value }
     → set pairs i after ≡ put_value pairs key value

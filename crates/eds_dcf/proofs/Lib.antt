@@ -1,18 +1,21 @@
-pub mod AlikeLemmas
-pub mod ApartLemmas
-pub mod ChangeLemmas
-pub mod CompactLemmas
-pub mod CountLemmas
-pub mod EntryLemmas
-pub mod LastLemmas
-pub mod LawLemmas
-pub mod LineLemmas
-pub mod MadeLemmas
-pub mod NamedLemmas
-pub mod PrintableLemmas
-pub mod PrintedLemmas
-pub mod SectionLemmas
-pub mod StandingLemmas
-pub mod TextLemmas
-pub mod ValuesNameLemmas
-pub mod WholeLemmas
+mod AgainLemmas
+mod AlikeLemmas
+mod ApartLemmas
+mod CarriedLemmas
+mod CarriedTextLemmas
+mod ChangeLemmas
+mod CompactLemmas
+mod CountLemmas
+mod EntryLemmas
+mod LastLemmas
+mod LawLemmas
+mod LineLemmas
+mod MadeLemmas
+mod NamedLemmas
+mod PrintableLemmas
+mod PrintedLemmas
+mod SectionLemmas
+mod StandingLemmas
+mod TextLemmas
+mod ValuesNameLemmas
+mod WholeLemmas

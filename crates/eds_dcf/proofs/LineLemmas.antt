@@ -119,7 +119,7 @@ pub signed_value : (z : ℤ) → IsValue (signed_decimal z)
 signed_value z = plain_value (signed_decimal z) (signed_plain z)
 
 numeral_digit : (c : ℕ) → (byte "0" ≤ c) × (c ≤ byte "9") → is_digit c 10 ≡ true
-numeral_digit c h = let low : 48 ≤ c = h.0 in let high : c ≤ 57 = h.1 in grind (arith, nat_tests)
+numeral_digit c h = let low : byte "0" ≤ c = h.0 in let high : c ≤ byte "9" = h.1 in grind (arith, nat_tests)
 
 all_numerals : (bs : List ℕ) → AreNumerals bs → list_all (λ c. is_digit c 10) bs ≡ true
 all_numerals [] h = refl
@@ -159,8 +159,8 @@ pub pair_again : (p : Pair) (value : List ℕ) → IsPrintablePair p → IsOpen 
 pair_again p value h o v = set_pair p.key value h.key o v
 
 no_numeral : (b c : ℕ) → (byte "0" ≤ c) × (c ≤ byte "9") → (b < byte "0") ⊎ (byte "9" < b) → (c == b) ≡ false
-no_numeral b c h (inl low) = let first : 48 ≤ c = h.0 in grind (arith, nat_tests)
-no_numeral b c h (inr high) = let last : c ≤ 57 = h.1 in grind (arith, nat_tests)
+no_numeral b c h (inl low) = let first : byte "0" ≤ c = h.0 in grind (arith, nat_tests)
+no_numeral b c h (inr high) = let last : c ≤ byte "9" = h.1 in grind (arith, nat_tests)
 
 numerals_without : (b : ℕ) (bs : List ℕ) → AreNumerals bs → (b < byte "0") ⊎ (byte "9" < b) → has_byte b bs ≡ false
 numerals_without b [] h out = refl
@@ -171,7 +171,7 @@ numerals_begin b [] h out = refl
 numerals_begin b (c ∷ cs) h out = no_numeral b c h.0 out
 
 numeral_lower : (c : ℕ) → (byte "0" ≤ c) × (c ≤ byte "9") → (to_ascii_lowercase c == byte "[") ≡ false
-numeral_lower c h = let low : 48 ≤ c = h.0 in let high : c ≤ 57 = h.1 in grind (arith, nat_tests)
+numeral_lower c h = let low : byte "0" ≤ c = h.0 in let high : c ≤ byte "9" = h.1 in grind (arith, nat_tests)
 
 numerals_open : (bs : List ℕ) → AreNumerals bs → IsOpen bs
 numerals_open [] h = refl

@@ -168,11 +168,11 @@ all_swap R (x ∷ xs) ys h =
 
 -- ---- the node's section
 
-found_all : (P : Section → Type 0) (p : Section → Bool) (ss : List Section) → AllByRecursion P ss → IfSome (find p ss) P
+pub found_all : {X : Type 0} (P : X → Type 0) (p : X → Bool) (xs : List X) → AllByRecursion P xs → IfSome (find p xs) P
 found_all P p [] h = tt
-found_all P p (s ∷ ss) h = by (p s) (found_all P p ss h.1)
+found_all {X} P p (x ∷ xs) h = by (p x) (found_all P p xs h.1)
   where
-    by : (t : Bool) → IfSome (find p ss) P → IfSome (cond t (Some s) (find p ss)) P
+    by : (t : Bool) → IfSome (find p xs) P → IfSome (cond t (Some x) (find p xs)) P
     by true rest = h.0
     by false rest = rest
 

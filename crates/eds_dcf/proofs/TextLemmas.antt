@@ -5,6 +5,7 @@ use Rattle.std.proofs.lemmas.List.{take_all, take_more}
 use Rattle.std.proofs.lemmas.List.Concat.{flat_map-append}
 use Rattle.std.proofs.lemmas.List.Elements.{filter_map-append}
 use Rattle.std.specs.List.{cons_option, flat_map}
+use Rattle.std.specs.Str.{byte}
 use Rattle.ini_text.specs.Content.{Pair, Section}
 use Rattle.ini_text.specs.Change.{pair_text, section_text, text_of}
 use Rattle.concise_dcf.specs.declared.write.Write.{Write}
@@ -17,7 +18,7 @@ use Rattle.eds_dcf.proofs.MadeLemmas.{at_first, walk_makes}
 
 -- a section is its name, and then its pairs
 pub begun : (name : List ℕ) (pairs : List Pair) → section_text (record { name = name; pairs = [] }) ++ flat_map pair_text pairs ≡ section_text (record { name = name; pairs = pairs })
-begun name pairs = append_assoc (91 ∷ name) (93 ∷ 10 ∷ []) (flat_map pair_text pairs)
+begun name pairs = append_assoc (byte "[" ∷ name) (byte "]" ∷ 10 ∷ []) (flat_map pair_text pairs)
 
 pub begun_after : (out : List ℕ) (name : List ℕ) (pairs : List Pair) → (out ++ section_text (record { name = name; pairs = [] })) ++ flat_map pair_text pairs ≡ out ++ section_text (record { name = name; pairs = pairs })
 begun_after out name pairs = append_assoc out (section_text (record { name = name; pairs = [] })) (flat_map pair_text pairs) ∙ ap (λ t. out ++ t) (begun name pairs)

@@ -8,9 +8,11 @@ use Rattle.ini_text.specs.Content.{Pair, Section, same, value_at}
 abbrev pub first_spelling : List ℕ
 first_spelling = codes "DeviceComissioning"
 
+-- and this one second
 abbrev pub second_spelling : List ℕ
 second_spelling = codes "DeviceCommissioning"
 
+-- whether a section of that name names the node
 abbrev pub is_commissioning : List ℕ → Bool
 is_commissioning name = same first_spelling name || same second_spelling name
 
@@ -22,6 +24,7 @@ pairs_named ss name = option_map_or (λ s. s.pairs) (find (λ s. same name s.nam
 abbrev pub is_set_anew : List ℕ → Bool
 is_set_anew key = same (codes "NodeID") key || same (codes "NodeName") key || same (codes "Baudrate") key
 
+-- the pairs that stay
 abbrev pub others : List Pair → List Pair
 others pairs = filter (λ p. not (is_set_anew p.key)) pairs
 

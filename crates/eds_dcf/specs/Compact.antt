@@ -38,12 +38,12 @@ values_set ss values index highest = filter_map (value_pair ss values) (first_su
 abbrev pub is_decimal : List ℕ → Bool
 is_decimal key = not (length key == 0) && list_all (λ c. is_digit c 10) key
 
--- with each of the new pairs in its place, or last
+-- with each of the new pairs where its key stands, or last
 abbrev pub with_all : List Pair → List Pair → List Pair
 with_all pairs [] = pairs
 with_all pairs (p ∷ ps) = with_all (put_value pairs p.key p.value) ps
 
--- with the number of the decimal keys in NrOfEntries, in its place, or last
+-- with the number of the decimal keys in NrOfEntries, where it stands, or last
 abbrev pub with_count : List Pair → List Pair
 with_count pairs = put_value pairs (codes "NrOfEntries") (decimal (count_by (λ p. is_decimal p.key) pairs))
 

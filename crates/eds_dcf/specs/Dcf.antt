@@ -17,6 +17,7 @@ pairs_with ss values s =
     option_map_or (λ place. parameter_pairs s.pairs (kind_at ss place) (values place)) (parameter_place ss s.name)
     (option_map_or (λ index. values_pairs_at ss values index s.pairs) (values_named s.name) s.pairs)
 
+-- a section of the text with the values
 abbrev pub with_values : List Section → (ℕ × ℕ → Option (List ℕ)) → Section → Section
 with_values ss values s = record { name = s.name; pairs = pairs_with ss values s }
 

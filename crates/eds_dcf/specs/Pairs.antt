@@ -2,6 +2,7 @@
 use Rattle.std.specs.Prelude.{ℕ, Bool, not, List, filter}
 use Rattle.ini_text.specs.Content.{Pair, same}
 
+-- whether two keys or names are equal without ASCII case
 abbrev pub is_key : List ℕ → List ℕ → Bool
 is_key a b = same a b
 

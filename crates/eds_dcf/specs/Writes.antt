@@ -3,6 +3,7 @@ use Rattle.std.specs.Prelude.{ℕ, ◌==◌, ◌&&◌, Bool, List, reverse, Opti
 use Rattle.std.specs.List.{find}
 use Rattle.concise_dcf.specs.declared.write.Write.{Write}
 
+-- whether a write is to the entry at a place
 abbrev pub is_to : ℕ × ℕ → Write → Bool
 is_to place write = (place.0 == write.index) && (place.1 == write.sub)
 

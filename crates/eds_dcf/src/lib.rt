@@ -11,5 +11,4 @@ mod setting;
 mod text;
 mod values;
 
-pub use eds_device::{Device, DeviceFault};
 pub use text::dcf_text;

@@ -65,8 +65,8 @@ impl Setting {
     }
 }
 
-/// The place of the first setting of a key.
-fn place_of(settings: &[Setting], key: &[u8]) -> Option<usize>
+/// The position of the first setting of a key.
+fn position_of(settings: &[Setting], key: &[u8]) -> Option<usize>
     ensures { result ≡ position (λ p. same key.now p.key) settings.now }
 {
     settings
@@ -74,7 +74,7 @@ fn place_of(settings: &[Setting], key: &[u8]) -> Option<usize>
         .position(|setting| is_key(key, setting.key()))
 }
 
-/// Sets the value of a key in its place, or adds the key last.
+/// Sets the value of a key where it stands, or adds the key last.
 pub(crate) fn put(
     settings: &mut Vec<Setting>,
     key: Vec<u8>,
@@ -82,8 +82,8 @@ pub(crate) fn put(
 ) -> Result<(), AllocError>
     ensures { OnOk result (settings.new.items ≡ put_value settings.old.items key.items value.items) }
 {
-    match place_of(settings.as_slice(), key.as_slice()) {
-        Some(place) => settings[place].set_value(value),
+    match position_of(settings.as_slice(), key.as_slice()) {
+        Some(position) => settings[position].set_value(value),
         None => settings.push(Setting { key, value })?,
     }
     Ok(())

@@ -67,8 +67,8 @@ fn copies_of_others(alloc: Global, pairs: &[Pair]) -> Result<Vec<Setting>, Alloc
     Ok(settings)
 }
 
-/// Puts each setting in its place, or last: none or one is the case, since sub 0 alone is modelled
-/// where the object is not.
+/// Puts each setting where its key stands, or last: none or one is the case, since sub 0 alone is
+/// modelled where the object is not.
 fn put_all(settings: &mut Vec<Setting>, set: Vec<Setting>) -> Result<(), AllocError>
     ensures { OnOk result (settings.new.items ≡ with_all settings.old.items set.items) }
 {
