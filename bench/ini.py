@@ -8,11 +8,13 @@ reads texts of 1 MiB (1,048,576 bytes, the longest that is read) and of a tenth 
     own      65,536 lines, each the header of a section of its own
     pairs    65,536 lines, in turn a header and a pair
     name     pairs of 3 bytes in one section, whose name has 4,000 bytes
+    eds      60,000 lines (896,248 bytes), as vendors write them: 7,500 objects and sub-objects of six
+             keys each, an empty line after each, lines ended by CR and LF
 
-Asserts for each that the large text takes under a second and at most 64 MiB, and that it takes at
-most 12 times as long as the small one (but for `pairs`, whose 38 MiB outgrow the caches that other
-work on the machine uses too: its ratio is printed alone). Times are those of the processor, so that other work on the machine
-disturbs them little. Run it from anywhere: bench/ini.py
+Asserts for each that the large text takes under a second (`eds` at most 25 ms) and at most 64 MiB,
+and that it takes at most 12 times as long as the small one (but for `pairs`, whose memory outgrows the
+caches that other work on the machine uses too: its ratio is printed alone). Times are those of the
+processor, so that other work on the machine disturbs them little. Run it from anywhere: bench/ini.py
 """
 import os
 import subprocess
@@ -26,6 +28,7 @@ LARGE = 1 << 20
 SMALL = LARGE // 10
 MEMORY = 64 << 20
 SECONDS = 1
+EDS_SECONDS = 0.025
 RATIO = 12
 RUNS = 15
 ROUNDS = 8
@@ -49,8 +52,25 @@ def name(size):
     return b"[" + b"n" * 4000 + b"]\n" + b"k=\n" * (size // 3)
 
 
-SHAPES = [one, own, pairs, name]
-JUDGED_BY_RATIO = [one, own, name]
+def eds(size):
+    lines = []
+    for count in range(7500 * size // LARGE):
+        index, sub = 0x2000 + count // 8, count % 8
+        lines += [
+            b"[%04X]" % index if sub == 0 else b"[%04Xsub%X]" % (index, sub),
+            b"ParameterName=Object %05d" % count,
+            b"ObjectType=0x7",
+            b"DataType=0x0007",
+            b"AccessType=rw",
+            b"DefaultValue=0",
+            b"PDOMapping=0",
+            b"",
+        ]
+    return b"".join(line + b"\r\n" for line in lines)
+
+
+SHAPES = [one, own, pairs, name, eds]
+JUDGED_BY_RATIO = [one, own, name, eds]
 
 
 def run(text):
@@ -99,7 +119,8 @@ def main():
         is_judged = shape in JUDGED_BY_RATIO
         slow, fast = times(large, small, ROUNDS if is_judged else 1)
         _, memory, answer = run(large)
-        good = slow < SECONDS and memory <= MEMORY and (slow <= RATIO * fast or not is_judged)
+        limit = EDS_SECONDS if shape is eds else SECONDS
+        good = slow <= limit and memory <= MEMORY and (slow <= RATIO * fast or not is_judged)
         failed = failed or not good
         print(f"{shape.__name__:6} {large.count(10):6}  {answer:>18}  {slow * 1e3:8.2f}  {fast * 1e3:8.2f}"
               f"  {slow / fast:5.1f}  {memory / (1 << 20):9.1f}{'' if good else '  FAILED'}")

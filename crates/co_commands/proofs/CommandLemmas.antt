@@ -7,13 +7,14 @@ use Rattle.co_scenario.specs.declared.event.Event.TheVariants as event
 use Rattle.co_scenario.specs.declared.nmt_command.NmtCommand.{NmtCommand}
 use Rattle.co_scenario.specs.declared.nmt_command.NmtCommand.TheVariants.{Start, Stop, EnterPreOperational, ResetNode, ResetCommunication}
 use Rattle.co_scenario.specs.Commands.{number_of}
-use Rattle.co_commands.specs.declared.manager.Manager.{Manager}
-use Rattle.co_commands.specs.declared.order.Order.TheVariants as order
+use Rattle.co_edits.specs.declared.manager_settings.ManagerSettings.{ManagerSettings}
+use Rattle.co_edits.specs.declared.edit.Edit.TheVariants as edit
 use Rattle.co_commands.specs.declared.request.Request.TheVariants.{Block}
-use Rattle.co_commands.specs.Words.{is_name, is_node_number, is_node_or_all, is_between, is_bit_rate, is_time, is_sync_period, is_event_number, after}
+use Rattle.co_text.specs.Words.{after}
+use Rattle.co_text.specs.Digits.{byte_digits, index_digits}
+use Rattle.co_edits.specs.Forms.{is_name, is_node_number, is_node_or_all, is_between, is_bit_rate, is_time, is_sync_period, is_event_number}
 use Rattle.co_commands.specs.Requests.{block_of, bitrate_of, horizon_of, manager_of, drop_eds_of, node_of, drop_node_of, id_of, param_of, unparam_of, event_at_time, set_of, switch, power_of, nmt, nmt_of, happening_of, event_of, drop_event_of}
-use Rattle.co_commands.specs.Orders.{AreIndices, IsManager, IsSetting}
-use Rattle.co_commands.specs.Lines.{index_word, sub_word}
+use Rattle.co_edits.specs.Edits.{AreIndices, IsManager, IsSetting}
 use Rattle.co_commands.proofs.NumberLemmas.{decimal_again, index_again, sub_again}
 use Rattle.co_commands.proofs.LineLemmas.{Has, Ends, Keeps}
 
@@ -57,47 +58,47 @@ pub block_is : (line : List ℕ) (name : List ℕ) (count : ℕ) → Has Ends li
 unfolding block_of
 block_is line name count h named few = rw (h.1.1, h.1.0, decimal_again count (omega arith), le-ltb 65536 count few, h.0, named) refl
 
-pub bitrate_is : (line : List ℕ) (rate : ℕ) → Has Ends line (decimal rate ∷ []) → is_bit_rate rate ≡ true → bitrate_of line ≡ Ok (order.Bitrate rate)
+pub bitrate_is : (line : List ℕ) (rate : ℕ) → Has Ends line (decimal rate ∷ []) → is_bit_rate rate ≡ true → bitrate_of line ≡ Ok (edit.Bitrate rate)
 unfolding bitrate_of
 bitrate_is line rate h fits = rw (h.1, h.0, decimal_again rate (rate_below rate fits), fits) refl
 
-pub horizon_is : (line : List ℕ) (time : ℕ) → Has Ends line (decimal time ∷ []) → is_time time ≡ true → horizon_of line ≡ Ok (order.Horizon time)
+pub horizon_is : (line : List ℕ) (time : ℕ) → Has Ends line (decimal time ∷ []) → is_time time ≡ true → horizon_of line ≡ Ok (edit.Horizon time)
 unfolding horizon_of
 horizon_is line time h fits = rw (h.1, h.0, decimal_again time (time_below time fits), fits) refl
 
-pub manager_is : (line : List ℕ) (m : Manager) → Has Ends line (decimal m.id ∷ decimal m.sync_us ∷ decimal m.heartbeat_ms ∷ decimal m.timeout_ms ∷ []) → IsManager m → manager_of line ≡ Ok (order.Manager m)
+pub manager_is : (line : List ℕ) (m : ManagerSettings) → Has Ends line (decimal m.id ∷ decimal m.sync_us ∷ decimal m.heartbeat_ms ∷ decimal m.timeout_ms ∷ []) → IsManager m → manager_of line ≡ Ok (edit.Manager m)
 unfolding manager_of IsManager
 manager_is line m h is =
     rw (h.1.1.1.1, h.0, h.1.0, h.1.1.0, h.1.1.1.0) (
     rw (decimal_again m.id (id_below m.id is.0), decimal_again m.sync_us (period_below m.sync_us is.1), decimal_again m.heartbeat_ms (short_below 0 m.heartbeat_ms is.2), decimal_again m.timeout_ms (short_below 1 m.timeout_ms is.3)) (
     rw (is.0, is.1, is.2, is.3) refl))
 
-pub drop_eds_is : (line name : List ℕ) → Has Ends line (name ∷ []) → is_name name ≡ true → drop_eds_of line ≡ Ok (order.DropEds name)
+pub drop_eds_is : (line name : List ℕ) → Has Ends line (name ∷ []) → is_name name ≡ true → drop_eds_of line ≡ Ok (edit.DropEds name)
 unfolding drop_eds_of
 drop_eds_is line name h named = rw (h.1, h.0, named) refl
 
 pub node_is : (line : List ℕ) (id : ℕ) (called eds : List ℕ) → Has Ends line (decimal id ∷ called ∷ eds ∷ []) → is_node_number id ≡ true → is_name called ≡ true → is_name eds ≡ true
-    → node_of line ≡ Ok (order.Node id called eds)
+    → node_of line ≡ Ok (edit.Node id called eds)
 unfolding node_of
 node_is line id called eds h fits named made = rw (h.1.1.1, h.0, h.1.0, h.1.1.0, decimal_again id (id_below id fits), named, made, fits) refl
 
-pub drop_node_is : (line : List ℕ) (id : ℕ) → Has Ends line (decimal id ∷ []) → is_node_number id ≡ true → drop_node_of line ≡ Ok (order.DropNode id)
+pub drop_node_is : (line : List ℕ) (id : ℕ) → Has Ends line (decimal id ∷ []) → is_node_number id ≡ true → drop_node_of line ≡ Ok (edit.DropNode id)
 unfolding drop_node_of id_of
 drop_node_is line id h fits = rw (h.1, h.0, decimal_again id (id_below id fits), fits) refl
 
-pub param_is : (line : List ℕ) (id index sub : ℕ) (kept : List ℕ) → Has (Keeps kept) line (decimal id ∷ index_word index ∷ sub_word sub ∷ []) → is_node_number id ≡ true → IsSetting index sub kept
-    → param_of line ≡ Ok (order.Param id index sub kept)
+pub param_is : (line : List ℕ) (id index sub : ℕ) (kept : List ℕ) → Has (Keeps kept) line (decimal id ∷ index_digits index ∷ byte_digits sub ∷ []) → is_node_number id ≡ true → IsSetting index sub kept
+    → param_of line ≡ Ok (edit.Param id index sub kept)
 unfolding param_of IsSetting
 param_is line id index sub kept h fits is =
     rw (h.0, h.1.0, h.1.1.0, h.1.1.1, decimal_again id (id_below id fits), index_again index (most 0 65535 index is.0.0), sub_again sub (most 0 255 sub is.0.1), fits, is.1) refl
 
-pub unparam_is : (line : List ℕ) (id index sub : ℕ) → Has Ends line (decimal id ∷ index_word index ∷ sub_word sub ∷ []) → is_node_number id ≡ true → AreIndices index sub
-    → unparam_of line ≡ Ok (order.Unparam id index sub)
+pub unparam_is : (line : List ℕ) (id index sub : ℕ) → Has Ends line (decimal id ∷ index_digits index ∷ byte_digits sub ∷ []) → is_node_number id ≡ true → AreIndices index sub
+    → unparam_of line ≡ Ok (edit.Unparam id index sub)
 unfolding unparam_of
 unparam_is line id index sub h fits are =
     rw (h.1.1.1, h.0, h.1.0, h.1.1.0, decimal_again id (id_below id fits), index_again index (most 0 65535 index are.0), sub_again sub (most 0 255 sub are.1), fits) refl
 
-pub drop_event_is : (line : List ℕ) (key : ℕ) → Has Ends line (decimal key ∷ []) → is_event_number key ≡ true → drop_event_of line ≡ Ok (order.DropEvent key)
+pub drop_event_is : (line : List ℕ) (key : ℕ) → Has Ends line (decimal key ∷ []) → is_event_number key ≡ true → drop_event_of line ≡ Ok (edit.DropEvent key)
 unfolding drop_event_of
 drop_event_is line key h fits = rw (h.1, h.0, decimal_again key (key_below key fits), fits) refl
 
@@ -120,7 +121,7 @@ module _ (key moment : ℕ) (numbered : is_event_number key ≡ true) (timed : i
   unfolding event_of
   event_is P line kind words h = rw (h.0, h.1.0, h.1.1.0, decimal_again key (key_below key numbered), decimal_again moment (time_below moment timed)) refl
 
-  pub set_is : (line : List ℕ) (node index sub : ℕ) (kept : List ℕ) → Has (Keeps kept) line (decimal node ∷ index_word index ∷ sub_word sub ∷ []) → is_node_number node ≡ true → IsSetting index sub kept
+  pub set_is : (line : List ℕ) (node index sub : ℕ) (kept : List ℕ) → Has (Keeps kept) line (decimal node ∷ index_digits index ∷ byte_digits sub ∷ []) → is_node_number node ≡ true → IsSetting index sub kept
       → set_of key moment line ≡ Ok (event_at_time key moment (event.Set node index sub kept))
   unfolding set_of IsSetting
   set_is line node index sub kept h fits is =

@@ -1,10 +1,11 @@
-pub mod EdsLemmas
-pub mod KeptLemmas
 pub mod TextLemmas
+pub mod LineFeeds
+pub mod EdsLemmas
+pub mod BlockLemmas
 pub mod WordLemmas
 pub mod NumberLemmas
 pub mod LineLemmas
 pub mod CommandLemmas
-pub mod BlockLemmas
 pub mod PrintedLemmas
 pub mod ScriptLemmas
+pub mod EventLemmas

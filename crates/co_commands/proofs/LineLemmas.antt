@@ -6,9 +6,11 @@ use Rattle.std.specs.Str.{bytes_eq}
 use Rattle.std.proofs.lemmas.Bool.{and_parts, not-true, le-ltb, leb-true, ltb-true}
 use Rattle.std.proofs.lemmas.List.Folds.{list_any-append}
 use Rattle.std.proofs.lemmas.Slice.Eq.{bytes_eq-Decides}
-use Rattle.ini_text.specs.Text.{trim_end}
+use Rattle.co_text.specs.Blanks.{is_blank, trim_end, trimmed}
+use Rattle.co_text.specs.Words.{word, after}
 use Rattle.co_commands.specs.declared.request.Request.{Request}
-use Rattle.co_commands.specs.Words.{is_blank, is_control, is_bad_line, is_text, word, after, text, trimmed}
+use Rattle.co_edits.specs.Forms.{is_control, is_plain, is_text, is_between}
+use Rattle.co_commands.specs.Words.{is_bad_line, text}
 use Rattle.co_commands.specs.Requests.{request, command_of, block_of}
 use Rattle.co_commands.proofs.WordLemmas.{is_visible, IsWord, clean_word, trim-space, word-space, after-space, word_is, after_is}
 
@@ -52,14 +54,14 @@ more {m = m} {w = w} {line = line} is rest = record {
 -- a text at the end
 pub kept : (t : List ℕ) → is_text t ≡ true → Spells (Keeps t) 4000 t []
 kept t h =
-    let all = and_parts (nat_lt 0 (length t) && nat_le (length t) 4000 && not (list_any is_control t)) (bytes_eq (trimmed t) t) h in
-    let clean = and_parts (nat_lt 0 (length t) && nat_le (length t) 4000) (not (list_any is_control t)) all.0 in
-    let sizes = and_parts (nat_lt 0 (length t)) (nat_le (length t) 4000) clean.0 in
+    let all = and_parts (is_plain t) (bytes_eq (trimmed t) t) h in
+    let plain = and_parts (is_between 1 4000 (length t)) (not (list_any is_control t)) all.0 in
+    let sizes = and_parts (nat_le 1 (length t)) (nat_le (length t) 4000) plain.0 in
     let same : trimmed (32 ∷ t) ≡ t = ap (trim_end is_blank) (trim-space t) ∙ (bytes_eq-Decides (trimmed t) t).0 all.1 in
     record {
       few = leb-true (length t) 4000 sizes.1;
-      clean = not-true (list_any is_control t) clean.1;
-      has = rw (same, sizes.0, sizes.1, not-true (list_any is_control t) clean.1) refl;
+      clean = not-true (list_any is_control t) plain.1;
+      has = rw (same, all.0) refl;
     }
 
 -- ---- the first word

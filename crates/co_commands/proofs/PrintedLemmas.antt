@@ -4,24 +4,27 @@ use Rattle.std.specs.Prelude.{if◌then◌else◌, Ok, codes, decimal}
 use Rattle.co_scenario.specs.declared.event.Event.{Event}
 use Rattle.co_scenario.specs.declared.event.Event.TheVariants as event
 use Rattle.co_scenario.specs.Commands.{number_of}
-use Rattle.co_commands.specs.declared.manager.Manager.{Manager}
-use Rattle.co_commands.specs.declared.order.Order.{Order}
-use Rattle.co_commands.specs.declared.order.Order.TheVariants as order
-use Rattle.co_commands.specs.declared.request.Request.TheVariants.{Edit}
-use Rattle.co_commands.specs.Words.{is_event_number, is_time}
-use Rattle.co_commands.specs.Requests.{command_of, edits, event_at_time, happening_of}
-use Rattle.co_commands.specs.Orders.{IsOrder, IsManager, IsEds, IsSetting, IsEvent}
-use Rattle.co_commands.specs.Lines.{index_word, sub_word, event_words, words_of, line_of, line_count, asks}
+use Rattle.co_edits.specs.declared.manager_settings.ManagerSettings.{ManagerSettings}
+use Rattle.co_edits.specs.declared.edit.Edit.{Edit}
+use Rattle.co_edits.specs.declared.edit.Edit.TheVariants as edit
+use Rattle.co_commands.specs.declared.request.Request.TheVariants.{Edit as EditAsked}
+use Rattle.co_text.specs.Digits.{byte_digits, index_digits}
+use Rattle.co_text.specs.Lines.{line_count}
+use Rattle.co_edits.specs.Eds.{IsEds}
+use Rattle.co_edits.specs.Forms.{is_event_number, is_time}
+use Rattle.co_commands.specs.Requests.{command_of, asks_edit, event_at_time, happening_of}
+use Rattle.co_edits.specs.Edits.{IsEdit, IsManager, IsSetting, IsEvent}
+use Rattle.co_commands.specs.Lines.{event_words, words_of, line_of, asks}
 use Rattle.co_commands.proofs.WordLemmas.{IsWord}
 use Rattle.co_commands.proofs.NumberLemmas.{number_word, index_is_word, sub_is_word, name_word}
 use Rattle.co_commands.proofs.LineLemmas.{Has, Spells, Keeps, last, more, kept, is_short, short, IsRead, command, block}
 use Rattle.co_commands.proofs.CommandLemmas.{most, node_below, id_below, rate_below, time_below, period_below, key_below, short_below, command_below, block_is, bitrate_is, horizon_is, manager_is, drop_eds_is, node_is, drop_node_is, param_is, unparam_is, drop_event_is, event_is, set_is, power_is, nmt_is}
-use Rattle.co_commands.proofs.BlockLemmas.{passes, lines_counted}
+use Rattle.co_commands.proofs.BlockLemmas.{lines_counted}
 
 -- ---- words at the end of a line
 
 -- an index, a sub-index and a text
-setting : (index sub : ℕ) (text : List ℕ) → IsSetting index sub text → Spells (Keeps text) 4022 (index_word index ++ 32 ∷ (sub_word sub ++ 32 ∷ text)) (index_word index ∷ sub_word sub ∷ [])
+setting : (index sub : ℕ) (text : List ℕ) → IsSetting index sub text → Spells (Keeps text) 4022 (index_digits index ++ 32 ∷ (byte_digits sub ++ 32 ∷ text)) (index_digits index ∷ byte_digits sub ∷ [])
 unfolding IsSetting
 setting index sub text is = more (index_is_word index (most 0 65535 index is.0.0)) (more (sub_is_word sub (most 0 255 sub is.0.1)) (kept text is.2))
 
@@ -35,13 +38,13 @@ module _ (key time : ℕ) (numbered : is_event_number key ≡ true) (timed : is_
   -- the line of an event, where what happens is read behind its kind
   event_line : {P : List ℕ → Type 0} {n : ℕ} {line : List ℕ} {words : List (List ℕ)} (kind : List ℕ) → is_short kind ≡ true → n ≤ 4052 → Spells P n line words → (e : Event)
       → ((rest : List ℕ) → Has P rest words → happening_of key time kind rest ≡ Ok (event_at_time key time e))
-      → IsRead (codes "event" ++ 32 ∷ (decimal key ++ 32 ∷ (decimal time ++ 32 ∷ (kind ++ 32 ∷ line)))) (Edit (event_at_time key time e))
+      → IsRead (codes "event" ++ 32 ∷ (decimal key ++ 32 ∷ (decimal time ++ 32 ∷ (kind ++ 32 ∷ line)))) (EditAsked (event_at_time key time e))
   unfolding command_of
   event_line {P = P} {words = words} kind is few rest e happens =
       let line = more (number_word key (key_below key numbered)) (more (number_word time (time_below time timed)) (more (short kind is) rest)) in
-      command (codes "event") refl (omega arith) line refl (ap edits (event_is key time numbered timed P _ kind words line.has ∙ happens _ line.has.1.1.1))
+      command (codes "event") refl (omega arith) line refl (ap asks_edit (event_is key time numbered timed P _ kind words line.has ∙ happens _ line.has.1.1.1))
 
-  read_event : (e : Event) → IsEvent e → IsRead (line_of (event_at_time key time e)) (Edit (event_at_time key time e))
+  read_event : (e : Event) → IsEvent e → IsRead (line_of (event_at_time key time e)) (EditAsked (event_at_time key time e))
   unfolding IsEvent line_of words_of event_words
   read_event (event.Set node index sub text) is =
       event_line (codes "set") refl (lit≤ tt) (more (number_word node (id_below node is.0)) (setting index sub text is.1)) _
@@ -55,48 +58,47 @@ module _ (key time : ℕ) (numbered : is_event_number key ≡ true) (timed : is_
 
 -- ---- edits
 
-read_manager : (m : Manager) → IsManager m → IsRead (line_of (order.Manager m)) (Edit (order.Manager m))
+read_manager : (m : ManagerSettings) → IsManager m → IsRead (line_of (edit.Manager m)) (EditAsked (edit.Manager m))
 unfolding IsManager line_of words_of command_of
 read_manager m is =
     let times = more (number_word m.heartbeat_ms (short_below 0 m.heartbeat_ms is.2)) (last (number_word m.timeout_ms (short_below 1 m.timeout_ms is.3))) in
     let line = more (number_word m.id (id_below m.id is.0)) (more (number_word m.sync_us (period_below m.sync_us is.1)) times) in
-    command (codes "manager") refl (lit≤ tt) line refl (ap edits (manager_is _ m line.has is))
+    command (codes "manager") refl (lit≤ tt) line refl (ap asks_edit (manager_is _ m line.has is))
 
-read_eds : (name text : List ℕ) → IsEds name text → IsRead (line_of (order.Eds name text)) (asks (order.Eds name text))
+read_eds : (name text : List ℕ) → IsEds name text → IsRead (line_of (edit.Eds name text)) (asks (edit.Eds name text))
 unfolding line_of words_of
 read_eds name text is =
-    let passed = passes name text is in
-    let few : line_count text ≤ 65536 = omega (arith, passed.1, lines_counted name text is) in
-    let line = more (name_word name passed.0) (last (number_word (line_count text) (omega arith))) in
-    block (codes "eds") refl (lit≤ tt) line refl (block_is _ name (line_count text) line.has passed.0 few)
+    let few : line_count text ≤ 65536 = omega (arith, is.lines, lines_counted name text is) in
+    let line = more (name_word name is.name) (last (number_word (line_count text) (omega arith))) in
+    block (codes "eds") refl (lit≤ tt) line refl (block_is _ name (line_count text) line.has is.name few)
 
 -- the line of each edit asks for it
-pub read_again : (o : Order) → IsOrder o → IsRead (line_of o) (asks o)
-unfolding IsOrder line_of words_of command_of
-read_again (order.Bitrate rate) fits =
+pub read_again : (o : Edit) → IsEdit o → IsRead (line_of o) (asks o)
+unfolding IsEdit line_of words_of command_of
+read_again (edit.Bitrate rate) fits =
     let line = last (number_word rate (rate_below rate fits)) in
-    command (codes "bitrate") refl (lit≤ tt) line refl (ap edits (bitrate_is _ rate line.has fits))
-read_again (order.Horizon time) fits =
+    command (codes "bitrate") refl (lit≤ tt) line refl (ap asks_edit (bitrate_is _ rate line.has fits))
+read_again (edit.Horizon time) fits =
     let line = last (number_word time (time_below time fits)) in
-    command (codes "horizon") refl (lit≤ tt) line refl (ap edits (horizon_is _ time line.has fits))
-read_again (order.Manager m) is = read_manager m is
-read_again (order.Eds name text) is = read_eds name text is
-read_again (order.DropEds name) named =
+    command (codes "horizon") refl (lit≤ tt) line refl (ap asks_edit (horizon_is _ time line.has fits))
+read_again (edit.Manager m) is = read_manager m is
+read_again (edit.Eds name text) is = read_eds name text is
+read_again (edit.DropEds name) named =
     let line = last (name_word name named) in
-    command (codes "drop-eds") refl (lit≤ tt) line refl (ap edits (drop_eds_is _ name line.has named))
-read_again (order.Node id name eds) is =
+    command (codes "drop-eds") refl (lit≤ tt) line refl (ap asks_edit (drop_eds_is _ name line.has named))
+read_again (edit.Node id name eds) is =
     let line = more (number_word id (id_below id is.0)) (more (name_word name is.1) (last (name_word eds is.2))) in
-    command (codes "node") refl (lit≤ tt) line refl (ap edits (node_is _ id name eds line.has is.0 is.1 is.2))
-read_again (order.DropNode id) fits =
+    command (codes "node") refl (lit≤ tt) line refl (ap asks_edit (node_is _ id name eds line.has is.0 is.1 is.2))
+read_again (edit.DropNode id) fits =
     let line = last (number_word id (id_below id fits)) in
-    command (codes "drop-node") refl (lit≤ tt) line refl (ap edits (drop_node_is _ id line.has fits))
-read_again (order.Param id index sub text) is =
+    command (codes "drop-node") refl (lit≤ tt) line refl (ap asks_edit (drop_node_is _ id line.has fits))
+read_again (edit.Param id index sub text) is =
     let line = more (number_word id (id_below id is.0)) (setting index sub text is.1) in
-    command (codes "param") refl (lit≤ tt) line refl (ap edits (param_is _ id index sub text line.has is.0 is.1))
-read_again (order.Unparam id index sub) is =
+    command (codes "param") refl (lit≤ tt) line refl (ap asks_edit (param_is _ id index sub text line.has is.0 is.1))
+read_again (edit.Unparam id index sub) is =
     let line = more (number_word id (id_below id is.0)) (more (index_is_word index (most 0 65535 index is.1.0)) (last (sub_is_word sub (most 0 255 sub is.1.1)))) in
-    command (codes "unparam") refl (lit≤ tt) line refl (ap edits (unparam_is _ id index sub line.has is.0 is.1))
-read_again (order.Event key e) is = read_event key e.time is.0 is.1 e.event is.2
-read_again (order.DropEvent key) fits =
+    command (codes "unparam") refl (lit≤ tt) line refl (ap asks_edit (unparam_is _ id index sub line.has is.0 is.1))
+read_again (edit.Event key e) is = read_event key e.time is.0 is.1 e.event is.2
+read_again (edit.DropEvent key) fits =
     let line = last (number_word key (key_below key fits)) in
-    command (codes "drop-event") refl (lit≤ tt) line refl (ap edits (drop_event_is _ key line.has fits))
+    command (codes "drop-event") refl (lit≤ tt) line refl (ap asks_edit (drop_event_is _ key line.has fits))

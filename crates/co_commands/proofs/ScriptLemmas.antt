@@ -4,14 +4,15 @@ use Rattle.std.specs.Prelude.{◌==◌}
 use Rattle.std.specs.List.{list_any, onto_first, AllByRecursion}
 use Rattle.std.proofs.lemmas.Bool.{or_parts}
 use Rattle.std.proofs.lemmas.Bool.Decides.{nat_tests}
-use Rattle.ini_text.specs.Text.{lines_of, is_cr, trim_end}
-use Rattle.co_commands.specs.declared.order.Order.{Order}
-use Rattle.co_commands.specs.declared.order.Order.TheVariants as order
-use Rattle.co_commands.specs.Words.{is_control}
-use Rattle.co_commands.specs.Eds.{text_of as eds_text}
-use Rattle.co_commands.specs.Orders.{IsOrder}
-use Rattle.co_commands.specs.Lines.{line_of, line_count, block_of, text_of}
-use Rattle.co_commands.proofs.BlockLemmas.{other_first, first_other, no_lf, no_lf_kept, passes}
+use Rattle.co_text.specs.Blanks.{trim_end}
+use Rattle.co_text.specs.Lines.{lines_of, line_count, is_cr}
+use Rattle.co_edits.specs.declared.edit.Edit.{Edit}
+use Rattle.co_edits.specs.declared.edit.Edit.TheVariants as edit
+use Rattle.co_edits.specs.Forms.{is_control}
+use Rattle.co_edits.specs.Eds.{text_of as eds_text}
+use Rattle.co_edits.specs.Edits.{IsEdit}
+use Rattle.co_commands.specs.Lines.{line_of, block_of, text_of}
+use Rattle.co_commands.proofs.LineFeeds.{other_first, first_other, no_lf, no_lf_kept}
 use Rattle.co_commands.proofs.PrintedLemmas.{read_again}
 
 -- a line without control bytes has no LF
@@ -45,13 +46,13 @@ ended_lines (line ∷ lines) rest none =
     ∙ ap (λ (ls : List (List ℕ)). ls ++ lines_of rest) (sym (first others))
 
 -- the lines that follow that of an edit
-block_lines : (o : Order) (rest : List ℕ) → IsOrder o → lines_of (block_of o ++ rest) ≡ lines_of (block_of o) ++ lines_of rest
-unfolding IsOrder lines_of
-block_lines (order.Eds name text) rest is = subst (λ (t : List ℕ). lines_of (t ++ rest) ≡ lines_of t ++ lines_of rest) (passes name text is).2 (ended_lines (lines_of text) rest (no_lf text))
+block_lines : (o : Edit) (rest : List ℕ) → IsEdit o → lines_of (block_of o ++ rest) ≡ lines_of (block_of o) ++ lines_of rest
+unfolding IsEdit lines_of
+block_lines (edit.Eds name text) rest is = subst (λ (t : List ℕ). lines_of (t ++ rest) ≡ lines_of t ++ lines_of rest) is.ended (ended_lines (lines_of text) rest (no_lf text))
 block_lines other rest is = refl
 
 -- the lines of an edit as text, before those of what follows
-pub order_lines : (o : Order) (rest : List ℕ) → IsOrder o → lines_of (text_of o ++ rest) ≡ (line_of o ∷ lines_of (block_of o)) ++ lines_of rest
+pub order_lines : (o : Edit) (rest : List ℕ) → IsEdit o → lines_of (text_of o ++ rest) ≡ (line_of o ∷ lines_of (block_of o)) ++ lines_of rest
 unfolding text_of
 order_lines o rest is =
     ap lines_of (append_assoc (line_of o) (10 ∷ block_of o) rest)

@@ -1,11 +1,11 @@
 -- Texts without blanks at their ends.
-use Rattle.std.proofs.Common.{◌≡◌, ℕ, zero, suc, ◌+◌, ◌-◌, ◌≤◌, Bool, true, false, cond, List, [], ◌∷◌, ◌++◌, reverse, length, take, drop, nat_lt, nat_le, refl, ap, ◌∙◌, sym, length-drop, take_all, take-append-drop, arith}
-use Rattle.std.specs.List.{list_any, prefix_len, suffix_len}
+use Rattle.std.proofs.Common.{◌≡◌, ℕ, zero, suc, ◌+◌, ◌-◌, ◌≤◌, Bool, true, false, cond, List, [], ◌∷◌, ◌++◌, reverse, length, take, drop, refl, ap, ◌∙◌, sym, length-drop, take_all, take-append-drop, arith}
+use Rattle.std.specs.List.{prefix_len, suffix_len}
 use Rattle.std.proofs.Math.Seq.{take-append_seam}
 use Rattle.std.proofs.lemmas.List.{reverse-append, reverse-reverse, length-reverse}
 use Rattle.std.proofs.lemmas.Slice.Eq.{bytes_eq-Decides}
-use Rattle.ini_text.specs.Text.{trim_start, trim_end}
-use Rattle.co_commands.specs.Words.{is_blank, is_control, trimmed, is_text}
+use Rattle.co_text.specs.Blanks.{is_blank, trim_start, trim_end, trimmed}
+use Rattle.co_edits.specs.Forms.{is_plain, is_text}
 
 module _ (p : ℕ → Bool) where
   -- nothing passes at the start
@@ -60,5 +60,5 @@ module _ (p : ℕ → Bool) where
       ap (λ n. trim_end p (drop n kept)) sharp ∙ trim_end_again (trim_start p bs)
 
 -- what is cut from the rest of a line is a text, where its length and its bytes are those of one
-pub trimmed_is_text : (rest : List ℕ) → nat_lt 0 (length (trimmed rest)) ≡ true → nat_le (length (trimmed rest)) 4000 ≡ true → list_any is_control (trimmed rest) ≡ false → is_text (trimmed rest) ≡ true
-trimmed_is_text rest some few plain = rw (some, few, plain) ((bytes_eq-Decides (trimmed (trimmed rest)) (trimmed rest)).1 (trimmed_again is_blank rest))
+pub trimmed_is_text : (rest : List ℕ) → is_plain (trimmed rest) ≡ true → is_text (trimmed rest) ≡ true
+trimmed_is_text rest plain = rw plain ((bytes_eq-Decides (trimmed (trimmed rest)) (trimmed rest)).1 (trimmed_again is_blank rest))

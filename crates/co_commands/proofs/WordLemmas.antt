@@ -6,8 +6,9 @@ use Rattle.std.proofs.Math.Numerals.{one-add}
 use Rattle.std.proofs.lemmas.Bool.{and_parts}
 use Rattle.std.proofs.lemmas.Bool.Decides.{nat_tests}
 use Rattle.std.proofs.lemmas.List.{take_at, drop_at}
-use Rattle.ini_text.specs.Text.{trim_start}
-use Rattle.co_commands.specs.Words.{is_blank, is_word_byte, is_control, word, after}
+use Rattle.co_text.specs.Blanks.{is_blank, trim_start}
+use Rattle.co_text.specs.Words.{is_word_byte, word, after}
+use Rattle.co_edits.specs.Forms.{is_control}
 
 -- a byte above the space: neither a blank nor a control byte
 abbrev pub is_visible : ℕ → Bool

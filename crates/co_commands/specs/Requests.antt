@@ -1,18 +1,23 @@
 -- What one line asks (this profile's own).
 use Rattle.std.specs.Prelude.{ℕ, Bool, true, false, ◌||◌, ◌&&◌, not, List, nat_lt, if◌then◌else◌, Option, Some, None, Result, Ok, Err, codes}
-use Rattle.std.specs.List.{list_all}
 use Rattle.std.specs.Str.{bytes_eq}
-use Rattle.co_commands.specs.declared.fault.EditFault.{EditFault}
-use Rattle.co_commands.specs.declared.fault.EditFault.TheVariants.{Syntax, Range}
-use Rattle.co_commands.specs.declared.order.Order.{Order}
-use Rattle.co_commands.specs.declared.order.Order.TheVariants as order
+use Rattle.co_edits.specs.declared.fault.EditFault.{EditFault}
+use Rattle.co_edits.specs.declared.fault.EditFault.TheVariants.{Syntax, Range}
+use Rattle.co_edits.specs.declared.edit.Edit.{Edit}
+use Rattle.co_edits.specs.declared.edit.Edit.TheVariants as edit
 use Rattle.co_scenario.specs.declared.event.Event.{Event}
 use Rattle.co_scenario.specs.declared.event.Event.TheVariants as event
 use Rattle.co_scenario.specs.declared.nmt_command.NmtCommand.{NmtCommand}
 use Rattle.co_scenario.specs.Commands.{command_of as nmt_command}
 use Rattle.co_commands.specs.declared.request.Request.{Request}
-use Rattle.co_commands.specs.declared.request.Request.TheVariants.{Edit, Dcf, Cdcf, Project, Block}
-use Rattle.co_commands.specs.Words.{word, after, last_word, is_blank, is_bad_line, is_name, name, decimal, hexadecimal, text, is_between, limited, is_node_number, is_node_or_all, is_own_index, is_bit_rate, is_time, is_sync_period, is_event_number}
+use Rattle.co_commands.specs.declared.request.Request.TheVariants.{Edit as EditAsked, Query as QueryAsked, Block}
+use Rattle.co_commands.specs.declared.query.Query.{Query}
+use Rattle.co_commands.specs.declared.query.Query.TheVariants.{Dcf, Cdcf, Project}
+use Rattle.co_text.specs.Blanks.{is_blank_line}
+use Rattle.co_text.specs.Words.{word, after}
+use Rattle.co_edits.specs.Eds.{most_lines}
+use Rattle.co_edits.specs.Forms.{is_name, limited, is_between, is_node_number, is_node_or_all, is_own_index, is_bit_rate, is_time, is_sync_period, is_event_number}
+use Rattle.co_commands.specs.Words.{last_word, is_bad_line, name, decimal, hexadecimal, text}
 
 infixl 10 ◌>>=◌
 -- a step after a step; the first fault stays
@@ -21,21 +26,26 @@ abbrev pub ◌>>=◌ : {A B : Type 0} → Result A EditFault → (A → Result B
 (Err e) >>= f = Err e
 
 -- an edit is asked
-abbrev pub edits : Result Order EditFault → Result Request EditFault
-edits (Ok order) = Ok (Edit order)
-edits (Err fault) = Err fault
+abbrev pub asks_edit : Result Edit EditFault → Result Request EditFault
+asks_edit (Ok edit) = Ok (EditAsked edit)
+asks_edit (Err fault) = Err fault
+
+-- a query is asked
+abbrev pub asks_query : Result Query EditFault → Result Request EditFault
+asks_query (Ok query) = Ok (QueryAsked query)
+asks_query (Err fault) = Err fault
 
 -- nothing is what a number out of its limits names
-abbrev pub or_range : {X : Type 0} → Option X → Result X EditFault
+abbrev or_range : {X : Type 0} → Option X → Result X EditFault
 or_range None = Err Range
 or_range (Some x) = Ok x
 
 -- a block has up to 65,536 lines
 abbrev pub block_lines : ℕ → Result ℕ EditFault
-block_lines n = if nat_lt 65536 n then Err Syntax else Ok n
+block_lines n = if nat_lt most_lines n then Err Syntax else Ok n
 
 -- the name of an EDS, where its command is of its form
-abbrev pub block_name : Bool → List ℕ → Option (List ℕ)
+abbrev block_name : Bool → List ℕ → Option (List ℕ)
 block_name is_bad word = if is_bad || not (is_name word) then None else Some word
 
 -- `NAME LINES`: a block follows, whatever else is wrong with the line; then it has no name
@@ -54,29 +64,29 @@ id_of rest = do
   limited is_node_number id
 
 -- the only word that follows, a name
-abbrev pub name_of : List ℕ → Result (List ℕ) EditFault
+abbrev name_of : List ℕ → Result (List ℕ) EditFault
 name_of rest = do
   last ← last_word rest
   name last
 
 -- `K`, in kbit/s
-unfoldable pub bitrate_of : List ℕ → Result Order EditFault
+unfoldable pub bitrate_of : List ℕ → Result Edit EditFault
 bitrate_of rest = do
   last ← last_word rest
   number ← decimal last
   rate ← limited is_bit_rate number
-  Ok (order.Bitrate rate)
+  Ok (edit.Bitrate rate)
 
 -- `US`
-unfoldable pub horizon_of : List ℕ → Result Order EditFault
+unfoldable pub horizon_of : List ℕ → Result Edit EditFault
 horizon_of rest = do
   last ← last_word rest
   number ← decimal last
   time ← limited is_time number
-  Ok (order.Horizon time)
+  Ok (edit.Horizon time)
 
 -- `ID SYNC_US HB_MS TIMEOUT_MS`
-unfoldable pub manager_of : List ℕ → Result Order EditFault
+unfoldable pub manager_of : List ℕ → Result Edit EditFault
 manager_of rest = do
   last ← last_word (after (after (after rest)))
   number ← decimal (word rest)
@@ -87,32 +97,32 @@ manager_of rest = do
   sync ← limited is_sync_period period
   producer ← limited (is_between 0 65535) heartbeat
   wait ← limited (is_between 1 65535) timeout
-  Ok (order.Manager (record { id = id; sync_us = sync; heartbeat_ms = producer; timeout_ms = wait }))
+  Ok (edit.Manager (record { id = id; sync_us = sync; heartbeat_ms = producer; timeout_ms = wait }))
 
 -- `NAME`
-unfoldable pub drop_eds_of : List ℕ → Result Order EditFault
+unfoldable pub drop_eds_of : List ℕ → Result Edit EditFault
 drop_eds_of rest = do
   called ← name_of rest
-  Ok (order.DropEds called)
+  Ok (edit.DropEds called)
 
 -- `ID NAME EDS`
-unfoldable pub node_of : List ℕ → Result Order EditFault
+unfoldable pub node_of : List ℕ → Result Edit EditFault
 node_of rest = do
   last ← last_word (after (after rest))
   number ← decimal (word rest)
   called ← name (word (after rest))
   eds ← name last
   id ← limited is_node_number number
-  Ok (order.Node id called eds)
+  Ok (edit.Node id called eds)
 
 -- `ID`
-unfoldable pub drop_node_of : List ℕ → Result Order EditFault
+unfoldable pub drop_node_of : List ℕ → Result Edit EditFault
 drop_node_of rest = do
   id ← id_of rest
-  Ok (order.DropNode id)
+  Ok (edit.DropNode id)
 
 -- `ID INDEX SUB TEXT`
-unfoldable pub param_of : List ℕ → Result Order EditFault
+unfoldable pub param_of : List ℕ → Result Edit EditFault
 param_of rest = do
   number ← decimal (word rest)
   entry ← hexadecimal 4 (word (after rest))
@@ -120,24 +130,24 @@ param_of rest = do
   kept ← text (after (after (after rest)))
   id ← limited is_node_number number
   index ← limited is_own_index entry
-  Ok (order.Param id index sub kept)
+  Ok (edit.Param id index sub kept)
 
 -- `ID INDEX SUB`
-unfoldable pub unparam_of : List ℕ → Result Order EditFault
+unfoldable pub unparam_of : List ℕ → Result Edit EditFault
 unparam_of rest = do
   last ← last_word (after (after rest))
   number ← decimal (word rest)
   index ← hexadecimal 4 (word (after rest))
   sub ← hexadecimal 2 last
   id ← limited is_node_number number
-  Ok (order.Unparam id index sub)
+  Ok (edit.Unparam id index sub)
 
 -- an event at its time, by its number
-abbrev pub event_at_time : ℕ → ℕ → Event → Order
-event_at_time number time happening = order.Event number (record { time = time; event = happening })
+abbrev pub event_at_time : ℕ → ℕ → Event → Edit
+event_at_time number time happening = edit.Event number (record { time = time; event = happening })
 
 -- `ID INDEX SUB TEXT` after `K TIME set`
-unfoldable pub set_of : ℕ → ℕ → List ℕ → Result Order EditFault
+unfoldable pub set_of : ℕ → ℕ → List ℕ → Result Edit EditFault
 set_of key moment rest = do
   node ← decimal (word rest)
   entry ← hexadecimal 4 (word (after rest))
@@ -157,7 +167,7 @@ switch word =
     else Err Syntax
 
 -- `ID on` or `ID off` after `K TIME power`
-unfoldable pub power_of : ℕ → ℕ → List ℕ → Result Order EditFault
+unfoldable pub power_of : ℕ → ℕ → List ℕ → Result Edit EditFault
 power_of key moment rest = do
   last ← last_word (after rest)
   node ← decimal (word rest)
@@ -172,7 +182,7 @@ abbrev pub nmt : ℕ → Result NmtCommand EditFault
 nmt n = or_range (nmt_command n)
 
 -- `CMD ID` after `K TIME nmt`
-unfoldable pub nmt_of : ℕ → ℕ → List ℕ → Result Order EditFault
+unfoldable pub nmt_of : ℕ → ℕ → List ℕ → Result Edit EditFault
 nmt_of key moment rest = do
   last ← last_word (after rest)
   asked ← decimal (word rest)
@@ -184,7 +194,7 @@ nmt_of key moment rest = do
   Ok (event_at_time number time (event.Nmt id command))
 
 -- what a kind of event and the rest of its line ask
-abbrev pub happening_of : ℕ → ℕ → List ℕ → List ℕ → Result Order EditFault
+abbrev pub happening_of : ℕ → ℕ → List ℕ → List ℕ → Result Edit EditFault
 happening_of key moment kind rest =
     if bytes_eq kind (codes "set") then set_of key moment rest
     else if bytes_eq kind (codes "power") then power_of key moment rest
@@ -192,42 +202,42 @@ happening_of key moment kind rest =
     else Err Syntax
 
 -- `K TIME`, and what happens then
-unfoldable pub event_of : List ℕ → Result Order EditFault
+unfoldable pub event_of : List ℕ → Result Edit EditFault
 event_of rest = do
   key ← decimal (word rest)
   moment ← decimal (word (after rest))
   happening_of key moment (word (after (after rest))) (after (after (after rest)))
 
 -- `K`
-unfoldable pub drop_event_of : List ℕ → Result Order EditFault
+unfoldable pub drop_event_of : List ℕ → Result Edit EditFault
 drop_event_of rest = do
   last ← last_word rest
   key ← decimal last
   number ← limited is_event_number key
-  Ok (order.DropEvent number)
+  Ok (edit.DropEvent number)
 
 -- what a query asks
-unfoldable pub query_of : List ℕ → List ℕ → Result Request EditFault
+unfoldable pub query_of : List ℕ → List ℕ → Result Query EditFault
 query_of first rest =
     if bytes_eq first (codes "dcf") then (id_of rest >>= λ id. Ok (Dcf id))
     else if bytes_eq first (codes "cdcf") then (id_of rest >>= λ id. Ok (Cdcf id))
-    else if bytes_eq first (codes "project") && list_all is_blank rest then Ok Project
+    else if bytes_eq first (codes "project") && is_blank_line rest then Ok Project
     else Err Syntax
 
 -- what a first word and the rest of its line ask
 unfoldable pub command_of : List ℕ → List ℕ → Result Request EditFault
 command_of first rest =
-    if bytes_eq first (codes "bitrate") then edits (bitrate_of rest)
-    else if bytes_eq first (codes "horizon") then edits (horizon_of rest)
-    else if bytes_eq first (codes "manager") then edits (manager_of rest)
-    else if bytes_eq first (codes "drop-eds") then edits (drop_eds_of rest)
-    else if bytes_eq first (codes "node") then edits (node_of rest)
-    else if bytes_eq first (codes "drop-node") then edits (drop_node_of rest)
-    else if bytes_eq first (codes "param") then edits (param_of rest)
-    else if bytes_eq first (codes "unparam") then edits (unparam_of rest)
-    else if bytes_eq first (codes "event") then edits (event_of rest)
-    else if bytes_eq first (codes "drop-event") then edits (drop_event_of rest)
-    else query_of first rest
+    if bytes_eq first (codes "bitrate") then asks_edit (bitrate_of rest)
+    else if bytes_eq first (codes "horizon") then asks_edit (horizon_of rest)
+    else if bytes_eq first (codes "manager") then asks_edit (manager_of rest)
+    else if bytes_eq first (codes "drop-eds") then asks_edit (drop_eds_of rest)
+    else if bytes_eq first (codes "node") then asks_edit (node_of rest)
+    else if bytes_eq first (codes "drop-node") then asks_edit (drop_node_of rest)
+    else if bytes_eq first (codes "param") then asks_edit (param_of rest)
+    else if bytes_eq first (codes "unparam") then asks_edit (unparam_of rest)
+    else if bytes_eq first (codes "event") then asks_edit (event_of rest)
+    else if bytes_eq first (codes "drop-event") then asks_edit (drop_event_of rest)
+    else asks_query (query_of first rest)
 
 -- THE REQUEST: what a line asks. The line has neither the LF nor the CRs at its end
 unfoldable pub request : List ℕ → Result Request EditFault

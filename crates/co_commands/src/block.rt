@@ -1,28 +1,18 @@
 //! The lines of an EDS.
-ghost use Rattle.std.specs.Prelude.{◌≡◌, ◌≤◌, IfOk, length};
-ghost use Rattle.std.specs.List.{list_any, suffix_len};
+ghost use Rattle.std.specs.Prelude.{◌≡◌, IfOk};
+ghost use Rattle.std.specs.List.{list_any};
+ghost use Rattle.ini_text.specs.Text.{is_long_line};
 ghost use Rattle.co_base.specs.Gives.{Gives};
-ghost use Rattle.ini_text.specs.Text.{trim_end, is_cr};
-ghost use Rattle.co_commands.specs.Faults.{is_memory};
-ghost use Rattle.co_commands.specs.Eds.{lines_of, text_of, is_bad_byte, has_bad_line, checked};
+ghost use Rattle.eds_device.specs.Faults.{device_of};
+ghost use Rattle.co_edits.specs.Faults.{is_memory, judged};
+ghost use Rattle.co_edits.specs.Eds.{lines_of, text_of, is_bad_byte, has_bad_line, has_long_line};
 
-use crate::fault::EditFault;
-use eds_device::{Device, DeviceFault};
+use co_edits::EditFault;
+use co_text::without_crs;
+use eds_device::Device;
 use std::alloc::{AllocError, Global};
 
-fn crs_behind(line: &[u8]) -> usize
-    ensures count { result ≡ suffix_len is_cr line.now }
-    ensures bound { result ≤ length line.now }
-{
-    line.iter().rev().take_while(|b| **b == b'\r').count()
-}
-
-/// A line without the CRs at its end.
-pub fn without_crs(line: &[u8]) -> &[u8]
-    ensures { result.now ≡ trim_end is_cr line.now }
-{
-    &line[..line.len() - crs_behind(line)]
-}
+const MAX_LINE: usize = 4096;
 
 /// The text of the lines.
 pub(crate) fn text_of(alloc: Global, lines: &[Vec<u8>]) -> Result<Vec<u8>, AllocError>
@@ -36,10 +26,28 @@ pub(crate) fn text_of(alloc: Global, lines: &[Vec<u8>]) -> Result<Vec<u8>, Alloc
     Ok(text)
 }
 
+fn is_long_line(line: &[u8]) -> bool
+    ensures { result ≡ is_long_line line.now }
+{
+    without_crs(line).len() > MAX_LINE
+}
+
+/// Whether a line has over 4,096 bytes, the CRs at its end not counted.
+pub(crate) fn has_long_line(lines: &[Vec<u8>]) -> bool
+    ensures { result ≡ has_long_line (lines_of lines.now) }
+{
+    for line in lines {
+        if is_long_line(line) {
+            return true;
+        }
+    }
+    false
+}
+
 fn is_bad_byte(byte: u8) -> bool
     ensures { result ≡ is_bad_byte byte }
 {
-    byte < 32 && !(byte == b'\t' || byte == b'\r')
+    byte < b' ' && !(byte == b'\t' || byte == b'\r')
 }
 
 fn has_bad_byte(line: &[u8]) -> bool
@@ -48,7 +56,7 @@ fn has_bad_byte(line: &[u8]) -> bool
     line.iter().any(|b| is_bad_byte(*b))
 }
 
-/// Whether a line has a byte that no text may have.
+/// Whether a line has a byte that no line of an EDS may have.
 pub(crate) fn has_bad_line(lines: &[Vec<u8>]) -> bool
     ensures { result ≡ has_bad_line (lines_of lines.now) }
 {
@@ -60,17 +68,10 @@ pub(crate) fn has_bad_line(lines: &[Vec<u8>]) -> bool
     false
 }
 
-/// What keeps a text from being an EDS, where a line is known to have a bad byte or not.
-#[tactic(auto, unfolding(crate::specs::Eds::has_too_many_entries, eds_device::specs::Faults::device_of))]
-pub(crate) fn check(alloc: Global, text: &[u8], is_bad: bool) -> Result<(), EditFault>
-    ensures { Gives is_memory (λ u. u) result (checked text.now is_bad) }
+/// Refuses a text that can't be read as a device.
+pub(crate) fn check(alloc: Global, text: &[u8]) -> Result<(), EditFault>
+    ensures { Gives is_memory (λ u. u) result (judged (device_of text.now)) }
 {
-    match Device::read(alloc, text) {
-        Err(DeviceFault::Memory) => Err(EditFault::Memory),
-        Err(DeviceFault::Range) => Err(EditFault::Range),
-        Err(DeviceFault::BadByte) => Err(EditFault::BadByte),
-        Err(DeviceFault::Limit) if !is_bad => Err(EditFault::Limit),
-        Ok(_) if !is_bad => Ok(()),
-        _ => Err(EditFault::BadByte),
-    }
+    Device::read(alloc, text)?;
+    Ok(())
 }

@@ -1,35 +1,35 @@
 //! An edit that was read.
 ghost use Rattle.std.specs.Prelude.{◌≡◌};
 ghost use Rattle.co_base.specs.Gives.{Gives};
-ghost use Rattle.co_commands.specs.Faults.{is_memory};
-ghost use Rattle.co_commands.specs.Eds.{lines_of, eds_order};
-ghost use Rattle.co_commands.specs.Orders.{IsOrder};
+ghost use Rattle.co_edits.specs.Faults.{is_memory};
+ghost use Rattle.co_edits.specs.Eds.{lines_of, eds_edit};
+ghost use Rattle.co_edits.specs.Edits.{IsEdit};
 
-use crate::block::{check, has_bad_line, text_of};
-use crate::fault::EditFault;
-use crate::order::Order;
-use crate::words::is_name;
+use crate::block::{check, has_bad_line, has_long_line, text_of};
 use co_base::Octets;
+use co_edits::{Edit, EditFault, is_name};
 use std::alloc::Global;
 use std::marker::Model;
 
 const MAX_LINES: usize = 65_536;
 
+const MAX_BYTES: usize = 1_048_576;
+
 /// An edit, whose words are of their forms and within their limits.
 #[derive(Debug, Drop)]
 pub struct Command {
-    order: Order,
+    edit: Edit,
 }
 
 impl Model for Command {
-    ghost use Rattle.co_commands.specs.declared.order.Order.{Order};
-    ghost use Rattle.co_commands.specs.Orders.{IsOrder};
+    ghost use Rattle.co_edits.specs.declared.edit.Edit.{Edit};
+    ghost use Rattle.co_edits.specs.Edits.{IsEdit};
 
-    ghost Value = { Order };
+    ghost Value = { Edit };
 
-    ghost view = { λ command. command.order };
+    ghost view = { λ command. command.edit };
 
-    ghost invariant = { λ command. IsOrder command.order };
+    ghost invariant = { λ command. IsEdit command.edit };
 }
 
 impl Command {
@@ -37,40 +37,46 @@ impl Command {
     /// LFs. The CRs at their ends are removed.
     ///
     /// The first fault that applies is answered. Syntax: the name isn't 1 to 32 of `A-Z a-z 0-9
-    /// _`. Range: over 65,536 lines, a line over 4,096 bytes, or a text over 1,048,576 bytes.
-    /// BadByte: a byte 00h to 1Fh other than tab and CR. Limit: over 4,096 entries. Memory can come
-    /// in place of each.
-    #[tactic(auto, unfolding(crate::specs::Eds::eds_order))]
+    /// _`. Range: over 65,536 lines, a line over 4,096 bytes as it is handed over, or a text over
+    /// 1,048,576 bytes. BadByte: a byte 00h to 1Fh other than tab and CR, so also an LF. Limit:
+    /// over 4,096 entries. Memory can come in place of each.
+    #[tactic(auto, unfolding(co_edits::specs::Eds::eds_edit))]
     pub fn eds(alloc: Global, name: &[u8], lines: &[Vec<u8>]) -> Result<Command, EditFault>
-        ensures { Gives is_memory (λ c. c) result (eds_order name.now (lines_of lines.now)) }
+        ensures { Gives is_memory (λ c. c) result (eds_edit name.now (lines_of lines.now)) }
     {
         if !is_name(name) {
             return Err(EditFault::Syntax);
         }
-        if lines.len() > MAX_LINES {
+        if lines.len() > MAX_LINES || has_long_line(lines) {
             return Err(EditFault::Range);
         }
         let text = text_of(alloc, lines)?;
-        check(alloc, &text, has_bad_line(lines))?;
+        if text.len() > MAX_BYTES {
+            return Err(EditFault::Range);
+        }
+        if has_bad_line(lines) {
+            return Err(EditFault::BadByte);
+        }
+        check(alloc, &text)?;
         let name = Octets::from_slice(alloc, name)?;
-        Ok(Command::new(Order::Eds {
+        Ok(Command::new(Edit::Eds {
             name,
             text: Octets::from_vec(text),
         }))
     }
 
-    pub(crate) fn new(order: Order) -> Self
-        requires { IsOrder order }
-        ensures { result ≡ order }
+    pub(crate) fn new(edit: Edit) -> Self
+        requires { IsEdit edit }
+        ensures { result ≡ edit }
     {
-        Command { order }
+        Command { edit }
     }
 
     /// What the edit does.
-    pub fn into_order(self) -> Order
+    pub fn into_edit(self) -> Edit
         ensures same { result ≡ self }
-        ensures kept { IsOrder result }
+        ensures kept { IsEdit result }
     {
-        self.order
+        self.edit
     }
 }

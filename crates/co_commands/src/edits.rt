@@ -1,19 +1,17 @@
 //! The edits of the network: its numbers, its EDS files, its nodes and their parameters.
 ghost use Rattle.std.specs.Prelude.{◌≡◌, true, IfOk};
 ghost use Rattle.co_base.specs.Gives.{Gives};
-ghost use Rattle.co_commands.specs.Faults.{is_memory};
-ghost use Rattle.co_commands.specs.Words.{is_node_number, is_name};
-ghost use Rattle.co_commands.specs.Requests.{id_of, name_of, bitrate_of, horizon_of, manager_of, drop_eds_of, node_of, drop_node_of, param_of, unparam_of};
+ghost use Rattle.co_edits.specs.Faults.{is_memory};
+ghost use Rattle.co_edits.specs.Forms.{is_node_number};
+ghost use Rattle.co_commands.specs.Requests.{id_of, bitrate_of, horizon_of, manager_of, drop_eds_of, node_of, drop_node_of, param_of, unparam_of};
 
 use crate::command::Command;
-use crate::fault::EditFault;
-use crate::manager::Manager;
-use crate::numbers::{
-    bit_rate, decimal, index, limited, node_number, own_index, sub_index, sync_period, time,
-};
-use crate::order::Order;
-use crate::words::{last_word, name, next_word, text};
+use crate::numbers::{decimal, index, sub_index};
+use crate::words::{last_word, name, text};
 use co_base::Octets;
+use co_edits::limits::{bit_rate, limited, node_number, own_index, sync_period, time};
+use co_edits::{Edit, EditFault, ManagerSettings};
+use co_text::next_word;
 use std::alloc::Global;
 
 /// The number of a node, which is the only word.
@@ -27,27 +25,27 @@ pub(crate) fn id(rest: &[u8]) -> Result<u8, EditFault>
 }
 
 /// `bitrate K`, in kbit/s.
-#[tactic(auto, unfolding(crate::specs::Requests::bitrate_of, crate::specs::Orders::IsOrder))]
+#[tactic(auto, unfolding(crate::specs::Requests::bitrate_of, co_edits::specs::Edits::IsEdit))]
 pub(crate) fn bitrate(rest: &[u8]) -> Result<Command, EditFault>
     ensures { Gives is_memory (λ c. c) result (bitrate_of rest.now) }
 {
     let rate = decimal(last_word(rest)?)?;
     let rate = bit_rate(rate)?;
-    Ok(Command::new(Order::Bitrate(rate)))
+    Ok(Command::new(Edit::Bitrate(rate)))
 }
 
 /// `horizon US`, in microseconds from power-on.
-#[tactic(auto, unfolding(crate::specs::Requests::horizon_of, crate::specs::Orders::IsOrder))]
+#[tactic(auto, unfolding(crate::specs::Requests::horizon_of, co_edits::specs::Edits::IsEdit))]
 pub(crate) fn horizon(rest: &[u8]) -> Result<Command, EditFault>
     ensures { Gives is_memory (λ c. c) result (horizon_of rest.now) }
 {
     let end = decimal(last_word(rest)?)?;
     let end = time(end)?;
-    Ok(Command::new(Order::Horizon(end)))
+    Ok(Command::new(Edit::Horizon(end)))
 }
 
 /// `manager ID SYNC_US HB_MS TIMEOUT_MS`
-#[tactic(auto, unfolding(crate::specs::Requests::manager_of, crate::specs::Orders::IsOrder, crate::specs::Orders::IsManager))]
+#[tactic(auto, unfolding(crate::specs::Requests::manager_of, co_edits::specs::Edits::IsEdit, co_edits::specs::Edits::IsManager))]
 pub(crate) fn manager(rest: &[u8]) -> Result<Command, EditFault>
     ensures { Gives is_memory (λ c. c) result (manager_of rest.now) }
 {
@@ -63,7 +61,7 @@ pub(crate) fn manager(rest: &[u8]) -> Result<Command, EditFault>
     let sync = sync_period(sync)?;
     let heartbeat = limited(heartbeat, 0, 65_535)?;
     let timeout = limited(timeout, 1, 65_535)?;
-    Ok(Command::new(Order::Manager(Manager {
+    Ok(Command::new(Edit::Manager(ManagerSettings {
         id,
         sync_us: sync,
         heartbeat_ms: heartbeat as u16,
@@ -72,17 +70,17 @@ pub(crate) fn manager(rest: &[u8]) -> Result<Command, EditFault>
 }
 
 /// `drop-eds NAME`
-#[tactic(auto, unfolding(crate::specs::Requests::drop_eds_of, crate::specs::Orders::IsOrder))]
+#[tactic(auto, unfolding(crate::specs::Requests::drop_eds_of, co_edits::specs::Edits::IsEdit))]
 pub(crate) fn drop_eds(alloc: Global, rest: &[u8]) -> Result<Command, EditFault>
     ensures { Gives is_memory (λ c. c) result (drop_eds_of rest.now) }
 {
     let called = name(last_word(rest)?)?;
     let name = Octets::from_slice(alloc, called)?;
-    Ok(Command::new(Order::DropEds { name }))
+    Ok(Command::new(Edit::DropEds { name }))
 }
 
 /// `node ID NAME EDS`
-#[tactic(auto, unfolding(crate::specs::Requests::node_of, crate::specs::Orders::IsOrder))]
+#[tactic(auto, unfolding(crate::specs::Requests::node_of, co_edits::specs::Edits::IsEdit))]
 pub(crate) fn node(alloc: Global, rest: &[u8]) -> Result<Command, EditFault>
     ensures { Gives is_memory (λ c. c) result (node_of rest.now) }
 {
@@ -95,20 +93,20 @@ pub(crate) fn node(alloc: Global, rest: &[u8]) -> Result<Command, EditFault>
     let id = node_number(id)?;
     let name = Octets::from_slice(alloc, called)?;
     let eds = Octets::from_slice(alloc, eds)?;
-    Ok(Command::new(Order::Node { id, name, eds }))
+    Ok(Command::new(Edit::Node { id, name, eds }))
 }
 
 /// `drop-node ID`
-#[tactic(auto, unfolding(crate::specs::Requests::drop_node_of, crate::specs::Orders::IsOrder))]
+#[tactic(auto, unfolding(crate::specs::Requests::drop_node_of, co_edits::specs::Edits::IsEdit))]
 pub(crate) fn drop_node(rest: &[u8]) -> Result<Command, EditFault>
     ensures { Gives is_memory (λ c. c) result (drop_node_of rest.now) }
 {
     let id = id(rest)?;
-    Ok(Command::new(Order::DropNode { id }))
+    Ok(Command::new(Edit::DropNode { id }))
 }
 
 /// `param ID INDEX SUB TEXT`
-#[tactic(auto, unfolding(crate::specs::Requests::param_of, crate::specs::Orders::IsOrder, crate::specs::Orders::IsSetting))]
+#[tactic(auto, unfolding(crate::specs::Requests::param_of, co_edits::specs::Edits::IsEdit, co_edits::specs::Edits::IsSetting))]
 pub(crate) fn param(alloc: Global, rest: &[u8]) -> Result<Command, EditFault>
     ensures { Gives is_memory (λ c. c) result (param_of rest.now) }
 {
@@ -122,7 +120,7 @@ pub(crate) fn param(alloc: Global, rest: &[u8]) -> Result<Command, EditFault>
     let id = node_number(id)?;
     let index = own_index(index)?;
     let text = Octets::from_slice(alloc, text)?;
-    Ok(Command::new(Order::Param {
+    Ok(Command::new(Edit::Param {
         id,
         index,
         sub,
@@ -131,7 +129,7 @@ pub(crate) fn param(alloc: Global, rest: &[u8]) -> Result<Command, EditFault>
 }
 
 /// `unparam ID INDEX SUB`
-#[tactic(auto, unfolding(crate::specs::Requests::unparam_of, crate::specs::Orders::IsOrder))]
+#[tactic(auto, unfolding(crate::specs::Requests::unparam_of, co_edits::specs::Edits::IsEdit))]
 pub(crate) fn unparam(rest: &[u8]) -> Result<Command, EditFault>
     ensures { Gives is_memory (λ c. c) result (unparam_of rest.now) }
 {
@@ -142,5 +140,5 @@ pub(crate) fn unparam(rest: &[u8]) -> Result<Command, EditFault>
     let index = index(entry)?;
     let sub = sub_index(sub)?;
     let id = node_number(id)?;
-    Ok(Command::new(Order::Unparam { id, index, sub }))
+    Ok(Command::new(Edit::Unparam { id, index, sub }))
 }

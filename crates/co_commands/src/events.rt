@@ -1,18 +1,17 @@
 //! The edits of the scenario: events by their numbers.
 ghost use Rattle.std.specs.Prelude.{◌≡◌};
 ghost use Rattle.co_base.specs.Gives.{Gives};
-ghost use Rattle.co_commands.specs.Faults.{is_memory};
+ghost use Rattle.co_edits.specs.Faults.{is_memory};
 ghost use Rattle.co_commands.specs.Requests.{set_of, switch, power_of, nmt, nmt_of, happening_of, event_of, drop_event_of};
 
 use crate::command::Command;
-use crate::fault::EditFault;
-use crate::numbers::{
-    decimal, event_number, index, node_number, node_or_all, own_index, sub_index, time,
-};
-use crate::order::Order;
-use crate::words::{last_word, next_word, text};
+use crate::numbers::{decimal, index, sub_index};
+use crate::words::{last_word, text};
 use co_base::Octets;
+use co_edits::limits::{event_number, node_number, node_or_all, own_index, time};
+use co_edits::{Edit, EditFault};
 use co_scenario::{Event, NmtCommand, TimedEvent};
+use co_text::next_word;
 use std::alloc::Global;
 
 /// `event K TIME`, and what happens then.
@@ -29,13 +28,13 @@ pub(crate) fn event(alloc: Global, rest: &[u8]) -> Result<Command, EditFault>
 }
 
 /// `drop-event K`
-#[tactic(auto, unfolding(crate::specs::Requests::drop_event_of, crate::specs::Orders::IsOrder))]
+#[tactic(auto, unfolding(crate::specs::Requests::drop_event_of, co_edits::specs::Edits::IsEdit))]
 pub(crate) fn drop_event(rest: &[u8]) -> Result<Command, EditFault>
     ensures { Gives is_memory (λ c. c) result (drop_event_of rest.now) }
 {
     let number = decimal(last_word(rest)?)?;
     let number = event_number(number)?;
-    Ok(Command::new(Order::DropEvent { number }))
+    Ok(Command::new(Edit::DropEvent { number }))
 }
 
 fn happening(
@@ -59,7 +58,7 @@ fn happening(
 }
 
 /// `event K TIME set ID INDEX SUB TEXT`
-#[tactic(auto, unfolding(crate::specs::Requests::set_of, crate::specs::Orders::IsOrder, crate::specs::Orders::IsEvent, crate::specs::Orders::IsSetting))]
+#[tactic(auto, unfolding(crate::specs::Requests::set_of, co_edits::specs::Edits::IsEdit, co_edits::specs::Edits::IsEvent, co_edits::specs::Edits::IsSetting))]
 fn set(alloc: Global, number: u64, moment: u64, rest: &[u8]) -> Result<Command, EditFault>
     ensures { Gives is_memory (λ c. c) result (set_of number moment rest.now) }
 {
@@ -81,7 +80,7 @@ fn set(alloc: Global, number: u64, moment: u64, rest: &[u8]) -> Result<Command, 
         sub,
         text,
     };
-    Ok(Command::new(Order::Event {
+    Ok(Command::new(Edit::Event {
         number,
         event: TimedEvent { time, event },
     }))
@@ -101,7 +100,7 @@ fn switch(word: &[u8]) -> Result<bool, EditFault>
 }
 
 /// `event K TIME power ID on` or `off`
-#[tactic(auto, unfolding(crate::specs::Requests::power_of, crate::specs::Orders::IsOrder, crate::specs::Orders::IsEvent))]
+#[tactic(auto, unfolding(crate::specs::Requests::power_of, co_edits::specs::Edits::IsEdit, co_edits::specs::Edits::IsEvent))]
 fn power(number: u64, moment: u64, rest: &[u8]) -> Result<Command, EditFault>
     ensures { Gives is_memory (λ c. c) result (power_of number moment rest.now) }
 {
@@ -113,7 +112,7 @@ fn power(number: u64, moment: u64, rest: &[u8]) -> Result<Command, EditFault>
     let time = time(moment)?;
     let node = node_number(node)?;
     let event = Event::Power { node, on };
-    Ok(Command::new(Order::Event {
+    Ok(Command::new(Edit::Event {
         number,
         event: TimedEvent { time, event },
     }))
@@ -127,7 +126,7 @@ fn nmt_command(number: u64) -> Result<NmtCommand, EditFault>
 }
 
 /// `event K TIME nmt CMD ID`
-#[tactic(auto, unfolding(crate::specs::Requests::nmt_of, crate::specs::Orders::IsOrder, crate::specs::Orders::IsEvent))]
+#[tactic(auto, unfolding(crate::specs::Requests::nmt_of, co_edits::specs::Edits::IsEdit, co_edits::specs::Edits::IsEvent))]
 fn nmt(number: u64, moment: u64, rest: &[u8]) -> Result<Command, EditFault>
     ensures { Gives is_memory (λ c. c) result (nmt_of number moment rest.now) }
 {
@@ -140,7 +139,7 @@ fn nmt(number: u64, moment: u64, rest: &[u8]) -> Result<Command, EditFault>
     let command = nmt_command(command)?;
     let node = node_or_all(node)?;
     let event = Event::Nmt { node, command };
-    Ok(Command::new(Order::Event {
+    Ok(Command::new(Edit::Event {
         number,
         event: TimedEvent { time, event },
     }))

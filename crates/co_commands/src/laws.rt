@@ -1,34 +1,26 @@
 //! Laws of the commands: what is printed is read.
 ghost use Rattle.std.specs.Prelude.{◌≡◌, ◌∷◌, ◌++◌, ℕ, List, Ok, length};
-ghost use Rattle.ini_text.specs.Content.{content_of};
-ghost use Rattle.ini_text.specs.Text.{lines_of};
-ghost use Rattle.eds_device.specs.Faults.{device_of};
-ghost use Rattle.co_commands.specs.declared.order.Order.{Order};
-ghost use Rattle.co_commands.specs.declared.order.Order.TheVariants.{Eds};
+ghost use Rattle.co_text.specs.Lines.{lines_of, line_count};
+ghost use Rattle.co_edits.specs.declared.edit.Edit.{Edit};
+ghost use Rattle.co_edits.specs.declared.edit.Edit.TheVariants.{Eds};
 ghost use Rattle.co_commands.specs.Requests.{request};
-ghost use Rattle.co_commands.specs.Eds.{eds_order};
-ghost use Rattle.co_commands.specs.Orders.{IsOrder, IsEds};
-ghost use Rattle.co_commands.specs.Lines.{line_of, line_count, asks, text_of, block_of};
+ghost use Rattle.co_edits.specs.Eds.{IsEds, eds_edit};
+ghost use Rattle.co_edits.specs.Edits.{IsEdit};
+ghost use Rattle.co_commands.specs.Lines.{line_of, asks, text_of, block_of};
 
 /// The line of each edit is read as that edit; that of an EDS asks for its lines.
 pub fn printed_lines_are_read()
-    ensures { (order : Order) → IsOrder order → request (line_of order) ≡ Ok (asks order) }
+    ensures { (edit : Edit) → IsEdit edit → request (line_of edit) ≡ Ok (asks edit) }
 {}
 
 /// The lines of an EDS are as many as its line says, and with its name they are that edit.
 pub fn printed_blocks_are_read()
     ensures { (name text : List ℕ) → IsEds name text
-        → (length (lines_of text) ≡ line_count text) × (eds_order name (lines_of text) ≡ Ok (Eds name text)) }
-{}
-
-/// The text that an edit keeps under a name can be read as a device.
-#[tactic(auto, using(crate::proofs::KeptLemmas::eds_is_a_device))]
-pub fn eds_are_devices()
-    ensures { (name text : List ℕ) → IsEds name text → device_of text ≡ Ok (content_of text) }
+        → (length (lines_of text) ≡ line_count text) × (eds_edit name (lines_of text) ≡ Ok (Eds name text)) }
 {}
 
 /// An edit as text, whatever follows it, has the line of the edit, and then the lines of its block.
 pub fn printed_edits_are_lines()
-    ensures { (order : Order) (rest : List ℕ) → IsOrder order
-        → lines_of (text_of order ++ rest) ≡ (line_of order ∷ lines_of (block_of order)) ++ lines_of rest }
+    ensures { (edit : Edit) (rest : List ℕ) → IsEdit edit
+        → lines_of (text_of edit ++ rest) ≡ (line_of edit ∷ lines_of (block_of edit)) ++ lines_of rest }
 {}

@@ -1,21 +1,21 @@
-//! The commands of a script: what each line asks, what each edit says, and why one is refused.
+//! Commands read and printed: what each line of a script asks, and each edit as the text that is
+//! read as it.
 #![tactic(auto)]
 
 mod block;
 mod command;
 mod edits;
+mod event_lines;
 mod events;
-mod fault;
 pub mod laws;
-mod manager;
 mod numbers;
-mod order;
+pub mod printing;
+mod query;
 mod request;
 mod words;
+mod written;
 
-pub use block::without_crs;
+pub use co_edits::{Edit, EditFault, ManagerSettings, refusal};
 pub use command::Command;
-pub use fault::{EditFault, refusal};
-pub use manager::Manager;
-pub use order::Order;
+pub use query::Query;
 pub use request::Request;

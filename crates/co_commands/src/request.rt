@@ -1,16 +1,18 @@
 //! What one line asks.
 ghost use Rattle.std.specs.Prelude.{◌≡◌};
 ghost use Rattle.co_base.specs.Gives.{Gives};
-ghost use Rattle.co_commands.specs.Faults.{is_memory};
-ghost use Rattle.co_commands.specs.Requests.{block_of, query_of, command_of, edits, request};
+ghost use Rattle.co_edits.specs.Faults.{is_memory};
+ghost use Rattle.co_commands.specs.Requests.{block_of, command_of, asks_edit, asks_query, request};
 
 use crate::command::Command;
-use crate::edits::{bitrate, drop_eds, drop_node, horizon, id, manager, node, param, unparam};
+use crate::edits::{bitrate, drop_eds, drop_node, horizon, manager, node, param, unparam};
 use crate::events::{drop_event, event};
-use crate::fault::EditFault;
 use crate::numbers::decimal;
-use crate::words::{is_bad_line, is_blank_line, is_name, last_word, next_word};
+use crate::query::Query;
+use crate::words::{is_bad_line, last_word};
 use co_base::Octets;
+use co_edits::{EditFault, is_name};
+use co_text::next_word;
 use std::alloc::Global;
 
 const MAX_BLOCK: u64 = 65_536;
@@ -20,12 +22,8 @@ const MAX_BLOCK: u64 = 65_536;
 pub enum Request {
     /// An edit of the project.
     Edit(Command),
-    /// The DCF (CiA 306) of a node.
-    Dcf(u8),
-    /// The concise DCF (CiA 302) of a node.
-    Cdcf(u8),
-    /// The commands that make the project.
-    Project,
+    /// What changes nothing.
+    Query(Query),
     /// The lines of an EDS (CiA 306) follow. Without a name the command is refused with Syntax
     /// once they have come.
     Block {
@@ -80,9 +78,15 @@ fn block(alloc: Global, is_bad: bool, rest: &[u8]) -> Result<Request, EditFault>
 }
 
 fn edit(command: Result<Command, EditFault>) -> Result<Request, EditFault>
-    ensures { Gives is_memory (λ r. r) result (edits command) }
+    ensures { Gives is_memory (λ r. r) result (asks_edit command) }
 {
     Ok(Request::Edit(command?))
+}
+
+fn query(query: Result<Query, EditFault>) -> Result<Request, EditFault>
+    ensures { Gives is_memory (λ r. r) result (asks_query query) }
+{
+    Ok(Request::Query(query?))
 }
 
 #[tactic(auto, unfolding(crate::specs::Requests::command_of))]
@@ -110,22 +114,6 @@ fn command(alloc: Global, first: &[u8], rest: &[u8]) -> Result<Request, EditFaul
     } else if first == b"drop-event".as_slice() {
         edit(drop_event(rest))
     } else {
-        query(first, rest)
-    }
-}
-
-/// `dcf ID`, `cdcf ID` or `project`
-#[tactic(auto, unfolding(crate::specs::Requests::query_of))]
-fn query(first: &[u8], rest: &[u8]) -> Result<Request, EditFault>
-    ensures { Gives is_memory (λ r. r) result (query_of first.now rest.now) }
-{
-    if first == b"dcf".as_slice() {
-        Ok(Request::Dcf(id(rest)?))
-    } else if first == b"cdcf".as_slice() {
-        Ok(Request::Cdcf(id(rest)?))
-    } else if first == b"project".as_slice() && is_blank_line(rest) {
-        Ok(Request::Project)
-    } else {
-        Err(EditFault::Syntax)
+        query(Query::read(first, rest))
     }
 }

@@ -1,74 +1,14 @@
-//! The words of a command, and the forms that they may have.
-ghost use Rattle.std.specs.Prelude.{◌≡◌, ◌≤◌, length, true, IfOk};
-ghost use Rattle.std.specs.List.{list_all, list_any, prefix_len, suffix_len};
+//! The words of a command.
+ghost use Rattle.std.specs.Prelude.{◌≡◌, true, IfOk};
 ghost use Rattle.co_base.specs.Gives.{Gives};
-ghost use Rattle.ini_text.specs.Text.{trim_start, trim_end};
-ghost use Rattle.co_commands.specs.Faults.{is_memory};
-ghost use Rattle.co_commands.specs.Words.{is_blank, is_word_byte, is_control, word, after, last_word, is_bad_line, is_name_byte, is_name, name, is_text, text};
+ghost use Rattle.co_edits.specs.Faults.{is_memory};
+ghost use Rattle.co_edits.specs.Forms.{is_name, is_text};
+ghost use Rattle.co_commands.specs.Words.{last_word, is_bad_line, name, text};
 
-use crate::fault::EditFault;
+use co_edits::{EditFault, has_control, is_name, is_plain};
+use co_text::{is_blank_line, next_word, trimmed};
 
 const MAX_LINE: usize = 4096;
-
-const MAX_TEXT: usize = 4000;
-
-const MAX_NAME: usize = 32;
-
-fn is_blank(byte: u8) -> bool
-    ensures { result ≡ is_blank byte }
-{
-    byte == b' ' || byte == b'\t'
-}
-
-fn blanks_before(bytes: &[u8]) -> usize
-    ensures count { result ≡ prefix_len is_blank bytes.now }
-    ensures bound { result ≤ length bytes.now }
-{
-    bytes.iter().take_while(|b| is_blank(**b)).count()
-}
-
-fn blanks_behind(bytes: &[u8]) -> usize
-    ensures count { result ≡ suffix_len is_blank bytes.now }
-    ensures bound { result ≤ length bytes.now }
-{
-    bytes.iter().rev().take_while(|b| is_blank(**b)).count()
-}
-
-fn word_len(bytes: &[u8]) -> usize
-    ensures count { result ≡ prefix_len is_word_byte bytes.now }
-    ensures bound { result ≤ length bytes.now }
-{
-    bytes.iter().take_while(|b| !is_blank(**b)).count()
-}
-
-fn trim_start(bytes: &[u8]) -> &[u8]
-    ensures { result.now ≡ trim_start is_blank bytes.now }
-{
-    &bytes[blanks_before(bytes)..]
-}
-
-fn trim_end(bytes: &[u8]) -> &[u8]
-    ensures { result.now ≡ trim_end is_blank bytes.now }
-{
-    &bytes[..bytes.len() - blanks_behind(bytes)]
-}
-
-/// The first word of a line, which is empty where there is none, and what follows it.
-#[tactic(auto, unfolding(crate::specs::Words::word, crate::specs::Words::after))]
-pub(crate) fn next_word(line: &[u8]) -> (&[u8], &[u8])
-    ensures word { result.0.now ≡ word line.now }
-    ensures rest { result.1.now ≡ after line.now }
-{
-    let rest = trim_start(line);
-    rest.split_at(word_len(rest))
-}
-
-/// Whether no word is left.
-pub(crate) fn is_blank_line(rest: &[u8]) -> bool
-    ensures { result ≡ list_all is_blank rest.now }
-{
-    rest.iter().all(|b| is_blank(*b))
-}
 
 /// The only word of the rest of a line.
 pub(crate) fn last_word(rest: &[u8]) -> Result<&[u8], EditFault>
@@ -81,42 +21,11 @@ pub(crate) fn last_word(rest: &[u8]) -> Result<&[u8], EditFault>
     Ok(word)
 }
 
-fn is_control(byte: u8) -> bool
-    ensures { result ≡ is_control byte }
-{
-    byte < 32 && byte != b'\t'
-}
-
-fn has_control(line: &[u8]) -> bool
-    ensures { result ≡ list_any is_control line.now }
-{
-    line.iter().any(|b| is_control(*b))
-}
-
 /// Over 4,096 bytes, or with a byte 00h to 1Fh other than tab.
 pub(crate) fn is_bad_line(line: &[u8]) -> bool
     ensures { result ≡ is_bad_line line.now }
 {
     line.len() > MAX_LINE || has_control(line)
-}
-
-fn is_name_byte(byte: u8) -> bool
-    ensures { result ≡ is_name_byte byte }
-{
-    matches!(byte, b'A'..=b'Z' | b'a'..=b'z' | b'0'..=b'9' | b'_')
-}
-
-fn are_name_bytes(word: &[u8]) -> bool
-    ensures { result ≡ list_all is_name_byte word.now }
-{
-    word.iter().all(|b| is_name_byte(*b))
-}
-
-/// Whether a word is 1 to 32 of `A-Z a-z 0-9 _`.
-pub(crate) fn is_name(word: &[u8]) -> bool
-    ensures { result ≡ is_name word.now }
-{
-    !word.is_empty() && word.len() <= MAX_NAME && are_name_bytes(word)
 }
 
 /// A word that is a name.
@@ -137,8 +46,8 @@ pub(crate) fn text(rest: &[u8]) -> Result<&[u8], EditFault>
     ensures value { Gives is_memory (λ t. t.now) result (text rest.now) }
     ensures form { IfOk result (λ t. is_text t.now ≡ true) }
 {
-    let text = trim_end(trim_start(rest));
-    if text.is_empty() || text.len() > MAX_TEXT || has_control(text) {
+    let text = trimmed(rest);
+    if !is_plain(text) {
         return Err(EditFault::Syntax);
     }
     Ok(text)

@@ -1,4 +1,5 @@
 mod JudgedLemmas
 mod ParameterLemmas
 mod SizeLemmas
+mod TextLemmas
 mod WrittenLemmas

@@ -1,5 +1,6 @@
 //! Laws of the writes of a node's parameters.
-ghost use Rattle.std.specs.Prelude.{◌≡◌, ◌↔◌, ℕ, List, map, Some, None, Ok, Contains, IsTrue, IsFalse};
+ghost use Rattle.std.specs.Prelude.{◌≡◌, ◌↔◌, ℕ, List, map as each, Some, None, Ok, Contains, IsTrue, IsFalse};
+ghost use Rattle.std.specs.FinMap as map;
 ghost use Rattle.std.specs.List.Sorted.{IsStrictlySortedBy};
 ghost use Rattle.ini_text.specs.Content.{Section};
 ghost use Rattle.concise_dcf.specs.declared.write.Write.{Write as written};
@@ -8,7 +9,7 @@ ghost use Rattle.eds_device.specs.Described.{unless_empty, value_text};
 ghost use Rattle.eds_device.specs.Entries.{entry_at};
 ghost use Rattle.co_dict.specs.Places.{place_cmp};
 ghost use Rattle.co_dict.specs.Pdos.{is_of_pdos};
-ghost use Rattle.co_params.specs.Params.{param_at};
+ghost use Rattle.co_params.specs.Params.{Texts};
 ghost use Rattle.co_params.specs.Judgement.{judged, Suits};
 ghost use Rattle.co_params.specs.Parameters.{parameter_text, write_to, place_of, parameter_writes};
 
@@ -22,22 +23,22 @@ pub fn bytes_are_given_where_they_suit()
 /// none for the objects of PDOs.
 #[tactic(auto, using(crate::proofs::ParameterLemmas::own_text, crate::proofs::ParameterLemmas::device_text, crate::proofs::ParameterLemmas::pdo_text))]
 pub fn the_nodes_own_text_counts()
-    ensures own { (ss : List Section) (params : List ((ℕ × ℕ) × List ℕ)) (place : ℕ × ℕ) (text : List ℕ)
-        → param_at params place ≡ Some text → parameter_text ss params place ≡ unless_empty text }
-    ensures given { (ss : List Section) (params : List ((ℕ × ℕ) × List ℕ)) (place : ℕ × ℕ)
-        → param_at params place ≡ None → IsFalse (is_of_pdos place.0) → parameter_text ss params place ≡ value_text ss place.0 place.1 }
-    ensures of_pdos { (ss : List Section) (params : List ((ℕ × ℕ) × List ℕ)) (place : ℕ × ℕ)
-        → param_at params place ≡ None → IsTrue (is_of_pdos place.0) → parameter_text ss params place ≡ None }
+    ensures own { (ss : List Section) (params : Texts) (place : ℕ × ℕ) (text : List ℕ)
+        → map.get params place ≡ Some text → parameter_text ss params place ≡ unless_empty text }
+    ensures given { (ss : List Section) (params : Texts) (place : ℕ × ℕ)
+        → map.get params place ≡ None → IsFalse (is_of_pdos place.0) → parameter_text ss params place ≡ value_text ss place.0 place.1 }
+    ensures of_pdos { (ss : List Section) (params : Texts) (place : ℕ × ℕ)
+        → map.get params place ≡ None → IsTrue (is_of_pdos place.0) → parameter_text ss params place ≡ None }
 {}
 
 /// A parameter is written exactly where its text gives its entry bytes, and with these; so one
 /// without an entry or with a fault isn't.
 #[tactic(auto, using(crate::proofs::ParameterLemmas::written, crate::proofs::ParameterLemmas::nothing_else))]
 pub fn what_has_no_fault_is_written()
-    ensures written { (ss : List Section) (params : List ((ℕ × ℕ) × List ℕ)) (node : ℕ) (place : ℕ × ℕ) (text bytes : List ℕ)
+    ensures written { (ss : List Section) (params : Texts) (node : ℕ) (place : ℕ × ℕ) (text bytes : List ℕ)
         → parameter_text ss params place ≡ Some text → judged (entry_at ss node place.0 place.1) text node ≡ Ok bytes
         → Contains (parameter_writes ss params node) (write_to place bytes) }
-    ensures nothing_else { (ss : List Section) (params : List ((ℕ × ℕ) × List ℕ)) (node : ℕ) (write : written)
+    ensures nothing_else { (ss : List Section) (params : Texts) (node : ℕ) (write : written)
         → Contains (parameter_writes ss params node) write
         → (text : List ℕ) × (parameter_text ss params (place_of write) ≡ Some text)
         × (judged (entry_at ss node write.index write.sub) text node ≡ Ok write.bytes) }
@@ -46,6 +47,6 @@ pub fn what_has_no_fault_is_written()
 /// The writes are in the order of index and sub-index, so each entry is written at most once.
 #[tactic(auto, using(crate::proofs::ParameterLemmas::writes_in_order))]
 pub fn each_entry_is_written_once()
-    ensures { (ss : List Section) (params : List ((ℕ × ℕ) × List ℕ)) (node : ℕ)
-        → IsStrictlySortedBy place_cmp (map place_of (parameter_writes ss params node)) }
+    ensures { (ss : List Section) (params : Texts) (node : ℕ)
+        → IsStrictlySortedBy place_cmp (each place_of (parameter_writes ss params node)) }
 {}

@@ -1,9 +1,7 @@
 //! The parameters of a node.
-ghost use Rattle.std.specs.Prelude.{◌≡◌, [], ◌==◌, length, is_some, OnOk, OnErr, option_copied};
-ghost use Rattle.std.specs.Map.{remove_entry};
-ghost use Rattle.std.specs.BTreeMap.{insert_entry, is_at};
-ghost use Rattle.co_dict.specs.Places.{place_cmp};
-ghost use Rattle.co_params.specs.Params.{param_at, is_full_for};
+ghost use Rattle.std.specs.Prelude.{◌≡◌, ◌==◌, None, OnOk, OnErr, option_copied};
+ghost use Rattle.std.specs.FinMap as map;
+ghost use Rattle.co_params.specs.Params.{is_full_for};
 
 use co_base::Octets;
 use std::alloc::{AllocError, Global};
@@ -13,25 +11,30 @@ use std::marker::Model;
 
 const MAX_PARAMS: usize = 4096;
 
-/// The parameters of a node: the text of each entry of its object dictionary that has one, seen
-/// as a list by index and then by sub-index.
+/// The parameters of a node: the text of each entry of its object dictionary that has one.
+///
+/// A call takes time by the logarithm of the number of parameters.
 #[derive(Drop)]
 pub struct Params {
     texts: BTreeMap<(u16, u8), Octets>,
 }
 
 impl Model for Params {
-    ghost use Rattle.std.specs.Prelude.{ℕ, List};
+    ghost use Rattle.std.specs.Coded.{coded_ℕ, coded_list, coded×};
+    ghost use Rattle.std.specs.FinMap as map;
+    ghost use Rattle.co_params.specs.Params.{Texts};
 
-    ghost Value = { List ((ℕ × ℕ) × List ℕ) };
+    ghost Value = { Texts };
 
-    ghost view = { λ params. params.texts.entries };
+    ghost coded = { map.code (coded× coded_ℕ coded_ℕ) (coded_list coded_ℕ) };
+
+    ghost view = { λ params. map.from_entries params.texts.entries };
 }
 
 impl Params {
     /// No parameters.
     pub fn new(alloc: Global) -> Self
-        ensures { result ≡ [] }
+        ensures { result ≡ map.empty }
     {
         Params {
             texts: BTreeMap::new(alloc),
@@ -40,21 +43,21 @@ impl Params {
 
     /// The number of parameters.
     pub fn len(&self) -> usize
-        ensures { result ≡ length self.now }
+        ensures { result ≡ map.len self.now }
     {
         self.texts.len()
     }
 
     /// Whether there is no parameter.
     pub fn is_empty(&self) -> bool
-        ensures { result ≡ (length self.now == 0) }
+        ensures { result ≡ (map.len self.now == 0) }
     {
-        self.texts.is_empty()
+        self.len() == 0
     }
 
     /// The text of an entry, if it has one.
     pub fn get(&self, index: u16, sub: u8) -> Option<&[u8]>
-        ensures { option_copied result ≡ param_at self.now (index, sub) }
+        ensures { option_copied result ≡ map.get self.now (index, sub) }
     {
         match self.texts.get(&(index, sub)) {
             Some(text) => Some(text.as_slice()),
@@ -64,14 +67,14 @@ impl Params {
 
     /// The parameters by index and then by sub-index.
     pub fn iter(&self) -> Iter<'_, (u16, u8), Octets>
-        ensures { result ≡ self.now }
+        ensures { result ≡ map.entries self.now }
     {
         self.texts.iter()
     }
 
     /// Whether an entry has a text.
     pub fn contains(&self, index: u16, sub: u8) -> bool
-        ensures { result ≡ is_some (param_at self.now (index, sub)) }
+        ensures { result ≡ map.contains_key self.now (index, sub) }
     {
         self.get(index, sub).is_some()
     }
@@ -83,10 +86,12 @@ impl Params {
         self.len() >= MAX_PARAMS && !self.contains(index, sub)
     }
 
-    /// Sets the text of an entry.
+    /// Gives an entry a text, in place of any that it has. Want of memory changes nothing, and can
+    /// come at an entry without a text alone.
     pub fn put(&mut self, index: u16, sub: u8, text: Octets) -> Result<(), AllocError>
-        ensures ok { OnOk result (self.new ≡ insert_entry place_cmp self.old (index, sub) text) }
+        ensures ok { OnOk result (self.new ≡ map.insert self.old (index, sub) text) }
         ensures err { OnErr result (self.new ≡ self.old) }
+        ensures absent { OnErr result (map.get self.old (index, sub) ≡ None) }
     {
         self.texts.insert((index, sub), text)?;
         Ok(())
@@ -94,7 +99,7 @@ impl Params {
 
     /// Takes the text of an entry away, if it has one.
     pub fn remove(&mut self, index: u16, sub: u8)
-        ensures { self.new ≡ remove_entry (is_at (place_cmp (index, sub))) self.old }
+        ensures { self.new ≡ map.remove self.old (index, sub) }
     {
         self.texts.remove(&(index, sub));
     }

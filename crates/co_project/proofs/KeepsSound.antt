@@ -1,115 +1,85 @@
 -- Each edit that is taken leaves a project that keeps to what every project does.
-use Rattle.std.proofs.Common.{◌≡◌, ℕ, sym, ◌∙◌, List, [], ◌∷◌, Bool, true, false, cond, not, ◌&&◌, ◌||◌, ◌==◌, Option, Some, None, Ok, refl, ap, subst, arith}
+use Rattle.std.proofs.Common.{◌≡◌, ℕ, sym, ◌∙◌, List, [], ◌∷◌, Bool, true, false, not, ◌&&◌, ◌||◌, ◌==◌, Option, Some, None, Ok, refl, ap, subst, arith}
 use Rattle.std.proofs.Math.Path.{ap₂}
 use Rattle.std.proofs.lemmas.Bool.{true≢false, false_from_ne_true, or_parts, not-false, eqb-true, eq-eqb}
-use Rattle.std.specs.Prelude.{is_some, All}
-use Rattle.std.specs.List.Sorted.{IsStrictlySortedBy}
-use Rattle.std.specs.Cmp.{IsTotalOrder, tied_itself}
-use Rattle.std.specs.Map.{remove_entry}
-use Rattle.std.specs.BTreeMap.{insert_entry, is_at}
 use Rattle.std.specs.Option.{option_map_or}
-use Rattle.std.specs.Ordering.{nat_cmp, is_eq}
+use Rattle.std.specs.Ordering.{nat_cmp}
 use Rattle.std.specs.Str.{bytes_eq}
-use Rattle.std.proofs.lemmas.Cmp.{nat_cmp_total, nat_list_cmp_total, nat_eq_equiv, nat_list_eq_equiv, on_total, then_total}
-use Rattle.std.proofs.lemmas.List.Elements.{All-weaker, All-nil, All-cons}
-use Rattle.std.proofs.lemmas.List.Folds.{list_any_none}
-use Rattle.std.proofs.lemmas.Map.Lookups.{CmpEqualImpliesEq, exact_pairs, exact_unsigned, exact_bytes}
-use Rattle.std.proofs.lemmas.Map.Views.{tells_apart}
+use Rattle.std.specs.FinMap.{FinMap, contains_key, empty, get, insert, len-empty, remove}
+use Rattle.std.proofs.lemmas.Cmp.{nat_cmp_total, nat_list_cmp_total, nat_eq_equiv, nat_list_eq_equiv}
+use Rattle.std.proofs.lemmas.Map.Lookups.{exact_unsigned, exact_bytes}
 use Rattle.std.proofs.lemmas.Slice.Eq.{bytes_eq-Decides}
 use Rattle.co_scenario.specs.declared.timed_event.TimedEvent.{TimedEvent}
 use Rattle.co_scenario.specs.Scenario.{node_of}
-use Rattle.co_commands.specs.declared.fault.EditFault.{EditFault}
-use Rattle.co_commands.specs.declared.manager.Manager.{Manager}
-use Rattle.co_commands.specs.declared.order.Order.{Order}
-use Rattle.co_commands.specs.declared.order.Order.TheVariants as order
-use Rattle.co_commands.specs.Accepts.{unless}
-use Rattle.co_commands.specs.Orders.{IsOrder, IsManager, IsEds, IsSetting}
-use Rattle.co_commands.specs.Words.{is_bit_rate, is_time}
-use Rattle.co_project.specs.declared.node.Node.{Node}
+use Rattle.co_scenario.proofs.TableLemmas.{removed_elsewhere}
+use Rattle.co_edits.specs.declared.fault.EditFault.{EditFault}
+use Rattle.co_edits.specs.declared.manager_settings.ManagerSettings.{ManagerSettings}
+use Rattle.co_edits.specs.declared.edit.Edit.{Edit}
+use Rattle.co_edits.specs.declared.edit.Edit.TheVariants as edit
+use Rattle.co_edits.specs.Accepts.{unless}
+use Rattle.co_edits.specs.Eds.{IsEds}
+use Rattle.co_edits.specs.Edits.{IsEdit, IsManager, IsSetting}
+use Rattle.co_edits.specs.Forms.{is_bit_rate, is_time}
 use Rattle.co_dict.specs.Places.{place_cmp}
-use Rattle.co_params.specs.Params.{param_at, is_full_for}
-use Rattle.co_project.specs.Tables.{name_cmp, text_at, node_at, params_at, params_in, name_taken, has_no_room, is_used, is_named, is_of, is_of_known, with_param, without_param}
+use Rattle.co_dict.proofs.PlaceLemmas.{places_exact, places_total}
+use Rattle.co_params.specs.Params.{Texts as Params, is_full_for}
+use Rattle.co_project.specs.declared.node.Node.{Node}
+use Rattle.co_project.specs.Tables.{Texts, Nodes, name_cmp, name_taken, has_no_room, is_used, is_named, is_of, is_of_known, put_node, renamed, with_param, without_param}
 use Rattle.co_project.specs.Project.{Content, first, accept, with_nodes}
 use Rattle.co_project.specs.Sound.{AreTexts, AreParams, IsNodeOf, IsEventOf, IsSound}
-use Rattle.co_project.proofs.EntryLemmas.{none_passes, All-both, All-remove, All-insert, All-found, length-remove, length-insert, sorted-remove, sorted-insert, stays_known, lookup-without}
-
--- ---- the orders of keys
-
--- entries of an object dictionary are in a total order
-pub place_cmp_total : IsTotalOrder place_cmp
-place_cmp_total = then_total (on_total (λ (p : ℕ × ℕ). p.0) nat_cmp_total) (on_total (λ (p : ℕ × ℕ). p.1) nat_cmp_total)
-
--- entries that compare alike are one
-pub place_cmp_exact : CmpEqualImpliesEq place_cmp
-place_cmp_exact = exact_pairs nat_cmp nat_cmp exact_unsigned exact_unsigned
+use Rattle.co_project.proofs.EachLemmas.{each_empty, each_fails, each_found, each_put, each_removed, each_weaker, fewer, known_after_put, none_pass, room_for}
 
 -- ---- texts
 
 -- no texts
-no_texts : AreTexts []
-unfolding AreTexts IsStrictlySortedBy
-no_texts = (tt, omega arith, All-nil _)
+no_texts : AreTexts empty
+unfolding AreTexts
+no_texts = (rw (len-empty name_cmp (List ℕ)) (omega arith), each_empty IsEds empty refl)
 
 -- texts with one more, or with another in its place
-texts_put : (texts : List (List ℕ × List ℕ)) (name text : List ℕ) → AreTexts texts → IsEds name text → has_no_room texts name ≡ false → AreTexts (insert_entry name_cmp texts name text)
+texts_put : (texts : Texts) (name text : List ℕ) → AreTexts texts → IsEds name text → has_no_room texts name ≡ false → AreTexts (insert texts name text)
 unfolding AreTexts
-texts_put texts name text are eds room = (
-  sorted-insert nat_list_cmp_total texts name text are.0,
-  length-insert nat_list_cmp_total 64 texts name text are.0 are.1 room,
-  All-insert exact_bytes (λ e. IsEds e.0 e.1) texts name text are.2 eds,
-)
+texts_put texts name text are eds room = (room_for nat_list_cmp_total 64 texts name text are.0 room, each_put nat_list_cmp_total exact_bytes IsEds texts name text are.1 eds)
 
 -- texts without one
-texts_dropped : (texts : List (List ℕ × List ℕ)) (name : List ℕ) → AreTexts texts → AreTexts (remove_entry (is_at (name_cmp name)) texts)
+texts_dropped : (texts : Texts) (name : List ℕ) → AreTexts texts → AreTexts (remove texts name)
 unfolding AreTexts
-texts_dropped texts name are = (
-  sorted-remove name_cmp (is_at (name_cmp name)) texts are.0,
-  omega (arith, length-remove (is_at (name_cmp name)) texts),
-  All-remove (λ e. IsEds e.0 e.1) (is_at (name_cmp name)) texts are.2,
-)
+texts_dropped texts name are = (fewer nat_list_cmp_total texts name 64 are.0, each_removed nat_list_cmp_total exact_bytes IsEds texts name are.1)
 
 -- ---- parameters
 
+-- an entry is set to a text
+abbrev IsSet : ℕ × ℕ → List ℕ → Type 0
+IsSet place text = IsSetting place.0 place.1 text
+
 -- no parameters
-pub no_params : AreParams []
-unfolding AreParams IsStrictlySortedBy
-no_params = (tt, omega arith, All-nil _)
+no_params : AreParams empty
+unfolding AreParams
+no_params = (rw (len-empty place_cmp (List ℕ)) (omega arith), each_empty IsSet empty refl)
 
 -- parameters with one more, or with another in its place
-params_put : (params : List ((ℕ × ℕ) × List ℕ)) (entry : ℕ × ℕ) (text : List ℕ) → AreParams params → IsSetting entry.0 entry.1 text → is_full_for params entry ≡ false → AreParams (insert_entry place_cmp params entry text)
+params_put : (params : Params) (place : ℕ × ℕ) (text : List ℕ) → AreParams params → IsSetting place.0 place.1 text → is_full_for params place ≡ false → AreParams (insert params place text)
 unfolding AreParams
-params_put params entry text are setting room = (
-  sorted-insert place_cmp_total params entry text are.0,
-  length-insert place_cmp_total 4096 params entry text are.0 are.1 room,
-  All-insert place_cmp_exact (λ e. IsSetting e.0.0 e.0.1 e.1) params entry text are.2 setting,
-)
+params_put params place text are setting room = (room_for places_total 4096 params place text are.0 room, each_put places_total places_exact IsSet params place text are.1 setting)
 
 -- parameters without one
-params_dropped : (params : List ((ℕ × ℕ) × List ℕ)) (entry : ℕ × ℕ) → AreParams params → AreParams (remove_entry (is_at (place_cmp entry)) params)
+params_dropped : (params : Params) (place : ℕ × ℕ) → AreParams params → AreParams (remove params place)
 unfolding AreParams
-params_dropped params entry are = (
-  sorted-remove place_cmp (is_at (place_cmp entry)) params are.0,
-  omega (arith, length-remove (is_at (place_cmp entry)) params),
-  All-remove (λ e. IsSetting e.0.0 e.0.1 e.1) (is_at (place_cmp entry)) params are.2,
-)
+params_dropped params place are = (fewer places_total params place 4096 are.0, each_removed places_total places_exact IsSet params place are.1)
 
 -- ---- keys that differ
 
--- a number compares equal to itself
-tied : (n : ℕ) → is_at (nat_cmp n) n ≡ true
-tied n = ap is_eq (tied_itself nat_cmp_total n)
+-- another number is left where one is taken away
+still_there : {X : Type 0} (m : FinMap nat_cmp X) (id n : ℕ) → (n == id) ≡ false → get (remove m id) n ≡ get m n
+still_there m id n other = removed_elsewhere nat_cmp_total exact_unsigned m id n (λ same. true≢false (sym (eq-eqb n id same) ∙ other))
 
--- a number that compares otherwise is another
-apart : (m n : ℕ) → is_at (nat_cmp n) m ≡ false → (m == n) ≡ false
-apart m n other = false_from_ne_true (m == n) (λ same. true≢false (sym (subst (λ q. is_at (nat_cmp n) q ≡ true) (sym (eqb-true m n same)) (tied n)) ∙ other))
+-- and another name
+still_named : (texts : Texts) (gone name : List ℕ) → bytes_eq name gone ≡ false → get (remove texts gone) name ≡ get texts name
+still_named texts gone name other = removed_elsewhere nat_list_cmp_total exact_bytes texts gone name (λ same. true≢false (sym ((bytes_eq-Decides name gone).1 same) ∙ other))
 
--- another number compares otherwise
-unlike : (m n : ℕ) → (m == n) ≡ false → is_at (nat_cmp m) n ≡ false
-unlike m n other = false_from_ne_true (is_at (nat_cmp m) n) (λ same. true≢false (sym (eq-eqb m n (tells_apart exact_unsigned m n same)) ∙ other))
-
--- another name compares otherwise
-unlike_name : (a b : List ℕ) → bytes_eq a b ≡ false → is_at (name_cmp a) b ≡ false
-unlike_name a b other = false_from_ne_true (is_at (name_cmp a) b) (λ same. true≢false (sym ((bytes_eq-Decides a b).1 (tells_apart exact_bytes a b same)) ∙ other))
+-- a number that a table has isn't one that it hasn't
+other_number : {X : Type 0} (m : FinMap nat_cmp X) (id n : ℕ) (x : X) → contains_key m id ≡ false → get m n ≡ Some x → (n == id) ≡ false
+other_number m id n x none there = false_from_ne_true (n == id) (λ same. true≢false (sym (rw (sym (eqb-true n id same), there) refl) ∙ none))
 
 -- ---- nodes
 
@@ -125,237 +95,189 @@ turned e id node h = ap₂ (λ s t. not s && t) (nat_eq_equiv.symm id e.0) (nat_
 other_name : (id : ℕ) (name : List ℕ) (node : Node) → clashes id name (id, node) ≡ false
 other_name id name node = ap (λ t. not t && bytes_eq node.name name) (nat_eq_equiv.refl id)
 
+-- a name that no other node has clashes with none
+no_clash : (nodes : Nodes) (id : ℕ) (name : List ℕ) → name_taken nodes id name ≡ false → (n : ℕ) (node : Node) → get nodes n ≡ Some node → clashes id name (n, node) ≡ false
+no_clash nodes id name free n node there = each_found (λ k v. clashes id name (k, v) ≡ false) nodes n node (each_fails nat_cmp_total exact_unsigned (clashes id name) nodes free) there
+
 -- a name that no other node has, where another node is put
-name_free : (nodes : List (ℕ × Node)) (e : ℕ × Node) (id : ℕ) (node : Node) → name_taken nodes e.0 e.1.name ≡ false → clashes e.0 e.1.name (id, node) ≡ false
-    → name_taken (insert_entry nat_cmp nodes id node) e.0 e.1.name ≡ false
+name_free : (nodes : Nodes) (e : ℕ × Node) (id : ℕ) (node : Node) → name_taken nodes e.0 e.1.name ≡ false → clashes e.0 e.1.name (id, node) ≡ false
+    → name_taken (insert nodes id node) e.0 e.1.name ≡ false
 name_free nodes e id node free other =
-    list_any_none (clashes e.0 e.1.name) (insert_entry nat_cmp nodes id node)
-    (All-insert exact_unsigned (λ x. clashes e.0 e.1.name x ≡ false) nodes id node (none_passes _ nodes free) other)
+    none_pass nat_cmp_total exact_unsigned (clashes e.0 e.1.name) (insert nodes id node)
+    (each_put nat_cmp_total exact_unsigned (λ k v. clashes e.0 e.1.name (k, v) ≡ false) nodes id node (each_fails nat_cmp_total exact_unsigned (clashes e.0 e.1.name) nodes free) other)
+
+-- or where one is taken away
+name_left : (nodes : Nodes) (id n : ℕ) (name : List ℕ) → name_taken nodes n name ≡ false → name_taken (remove nodes id) n name ≡ false
+name_left nodes id n name free =
+    none_pass nat_cmp_total exact_unsigned (clashes n name) (remove nodes id)
+    (each_removed nat_cmp_total exact_unsigned (λ k v. clashes n name (k, v) ≡ false) nodes id (each_fails nat_cmp_total exact_unsigned (clashes n name) nodes free))
 
 -- a node that an event is of stays known
 known_still : (f g : ℕ → Bool) → ((n : ℕ) → f n ≡ true → g n ≡ true) → (o : Option ℕ) → option_map_or f o true ≡ true → option_map_or g o true ≡ true
 known_still f g h None e = refl
 known_still f g h (Some n) e = h n e
 
-module _ (p : Content) (sound : IsSound p) (id : ℕ) (node : Node) (new : IsNodeOf p (id, node)) where
+module _ (p : Content) (sound : IsSound p) (id : ℕ) (node : Node) (new : IsNodeOf p id node) where
   -- the project with the node
   abbrev with_node : Content
-  with_node = record p { nodes = insert_entry nat_cmp p.nodes id node }
+  with_node = record p { nodes = insert p.nodes id node }
 
   -- its other nodes
-  old_node : (e : ℕ × Node) → IsNodeOf p e → clashes id node.name e ≡ false → IsNodeOf with_node e
+  old_node : (n : ℕ) (old : Node) → get p.nodes n ≡ Some old → IsNodeOf p n old → IsNodeOf with_node n old
   unfolding IsNodeOf
-  old_node e old free = (old.0, old.1, old.2, name_free p.nodes e id node old.3 (turned e id node free), old.4, old.5, old.6)
+  old_node n old there is =
+      let free = no_clash p.nodes id node.name new.3 n old there in
+      (is.0, is.1, is.2, name_free p.nodes (n, old) id node is.3 (turned (n, old) id node free), is.4, is.5, is.6)
 
   -- its new node
-  new_node : IsNodeOf with_node (id, node)
+  new_node : IsNodeOf with_node id node
   unfolding IsNodeOf
   new_node = (new.0, new.1, new.2, name_free p.nodes (id, node) id node new.3 (other_name id node.name node), new.4, new.5, new.6)
 
   -- its events
-  old_event : (e : ℕ × TimedEvent) → IsEventOf p e → IsEventOf with_node e
+  old_event : (number : ℕ) (e : TimedEvent) → IsEventOf p number e → IsEventOf with_node number e
   unfolding IsEventOf
-  old_event e old = (old.0, old.1, old.2, known_still _ _ (λ n. stays_known (is_at (nat_cmp n)) nat_cmp p.nodes id node) (node_of e.1.event) old.3)
-
-  -- no other node has the name
-  free : name_taken p.nodes id node.name ≡ false
-  unfolding IsNodeOf
-  free = new.3
+  old_event number e is = (is.0, is.1, is.2, known_still _ _ (λ n. known_after_put nat_cmp_total p.nodes id n node) (node_of e.event) is.3)
 
   -- a node of the project is put
   node_put : IsSound with_node
-  node_put =
-      let old : All (IsNodeOf with_node) p.nodes = All-both (IsNodeOf p) (λ e. clashes id node.name e ≡ false) (IsNodeOf with_node) p.nodes old_node sound.nodes (none_passes _ p.nodes free) in
-      record {
-        bitrate = sound.bitrate;
-        horizon = sound.horizon;
-        manager = sound.manager;
-        texts = sound.texts;
-        nodes_by_number = sorted-insert nat_cmp_total p.nodes id node sound.nodes_by_number;
-        nodes = All-insert exact_unsigned (IsNodeOf with_node) p.nodes id node old new_node;
-        events_by_number = sound.events_by_number;
-        events = All-weaker (IsEventOf p) (IsEventOf with_node) old_event p.events sound.events;
-      }
+  node_put = record {
+    bitrate = sound.bitrate;
+    horizon = sound.horizon;
+    manager = sound.manager;
+    texts = sound.texts;
+    nodes = each_put nat_cmp_total exact_unsigned (IsNodeOf with_node) p.nodes id node (each_weaker (IsNodeOf p) (IsNodeOf with_node) p.nodes old_node sound.nodes) new_node;
+    events = each_weaker (IsEventOf p) (IsEventOf with_node) p.events (λ number e there. old_event number e) sound.events;
+  }
 
 -- a node that is found is one of the project
-found_node : (p : Content) → IsSound p → (id : ℕ) (node : Node) → node_at p.nodes id ≡ Some node → IsNodeOf p (id, node)
-found_node p sound id node found = All-found exact_unsigned (IsNodeOf p) p.nodes id node sound.nodes found
+found_node : (p : Content) → IsSound p → (id : ℕ) (node : Node) → get p.nodes id ≡ Some node → IsNodeOf p id node
+found_node p sound id node found = each_found (IsNodeOf p) p.nodes id node sound.nodes found
 
 -- its parameters
-params_of : (p : Content) (e : ℕ × Node) → IsNodeOf p e → AreParams e.1.params
+params_of : (p : Content) (id : ℕ) (node : Node) → IsNodeOf p id node → AreParams node.params
 unfolding IsNodeOf
-params_of p e h = h.6
+params_of p id node is = is.6
 
 -- it with other parameters
-other_params : (p : Content) (id : ℕ) (node : Node) (params : List ((ℕ × ℕ) × List ℕ)) → IsNodeOf p (id, node) → AreParams params → IsNodeOf p (id, record node { params = params })
+other_params : (p : Content) (id : ℕ) (node : Node) (params : Params) → IsNodeOf p id node → AreParams params → IsNodeOf p id (record node { params = params })
 unfolding IsNodeOf
-other_params p id node params old are = (old.0, old.1, old.2, old.3, old.4, old.5, are)
+other_params p id node params is are = (is.0, is.1, is.2, is.3, is.4, is.5, are)
 
--- the parameters of a node that may be there
-params_there : (p : Content) → IsSound p → (id : ℕ) (found : Option Node) → node_at p.nodes id ≡ found → AreParams (params_in found)
-params_there p sound id None e = no_params
-params_there p sound id (Some node) e = params_of p (id, node) (found_node p sound id node e)
+-- a node, new or with another name and EDS
+renamed_node : (p : Content) (id : ℕ) (name eds : List ℕ) → IsSound p → IsEdit (edit.Node id name eds) → contains_key p.texts eds ≡ true → (id == p.manager.id || name_taken p.nodes id name) ≡ false
+    → (found : Option Node) → get p.nodes id ≡ found → IsNodeOf p id (renamed name eds found)
+unfolding IsEdit IsNodeOf
+renamed_node p id name eds sound h there free None none =
+    let parts = or_parts (id == p.manager.id) (name_taken p.nodes id name) free in
+    (h.0, parts.0, h.1, parts.1, h.2, there, no_params)
+renamed_node p id name eds sound h there free (Some node) found =
+    let parts = or_parts (id == p.manager.id) (name_taken p.nodes id name) free in
+    (h.0, parts.0, h.1, parts.1, h.2, there, params_of p id node (found_node p sound id node found))
 
--- a number that no node has
-others_free : (nodes : List (ℕ × Node)) (id : ℕ) → is_some (node_at nodes id) ≡ false → All (λ e. (e.0 == id) ≡ false) nodes
-others_free [] id h = All-nil (λ e. (e.0 == id) ≡ false)
-others_free (e ∷ es) id h = by (is_at (nat_cmp id) e.0) refl h (others_free es id)
-  where
-    by : (t : Bool) → is_at (nat_cmp id) e.0 ≡ t → is_some (cond t (Some e.1) (node_at es id)) ≡ false → (is_some (node_at es id) ≡ false → All (λ x. (x.0 == id) ≡ false) es) → All (λ x. (x.0 == id) ≡ false) (e ∷ es)
-    by true same h rest = absurd (true≢false h)
-    by false other h rest = All-cons (λ x. (x.0 == id) ≡ false) e es (apart e.0 id other) (rest h)
-
--- ---- one order
+-- ---- one edit
 
 module _ (p : Content) (sound : IsSound p) where
   -- another bit rate
   bitrate_keeps : (rate : ℕ) → is_bit_rate rate ≡ true → IsSound (record p { bitrate = rate })
   unfolding IsNodeOf IsEventOf
-  bitrate_keeps rate h = record { bitrate = h; horizon = sound.horizon; manager = sound.manager; texts = sound.texts; nodes_by_number = sound.nodes_by_number; nodes = sound.nodes; events_by_number = sound.events_by_number; events = sound.events }
+  bitrate_keeps rate h = record { bitrate = h; horizon = sound.horizon; manager = sound.manager; texts = sound.texts; nodes = sound.nodes; events = sound.events }
 
   -- another horizon
   horizon_keeps : (time : ℕ) → is_time time ≡ true → IsSound (record p { horizon = time })
   unfolding IsNodeOf IsEventOf
-  horizon_keeps time h = record { bitrate = sound.bitrate; horizon = h; manager = sound.manager; texts = sound.texts; nodes_by_number = sound.nodes_by_number; nodes = sound.nodes; events_by_number = sound.events_by_number; events = sound.events }
-
-  -- a node stays one where the manager has another number than its own
-  manager_of : (m : Manager) (e : ℕ × Node) → IsNodeOf p e → (e.0 == m.id) ≡ false → IsNodeOf (record p { manager = m }) e
-  unfolding IsNodeOf
-  manager_of m e old other = (old.0, other, old.2, old.3, old.4, old.5, old.6)
+  horizon_keeps time h = record { bitrate = sound.bitrate; horizon = h; manager = sound.manager; texts = sound.texts; nodes = sound.nodes; events = sound.events }
 
   -- another manager
-  manager_keeps : (m : Manager) → IsManager m → is_some (node_at p.nodes m.id) ≡ false → IsSound (record p { manager = m })
-  unfolding IsEventOf
-  manager_keeps m h free = record {
-    bitrate = sound.bitrate;
-    horizon = sound.horizon;
-    manager = h;
-    texts = sound.texts;
-    nodes_by_number = sound.nodes_by_number;
-    nodes = All-both (IsNodeOf p) (λ e. (e.0 == m.id) ≡ false) (IsNodeOf (record p { manager = m })) p.nodes (manager_of m) sound.nodes (others_free p.nodes m.id free);
-    events_by_number = sound.events_by_number;
-    events = sound.events;
-  }
+  manager_keeps : (m : ManagerSettings) → IsManager m → contains_key p.nodes m.id ≡ false → IsSound (record p { manager = m })
+  unfolding IsNodeOf IsEventOf
+  manager_keeps m h free = record { bitrate = sound.bitrate; horizon = sound.horizon; manager = h; texts = sound.texts; nodes = each_weaker (IsNodeOf p) (IsNodeOf (record p { manager = m })) p.nodes node_of_it sound.nodes; events = sound.events }
+    where
+      node_of_it : (id : ℕ) (node : Node) → get p.nodes id ≡ Some node → IsNodeOf p id node → IsNodeOf (record p { manager = m }) id node
+      node_of_it id node there is = (is.0, other_number p.nodes m.id id node free there, is.2, is.3, is.4, is.5, is.6)
+
+  -- the project with other texts
+  abbrev with_texts : Texts → Content
+  with_texts texts = record p { texts = texts }
+
+  -- other texts, among which are those of all nodes
+  texts_keep : (texts : Texts) → AreTexts texts → ((id : ℕ) (node : Node) → get p.nodes id ≡ Some node → contains_key p.texts node.eds ≡ true → contains_key texts node.eds ≡ true) → IsSound (with_texts texts)
+  unfolding IsNodeOf IsEventOf
+  texts_keep texts are there = record { bitrate = sound.bitrate; horizon = sound.horizon; manager = sound.manager; texts = are; nodes = each_weaker (IsNodeOf p) (IsNodeOf (with_texts texts)) p.nodes node_of_it sound.nodes; events = sound.events }
+    where
+      node_of_it : (id : ℕ) (node : Node) → get p.nodes id ≡ Some node → IsNodeOf p id node → IsNodeOf (with_texts texts) id node
+      node_of_it id node found is = (is.0, is.1, is.2, is.3, is.4, there id node found is.5, is.6)
 
   -- the text of an EDS
-  eds_keeps : (name text : List ℕ) → IsEds name text → has_no_room p.texts name ≡ false → IsSound (record p { texts = insert_entry name_cmp p.texts name text })
-  unfolding IsNodeOf IsEventOf
-  eds_keeps name text eds room = record {
-    bitrate = sound.bitrate;
-    horizon = sound.horizon;
-    manager = sound.manager;
-    texts = texts_put p.texts name text sound.texts eds room;
-    nodes_by_number = sound.nodes_by_number;
-    nodes = All-weaker (IsNodeOf p) (IsNodeOf (record p { texts = insert_entry name_cmp p.texts name text })) node_with p.nodes sound.nodes;
-    events_by_number = sound.events_by_number;
-    events = sound.events;
-  }
-    where
-      node_with : (e : ℕ × Node) → IsNodeOf p e → IsNodeOf (record p { texts = insert_entry name_cmp p.texts name text }) e
-      node_with e old = (old.0, old.1, old.2, old.3, old.4, stays_known (is_at (name_cmp e.1.eds)) name_cmp p.texts name text old.5, old.6)
+  eds_keeps : (name text : List ℕ) → IsEds name text → has_no_room p.texts name ≡ false → IsSound (with_texts (insert p.texts name text))
+  eds_keeps name text eds room = texts_keep (insert p.texts name text) (texts_put p.texts name text sound.texts eds room) (λ id node found. known_after_put nat_list_cmp_total p.texts name node.eds text)
 
   -- an EDS that no node uses goes
-  drop_eds_keeps : (name : List ℕ) → is_used p.nodes name ≡ false → IsSound (record p { texts = remove_entry (is_at (name_cmp name)) p.texts })
-  unfolding IsNodeOf IsEventOf
-  drop_eds_keeps name unused = record {
-    bitrate = sound.bitrate;
-    horizon = sound.horizon;
-    manager = sound.manager;
-    texts = texts_dropped p.texts name sound.texts;
-    nodes_by_number = sound.nodes_by_number;
-    nodes = All-both (IsNodeOf p) (λ e. bytes_eq e.1.eds name ≡ false) (IsNodeOf (record p { texts = remove_entry (is_at (name_cmp name)) p.texts })) p.nodes node_without sound.nodes (none_passes _ p.nodes unused);
-    events_by_number = sound.events_by_number;
-    events = sound.events;
-  }
+  drop_eds_keeps : (name : List ℕ) → is_used p.nodes name ≡ false → IsSound (with_texts (remove p.texts name))
+  drop_eds_keeps name unused = texts_keep (remove p.texts name) (texts_dropped p.texts name sound.texts) left
     where
-      node_without : (e : ℕ × Node) → IsNodeOf p e → bytes_eq e.1.eds name ≡ false → IsNodeOf (record p { texts = remove_entry (is_at (name_cmp name)) p.texts }) e
-      node_without e old other = (
-        old.0,
-        old.1,
-        old.2,
-        old.3,
-        old.4,
-        ap is_some (lookup-without exact_bytes (is_at (name_cmp e.1.eds)) name p.texts (unlike_name e.1.eds name other)) ∙ old.5,
-        old.6,
-      )
+      left : (id : ℕ) (node : Node) → get p.nodes id ≡ Some node → contains_key p.texts node.eds ≡ true → contains_key (remove p.texts name) node.eds ≡ true
+      left id node found there =
+          let other : bytes_eq node.eds name ≡ false = each_found (λ k v. bytes_eq v.eds name ≡ false) p.nodes id node (each_fails nat_cmp_total exact_unsigned (λ e. bytes_eq e.1.eds name) p.nodes unused) found in
+          rw (still_named p.texts name node.eds other) there
 
   -- a node, new or with another name and EDS
-  node_keeps : (id : ℕ) (name eds : List ℕ) → IsOrder (order.Node id name eds) → is_some (text_at p.texts eds) ≡ true → (id == p.manager.id || name_taken p.nodes id name) ≡ false
-      → IsSound (record p { nodes = insert_entry nat_cmp p.nodes id (record { name = name; eds = eds; params = params_at p.nodes id }) })
-  unfolding IsOrder IsNodeOf
-  node_keeps id name eds h there free =
-      let parts = or_parts (id == p.manager.id) (name_taken p.nodes id name) free in
-      node_put p sound id (record { name = name; eds = eds; params = params_at p.nodes id })
-      (h.0, parts.0, h.1, parts.1, h.2, there, params_there p sound id (node_at p.nodes id) refl)
+  node_keeps : (id : ℕ) (name eds : List ℕ) → IsEdit (edit.Node id name eds) → contains_key p.texts eds ≡ true → (id == p.manager.id || name_taken p.nodes id name) ≡ false → IsSound (record p { nodes = put_node p.nodes id name eds })
+  node_keeps id name eds h there free = node_put p sound id (renamed name eds (get p.nodes id)) (renamed_node p id name eds sound h there free (get p.nodes id) refl)
 
   -- a node that no event is of goes
-  drop_node_keeps : (id : ℕ) → is_named p.events id ≡ false → IsSound (record p { nodes = remove_entry (is_at (nat_cmp id)) p.nodes })
+  drop_node_keeps : (id : ℕ) → is_named p.events id ≡ false → IsSound (record p { nodes = remove p.nodes id })
   unfolding IsNodeOf IsEventOf
   drop_node_keeps id unnamed = record {
     bitrate = sound.bitrate;
     horizon = sound.horizon;
     manager = sound.manager;
     texts = sound.texts;
-    nodes_by_number = sorted-remove nat_cmp (is_at (nat_cmp id)) p.nodes sound.nodes_by_number;
-    nodes = All-weaker (IsNodeOf p) (IsNodeOf without) node_without left (All-remove (IsNodeOf p) (is_at (nat_cmp id)) p.nodes sound.nodes);
-    events_by_number = sound.events_by_number;
-    events = All-both (IsEventOf p) (λ e. is_of id e.1.event ≡ false) (IsEventOf without) p.events event_without sound.events (none_passes _ p.events unnamed);
+    nodes = each_removed nat_cmp_total exact_unsigned (IsNodeOf without) p.nodes id (each_weaker (IsNodeOf p) (IsNodeOf without) p.nodes (λ n node there. node_without n node) sound.nodes);
+    events = each_weaker (IsEventOf p) (IsEventOf without) p.events event_without sound.events;
   }
     where
-      left : List (ℕ × Node)
-      left = remove_entry (is_at (nat_cmp id)) p.nodes
-
       without : Content
-      without = record p { nodes = left }
+      without = record p { nodes = remove p.nodes id }
 
-      node_without : (e : ℕ × Node) → IsNodeOf p e → IsNodeOf without e
-      node_without e old = (
-        old.0,
-        old.1,
-        old.2,
-        list_any_none (clashes e.0 e.1.name) left (All-remove (λ x. clashes e.0 e.1.name x ≡ false) (is_at (nat_cmp id)) p.nodes (none_passes _ p.nodes old.3)),
-        old.4,
-        old.5,
-        old.6,
-      )
+      node_without : (n : ℕ) (node : Node) → IsNodeOf p n node → IsNodeOf without n node
+      node_without n node is = (is.0, is.1, is.2, name_left p.nodes id n node.name is.3, is.4, is.5, is.6)
 
-      still_known : (o : Option ℕ) → option_map_or (λ n. n == id) o false ≡ false → option_map_or (λ n. is_some (node_at p.nodes n)) o true ≡ true → option_map_or (λ n. is_some (node_at left n)) o true ≡ true
+      still_known : (o : Option ℕ) → option_map_or (λ n. n == id) o false ≡ false → option_map_or (contains_key p.nodes) o true ≡ true → option_map_or (contains_key without.nodes) o true ≡ true
       still_known None other known = refl
-      still_known (Some n) other known = ap is_some (lookup-without exact_unsigned (is_at (nat_cmp n)) id p.nodes (unlike n id other)) ∙ known
+      still_known (Some n) other known = rw (still_there p.nodes id n other) known
 
-      event_without : (e : ℕ × TimedEvent) → IsEventOf p e → is_of id e.1.event ≡ false → IsEventOf without e
-      event_without e old other = (old.0, old.1, old.2, still_known (node_of e.1.event) other old.3)
+      event_without : (number : ℕ) (e : TimedEvent) → get p.events number ≡ Some e → IsEventOf p number e → IsEventOf without number e
+      event_without number e there is =
+          let other : is_of id e.event ≡ false = each_found (λ k v. is_of id v.event ≡ false) p.events number e (each_fails nat_cmp_total exact_unsigned (λ x. is_of id x.1.event) p.events unnamed) there in
+          (is.0, is.1, is.2, still_known (node_of e.event) other is.3)
 
   -- an event of a known node
-  event_keeps : (number : ℕ) (e : TimedEvent) → IsOrder (order.Event number e) → is_of_known p.nodes e.event ≡ true → IsSound (record p { events = insert_entry nat_cmp p.events number e })
-  unfolding IsOrder IsNodeOf IsEventOf
+  event_keeps : (number : ℕ) (e : TimedEvent) → IsEdit (edit.Event number e) → is_of_known p.nodes e.event ≡ true → IsSound (record p { events = insert p.events number e })
+  unfolding IsEdit IsNodeOf IsEventOf
   event_keeps number e h known = record {
     bitrate = sound.bitrate;
     horizon = sound.horizon;
     manager = sound.manager;
     texts = sound.texts;
-    nodes_by_number = sound.nodes_by_number;
     nodes = sound.nodes;
-    events_by_number = sorted-insert nat_cmp_total p.events number e sound.events_by_number;
-    events = All-insert exact_unsigned (IsEventOf p) p.events number e sound.events (h.0, h.1, h.2, known);
+    events = each_put nat_cmp_total exact_unsigned (IsEventOf p) p.events number e sound.events (h.0, h.1, h.2, known);
   }
 
   -- an event goes
-  drop_event_keeps : (number : ℕ) → IsSound (record p { events = remove_entry (is_at (nat_cmp number)) p.events })
+  drop_event_keeps : (number : ℕ) → IsSound (record p { events = remove p.events number })
   unfolding IsNodeOf IsEventOf
   drop_event_keeps number = record {
     bitrate = sound.bitrate;
     horizon = sound.horizon;
     manager = sound.manager;
     texts = sound.texts;
-    nodes_by_number = sound.nodes_by_number;
     nodes = sound.nodes;
-    events_by_number = sorted-remove nat_cmp (is_at (nat_cmp number)) p.events sound.events_by_number;
-    events = All-remove (IsEventOf p) (is_at (nat_cmp number)) p.events sound.events;
+    events = each_removed nat_cmp_total exact_unsigned (IsEventOf p) p.events number sound.events;
   }
 
   -- a node of the project gets other parameters
-  params_keep : (id : ℕ) (node : Node) (params : List ((ℕ × ℕ) × List ℕ)) → node_at p.nodes id ≡ Some node → AreParams params → IsSound (record p { nodes = insert_entry nat_cmp p.nodes id (record node { params = params }) })
+  params_keep : (id : ℕ) (node : Node) (params : Params) → get p.nodes id ≡ Some node → AreParams params → IsSound (record p { nodes = insert p.nodes id (record node { params = params }) })
   params_keep id node params found are = node_put p sound id (record node { params = params }) (other_params p id node params (found_node p sound id node found) are)
 
 -- ---- what an edit that is taken passed
@@ -376,54 +298,52 @@ the_same : (p q : Content) → unless [] p ≡ Ok q → p ≡ q
 the_same p q h = cc
 
 -- one test of an edit of the nodes
-nodes_passed : (p : Content) (t : Bool) (fault : EditFault) (nodes : List (ℕ × Node)) (q : Content) → with_nodes p (unless ((t, fault) ∷ []) nodes) ≡ Ok q → (t ≡ false) × (record p { nodes = nodes } ≡ q)
+nodes_passed : (p : Content) (t : Bool) (fault : EditFault) (nodes : Nodes) (q : Content) → with_nodes p (unless ((t, fault) ∷ []) nodes) ≡ Ok q → (t ≡ false) × (record p { nodes = nodes } ≡ q)
 nodes_passed p true fault nodes q h = cc
 nodes_passed p false fault nodes q h = (refl, cc)
 
-module _ (p q : Content) (sound : IsSound p) (id : ℕ) (entry : ℕ × ℕ) where
+module _ (p q : Content) (sound : IsSound p) (id : ℕ) (place : ℕ × ℕ) where
   -- a node gets a parameter
-  param_keeps : (text : List ℕ) (found : Option Node) → node_at p.nodes id ≡ found → IsSetting entry.0 entry.1 text → with_nodes p (with_param p.nodes id entry text found) ≡ Ok q → IsSound q
+  param_keeps : (text : List ℕ) (found : Option Node) → get p.nodes id ≡ found → IsSetting place.0 place.1 text → with_nodes p (with_param p.nodes id place text found) ≡ Ok q → IsSound q
   param_keeps text None none setting taken = cc
   param_keeps text (Some node) found setting taken =
-      let h = nodes_passed p (is_full_for node.params entry) _ _ q taken in
-      let old : AreParams node.params = params_of p (id, node) (found_node p sound id node found) in
-      subst IsSound h.1 (params_keep p sound id node (insert_entry place_cmp node.params entry text) found (params_put node.params entry text old setting h.0))
+      let h = nodes_passed p (is_full_for node.params place) _ _ q taken in
+      let old : AreParams node.params = params_of p id node (found_node p sound id node found) in
+      subst IsSound h.1 (params_keep p sound id node (insert node.params place text) found (params_put node.params place text old setting h.0))
 
   -- a node loses a parameter
-  unparam_keeps : (found : Option Node) → node_at p.nodes id ≡ found → with_nodes p (without_param p.nodes id entry found) ≡ Ok q → IsSound q
+  unparam_keeps : (found : Option Node) → get p.nodes id ≡ found → with_nodes p (without_param p.nodes id place found) ≡ Ok q → IsSound q
   unparam_keeps None none taken = cc
   unparam_keeps (Some node) found taken =
-      let h = nodes_passed p (not (is_some (param_at node.params entry))) _ _ q taken in
-      let old : AreParams node.params = params_of p (id, node) (found_node p sound id node found) in
-      subst IsSound h.1 (params_keep p sound id node (remove_entry (is_at (place_cmp entry)) node.params) found (params_dropped node.params entry old))
+      let h = nodes_passed p (not (contains_key node.params place)) _ _ q taken in
+      let old : AreParams node.params = params_of p id node (found_node p sound id node found) in
+      subst IsSound h.1 (params_keep p sound id node (remove node.params place) found (params_dropped node.params place old))
 
 -- ---- the laws
 
 -- the first project keeps to what every project does
 pub first_sound : IsSound first
-unfolding IsManager IsStrictlySortedBy
+unfolding IsManager
 first_sound = record {
   bitrate = refl;
   horizon = refl;
   manager = (refl, refl, refl, refl);
   texts = no_texts;
-  nodes_by_number = tt;
-  nodes = All-nil _;
-  events_by_number = tt;
-  events = All-nil _;
+  nodes = each_empty (IsNodeOf first) empty refl;
+  events = each_empty (IsEventOf first) empty refl;
 }
 
 -- an edit that is taken leaves a project that keeps to it
-pub edits_keep_sound : (p q : Content) (order : Order) → IsSound p → IsOrder order → accept p order ≡ Ok q → IsSound q
-unfolding accept IsOrder
-edits_keep_sound p q (order.Bitrate rate) sound h taken = subst IsSound (the_same _ q taken) (bitrate_keeps p sound rate h)
-edits_keep_sound p q (order.Horizon time) sound h taken = subst IsSound (the_same _ q taken) (horizon_keeps p sound time h)
-edits_keep_sound p q (order.Manager m) sound h taken = let e = passed _ _ _ q taken in subst IsSound e.1 (manager_keeps p sound m h e.0)
-edits_keep_sound p q (order.Eds name text) sound h taken = let e = passed _ _ _ q taken in subst IsSound e.1 (eds_keeps p sound name text h e.0)
-edits_keep_sound p q (order.DropEds name) sound h taken = let e = passed_both _ _ _ _ _ q taken in subst IsSound e.2 (drop_eds_keeps p sound name e.1)
-edits_keep_sound p q (order.Node id name eds) sound h taken = let e = passed_both _ _ _ _ _ q taken in subst IsSound e.2 (node_keeps p sound id name eds h (not-false _ e.0) e.1)
-edits_keep_sound p q (order.DropNode id) sound h taken = let e = passed_both _ _ _ _ _ q taken in subst IsSound e.2 (drop_node_keeps p sound id e.1)
-edits_keep_sound p q (order.Param id index sub text) sound h taken = param_keeps p q sound id (index, sub) text (node_at p.nodes id) refl h.1 taken
-edits_keep_sound p q (order.Unparam id index sub) sound h taken = unparam_keeps p q sound id (index, sub) (node_at p.nodes id) refl taken
-edits_keep_sound p q (order.Event number e) sound h taken = let t = passed _ _ _ q taken in subst IsSound t.1 (event_keeps p sound number e h (not-false _ t.0))
-edits_keep_sound p q (order.DropEvent number) sound h taken = let e = passed _ _ _ q taken in subst IsSound e.1 (drop_event_keeps p sound number)
+pub edits_keep_sound : (p q : Content) (edit : Edit) → IsSound p → IsEdit edit → accept p edit ≡ Ok q → IsSound q
+unfolding accept IsEdit
+edits_keep_sound p q (edit.Bitrate rate) sound h taken = subst IsSound (the_same _ q taken) (bitrate_keeps p sound rate h)
+edits_keep_sound p q (edit.Horizon time) sound h taken = subst IsSound (the_same _ q taken) (horizon_keeps p sound time h)
+edits_keep_sound p q (edit.Manager m) sound h taken = let e = passed _ _ _ q taken in subst IsSound e.1 (manager_keeps p sound m h e.0)
+edits_keep_sound p q (edit.Eds name text) sound h taken = let e = passed _ _ _ q taken in subst IsSound e.1 (eds_keeps p sound name text h e.0)
+edits_keep_sound p q (edit.DropEds name) sound h taken = let e = passed_both _ _ _ _ _ q taken in subst IsSound e.2 (drop_eds_keeps p sound name e.1)
+edits_keep_sound p q (edit.Node id name eds) sound h taken = let e = passed_both _ _ _ _ _ q taken in subst IsSound e.2 (node_keeps p sound id name eds h (not-false _ e.0) e.1)
+edits_keep_sound p q (edit.DropNode id) sound h taken = let e = passed_both _ _ _ _ _ q taken in subst IsSound e.2 (drop_node_keeps p sound id e.1)
+edits_keep_sound p q (edit.Param id index sub text) sound h taken = param_keeps p q sound id (index, sub) text (get p.nodes id) refl h.1 taken
+edits_keep_sound p q (edit.Unparam id index sub) sound h taken = unparam_keeps p q sound id (index, sub) (get p.nodes id) refl taken
+edits_keep_sound p q (edit.Event number e) sound h taken = let t = passed _ _ _ q taken in subst IsSound t.1 (event_keeps p sound number e h (not-false _ t.0))
+edits_keep_sound p q (edit.DropEvent number) sound h taken = let e = passed _ _ _ q taken in subst IsSound e.1 (drop_event_keeps p sound number)

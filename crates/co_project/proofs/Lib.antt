@@ -1,8 +1,8 @@
-pub mod EntryLemmas
+pub mod EachLemmas
 pub mod KeepsSound
-pub mod SoundLemmas
-pub mod TableLemmas
 pub mod LineLemmas
-pub mod EndLemmas
-pub mod ScriptEdits
+pub mod NodeLemmas
 pub mod RoundTrip
+pub mod ScriptEdits
+pub mod SoundLemmas
+pub mod TextLemmas

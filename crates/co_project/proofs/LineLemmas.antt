@@ -1,38 +1,12 @@
 -- The lines of a script.
-use Rattle.std.proofs.Common.{◌≡◌, ℕ, List, [], ◌∷◌, ◌++◌, codes, decimal, map, append_assoc, append-nil, ap, sym, refl, ◌∙◌}
+use Rattle.std.proofs.Common.{◌≡◌, ℕ, List, [], ◌++◌, map, append_assoc, append-nil, sym, refl}
+use Rattle.std.specs.FinMap.{entries}
 use Rattle.std.specs.List.{flat_map}
 use Rattle.std.proofs.lemmas.List.Concat.{flat_map-append}
-use Rattle.co_scenario.specs.declared.event.Event.{Event}
-use Rattle.co_scenario.specs.declared.event.Event.TheVariants as event
-use Rattle.co_scenario.specs.declared.timed_event.TimedEvent.{TimedEvent}
-use Rattle.co_commands.specs.declared.order.Order.TheVariants as order
-use Rattle.co_commands.specs.Lines.{event_words, line_of, spaced, text_of, words_of}
+use Rattle.co_edits.specs.declared.edit.Edit.TheVariants as edit
+use Rattle.co_commands.specs.Lines.{text_of}
 use Rattle.co_project.specs.Project.{Content}
-use Rattle.co_project.specs.Script.{event_orders, node_order, orders, param_orders, script, text_orders}
-
--- what happens to a node has a first word
-event_last : (word : List ℕ) (e : Event) → spaced (word ∷ event_words e) ≡ word ++ 32 ∷ spaced (event_words e)
-unfolding event_words
-event_last word (event.Set node index sub text) = refl
-event_last word (event.Power node on) = refl
-event_last word (event.Nmt node command) = refl
-
--- a byte before two texts
-byte_before : (byte : ℕ) (a b : List ℕ) → (byte ∷ a) ++ b ≡ byte ∷ (a ++ b)
-byte_before byte a b = refl
-
--- four words of a line and its end, one after the other
-words_in_turn : (out a b c d : List ℕ) → out ++ a ++ 32 ∷ b ++ 32 ∷ c ++ 32 ∷ d ++ 10 ∷ [] ≡ out ++ (a ++ 32 ∷ (b ++ 32 ∷ (c ++ 32 ∷ d)) ++ 10 ∷ [])
-words_in_turn out a b c d = simp (append_assoc, byte_before) refl
-
--- an event at its time, what happens then, and the end of the line
-pub event_written : (number : ℕ) (e : TimedEvent) (out moment words line : List ℕ)
-    → moment ≡ out ++ codes "event" ++ 32 ∷ decimal number ++ 32 ∷ decimal e.time → words ≡ moment ++ 32 ∷ spaced (event_words e.event)
-    → line ≡ words ++ 10 ∷ [] → line ≡ out ++ text_of (order.Event number e)
-unfolding line_of text_of words_of
-event_written number e out moment words line begun said ended =
-    rw (ended, said, begun) (words_in_turn out (codes "event") (decimal number) (decimal e.time) (spaced (event_words e.event)))
-    ∙ ap (λ words. out ++ (codes "event" ++ 32 ∷ (decimal number ++ 32 ∷ words) ++ 10 ∷ [])) (sym (event_last (decimal e.time) e.event))
+use Rattle.co_project.specs.Script.{edits, event_edit, node_edit, param_edits, script, text_edit}
 
 -- three texts, one after the other
 three_texts : (a b c : List ℕ) → a ++ (b ++ (c ++ [])) ≡ a ++ b ++ c
@@ -40,9 +14,9 @@ three_texts a b c = rw (append-nil c, append_assoc a b c) refl
 
 -- a script is its settings, texts, nodes, parameters and events
 pub script_parts : (p : Content)
-    → script p ≡ text_of (order.Bitrate p.bitrate) ++ text_of (order.Horizon p.horizon) ++ text_of (order.Manager p.manager)
-    ++ flat_map text_of (text_orders p.texts) ++ flat_map text_of (map node_order p.nodes)
-    ++ flat_map text_of (flat_map param_orders p.nodes) ++ flat_map text_of (event_orders p.events)
-unfolding script orders
+    → script p ≡ text_of (edit.Bitrate p.bitrate) ++ text_of (edit.Horizon p.horizon) ++ text_of (edit.Manager p.manager)
+    ++ flat_map text_of (map text_edit (entries p.texts)) ++ flat_map text_of (map node_edit (entries p.nodes))
+    ++ flat_map text_of (flat_map param_edits (entries p.nodes)) ++ flat_map text_of (map event_edit (entries p.events))
+unfolding script edits
 script_parts p =
-    rw (sym (three_texts (text_of (order.Bitrate p.bitrate)) (text_of (order.Horizon p.horizon)) (text_of (order.Manager p.manager)))) (simp flat_map-append refl)
+    rw (sym (three_texts (text_of (edit.Bitrate p.bitrate)) (text_of (edit.Horizon p.horizon)) (text_of (edit.Manager p.manager)))) (simp flat_map-append refl)

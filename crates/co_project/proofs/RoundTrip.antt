@@ -1,226 +1,309 @@
 -- The edits of a project's script make the project again.
-use Rattle.std.proofs.Common.{◌≡◌, ℕ, ◌≤◌, sym, ◌∙◌, List, [], ◌∷◌, ◌++◌, length, map, Bool, false, not, ◌&&◌, ◌||◌, ◌==◌, Result, Ok, Err, refl, ap, subst, arith, append_assoc, append-nil, length-append}
-use Rattle.std.proofs.lemmas.Bool.{and_left, lt-leb, or_from, or_parts}
+use Rattle.std.proofs.Common.{◌≡◌, ℕ, suc, ◌+◌, ◌≤◌, sym, ◌∙◌, List, [], ◌∷◌, ◌++◌, length, map, Bool, true, false, cond, not, ◌&&◌, ◌||◌, ◌==◌, T, Option, Some, None, Result, Ok, Err, IfSome, All, option_map, is_some, refl, ap, subst, arith}
+use Rattle.std.proofs.lemmas.Bool.{and_left, lt-leb, or_from}
 use Rattle.std.proofs.lemmas.Cmp.{nat_cmp_total, nat_list_cmp_total}
-use Rattle.std.proofs.lemmas.List.{map-append}
 use Rattle.std.proofs.lemmas.List.Elements.{All-head, All-tail}
-use Rattle.std.proofs.lemmas.List.Folds.{list_any-append}
-use Rattle.std.specs.Prelude.{All, nat_le}
+use Rattle.std.proofs.lemmas.Map.Lookups.{exact_unsigned, exact_bytes}
+use Rattle.std.specs.Prelude.{nat_le}
+use Rattle.std.specs.declared.cmp.Ordering.{Ordering}
+use Rattle.std.specs.Cmp.{tied_itself}
 use Rattle.std.specs.List.{flat_map}
-use Rattle.std.specs.List.Sorted.{IsStrictlySortedBy}
-use Rattle.std.specs.Map.{keys_of}
-use Rattle.std.specs.BTreeMap.{insert_entry}
-use Rattle.std.specs.Ordering.{nat_cmp}
+use Rattle.std.specs.Option.{option_or}
+use Rattle.std.specs.Ordering.{nat_cmp, eq_by_cmp, is_eq}
 use Rattle.std.specs.Str.{bytes_eq}
+use Rattle.std.specs.FinMap.{FinMap, empty, entries, entries_sorted, find, get, get-empty, get-entries, get-insert, insert, is_sorted, len, len-empty, len-entries, same_map}
+use Rattle.std.specs.FinMap.Entries.{below_all}
 use Rattle.co_scenario.specs.declared.timed_event.TimedEvent.{TimedEvent}
-use Rattle.co_commands.specs.declared.fault.EditFault.{EditFault}
-use Rattle.co_commands.specs.declared.fault.EditFault.TheVariants.{Unknown, Taken, Limit}
-use Rattle.co_commands.specs.declared.order.Order.{Order}
-use Rattle.co_commands.specs.declared.order.Order.TheVariants as order
-use Rattle.co_commands.specs.Accepts.{unless}
+use Rattle.co_scenario.specs.Scenario.{Events}
+use Rattle.co_scenario.proofs.TableLemmas.{alike, put_there, put_twice}
+use Rattle.co_edits.specs.declared.fault.EditFault.{EditFault}
+use Rattle.co_edits.specs.declared.fault.EditFault.TheVariants.{Unknown, Taken, Limit}
+use Rattle.co_edits.specs.declared.edit.Edit.{Edit}
+use Rattle.co_edits.specs.declared.edit.Edit.TheVariants as edit
+use Rattle.co_edits.specs.Accepts.{unless}
+use Rattle.co_dict.proofs.PlaceLemmas.{places_exact, places_total}
+use Rattle.co_params.specs.Params.{Texts as Params, is_full_for}
 use Rattle.co_project.specs.declared.node.Node.{Node}
-use Rattle.co_dict.specs.Places.{place_cmp}
-use Rattle.co_params.specs.Params.{is_full_for}
-use Rattle.co_project.specs.Tables.{name_cmp, params_at, params_in, name_taken, has_no_room, with_param}
+use Rattle.co_project.specs.Tables.{Texts, Nodes, name_taken, has_no_room, renamed, with_param}
 use Rattle.co_project.specs.Project.{Content, first, accept, accept_all, with_nodes}
-use Rattle.co_project.specs.Script.{orders, node_order, param_order, param_orders, text_orders, event_orders}
-use Rattle.co_project.specs.Sound.{AreTexts, AreParams, IsNodeOf, IsEventOf, IsSound}
-use Rattle.co_project.proofs.EndLemmas.{IsAfter, after_front, new_after, insert-last, found_after, insert-over}
-use Rattle.co_project.proofs.KeepsSound.{place_cmp_total}
+use Rattle.co_project.specs.Script.{edits, event_edit, node_edit, param_edit, param_edits, text_edit}
+use Rattle.co_project.specs.Sound.{AreTexts, AreParams, Each, IsNodeOf, IsEventOf, IsSound}
+use Rattle.co_project.proofs.EachLemmas.{all_entries, both, each_empty, each_fails, each_found, each_put, each_there, each_weaker, find_below, first_part, get-put_all, made_again, none_pass, one_more, put_all, second_part}
+use Rattle.co_project.proofs.NodeLemmas.{same_put}
 use Rattle.co_project.proofs.ScriptEdits.{settings}
 
 -- ---- edits one after the other
 
 -- edits in two parts
-accept_all-append : (r : Result Content EditFault) (xs ys : List Order) → accept_all r (xs ++ ys) ≡ accept_all (accept_all r xs) ys
+accept_all-append : (r : Result Content EditFault) (xs ys : List Edit) → accept_all r (xs ++ ys) ≡ accept_all (accept_all r xs) ys
 unfolding accept_all
 accept_all-append (Err fault) xs ys = refl
 accept_all-append (Ok p) [] ys = refl
 accept_all-append (Ok p) (x ∷ xs) ys = accept_all-append (accept p x) xs ys
 
 -- edits that are taken, and then others
-then : (r : Result Content EditFault) (xs ys : List Order) (a : Content) {b : Result Content EditFault} → accept_all r xs ≡ Ok a → accept_all (Ok a) ys ≡ b → accept_all r (xs ++ ys) ≡ b
+then : (r : Result Content EditFault) (xs ys : List Edit) (a : Content) {b : Result Content EditFault} → accept_all r xs ≡ Ok a → accept_all (Ok a) ys ≡ b → accept_all r (xs ++ ys) ≡ b
 then r xs ys a ok others = accept_all-append r xs ys ∙ ap (λ t. accept_all t ys) ok ∙ others
 
 -- an edit that is taken, and then others
-one_then : (p : Content) (x : Order) (ys : List Order) (a : Content) {b : Result Content EditFault} → accept p x ≡ Ok a → accept_all (Ok a) ys ≡ b → accept_all (Ok p) (x ∷ ys) ≡ b
+one_then : (p : Content) (x : Edit) (ys : List Edit) (a : Content) {b : Result Content EditFault} → accept p x ≡ Ok a → accept_all (Ok a) ys ≡ b → accept_all (Ok p) (x ∷ ys) ≡ b
 unfolding accept_all
 one_then p x ys a ok others = ap (λ t. accept_all t ys) ok ∙ others
 
 -- ---- room
 
--- a table that has room for all its entries has room for one that is still to come
-room : {X : Type 0} (most : ℕ) (front : List X) (x : X) (back : List X) (known : Bool) → length (front ++ x ∷ back) ≤ most → (nat_le most (length front) && known) ≡ false
-room most front x back known small = and_left _ _ (lt-leb most (length front) (omega (arith, length-append front (x ∷ back))))
+-- a table with room for all that is still to come has room for one
+room : (most front back : ℕ) (known : Bool) → front + suc back ≤ most → (nat_le most front && known) ≡ false
+room most front back known small = and_left _ _ (lt-leb most front (omega arith))
 
 -- ---- texts
 
 -- one text more
-text_taken : (p : Content) (front : List (List ℕ × List ℕ)) (e : List ℕ × List ℕ) → IsAfter name_cmp e.0 (keys_of front) → has_no_room front e.0 ≡ false
-    → accept (record p { texts = front }) (order.Eds e.0 e.1) ≡ Ok (record p { texts = front ++ e ∷ [] })
+text_taken : (p : Content) (texts : Texts) (e : List ℕ × List ℕ) → has_no_room texts e.0 ≡ false → accept (record p { texts = texts }) (text_edit e) ≡ Ok (record p { texts = insert texts e.0 e.1 })
 unfolding accept
-text_taken p front e after free =
-    ap (λ t. unless ((t, Limit) ∷ []) (record p { texts = insert_entry name_cmp front e.0 e.1 })) free
-    ∙ ap (λ texts. Ok (record p { texts = texts })) (insert-last nat_list_cmp_total front e.0 e.1 after)
+text_taken p texts e free = ap (λ t. unless ((t, Limit) ∷ []) (record p { texts = insert texts e.0 e.1 })) free
 
 -- the texts that are still to come
-texts_again : (p : Content) (front back : List (List ℕ × List ℕ)) → IsStrictlySortedBy name_cmp (keys_of (front ++ back)) → length (front ++ back) ≤ 64
-    → accept_all (Ok (record p { texts = front })) (text_orders back) ≡ Ok (record p { texts = front ++ back })
-unfolding accept_all
-texts_again p front [] sorted small = ap (λ texts. Ok (record p { texts = texts })) (sym (append-nil front))
-texts_again p front (e ∷ back) sorted small =
-    let assoc = append_assoc front (e ∷ []) back in
-    one_then (record p { texts = front }) (order.Eds e.0 e.1) (text_orders back) (record p { texts = front ++ e ∷ [] })
-    (text_taken p front e (after_front name_cmp front e back sorted) (room 64 front e back _ small))
-    (texts_again p (front ++ e ∷ []) back (rw assoc sorted) (rw assoc small) ∙ ap (λ texts. Ok (record p { texts = texts })) assoc)
+texts_again : (p : Content) (texts : Texts) (back : List (List ℕ × List ℕ)) → len texts + length back ≤ 64
+    → accept_all (Ok (record p { texts = texts })) (map text_edit back) ≡ Ok (record p { texts = put_all texts back })
+unfolding accept_all put_all
+texts_again p texts [] small = refl
+texts_again p texts (e ∷ back) small =
+    one_then (record p { texts = texts }) (text_edit e) (map text_edit back) (record p { texts = insert texts e.0 e.1 })
+    (text_taken p texts e (room 64 (len texts) (length back) _ small))
+    (texts_again p (insert texts e.0 e.1) back (let more = one_more nat_list_cmp_total texts e.0 e.1 in omega arith))
 
 -- ---- nodes
 
 -- a node without its parameters
-abbrev bare : ℕ × Node → ℕ × Node
-bare e = (e.0, record { name = e.1.name; eds = e.1.eds; params = [] })
+abbrev bare : Node → Node
+bare node = record { name = node.name; eds = node.eds; params = empty }
 
--- the nodes keep their numbers
-keys-bare : (nodes : List (ℕ × Node)) → keys_of (map bare nodes) ≡ keys_of nodes
-keys-bare [] = refl
-keys-bare (e ∷ nodes) = ap (λ (ks : List ℕ). e.0 ∷ ks) (keys-bare nodes)
-
--- and their names
-taken-bare : (nodes : List (ℕ × Node)) (id : ℕ) (name : List ℕ) → name_taken (map bare nodes) id name ≡ name_taken nodes id name
-taken-bare [] id name = refl
-taken-bare (e ∷ nodes) id name = ap (λ t. (not (e.0 == id) && bytes_eq e.1.name name) || t) (taken-bare nodes id name)
-
--- a node's name is no other's among the first nodes
-free_before : (p : Content) (e : ℕ × Node) → IsNodeOf p e → (front back : List (ℕ × Node)) → p.nodes ≡ front ++ back → name_taken front e.0 e.1.name ≡ false
-unfolding IsNodeOf
-free_before p e h front back is =
-    let all : name_taken (front ++ back) e.0 e.1.name ≡ false = subst (λ nodes. name_taken nodes e.0 e.1.name ≡ false) is h.3 in
-    (or_parts (name_taken front e.0 e.1.name) (name_taken back e.0 e.1.name) (sym (list_any-append _ front back) ∙ all)).0
+abbrev bare_entry : ℕ × Node → ℕ × Node
+bare_entry e = (e.0, bare e.1)
 
 -- the project with these nodes and no events
-abbrev with_nodes_alone : Content → List (ℕ × Node) → Content
-with_nodes_alone p nodes = record p { nodes = nodes; events = [] }
+abbrev with_nodes_alone : Content → Nodes → Content
+with_nodes_alone p nodes = record p { nodes = nodes; events = empty }
 
--- one node more
-node_taken : (p : Content) (nodes : List (ℕ × Node)) (e : ℕ × Node) → IsAfter nat_cmp e.0 (keys_of nodes) → IsNodeOf p e → name_taken nodes e.0 e.1.name ≡ false
-    → accept (with_nodes_alone p nodes) (node_order e) ≡ Ok (with_nodes_alone p (nodes ++ bare e ∷ []))
-unfolding accept IsNodeOf
-node_taken p nodes e after is free =
-    let bare_node : List ((ℕ × ℕ) × List ℕ) → Node = λ params. record { name = e.1.name; eds = e.1.eds; params = params } in
-    let put : List ((ℕ × ℕ) × List ℕ) → Content = λ params. with_nodes_alone p (insert_entry nat_cmp nodes e.0 (bare_node params)) in
-    let params = params_at nodes e.0 in
-    ap (λ t. unless ((not t, Unknown) ∷ (e.0 == p.manager.id || name_taken nodes e.0 e.1.name, Taken) ∷ []) (put params)) is.5
-    ∙ ap (λ t. unless ((t, Taken) ∷ []) (put params)) (or_from _ _ is.1 free)
-    ∙ ap (λ found. Ok (put (params_in found))) (new_after nat_cmp_total nodes e.0 after)
-    ∙ ap (λ l. Ok (with_nodes_alone p l)) (insert-last nat_cmp_total nodes e.0 (bare_node []) after)
+module _ (p : Content) where
+  -- nodes of the project without their parameters
+  abbrev IsBare : ℕ → Node → Type 0
+  IsBare id node = (whole : Node) × ((get p.nodes id ≡ Some whole) × (node ≡ bare whole))
 
--- the nodes that are still to come
-nodes_again : (p : Content) (front back : List (ℕ × Node)) → p.nodes ≡ front ++ back → IsStrictlySortedBy nat_cmp (keys_of (front ++ back)) → All (IsNodeOf p) back
-    → accept_all (Ok (with_nodes_alone p (map bare front))) (map node_order back) ≡ Ok (with_nodes_alone p (map bare (front ++ back)))
-unfolding accept_all
-nodes_again p front [] is sorted all = ap (λ nodes. Ok (with_nodes_alone p (map bare nodes))) (sym (append-nil front))
-nodes_again p front (e ∷ back) is sorted all =
-    let assoc = append_assoc front (e ∷ []) back in
-    let after : IsAfter nat_cmp e.0 (keys_of (map bare front)) = rw (keys-bare front) (after_front nat_cmp front e back sorted) in
-    let free : name_taken (map bare front) e.0 e.1.name ≡ false = taken-bare front e.0 e.1.name ∙ free_before p e (All-head (IsNodeOf p) e back all) front (e ∷ back) is in
-    one_then (with_nodes_alone p (map bare front)) (node_order e) (map node_order back) (with_nodes_alone p (map bare (front ++ e ∷ [])))
-    (node_taken p (map bare front) e after (All-head (IsNodeOf p) e back all) free ∙ ap (λ nodes. Ok (with_nodes_alone p nodes)) (sym (map-append bare front (e ∷ []))))
-    (nodes_again p (front ++ e ∷ []) back (is ∙ sym assoc) (rw assoc sorted) (All-tail (IsNodeOf p) e back all) ∙ ap (λ nodes. Ok (with_nodes_alone p (map bare nodes))) assoc)
+  -- their names are free as in the project
+  name_free : (nodes : Nodes) → Each IsBare nodes → (id : ℕ) (name : List ℕ) → name_taken p.nodes id name ≡ false → name_taken nodes id name ≡ false
+  name_free nodes are id name free =
+      none_pass nat_cmp_total exact_unsigned clashes nodes (each_weaker IsBare (λ k v. clashes (k, v) ≡ false) nodes other are)
+    where
+      clashes : ℕ × Node → Bool
+      clashes e = not (e.0 == id) && bytes_eq e.1.name name
+
+      other : (k : ℕ) (v : Node) → get nodes k ≡ Some v → IsBare k v → clashes (k, v) ≡ false
+      other k v there is =
+          ap (λ (node : Node). clashes (k, node)) is.1.1
+          ∙ each_found (λ n node. clashes (n, node) ≡ false) p.nodes k is.0 (each_fails nat_cmp_total exact_unsigned clashes p.nodes free) is.1.0
+
+  -- a node that is put is without parameters
+  still_bare : (id : ℕ) (node : Node) → get p.nodes id ≡ Some node → (known : Option Node) → IfSome known (IsBare id) → renamed node.name node.eds known ≡ bare node
+  still_bare id node there None is = refl
+  still_bare id node there (Some known) is = ap (λ (n : Node). record { name = node.name; eds = node.eds; params = n.params }) is.1.1
+
+  -- one node more
+  node_taken : (nodes : Nodes) (e : ℕ × Node) → Each IsBare nodes → get p.nodes e.0 ≡ Some e.1 → IsNodeOf p e.0 e.1
+      → accept (with_nodes_alone p nodes) (node_edit e) ≡ Ok (with_nodes_alone p (insert nodes e.0 (bare e.1)))
+  unfolding accept IsNodeOf
+  node_taken nodes e are there is =
+      let put : Node → Content = λ node. with_nodes_alone p (insert nodes e.0 node) in
+      let known = get nodes e.0 in
+      ap (λ t. unless ((not t, Unknown) ∷ (e.0 == p.manager.id || name_taken nodes e.0 e.1.name, Taken) ∷ []) (put (renamed e.1.name e.1.eds known))) is.5
+      ∙ ap (λ t. unless ((t, Taken) ∷ []) (put (renamed e.1.name e.1.eds known))) (or_from _ _ is.1 (name_free nodes are e.0 e.1.name is.3))
+      ∙ ap (λ node. Ok (put node)) (still_bare e.0 e.1 there known (are e.0))
+
+  -- the nodes that are still to come
+  nodes_again : (nodes : Nodes) (back : List (ℕ × Node)) → Each IsBare nodes → All (λ e. get p.nodes e.0 ≡ Some e.1) back → All (λ e. IsNodeOf p e.0 e.1) back
+      → accept_all (Ok (with_nodes_alone p nodes)) (map node_edit back) ≡ Ok (with_nodes_alone p (put_all nodes (map bare_entry back)))
+  unfolding accept_all put_all
+  nodes_again nodes [] are there is = refl
+  nodes_again nodes (e ∷ back) are there is =
+      let here : get p.nodes e.0 ≡ Some e.1 = All-head (λ x. get p.nodes x.0 ≡ Some x.1) e back there in
+      one_then (with_nodes_alone p nodes) (node_edit e) (map node_edit back) (with_nodes_alone p (insert nodes e.0 (bare e.1)))
+      (node_taken nodes e are here (All-head (λ x. IsNodeOf p x.0 x.1) e back is))
+      (nodes_again (insert nodes e.0 (bare e.1)) back
+      (each_put nat_cmp_total exact_unsigned IsBare nodes e.0 (bare e.1) are (e.1, (here, refl)))
+      (All-tail (λ x. get p.nodes x.0 ≡ Some x.1) e back there)
+      (All-tail (λ x. IsNodeOf p x.0 x.1) e back is))
 
 -- ---- parameters
 
--- one parameter more of a node
-param_taken : (p : Content) (front rest : List (ℕ × Node)) (id : ℕ) (node : Node) (e : (ℕ × ℕ) × List ℕ) → IsAfter nat_cmp id (keys_of front)
-    → IsAfter place_cmp e.0 (keys_of node.params) → is_full_for node.params e.0 ≡ false
-    → accept (record p { nodes = front ++ (id, node) ∷ rest }) (param_order id e) ≡ Ok (record p { nodes = front ++ (id, record node { params = node.params ++ e ∷ [] }) ∷ rest })
-unfolding accept
-param_taken p front rest id node e after last free =
-    let nodes = front ++ (id, node) ∷ rest in
-    let put : List ((ℕ × ℕ) × List ℕ) → List (ℕ × Node) = λ params. insert_entry nat_cmp nodes id (record node { params = params }) in
-    ap (λ found. with_nodes p (with_param nodes id e.0 e.1 found)) (found_after nat_cmp_total front id node rest after)
-    ∙ ap (λ t. with_nodes p (unless ((t, Limit) ∷ []) (put (insert_entry place_cmp node.params e.0 e.1)))) free
-    ∙ ap (λ params. Ok (record p { nodes = put params })) (insert-last place_cmp_total node.params e.0 e.1 last)
-    ∙ ap (λ l. Ok (record p { nodes = l })) (insert-over nat_cmp_total front id node (record node { params = node.params ++ e ∷ [] }) rest after)
-
-module _ (p : Content) (before rest : List (ℕ × Node)) (id : ℕ) (node : Node) (after : IsAfter nat_cmp id (keys_of before)) where
+module _ (p : Content) (nodes : Nodes) (id : ℕ) (node : Node) where
   -- the project where the node has these parameters
-  abbrev with_params : List ((ℕ × ℕ) × List ℕ) → Content
-  with_params params = record p { nodes = before ++ (id, record node { params = params }) ∷ rest }
+  abbrev with_params : Params → Content
+  with_params params = record p { nodes = insert nodes id (record node { params = params }) }
+
+  -- one parameter more
+  param_taken : (params : Params) (e : (ℕ × ℕ) × List ℕ) → is_full_for params e.0 ≡ false → accept (with_params params) (param_edit id e) ≡ Ok (with_params (insert params e.0 e.1))
+  unfolding accept
+  param_taken params e free =
+      let now : Nodes = insert nodes id (record node { params = params }) in
+      ap (λ found. with_nodes (with_params params) (with_param now id e.0 e.1 found)) (put_there nat_cmp_total exact_unsigned nodes id (record node { params = params }))
+      ∙ ap (λ t. with_nodes (with_params params) (unless ((t, Limit) ∷ []) (insert now id (record node { params = insert params e.0 e.1 })))) free
+      ∙ ap (λ m. Ok (record p { nodes = m })) (put_twice nat_cmp_total exact_unsigned nodes id (record node { params = params }) (record node { params = insert params e.0 e.1 }))
 
   -- the parameters that are still to come
-  params_again : (front back : List ((ℕ × ℕ) × List ℕ)) → IsStrictlySortedBy place_cmp (keys_of (front ++ back)) → length (front ++ back) ≤ 4096
-      → accept_all (Ok (with_params front)) (map (param_order id) back) ≡ Ok (with_params (front ++ back))
-  unfolding accept_all
-  params_again front [] sorted small = ap (λ params. Ok (with_params params)) (sym (append-nil front))
-  params_again front (e ∷ back) sorted small =
-      let assoc = append_assoc front (e ∷ []) back in
-      one_then (with_params front) (param_order id e) (map (param_order id) back) (with_params (front ++ e ∷ []))
-      (param_taken p before rest id (record node { params = front }) e after (after_front place_cmp front e back sorted) (room 4096 front e back _ small))
-      (params_again (front ++ e ∷ []) back (rw assoc sorted) (rw assoc small) ∙ ap (λ params. Ok (with_params params)) assoc)
+  params_again : (params : Params) (back : List ((ℕ × ℕ) × List ℕ)) → len params + length back ≤ 4096
+      → accept_all (Ok (with_params params)) (map (param_edit id) back) ≡ Ok (with_params (put_all params back))
+  unfolding accept_all put_all
+  params_again params [] small = refl
+  params_again params (e ∷ back) small =
+      one_then (with_params params) (param_edit id e) (map (param_edit id) back) (with_params (insert params e.0 e.1))
+      (param_taken params e (room 4096 (len params) (length back) _ small))
+      (params_again (insert params e.0 e.1) back (let more = one_more places_total params e.0 e.1 in omega arith))
 
--- the parameters of a node
-node_filled : (p q : Content) (front rest : List (ℕ × Node)) (e : ℕ × Node) → IsAfter nat_cmp e.0 (keys_of front) → IsNodeOf q e
-    → accept_all (Ok (record p { nodes = front ++ bare e ∷ rest })) (param_orders e) ≡ Ok (record p { nodes = front ++ e ∷ rest })
+-- as many entries as a table has
+whole_small : {K X : Type 0} {R : K → K → Ordering} (most : ℕ) (m : FinMap R X) → len m ≤ most → len (empty {X = X} {R = R}) + length (entries m) ≤ most
+whole_small {X = X} {R = R} most m small = let none = len-empty R X in let all = len-entries m in omega arith
+
+-- all parameters of a node
+node_filled : (p q : Content) (nodes : Nodes) (id : ℕ) (node : Node) → get nodes id ≡ Some (bare node) → IsNodeOf q id node
+    → accept_all (Ok (record p { nodes = nodes })) (param_edits (id, node)) ≡ Ok (record p { nodes = insert nodes id node })
 unfolding IsNodeOf AreParams
-node_filled p q front rest e after is = params_again p front rest e.0 e.1 after [] e.1.params is.6.0 is.6.1
+node_filled p q nodes id node there is =
+    ap (λ m. accept_all (Ok (record p { nodes = m })) (param_edits (id, node))) (sym (same_put nodes id (bare node) there))
+    ∙ params_again p nodes id node empty (entries node.params) (whole_small 4096 node.params is.6.0)
+    ∙ ap (λ params. Ok (with_params p nodes id node params)) (made_again places_total places_exact node.params)
+
+-- the nodes that are still to come are there without their parameters
+abbrev AreToCome : Nodes → List (ℕ × Node) → Type 0
+AreToCome nodes back = (q : ℕ) → IfSome (find nat_cmp q back) (λ node. get nodes q ≡ Some (bare node))
+
+-- the first of them
+first_to_come : (nodes : Nodes) (e : ℕ × Node) (back : List (ℕ × Node)) → AreToCome nodes (e ∷ back) → get nodes e.0 ≡ Some (bare e.1)
+first_to_come nodes e back come = subst (λ o. IfSome (cond (is_eq o) (Some e.1) (find nat_cmp e.0 back)) (λ node. get nodes e.0 ≡ Some (bare node))) (tied_itself nat_cmp_total e.0) (come e.0)
+
+-- the others, once it has its parameters
+others_to_come : (nodes : Nodes) (e : ℕ × Node) (back : List (ℕ × Node)) → T (is_sorted nat_cmp (e ∷ back)) → AreToCome nodes (e ∷ back) → AreToCome (insert nodes e.0 e.1) back
+others_to_come nodes e back sorted come q = by (eq_by_cmp nat_cmp q e.0) refl (get-insert nat_cmp_total nodes e.0 e.1 q) (come q)
+  where
+    by : (t : Bool) → eq_by_cmp nat_cmp q e.0 ≡ t → get (insert nodes e.0 e.1) q ≡ cond t (Some e.1) (get nodes q)
+        → IfSome (cond t (Some e.1) (find nat_cmp q back)) (λ node. get nodes q ≡ Some (bare node)) → IfSome (find nat_cmp q back) (λ node. get (insert nodes e.0 e.1) q ≡ Some (bare node))
+    by true same now h = subst (λ (o : Option Node). IfSome o (λ node. get (insert nodes e.0 e.1) q ≡ Some (bare node)))
+        (sym (ap (λ x. find nat_cmp x back) (alike nat_cmp_total exact_unsigned q e.0 same) ∙ find_below nat_cmp e.0 back (first_part _ _ sorted))) tt
+    by false other now h = subst (λ (o : Option Node). IfSome (find nat_cmp q back) (λ node. o ≡ Some (bare node))) (sym now) h
 
 -- the parameters of the nodes that are still to come
-nodes_filled : (p q : Content) (front back : List (ℕ × Node)) → IsStrictlySortedBy nat_cmp (keys_of (front ++ back)) → All (IsNodeOf q) back
-    → accept_all (Ok (record p { nodes = front ++ map bare back })) (flat_map param_orders back) ≡ Ok (record p { nodes = front ++ back })
-unfolding accept_all
-nodes_filled p q front [] sorted all = refl
-nodes_filled p q front (e ∷ back) sorted all =
-    let assoc = append_assoc front (e ∷ []) back in
-    then (Ok (record p { nodes = front ++ bare e ∷ map bare back })) (param_orders e) (flat_map param_orders back) (record p { nodes = front ++ e ∷ map bare back })
-    (node_filled p q front (map bare back) e (after_front nat_cmp front e back sorted) (All-head (IsNodeOf q) e back all))
-    (ap (λ nodes. accept_all (Ok (record p { nodes = nodes })) (flat_map param_orders back)) (sym (append_assoc front (e ∷ []) (map bare back)))
-    ∙ nodes_filled p q (front ++ e ∷ []) back (rw assoc sorted) (All-tail (IsNodeOf q) e back all)
-    ∙ ap (λ nodes. Ok (record p { nodes = nodes })) assoc)
+nodes_filled : (p q : Content) (nodes : Nodes) (back : List (ℕ × Node)) → T (is_sorted nat_cmp back) → AreToCome nodes back → All (λ e. IsNodeOf q e.0 e.1) back
+    → accept_all (Ok (record p { nodes = nodes })) (flat_map param_edits back) ≡ Ok (record p { nodes = put_all nodes back })
+unfolding accept_all put_all
+nodes_filled p q nodes [] sorted come all = refl
+nodes_filled p q nodes (e ∷ back) sorted come all =
+    then (Ok (record p { nodes = nodes })) (param_edits e) (flat_map param_edits back) (record p { nodes = insert nodes e.0 e.1 })
+    (node_filled p q nodes e.0 e.1 (first_to_come nodes e back come) (All-head (λ x. IsNodeOf q x.0 x.1) e back all))
+    (nodes_filled p q (insert nodes e.0 e.1) back (second_part _ _ sorted) (others_to_come nodes e back sorted come) (All-tail (λ x. IsNodeOf q x.0 x.1) e back all))
+
+-- ---- all nodes
+
+-- entries without parameters are found as those with them
+find-bare : (q : ℕ) (es : List (ℕ × Node)) → find nat_cmp q (map bare_entry es) ≡ option_map bare (find nat_cmp q es)
+find-bare q [] = refl
+find-bare q (e ∷ es) = by (eq_by_cmp nat_cmp q e.0) (find-bare q es)
+  where
+    by : (t : Bool) → find nat_cmp q (map bare_entry es) ≡ option_map bare (find nat_cmp q es) → cond t (Some (bare e.1)) (find nat_cmp q (map bare_entry es)) ≡ option_map bare (cond t (Some e.1) (find nat_cmp q es))
+    by true rest = refl
+    by false rest = rest
+
+-- and are in the same order
+below-bare : (k : ℕ) (es : List (ℕ × Node)) → T (below_all nat_cmp k es) → T (below_all nat_cmp k (map bare_entry es))
+below-bare k [] h = tt
+below-bare k (e ∷ es) h = both _ _ (first_part _ _ h) (below-bare k es (second_part _ _ h))
+
+sorted-bare : (es : List (ℕ × Node)) → T (is_sorted nat_cmp es) → T (is_sorted nat_cmp (map bare_entry es))
+sorted-bare [] h = tt
+sorted-bare (e ∷ es) h = both _ _ (below-bare e.0 es (first_part _ _ h)) (sorted-bare es (second_part _ _ h))
+
+module _ (nodes : Nodes) where
+  -- the nodes without their parameters
+  abbrev all_bare : Nodes
+  all_bare = put_all empty (map bare_entry (entries nodes))
+
+  get-bare : (q : ℕ) → get all_bare q ≡ option_or (option_map bare (find nat_cmp q (entries nodes))) None
+  get-bare q =
+      get-put_all nat_cmp_total exact_unsigned empty (map bare_entry (entries nodes)) (sorted-bare (entries nodes) (entries_sorted nodes)) q
+      ∙ ap (option_or (find nat_cmp q (map bare_entry (entries nodes)))) (get-empty nat_cmp q)
+      ∙ ap (λ o. option_or o None) (find-bare q (entries nodes))
+
+  -- are there when their parameters come
+  bare_come : AreToCome all_bare (entries nodes)
+  bare_come q = by (find nat_cmp q (entries nodes)) (get-bare q)
+    where
+      by : (o : Option Node) → get all_bare q ≡ option_or (option_map bare o) None → IfSome o (λ node. get all_bare q ≡ Some (bare node))
+      by None is = tt
+      by (Some node) is = is
+
+  -- and with them they are the nodes
+  all_filled : put_all all_bare (entries nodes) ≡ nodes
+  all_filled = same_map nat_cmp_total exact_unsigned _ _ (λ q.
+      get-put_all nat_cmp_total exact_unsigned all_bare (entries nodes) (entries_sorted nodes) q
+      ∙ ap (option_or (find nat_cmp q (entries nodes))) (get-bare q) ∙ by (find nat_cmp q (entries nodes)) ∙ sym (get-entries nodes q))
+    where
+      by : (o : Option Node) → option_or o (option_or (option_map bare o) None) ≡ o
+      by None = refl
+      by (Some node) = refl
 
 -- ---- events
 
 -- one event more
-event_taken : (p : Content) (front : List (ℕ × TimedEvent)) (e : ℕ × TimedEvent) → IsAfter nat_cmp e.0 (keys_of front) → IsEventOf p e
-    → accept (record p { events = front }) (order.Event e.0 e.1) ≡ Ok (record p { events = front ++ e ∷ [] })
+event_taken : (p : Content) (events : Events) (e : ℕ × TimedEvent) → IsEventOf p e.0 e.1 → accept (record p { events = events }) (event_edit e) ≡ Ok (record p { events = insert events e.0 e.1 })
 unfolding accept IsEventOf
-event_taken p front e after is =
-    ap (λ t. unless ((not t, Unknown) ∷ []) (record p { events = insert_entry nat_cmp front e.0 e.1 })) is.3
-    ∙ ap (λ events. Ok (record p { events = events })) (insert-last nat_cmp_total front e.0 e.1 after)
+event_taken p events e is = ap (λ t. unless ((not t, Unknown) ∷ []) (record p { events = insert events e.0 e.1 })) is.3
 
 -- the events that are still to come
-events_again : (p : Content) (front back : List (ℕ × TimedEvent)) → IsStrictlySortedBy nat_cmp (keys_of (front ++ back)) → All (IsEventOf p) back
-    → accept_all (Ok (record p { events = front })) (event_orders back) ≡ Ok (record p { events = front ++ back })
-unfolding accept_all
-events_again p front [] sorted all = ap (λ events. Ok (record p { events = events })) (sym (append-nil front))
-events_again p front (e ∷ back) sorted all =
-    let assoc = append_assoc front (e ∷ []) back in
-    one_then (record p { events = front }) (order.Event e.0 e.1) (event_orders back) (record p { events = front ++ e ∷ [] })
-    (event_taken p front e (after_front nat_cmp front e back sorted) (All-head (IsEventOf p) e back all))
-    (events_again p (front ++ e ∷ []) back (rw assoc sorted) (All-tail (IsEventOf p) e back all) ∙ ap (λ events. Ok (record p { events = events })) assoc)
+events_again : (p : Content) (events : Events) (back : List (ℕ × TimedEvent)) → All (λ e. IsEventOf p e.0 e.1) back
+    → accept_all (Ok (record p { events = events })) (map event_edit back) ≡ Ok (record p { events = put_all events back })
+unfolding accept_all put_all
+events_again p events [] all = refl
+events_again p events (e ∷ back) all =
+    one_then (record p { events = events }) (event_edit e) (map event_edit back) (record p { events = insert events e.0 e.1 })
+    (event_taken p events e (All-head (λ x. IsEventOf p x.0 x.1) e back all))
+    (events_again p (insert events e.0 e.1) back (All-tail (λ x. IsEventOf p x.0 x.1) e back all))
 
 -- ---- the law
 
 -- the first project with the settings of another
 abbrev set_up : Content → Content
-set_up p = record { bitrate = p.bitrate; horizon = p.horizon; manager = p.manager; texts = []; nodes = []; events = [] }
+set_up p = record { bitrate = p.bitrate; horizon = p.horizon; manager = p.manager; texts = empty; nodes = empty; events = empty }
 
 -- the settings
 settings_again : (p : Content) → accept_all (Ok first) (settings p) ≡ Ok (set_up p)
 unfolding accept_all accept
-settings_again p = refl
+settings_again p =
+    let rated : Content = record first { bitrate = p.bitrate } in
+    let timed : Content = record rated { horizon = p.horizon } in
+    one_then first (edit.Bitrate p.bitrate) (edit.Horizon p.horizon ∷ edit.Manager p.manager ∷ []) rated refl
+    (one_then rated (edit.Horizon p.horizon) (edit.Manager p.manager ∷ []) timed refl
+    (one_then timed (edit.Manager p.manager) [] (set_up p) (ap (λ o. unless ((is_some o, Taken) ∷ []) (set_up p)) (get-empty {X = Node} nat_cmp p.manager.id)) refl))
 
 -- all texts
-all_texts : (p : Content) → IsSound p → accept_all (Ok (set_up p)) (text_orders p.texts) ≡ Ok (with_nodes_alone p [])
+all_texts : (p : Content) → IsSound p → accept_all (Ok (set_up p)) (map text_edit (entries p.texts)) ≡ Ok (with_nodes_alone p empty)
 unfolding AreTexts
-all_texts p sound = texts_again (set_up p) [] p.texts sound.texts.0 sound.texts.1
+all_texts p sound =
+    texts_again (set_up p) empty (entries p.texts) (whole_small 64 p.texts sound.texts.0)
+    ∙ ap (λ texts. Ok (record (set_up p) { texts = texts })) (made_again nat_list_cmp_total exact_bytes p.texts)
 
 -- the edits of a project's script, taken by the first project, make the equal project
-pub script_again : (p : Content) → IsSound p → accept_all (Ok first) (orders p) ≡ Ok p
-unfolding orders
+pub script_again : (p : Content) → IsSound p → accept_all (Ok first) (edits p) ≡ Ok p
+unfolding edits
 script_again p sound =
-    let nodes = map node_order p.nodes in
-    let params = flat_map param_orders p.nodes in
-    let text_made = then (Ok first) (settings p) (text_orders p.texts) (set_up p) (settings_again p) (all_texts p sound) in
-    let nodes_made = then (Ok first) _ nodes (with_nodes_alone p []) text_made (nodes_again p [] p.nodes refl sound.nodes_by_number sound.nodes) in
-    let params_made = then (Ok first) _ params (with_nodes_alone p (map bare p.nodes)) nodes_made (nodes_filled (with_nodes_alone p []) p [] p.nodes sound.nodes_by_number sound.nodes) in
-    then (Ok first) _ (event_orders p.events) (with_nodes_alone p p.nodes) params_made (events_again p [] p.events sound.events_by_number sound.events)
+    let nodes = map node_edit (entries p.nodes) in
+    let params = flat_map param_edits (entries p.nodes) in
+    let each_node : All (λ e. IsNodeOf p e.0 e.1) (entries p.nodes) = all_entries nat_cmp_total exact_unsigned (IsNodeOf p) p.nodes sound.nodes in
+    let there : All (λ e. get p.nodes e.0 ≡ Some e.1) (entries p.nodes) = all_entries nat_cmp_total exact_unsigned (λ id node. get p.nodes id ≡ Some node) p.nodes (each_there p.nodes) in
+    let each_event : All (λ e. IsEventOf p e.0 e.1) (entries p.events) = all_entries nat_cmp_total exact_unsigned (IsEventOf p) p.events sound.events in
+    let text_made = then (Ok first) (settings p) (map text_edit (entries p.texts)) (set_up p) (settings_again p) (all_texts p sound) in
+    let nodes_made = then (Ok first) _ nodes (with_nodes_alone p empty) text_made (nodes_again p empty (entries p.nodes) (each_empty (IsBare p) empty refl) there each_node) in
+    let params_made =
+    then (Ok first) _ params (with_nodes_alone p (all_bare p.nodes)) nodes_made
+    (nodes_filled (with_nodes_alone p empty) p (all_bare p.nodes) (entries p.nodes) (entries_sorted p.nodes) (bare_come p.nodes) each_node ∙ ap (λ m. Ok (with_nodes_alone p m)) (all_filled p.nodes))
+    in
+    then (Ok first) _ (map event_edit (entries p.events)) (with_nodes_alone p p.nodes) params_made
+    (events_again p empty (entries p.events) each_event ∙ ap (λ events. Ok (record p { events = events })) (made_again nat_cmp_total exact_unsigned p.events))

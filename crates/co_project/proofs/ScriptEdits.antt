@@ -2,15 +2,21 @@
 use Rattle.std.proofs.Common.{ℕ, List, [], ◌∷◌, ◌++◌, map}
 use Rattle.std.proofs.lemmas.List.Elements.{All-nil, All-from_recursion, All-head, All-tail, All-append, All-map, All-weaker}
 use Rattle.std.specs.Prelude.{All}
+use Rattle.std.specs.FinMap.{entries}
 use Rattle.std.specs.List.{flat_map}
+use Rattle.std.proofs.lemmas.Cmp.{nat_cmp_total, nat_list_cmp_total}
+use Rattle.std.proofs.lemmas.Map.Lookups.{exact_unsigned, exact_bytes}
+use Rattle.co_dict.proofs.PlaceLemmas.{places_exact, places_total}
 use Rattle.co_scenario.specs.declared.timed_event.TimedEvent.{TimedEvent}
-use Rattle.co_commands.specs.declared.order.Order.{Order}
-use Rattle.co_commands.specs.declared.order.Order.TheVariants as order
-use Rattle.co_commands.specs.Orders.{IsOrder}
+use Rattle.co_edits.specs.declared.edit.Edit.{Edit}
+use Rattle.co_edits.specs.declared.edit.Edit.TheVariants as edit
+use Rattle.co_edits.specs.Eds.{IsEds}
+use Rattle.co_edits.specs.Edits.{IsEdit, IsSetting}
 use Rattle.co_project.specs.declared.node.Node.{Node}
 use Rattle.co_project.specs.Project.{Content}
-use Rattle.co_project.specs.Script.{orders, node_order, param_order, param_orders, text_orders, event_orders}
+use Rattle.co_project.specs.Script.{edits, event_edit, node_edit, param_edit, param_edits, text_edit}
 use Rattle.co_project.specs.Sound.{AreTexts, AreParams, IsNodeOf, IsEventOf, IsSound}
+use Rattle.co_project.proofs.EachLemmas.{all_entries}
 
 module _ {X Y : Type 0} (P : Y → Type 0) (f : X → List Y) where
   -- what holds of each element of each list holds of each of them all
@@ -18,46 +24,53 @@ module _ {X Y : Type 0} (P : Y → Type 0) (f : X → List Y) where
   All-flat_map [] h = All-nil P
   All-flat_map (x ∷ xs) h = All-append P (f x) (flat_map f xs) (All-head (λ y. All P (f y)) x xs h) (All-flat_map xs (All-tail (λ y. All P (f y)) x xs h))
 
+-- those of the texts
+the_text_edits : (p : Content) → IsSound p → All IsEdit (map text_edit (entries p.texts))
+unfolding AreTexts IsEdit
+the_text_edits p sound = All-map IsEdit text_edit (entries p.texts) (all_entries nat_list_cmp_total exact_bytes IsEds p.texts sound.texts.1)
+
 -- that of a node
-node_edit : (p : Content) (e : ℕ × Node) → IsNodeOf p e → IsOrder (node_order e)
-unfolding IsNodeOf IsOrder
-node_edit p e is = (is.0, is.2, is.4)
+the_node_edit : (p : Content) (id : ℕ) (node : Node) → IsNodeOf p id node → IsEdit (node_edit (id, node))
+unfolding IsNodeOf IsEdit
+the_node_edit p id node is = (is.0, is.2, is.4)
 
 -- those of its parameters
-param_edits : (p : Content) (e : ℕ × Node) → IsNodeOf p e → All IsOrder (param_orders e)
-unfolding IsNodeOf AreParams IsOrder
-param_edits p e is = All-map IsOrder (param_order e.0) e.1.params (λ k d lt. (is.0, is.6.2 k d lt))
+the_param_edits : (p : Content) (id : ℕ) (node : Node) → IsNodeOf p id node → All IsEdit (param_edits (id, node))
+unfolding IsNodeOf AreParams IsEdit
+the_param_edits p id node is =
+    All-map IsEdit (param_edit id) (entries node.params)
+    (All-weaker (λ e. IsSetting e.0.0 e.0.1 e.1) (λ e. IsEdit (param_edit id e)) (λ e set. (is.0, set)) (entries node.params) (all_entries places_total places_exact (λ place text. IsSetting place.0 place.1 text) node.params is.6.1))
 
 -- that of an event
-event_edit : (p : Content) (e : ℕ × TimedEvent) → IsEventOf p e → IsOrder (order.Event e.0 e.1)
-unfolding IsEventOf IsOrder
-event_edit p e is = (is.0, is.1, is.2)
+the_event_edit : (p : Content) (number : ℕ) (e : TimedEvent) → IsEventOf p number e → IsEdit (event_edit (number, e))
+unfolding IsEventOf IsEdit
+the_event_edit p number e is = (is.0, is.1, is.2)
 
 -- the edits that set a project's settings
-abbrev pub settings : Content → List Order
-settings p = order.Bitrate p.bitrate ∷ order.Horizon p.horizon ∷ order.Manager p.manager ∷ []
+abbrev pub settings : Content → List Edit
+settings p = edit.Bitrate p.bitrate ∷ edit.Horizon p.horizon ∷ edit.Manager p.manager ∷ []
 
 -- those of the settings
-settings_edits : (p : Content) → IsSound p → All IsOrder (settings p)
-unfolding IsOrder
-settings_edits p sound = All-from_recursion IsOrder (settings p) (sound.bitrate, (sound.horizon, (sound.manager, tt)))
-
--- those of the texts
-text_edits : (texts : List (List ℕ × List ℕ)) → AreTexts texts → All IsOrder (text_orders texts)
-unfolding AreTexts IsOrder
-text_edits texts are = All-map IsOrder (λ e. order.Eds e.0 e.1) texts are.2
+the_settings_edits : (p : Content) → IsSound p → All IsEdit (settings p)
+unfolding IsEdit
+the_settings_edits p sound = All-from_recursion IsEdit (settings p) (sound.bitrate, (sound.horizon, (sound.manager, tt)))
 
 -- the edits of a project's script are edits
-pub script_edits : (p : Content) → IsSound p → All IsOrder (orders p)
-unfolding orders
+pub script_edits : (p : Content) → IsSound p → All IsEdit (edits p)
+unfolding edits
 script_edits p sound =
-    let texts = text_orders p.texts in
-    let nodes = map node_order p.nodes in
-    let params = flat_map param_orders p.nodes in
-    let node_edits = All-map IsOrder node_order p.nodes (All-weaker (IsNodeOf p) (λ e. IsOrder (node_order e)) (node_edit p) p.nodes sound.nodes) in
-    let params_edits = All-flat_map IsOrder param_orders p.nodes (All-weaker (IsNodeOf p) (λ e. All IsOrder (param_orders e)) (param_edits p) p.nodes sound.nodes) in
-    let event_edits = All-map IsOrder (λ e. order.Event e.0 e.1) p.events (All-weaker (IsEventOf p) (λ e. IsOrder (order.Event e.0 e.1)) (event_edit p) p.events sound.events) in
-    let begun = All-append IsOrder (settings p) texts (settings_edits p sound) (text_edits p.texts sound.texts) in
-    All-append IsOrder (settings p ++ texts ++ nodes ++ params) (event_orders p.events)
-    (All-append IsOrder (settings p ++ texts ++ nodes) params (All-append IsOrder (settings p ++ texts) nodes begun node_edits) params_edits)
+    let texts = map text_edit (entries p.texts) in
+    let nodes = map node_edit (entries p.nodes) in
+    let params = flat_map param_edits (entries p.nodes) in
+    let events = map event_edit (entries p.events) in
+    let each_node : All (λ e. IsNodeOf p e.0 e.1) (entries p.nodes) = all_entries nat_cmp_total exact_unsigned (IsNodeOf p) p.nodes sound.nodes in
+    let node_edits = All-map IsEdit node_edit (entries p.nodes) (All-weaker (λ e. IsNodeOf p e.0 e.1) (λ e. IsEdit (node_edit e)) (λ e. the_node_edit p e.0 e.1) (entries p.nodes) each_node) in
+    let params_edits = All-flat_map IsEdit param_edits (entries p.nodes) (All-weaker (λ e. IsNodeOf p e.0 e.1) (λ e. All IsEdit (param_edits e)) (λ e. the_param_edits p e.0 e.1) (entries p.nodes) each_node) in
+    let event_edits =
+    All-map IsEdit event_edit (entries p.events)
+    (All-weaker (λ e. IsEventOf p e.0 e.1) (λ e. IsEdit (event_edit e)) (λ e. the_event_edit p e.0 e.1) (entries p.events) (all_entries nat_cmp_total exact_unsigned (IsEventOf p) p.events sound.events))
+    in
+    All-append IsEdit (settings p ++ texts ++ nodes ++ params) events
+    (All-append IsEdit (settings p ++ texts ++ nodes) params
+    (All-append IsEdit (settings p ++ texts) nodes (All-append IsEdit (settings p) texts (the_settings_edits p sound) (the_text_edits p sound)) node_edits) params_edits)
     event_edits

@@ -1,66 +1,82 @@
 -- The project, and what edits do to it (this profile's own).
-use Rattle.std.specs.Prelude.{ℕ, ◌||◌, not, ◌==◌, List, [], ◌∷◌, is_some, Result, Ok, Err}
-use Rattle.std.specs.Ordering.{nat_cmp}
-use Rattle.std.specs.Map.{remove_entry}
-use Rattle.std.specs.BTreeMap.{is_at, insert_entry}
+use Rattle.std.specs.Prelude.{ℕ, Bool, false, ◌||◌, not, ◌==◌, List, [], ◌∷◌, refl, Result, Ok, Err}
+use Rattle.std.specs.Coded.{Coded, code_by, coded×, coded_ℕ, coded_list}
+use Rattle.std.specs.FinMap.{code, contains_key, empty, insert, remove}
 use Rattle.co_scenario.specs.declared.timed_event.TimedEvent.{TimedEvent}
-use Rattle.co_scenario.specs.Scenario.{event_at}
-use Rattle.co_commands.specs.declared.fault.EditFault.{EditFault}
-use Rattle.co_commands.specs.declared.fault.EditFault.TheVariants.{Unknown, Taken, InUse, Limit}
-use Rattle.co_commands.specs.declared.manager.Manager.{Manager}
-use Rattle.co_commands.specs.declared.order.Order.{Order}
-use Rattle.co_commands.specs.declared.order.Order.TheVariants as order
-use Rattle.co_commands.specs.Accepts.{unless}
+use Rattle.co_scenario.specs.Scenario.{Events}
+use Rattle.co_edits.specs.declared.fault.EditFault.{EditFault}
+use Rattle.co_edits.specs.declared.fault.EditFault.TheVariants.{Unknown, Taken, InUse, Limit}
+use Rattle.co_edits.specs.declared.manager_settings.ManagerSettings.{ManagerSettings}
+use Rattle.co_edits.specs.declared.edit.Edit.{Edit}
+use Rattle.co_edits.specs.declared.edit.Edit.TheVariants as edit
+use Rattle.co_edits.specs.Accepts.{unless}
 use Rattle.co_project.specs.declared.node.Node.{Node}
-use Rattle.co_project.specs.Tables.{name_cmp, text_at, node_at, params_at, has_no_room, name_taken, is_used, is_named, is_of_known, put_param, drop_param}
+use Rattle.co_project.specs.Tables.{Texts, Nodes, has_no_room, name_taken, is_used, is_named, is_of_known, adds_param, put_node, put_param, drop_param}
 
 -- a project: bit rate in kbit/s, horizon in microseconds, the manager, the texts of EDS by name, the nodes by number, and the events by number
 pub record Content : Type 0 where
   pub bitrate : ℕ
   pub horizon : ℕ
-  pub manager : Manager
-  pub texts : List (List ℕ × List ℕ)
-  pub nodes : List (ℕ × Node)
-  pub events : List (ℕ × TimedEvent)
+  pub manager : ManagerSettings
+  pub texts : Texts
+  pub nodes : Nodes
+  pub events : Events
+
+-- a project is stored as its parts, pair by pair
+abbrev pub content_code : Coded ManagerSettings → Coded Node → Coded TimedEvent → Coded Content
+content_code manager_code node_code event_code =
+    code_by (ℕ × (ℕ × (ManagerSettings × (Texts × (Nodes × Events)))))
+    (coded× coded_ℕ (coded× coded_ℕ (coded× manager_code (coded× (code (coded_list coded_ℕ) (coded_list coded_ℕ)) (coded× (code coded_ℕ node_code) (code coded_ℕ event_code))))))
+    (λ p. (p.bitrate, (p.horizon, (p.manager, (p.texts, (p.nodes, p.events))))))
+    (λ t. record { bitrate = t.0; horizon = t.1.0; manager = t.1.1.0; texts = t.1.1.1.0; nodes = t.1.1.1.1.0; events = t.1.1.1.1.1 }) (λ _. refl)
 
 -- the project that each session begins with
 abbrev pub first : Content
-first = record { bitrate = 1000; horizon = 1000000; manager = record { id = 127; sync_us = 0; heartbeat_ms = 0; timeout_ms = 500 }; texts = []; nodes = []; events = [] }
+first = record { bitrate = 1000; horizon = 1000000; manager = record { id = 127; sync_us = 0; heartbeat_ms = 0; timeout_ms = 500 }; texts = empty; nodes = empty; events = empty }
 
-abbrev pub with_nodes : Content → Result (List (ℕ × Node)) EditFault → Result Content EditFault
+-- a project with other nodes, or the fault in their place
+abbrev pub with_nodes : Content → Result Nodes EditFault → Result Content EditFault
 with_nodes p (Ok nodes) = Ok (record p { nodes = nodes })
 with_nodes p (Err fault) = Err fault
 
--- THE EDIT: the project that an order makes of a project, or the first fault that applies
-unfoldable pub accept : Content → Order → Result Content EditFault
-accept p (order.Bitrate rate) = Ok (record p { bitrate = rate })
-accept p (order.Horizon time) = Ok (record p { horizon = time })
-accept p (order.Manager m) =
-    unless ((is_some (node_at p.nodes m.id), Taken) ∷ [])
+-- THE EDIT: the project that an edit makes of a project, or the first fault that applies
+unfoldable pub accept : Content → Edit → Result Content EditFault
+accept p (edit.Bitrate rate) = Ok (record p { bitrate = rate })
+accept p (edit.Horizon time) = Ok (record p { horizon = time })
+accept p (edit.Manager m) =
+    unless ((contains_key p.nodes m.id, Taken) ∷ [])
     (record p { manager = m })
-accept p (order.Eds name text) =
+accept p (edit.Eds name text) =
     unless ((has_no_room p.texts name, Limit) ∷ [])
-    (record p { texts = insert_entry name_cmp p.texts name text })
-accept p (order.DropEds name) =
-    unless ((not (is_some (text_at p.texts name)), Unknown) ∷ (is_used p.nodes name, InUse) ∷ [])
-    (record p { texts = remove_entry (is_at (name_cmp name)) p.texts })
-accept p (order.Node id name eds) =
-    unless ((not (is_some (text_at p.texts eds)), Unknown) ∷ (id == p.manager.id || name_taken p.nodes id name, Taken) ∷ [])
-    (record p { nodes = insert_entry nat_cmp p.nodes id (record { name = name; eds = eds; params = params_at p.nodes id }) })
-accept p (order.DropNode id) =
-    unless ((not (is_some (node_at p.nodes id)), Unknown) ∷ (is_named p.events id, InUse) ∷ [])
-    (record p { nodes = remove_entry (is_at (nat_cmp id)) p.nodes })
-accept p (order.Param id index sub text) = with_nodes p (put_param p.nodes id (index, sub) text)
-accept p (order.Unparam id index sub) = with_nodes p (drop_param p.nodes id (index, sub))
-accept p (order.Event number e) =
+    (record p { texts = insert p.texts name text })
+accept p (edit.DropEds name) =
+    unless ((not (contains_key p.texts name), Unknown) ∷ (is_used p.nodes name, InUse) ∷ [])
+    (record p { texts = remove p.texts name })
+accept p (edit.Node id name eds) =
+    unless ((not (contains_key p.texts eds), Unknown) ∷ (id == p.manager.id || name_taken p.nodes id name, Taken) ∷ [])
+    (record p { nodes = put_node p.nodes id name eds })
+accept p (edit.DropNode id) =
+    unless ((not (contains_key p.nodes id), Unknown) ∷ (is_named p.events id, InUse) ∷ [])
+    (record p { nodes = remove p.nodes id })
+accept p (edit.Param id index sub text) = with_nodes p (put_param p.nodes id (index, sub) text)
+accept p (edit.Unparam id index sub) = with_nodes p (drop_param p.nodes id (index, sub))
+accept p (edit.Event number e) =
     unless ((not (is_of_known p.nodes e.event), Unknown) ∷ [])
-    (record p { events = insert_entry nat_cmp p.events number e })
-accept p (order.DropEvent number) =
-    unless ((not (is_some (event_at p.events number)), Unknown) ∷ [])
-    (record p { events = remove_entry (is_at (nat_cmp number)) p.events })
+    (record p { events = insert p.events number e })
+accept p (edit.DropEvent number) =
+    unless ((not (contains_key p.events number), Unknown) ∷ [])
+    (record p { events = remove p.events number })
+
+-- the edit gives a text, an event, a parameter or a node where there is none: no other takes memory
+unfoldable pub adds : Content → Edit → Bool
+adds p (edit.Eds name text) = not (contains_key p.texts name)
+adds p (edit.Node id name eds) = not (contains_key p.nodes id)
+adds p (edit.Param id index sub text) = adds_param p.nodes id (index, sub)
+adds p (edit.Event number e) = not (contains_key p.events number)
+adds p others = false
 
 -- edits one after the other, the first fault stays
-unfoldable pub accept_all : Result Content EditFault → List Order → Result Content EditFault
-accept_all (Err fault) orders = Err fault
+unfoldable pub accept_all : Result Content EditFault → List Edit → Result Content EditFault
+accept_all (Err fault) edits = Err fault
 accept_all (Ok p) [] = Ok p
-accept_all (Ok p) (order ∷ orders) = accept_all (accept p order) orders
+accept_all (Ok p) (edit ∷ edits) = accept_all (accept p edit) edits

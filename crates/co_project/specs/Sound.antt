@@ -1,46 +1,46 @@
 -- What every project keeps to, whatever edits made it (this profile's own).
-use Rattle.std.specs.Prelude.{◌≡◌, ◌≤◌, ◌==◌, ℕ, true, false, List, length, All, is_some}
-use Rattle.std.specs.Ordering.{nat_cmp}
-use Rattle.std.specs.Map.{keys_of}
-use Rattle.std.specs.List.Sorted.{IsStrictlySortedBy}
+use Rattle.std.specs.Prelude.{◌≡◌, ◌≤◌, ◌==◌, ℕ, true, false, IfSome}
+use Rattle.std.specs.declared.cmp.Ordering.{Ordering}
+use Rattle.std.specs.FinMap.{FinMap, contains_key, get, len}
 use Rattle.co_scenario.specs.declared.timed_event.TimedEvent.{TimedEvent}
-use Rattle.co_commands.specs.Words.{is_name, is_node_number, is_bit_rate, is_time, is_event_number}
-use Rattle.co_commands.specs.Orders.{IsEds, IsManager, IsSetting, IsEvent}
+use Rattle.co_edits.specs.Forms.{is_name, is_node_number, is_bit_rate, is_time, is_event_number}
+use Rattle.co_edits.specs.Eds.{IsEds}
+use Rattle.co_edits.specs.Edits.{IsManager, IsSetting, IsEvent}
+use Rattle.co_params.specs.Params.{Texts as Params}
 use Rattle.co_project.specs.declared.node.Node.{Node}
-use Rattle.co_dict.specs.Places.{place_cmp}
-use Rattle.co_project.specs.Tables.{name_cmp, text_at, name_taken, is_of_known}
+use Rattle.co_project.specs.Tables.{Texts, name_taken, is_of_known}
 use Rattle.co_project.specs.Project.{Content}
 
--- at most 64 texts by name, each of an EDS
-unfoldable pub AreTexts : List (List ℕ × List ℕ) → Type 0
-AreTexts texts =
-    IsStrictlySortedBy name_cmp (keys_of texts) × (length texts ≤ 64) × All (λ e. IsEds e.0 e.1) texts
+-- what holds of each key and its value in a table
+abbrev pub Each : {K X : Type 0} {R : K → K → Ordering} → (K → X → Type 0) → FinMap R X → Type 0
+Each {K} P table = (key : K) → IfSome (get table key) (P key)
 
--- at most 4,096 parameters by entry
-unfoldable pub AreParams : List ((ℕ × ℕ) × List ℕ) → Type 0
-AreParams params =
-    IsStrictlySortedBy place_cmp (keys_of params) × (length params ≤ 4096) × All (λ e. IsSetting e.0.0 e.0.1 e.1) params
+-- at most 64 texts, each of an EDS
+unfoldable pub AreTexts : Texts → Type 0
+AreTexts texts = (len texts ≤ 64) × Each IsEds texts
+
+-- at most 4,096 parameters
+unfoldable pub AreParams : Params → Type 0
+AreParams params = (len params ≤ 4096) × Each (λ place text. IsSetting place.0 place.1 text) params
 
 -- a node of the project: its number isn't the manager's, its name no other node's, its EDS is there
-unfoldable pub IsNodeOf : Content → ℕ × Node → Type 0
-IsNodeOf p e =
-    (is_node_number e.0 ≡ true) × ((e.0 == p.manager.id) ≡ false)
-    × (is_name e.1.name ≡ true) × (name_taken p.nodes e.0 e.1.name ≡ false)
-    × (is_name e.1.eds ≡ true) × (is_some (text_at p.texts e.1.eds) ≡ true)
-    × AreParams e.1.params
+unfoldable pub IsNodeOf : Content → ℕ → Node → Type 0
+IsNodeOf p id node =
+    (is_node_number id ≡ true) × ((id == p.manager.id) ≡ false)
+    × (is_name node.name ≡ true) × (name_taken p.nodes id node.name ≡ false)
+    × (is_name node.eds ≡ true) × (contains_key p.texts node.eds ≡ true)
+    × AreParams node.params
 
 -- an event of the project: its node is there
-unfoldable pub IsEventOf : Content → ℕ × TimedEvent → Type 0
-IsEventOf p e =
-    (is_event_number e.0 ≡ true) × (is_time e.1.time ≡ true) × IsEvent e.1.event × (is_of_known p.nodes e.1.event ≡ true)
+unfoldable pub IsEventOf : Content → ℕ → TimedEvent → Type 0
+IsEventOf p number e =
+    (is_event_number number ≡ true) × (is_time e.time ≡ true) × IsEvent e.event × (is_of_known p.nodes e.event ≡ true)
 
--- EVERY PROJECT: its settings, texts, nodes and events, the tables in the order of their keys
+-- EVERY PROJECT: its settings, texts, nodes and events
 pub record IsSound (p : Content) : Type 0 where
   pub bitrate : is_bit_rate p.bitrate ≡ true
   pub horizon : is_time p.horizon ≡ true
   pub manager : IsManager p.manager
   pub texts : AreTexts p.texts
-  pub nodes_by_number : IsStrictlySortedBy nat_cmp (keys_of p.nodes)
-  pub nodes : All (IsNodeOf p) p.nodes
-  pub events_by_number : IsStrictlySortedBy nat_cmp (keys_of p.events)
-  pub events : All (IsEventOf p) p.events
+  pub nodes : Each (IsNodeOf p) p.nodes
+  pub events : Each (IsEventOf p) p.events

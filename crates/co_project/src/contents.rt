@@ -1,18 +1,16 @@
 //! What a project holds, and what edits do to it.
-ghost use Rattle.std.specs.Prelude.{◌≡◌};
-ghost use Rattle.co_commands.specs.Accepts.{Accepts};
-ghost use Rattle.co_commands.specs.declared.order.Order.TheVariants as order;
-ghost use Rattle.co_project.specs.Project.{accept, first};
+ghost use Rattle.std.specs.Prelude.{◌≡◌, IsErrOf, IsTrue};
+ghost use Rattle.co_edits.specs.Accepts.{Accepts};
+ghost use Rattle.co_edits.specs.declared.edit.Edit.TheVariants as edit;
+ghost use Rattle.co_project.specs.Project.{accept, adds, first};
 
-use crate::tables::{
-    Nodes, Texts, drop_node, drop_param, drop_text, find_node, has_no_room, has_text, is_named,
-    is_of_known, is_used, name_taken, put_node, put_param, put_text,
-};
+use crate::node_events::{is_named, is_of_known};
+use crate::nodes::Nodes;
+use crate::texts::Texts;
 use co_base::Octets;
-use co_commands::{EditFault, Manager, Order};
+use co_commands::{Edit, EditFault, ManagerSettings};
 use co_scenario::{Script, TimedEvent};
 use std::alloc::Global;
-use std::collections::BTreeMap;
 use std::marker::Model;
 
 /// What a project holds.
@@ -21,24 +19,28 @@ pub(crate) struct Contents {
     pub alloc: Global,
     pub bitrate: u16,
     pub horizon: u32,
-    pub manager: Manager,
+    pub manager: ManagerSettings,
     pub texts: Texts,
     pub nodes: Nodes,
     pub events: Script,
 }
 
 impl Model for Contents {
-    ghost use Rattle.co_project.specs.Project.{Content};
-    ghost use Rattle.co_project.specs.Tables.{texts_of};
+    ghost use Rattle.co_edits.specs.contracts.manager_settings.ManagerSettings as settings;
+    ghost use Rattle.co_scenario.specs.contracts.timed_event.TimedEvent as timed;
+    ghost use Rattle.co_project.specs.contracts.node.Node as node;
+    ghost use Rattle.co_project.specs.Project.{Content, content_code};
 
     ghost Value = { Content };
+
+    ghost coded = { content_code settings.the_row.coded node.the_row.coded timed.the_row.coded };
 
     ghost view = { λ c. record {
       bitrate = c.bitrate;
       horizon = c.horizon;
       manager = c.manager;
-      texts = texts_of c.texts.entries;
-      nodes = c.nodes.entries;
+      texts = c.texts;
+      nodes = c.nodes;
       events = c.events;
     } };
 }
@@ -51,55 +53,57 @@ impl Contents {
             alloc,
             bitrate: 1000,
             horizon: 1_000_000,
-            manager: Manager {
+            manager: ManagerSettings {
                 id: 127,
                 sync_us: 0,
                 heartbeat_ms: 0,
                 timeout_ms: 500,
             },
-            texts: BTreeMap::new(alloc),
-            nodes: BTreeMap::new(alloc),
+            texts: Texts::new(alloc),
+            nodes: Nodes::new(alloc),
             events: Script::new(alloc),
         }
     }
 
     /// Does an edit, or refuses it with the first fault that applies and changes nothing.
-    #[tactic(auto, unfolding(crate::specs::Project::accept))]
-    pub fn accept(&mut self, order: Order) -> Result<(), EditFault>
-        ensures { Accepts self.old self.new result (accept self.old order) }
+    #[tactic(auto, unfolding(crate::specs::Project::accept, crate::specs::Project::adds))]
+    pub fn accept(&mut self, edit: Edit) -> Result<(), EditFault>
+        ensures accepts { Accepts self.old self.new result (accept self.old edit) }
+        ensures memory { IsErrOf result EditFault.Memory → IsTrue (adds self.old edit) }
     {
-        match order {
-            Order::Bitrate(rate) => {
+        match edit {
+            Edit::Bitrate(rate) => {
                 self.bitrate = rate;
                 Ok(())
             }
-            Order::Horizon(time) => {
+            Edit::Horizon(time) => {
                 self.horizon = time;
                 Ok(())
             }
-            Order::Manager(manager) => self.manage(manager),
-            Order::Eds { name, text } => self.put_text(name, text),
-            Order::DropEds { name } => self.drop_text(name.as_slice()),
-            Order::Node { id, name, eds } => self.put_node(id, name, eds),
-            Order::DropNode { id } => self.drop_node(id),
-            Order::Param {
+            Edit::Manager(manager) => self.manage(manager),
+            Edit::Eds { name, text } => self.put_text(name, text),
+            Edit::DropEds { name } => self.drop_text(name.as_slice()),
+            Edit::Node { id, name, eds } => self.put_node(id, name, eds),
+            Edit::DropNode { id } => self.drop_node(id),
+            Edit::Param {
                 id,
                 index,
                 sub,
                 text,
-            } => put_param(&mut self.nodes, id, index, sub, text),
-            Order::Unparam { id, index, sub } => drop_param(&mut self.nodes, id, index, sub),
-            Order::Event { number, event } => self.put_event(number, event),
-            Order::DropEvent { number } => self.drop_event(number),
+            } => self.nodes.put_param(id, index, sub, text),
+            Edit::Unparam { id, index, sub } => self.nodes.drop_param(id, index, sub),
+            Edit::Event { number, event } => self.put_event(number, event),
+            Edit::DropEvent { number } => self.drop_event(number),
         }
     }
 
     /// Gives the manager other numbers.
-    #[tactic(auto, unfolding(crate::specs::Project::accept))]
-    fn manage(&mut self, manager: Manager) -> Result<(), EditFault>
-        ensures { Accepts self.old self.new result (accept self.old (order.Manager manager)) }
+    #[tactic(auto, unfolding(crate::specs::Project::accept, crate::specs::Project::adds))]
+    fn manage(&mut self, manager: ManagerSettings) -> Result<(), EditFault>
+        ensures accepts { Accepts self.old self.new result (accept self.old (edit.Manager manager)) }
+        ensures memory { IsErrOf result EditFault.Memory → IsTrue (adds self.old (edit.Manager manager)) }
     {
-        if find_node(&self.nodes, manager.id).is_some() {
+        if self.nodes.contains(manager.id) {
             return Err(EditFault::Taken);
         }
         self.manager = manager;
@@ -107,66 +111,71 @@ impl Contents {
     }
 
     /// Gives a name a text, in place of the one that it has.
-    #[tactic(auto, unfolding(crate::specs::Project::accept))]
+    #[tactic(auto, unfolding(crate::specs::Project::accept, crate::specs::Project::adds))]
     fn put_text(&mut self, name: Octets, text: Octets) -> Result<(), EditFault>
-        ensures { Accepts self.old self.new result (accept self.old (order.Eds name text)) }
+        ensures accepts { Accepts self.old self.new result (accept self.old (edit.Eds name text)) }
+        ensures memory { IsErrOf result EditFault.Memory → IsTrue (adds self.old (edit.Eds name text)) }
     {
-        if has_no_room(&self.texts, name.as_slice()) {
+        if self.texts.has_no_room(name.as_slice()) {
             return Err(EditFault::Limit);
         }
-        put_text(&mut self.texts, name, text)?;
+        self.texts.put(name, text)?;
         Ok(())
     }
 
     /// Takes a text away that no node uses.
-    #[tactic(auto, unfolding(crate::specs::Project::accept))]
+    #[tactic(auto, unfolding(crate::specs::Project::accept, crate::specs::Project::adds))]
     fn drop_text(&mut self, name: &[u8]) -> Result<(), EditFault>
-        ensures { Accepts self.old self.new result (accept self.old (order.DropEds name.now)) }
+        ensures accepts { Accepts self.old self.new result (accept self.old (edit.DropEds name.now)) }
+        ensures memory { IsErrOf result EditFault.Memory → IsTrue (adds self.old (edit.DropEds name.now)) }
     {
-        if !has_text(&self.texts, name) {
+        if !self.texts.contains(name) {
             return Err(EditFault::Unknown);
         }
-        if is_used(&self.nodes, name) {
+        if self.nodes.use_text(name) {
             return Err(EditFault::InUse);
         }
-        drop_text(&mut self.texts, name);
+        self.texts.remove(name);
         Ok(())
     }
 
-    /// Gives a number a node. A known one keeps its parameters.
-    #[tactic(auto, unfolding(crate::specs::Project::accept))]
+    /// Gives a number a node. A known one keeps all else that it has.
+    #[tactic(auto, unfolding(crate::specs::Project::accept, crate::specs::Project::adds))]
     fn put_node(&mut self, id: u8, name: Octets, eds: Octets) -> Result<(), EditFault>
-        ensures { Accepts self.old self.new result (accept self.old (order.Node id name eds)) }
+        ensures accepts { Accepts self.old self.new result (accept self.old (edit.Node id name eds)) }
+        ensures memory { IsErrOf result EditFault.Memory → IsTrue (adds self.old (edit.Node id name eds)) }
     {
-        if !has_text(&self.texts, eds.as_slice()) {
+        if !self.texts.contains(eds.as_slice()) {
             return Err(EditFault::Unknown);
         }
-        if id == self.manager.id || name_taken(&self.nodes, id, name.as_slice()) {
+        if id == self.manager.id || self.nodes.name_taken(id, name.as_slice()) {
             return Err(EditFault::Taken);
         }
-        put_node(&mut self.nodes, self.alloc, id, name, eds)?;
+        self.nodes.put(self.alloc, id, name, eds)?;
         Ok(())
     }
 
     /// Takes a node away that no event is of, and its parameters with it.
-    #[tactic(auto, unfolding(crate::specs::Project::accept))]
+    #[tactic(auto, unfolding(crate::specs::Project::accept, crate::specs::Project::adds))]
     fn drop_node(&mut self, id: u8) -> Result<(), EditFault>
-        ensures { Accepts self.old self.new result (accept self.old (order.DropNode id)) }
+        ensures accepts { Accepts self.old self.new result (accept self.old (edit.DropNode id)) }
+        ensures memory { IsErrOf result EditFault.Memory → IsTrue (adds self.old (edit.DropNode id)) }
     {
-        if find_node(&self.nodes, id).is_none() {
+        if !self.nodes.contains(id) {
             return Err(EditFault::Unknown);
         }
         if is_named(&self.events, id) {
             return Err(EditFault::InUse);
         }
-        drop_node(&mut self.nodes, id);
+        self.nodes.remove(id);
         Ok(())
     }
 
     /// Gives a number an event, in place of the one that it has.
-    #[tactic(auto, unfolding(crate::specs::Project::accept))]
+    #[tactic(auto, unfolding(crate::specs::Project::accept, crate::specs::Project::adds))]
     fn put_event(&mut self, number: u16, event: TimedEvent) -> Result<(), EditFault>
-        ensures { Accepts self.old self.new result (accept self.old (order.Event number event)) }
+        ensures accepts { Accepts self.old self.new result (accept self.old (edit.Event number event)) }
+        ensures memory { IsErrOf result EditFault.Memory → IsTrue (adds self.old (edit.Event number event)) }
     {
         if !is_of_known(&self.nodes, &event.event) {
             return Err(EditFault::Unknown);
@@ -176,9 +185,10 @@ impl Contents {
     }
 
     /// Takes an event away.
-    #[tactic(auto, unfolding(crate::specs::Project::accept))]
+    #[tactic(auto, unfolding(crate::specs::Project::accept, crate::specs::Project::adds))]
     fn drop_event(&mut self, number: u16) -> Result<(), EditFault>
-        ensures { Accepts self.old self.new result (accept self.old (order.DropEvent number)) }
+        ensures accepts { Accepts self.old self.new result (accept self.old (edit.DropEvent number)) }
+        ensures memory { IsErrOf result EditFault.Memory → IsTrue (adds self.old (edit.DropEvent number)) }
     {
         if self.events.get(number).is_none() {
             return Err(EditFault::Unknown);

@@ -3,16 +3,15 @@
 #![tactic(auto)]
 
 mod contents;
-mod event_lines;
 pub mod laws;
-mod lines;
 mod node;
-mod printing;
+mod node_events;
+mod nodes;
 mod project;
 mod script;
-mod tables;
+mod texts;
 
-pub use co_commands::{Command, EditFault, Manager, Request, refusal};
-pub use node::Node;
+pub use co_commands::{Command, EditFault, ManagerSettings, Request, refusal};
 pub use co_params::Params;
+pub use node::Node;
 pub use project::Project;

@@ -1,7 +1,7 @@
 //! A node of the network.
 
-use co_params::Params;
 use co_base::Octets;
+use co_params::Params;
 
 /// A node of the network, which its number names.
 #[derive(Drop)]

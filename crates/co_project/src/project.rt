@@ -1,20 +1,19 @@
 //! The project.
-ghost use Rattle.std.specs.Prelude.{◌≡◌, IfOk, IfSome, IsTrue, Ok, is_some, option_copied};
+ghost use Rattle.std.specs.Prelude.{◌≡◌, IfOk, IfSome, IsErrOf, IsTrue, Ok, option_copied};
+ghost use Rattle.std.specs.FinMap as map;
 ghost use Rattle.eds_device.specs.Faults.{device_of};
 ghost use Rattle.ini_text.specs.Content.{content_of};
-ghost use Rattle.co_commands.specs.Accepts.{Accepts};
+ghost use Rattle.co_edits.specs.Accepts.{Accepts};
 ghost use Rattle.co_project.specs.Tables.{texts_of, text_at, node_at};
-ghost use Rattle.co_project.specs.Project.{accept, first};
+ghost use Rattle.co_project.specs.Project.{accept, adds, first};
 ghost use Rattle.co_project.specs.Script.{script};
 ghost use Rattle.co_project.specs.Sound.{IsSound};
 
 use crate::contents::Contents;
 use crate::node::Node;
 use crate::script::script_text;
-use crate::tables::{find_node, find_text};
 use co_base::Octets;
-use co_commands::laws::eds_are_devices;
-use co_commands::{Command, EditFault, Manager};
+use co_commands::{Command, EditFault, ManagerSettings};
 use co_scenario::Script;
 use std::alloc::{AllocError, Global};
 use std::collections::btree_map::Iter;
@@ -28,10 +27,13 @@ pub struct Project {
 }
 
 impl Model for Project {
+    ghost use Rattle.co_project.specs.contracts.contents.Contents as held;
     ghost use Rattle.co_project.specs.Project.{Content};
     ghost use Rattle.co_project.specs.Sound.{IsSound};
 
     ghost Value = { Content };
+
+    ghost coded = { held.the_row.coded };
 
     ghost view = { λ p. p.contents };
 
@@ -54,14 +56,16 @@ impl Project {
     /// Unknown: an EDS, a node, a parameter or an event that is named isn't there. Taken: the
     /// number is the manager's or a node's, or the name another node's. InUse: a node still uses
     /// the EDS, or an event is of the node. Limit: a 65th text, or a 4,097th parameter of a node.
-    /// Memory can come in place of each, and changes nothing either.
+    /// Memory can come in place of each where the edit gives a text, a node, a parameter or an event
+    /// where there is none, and changes nothing either.
     ///
     /// `drop-eds` and `node` take time by the number of nodes, `drop-node` by that of events and of
     /// the node's parameters, every other edit by the logarithm of its table.
     pub fn accept(&mut self, command: Command) -> Result<(), EditFault>
-        ensures { Accepts self.old self.new result (accept self.old command) }
+        ensures accepts { Accepts self.old self.new result (accept self.old command) }
+        ensures memory { IsErrOf result EditFault.Memory → IsTrue (adds self.old command) }
     {
-        self.contents.accept(command.into_order())
+        self.contents.accept(command.into_edit())
     }
 
     /// The bit rate in kbit/s.
@@ -79,7 +83,7 @@ impl Project {
     }
 
     /// The manager.
-    pub fn manager(&self) -> Manager
+    pub fn manager(&self) -> ManagerSettings
         ensures { result ≡ self.now.manager }
     {
         self.contents.manager
@@ -91,13 +95,12 @@ impl Project {
         ensures text { option_copied result ≡ text_at self.now.texts name.now }
         ensures device { IfSome result (λ text. device_of text.now ≡ Ok (content_of text.now)) }
     {
-        eds_are_devices();
-        find_text(&self.contents.texts, name)
+        self.contents.texts.get(name)
     }
 
     /// The texts of EDS by name.
     pub fn texts(&self) -> Iter<'_, Vec<u8>, Octets>
-        ensures { texts_of result ≡ self.now.texts }
+        ensures { texts_of result ≡ map.entries self.now.texts }
     {
         self.contents.texts.iter()
     }
@@ -105,14 +108,14 @@ impl Project {
     /// The node of a number. Its EDS is there.
     pub fn node(&self, id: u8) -> Option<&Node>
         ensures node { option_copied result ≡ node_at self.now.nodes id }
-        ensures eds { IfSome result (λ node. IsTrue (is_some (text_at self.now.texts node.now.eds))) }
+        ensures eds { IfSome result (λ node. IsTrue (map.contains_key self.now.texts node.now.eds)) }
     {
-        find_node(&self.contents.nodes, id)
+        self.contents.nodes.get(id)
     }
 
     /// The nodes by number.
     pub fn nodes(&self) -> Iter<'_, u8, Node>
-        ensures { result ≡ self.now.nodes }
+        ensures { result ≡ map.entries self.now.nodes }
     {
         self.contents.nodes.iter()
     }
@@ -122,6 +125,13 @@ impl Project {
         ensures { result.now ≡ self.now.events }
     {
         &self.contents.events
+    }
+
+    /// Says to the callers' proofs what every project keeps to, and does nothing.
+    pub fn keeps_to_rules(&self)
+        ensures { IsSound self.now }
+    {
+        let _ = &self.contents;
     }
 
     /// The commands that make this project of the first one, as text: its settings, the EDS by name

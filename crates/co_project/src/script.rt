@@ -1,26 +1,25 @@
 //! The script of a project.
 ghost use Rattle.std.specs.Prelude.{◌≡◌, ◌++◌, IfOk, OnOk, map};
+ghost use Rattle.std.specs.FinMap.{entries};
 ghost use Rattle.std.specs.List.{flat_map};
 ghost use Rattle.co_commands.specs.Lines.{text_of};
-ghost use Rattle.co_project.specs.Script.{event_orders, node_order, param_order, param_orders, script, text_orders};
-ghost use Rattle.co_project.specs.Tables.{texts_of};
+ghost use Rattle.co_project.specs.Script.{event_edit, node_edit, param_edit, param_edits, script, text_edit};
 
 use crate::contents::Contents;
-use crate::event_lines::write_event;
-use crate::lines::{
-    write_bitrate, write_eds, write_horizon, write_manager, write_node, write_param,
+use crate::nodes::Nodes;
+use crate::texts::Texts;
+use co_commands::printing::{
+    write_bitrate, write_eds, write_event, write_horizon, write_manager, write_node, write_param,
 };
 use co_params::Params;
-use crate::tables::{Nodes, Texts};
 use co_scenario::Script;
 use std::alloc::{AllocError, Global};
 
 /// Writes the commands that make the texts, by name.
 fn write_texts(out: &mut Vec<u8>, alloc: Global, texts: &Texts) -> Result<(), AllocError>
-    ensures { OnOk result (out.new.items ≡ out.old.items
-        ++ flat_map text_of (text_orders (texts_of texts.now.entries))) }
+    ensures { OnOk result (out.new.items ≡ out.old.items ++ flat_map text_of (map text_edit (entries texts.now))) }
 {
-    for (name, text) in texts {
+    for (name, text) in texts.iter() {
         write_eds(out, alloc, name, text.as_slice())?;
     }
     Ok(())
@@ -28,9 +27,9 @@ fn write_texts(out: &mut Vec<u8>, alloc: Global, texts: &Texts) -> Result<(), Al
 
 /// Writes the commands that make the nodes without parameters, by number.
 fn write_nodes(out: &mut Vec<u8>, alloc: Global, nodes: &Nodes) -> Result<(), AllocError>
-    ensures { OnOk result (out.new.items ≡ out.old.items ++ flat_map text_of (map node_order nodes.now.entries)) }
+    ensures { OnOk result (out.new.items ≡ out.old.items ++ flat_map text_of (map node_edit (entries nodes.now))) }
 {
-    for (id, node) in nodes {
+    for (id, node) in nodes.iter() {
         write_node(out, alloc, *id, node.name.as_slice(), node.eds.as_slice())?;
     }
     Ok(())
@@ -38,7 +37,7 @@ fn write_nodes(out: &mut Vec<u8>, alloc: Global, nodes: &Nodes) -> Result<(), Al
 
 /// Writes the commands that make the parameters of a node, by entry.
 fn write_params(out: &mut Vec<u8>, alloc: Global, id: u8, params: &Params) -> Result<(), AllocError>
-    ensures { OnOk result (out.new.items ≡ out.old.items ++ flat_map text_of (map (param_order id) params.now)) }
+    ensures { OnOk result (out.new.items ≡ out.old.items ++ flat_map text_of (map (param_edit id) (entries params.now))) }
 {
     for ((index, sub), text) in params.iter() {
         write_param(out, alloc, id, *index, *sub, text.as_slice())?;
@@ -49,9 +48,9 @@ fn write_params(out: &mut Vec<u8>, alloc: Global, id: u8, params: &Params) -> Re
 /// Writes the commands that make the parameters of all nodes, by number and entry.
 fn write_all_params(out: &mut Vec<u8>, alloc: Global, nodes: &Nodes) -> Result<(), AllocError>
     ensures { OnOk result (out.new.items ≡ out.old.items
-        ++ flat_map text_of (flat_map param_orders nodes.now.entries)) }
+        ++ flat_map text_of (flat_map param_edits (entries nodes.now))) }
 {
-    for (id, node) in nodes {
+    for (id, node) in nodes.iter() {
         write_params(out, alloc, *id, &node.params)?;
     }
     Ok(())
@@ -59,7 +58,7 @@ fn write_all_params(out: &mut Vec<u8>, alloc: Global, nodes: &Nodes) -> Result<(
 
 /// Writes the commands that make the events, by number.
 fn write_events(out: &mut Vec<u8>, alloc: Global, events: &Script) -> Result<(), AllocError>
-    ensures { OnOk result (out.new.items ≡ out.old.items ++ flat_map text_of (event_orders events.now)) }
+    ensures { OnOk result (out.new.items ≡ out.old.items ++ flat_map text_of (map event_edit (entries events.now))) }
 {
     for (number, event) in events.iter() {
         write_event(out, alloc, *number, event)?;

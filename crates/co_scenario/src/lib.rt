@@ -2,6 +2,7 @@
 #![tactic(auto)]
 
 mod event;
+pub mod laws;
 mod nmt_command;
 mod script;
 mod timed_event;

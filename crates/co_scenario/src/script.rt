@@ -1,9 +1,6 @@
 //! The events of a scenario.
-ghost use Rattle.std.specs.Prelude.{◌≡◌, [], ◌==◌, length, OnOk, OnErr, is_some, option_copied};
-ghost use Rattle.std.specs.Ordering.{nat_cmp};
-ghost use Rattle.std.specs.Map.{remove_entry};
-ghost use Rattle.std.specs.BTreeMap.{insert_entry, is_at};
-ghost use Rattle.co_scenario.specs.Scenario.{event_at};
+ghost use Rattle.std.specs.Prelude.{◌≡◌, ◌==◌, None, OnOk, OnErr, option_copied};
+ghost use Rattle.std.specs.FinMap as map;
 
 use crate::timed_event::TimedEvent;
 use std::alloc::{AllocError, Global};
@@ -11,25 +8,31 @@ use std::collections::BTreeMap;
 use std::collections::btree_map::Iter;
 use std::marker::Model;
 
-/// The events of a scenario, seen as a list by number.
+/// The events of a scenario by number.
+///
+/// A call takes time by the logarithm of the number of events.
 #[derive(Drop)]
 pub struct Script {
     events: BTreeMap<u16, TimedEvent>,
 }
 
 impl Model for Script {
-    ghost use Rattle.std.specs.Prelude.{ℕ, List};
-    ghost use Rattle.co_scenario.specs.declared.timed_event.TimedEvent.{TimedEvent};
+    ghost use Rattle.std.specs.Coded.{coded_ℕ};
+    ghost use Rattle.std.specs.FinMap as map;
+    ghost use Rattle.co_scenario.specs.contracts.timed_event.TimedEvent as timed;
+    ghost use Rattle.co_scenario.specs.Scenario.{Events};
 
-    ghost Value = { List (ℕ × TimedEvent) };
+    ghost Value = { Events };
 
-    ghost view = { λ script. script.events.entries };
+    ghost coded = { map.code coded_ℕ timed.the_row.coded };
+
+    ghost view = { λ script. map.from_entries script.events.entries };
 }
 
 impl Script {
     /// No events.
     pub fn new(alloc: Global) -> Self
-        ensures { result ≡ [] }
+        ensures { result ≡ map.empty }
     {
         Script {
             events: BTreeMap::new(alloc),
@@ -38,36 +41,38 @@ impl Script {
 
     /// The number of events.
     pub fn len(&self) -> usize
-        ensures { result ≡ length self.now }
+        ensures { result ≡ map.len self.now }
     {
         self.events.len()
     }
 
     /// Whether there is no event.
     pub fn is_empty(&self) -> bool
-        ensures { result ≡ (length self.now == 0) }
+        ensures { result ≡ (map.len self.now == 0) }
     {
-        self.events.is_empty()
+        self.len() == 0
     }
 
-    /// The event of a number.
+    /// The event of a number, if it has one.
     pub fn get(&self, number: u16) -> Option<&TimedEvent>
-        ensures { option_copied result ≡ event_at self.now number }
+        ensures { option_copied result ≡ map.get self.now number }
     {
         self.events.get(&number)
     }
 
     /// The events by number.
     pub fn iter(&self) -> Iter<'_, u16, TimedEvent>
-        ensures { result ≡ self.now }
+        ensures { result ≡ map.entries self.now }
     {
         self.events.iter()
     }
 
-    /// Gives a number an event, in place of the one that it has. Want of memory changes nothing.
+    /// Gives a number an event, in place of any that it has. Want of memory changes nothing, and can
+    /// come at a number without an event alone.
     pub fn put(&mut self, number: u16, event: TimedEvent) -> Result<(), AllocError>
-        ensures ok { OnOk result (self.new ≡ insert_entry nat_cmp self.old number event) }
+        ensures ok { OnOk result (self.new ≡ map.insert self.old number event) }
         ensures err { OnErr result (self.new ≡ self.old) }
+        ensures absent { OnErr result (map.get self.old number ≡ None) }
     {
         self.events.insert(number, event)?;
         Ok(())
@@ -75,7 +80,7 @@ impl Script {
 
     /// Takes the event of a number away, if it has one.
     pub fn remove(&mut self, number: u16)
-        ensures { self.new ≡ remove_entry (is_at (nat_cmp number)) self.old }
+        ensures { self.new ≡ map.remove self.old number }
     {
         self.events.remove(&number);
     }

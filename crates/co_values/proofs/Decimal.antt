@@ -1,23 +1,16 @@
 -- What the decimal digits of a number spell.
-use Rattle.std.proofs.Common.{◌≡◌, ℕ, zero, suc, ◌^◌, ◌<◌, ◌≤◌, Bool, true, false, List, [], ◌∷◌, get_or, Option, Some, None, refl, ap, ◌∙◌, lit<, lit≤, arith, pos, negsuc}
+use Rattle.std.proofs.Common.{◌≡◌, ℕ, zero, suc, ◌^◌, ◌<◌, ◌≤◌, Bool, true, false, List, [], ◌∷◌, get_or, Option, Some, None, refl, ap, lit<, lit≤, arith, pos, negsuc}
 use Rattle.std.specs.Prelude.{◌&&◌, ◌==◌, if◌then◌else◌, option_map, neg_ℤ, decimal}
-use Rattle.std.specs.Char.{digit_value, is_digit}
+use Rattle.std.specs.Char.{digit_value}
 use Rattle.std.specs.Fmt.{signed_decimal}
-use Rattle.std.specs.List.{list_all}
-use Rattle.std.specs.Str.Parse.{AllDigits, IsNumeral, digits_value}
+use Rattle.std.specs.Str.Parse.{AllDigits, IsNumeral}
 use Rattle.std.proofs.lemmas.Bool.{lt-ltb, ne_eqb}
 use Rattle.std.proofs.lemmas.Fmt.{decimal_is_IsNumeral, decimal_digit, first_decimal}
-use Rattle.co_values.specs.Number.{digits_number, hexadecimal, octal, unsigned_number, signed_number, number}
+use Rattle.co_text.specs.Digits.{digits_number}
+use Rattle.co_text.proofs.DigitLemmas.{decimal_again}
+use Rattle.co_values.specs.Number.{hexadecimal, octal, unsigned_number, signed_number, number}
 
 -- ---- decimal digits
-
-all_digits : (base : ℕ) (cs : List ℕ) → AllDigits base cs → list_all (λ d. is_digit d base) cs ≡ true
-all_digits base [] h = refl
-all_digits base (c ∷ cs) h = rw (lt-ltb (digit_value c) base h.0) (all_digits base cs h.1)
-
-pub digits_number-numeral : (base : ℕ) (cs : List ℕ) → IsNumeral base cs → digits_number base cs ≡ Some (digits_value base cs)
-digits_number-numeral base [] h = absurd (omega (arith, h.0))
-digits_number-numeral base (c ∷ cs) h = ap (λ (b : Bool). if b then Some (digits_value base (c ∷ cs)) else None) (all_digits base (c ∷ cs) h.1)
 
 -- a byte that is no decimal digit
 other : (c byte : ℕ) → digit_value c < 10 → 10 ≤ digit_value byte → (c == byte) ≡ false
@@ -44,8 +37,7 @@ unsigned_number-decimal (suc n) h =
     let is = decimal_is_IsNumeral (suc n) h in
     let hex = hexadecimal-numeral (decimal (suc n)) is.0.1 in
     let oct = octal-numeral (decimal (suc n)) (first_decimal (suc n) (omega arith) h) in
-    let dec : digits_number 10 (decimal (suc n)) ≡ Some (suc n) = digits_number-numeral 10 (decimal (suc n)) is.0 ∙ ap Some is.1 in
-    rw (hex, oct, dec) refl
+    rw (hex, oct, decimal_again (suc n) (omega arith)) refl
 
 -- digits have no sign in front
 signed_number-numeral : (cs : List ℕ) → IsNumeral 10 cs → signed_number cs ≡ option_map pos (unsigned_number cs)

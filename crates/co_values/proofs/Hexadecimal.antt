@@ -1,36 +1,19 @@
 -- What pairs of upper-case hexadecimal digits spell.
 use Rattle.std.proofs.Common.{◌≡◌, ℕ, suc, ◌+◌, ◌-◌, ◌*◌, ◌/◌, ◌%◌, ◌^◌, ◌<◌, ◌≤◌, true, List, [], ◌∷◌, ◌++◌, length, reverse, Some, refl, sym, ap, ◌∙◌, inl, inr, lit<, arith, pos}
 use Rattle.std.specs.Prelude.{codes}
-use Rattle.std.specs.Char.{digit_value, is_digit}
+use Rattle.std.specs.Char.{digit_value}
 use Rattle.std.specs.Fmt.{digit_glyph}
 use Rattle.std.specs.Str.Parse.{digits_value, digits_value_after, AllDigits, IsNumeral}
-use Rattle.std.proofs.lemmas.Bool.{cases_lt, lt-ltb, lt-leb}
-use Rattle.std.proofs.lemmas.Bool.Decides.{nat_tests}
+use Rattle.std.proofs.lemmas.Bool.{cases_lt, lt-ltb}
 use Rattle.std.proofs.lemmas.List.{reverse-append, get_or-reverse, length-reverse, get_or_past}
 use Rattle.std.proofs.Math.Nat.{pow-le-pow_right}
 use Rattle.byteorder.specs.Endian.{little_number}
 use Rattle.byteorder.specs.Numbers.{little_from-cons, little_from-lt}
 use Rattle.co_base.specs.Bytes.{AreBytes}
-use Rattle.co_values.specs.Number.{digits_number, number}
+use Rattle.co_text.specs.Digits.{digits_number}
+use Rattle.co_text.proofs.DigitLemmas.{digit_value-glyph, digit_value-glyph-lt, is_digit-glyph, digits_number-numeral}
+use Rattle.co_values.specs.Number.{number}
 use Rattle.co_values.specs.Values.{pairs_of, pair_number, paired}
-use Rattle.co_values.proofs.Decimal.{digits_number-numeral}
-
--- ---- one digit
-
-pub digit_value-glyph : (d : ℕ) → d < 16 → digit_value (digit_glyph true d) ≡ d
-digit_value-glyph d h = elim (cases_lt d 10) [
-  | inl low ↦ rw (lt-ltb d 10 low) (small d low)
-  | inr high ↦ rw (lt-leb (suc d) 10 (omega arith)) (large d high h)
-]
-  where
-    small : (d : ℕ) → d < 10 → digit_value (48 + d) ≡ d
-    small d low = grind (arith, nat_tests)
-
-    large : (d : ℕ) → 10 ≤ d → d < 16 → digit_value (55 + d) ≡ d
-    large d high h = grind (arith, nat_tests)
-
-pub is_digit-glyph : (d : ℕ) → d < 16 → is_digit (digit_glyph true d) 16 ≡ true
-is_digit-glyph d h = rw (digit_value-glyph d h) (lt-ltb d 16 h)
 
 -- the digits of a byte write it
 pair-of : (b : ℕ) → b < 256 → pair_number (digit_glyph true (b / 16)) (digit_glyph true (b % 16)) ≡ b
@@ -56,10 +39,7 @@ digits-pairs_of : (bytes : List ℕ) → AreBytes bytes → AllDigits 16 (pairs_
 digits-pairs_of [] h = tt
 digits-pairs_of (b ∷ bytes) h =
     let low : b < 256 = h 0 in
-    (below (b / 16) (omega arith), (below (b % 16) (omega arith), digits-pairs_of bytes (λ i. h (suc i))))
-  where
-    below : (d : ℕ) → d < 16 → digit_value (digit_glyph true d) < 16
-    below d h = rw (digit_value-glyph d h) h
+    (digit_value-glyph-lt (b / 16) (omega arith), (digit_value-glyph-lt (b % 16) (omega arith), digits-pairs_of bytes (λ i. h (suc i))))
 
 -- the digits of more bytes follow those of the first
 value-append : (n : ℕ) (xs ys : List ℕ) → digits_value_after 16 n (pairs_of (xs ++ ys)) ≡ digits_value_after 16 (digits_value_after 16 n (pairs_of xs)) (pairs_of ys)

@@ -1,4 +1,3 @@
-pub mod Capped
 pub mod Decimal
 pub mod Formulas
 pub mod Hexadecimal

@@ -4,11 +4,13 @@ use Rattle.std.specs.Prelude.{nat_lt, ◌==◌, ◌&&◌, ◌||◌, if◌then◌
 use Rattle.std.specs.Option.{option_or}
 use Rattle.std.proofs.lemmas.Bool.{lt-ltb, eqb-true, ne_eqb}
 use Rattle.byteorder.specs.Endian.{little_bytes}
+use Rattle.co_text.specs.Blanks.{without_first_blanks, without_last_blanks}
+use Rattle.co_text.specs.Digits.{digits_number}
 use Rattle.co_values.specs.declared.data_type.DataType.{DataType}
 use Rattle.co_values.specs.declared.form.Form.{Form}
 use Rattle.co_values.specs.declared.form.Form.TheVariants.{Signed}
 use Rattle.co_values.specs.declared.form.Width.{Width}
-use Rattle.co_values.specs.Number.{number, formula, in_range, hexadecimal, unsigned_number, signed_number, node_plus, node_sum, is_node_id, without_first_blanks, without_last_blanks, digits_number}
+use Rattle.co_values.specs.Number.{number, formula, in_range, hexadecimal, unsigned_number, signed_number, node_plus, node_sum, is_node_id}
 use Rattle.co_values.specs.Types.{form, octets}
 use Rattle.co_values.specs.Values.{value, value_in, signed_bits, signed_text_bits}
 use Rattle.co_values.proofs.Formulas.{formula-sum}

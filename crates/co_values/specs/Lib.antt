@@ -1,4 +1,3 @@
-pub mod Capped
 pub mod Number
 pub mod Types
 pub mod Values

@@ -1,17 +1,12 @@
 -- Numbers and formulas as the texts of an EDS or DCF spell them (CiA 306). The spellings that are taken are this profile's own choice.
-use Rattle.std.specs.Prelude.{ℕ, ◌+◌, ◌-◌, ◌^◌, ◌==◌, ℤ, pos, neg_ℤ, negsuc, Bool, ◌||◌, ◌&&◌, nat_lt, if◌then◌else◌, List, [], ◌∷◌, length, take, drop, map, Option, Some, None, option_map, option_and_then, position, codes, bytes_eq}
-use Rattle.std.specs.Char.{is_digit, to_ascii_lowercase}
-use Rattle.std.specs.List.{list_all, prefix_len, suffix_len}
+use Rattle.std.specs.Prelude.{ℕ, ◌+◌, ◌^◌, ◌==◌, ℤ, pos, neg_ℤ, negsuc, Bool, ◌||◌, ◌&&◌, nat_lt, if◌then◌else◌, List, [], ◌∷◌, take, drop, map, Option, Some, None, option_map, option_and_then, position, codes, bytes_eq}
+use Rattle.std.specs.Char.{to_ascii_lowercase}
 use Rattle.std.specs.Option.{option_or}
 use Rattle.std.specs.Str.{byte}
-use Rattle.std.specs.Str.Parse.{digits_value}
+use Rattle.co_text.specs.Blanks.{without_first_blanks, without_last_blanks}
+use Rattle.co_text.specs.Digits.{digits_number}
 
 -- ---- numbers
-
--- the number that digits write to a base: one digit or more, and nothing else
-abbrev pub digits_number : ℕ → List ℕ → Option ℕ
-digits_number base [] = None
-digits_number base (c ∷ cs) = if list_all (λ d. is_digit d base) (c ∷ cs) then Some (digits_value base (c ∷ cs)) else None
 
 -- `0x` or `0X`, and hexadecimal digits in any case
 abbrev pub hexadecimal : List ℕ → Option ℕ
@@ -47,16 +42,6 @@ number text = option_and_then in_range (signed_number text)
 -- `$NODEID`, in letters of any case
 abbrev pub is_node_id : List ℕ → Bool
 is_node_id text = bytes_eq (map to_ascii_lowercase text) (map to_ascii_lowercase (codes "$NODEID"))
-
--- a space or a tab
-abbrev pub is_blank : ℕ → Bool
-is_blank c = (c == byte " ") || (c == 9)
-
-abbrev pub without_first_blanks : List ℕ → List ℕ
-without_first_blanks text = drop (prefix_len is_blank text) text
-
-abbrev pub without_last_blanks : List ℕ → List ℕ
-without_last_blanks text = take (length text - suffix_len is_blank text) text
 
 -- the node's number and that of a term without sign
 abbrev pub node_plus : ℕ → List ℕ → Option ℤ

@@ -1,11 +1,12 @@
 -- The values of the data types of CiA 301, as the texts of an EDS or DCF (CiA 306) spell and print them.
 -- A value is the list of its bytes as they travel: numbers little-endian, negative ones by two's complement.
-use Rattle.std.specs.Prelude.{◌≡◌, ℕ, ◌+◌, ◌-◌, ◌*◌, ◌/◌, ◌%◌, ◌^◌, ◌<◌, ◌≤◌, suc, ℤ, pos, negsuc, true, ◌&&◌, nat_lt, nat_le, if◌then◌else◌, List, [], ◌∷◌, ◌++◌, length, get_or, reverse, replicate, Option, Some, None, option_map, option_and_then, flat_map, codes, decimal}
+use Rattle.std.specs.Prelude.{◌≡◌, ℕ, ◌+◌, ◌-◌, ◌*◌, ◌^◌, ◌<◌, ◌≤◌, suc, ℤ, pos, negsuc, ◌&&◌, nat_lt, nat_le, if◌then◌else◌, List, [], ◌∷◌, ◌++◌, length, get_or, reverse, replicate, Option, Some, None, option_map, option_and_then, flat_map, codes, decimal}
 use Rattle.std.specs.Char.{digit_value, is_digit}
-use Rattle.std.specs.Fmt.{digit_glyph, signed_decimal}
+use Rattle.std.specs.Fmt.{signed_decimal}
 use Rattle.std.specs.Option.{option_or}
 use Rattle.byteorder.specs.Endian.{little_bytes, little_number, twos_complement}
 use Rattle.co_base.specs.Bytes.{AreBytes}
+use Rattle.co_text.specs.Digits.{byte_digits}
 use Rattle.co_values.specs.declared.data_type.DataType.{DataType}
 use Rattle.co_values.specs.declared.form.Form.{Form}
 use Rattle.co_values.specs.declared.form.Form.TheVariants.{Flag, Signed, Unsigned, Characters, HexPairs, Unmodelled}
@@ -40,6 +41,7 @@ signed_text_bits width text node =
 abbrev pub longest_value : ℕ
 longest_value = 512
 
+-- bytes that are no longer than that
 abbrev pub if_not_too_long : List ℕ → Option (List ℕ)
 if_not_too_long bytes = if nat_le (length bytes) longest_value then Some bytes else None
 
@@ -55,6 +57,7 @@ paired (a ∷ b ∷ text) =
     if is_digit a 16 && is_digit b 16 then option_map (λ bytes. pair_number a b ∷ bytes) (paired text)
     else None
 
+-- the bytes that a text spells as a value laid out so, at a node
 abbrev pub value_in : Form → List ℕ → ℕ → Option (List ℕ)
 value_in Flag text node = option_map (little_bytes 1) (option_and_then flag_bits (formula text node))
 value_in (Signed width) text node = option_map (little_bytes (octets width)) (signed_text_bits width text node)
@@ -69,6 +72,7 @@ value kind text node = value_in (form kind) text node
 
 -- ---- the bytes
 
+-- bytes, each below 256, that are a value laid out so
 abbrev pub FitsForm : Form → List ℕ → Type 0
 FitsForm Flag bytes = (length bytes ≡ 1) × (get_or bytes 0 0 < 2)
 FitsForm (Signed width) bytes = length bytes ≡ octets width
@@ -81,6 +85,7 @@ FitsForm Unmodelled bytes = ⊥
 abbrev pub Fits : DataType → List ℕ → Type 0
 Fits kind bytes = AreBytes bytes × FitsForm (form kind) bytes
 
+-- 0, or the empty string, laid out so
 abbrev pub zero_of_form : Form → List ℕ
 zero_of_form Flag = 0 ∷ []
 zero_of_form (Signed width) = replicate (octets width) 0
@@ -93,6 +98,7 @@ zero_of_form Unmodelled = []
 abbrev pub zero_value : DataType → List ℕ
 zero_value kind = zero_of_form (form kind)
 
+-- the number that the bytes of a value laid out so are
 abbrev pub number_in_form : Form → List ℕ → Option ℤ
 number_in_form Flag bytes = Some (pos (little_number 1 bytes))
 number_in_form (Signed width) bytes = Some (twos_complement (octets width) (little_number (octets width) bytes))
@@ -107,13 +113,11 @@ number_in kind bytes = number_in_form (form kind) bytes
 
 -- ---- to text
 
--- a byte as two upper-case hexadecimal digits
-abbrev pub pair_of : ℕ → List ℕ
-pair_of byte = digit_glyph true (byte / 16) ∷ digit_glyph true (byte % 16) ∷ []
-
+-- each byte as two upper-case hexadecimal digits
 abbrev pub pairs_of : List ℕ → List ℕ
-pairs_of bytes = flat_map pair_of bytes
+pairs_of bytes = flat_map byte_digits bytes
 
+-- the text of a value laid out so
 abbrev pub printed_in : Form → List ℕ → List ℕ
 printed_in Flag bytes = decimal (little_number 1 bytes)
 printed_in (Signed width) bytes = signed_decimal (twos_complement (octets width) (little_number (octets width) bytes))

@@ -1,55 +1,17 @@
 //! Formulas from text.
 
-ghost use Rattle.std.specs.Prelude.{◌≡◌, ◌≤◌, ◌==◌, length, position};
-ghost use Rattle.std.specs.List.{prefix_len, suffix_len};
+ghost use Rattle.std.specs.Prelude.{◌≡◌, ◌==◌, position};
 ghost use Rattle.std.specs.Str.{byte};
-ghost use Rattle.co_values.specs.Number.{formula, is_node_id as is_node_id_text, is_blank as is_blank_byte, without_first_blanks as after_first_blanks, without_last_blanks as before_last_blanks, node_plus as node_plus_number, sum_of_terms as terms_sum, node_sum};
+ghost use Rattle.co_values.specs.Number.{formula, is_node_id as is_node_id_text, node_plus as node_plus_number, sum_of_terms as terms_sum, node_sum};
 
 use crate::number::{in_range, read_number, unsigned};
+use co_text::{without_first_blanks, without_last_blanks};
 
 /// Whether a text is `$NODEID`, in letters of any case.
 fn is_node_id(text: &[u8]) -> bool
     ensures { result ≡ is_node_id_text text.now }
 {
     text.eq_ignore_ascii_case(b"$NODEID")
-}
-
-/// Whether a byte is a space or a tab.
-fn is_blank(byte: u8) -> bool
-    ensures { result ≡ is_blank_byte byte }
-{
-    byte == b' ' || byte == b'\t'
-}
-
-/// The number of blanks that a text begins with.
-fn first_blanks(text: &[u8]) -> usize
-    ensures count { result ≡ prefix_len is_blank_byte text.now }
-    ensures within { result ≤ length text.now }
-{
-    text.iter().take_while(|byte| is_blank(**byte)).count()
-}
-
-/// The number of blanks that a text ends with.
-fn last_blanks(text: &[u8]) -> usize
-    ensures count { result ≡ suffix_len is_blank_byte text.now }
-    ensures within { result ≤ length text.now }
-{
-    text.iter()
-        .rev()
-        .take_while(|byte| is_blank(**byte))
-        .count()
-}
-
-fn without_first_blanks(text: &[u8]) -> &[u8]
-    ensures { result.now ≡ after_first_blanks text.now }
-{
-    &text[first_blanks(text)..]
-}
-
-fn without_last_blanks(text: &[u8]) -> &[u8]
-    ensures { result.now ≡ before_last_blanks text.now }
-{
-    &text[..text.len() - last_blanks(text)]
 }
 
 /// The sum of a node's number and a term without sign, where it is in range.

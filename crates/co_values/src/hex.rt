@@ -1,32 +1,19 @@
 //! Bytes as pairs of hexadecimal digits.
 
-ghost use Rattle.std.specs.Prelude.{◌≡◌, ◌<◌, ◌++◌, true, Some, IfOk, IsSome, is_some};
+ghost use Rattle.std.specs.Prelude.{◌≡◌, ◌<◌, ◌++◌, Some, IfOk, IsSome, is_some};
 ghost use Rattle.std.specs.Char.{digit_value, is_digit};
-ghost use Rattle.std.specs.Fmt.{digit_glyph};
 ghost use Rattle.std.specs.List.{list_all};
 ghost use Rattle.co_values.specs.Values.{paired, pair_number as number_of_pair, pairs_of};
 
+use co_text::byte_digits;
 use std::alloc::{AllocError, Global};
-
-/// The upper-case digit for a number below 16.
-fn upper_digit(number: u8) -> u8
-    requires { number < 16 }
-    ensures { result ≡ digit_glyph true number }
-{
-    if number < 10 {
-        b'0' + number
-    } else {
-        b'A' - 10 + number
-    }
-}
 
 /// Appends each byte as two upper-case digits.
 pub(crate) fn push_pairs(mut text: Vec<u8>, bytes: &[u8]) -> Result<Vec<u8>, AllocError>
     ensures { IfOk result (λ after. after.items ≡ text.items ++ pairs_of bytes.now) }
 {
     for byte in bytes {
-        text.push(upper_digit(*byte / 16))?;
-        text.push(upper_digit(*byte % 16))?;
+        text.extend_from_slice(&byte_digits(*byte))?;
     }
     Ok(text)
 }

@@ -1,35 +1,20 @@
 //! Numbers from text.
 
-ghost use Rattle.std.specs.Prelude.{◌≡◌, ◌≤◌, ℕ, pos, neg_ℤ, Option, option_map, option_and_then};
-ghost use Rattle.co_values.specs.Capped.{capped};
-ghost use Rattle.co_values.specs.Number.{number, in_range as in_range_number, digits_number, hexadecimal as hexadecimal_number, octal as octal_number, unsigned_number};
+ghost use Rattle.std.specs.Prelude.{◌≡◌, ℕ, pos, neg_ℤ, Option, option_map, option_and_then};
+ghost use Rattle.co_text.specs.Digits.{capped};
+ghost use Rattle.co_values.specs.Number.{number, in_range as in_range_number, hexadecimal as hexadecimal_number, octal as octal_number, unsigned_number};
+
+use co_text::read_digits;
 
 /// 2^64, which is past every number that a text may give.
 const LIMIT: u128 = 0x1_0000_0000_0000_0000;
-
-/// The number that digits write to a base, cut at 2^64.
-fn digits(base: u32, text: &[u8]) -> Option<u128>
-    requires low { 2 ≤ base }
-    requires high { base ≤ 16 }
-    ensures { result ≡ capped (digits_number base text.now) }
-{
-    if text.is_empty() {
-        return None;
-    }
-    let mut number: u128 = 0;
-    for byte in text {
-        let digit = char::from(*byte).to_digit(base)?;
-        number = (number * u128::from(base) + u128::from(digit)).min(LIMIT);
-    }
-    Some(number)
-}
 
 /// The number behind `0x`, cut at 2^64.
 pub(crate) fn hexadecimal(text: &[u8]) -> Option<u128>
     ensures { result ≡ capped (hexadecimal_number text.now) }
 {
     match text {
-        [b'0', b'x' | b'X', rest @ ..] => digits(16, rest),
+        [b'0', b'x' | b'X', rest @ ..] => read_digits(16, rest),
         _ => None,
     }
 }
@@ -39,7 +24,7 @@ fn octal(text: &[u8]) -> Option<u128>
     ensures { result ≡ capped (octal_number text.now) }
 {
     match text {
-        [b'0', rest @ ..] => digits(8, rest),
+        [b'0', rest @ ..] => read_digits(8, rest),
         _ => None,
     }
 }
@@ -54,7 +39,7 @@ pub(crate) fn unsigned(text: &[u8]) -> Option<u128>
     if let Some(number) = octal(text) {
         return Some(number);
     }
-    digits(10, text)
+    read_digits(10, text)
 }
 
 /// A number that isn't below 0, where it is in range.

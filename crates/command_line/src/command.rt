@@ -14,13 +14,16 @@ const FAILURE: u8 = 1;
 
 const USAGE: u8 = 2;
 
+const VERSION: &str = "0.1.0";
+
 /// Runs `cobench [--script FILE]`, and gives its exit status.
 ///
 /// The words begin with the program's name. They are judged first, then FILE is opened, then
 /// commands are read from it, or from the input where there is no FILE. Replies go to the output,
-/// `cobench: N NAME` and the text on wrong words to the faults. The status is 0 where the session
-/// came to its end and after `--help`, 1 after a session fault (2 Read where FILE can't be opened),
-/// and 2 after wrong words.
+/// `cobench: N NAME` and the text on wrong words to the faults. `--help` (`-h`) writes what the
+/// words can be to the output, and `--version` (`-V`) the program's name and version, `cobench
+/// 0.1.0`. The status is 0 where the session came to its end and after these two, 1 after a session
+/// fault (2 Read where FILE can't be opened), and 2 after wrong words.
 pub fn run<R: Files + AllocGlobal, I: Read, O: Write, E: Write>(
     rt: &R,
     words: &[String],
@@ -50,6 +53,7 @@ fn script_of<'a>(alloc: Global, words: &'a [String]) -> Result<Option<&'a str>, 
         .action(ArgAction::Set);
     let command = Command::new(alloc, "cobench")
         .bin_name("cobench")?
+        .version(VERSION)
         .about("An engineering workbench for one CANopen network")
         .arg(script)?;
     let matches = command.try_get_matches_from(words)?;

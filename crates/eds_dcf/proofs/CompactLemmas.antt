@@ -1,15 +1,15 @@
 -- What a section `[xxxxValue]` has at the key of a sub.
-use Rattle.std.proofs.Common.{◌≡◌, ◌==◌, ℕ, zero, suc, ◌+◌, ◌^◌, ◌<◌, ◌≤◌, Bool, true, false, cond, not, ◌&&◌, ◌||◌, List, [], ◌∷◌, ◌++◌, length, filter, filter_map, option_to_list, codes, decimal, Option, None, Some, option_map, option_and_then, ℤ, pos, negsuc, nat_lt, nat_le, inl, inr, ◌⊎◌, refl, sym, ap, subst, ◌∙◌, arith}
-use Rattle.std.proofs.lemmas.Bool.{cases_lt, false≢true}
+use Rattle.std.proofs.Common.{◌≡◌, ◌==◌, ℕ, zero, suc, ◌+◌, ◌^◌, ◌<◌, ◌≤◌, Bool, true, false, cond, not, ◌&&◌, ◌||◌, List, [], ◌∷◌, ◌++◌, length, filter, filter_map, option_to_list, codes, decimal, Option, None, Some, option_map, option_and_then, ℤ, pos, negsuc, nat_lt, nat_le, refl, sym, ap, subst, ◌∙◌, arith}
+use Rattle.std.proofs.lemmas.Bool.{false≢true}
 use Rattle.std.proofs.lemmas.Bool.Decides.{nat_tests}
 use Rattle.std.proofs.lemmas.Fmt.{decimal_injective, decimal_is_IsNumeral}
-use Rattle.std.proofs.lemmas.List.{length-map, nil_from_length}
+use Rattle.std.proofs.lemmas.List.{length-map}
 use Rattle.std.proofs.lemmas.List.Folds.{list_all-map}
 use Rattle.std.specs.Char.{digit_value, is_digit, to_ascii_lowercase}
 use Rattle.std.specs.List.{list_all, list_any}
 use Rattle.std.specs.Option.{option_map_or, option_or, unwrap_or}
 use Rattle.std.specs.Str.Parse.{AllDigits}
-use Rattle.ini_text.proofs.NameLemmas.{same_as, same_folded, same_refl, same_sym}
+use Rattle.ini_text.proofs.NameLemmas.{same_as, same_folded, same_sym}
 use Rattle.ini_text.specs.Change.{put_value}
 use Rattle.ini_text.specs.Content.{Pair, Section, folded, same, value_at}
 use Rattle.co_values.specs.declared.data_type.DataType.{DataType}
@@ -40,7 +40,7 @@ decimal_folded a =
     ∙ ap (λ t. not (length a == 0) && t) (list_all-map (λ c. is_digit c 10) to_ascii_lowercase a ∙ (let q : (λ (c : ℕ). is_digit (to_ascii_lowercase c) 10) ≡ (λ (c : ℕ). is_digit c 10) = λ i c. lower_digit c i in ap (λ (p : ℕ → Bool). list_all p a) q))
 
 -- keys that are equal without case are decimal together
-decimal_same : (a b : List ℕ) → same a b ≡ true → is_decimal a ≡ is_decimal b
+pub decimal_same : (a b : List ℕ) → same a b ≡ true → is_decimal a ≡ is_decimal b
 decimal_same a b h = sym (decimal_folded a) ∙ ap is_decimal (same_folded a b h) ∙ decimal_folded b
 
 all_digits : (ds : List ℕ) → AllDigits 10 ds → list_all (λ c. is_digit c 10) ds ≡ true
@@ -59,36 +59,17 @@ decimal_is n h =
     let numeral = decimal_is_IsNumeral n h in
     ap (λ t. t && list_all (λ c. is_digit c 10) (decimal n)) (some_digit (length (decimal n)) numeral.0.0) ∙ all_digits (decimal n) numeral.0.1
 
-same_decimal : (j k : ℕ) → j < 2 ^ 64 → k < 2 ^ 64 → same (decimal j) (decimal k) ≡ true → j ≡ k
+pub same_decimal : (j k : ℕ) → j < 2 ^ 64 → k < 2 ^ 64 → same (decimal j) (decimal k) ≡ true → j ≡ k
 same_decimal j k hj hk h =
     decimal_injective j k hj hk (sym (folded_digits (decimal j) (decimal_is_IsNumeral j hj).0.1) ∙ same_folded (decimal j) (decimal k) h ∙ folded_digits (decimal k) (decimal_is_IsNumeral k hk).0.1)
 
-untrue : (t : Bool) → (t ≡ true → ⊥) → t ≡ false
+pub untrue : (t : Bool) → (t ≡ true → ⊥) → t ≡ false
 untrue true denied = absurd (denied refl)
 untrue false denied = refl
 
 -- ---- pairs that stay and go
 
 module _ (key : List ℕ) where
-  none_kept : is_decimal key ≡ true → (ps : List Pair) → value_at (filter (λ p. not (is_decimal p.key)) ps) key ≡ None
-  none_kept is [] = refl
-  none_kept is (p ∷ ps) = by (is_decimal p.key) (same key p.key) refl refl (none_kept is ps)
-    where
-      by : (t u : Bool) → is_decimal p.key ≡ t → same key p.key ≡ u → value_at (filter (λ p. not (is_decimal p.key)) ps) key ≡ None
-          → value_at (cond (not t) (p ∷ filter (λ p. not (is_decimal p.key)) ps) (filter (λ p. not (is_decimal p.key)) ps)) key ≡ None
-      by true u e f ih = ih
-      by false true e f ih = absurd (false≢true (sym e ∙ sym (decimal_same key p.key f) ∙ is))
-      by false false e f ih = rw f ih
-
-  none_decimal : is_decimal key ≡ true → (ps : List Pair) → list_any (λ p. is_decimal p.key) ps ≡ false → value_at ps key ≡ None
-  none_decimal is [] none = refl
-  none_decimal is (p ∷ ps) none = by (is_decimal p.key) (same key p.key) refl refl none (none_decimal is ps)
-    where
-      by : (t u : Bool) → is_decimal p.key ≡ t → same key p.key ≡ u → (t || list_any (λ p. is_decimal p.key) ps) ≡ false → (list_any (λ p. is_decimal p.key) ps ≡ false → value_at ps key ≡ None) → cond u (Some p.value) (value_at ps key) ≡ None
-      by true u e f none ih = absurd (false≢true (sym none))
-      by false true e f none ih = absurd (false≢true (sym e ∙ sym (decimal_same key p.key f) ∙ is))
-      by false false e f none ih = ih none
-
   kept_others : is_decimal key ≡ false → (ps : List Pair) → value_at (filter (λ p. not (is_decimal p.key)) ps) key ≡ value_at ps key
   kept_others is [] = refl
   kept_others is (p ∷ ps) = by (is_decimal p.key) (same key p.key) refl refl (kept_others is ps)
@@ -112,53 +93,14 @@ put_aside (p ∷ ps) key value k other = by (same key p.key) (same k p.key) refl
     by false true e f ih = rw f refl
     by false false e f ih = rw f ih
 
-count_is_no_number : (key : List ℕ) → is_decimal key ≡ true → same (codes "NrOfEntries") key ≡ false
+pub count_is_no_number : (key : List ℕ) → is_decimal key ≡ true → same (codes "NrOfEntries") key ≡ false
 count_is_no_number key is = untrue (same (codes "NrOfEntries") key) (λ h. false≢true (decimal_same (codes "NrOfEntries") key h ∙ is))
 
 -- ---- the set values
 
 module _ (h : ℕ × ℕ → Option Pair) (keyed : (place : ℕ × ℕ) (p : Pair) → h place ≡ Some p → p.key ≡ decimal place.1) (index : ℕ) where
-  one_other : (j k : ℕ) → j < 2 ^ 64 → k < 2 ^ 64 → (j ≡ k → ⊥) → value_at (option_to_list (h (index, j))) (decimal k) ≡ None
-  one_other j k hj hk apart = by (h (index, j)) refl
-    where
-      by : (o : Option Pair) → h (index, j) ≡ o → value_at (option_to_list o) (decimal k) ≡ None
-      by None e = refl
-      by (Some p) e =
-          let other : same (decimal k) p.key ≡ false = untrue (same (decimal k) p.key) (λ is. apart (sym (same_decimal k j hk hj (subst (λ (key : List ℕ). same (decimal k) key ≡ true) (keyed (index, j) p e) is)))) in
-          rw other refl
-
-  one_there : (j : ℕ) → value_at (option_to_list (h (index, j))) (decimal j) ≡ option_map (λ p. p.value) (h (index, j))
-  one_there j = by (h (index, j)) refl
-    where
-      by : (o : Option Pair) → h (index, j) ≡ o → value_at (option_to_list o) (decimal j) ≡ option_map (λ p. p.value) o
-      by None e = refl
-      by (Some p) e =
-          let here : same (decimal j) p.key ≡ true = subst (λ (key : List ℕ). same (decimal j) key ≡ true) (sym (keyed (index, j) p e)) (same_refl (decimal j)) in
-          rw here refl
-
   pushed : (n : ℕ) (key : List ℕ) → value_at (filter_map h (first_subs index (suc n))) key ≡ option_or (value_at (filter_map h (first_subs index n)) key) (value_at (option_to_list (h (index, n))) key)
   pushed n key = ap (λ ps. value_at ps key) (filter_map-push h (first_subs index n) (index, n)) ∙ value_append (filter_map h (first_subs index n)) (option_to_list (h (index, n))) key
-
-  none_before : (n k : ℕ) → n ≤ k → k < 2 ^ 64 → value_at (filter_map h (first_subs index n)) (decimal k) ≡ None
-  none_before zero k le hk = refl
-  none_before (suc n) k le hk =
-      pushed n (decimal k)
-      ∙ ap (λ o. option_or o (value_at (option_to_list (h (index, n))) (decimal k))) (none_before n k (omega arith) hk)
-      ∙ one_other n k (omega arith) hk (λ e. omega arith)
-
-  all_there : (n k : ℕ) → k < n → n ≤ 2 ^ 64 → value_at (filter_map h (first_subs index n)) (decimal k) ≡ option_map (λ p. p.value) (h (index, k))
-  all_there zero k lt hn = absurd (omega arith)
-  all_there (suc n) k lt hn = by (cases_lt k n) (λ below. all_there n k below (omega arith))
-    where
-      by : (k < n) ⊎ (n ≤ k) → (k < n → value_at (filter_map h (first_subs index n)) (decimal k) ≡ option_map (λ p. p.value) (h (index, k))) → value_at (filter_map h (first_subs index (suc n))) (decimal k) ≡ option_map (λ p. p.value) (h (index, k))
-      by (inl below) ih =
-          pushed n (decimal k)
-          ∙ ap (option_or (value_at (filter_map h (first_subs index n)) (decimal k))) (one_other n k (omega arith) (omega arith) (λ e. omega arith))
-          ∙ or_none (value_at (filter_map h (first_subs index n)) (decimal k)) ∙ ih below
-      by (inr above) ih =
-          let last : k ≡ n = omega arith in
-          subst (λ (m : ℕ). value_at (filter_map h (first_subs index (suc n))) (decimal m) ≡ option_map (λ p. p.value) (h (index, m))) (sym last)
-          (pushed n (decimal n) ∙ ap (λ o. option_or o (value_at (option_to_list (h (index, n))) (decimal n))) (none_before n n (omega arith) (omega arith)) ∙ one_there n)
 
   none_elsewhere : (n : ℕ) (key : List ℕ) → is_decimal key ≡ false → n ≤ 2 ^ 64 → value_at (filter_map h (first_subs index n)) key ≡ None
   none_elsewhere zero key is hn = refl
@@ -176,7 +118,7 @@ keyed_value None true key kind p e = absurd (cc)
 keyed_value (Some bytes) true key kind p e = let is : record { key = key; value = printed kind bytes } ≡ p = cc in ap (λ (q : Pair). q.key) (sym is)
 keyed_value values false key kind p e = absurd (cc)
 
-value_pair_keyed : (ss : List Section) (values : ℕ × ℕ → Option (List ℕ)) (place : ℕ × ℕ) (p : Pair) → value_pair ss values place ≡ Some p → p.key ≡ decimal place.1
+pub value_pair_keyed : (ss : List Section) (values : ℕ × ℕ → Option (List ℕ)) (place : ℕ × ℕ) (p : Pair) → value_pair ss values place ≡ Some p → p.key ≡ decimal place.1
 unfolding value_pair
 value_pair_keyed ss values place p e = keyed_value (values place) (is_compact (origin_of ss place.0 place.1)) (decimal place.1) (kind_at ss place) p e
 
@@ -184,37 +126,13 @@ value_of_pair : (values : Option (List ℕ)) (key : List ℕ) (kind : DataType) 
 value_of_pair None key kind = refl
 value_of_pair (Some bytes) key kind = refl
 
-value_pair_value : (ss : List Section) (values : ℕ × ℕ → Option (List ℕ)) (place : ℕ × ℕ) → is_compact (origin_of ss place.0 place.1) ≡ true → option_map (λ (p : Pair). p.value) (value_pair ss values place) ≡ option_map (printed (kind_at ss place)) (values place)
+pub value_pair_value : (ss : List Section) (values : ℕ × ℕ → Option (List ℕ)) (place : ℕ × ℕ) → is_compact (origin_of ss place.0 place.1) ≡ true → option_map (λ (p : Pair). p.value) (value_pair ss values place) ≡ option_map (printed (kind_at ss place)) (values place)
 unfolding value_pair
 value_pair_value ss values place is = rw is (value_of_pair (values place) (decimal place.1) (kind_at ss place))
 
 -- ---- the section
 
 module _ (pairs set : List Pair) (key : List ℕ) where
-  changed_pairs : is_decimal key ≡ true → value_at (with_count (filter (λ p. not (is_decimal p.key)) pairs ++ set)) key ≡ value_at set key
-  changed_pairs is =
-      put_aside (filter (λ p. not (is_decimal p.key)) pairs ++ set) (codes "NrOfEntries") _ key (count_is_no_number key is)
-      ∙ value_append (filter (λ p. not (is_decimal p.key)) pairs) set key
-      ∙ ap (λ o. option_or o (value_at set key)) (none_kept key is pairs)
-
-  neither : (t u : Bool) → ((true && t) || not u) ≡ false → (t ≡ false) × (u ≡ true)
-  neither true u e = absurd (false≢true (sym e))
-  neither false true e = (refl, refl)
-  neither false false e = absurd (false≢true (sym e))
-
-  empty_from_test : (length set == 0) ≡ true → set ≡ []
-  empty_from_test h = let none : length set ≡ 0 = grind (arith, nat_tests) in nil_from_length set none
-
-  set_value : is_decimal key ≡ true → value_at (values_pairs true pairs set) key ≡ value_at set key
-  unfolding values_pairs
-  set_value is = by ((true && list_any (λ p. is_decimal p.key) pairs) || not (length set == 0)) refl
-    where
-      by : (t : Bool) → ((true && list_any (λ p. is_decimal p.key) pairs) || not (length set == 0)) ≡ t → value_at (cond t (with_count (filter (λ p. not (is_decimal p.key)) pairs ++ set)) pairs) key ≡ value_at set key
-      by true e = changed_pairs is
-      by false e =
-          let both = neither (list_any (λ p. is_decimal p.key) pairs) (length set == 0) e in
-          none_decimal key is pairs both.0 ∙ sym (ap (λ ps. value_at ps key) (empty_from_test both.1))
-
   changed_others : is_decimal key ≡ false → same (codes "NrOfEntries") key ≡ false → value_at set key ≡ None
       → value_at (with_count (filter (λ p. not (is_decimal p.key)) pairs ++ set)) key ≡ value_at pairs key
   changed_others is other unset =
@@ -251,7 +169,7 @@ count_bound s n e = by (is_compact_type (object_type s)) (number_at s (codes "Co
     by true (Some z) e = highest_bound z n e
     by false o e = absurd (cc)
 
-object_bound : (ss : List Section) (index : ℕ) (object : Section) (highest : ℕ) → compact_object ss index ≡ Some (object, highest) → highest ≤ 254
+pub object_bound : (ss : List Section) (index : ℕ) (object : Section) (highest : ℕ) → compact_object ss index ≡ Some (object, highest) → highest ≤ 254
 unfolding compact_object
 object_bound ss index object highest e = by (object_section ss index) e
   where
@@ -265,20 +183,6 @@ object_bound ss index object highest e = by (object_section ss index) e
     by : (o : Option Section) → option_and_then (λ s. option_map {T = ℕ} {U = Section × ℕ} (λ n. (s, n)) (compact_count s)) o ≡ Some (object, highest) → highest ≤ 254
     by None e = absurd (cc)
     by (Some s) e = one s (compact_count s) refl e
-
--- a sub of a compact object has its value there
-pub compact_there : (ss : List Section) (values : ℕ × ℕ → Option (List ℕ)) (index sub : ℕ) (object : Section) (highest : ℕ) (pairs : List Pair) → compact_object ss index ≡ Some (object, highest)
-    → is_modelled (kind_of object) ≡ true → sub ≤ highest → is_compact (origin_of ss index sub) ≡ true
-    → value_at (values_pairs_at ss values index pairs) (decimal sub) ≡ option_map (printed (kind_at ss (index, sub))) (values (index, sub))
-unfolding values_pairs_at values_set
-compact_there ss values index sub object highest pairs is modelled within compacted =
-    let bound : highest ≤ 254 = object_bound ss index object highest is in
-    let place : ℕ × ℕ = (index, sub) in
-    ap (λ (o : Option (Section × ℕ)). value_at (option_map_or (λ c. values_pairs (is_modelled (kind_of c.0)) pairs (filter_map (value_pair ss values) (first_subs index (c.1 + 1)))) o pairs) (decimal sub)) is
-    ∙ ap (λ t. value_at (values_pairs t pairs (filter_map (value_pair ss values) (first_subs index (highest + 1)))) (decimal sub)) modelled
-    ∙ set_value pairs (filter_map (value_pair ss values) (first_subs index (highest + 1))) (decimal sub) (decimal_is sub (omega arith))
-    ∙ all_there (value_pair ss values) (value_pair_keyed ss values) index (highest + 1) sub (omega arith) (omega arith)
-    ∙ value_pair_value ss values place compacted
 
 -- every key that is no number, but NrOfEntries, has what it had
 pub others_there : (ss : List Section) (values : ℕ × ℕ → Option (List ℕ)) (index : ℕ) (object : Section) (highest : ℕ) (pairs : List Pair) (key : List ℕ) → compact_object ss index ≡ Some (object, highest)

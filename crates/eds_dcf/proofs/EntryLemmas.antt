@@ -22,7 +22,7 @@ use Rattle.eds_device.specs.Described.{kind_at}
 use Rattle.eds_device.specs.Names.{values_named}
 use Rattle.eds_device.specs.Origins.{origin_of, values_section}
 use Rattle.eds_dcf.specs.Compact.{compact_object, is_compact, made_section, new_values, value_pair, values_pairs_at, values_set}
-use Rattle.eds_dcf.specs.Dcf.{made_at, pairs_with}
+use Rattle.eds_dcf.specs.Dcf.{pairs_with}
 use Rattle.eds_dcf.specs.Entries.{parameter_pairs, parameter_place}
 use Rattle.eds_dcf.specs.Pairs.{without}
 use Rattle.eds_dcf.specs.Writes.{is_to, last_of}
@@ -57,33 +57,35 @@ both_true : (t u : Bool) → (t && u) ≡ true → (t ≡ true) × (u ≡ true)
 both_true true u h = (refl, h)
 both_true false u h = absurd (cc)
 
-last_of_one : (ss : List Section) (write : Write) (place : ℕ × ℕ) → FitsEntry ss write → (t : Bool) → is_to place write ≡ t
-    → IfSome (option_map (λ (w : Write). w.bytes) (cond t (Some write) None)) (λ bytes. Fits (kind_at ss place) bytes)
-last_of_one ss write place fits true e =
-    let here = both_true (place.0 == write.index) (place.1 == write.sub) e in
-    let index : place.0 ≡ write.index = equal_from_test place.0 write.index here.0 in
-    let sub : place.1 ≡ write.sub = equal_from_test place.1 write.sub here.1 in
-    let same : place ≡ (write.index, write.sub) = λ i. (index i, sub i) in
-    subst (λ (p : ℕ × ℕ). Fits (kind_at ss p) write.bytes) (sym same) fits
-last_of_one ss write place fits false e = tt
+-- what holds of each write's entry and bytes holds of those that are left
+module _ (P : ℕ × ℕ → List ℕ → Type 0) where
+  last_of_one : (write : Write) (place : ℕ × ℕ) → P (write.index, write.sub) write.bytes → (t : Bool) → is_to place write ≡ t → IfSome (option_map (λ (w : Write). w.bytes) (cond t (Some write) None)) (P place)
+  last_of_one write place holds true e =
+      let here = both_true (place.0 == write.index) (place.1 == write.sub) e in
+      let index : place.0 ≡ write.index = equal_from_test place.0 write.index here.0 in
+      let sub : place.1 ≡ write.sub = equal_from_test place.1 write.sub here.1 in
+      let same : place ≡ (write.index, write.sub) = λ i. (index i, sub i) in
+      subst (λ (p : ℕ × ℕ). P p write.bytes) (sym same) holds
+  last_of_one write place holds false e = tt
 
-either : (a b : Option Write) (P : List ℕ → Type 0) → IfSome (option_map (λ (w : Write). w.bytes) a) P → IfSome (option_map (λ (w : Write). w.bytes) b) P → IfSome (option_map (λ (w : Write). w.bytes) (option_or a b)) P
-either None b P h k = k
-either (Some a) b P h k = h
+  either : (a b : Option Write) (Q : List ℕ → Type 0) → IfSome (option_map (λ (w : Write). w.bytes) a) Q → IfSome (option_map (λ (w : Write). w.bytes) b) Q → IfSome (option_map (λ (w : Write). w.bytes) (option_or a b)) Q
+  either None b Q h k = k
+  either (Some a) b Q h k = h
 
-found_fits : (ss : List Section) (writes : List Write) (place : ℕ × ℕ) → All (FitsEntry ss) writes
-    → IfSome (option_map (λ (w : Write). w.bytes) (find (is_to place) (reverse writes))) (λ bytes. Fits (kind_at ss place) bytes)
-found_fits ss [] place all = tt
-found_fits ss (w ∷ ws) place all =
-    subst (λ (o : Option Write). IfSome (option_map (λ (w : Write). w.bytes) o) (λ bytes. Fits (kind_at ss place) bytes))
-    (sym (ap (find (is_to place)) (reverse-append (w ∷ []) ws) ∙ find-append (is_to place) (reverse ws) (w ∷ [])))
-    (either _ _ (λ bytes. Fits (kind_at ss place) bytes) (found_fits ss ws place (All-tail (FitsEntry ss) w ws all)) (last_of_one ss w place (All-head (FitsEntry ss) w ws all) _ refl))
+  found_holds : (writes : List Write) (place : ℕ × ℕ) → All (λ w. P (w.index, w.sub) w.bytes) writes → IfSome (option_map (λ (w : Write). w.bytes) (find (is_to place) (reverse writes))) (P place)
+  found_holds [] place all = tt
+  found_holds (w ∷ ws) place all =
+      subst (λ (o : Option Write). IfSome (option_map (λ (w : Write). w.bytes) o) (P place)) (sym (ap (find (is_to place)) (reverse-append (w ∷ []) ws) ∙ find-append (is_to place) (reverse ws) (w ∷ [])))
+      (either _ _ (P place) (found_holds ws place (All-tail (λ w. P (w.index, w.sub) w.bytes) w ws all)) (last_of_one w place (All-head (λ w. P (w.index, w.sub) w.bytes) w ws all) _ refl))
+
+  pub left_holds : (writes : List Write) (place : ℕ × ℕ) → All (λ w. P (w.index, w.sub) w.bytes) writes → IfSome (last_of writes place) (P place)
+  unfolding last_of
+  left_holds writes place all = found_holds writes place all
 
 -- what writes leave at an entry is a value of its type
 pub left_fits : (ss : List Section) (writes : List Write) (values : ℕ × ℕ → Option (List ℕ)) → All (FitsEntry ss) writes → ((place : ℕ × ℕ) → values place ≡ last_of writes place)
     → (place : ℕ × ℕ) → IfSome (values place) (Fits (kind_at ss place))
-unfolding last_of
-left_fits ss writes values all is place = subst (λ (o : Option (List ℕ)). IfSome o (Fits (kind_at ss place))) (sym (is place)) (found_fits ss writes place all)
+left_fits ss writes values all is place = subst (λ (o : Option (List ℕ)). IfSome o (Fits (kind_at ss place))) (sym (is place)) (left_holds (λ place. Fits (kind_at ss place)) writes place all)
 
 -- the bytes at an entry are a value of its type
 pub found_fits_at : (ss : List Section) (values : ℕ × ℕ → Option (List ℕ)) (place : ℕ × ℕ) (kind : DataType) (bytes : List ℕ) → ((place : ℕ × ℕ) → IfSome (values place) (Fits (kind_at ss place)))
@@ -139,25 +141,19 @@ module _ (ss : List Section) (values : ℕ × ℕ → Option (List ℕ)) (s : Se
   unfolding pairs_with
   with_none none unnamed = rw (none, unnamed) refl
 
-not_zero : (n : ℕ) → (n ≡ 0 → ⊥) → (n == 0) ≡ false
-not_zero n h = grind (arith, nat_tests)
-
-module _ (ss : List Section) (values : ℕ × ℕ → Option (List ℕ)) (index sub : ℕ) where
-  pub not_made_for_subs : (sub ≡ 0 → ⊥) → made_at ss values (index, sub) ≡ None
-  not_made_for_subs h = rw (not_zero sub h) refl
-
-  pub not_made_beside : sub ≡ 0 → is_some (values_section ss index) ≡ true → made_at ss values (index, sub) ≡ None
+module _ (ss : List Section) (values : ℕ × ℕ → Option (List ℕ)) (index : ℕ) where
+  pub not_made_beside : is_some (values_section ss index) ≡ true → made_section ss values index ≡ None
   unfolding made_section
-  not_made_beside zeroth there = rw (zeroth, there) refl
+  not_made_beside there = rw there refl
 
-  pub not_made_of_others : sub ≡ 0 → is_some (values_section ss index) ≡ false → compact_object ss index ≡ None → made_at ss values (index, sub) ≡ None
+  pub not_made_of_others : is_some (values_section ss index) ≡ false → compact_object ss index ≡ None → made_section ss values index ≡ None
   unfolding made_section
-  not_made_of_others zeroth there none = rw (zeroth, there, none) refl
+  not_made_of_others there none = rw (there, none) refl
 
-  pub made_of_compact : (section : Section) (highest : ℕ) → sub ≡ 0 → is_some (values_section ss index) ≡ false → compact_object ss index ≡ Some (section, highest)
-      → new_values index (values_set ss values index highest) ≡ made_at ss values (index, sub)
+  pub made_of_compact : (section : Section) (highest : ℕ) → is_some (values_section ss index) ≡ false → compact_object ss index ≡ Some (section, highest)
+      → new_values index (values_set ss values index highest) ≡ made_section ss values index
   unfolding made_section
-  made_of_compact section highest zeroth there is = rw (zeroth, there, is) refl
+  made_of_compact section highest there is = rw (there, is) refl
 
 pub is_some_copied : {X : Type 0} (o : Option (Bor X)) → is_some (option_copied o) ≡ is_some o
 is_some_copied None = refl

@@ -10,7 +10,7 @@ use Rattle.std.specs.Option.{option_or}
 use Rattle.ini_text.proofs.NameLemmas.{same_as, same_sym}
 use Rattle.ini_text.specs.Content.{Pair, Section, same, value_at}
 use Rattle.co_values.specs.declared.data_type.DataType.{DataType}
-use Rattle.co_values.specs.Number.{digits_number}
+use Rattle.co_text.specs.Digits.{digits_number}
 use Rattle.co_values.specs.Types.{is_modelled}
 use Rattle.co_values.specs.Values.{printed}
 use Rattle.eds_device.specs.Described.{kind_at}
@@ -109,7 +109,7 @@ both_true false u h = absurd (cc)
 number_of_test : (a b : ℕ) → (a == b) ≡ true → a ≡ b
 number_of_test a b h = grind (arith, nat_tests)
 
-place_of_test : (place : ℕ × ℕ) (named : Option (ℕ × ℕ)) → is_place place named ≡ true → named ≡ Some place
+pub place_of_test : (place : ℕ × ℕ) (named : Option (ℕ × ℕ)) → is_place place named ≡ true → named ≡ Some place
 place_of_test place None h = absurd (cc)
 place_of_test place (Some p) h =
     let here = both_true (place.0 == p.0) (place.1 == p.1) h in
@@ -188,9 +188,6 @@ module _ (ss : List Section) (index sub : ℕ) where
   own_named : (s : Section) → origin_of ss index sub ≡ Some (own s) → (own_place s.name ≡ Some (index, sub)) × ((i : ℕ) × (slice_get ss i ≡ Some s))
   unfolding origin_of
   own_named s e = by_sub s (sub_section ss index sub) refl e
-
-  pub entry_stands : (s : Section) → origin_of ss index sub ≡ Some (own s) → (i : ℕ) × (slice_get ss i ≡ Some s)
-  entry_stands s e = (own_named s e).1
 
   pub entry_placed : (s : Section) → origin_of ss index sub ≡ Some (own s) → is_modelled (kind_at ss (index, sub)) ≡ true → parameter_place ss s.name ≡ Some (index, sub)
   unfolding parameter_place

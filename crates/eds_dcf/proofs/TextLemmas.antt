@@ -1,5 +1,6 @@
 -- Texts of sections, piece by piece.
 use Rattle.std.proofs.Common.{◌≡◌, ◌==◌, ℕ, ◌+◌, ◌<◌, ◌≤◌, Bool, false, cond, codes, decimal, List, [], ◌∷◌, ◌++◌, length, get_or, take, Option, None, Some, filter_map, option_to_list, filter, map, not, refl, sym, ap, ◌∙◌, append_assoc, append-nil, add-one}
+use Rattle.std.proofs.lemmas.Bool.{ne_eqb}
 use Rattle.std.proofs.lemmas.List.{take_all, take_more}
 use Rattle.std.proofs.lemmas.List.Concat.{flat_map-append}
 use Rattle.std.proofs.lemmas.List.Elements.{filter_map-append}
@@ -9,9 +10,10 @@ use Rattle.ini_text.specs.Change.{pair_text, section_text, text_of}
 use Rattle.concise_dcf.specs.declared.write.Write.{Write}
 use Rattle.eds_device.specs.Places.{first_subs, pairs_of}
 use Rattle.eds_dcf.specs.Commissioning.{commissioning, first_spelling, is_commissioning, node_pairs, others, others_beside, pairs_named, second_spelling}
-use Rattle.eds_dcf.specs.Compact.{new_values, value_pair, values_name, values_set}
-use Rattle.eds_dcf.specs.Dcf.{dcf_sections, made, made_at, sections_with, with_values}
+use Rattle.eds_dcf.specs.Compact.{made_section, new_values, value_pair, values_name, values_set}
+use Rattle.eds_dcf.specs.Dcf.{dcf_sections, made, sections_with, with_values}
 use Rattle.eds_dcf.specs.Writes.{last_of}
+use Rattle.eds_dcf.proofs.MadeLemmas.{at_first, walk_makes}
 
 -- a section is its name, and then its pairs
 pub begun : (name : List ℕ) (pairs : List Pair) → section_text (record { name = name; pairs = [] }) ++ flat_map pair_text pairs ≡ section_text (record { name = name; pairs = pairs })
@@ -67,19 +69,30 @@ unfolding values_set
 set_whole ss values index n highest items e is = e ∙ ap (λ m. filter_map (value_pair ss values) (first_subs index m)) is
 
 -- one more entry of which a section may be made
-pub made_more : (h : ℕ × ℕ → Option Section) (ps : List (ℕ × ℕ)) (i : ℕ) (d : ℕ × ℕ) (start before after : List ℕ) → i < length ps
-    → before ≡ start ++ text_of (filter_map h (take i ps)) → after ≡ before ++ flat_map section_text (option_to_list (h (get_or ps i d))) → after ≡ start ++ text_of (filter_map h (take (i + 1) ps))
+pub made_more : (h : ℕ → Option Section) (ps : List (ℕ × ℕ)) (i : ℕ) (d : ℕ × ℕ) (start before after : List ℕ) → i < length ps
+    → before ≡ start ++ text_of (filter_map (at_first h) (take i ps)) → after ≡ before ++ flat_map section_text (option_to_list (at_first h (get_or ps i d)))
+    → after ≡ start ++ text_of (filter_map (at_first h) (take (i + 1) ps))
 made_more h ps i d start before after within e ha =
-    ha ∙ ap (λ t. t ++ text_of (option_to_list (h (get_or ps i d)))) e
-    ∙ append_assoc start (text_of (filter_map h (take i ps))) (text_of (option_to_list (h (get_or ps i d))))
-    ∙ ap (λ t. start ++ t) (sym (flat_map-append section_text (filter_map h (take i ps)) (option_to_list (h (get_or ps i d)))))
-    ∙ ap (λ ys. start ++ text_of ys) (sym (ap (filter_map h) (take_more ps i d within) ∙ filter_map-push h (take i ps) (get_or ps i d)))
+    ha ∙ ap (λ t. t ++ text_of (option_to_list (at_first h (get_or ps i d)))) e
+    ∙ append_assoc start (text_of (filter_map (at_first h) (take i ps))) (text_of (option_to_list (at_first h (get_or ps i d))))
+    ∙ ap (λ t. start ++ t) (sym (flat_map-append section_text (filter_map (at_first h) (take i ps)) (option_to_list (at_first h (get_or ps i d)))))
+    ∙ ap (λ ys. start ++ text_of ys) (sym (ap (filter_map (at_first h)) (take_more ps i d within) ∙ filter_map-push (at_first h) (take i ps) (get_or ps i d)))
+
+-- of an object's sub 0, and of another sub
+pub made_here : (h : ℕ → Option Section) (place : ℕ × ℕ) (before after : List ℕ) → place.1 ≡ 0 → after ≡ before ++ flat_map section_text (option_to_list (h place.0))
+    → after ≡ before ++ flat_map section_text (option_to_list (at_first h place))
+made_here h place before after zeroth is = is ∙ sym (ap (λ (n : ℕ). before ++ flat_map section_text (option_to_list (cond (n == 0) (h place.0) None))) zeroth)
+
+pub made_aside : (h : ℕ → Option Section) (place : ℕ × ℕ) (before after : List ℕ) → (place.1 ≡ 0 → ⊥) → after ≡ before
+    → after ≡ before ++ flat_map section_text (option_to_list (at_first h place))
+made_aside h place before after other is =
+    is ∙ sym (append-nil before) ∙ sym (ap (λ (t : Bool). before ++ flat_map section_text (option_to_list (cond t (h place.0) None))) (ne_eqb place.1 0 other))
 
 -- all of them
 pub made_whole : (ss : List Section) (values : ℕ × ℕ → Option (List ℕ)) (ps : List (ℕ × ℕ)) (i : ℕ) (start out : List ℕ) → ps ≡ pairs_of ss → length ps ≤ i
-    → out ≡ start ++ text_of (filter_map (made_at ss values) (take i ps)) → out ≡ start ++ text_of (made ss values)
-unfolding made
-made_whole ss values ps i start out is past e = e ∙ ap (λ qs. start ++ text_of (filter_map (made_at ss values) qs)) (take_all i ps past ∙ is)
+    → out ≡ start ++ text_of (filter_map (at_first (made_section ss values)) (take i ps)) → out ≡ start ++ text_of (made ss values)
+made_whole ss values ps i start out is past e =
+    e ∙ ap (λ qs. start ++ text_of (filter_map (at_first (made_section ss values)) qs)) (take_all i ps past ∙ is) ∙ ap (λ t. start ++ text_of t) (walk_makes ss values)
 
 -- nothing is added for none
 pub nothing_more : (out : List ℕ) (o : Option Section) → o ≡ None → out ≡ out ++ flat_map section_text (option_to_list o)

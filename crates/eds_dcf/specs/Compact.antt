@@ -1,9 +1,9 @@
 -- The sections `[xxxxValue]` of an EDS or DCF (CiA 306), which list the values of a compact object's subs.
-use Rattle.std.specs.Prelude.{ℕ, ◌+◌, ◌/◌, ◌%◌, ◌==◌, ◌||◌, ◌&&◌, ◌++◌, not, Bool, false, true, is_some, if◌then◌else◌, List, [], ◌∷◌, length, filter, filter_map, count_by, codes, decimal, Option, Some, None, option_map, option_and_then}
+use Rattle.std.specs.Prelude.{ℕ, ◌+◌, ◌==◌, ◌||◌, ◌&&◌, ◌++◌, not, Bool, false, true, is_some, if◌then◌else◌, List, [], ◌∷◌, length, filter, filter_map, count_by, codes, decimal, Option, Some, None, option_map, option_and_then}
 use Rattle.std.specs.Char.{is_digit}
-use Rattle.std.specs.Fmt.{digit_glyph}
 use Rattle.std.specs.List.{list_all, list_any}
 use Rattle.std.specs.Option.{option_map_or}
+use Rattle.co_text.specs.Digits.{index_digits}
 use Rattle.ini_text.specs.Content.{Pair, Section}
 use Rattle.ini_text.specs.Change.{put_value}
 use Rattle.co_values.specs.Types.{is_modelled}
@@ -65,9 +65,7 @@ values_pairs_at ss values index pairs =
 
 -- `xxxxValue` with four upper-case digits
 abbrev pub values_name : ℕ → List ℕ
-values_name index =
-    (digit_glyph true (index / 4096) ∷ digit_glyph true (index / 256 % 16) ∷ digit_glyph true (index / 16 % 16) ∷ digit_glyph true (index % 16) ∷ [])
-    ++ codes "Value"
+values_name index = index_digits index ++ codes "Value"
 
 -- a new section with values, if there are any: the count first
 abbrev pub new_values : ℕ → List Pair → Option Section

@@ -1,11 +1,11 @@
 -- The DCF text of a device (CiA 306): the lines of its EDS, with the values that writes leave.
-use Rattle.std.specs.Prelude.{ℕ, ◌==◌, ◌++◌, not, if◌then◌else◌, List, [], ◌∷◌, map, filter, filter_map, Option, None}
+use Rattle.std.specs.Prelude.{ℕ, ◌++◌, not, List, [], ◌∷◌, map, filter, filter_map, Option}
+use Rattle.std.specs.List.{range_with_len}
 use Rattle.std.specs.Option.{option_map_or}
 use Rattle.ini_text.specs.Content.{Pair, Section}
 use Rattle.concise_dcf.specs.declared.write.Write.{Write}
 use Rattle.eds_device.specs.Described.{kind_at}
 use Rattle.eds_device.specs.Names.{values_named}
-use Rattle.eds_device.specs.Places.{pairs_of}
 use Rattle.eds_dcf.specs.Commissioning.{commissioning, is_commissioning}
 use Rattle.eds_dcf.specs.Compact.{made_section, values_pairs_at}
 use Rattle.eds_dcf.specs.Entries.{parameter_pairs, parameter_place}
@@ -20,12 +20,13 @@ pairs_with ss values s =
 abbrev pub with_values : List Section → (ℕ × ℕ → Option (List ℕ)) → Section → Section
 with_values ss values s = record { name = s.name; pairs = pairs_with ss values s }
 
-abbrev pub made_at : List Section → (ℕ × ℕ → Option (List ℕ)) → ℕ × ℕ → Option Section
-made_at ss values place = if place.1 == 0 then made_section ss values place.0 else None
+-- the indices of an object dictionary, from 0000h to FFFFh
+unfoldable pub indices : List ℕ
+indices = range_with_len 0 0x10000
 
--- the sections that are made, by index
+-- the sections that are made, by index: for each compact object without its section of values, where values of its subs are set
 unfoldable pub made : List Section → (ℕ × ℕ → Option (List ℕ)) → List Section
-made ss values = filter_map (made_at ss values) (pairs_of ss)
+made ss values = filter_map (made_section ss values) indices
 
 -- the sections of the text with the values, those that are made, and the node's
 unfoldable pub sections_with : List Section → ℕ → List ℕ → ℕ → (ℕ × ℕ → Option (List ℕ)) → List Section

@@ -1,13 +1,11 @@
 //! The compact objects of a device, and the values that are set of them.
-ghost use Rattle.std.specs.Prelude.{◌≡◌, ◌<◌, ◌++◌, ℕ, true, IfOk, IfSome, OnOk, option_map};
-ghost use Rattle.std.specs.Fmt.{digit_glyph};
+ghost use Rattle.std.specs.Prelude.{◌≡◌, ◌++◌, ℕ, IfOk, IfSome, OnOk, option_map};
 ghost use Rattle.std.specs.FinMap.{get};
 ghost use Rattle.std.specs.List.{flat_map};
 ghost use Rattle.std.specs.Option.{option_to_list};
 ghost use Rattle.ini_text.specs.Change.{section_text};
 ghost use Rattle.co_values.specs.Values.{Fits};
-ghost use Rattle.eds_dcf.specs.Compact.{compact_object as object_of, is_compact as is_compact_origin, new_values, value_pair, values_set as values_set_of, values_name as name_of_values, values_pairs_at};
-ghost use Rattle.eds_dcf.specs.Dcf.{made_at};
+ghost use Rattle.eds_dcf.specs.Compact.{compact_object as object_of, is_compact as is_compact_origin, made_section, new_values, value_pair, values_set as values_set_of, values_name as name_of_values, values_pairs_at};
 ghost use Rattle.eds_device.specs.Shown.{shown};
 ghost use Rattle.eds_device.specs.Described.{kind_at};
 
@@ -16,7 +14,8 @@ use crate::printing::{put_line, put_name, put_pairs, put_settings};
 use crate::setting::Setting;
 use crate::values::{NR_OF_ENTRIES, put_values};
 use co_dict::Dict;
-use eds_device::{Device, Section, Origin, compact_count, kind_of};
+use co_text::index_digits;
+use eds_device::{Device, Origin, Section, compact_count, kind_of};
 use std::alloc::{AllocError, Global};
 
 /// A compact object's section, and its highest sub-index.
@@ -89,29 +88,11 @@ fn values_set(
     Ok(set)
 }
 
-/// The upper-case digit of a number below 16.
-fn upper_digit(number: u16) -> u8
-    requires { number < 16 }
-    ensures { result ≡ digit_glyph true number }
-{
-    if number < 10 {
-        b'0' + number as u8
-    } else {
-        b'A' - 10 + number as u8
-    }
-}
-
 /// The name of a section of values that is made.
 fn values_name(alloc: Global, index: u16) -> Result<Vec<u8>, AllocError>
     ensures { IfOk result (λ name. name.items ≡ name_of_values index) }
 {
-    let digits = [
-        upper_digit(index / 4096),
-        upper_digit(index / 256 % 16),
-        upper_digit(index / 16 % 16),
-        upper_digit(index % 16),
-    ];
-    let mut name = Vec::from_slice(alloc, &digits)?;
+    let mut name = Vec::from_slice(alloc, &index_digits(index))?;
     name.extend_from_slice(b"Value")?;
     Ok(name)
 }
@@ -131,23 +112,18 @@ fn put_new(out: &mut Vec<u8>, alloc: Global, index: u16, set: &[Setting]) -> Res
     Ok(())
 }
 
-/// Writes the section that is made for a compact object without one, if values of it are set. It is
-/// written for its sub 0.
+/// Writes the section that is made for a compact object without one, if values of it are set.
 pub(crate) fn put_made(
     out: &mut Vec<u8>,
     alloc: Global,
     device: &Device,
     values: &Dict,
     index: u16,
-    sub: u8,
 ) -> Result<(), AllocError>
     requires { (place : ℕ × ℕ) → IfSome (get values.now place) (Fits (kind_at device.now.sections place)) }
     ensures { OnOk result (out.new.items ≡ out.old.items
-        ++ flat_map section_text (option_to_list (made_at device.now.sections (get values.now) (index, sub)))) }
+        ++ flat_map section_text (option_to_list (made_section device.now.sections (get values.now) index))) }
 {
-    if sub != 0 {
-        return Ok(());
-    }
     if device.values_section(index).is_some() {
         return Ok(());
     }

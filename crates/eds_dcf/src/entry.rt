@@ -8,7 +8,7 @@ ghost use Rattle.eds_dcf.specs.Entries.{is_in as is_in_section, own_place as pla
 use crate::printing::{put_line, put_name, put_pairs_without};
 use co_base::Octets;
 use co_values::{DataType, Value, hex_text};
-use eds_device::{Device, Section, Origin, index_named, place_named};
+use eds_device::{Device, Origin, Section, index_named, place_named};
 use std::alloc::{AllocError, Global};
 
 const PARAMETER_VALUE: &[u8] = b"ParameterValue";

@@ -65,7 +65,8 @@ fn put_sections(
     Ok(())
 }
 
-/// Writes the sections that are made for compact objects, by index.
+/// Writes the sections that are made for compact objects, by index: each entry with sub 0 is that of
+/// an object.
 fn put_all_made(
     out: &mut Vec<u8>,
     alloc: Global,
@@ -76,7 +77,9 @@ fn put_all_made(
     ensures { OnOk result (out.new.items ≡ out.old.items ++ text_of (made device.now.sections (get values.now))) }
 {
     for (index, sub) in device.pairs() {
-        put_made(out, alloc, device, values, *index, *sub)?;
+        if *sub == 0 {
+            put_made(out, alloc, device, values, *index)?;
+        }
     }
     Ok(())
 }

@@ -1,4 +1,4 @@
--- Entries are put into their places, and are refused where they are too many.
+-- Entries are put in order, and are refused where they are too many.
 use Rattle.std.proofs.Common.{◌≡◌, ℕ, zero, suc, ◌+◌, ◌<◌, ◌≤◌, Bool, true, false, List, [], ◌∷◌, ◌++◌, length, take, drop, get_or, Result, Ok, Err, refl, sym, ap, ◌∙◌, arith, add-one, inl, inr, ltb-true, append-nil, take-append-drop, take_all}
 use Rattle.std.specs.Prelude.{if◌then◌else◌, nat_lt}
 use Rattle.std.specs.declared.cmp.Ordering.{Ordering}

@@ -1,5 +1,5 @@
--- Each entry of a device has a origin, where no two sections are named for one object.
-use Rattle.std.proofs.Common.{◌≡◌, ℕ, zero, suc, ◌+◌, ◌<◌, Bool, true, false, ◌||◌, ◌&&◌, List, [], ◌∷◌, length, get_or, Option, None, Some, refl, sym, ap, ◌∙◌, arith}
+-- The entries of a text are those that a rule gives.
+use Rattle.std.proofs.Common.{◌≡◌, ℕ, zero, suc, ◌+◌, ◌<◌, Bool, true, false, ◌||◌, ◌&&◌, List, [], ◌∷◌, length, get_or, Option, None, Some, ◌↔◌, refl, sym, ap, ◌∙◌, arith}
 use Rattle.std.specs.Prelude.{if◌then◌else◌, ◌==◌, nat_le, option_map, option_and_then, is_some}
 use Rattle.std.specs.BTreeMap.{is_at}
 use Rattle.std.specs.List.{Contains, find}
@@ -7,13 +7,14 @@ use Rattle.std.specs.Option.{option_or, option_map_or}
 use Rattle.std.proofs.lemmas.Bool.{eq-eqb, le-leb}
 use Rattle.std.proofs.lemmas.List.Folds.{list_any-append}
 use Rattle.co_dict.specs.Places.{place_cmp}
-use Rattle.ini_text.specs.Content.{Section}
+use Rattle.ini_text.specs.Content.{Section, content_of}
 use Rattle.eds_device.specs.Names.{index_named, place_named}
-use Rattle.eds_device.specs.Places.{first_subs, object_places, places_given, pairs_of, AreNamedOnce}
+use Rattle.eds_device.specs.Places.{first_subs, object_places, places_given, pairs_of}
 use Rattle.eds_device.specs.Sections.{is_plain, compact_count}
 use Rattle.eds_device.specs.Origins.{Origin, own, compact, is_index, is_place, sub_section, object_section, from_object, from_compact, origin_of}
-use Rattle.eds_device.proofs.LawLemmas.{given_by_some, contains_has}
+use Rattle.eds_device.proofs.LawLemmas.{given_by_some, contains_has, rules_give}
 use Rattle.eds_device.proofs.MapLemmas.{alike}
+use Rattle.eds_device.proofs.OnceLemmas.{AreNamedOnce, read_named_once}
 use Rattle.eds_device.proofs.PlaceLemmas.{has_place, index_is, found_passes, or_false}
 
 -- a place among the first subs of an object is one of them
@@ -95,8 +96,8 @@ in_object ss index sub s once c named g = by (object_section ss index) refl
     by None e = absurd (object_there ss index s c named e)
     by (Some t) e = let r = object_in ss index t e in let same : t ≡ s = once t s index r.0 c r.1 named in rw same g
 
--- each entry has a origin
-pub entries_have : (ss : List Section) (index sub : ℕ) → AreNamedOnce ss → Contains (pairs_of ss) (index, sub) → is_some (origin_of ss index sub) ≡ true
+-- each entry has an origin, where no two sections are named for one object
+entries_have : (ss : List Section) (index sub : ℕ) → AreNamedOnce ss → Contains (pairs_of ss) (index, sub) → is_some (origin_of ss index sub) ≡ true
 unfolding origin_of places_given
 entries_have ss index sub once h =
     let given = (given_by_some ss (index, sub)).0 h in
@@ -122,3 +123,13 @@ entries_have ss index sub once h =
         let r = object_origin s i (index, sub) g in
         or_later (sub_section ss index sub) (in_object ss index sub s once c (f ∙ ap Some (sym r.0)) r.1)
     by s c None None e f g = cc
+
+some_is : {X : Type 0} (o : Option X) → is_some o ≡ true → (x : X) × (o ≡ Some x)
+some_is None h = cc
+some_is (Some x) h = (x, refl)
+
+-- the entries of a text are those that a rule gives
+pub given_by_rules : (text : List ℕ) (index sub : ℕ) → let ss = (content_of text).sections in Contains (pairs_of ss) (index, sub) ↔ (is_some (origin_of ss index sub) ≡ true)
+given_by_rules text index sub =
+    let ss = (content_of text).sections in
+    (entries_have ss index sub (read_named_once text), λ h. let given = some_is (origin_of ss index sub) h in rules_give ss index sub given.0 given.1)

@@ -14,7 +14,7 @@ use Rattle.co_dict.specs.Places.{place_cmp}
 use Rattle.ini_text.specs.Content.{Section}
 use Rattle.eds_device.specs.Described.{Described, described, described_by, described_in, highest_sub}
 use Rattle.eds_device.specs.Entries.{limit_at, entry_by, entry_at, default_bytes, default_by, default_at, given_at, shape_of, defaults_of}
-use Rattle.co_dict.specs.Values.{HasLength}
+use Rattle.co_dict.specs.Values.{HasLength, HoldEach}
 use Rattle.eds_device.specs.Places.{places_given, pairs_of}
 use Rattle.eds_device.specs.Origins.{Origin, own, compact, origin_of}
 use Rattle.eds_device.proofs.LengthLemmas.{written_length}
@@ -116,11 +116,10 @@ default_has_length ss node index sub e h m = by (origin_of ss index sub) h
         let same : entry_by node (described_by sub src) ≡ e = cc in
         rw (← same) (default_given node (described_by sub src) (described_length sub src node) (ap (λ (x : Entry). is_modelled x.kind) same ∙ m))
 
-pub values_have_lengths : (ss : List Section) (node index sub : ℕ) (e : Entry) → get (shape_of ss node).entries (index, sub) ≡ Some e → is_modelled e.kind ≡ true
-    → (bytes : List ℕ) × ((get (defaults_of ss node) (index, sub) ≡ Some bytes) × HasLength e.kind bytes)
-values_have_lengths ss node index sub e h m =
-    let found = default_has_length ss node index sub e (sym (shape_at ss node index sub) ∙ h) m in
-    (found.0, (defaults_at ss node index sub ∙ found.1.0, found.1.1))
+pub values_have_lengths : (ss : List Section) (node : ℕ) → HoldEach (shape_of ss node).entries (defaults_of ss node)
+values_have_lengths ss node place e h m =
+    let found = default_has_length ss node place.0 place.1 e (sym (shape_at ss node place.0 place.1) ∙ h) m in
+    (found.0, (defaults_at ss node place.0 place.1 ∙ found.1.0, found.1.1))
 
 -- ---- compact objects
 

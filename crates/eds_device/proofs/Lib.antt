@@ -1,11 +1,13 @@
 pub mod AddingLemmas
 pub mod ConverseLemmas
-pub mod DigitLemmas
+pub mod IdentityLemmas
 pub mod IndexLemmas
 pub mod LawLemmas
 pub mod LengthLemmas
+pub mod LimitLemmas
 pub mod ListedLemmas
 pub mod MapLemmas
 pub mod NameLemmas
+pub mod OnceLemmas
 pub mod PlaceLemmas
 pub mod ReadLemmas

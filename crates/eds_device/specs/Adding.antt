@@ -4,5 +4,6 @@ use Rattle.eds_device.specs.declared.fault.DeviceFault.{DeviceFault}
 use Rattle.eds_device.specs.Faults.{limited}
 use Rattle.eds_device.specs.Places.{put_in_order}
 
+-- the places after some more, unless they are too many
 abbrev pub added : List (ℕ × ℕ) → List (ℕ × ℕ) → Result (List (ℕ × ℕ)) DeviceFault
 added done ps = limited (put_in_order done ps) (put_in_order done ps)

@@ -5,7 +5,7 @@ use Rattle.std.specs.Option.{option_map_or, unwrap_or}
 use Rattle.ini_text.specs.Content.{Section, Pair, same, value_at}
 use Rattle.co_values.specs.declared.data_type.DataType.{DataType}
 use Rattle.co_values.specs.declared.data_type.DataType.TheVariants.{Unsigned8, NotModelled}
-use Rattle.co_values.specs.Number.{digits_number}
+use Rattle.co_text.specs.Digits.{digits_number}
 use Rattle.co_dict.specs.declared.access.Access.{Access}
 use Rattle.co_dict.specs.declared.access.Access.TheVariants.{ReadOnly, WriteOnly, ReadWrite, ReadWriteOnInput, ReadWriteOnOutput, Constant}
 use Rattle.eds_device.specs.Sections.{number_at, kind_of}
@@ -29,6 +29,7 @@ access_named word =
 unfoldable pub access_of : Section → Access
 access_of section = access_named (text_at section (codes "AccessType"))
 
+-- a number other than 0
 abbrev pub is_not_zero : ℤ → Bool
 is_not_zero (pos n) = nat_lt 0 n
 is_not_zero (negsuc n) = true
@@ -37,11 +38,12 @@ is_not_zero (negsuc n) = true
 unfoldable pub is_set : Section → List ℕ → Bool
 is_set section key = option_map_or is_not_zero (number_at section key) false
 
--- a default: the text of DefaultValue, or the number of a compact object's subs
+-- a default: the text of DefaultValue, or the highest sub-index of a compact object
 pub data Default : Type 0 where
   written : List ℕ → Default
   count : ℕ → Default
 
+-- what is said of an entry; a text is empty where it is missing
 pub record Described : Type 0 where
   pub kind : DataType
   pub access : Access
@@ -72,6 +74,7 @@ highest_sub n = record {
   high = [];
 }
 
+-- what the section says of an entry that stands there
 abbrev pub described_by : ℕ → Origin → Described
 described_by sub (own section) = described_in section
 described_by sub (compact section n) = if sub == 0 then highest_sub n else described_in section
@@ -93,10 +96,12 @@ unfoldable pub listed_value : List Section → ℕ → ℕ → Option (List ℕ)
 listed_value ss index sub =
     option_and_then (λ s. option_map (λ (p : Pair). p.value) (find (λ p. is_index sub (sub_listed p.key)) s.pairs)) (values_section ss index)
 
+-- a text, unless it is empty
 abbrev pub unless_empty : List ℕ → Option (List ℕ)
 unless_empty [] = None
 unless_empty (b ∷ bs) = Some (b ∷ bs)
 
+-- the text of a default, unless it is empty
 abbrev pub written_text : Default → Option (List ℕ)
 written_text (written text) = unless_empty text
 written_text (count n) = None
@@ -105,10 +110,11 @@ written_text (count n) = None
 unfoldable pub default_text : List Section → ℕ → ℕ → Option (List ℕ)
 default_text ss index sub = option_and_then (λ (d : Described). written_text d.default) (described ss index sub)
 
+-- the value that is set where an entry stands: ParameterValue, and of a compact object's sub what `[xxxxValue]` lists
 abbrev pub value_by : List Section → ℕ → ℕ → Origin → Option (List ℕ)
 value_by ss index sub (own section) = value_at section.pairs (codes "ParameterValue")
 value_by ss index sub (compact section n) = listed_value ss index sub
 
--- an entry's ParameterValue, unless it is empty
+-- the value that is set of an entry, unless it is empty
 unfoldable pub value_text : List Section → ℕ → ℕ → Option (List ℕ)
 value_text ss index sub = option_and_then unless_empty (option_and_then (value_by ss index sub) (origin_of ss index sub))

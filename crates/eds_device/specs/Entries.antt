@@ -21,6 +21,7 @@ number_spelled kind text node = option_and_then (number_in kind) (value kind tex
 unfoldable pub limit_at : DataType → List ℕ → ℕ → Option ℤ
 limit_at kind text node = if is_integer kind then number_spelled kind text node else None
 
+-- the entry that is described, at a node
 abbrev pub entry_by : ℕ → Described → Entry
 entry_by node d = record {
   kind = d.kind;
@@ -39,6 +40,7 @@ abbrev pub default_bytes : DataType → Default → ℕ → List ℕ
 default_bytes kind (written text) node = unwrap_or (value kind text node) (zero_value kind)
 default_bytes kind (count n) node = n ∷ []
 
+-- the default that is described, of a modelled type alone
 abbrev pub default_by : ℕ → Described → Option (List ℕ)
 default_by node d = if is_modelled d.kind then Some (default_bytes d.kind d.default node) else None
 
@@ -55,10 +57,11 @@ unfoldable pub dummy_allowed : List Section → ℕ → Bool
 dummy_allowed ss kind =
     nat_le 1 kind && (nat_le kind 7 && option_map_or is_not_zero (option_and_then number (content_at ss (codes "DummyUsage") (dummy_key kind))) false)
 
+-- the same of each of them
 abbrev pub dummies_of : List Section → List Bool
 dummies_of ss = map (dummy_allowed ss) (1 ∷ 2 ∷ 3 ∷ 4 ∷ 5 ∷ 6 ∷ 7 ∷ [])
 
--- what a function gives at each place of a list where it gives something
+-- the places at which a function gives something, each with that
 abbrev pub given_at : {X : Type 0} → (ℕ × ℕ → Option X) → List (ℕ × ℕ) → List ((ℕ × ℕ) × X)
 given_at f [] = []
 given_at f (p ∷ ps) = option_map_or (λ x. (p, x) ∷ given_at f ps) (f p) (given_at f ps)

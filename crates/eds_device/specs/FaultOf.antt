@@ -4,6 +4,7 @@ use Rattle.ini_text.specs.declared.IniFault.TheVariants as ini
 use Rattle.eds_device.specs.declared.fault.DeviceFault.{DeviceFault}
 use Rattle.eds_device.specs.declared.fault.DeviceFault.TheVariants.{Memory, Range, BadByte}
 
+-- the fault of the same name
 abbrev pub fault_of : IniFault → DeviceFault
 fault_of ini.Memory = Memory
 fault_of ini.Range = Range

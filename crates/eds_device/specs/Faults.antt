@@ -1,11 +1,16 @@
 -- What reading a device gives.
-use Rattle.std.specs.Prelude.{ℕ, Bool, true, false, nat_lt, if◌then◌else◌, List, length, Result, Ok, Err}
-use Rattle.ini_text.specs.Content.{Content, content_of}
+use Rattle.std.specs.Prelude.{ℕ, ◌<◌, Bool, true, false, nat_lt, if◌then◌else◌, List, length, Result, Ok, Err, IsSome}
+use Rattle.std.specs.List.{Contains}
+use Rattle.std.specs.List.Sorted.{IsStrictlySortedBy}
+use Rattle.ini_text.specs.Content.{Content, Section, content_of}
 use Rattle.ini_text.specs.Text.{is_out_of_range, has_bad_byte}
+use Rattle.co_dict.specs.Places.{place_cmp}
 use Rattle.eds_device.specs.declared.fault.DeviceFault.{DeviceFault}
 use Rattle.eds_device.specs.declared.fault.DeviceFault.TheVariants.{Memory, Range, Limit, BadByte}
+use Rattle.eds_device.specs.Origins.{origin_of}
 use Rattle.eds_device.specs.Places.{pairs_of}
 
+-- the fault that memory was refused
 abbrev pub is_memory : DeviceFault → Bool
 is_memory Memory = true
 is_memory Range = false
@@ -16,11 +21,18 @@ is_memory BadByte = false
 abbrev pub most_entries : ℕ
 most_entries = 4096
 
--- too many entries are refused
+-- what reading gives, unless there are too many entries
 abbrev pub limited : {X : Type 0} → List (ℕ × ℕ) → X → Result X DeviceFault
 limited places x = if nat_lt most_entries (length places) then Err Limit else Ok x
 
--- the content of a text, where that is an INI text and gives no more entries than a device may have
+-- the rules give too many entries: more places than a device may have, in order and none twice, each of which has an origin
+pub record HasTooMany (ss : List Section) : Type 0 where
+  pub places : List (ℕ × ℕ)
+  pub in_order : IsStrictlySortedBy place_cmp places
+  pub over : most_entries < length places
+  pub given : (index sub : ℕ) → Contains places (index, sub) → IsSome (origin_of ss index sub)
+
+-- the content of a text, where that is an INI text and has no more entries than a device may have, which a law counts by the rules
 unfoldable pub device_of : List ℕ → Result Content DeviceFault
 device_of text =
     if is_out_of_range text then Err Range

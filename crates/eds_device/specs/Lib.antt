@@ -1,5 +1,4 @@
 pub mod Adding
-pub mod Capped
 pub mod Described
 pub mod Entries
 pub mod FaultOf

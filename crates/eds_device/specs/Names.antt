@@ -2,7 +2,7 @@
 use Rattle.std.specs.Prelude.{ℕ, ◌==◌, nat_le, if◌then◌else◌, List, length, take, drop, Option, None, codes}
 use Rattle.std.specs.Option.{option_zip}
 use Rattle.ini_text.specs.Content.{same}
-use Rattle.co_values.specs.Number.{digits_number}
+use Rattle.co_text.specs.Digits.{digits_number}
 
 -- `xxxx`: an index of four hexadecimal digits
 unfoldable pub index_named : List ℕ → Option ℕ

@@ -11,9 +11,11 @@ pub data Origin : Type 0 where
   own : Section → Origin
   compact : Section → ℕ → Origin
 
+-- whether what a name says is the index
 abbrev pub is_index : ℕ → Option ℕ → Bool
 is_index index named = option_map_or (λ n. index == n) named false
 
+-- whether what a name says is the place, by index and sub
 abbrev pub is_place : ℕ × ℕ → Option (ℕ × ℕ) → Bool
 is_place place named = option_map_or (λ p. (place.0 == p.0) && (place.1 == p.1)) named false
 

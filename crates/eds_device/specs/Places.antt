@@ -1,7 +1,7 @@
 -- The entries that the sections of an EDS give (CiA 306), each once, by index and sub-index.
-use Rattle.std.specs.Prelude.{ℕ, ◌+◌, zero, suc, if◌then◌else◌, List, [], ◌∷◌, ◌++◌, ◌≡◌, Some}
+use Rattle.std.specs.Prelude.{ℕ, ◌+◌, zero, suc, if◌then◌else◌, List, [], ◌∷◌, ◌++◌}
 use Rattle.std.specs.BTreeSet.{insert_key}
-use Rattle.std.specs.List.{Contains, flat_map}
+use Rattle.std.specs.List.{flat_map}
 use Rattle.std.specs.Option.{option_map_or}
 use Rattle.ini_text.specs.Content.{Section}
 use Rattle.co_dict.specs.Places.{place_cmp}
@@ -23,15 +23,11 @@ object_places section index =
 unfoldable pub places_given : Section → List (ℕ × ℕ)
 places_given section = option_map_or (λ p. p ∷ []) (place_named section.name) (option_map_or (object_places section) (index_named section.name) [])
 
--- each put into its place in the order, unless it is there
+-- each put in by index and sub, unless it is there
 abbrev pub put_in_order : List (ℕ × ℕ) → List (ℕ × ℕ) → List (ℕ × ℕ)
 put_in_order done [] = done
 put_in_order done (p ∷ ps) = put_in_order (insert_key place_cmp done p) ps
 
--- the entries of a device
+-- the entries of a device; of a text they are, by a law, those that the rules of `Origins` give
 unfoldable pub pairs_of : List Section → List (ℕ × ℕ)
 pairs_of ss = put_in_order [] (flat_map places_given ss)
-
--- no two sections are named for one object, as in a content whose names differ without case
-abbrev pub AreNamedOnce : List Section → Type 0
-AreNamedOnce ss = (s t : Section) (index : ℕ) → Contains ss s → Contains ss t → index_named s.name ≡ Some index → index_named t.name ≡ Some index → s ≡ t

@@ -31,6 +31,7 @@ object_of_number (negsuc n) = Other
 unfoldable pub object_type : Section → ObjectType
 object_type section = option_map_or (λ text. option_map_or object_of_number (number text) Other) (value_at section.pairs (codes "ObjectType")) Variable
 
+-- an object of one entry
 abbrev pub is_plain_type : ObjectType → Bool
 is_plain_type Variable = true
 is_plain_type Domain = true
@@ -42,6 +43,7 @@ is_plain_type Other = false
 unfoldable pub is_plain : Section → Bool
 is_plain section = is_plain_type (object_type section)
 
+-- an object that may be compact
 abbrev pub is_compact_type : ObjectType → Bool
 is_compact_type Array = true
 is_compact_type Record = true
@@ -49,7 +51,7 @@ is_compact_type Variable = false
 is_compact_type Domain = false
 is_compact_type Other = false
 
--- the sub-indices that a compact object can have
+-- a number from 1 to 254, as the highest sub-index of a compact object is
 abbrev pub in_subs : ℤ → Option ℕ
 in_subs (pos n) = if nat_lt 0 n && nat_le n 254 then Some n else None
 in_subs (negsuc n) = None

@@ -6,15 +6,15 @@ ghost use Rattle.eds_device.specs.Shown.{shown_described};
 
 use crate::device::Device;
 use crate::name::same;
-use crate::section::{kind_of, number_at};
 use crate::origin::Origin;
+use crate::section::{kind_of, number_at};
 use co_dict::Access;
 use co_values::DataType;
 use ini_text::Section;
 
 /// The default of an entry.
 #[derive(Clone, Copy)]
-pub enum DefaultText<'a> {
+pub(crate) enum DefaultText<'a> {
     /// The text of DefaultValue, empty where it is missing.
     Written(&'a [u8]),
     /// The highest sub-index of a compact object, which is the value of its sub 0.
@@ -23,13 +23,13 @@ pub enum DefaultText<'a> {
 
 /// What an EDS says of an entry, its texts as they stand. A text is empty where it is missing.
 #[derive(Clone, Copy)]
-pub struct Described<'a> {
-    pub kind: DataType,
-    pub access: Access,
-    pub mappable: bool,
-    pub default: DefaultText<'a>,
-    pub low: &'a [u8],
-    pub high: &'a [u8],
+pub(crate) struct Described<'a> {
+    pub(crate) kind: DataType,
+    pub(crate) access: Access,
+    pub(crate) mappable: bool,
+    pub(crate) default: DefaultText<'a>,
+    pub(crate) low: &'a [u8],
+    pub(crate) high: &'a [u8],
 }
 
 /// The value of a key, empty where it is missing.
@@ -64,7 +64,7 @@ fn access_named(word: &[u8]) -> Access
 
 /// The access of a section's entries: AccessType, and rw where it is missing or another word.
 #[tactic(auto, unfolding(crate::specs::Described::access_of))]
-pub fn access_of(section: &Section) -> Access
+fn access_of(section: &Section) -> Access
     ensures { result ≡ access_of section.now }
 {
     access_named(text_at(section, b"AccessType"))
@@ -126,7 +126,7 @@ fn unless_empty(text: &[u8]) -> Option<&[u8]>
 impl Device {
     /// What the EDS says of an entry; `None` where there is no such entry.
     #[tactic(auto, unfolding(crate::specs::Described::described))]
-    pub fn described(&self, index: u16, sub: u8) -> Option<Described<'_>>
+    pub(crate) fn described(&self, index: u16, sub: u8) -> Option<Described<'_>>
         ensures { option_map shown_described result ≡ described self.now.sections index sub }
     {
         let origin = self.origin(index, sub)?;

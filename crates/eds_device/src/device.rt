@@ -16,9 +16,9 @@ ghost use Rattle.eds_device.specs.Origins.{is_index, sub_section, object_section
 
 use crate::fault::DeviceFault;
 use crate::index::{Listed, object_positions, sub_positions, values_positions};
+use crate::origin::Origin;
 use crate::places::places_of;
 use crate::section::{compact_count, is_plain};
-use crate::origin::Origin;
 use ini_text::{Ini, Pair, Section};
 use std::alloc::Global;
 use std::collections::BTreeMap;
@@ -121,7 +121,7 @@ impl Device {
     }
 
     /// The first section that is named for an entry, as `[1018sub1]`.
-    pub fn sub_section(&self, index: u16, sub: u8) -> Option<&Section>
+    fn sub_section(&self, index: u16, sub: u8) -> Option<&Section>
         ensures { option_copied result ≡ sub_section self.now.sections index sub }
     {
         section_at(self.ini.sections(), self.subs.get(&(index, sub)))
@@ -143,7 +143,7 @@ impl Device {
     }
 
     /// The value of a key in a section, each in any case.
-    pub fn text(&self, section: &[u8], key: &[u8]) -> Option<&[u8]>
+    pub(crate) fn text(&self, section: &[u8], key: &[u8]) -> Option<&[u8]>
         ensures { option_copied result ≡ content_at self.now.sections section.now key.now }
     {
         self.ini.get(section, key)
@@ -152,7 +152,7 @@ impl Device {
     /// The value that `[xxxxValue]` lists for a sub of a compact object: of two spellings of the sub
     /// the first counts.
     #[tactic(auto, unfolding(crate::specs::Described::listed_value))]
-    pub fn listed_value(&self, index: u16, sub: u8) -> Option<&[u8]>
+    pub(crate) fn listed_value(&self, index: u16, sub: u8) -> Option<&[u8]>
         ensures { option_copied result ≡ listed_value self.now.sections index sub }
     {
         let listed = self.values.get(&index)?;

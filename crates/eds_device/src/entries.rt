@@ -65,7 +65,12 @@ impl Device {
     /// The default of an entry at a node: what its text spells there as a value of its type, else 0
     /// or the empty string. `None` where there is no such entry or its type is not modelled.
     #[tactic(auto, using(crate::proofs::LengthLemmas::default_short), unfolding(crate::specs::Entries::default_at))]
-    pub fn default(&self, node: u8, index: u16, sub: u8) -> Result<Option<Octets>, AllocError>
+    pub(crate) fn default(
+        &self,
+        node: u8,
+        index: u16,
+        sub: u8,
+    ) -> Result<Option<Octets>, AllocError>
         ensures bytes { IfOk result (λ bytes. bytes ≡ default_at self.now.sections node index sub) }
         ensures short { IfOk result (λ bytes. IfSome bytes (λ b. length b ≤ longest_value)) }
     {

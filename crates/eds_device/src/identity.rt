@@ -1,9 +1,9 @@
 //! The identity of a device (CiA 301).
 ghost use Rattle.std.specs.Prelude.{◌≡◌};
-ghost use Rattle.std.specs.Option.{option_map_or};
-ghost use Rattle.eds_device.specs.Identity.{four_bytes, is_identity_type, identity_number, identity};
+ghost use Rattle.eds_device.specs.Identity.{four_bytes, is_identity_type, identity_by, identity_number, identity};
+ghost use Rattle.eds_device.specs.Shown.{shown_described};
 
-use crate::described::DefaultText;
+use crate::described::{DefaultText, Described};
 use crate::device::Device;
 use co_values::{DataType, integer_of};
 
@@ -27,24 +27,31 @@ fn is_identity_type(kind: DataType) -> bool
     )
 }
 
+/// The number of a description's default at a node, where its type is UNSIGNED8, UNSIGNED16 or
+/// UNSIGNED32, else 0.
+fn identity_by(node: u8, described: Described<'_>) -> u32
+    ensures { result ≡ identity_by node (shown_described described.entry) }
+{
+    if !is_identity_type(described.kind) {
+        return 0;
+    }
+    match described.default {
+        DefaultText::Written(text) => match integer_of(described.kind, text, node) {
+            Some(number) => four_bytes(number),
+            None => 0,
+        },
+        DefaultText::Count(count) => u32::from(count),
+    }
+}
+
 impl Device {
     /// The default of an UNSIGNED8, UNSIGNED16 or UNSIGNED32 at a node, else 0.
-    #[tactic(auto, unfolding(crate::specs::Identity::identity_number))]
     fn identity_number(&self, node: u8, index: u16, sub: u8) -> u32
         ensures { result ≡ identity_number self.now.sections node index sub }
     {
-        let Some(described) = self.described(index, sub) else {
-            return 0;
-        };
-        if !is_identity_type(described.kind) {
-            return 0;
-        }
-        match described.default {
-            DefaultText::Written(text) => match integer_of(described.kind, text, node) {
-                Some(number) => four_bytes(number),
-                None => 0,
-            },
-            DefaultText::Count(count) => u32::from(count),
+        match self.described(index, sub) {
+            Some(described) => identity_by(node, described),
+            None => 0,
         }
     }
 

@@ -1,18 +1,24 @@
 //! Laws of the entries of a device, each a function whose contract is the law.
-ghost use Rattle.std.specs.Prelude.{◌≡◌, ◌↔◌, ℕ, List, [], ◌∷◌, Some, None, true, false, IsSome};
+ghost use Rattle.std.specs.Prelude.{◌≡◌, ◌↔◌, ℕ, pos, List, [], ◌∷◌, Some, None, Err, true, false, IsSome};
+ghost use Rattle.std.specs.Bool.{IsFalse};
 ghost use Rattle.std.specs.FinMap as map;
 ghost use Rattle.std.specs.List.{Contains};
 ghost use Rattle.std.specs.List.Sorted.{IsStrictlySortedBy};
-ghost use Rattle.ini_text.specs.Content.{Section};
+ghost use Rattle.ini_text.specs.Content.{Section, content_of};
+ghost use Rattle.ini_text.specs.Text.{is_out_of_range, has_bad_byte};
 ghost use Rattle.co_values.specs.declared.data_type.DataType.TheVariants.{Unsigned8};
-ghost use Rattle.co_values.specs.Types.{is_modelled};
+ghost use Rattle.co_values.specs.Values.{number_in};
 ghost use Rattle.co_dict.specs.declared.access.Access.TheVariants.{ReadOnly};
-ghost use Rattle.co_dict.specs.declared.entry.Entry.{Entry};
+ghost use Rattle.co_dict.specs.Shapes.{is_dummy_allowed};
 ghost use Rattle.co_dict.specs.Places.{place_cmp};
-ghost use Rattle.eds_device.specs.Entries.{entry_at, default_at, shape_of, defaults_of};
-ghost use Rattle.co_dict.specs.Values.{HasLength};
-ghost use Rattle.eds_device.specs.Places.{places_given, pairs_of, AreNamedOnce};
-ghost use Rattle.eds_device.specs.Origins.{Origin, compact, origin_of};
+ghost use Rattle.eds_device.specs.Faults.{HasTooMany, device_of};
+ghost use Rattle.eds_device.specs.Entries.{entry_at, default_at, dummy_allowed, shape_of, defaults_of};
+ghost use Rattle.co_dict.specs.Values.{HoldEach};
+ghost use Rattle.eds_device.specs.Described.{kind_at};
+ghost use Rattle.eds_device.specs.Identity.{is_identity_type, identity_number};
+ghost use Rattle.eds_device.specs.Places.{places_given, pairs_of};
+ghost use Rattle.eds_device.specs.Origins.{compact, origin_of};
+ghost use Rattle.eds_device.specs.declared.fault.DeviceFault.TheVariants.{Limit};
 
 /// The entries of a device stand by index and sub-index, each once, and are those that some section
 /// gives.
@@ -22,30 +28,42 @@ pub fn entries_are_those_given()
     ensures given { (ss : List Section) (place : ℕ × ℕ) → Contains (pairs_of ss) place ↔ ((s : Section) × (Contains ss s × Contains (places_given s) place)) }
 {}
 
-/// What one of the three rules gives is an entry of the device.
-#[tactic(auto, using(crate::proofs::LawLemmas::rules_give))]
-pub fn rules_give_entries()
-    ensures { (ss : List Section) (index sub : ℕ) (origin : Origin) → origin_of ss index sub ≡ Some origin → Contains (pairs_of ss) (index, sub) }
+/// The entries of a text are those that one of the three rules gives.
+#[tactic(auto, using(crate::proofs::ConverseLemmas::given_by_rules))]
+pub fn entries_are_those_of_the_rules()
+    ensures { (text : List ℕ) (index sub : ℕ) → let ss = (content_of text).sections in Contains (pairs_of ss) (index, sub) ↔ IsSome (origin_of ss index sub) }
 {}
 
-/// Each entry of a device is one that a rule gives, where no two sections are named for one object.
-#[tactic(auto, using(crate::proofs::ConverseLemmas::entries_have))]
-pub fn entries_have_origins()
-    ensures { (ss : List Section) (index sub : ℕ) → AreNamedOnce ss → Contains (pairs_of ss) (index, sub) → IsSome (origin_of ss index sub) }
+/// A text is refused by `Limit` exactly where it is an INI text and the rules give over 4,096 entries.
+#[tactic(auto, using(crate::proofs::LimitLemmas::limited_by_rules))]
+pub fn limit_counts_entries_of_the_rules()
+    ensures { (text : List ℕ) →
+        (device_of text ≡ Err Limit)
+        ↔ ((IsFalse (is_out_of_range text) × IsFalse (has_bad_byte text)) × HasTooMany (content_of text).sections) }
 {}
 
-/// A shape has each entry as the device describes it, and no other; the defaults likewise.
-#[tactic(auto, using(crate::proofs::LawLemmas::shape_at, crate::proofs::LawLemmas::defaults_at))]
+/// A shape has each entry as the device describes it, and no other, and the device's dummies; the
+/// defaults likewise.
+#[tactic(auto, using(crate::proofs::LawLemmas::shape_at, crate::proofs::IdentityLemmas::shape_dummies, crate::proofs::LawLemmas::defaults_at))]
 pub fn shape_and_defaults_are_complete()
     ensures shape { (ss : List Section) (node index sub : ℕ) → map.get (shape_of ss node).entries (index, sub) ≡ entry_at ss node index sub }
+    ensures dummies { (ss : List Section) (node kind : ℕ) → is_dummy_allowed (shape_of ss node) kind ≡ dummy_allowed ss kind }
     ensures defaults { (ss : List Section) (node index sub : ℕ) → map.get (defaults_of ss node) (index, sub) ≡ default_at ss node index sub }
 {}
 
 /// The defaults have, for each entry of a modelled type in the shape, a value of that type's length.
 #[tactic(auto, using(crate::proofs::LawLemmas::values_have_lengths))]
 pub fn defaults_have_lengths()
-    ensures { (ss : List Section) (node index sub : ℕ) (entry : Entry) → map.get (shape_of ss node).entries (index, sub) ≡ Some entry → is_modelled entry.kind ≡ true
-        → (bytes : List ℕ) × ((map.get (defaults_of ss node) (index, sub) ≡ Some bytes) × HasLength entry.kind bytes) }
+    ensures { (ss : List Section) (node : ℕ) → HoldEach (shape_of ss node).entries (defaults_of ss node) }
+{}
+
+/// A number of the identity is that of its entry's default, where this is an UNSIGNED8, UNSIGNED16 or
+/// UNSIGNED32, else 0.
+#[tactic(auto, using(crate::proofs::IdentityLemmas::identity_has, crate::proofs::IdentityLemmas::identity_zero))]
+pub fn identity_is_of_the_defaults()
+    ensures number { (ss : List Section) (node index sub : ℕ) → is_identity_type (kind_at ss (index, sub)) ≡ true
+        → (bytes : List ℕ) × ((map.get (defaults_of ss node) (index, sub) ≡ Some bytes) × (number_in (kind_at ss (index, sub)) bytes ≡ Some (pos (identity_number ss node index sub)))) }
+    ensures zero { (ss : List Section) (node index sub : ℕ) → is_identity_type (kind_at ss (index, sub)) ≡ false → identity_number ss node index sub ≡ 0 }
 {}
 
 /// Sub 0 of a compact object is an UNSIGNED8 that nobody writes or maps, and its value is the

@@ -10,16 +10,15 @@ mod index;
 pub mod laws;
 mod name;
 mod object_type;
+mod origin;
 mod places;
 mod section;
-mod origin;
 mod values;
 
-pub use described::{DefaultText, Described, access_of};
 pub use device::Device;
 pub use fault::DeviceFault;
 pub use ini_text::{Pair, Section};
 pub use name::{index_named, place_named, sub_listed, values_named};
 pub use object_type::ObjectType;
-pub use section::{compact_count, is_plain, kind_of};
 pub use origin::Origin;
+pub use section::{compact_count, kind_of};

@@ -15,7 +15,7 @@ pub enum ObjectType {
 
 impl ObjectType {
     /// The object that a code names.
-    pub fn of_code(number: i128) -> ObjectType
+    pub(crate) fn of_code(number: i128) -> ObjectType
         ensures { result ≡ object_of_number number }
     {
         match number {

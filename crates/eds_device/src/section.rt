@@ -8,7 +8,7 @@ use ini_text::Section;
 
 /// The number that the value of a key spells.
 #[tactic(auto, unfolding(crate::specs::Sections::number_at))]
-pub fn number_at(section: &Section, key: &[u8]) -> Option<i128>
+pub(crate) fn number_at(section: &Section, key: &[u8]) -> Option<i128>
     ensures { result ≡ number_at section.now key.now }
 {
     let text = section.get(key)?;
@@ -17,7 +17,7 @@ pub fn number_at(section: &Section, key: &[u8]) -> Option<i128>
 
 /// The object that a section is of: without the key ObjectType a VAR.
 #[tactic(auto, unfolding(crate::specs::Sections::object_type))]
-pub fn object_type(section: &Section) -> ObjectType
+fn object_type(section: &Section) -> ObjectType
     ensures { result ≡ type_of_object section.now }
 {
     let Some(text) = section.get(b"ObjectType") else {
@@ -31,7 +31,7 @@ pub fn object_type(section: &Section) -> ObjectType
 
 /// Whether a section is that of one entry: a VAR or a DOMAIN.
 #[tactic(auto, unfolding(crate::specs::Sections::is_plain))]
-pub fn is_plain(section: &Section) -> bool
+pub(crate) fn is_plain(section: &Section) -> bool
     ensures { result ≡ is_plain section.now }
 {
     match object_type(section) {

@@ -36,13 +36,13 @@ module _ {X : Type 0} (name : X → List ℕ) (q : List ℕ) (k : List ℕ) (is_
       rw t (elim (same q (name e.1)) as (λ t. is_some (cond t (Some e.1) (lookup (λ v. bytes_eq k v.items) es)) ≡ (t || list_any (λ x. same q (name x)) (values_of es))) [ true ↦ refl | false ↦ has_folded es h.1 ])
 
   -- and stands where the value stands
-  pub place_folded : (es : List (Vec ℕ × X)) → AreFolded name es → position_or_len (λ v. bytes_eq k v.items) (keys_of es) ≡ position_or_len (λ x. same q (name x)) (values_of es)
-  place_folded [] h = refl
-  place_folded (e ∷ es) h =
+  pub position_folded : (es : List (Vec ℕ × X)) → AreFolded name es → position_or_len (λ v. bytes_eq k v.items) (keys_of es) ≡ position_or_len (λ x. same q (name x)) (values_of es)
+  position_folded [] h = refl
+  position_folded (e ∷ es) h =
       let t : bytes_eq k e.0.items ≡ same q (name e.1) = rw (is_folded, h.0) refl in
-      λ i. cond (not (t i)) (1 + place_folded es h.1 i) 0
+      λ i. cond (not (t i)) (1 + position_folded es h.1 i) 0
 
--- a position that was found is the first place
+-- a position that was found is the first position
 pub position_is : {X : Type 0} (p : X → Bool) (xs : List X) (i : ℕ) → position p xs ≡ Some i → position_or_len p xs ≡ i
 position_is p xs i h = by (ltb (position_or_len p xs) (length xs)) h
   where

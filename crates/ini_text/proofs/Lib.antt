@@ -1,10 +1,10 @@
-pub mod TextLemmas
 pub mod KeyedLemmas
 pub mod NameLemmas
 pub mod ContentLemmas
 pub mod StateLemmas
 pub mod TableLemmas
 pub mod ChangeLemmas
+pub mod PairLemmas
 pub mod LawLemmas
 pub mod FirstLemmas
 pub mod OrderLemmas

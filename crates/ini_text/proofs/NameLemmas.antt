@@ -8,9 +8,11 @@ use Rattle.std.proofs.lemmas.Slice.Eq.{bytes_eq-Decides}
 use Rattle.ini_text.specs.Content.{folded, same, firsts}
 use Rattle.ini_text.specs.Printable.{AreApart}
 
+-- equal names have one folded form
 pub same_folded : (a b : List ℕ) → same a b ≡ true → folded a ≡ folded b
 same_folded a b h = (bytes_eq-Decides (folded a) (folded b)).0 h
 
+-- and are equal both ways
 pub same_sym : (a b : List ℕ) → same a b ≡ same b a
 same_sym a b = same_from_decides (same a b) (same b a) (bytes_eq-Decides (folded a) (folded b)) (λ h. sym ((bytes_eq-Decides (folded b) (folded a)).0 h), λ e. (bytes_eq-Decides (folded b) (folded a)).1 (sym e))
 

@@ -1,4 +1,4 @@
--- Where sections and pairs stand: the first of equal elements, by place.
+-- Where sections and pairs stand: the first of equal elements, by position.
 use Rattle.std.proofs.Common.{◌≡◌, ℕ, zero, suc, ◌+◌, Bool, true, false, cond, List, [], ◌∷◌, ◌++◌, map, length, slice_get, None, Some, refl, ap, ◌∙◌, sym, subst, append_assoc, add-zero, length-append, arith}
 use Rattle.std.specs.List.{list_any}
 use Rattle.std.specs.Option.{option_map_or}
@@ -32,13 +32,13 @@ module _ {X : Type 0} (e : X → X → Bool) where
       by true = refl
       by false = append_assoc (firsts e seen) (x ∷ []) (news (seen ++ x ∷ []) xs)
 
-  -- x stands in xs with nothing before it that equals it, and the place counts the first ones before it
-  pub record FirstAt (xs : List X) (place : ℕ) (x : X) : Type 0 where
+  -- x stands in xs with nothing before it that equals it, and the position counts the first ones before it
+  pub record FirstAt (xs : List X) (position : ℕ) (x : X) : Type 0 where
     pub before : List X
     pub later : List X
     pub stands : xs ≡ before ++ x ∷ later
     pub new : list_any (λ y. e y x) before ≡ false
-    pub placed : place ≡ length (firsts e before)
+    pub counted : position ≡ length (firsts e before)
 
   found : (seen xs : List X) (j : ℕ) (x : X) → slice_get (news seen xs) j ≡ Some x → FirstAt (seen ++ xs) (length (firsts e seen) + j) x
   found seen [] j x h = cc
@@ -53,7 +53,7 @@ module _ {X : Type 0} (e : X → X → Bool) where
       by true a j g rest = subst (λ (ys : List X). FirstAt (seen ++ y ∷ xs) (length ys + j) x) (firsts-push e seen y ∙ ap (λ t. cond t (firsts e seen) (firsts e seen ++ y ∷ [])) a) (rest j g)
       by false a zero g rest =
           let same_one : y ≡ x = cc in
-          record { before = seen; later = xs; stands = ap (λ z. seen ++ z ∷ xs) same_one; new = subst (λ w. list_any (λ z. e z w) seen ≡ false) same_one a; placed = add-zero (length (firsts e seen)) }
+          record { before = seen; later = xs; stands = ap (λ z. seen ++ z ∷ xs) same_one; new = subst (λ w. list_any (λ z. e z w) seen ≡ false) same_one a; counted = add-zero (length (firsts e seen)) }
       by false a (suc k) g rest =
           let more : length (firsts e (seen ++ y ∷ [])) ≡ length (firsts e seen ++ y ∷ []) = ap length (firsts-push e seen y ∙ ap (λ t. cond t (firsts e seen) (firsts e seen ++ y ∷ [])) a) in
           let n : length (firsts e (seen ++ y ∷ [])) + k ≡ length (firsts e seen) + suc k = omega (arith, more, length-append (firsts e seen) (y ∷ [])) in
@@ -70,7 +70,7 @@ module _ {X : Type 0} (e : X → X → Bool) where
       ap (λ zs. slice_get (firsts e zs) i) f.stands
       ∙ ap (λ zs. slice_get zs i) (firsts-append f.before (x ∷ f.later))
       ∙ ap (λ t. slice_get (firsts e f.before ++ cond t rest (x ∷ rest)) i) f.new
-      ∙ ap (slice_get (firsts e f.before ++ x ∷ rest)) f.placed
+      ∙ ap (slice_get (firsts e f.before ++ x ∷ rest)) f.counted
       ∙ slice_get-seam (firsts e f.before) rest x
 
 -- the lines around a header
@@ -119,7 +119,7 @@ opens_from ls i n h =
       later = s.later;
       stands = s.stands;
       first = ap (list_any (same n)) s.heads ∙ flip n f.before ∙ f.new;
-      placed = f.placed ∙ ap (λ ns. length (firsts same ns)) (sym s.heads) ∙ sym (section_count s.before);
+      counted = f.counted ∙ ap (λ ns. length (firsts same ns)) (sym s.heads) ∙ sym (section_count s.before);
     }
 
 pub opens_to : (ls : List Line) (i : ℕ) (n : List ℕ) → OpensAt ls i n → slice_get (map (λ s. s.name) (sections_of ls)) i ≡ Some n
@@ -130,7 +130,7 @@ opens_to ls i n o =
       later = headers o.later;
       stands = ap headers o.stands ∙ headers-append o.before (header n ∷ o.later);
       new = sym (flip n (headers o.before)) ∙ o.first;
-      placed = o.placed ∙ section_count o.before;
+      counted = o.counted ∙ section_count o.before;
     })
 
 -- the lines around a pair under a header of the name
@@ -185,7 +185,7 @@ gives_from ls name i p h =
       under = head.1;
       named = head.2;
       first = ap (list_any (λ q. same p.key q.key)) s.gives ∙ flip_key p f.before ∙ f.new;
-      placed = f.placed ∙ ap (λ ps. length (firsts same_key ps)) (sym s.gives);
+      counted = f.counted ∙ ap (λ ps. length (firsts same_key ps)) (sym s.gives);
     }
 
 pub gives_to : (ls : List Line) (name : List ℕ) (i : ℕ) (p : Pair) → GivesAt ls name i p → slice_get (section_of ls name).pairs i ≡ Some p
@@ -196,5 +196,5 @@ gives_to ls name i p g =
       later = pairs_under name true g.later;
       stands = ap (pairs_under name false) g.stands ∙ pairs_under-append name false g.before (pair p.key p.value ∷ g.later) ∙ ap (λ t. pairs_under name false g.before ++ pairs_under name t (pair p.key p.value ∷ g.later)) here;
       new = sym (flip_key p (pairs_under name false g.before)) ∙ g.first;
-      placed = g.placed;
+      counted = g.counted;
     })

@@ -2,10 +2,10 @@
 use Rattle.std.proofs.Common.{◌≡◌, ℕ, zero, suc, Bool, true, false, cond, List, [], ◌∷◌, ◌++◌, None, Some, Result, Ok, Err, OnOk, OnErr, slice_get, refl, ap, ◌∙◌, sym}
 use Rattle.std.specs.Global.{Vec}
 use Rattle.std.specs.Map.{lookup, set_value, values_of}
-use Rattle.std.specs.Option.{option_map, option_and_then}
+use Rattle.std.specs.Option.{option_and_then}
 use Rattle.std.specs.Str.{bytes_eq}
 use Rattle.indexmap.specs.IndexMap.{set_value_at}
-use Rattle.ini_text.specs.Content.{Pair, Section, folded, same, value_at, content_at}
+use Rattle.ini_text.specs.Content.{Section, folded, same, value_at, content_at}
 use Rattle.ini_text.specs.Keyed.{AreFolded}
 use Rattle.ini_text.specs.Reading.{has_key, with_pair, with_pair_at}
 use Rattle.ini_text.specs.Change.{put_in_section}
@@ -40,13 +40,6 @@ nothing_at (s ∷ ss) zero key value h = cc
 nothing_at (s ∷ ss) (suc i) key value h = ap (λ xs. s ∷ xs) (nothing_at ss i key value h)
 
 module _ (q k : List ℕ) (is_folded : k ≡ folded q) where
-  -- what a table of pairs has at a folded key
-  pub value_found : (es : List (Vec ℕ × Pair)) → AreFolded (λ p. p.key) es → value_at (values_of es) q ≡ option_map (λ p. p.value) (lookup (λ v. bytes_eq k v.items) es)
-  value_found [] h = refl
-  value_found (e ∷ es) h =
-      let t : bytes_eq k e.0.items ≡ same q e.1.key = rw (is_folded, h.0) refl in
-      rw t (elim (same q e.1.key) as (λ t. cond t (Some e.1.value) (value_at (values_of es) q) ≡ option_map (λ p. p.value) (cond t (Some e.1) (lookup (λ v. bytes_eq k v.items) es))) [ true ↦ refl | false ↦ value_found es h.1 ])
-
   -- what a table of sections has at a folded name
   pub content_found : (es : List (Vec ℕ × Section)) (key : List ℕ) → AreFolded (λ s. s.name) es → content_at (values_of es) q key ≡ option_and_then (λ s. value_at s.pairs key) (lookup (λ v. bytes_eq k v.items) es)
   content_found [] key h = refl

@@ -2,6 +2,8 @@
 -- Own: lines end by LF alone, with no blanks round the `=` and no blank lines.
 use Rattle.std.specs.Prelude.{ℕ, Bool, List, [], ◌∷◌, ◌++◌, if◌then◌else◌}
 use Rattle.std.specs.List.{flat_map}
+use Rattle.std.specs.Str.{byte}
+use Rattle.ini_text.specs.Text.{line_feed}
 use Rattle.ini_text.specs.Content.{Pair, Section, same}
 
 -- with the first element that passes changed in its place, or else a new one last
@@ -23,11 +25,11 @@ with_value ss name key value = change_or_add (λ s. same name s.name) (λ s. put
 
 -- `key=value` and an LF
 abbrev pub pair_text : Pair → List ℕ
-pair_text p = p.key ++ 61 ∷ p.value ++ 10 ∷ []
+pair_text p = p.key ++ byte "=" ∷ p.value ++ line_feed ∷ []
 
 -- `[name]`, an LF, and the pairs
 abbrev pub section_text : Section → List ℕ
-section_text s = 91 ∷ s.name ++ 93 ∷ 10 ∷ flat_map pair_text s.pairs
+section_text s = byte "[" ∷ s.name ++ byte "]" ∷ line_feed ∷ flat_map pair_text s.pairs
 
 -- the text of the sections, in their order
 abbrev pub text_of : List Section → List ℕ

@@ -4,16 +4,16 @@ use Rattle.std.specs.List.{list_any}
 use Rattle.ini_text.specs.Line.{Line, header, pair}
 use Rattle.ini_text.specs.Content.{Pair, same, headers, last_header, gives_key, section_of, sections_of}
 
--- a header gives the name, no header before it gives that name in any case, and the lines before it have as many sections as the place says
-pub record OpensAt (lines : List Line) (place : ℕ) (name : List ℕ) : Type 0 where
+-- a header gives the name, no header before it gives that name in any case, and the lines before it have as many sections as the position says
+pub record OpensAt (lines : List Line) (position : ℕ) (name : List ℕ) : Type 0 where
   pub before : List Line
   pub later : List Line
   pub stands : lines ≡ before ++ header name ∷ later
   pub first : list_any (same name) (headers before) ≡ false
-  pub placed : place ≡ length (sections_of before)
+  pub counted : position ≡ length (sections_of before)
 
--- a line under a header of the section's name gives the pair, no line before it gives the key there, and the lines before it give the section as many pairs as the place says
-pub record GivesAt (lines : List Line) (name : List ℕ) (place : ℕ) (given : Pair) : Type 0 where
+-- a line under a header of the section's name gives the pair, no line before it gives the key there, and the lines before it give the section as many pairs as the position says
+pub record GivesAt (lines : List Line) (name : List ℕ) (position : ℕ) (given : Pair) : Type 0 where
   pub before : List Line
   pub heading : List ℕ
   pub later : List Line
@@ -21,4 +21,4 @@ pub record GivesAt (lines : List Line) (name : List ℕ) (place : ℕ) (given : 
   pub under : last_header before None ≡ Some heading
   pub named : same name heading ≡ true
   pub first : gives_key before name given.key ≡ false
-  pub placed : place ≡ length (section_of before name).pairs
+  pub counted : position ≡ length (section_of before name).pairs

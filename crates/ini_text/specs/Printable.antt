@@ -1,7 +1,8 @@
 -- The sections that CiA 306 text can hold: those that reading what `print` writes gives again.
 use Rattle.std.specs.Prelude.{◌≡◌, ℕ, ◌<◌, Bool, false, List, [], ◌∷◌, ◌++◌, ◌==◌, length, None}
 use Rattle.std.specs.List.{list_any, AllByRecursion}
-use Rattle.ini_text.specs.Text.{trimmed}
+use Rattle.std.specs.Str.{byte}
+use Rattle.ini_text.specs.Text.{line_feed, trimmed}
 use Rattle.ini_text.specs.Line.{header_name}
 use Rattle.ini_text.specs.Content.{Pair, Section, same, same_key, is_misused}
 
@@ -18,27 +19,27 @@ begins_with b (c ∷ cs) = c == b
 pub record IsName (name : List ℕ) : Type 0 where
   pub some : 0 < length name
   pub trim : trimmed name ≡ name
-  pub on_one_line : has_byte 10 name ≡ false
-  pub unclosed : has_byte 93 name ≡ false
+  pub on_one_line : has_byte line_feed name ≡ false
+  pub unclosed : has_byte (byte "]") name ≡ false
 
 -- not empty, with no space, tab or CR at its ends, with no LF and no `=`, and not begun by `;`
 pub record IsKey (key : List ℕ) : Type 0 where
   pub some : 0 < length key
   pub trim : trimmed key ≡ key
-  pub on_one_line : has_byte 10 key ≡ false
-  pub unequal : has_byte 61 key ≡ false
-  pub no_comment : begins_with 59 key ≡ false
+  pub on_one_line : has_byte line_feed key ≡ false
+  pub unequal : has_byte (byte "=") key ≡ false
+  pub no_comment : begins_with (byte ";") key ≡ false
 
 -- with no space, tab or CR at its ends, and with no LF
 pub record IsValue (value : List ℕ) : Type 0 where
   pub trim : trimmed value ≡ value
-  pub on_one_line : has_byte 10 value ≡ false
+  pub on_one_line : has_byte line_feed value ≡ false
 
 -- the key is one and the value is one, and `key=value` is no header
 pub record IsPrintablePair (p : Pair) : Type 0 where
   pub key : IsKey p.key
   pub value : IsValue p.value
-  pub no_header : header_name (p.key ++ 61 ∷ p.value) ≡ None
+  pub no_header : header_name (p.key ++ byte "=" ∷ p.value) ≡ None
 
 -- no element is equal to one after it
 abbrev pub AreApart : {X : Type 0} → (X → X → Bool) → List X → Type 0

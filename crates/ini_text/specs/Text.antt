@@ -3,39 +3,26 @@
 use Rattle.std.specs.Prelude.{ℕ, ◌-◌, Bool, List, [], ◌∷◌, ◌==◌, ◌||◌, ◌&&◌, nat_lt, if◌then◌else◌, length, take, drop, Option, Some, None, not}
 use Rattle.std.specs.List.{prefix_len, suffix_len, position_or_len, before_first, after_first, onto_first, list_any, starts_with}
 use Rattle.std.specs.Bool.{nat_eq}
+use Rattle.std.specs.Str.{byte}
+pub use Rattle.co_text.specs.Blanks.{tab, trim_start, trim_end}
+pub use Rattle.co_text.specs.Lines.{line_feed, carriage_return, is_cr}
+unfoldable pub use Rattle.co_text.specs.Lines.{split_once, lines_of}
+
+-- the byte order mark of UTF-8: EF BB BF
+abbrev pub byte_order_mark : List ℕ
+byte_order_mark = 0xEF ∷ 0xBB ∷ 0xBF ∷ []
 
 -- a space, a tab or a CR
 abbrev pub is_blank : ℕ → Bool
-is_blank b = (b == 32) || (b == 9) || (b == 13)
-
--- a CR
-abbrev pub is_cr : ℕ → Bool
-is_cr b = b == 13
-
--- without what passes at the start
-abbrev pub trim_start : (ℕ → Bool) → List ℕ → List ℕ
-trim_start p bs = drop (prefix_len p bs) bs
-
--- without what passes at the end
-abbrev pub trim_end : (ℕ → Bool) → List ℕ → List ℕ
-trim_end p bs = take (length bs - suffix_len p bs) bs
+is_blank b = (b == byte " ") || (b == tab) || (b == carriage_return)
 
 -- without spaces, tabs and CRs at its ends
 unfoldable pub trimmed : List ℕ → List ℕ
 trimmed bs = trim_end is_blank (trim_start is_blank bs)
 
--- what stands before the first b and what stands after it, where there is one
-unfoldable pub split_once : ℕ → List ℕ → Option (List ℕ × List ℕ)
-split_once b bs = if nat_lt (position_or_len (λ c. c == b) bs) (length bs) then Some (before_first (λ c. c == b) bs, after_first (λ c. c == b) bs) else None
-
--- the lines, each without its LF. What follows the last LF is a line where it isn't empty
-unfoldable pub lines_of : List ℕ → List (List ℕ)
-lines_of [] = []
-lines_of (b ∷ bs) = if b == 10 then [] ∷ lines_of bs else onto_first b (lines_of bs)
-
--- without the bytes EF BB BF at its front
+-- without a byte order mark at its front
 abbrev pub without_mark : List ℕ → List ℕ
-without_mark text = if starts_with nat_eq text (239 ∷ 187 ∷ 191 ∷ []) then drop 3 text else text
+without_mark text = if starts_with nat_eq text byte_order_mark then drop (length byte_order_mark) text else text
 
 -- over 4,096 bytes, the CRs at its end not counted
 abbrev pub is_long_line : List ℕ → Bool
@@ -47,7 +34,7 @@ is_out_of_range text = nat_lt 1048576 (length text) || list_any is_long_line (li
 
 -- a byte below 20h other than tab, LF and CR
 abbrev pub is_bad_byte : ℕ → Bool
-is_bad_byte b = nat_lt b 32 && not ((b == 9) || (b == 10) || (b == 13))
+is_bad_byte b = nat_lt b 0x20 && not ((b == tab) || (b == line_feed) || (b == carriage_return))
 
 -- whether a text has such a byte
 abbrev pub has_bad_byte : List ℕ → Bool

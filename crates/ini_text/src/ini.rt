@@ -11,11 +11,12 @@ ghost use Rattle.ini_text.specs.Text.{without_mark, is_out_of_range, has_bad_byt
 
 use crate::fault::IniFault;
 use crate::line::{Line, line_of};
-use crate::name::{find, same};
+use crate::name::{Name, same};
 use crate::number::is_zero;
 use crate::section::Section;
 use crate::table::{add_at, open, print, set_in};
-use crate::text::{has_bad_byte, is_out_of_range, next_line, without_mark};
+use crate::text::{has_bad_byte, is_out_of_range, without_mark};
+use co_text::next_line;
 use indexmap::IndexMap;
 use std::alloc::{AllocError, Global};
 use std::marker::Model;
@@ -50,7 +51,7 @@ fn is_misused(key: &[u8], value: &[u8]) -> bool
     same(COMPACT_PDO, key) && !is_zero(value)
 }
 
-/// Takes one line, and answers the place of the section that the next lines stand in.
+/// Takes one line, and answers the position of the section that the next lines stand in.
 fn take_line(
     sections: &mut IndexMap<Vec<u8>, Section>,
     warnings: &mut Vec<u32>,
@@ -69,12 +70,12 @@ fn take_line(
     match line_of(line) {
         Line::Nothing => Ok(current),
         Line::Header(name) => {
-            let place = open(sections, alloc, name)?;
-            Ok(Some(place))
+            let position = open(sections, alloc, name)?;
+            Ok(Some(position))
         }
         Line::Pair(key, value) => {
             let is_taken = match current {
-                Some(place) => add_at(sections, alloc, place, key, value)?
+                Some(position) => add_at(sections, alloc, position, key, value)?
                     && !is_misused(key, value),
                 None => false,
             };
@@ -153,12 +154,12 @@ impl Ini {
     }
 
     /// The value of a key in a section, each in any case of ASCII letters. Takes time linear in the
-    /// two names; for one of over 4,096 bytes, which `set` alone can have added, it walks.
+    /// two names.
     #[tactic(auto, using(crate::proofs::TableLemmas::content_found))]
     pub fn get(&self, section: &[u8], key: &[u8]) -> Option<&[u8]>
         ensures { option_copied result ≡ content_at self.now.sections section.now key.now }
     {
-        let section = find(&self.sections, section)?;
+        let section = self.sections.get(Name(section))?;
         section.get(key)
     }
 

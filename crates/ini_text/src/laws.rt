@@ -26,22 +26,22 @@ pub fn value_is_first()
         (content_at (sections_of lines) name key ≡ Some value) ↔ GivesFirst lines name key value }
 {}
 
-/// The section at a place has the name that a header gives, where no earlier header gives it in any
-/// case, and the earlier lines have as many sections as the place says. So sections stand in the
+/// The section at a position has the name that a header gives, where no earlier header gives it in any
+/// case, and the earlier lines have as many sections as the position says. So sections stand in the
 /// order of their first headers, spelled as those spell them.
 pub fn sections_in_order()
-    ensures { (lines : List Line) (place : ℕ) (name : List ℕ) →
-        (slice_get (map (λ s. s.name) (sections_of lines)) place ≡ Some name)
-        ↔ OpensAt lines place name }
+    ensures { (lines : List Line) (position : ℕ) (name : List ℕ) →
+        (slice_get (map (λ s. s.name) (sections_of lines)) position ≡ Some name)
+        ↔ OpensAt lines position name }
 {}
 
-/// The pair at a place of a section is what a line gives under a header of its name, where no
+/// The pair at a position of a section is what a line gives under a header of its name, where no
 /// earlier line gives that key there, and the earlier lines give the section as many pairs as the
-/// place says. So pairs stand in the order of their first lines, spelled as those spell them.
+/// position says. So pairs stand in the order of their first lines, spelled as those spell them.
 pub fn pairs_in_order()
-    ensures { (lines : List Line) (name : List ℕ) (place : ℕ) (given : Pair) →
-        (slice_get (section_of lines name).pairs place ≡ Some given)
-        ↔ GivesAt lines name place given }
+    ensures { (lines : List Line) (name : List ℕ) (position : ℕ) (given : Pair) →
+        (slice_get (section_of lines name).pairs position ≡ Some given)
+        ↔ GivesAt lines name position given }
 {}
 
 /// The warned numbers are those of the lines that give nothing though they aren't empty, that give

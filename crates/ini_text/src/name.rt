@@ -1,16 +1,16 @@
 //! Names: sections and keys are equal where they are equal without ASCII case.
-ghost use Rattle.std.specs.Prelude.{◌≡◌, IfOk};
-ghost use Rattle.std.specs.Option.{option_copied};
-ghost use Rattle.std.specs.Map.{lookup};
+ghost use Rattle.std.specs.Prelude.{◌≡◌, IfOk, fold};
+ghost use Rattle.std.specs.Cmp.{on_equiv, on_per, partial_equiv_from_equiv};
+ghost use Rattle.std.specs.Cmp.Lexicographic.{nat_list_eq_equiv};
+ghost use Rattle.std.specs.Hash as fed;
 ghost use Rattle.std.specs.Str.{bytes_eq};
 ghost use Rattle.ini_text.specs.Content.{folded, same};
+ghost use Rattle.ini_text.specs.Keyed.{name_writes, fed_alike};
 
-use indexmap::IndexMap;
+use crate::pair::Pair;
+use indexmap::Equivalent;
 use std::alloc::{AllocError, Global};
-
-/// The longest name that is looked up by its hash. No line of a text has a longer one; only `set`
-/// adds such.
-const MAX_HASHED: usize = 4096;
+use std::hash::{Hash, Hasher};
 
 /// The bytes with `a` to `z` in place of `A` to `Z`.
 pub(crate) fn folded(alloc: Global, bytes: &[u8]) -> Result<Vec<u8>, AllocError>
@@ -48,30 +48,66 @@ fn is_folded(name: &[u8], key: &[u8]) -> bool
     key.is_empty()
 }
 
-/// What a table has at a folded name of any length, by a walk over its entries.
-fn find_by_walk<'a, X>(table: &'a IndexMap<Vec<u8>, X>, name: &[u8]) -> Option<&'a X>
-    ensures { option_copied result
-        ≡ lookup (λ key. bytes_eq (folded name.now) key.items) table.now.entries }
+/// Feeds a name to a hasher, as its folded bytes are fed.
+pub(crate) fn hash_name<H: Hasher>(name: &[u8], state: &mut H)
+    ensures { state.new ≡ fold H.write state.old (name_writes name.now) }
 {
-    for (key, value) in table.iter() {
-        if is_folded(name, key.as_slice()) {
-            return Some(value);
-        }
+    state.write_usize(name.len());
+    for byte in name {
+        state.write_u8(byte.to_ascii_lowercase());
     }
-    None
 }
 
-/// What a table whose keys are folded names has at a name.
-pub(crate) fn find<'a, X>(table: &'a IndexMap<Vec<u8>, X>, name: &[u8]) -> Option<&'a X>
-    ensures { option_copied result
-        ≡ lookup (λ key. bytes_eq (folded name.now) key.items) table.now.entries }
-{
-    if name.len() > MAX_HASHED {
-        return find_by_walk(table, name);
+/// A name that is looked up, in any case of ASCII letters.
+#[derive(Clone, Copy)]
+pub(crate) struct Name<'a>(pub(crate) &'a [u8]);
+
+impl PartialEq for Name<'_> {
+    ghost eq = { λ a b. same a.0.now b.0.now };
+
+    ghost laws = { on_per (λ a. folded a.0.now) (partial_equiv_from_equiv nat_list_eq_equiv) };
+
+    fn eq(&self, other: &Name<'_>) -> bool {
+        same(self.0, other.0)
     }
-    let mut buffer = [0; MAX_HASHED];
-    let place = &mut buffer[..name.len()];
-    place.copy_from_slice(name);
-    place.make_ascii_lowercase();
-    table.get(&*place)
+}
+
+impl Eq for Name<'_> {
+    ghost laws = { on_equiv (λ a. folded a.0.now) nat_list_eq_equiv };
+}
+
+impl Hash for Name<'_> {
+    ghost hash_input = { λ a. name_writes a.0.now };
+
+    ghost respects_eq = { λ a b. fed_alike (folded a.0.now) (folded b.0.now) };
+
+    fn hash<H: Hasher>(&self, state: &mut H) {
+        hash_name(self.0, state)
+    }
+}
+
+/// Stands for the pairs whose key has the name.
+impl Equivalent<Pair> for Name<'_> {
+    ghost equivalent = { λ a p. same a.0.now p.key };
+
+    ghost respects_hash = { λ a p. fed_alike (folded a.0.now) (folded p.key) };
+
+    ghost respects_eq = { λ a p q. nat_list_eq_equiv.congr (folded a.0.now) (folded p.key) (folded q.key) };
+
+    fn equivalent(&self, pair: &Pair) -> bool {
+        same(self.0, pair.key())
+    }
+}
+
+/// Stands for the folded name.
+impl Equivalent<Vec<u8>> for Name<'_> {
+    ghost equivalent = { λ a k. bytes_eq (folded a.0.now) k.items };
+
+    ghost respects_hash = { λ a k. fed_alike (folded a.0.now) k.items };
+
+    ghost respects_eq = { λ a k m. nat_list_eq_equiv.congr (folded a.0.now) k.items m.items };
+
+    fn equivalent(&self, key: &Vec<u8>) -> bool {
+        is_folded(self.0, key.as_slice())
+    }
 }

@@ -1,10 +1,11 @@
 //! Whether a text spells the number 0.
 ghost use Rattle.std.specs.Prelude.{◌≡◌, ◌==◌};
 ghost use Rattle.std.specs.List.{list_all};
+ghost use Rattle.std.specs.Str.{byte};
 ghost use Rattle.ini_text.specs.CompactPdo.{are_zeros, after_0x, is_zero_unsigned, is_zero};
 
 fn are_all_zeros(bytes: &[u8]) -> bool
-    ensures { result ≡ list_all (λ c. c == 48) bytes.now }
+    ensures { result ≡ list_all (λ c. c == byte "0") bytes.now }
 {
     bytes.iter().all(|b| *b == b'0')
 }

@@ -1,60 +1,94 @@
 //! A key with its value.
-ghost use Rattle.std.specs.Prelude.{◌≡◌, ◌++◌, OnOk};
+ghost use Rattle.std.specs.Prelude.{◌≡◌, ◌++◌, IfOk, OnOk};
+ghost use Rattle.std.specs.Cmp.{on_equiv, on_per, partial_equiv_from_equiv};
+ghost use Rattle.std.specs.Cmp.Lexicographic.{nat_list_eq_equiv};
+ghost use Rattle.ini_text.specs.Content.{folded, same_key};
 ghost use Rattle.ini_text.specs.Change.{pair_text};
+ghost use Rattle.ini_text.specs.Keyed.{name_writes, fed_alike};
 
-use std::alloc::AllocError;
+use crate::name::{hash_name, same};
+use std::alloc::{AllocError, Global};
+use std::hash::{Hash, Hasher};
 use std::marker::Model;
 
-/// A key with its value, as a line `key=value` of CiA 306 gives them.
+/// A key with its value, as a line `key=value` of CiA 306 gives them. Two are equal where their
+/// keys are, without ASCII case, as the pairs of a section never are.
 #[derive(Drop)]
 pub struct Pair {
-    key: Vec<u8>,
-    value: Vec<u8>,
+    line: Vec<u8>,
+    key_len: usize,
 }
 
 impl Model for Pair {
+    ghost use Rattle.std.specs.Prelude.{take, drop, ◌+◌, ◌<◌, length};
     ghost use Rattle.ini_text.specs.Content.{Pair as Entry};
+    ghost use Rattle.ini_text.specs.Keyed.{IsSplit};
 
     ghost Value = { Entry };
 
-    ghost view = { λ a. record { key = a.key.items; value = a.value.items } };
+    ghost view = { λ a. record { key = take a.key_len a.line.items; value = drop (a.key_len + 1) a.line.items } };
+
+    ghost invariant = { λ a. IsSplit a.line.items a.key_len };
 }
 
 impl Pair {
-    pub(crate) fn new(key: Vec<u8>, value: Vec<u8>) -> Self
-        ensures { result ≡ record { key = key.items; value = value.items } }
+    pub(crate) fn new(alloc: Global, key: &[u8], value: &[u8]) -> Result<Self, AllocError>
+        ensures { IfOk result (λ p. p ≡ record { key = key.now; value = value.now }) }
     {
-        Pair { key, value }
+        let mut line = Vec::with_capacity(alloc, key.len() + 1 + value.len())?;
+        line.extend_from_slice(key)?;
+        line.push(b'=')?;
+        line.extend_from_slice(value)?;
+        Ok(Pair {
+            line,
+            key_len: key.len(),
+        })
     }
 
     /// The key, as it was spelled first.
     pub fn key(&self) -> &[u8]
         ensures { result.now ≡ self.now.key }
     {
-        self.key.as_slice()
+        &self.line[..self.key_len]
     }
 
     /// The value. It may be empty.
     pub fn value(&self) -> &[u8]
         ensures { result.now ≡ self.now.value }
     {
-        self.value.as_slice()
-    }
-
-    pub(crate) fn set_value(&mut self, value: Vec<u8>)
-        ensures { self.new ≡ record { key = self.old.key; value = value.items } }
-    {
-        self.value = value;
+        &self.line[self.key_len + 1..]
     }
 
     /// Writes `key=value` and an LF at the end.
     pub(crate) fn print(&self, out: &mut Vec<u8>) -> Result<(), AllocError>
         ensures { OnOk result (out.new.items ≡ out.old.items ++ pair_text self.now) }
     {
-        out.extend_from_slice(self.key.as_slice())?;
-        out.push(b'=')?;
-        out.extend_from_slice(self.value.as_slice())?;
+        out.extend_from_slice(self.line.as_slice())?;
         out.push(b'\n')?;
         Ok(())
+    }
+}
+
+impl PartialEq for Pair {
+    ghost eq = { same_key };
+
+    ghost laws = { on_per (λ p. folded p.key) (partial_equiv_from_equiv nat_list_eq_equiv) };
+
+    fn eq(&self, other: &Pair) -> bool {
+        same(self.key(), other.key())
+    }
+}
+
+impl Eq for Pair {
+    ghost laws = { on_equiv (λ p. folded p.key) nat_list_eq_equiv };
+}
+
+impl Hash for Pair {
+    ghost hash_input = { λ p. name_writes p.key };
+
+    ghost respects_eq = { λ p q. fed_alike (folded p.key) (folded q.key) };
+
+    fn hash<H: Hasher>(&self, state: &mut H) {
+        hash_name(self.key(), state)
     }
 }

@@ -2,42 +2,13 @@
 ghost use Rattle.std.specs.Prelude.{◌≡◌, not, IfOk, OnErr, OnOk, ◌++◌, []};
 ghost use Rattle.std.specs.Option.{option_copied};
 ghost use Rattle.std.specs.List.{flat_map};
-ghost use Rattle.indexmap.specs.IndexMap.{values};
-ghost use Rattle.ini_text.specs.Keyed.{AreFolded};
-ghost use Rattle.ini_text.specs.Change.{put_value, pair_text};
+ghost use Rattle.ini_text.specs.Change.{pair_text};
 
-use crate::name::{find, folded};
+use crate::name::Name;
 use crate::pair::Pair;
-use indexmap::IndexMap;
+use indexmap::IndexSet;
 use std::alloc::{AllocError, Global};
 use std::marker::Model;
-
-/// Sets the value of a key in its place, or adds the key last.
-fn set_in(
-    pairs: &mut IndexMap<Vec<u8>, Pair>,
-    alloc: Global,
-    key: &[u8],
-    value: &[u8],
-) -> Result<(), AllocError>
-    requires { AreFolded (λ p. p.key) pairs.old.entries }
-    ensures kept { AreFolded (λ p. p.key) pairs.new.entries }
-    ensures ok { OnOk result (values pairs.new ≡ put_value (values pairs.old) key.now value.now) }
-    ensures err { OnErr result (pairs.new.entries ≡ pairs.old.entries) }
-{
-    let folded = folded(alloc, key)?;
-    let value = Vec::from_slice(alloc, value)?;
-    match pairs.get_mut(folded.as_slice()) {
-        Some(pair) => {
-            pair.set_value(value);
-            Ok(())
-        }
-        None => {
-            let key = Vec::from_slice(alloc, key)?;
-            pairs.insert(folded, Pair::new(key, value))?;
-            Ok(())
-        }
-    }
-}
 
 /// Writes pairs at the end.
 fn print_pairs(pairs: &[Pair], out: &mut Vec<u8>) -> Result<(), AllocError>
@@ -53,19 +24,15 @@ fn print_pairs(pairs: &[Pair], out: &mut Vec<u8>) -> Result<(), AllocError>
 #[derive(Drop)]
 pub struct Section {
     name: Vec<u8>,
-    pairs: IndexMap<Vec<u8>, Pair>,
+    pairs: IndexSet<Pair>,
 }
 
 impl Model for Section {
     ghost use Rattle.ini_text.specs.Content.{Section as Entry};
-    ghost use Rattle.ini_text.specs.Keyed.{AreFolded};
-    ghost use Rattle.indexmap.specs.IndexMap.{values};
 
     ghost Value = { Entry };
 
-    ghost view = { λ a. record { name = a.name.items; pairs = values a.pairs } };
-
-    ghost invariant = { λ a. AreFolded (λ p. p.key) a.pairs.entries };
+    ghost view = { λ a. record { name = a.name.items; pairs = a.pairs.keys } };
 }
 
 impl Section {
@@ -78,7 +45,7 @@ impl Section {
     {
         Ok(Section {
             name: Vec::from_slice(alloc, name)?,
-            pairs: IndexMap::new(alloc),
+            pairs: IndexSet::new(alloc),
         })
     }
 
@@ -93,14 +60,9 @@ impl Section {
         ensures ok { OnOk result (self.new ≡ with_pair self.old key.now value.now) }
         ensures err { OnErr result (self.new ≡ self.old) }
     {
-        let folded = folded(alloc, key)?;
-        if self.pairs.contains_key(folded.as_slice()) {
-            return Ok(false);
-        }
-        let key = Vec::from_slice(alloc, key)?;
-        let value = Vec::from_slice(alloc, value)?;
-        self.pairs.insert(folded, Pair::new(key, value))?;
-        Ok(true)
+        let pair = Pair::new(alloc, key, value)?;
+        let is_new = self.pairs.insert(pair)?;
+        Ok(is_new)
     }
 
     /// Sets the value of a key in its place, or adds the key last.
@@ -108,7 +70,13 @@ impl Section {
         ensures ok { OnOk result (self.new ≡ put_in_section self.old key.now value.now) }
         ensures err { OnErr result (self.new ≡ self.old) }
     {
-        set_in(&mut self.pairs, alloc, key, value)
+        let spelled = match self.pairs.get(Name(key)) {
+            Some(pair) => pair.key(),
+            None => key,
+        };
+        let pair = Pair::new(alloc, spelled, value)?;
+        self.pairs.replace(pair)?;
+        Ok(())
     }
 
     /// Writes `[name]`, an LF, and the pairs at the end.
@@ -133,16 +101,15 @@ impl Section {
     pub fn pairs(&self) -> &[Pair]
         ensures { result.now ≡ self.now.pairs }
     {
-        self.pairs.values().as_slice()
+        self.pairs.as_slice()
     }
 
-    /// The value of a key, in any case of ASCII letters. Takes time linear in the key; for one of
-    /// over 4,096 bytes it walks.
-    #[tactic(auto, using(crate::proofs::TableLemmas::value_found))]
+    /// The value of a key, in any case of ASCII letters. Takes time linear in the key.
+    #[tactic(auto, using(crate::proofs::PairLemmas::value_found))]
     pub fn get(&self, key: &[u8]) -> Option<&[u8]>
         ensures { option_copied result ≡ value_at self.now.pairs key.now }
     {
-        let pair = find(&self.pairs, key)?;
+        let pair = self.pairs.get(Name(key))?;
         Some(pair.value())
     }
 }

@@ -2,15 +2,15 @@
 ghost use Rattle.std.specs.Prelude.{◌≡◌, ◌<◌, not, length, ◌++◌, IfOk, OnErr, OnOk};
 ghost use Rattle.indexmap.specs.IndexMap.{values};
 ghost use Rattle.ini_text.specs.Keyed.{AreFolded};
-ghost use Rattle.ini_text.specs.Reading.{place_of, with_name, with_pair_at, has_key_at};
+ghost use Rattle.ini_text.specs.Reading.{position_of, with_name, with_pair_at, has_key_at};
 ghost use Rattle.ini_text.specs.Change.{with_value, text_of};
 
-use crate::name::folded;
+use crate::name::{Name, folded};
 use crate::section::Section;
 use indexmap::IndexMap;
 use std::alloc::{AllocError, Global};
 
-/// The place of the section of this name, which goes last where it is new.
+/// The position of the section of this name, which goes last where it is new.
 pub(crate) fn open(
     sections: &mut IndexMap<Vec<u8>, Section>,
     alloc: Global,
@@ -18,36 +18,36 @@ pub(crate) fn open(
 ) -> Result<usize, AllocError>
     requires { AreFolded (λ s. s.name) sections.old.entries }
     ensures kept { AreFolded (λ s. s.name) sections.new.entries }
-    ensures place { IfOk result (λ place. place ≡ place_of (values sections.old) name.now) }
+    ensures position { IfOk result (λ i. i ≡ position_of (values sections.old) name.now) }
     ensures ok { OnOk result (values sections.new ≡ with_name (values sections.old) name.now) }
     ensures err { OnErr result (sections.new.entries ≡ sections.old.entries) }
 {
-    let folded = folded(alloc, name)?;
-    if let Some(place) = sections.get_index_of(folded.as_slice()) {
-        return Ok(place);
+    if let Some(position) = sections.get_index_of(Name(name)) {
+        return Ok(position);
     }
+    let folded = folded(alloc, name)?;
     let section = Section::new(alloc, name)?;
-    let (place, _) = sections.insert_full(folded, section)?;
-    Ok(place)
+    let (position, _) = sections.insert_full(folded, section)?;
+    Ok(position)
 }
 
-/// Adds a pair to the section at a place, unless that has the key, and answers whether it was new.
+/// Adds a pair to the section at a position, unless that has the key, and answers whether it was new.
 pub(crate) fn add_at(
     sections: &mut IndexMap<Vec<u8>, Section>,
     alloc: Global,
-    place: usize,
+    position: usize,
     key: &[u8],
     value: &[u8],
 ) -> Result<bool, AllocError>
     requires { AreFolded (λ s. s.name) sections.old.entries }
     ensures kept { AreFolded (λ s. s.name) sections.new.entries }
     ensures added { IfOk result (λ added.
-        added ≡ not (has_key_at (values sections.old) place key.now)) }
+        added ≡ not (has_key_at (values sections.old) position key.now)) }
     ensures ok { OnOk result (values sections.new
-        ≡ with_pair_at (values sections.old) place key.now value.now) }
+        ≡ with_pair_at (values sections.old) position key.now value.now) }
     ensures err { OnErr result (values sections.new ≡ values sections.old) }
 {
-    match sections.get_index_mut(place) {
+    match sections.get_index_mut(position) {
         Some(section) => section.add(alloc, key, value),
         None => Ok(true),
     }
@@ -67,10 +67,10 @@ pub(crate) fn set_in(
         ≡ with_value (values sections.old) name.now key.now value.now) }
     ensures err { OnErr result (values sections.new ≡ values sections.old) }
 {
-    let folded = folded(alloc, name)?;
-    match sections.get_mut(folded.as_slice()) {
+    match sections.get_mut(Name(name)) {
         Some(section) => section.set(alloc, key, value),
         None => {
+            let folded = folded(alloc, name)?;
             let mut section = Section::new(alloc, name)?;
             section.set(alloc, key, value)?;
             sections.insert(folded, section)?;

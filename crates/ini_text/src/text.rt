@@ -5,6 +5,8 @@ ghost use Rattle.std.specs.Bool.{IsFalse};
 ghost use Rattle.std.specs.Option.{option_map};
 ghost use Rattle.ini_text.specs.Text.{is_blank, is_cr, trim_start, trim_end, trimmed, split_once, lines_of, without_mark, is_long_line, is_out_of_range, is_bad_byte, has_bad_byte};
 
+use co_text::{next_line, without_crs};
+
 const MAX_LINE: usize = 4096;
 
 const MAX_TEXT: usize = 1_048_576;
@@ -43,45 +45,6 @@ pub(crate) fn trimmed(bytes: &[u8]) -> &[u8]
     trim_end(trim_start(bytes))
 }
 
-fn without_crs(bytes: &[u8]) -> &[u8]
-    ensures { result.now ≡ trim_end is_cr bytes.now }
-{
-    let mut end = bytes.len();
-    while end > 0 && bytes[end - 1] == b'\r' {
-        end -= 1;
-    }
-    &bytes[..end]
-}
-
-fn position_of(bytes: &[u8], byte: u8) -> Option<usize>
-    ensures { result ≡ position (λ b. b == byte) bytes.now }
-{
-    bytes.iter().position(|b| *b == byte)
-}
-
-/// What stands before the first `byte`, and what stands after it.
-#[tactic(auto, unfolding(crate::specs::Text::split_once))]
-pub(crate) fn split_once(bytes: &[u8], byte: u8) -> Option<(&[u8], &[u8])>
-    ensures { option_map (λ p. (p.0.now, p.1.now)) result ≡ split_once byte bytes.now }
-{
-    match position_of(bytes, byte) {
-        Some(at) => Some((&bytes[..at], &bytes[at + 1..])),
-        None => None,
-    }
-}
-
-/// The first line, without its LF, and what follows it.
-pub(crate) fn next_line(text: &[u8]) -> (&[u8], &[u8])
-    requires { 0 < length text.now }
-    ensures lines { lines_of text.now ≡ result.0.now ∷ lines_of result.1.now }
-    ensures shorter { length result.1.now < length text.now }
-{
-    match position_of(text, b'\n') {
-        Some(at) => (&text[..at], &text[at + 1..]),
-        None => (text, &text[text.len()..]),
-    }
-}
-
 /// Without the bytes EF BB BF at its front.
 pub(crate) fn without_mark(text: &[u8]) -> &[u8]
     ensures text { result.now ≡ without_mark text.now }
@@ -94,10 +57,21 @@ pub(crate) fn without_mark(text: &[u8]) -> &[u8]
     }
 }
 
+fn is_bad_byte(byte: u8) -> bool
+    ensures { result ≡ is_bad_byte byte }
+{
+    byte < 0x20 && !(byte == b'\t' || byte == b'\n' || byte == b'\r')
+}
+
+/// Looks at each byte of the text, also after a bad one, so that many are taken at a time.
 pub(crate) fn has_bad_byte(text: &[u8]) -> bool
     ensures { result ≡ has_bad_byte text.now }
 {
-    text.iter().any(|b| *b < 32 && !(*b == b'\t' || *b == b'\n' || *b == b'\r'))
+    let mut has_bad = false;
+    for byte in text {
+        has_bad |= is_bad_byte(*byte);
+    }
+    has_bad
 }
 
 fn is_long_line(line: &[u8]) -> bool
@@ -106,7 +80,7 @@ fn is_long_line(line: &[u8]) -> bool
     without_crs(line).len() > MAX_LINE
 }
 
-#[tactic(auto, using(crate::proofs::TextLemmas::lines_of_empty))]
+#[tactic(auto, using(co_text::proofs::LineLemmas::lines_of_empty))]
 fn has_long_line(text: &[u8]) -> bool
     ensures { result ≡ list_any is_long_line (lines_of text.now) }
 {

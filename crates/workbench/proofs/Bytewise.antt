@@ -2,9 +2,9 @@
 use Rattle.std.proofs.Common.{◌≡◌, ℕ, true, false, cond, eqb, List, [], ◌∷◌, ◌++◌, length, sym, refl, ap, ◌∙◌, append_assoc, append-nil, arith}
 use Rattle.std.proofs.lemmas.Bool.{ne_eqb}
 use Rattle.std.specs.List.{onto_first}
-use Rattle.ini_text.specs.Text.{lines_of}
-use Rattle.workbench.specs.Replies.{Place, Progress, start, after_line, after_lines, cut_off, replies, complete_replies, lengthened, ended_lines}
-use Rattle.workbench.specs.Machine.{Reached, first_standing, after, at_break, joined, at_end}
+use Rattle.co_text.specs.Lines.{lines_of}
+use Rattle.workbench.specs.Replies.{State, After, start, after_line, after_lines, cut_off, replies, complete_replies, lengthened, ended_lines}
+use Rattle.workbench.specs.Machine.{Cursor, first_cursor, after, at_break, joined, at_end}
 use Rattle.workbench.proofs.Runs.{unended}
 
 -- ---- a front of the first line came before
@@ -34,52 +34,52 @@ onto-nothing ls = refl
 
 -- ---- all of the input
 
-abbrev all_of : Progress → List (List ℕ)
-all_of p = p.replies ++ cut_off p.place.block
+abbrev all_of : After State → List (List ℕ)
+all_of p = p.replies ++ cut_off p.state.block
 
-abbrev rest_of : Reached → List (List ℕ)
-rest_of r = r.replies ++ at_end r.standing
+abbrev rest_of : After Cursor → List (List ℕ)
+rest_of r = r.replies ++ at_end r.state
 
-at_end-none : (place : Place) → at_end (record { place = place; line = [] }) ≡ cut_off place.block
+at_end-none : (state : State) → at_end (record { state = state; line = [] }) ≡ cut_off state.block
 unfolding at_end
-at_end-none place = refl
+at_end-none state = refl
 
-at_end-some : (place : Place) (b : ℕ) (bs : List ℕ) → at_end (record { place = place; line = b ∷ bs }) ≡ all_of (after_line place (b ∷ bs))
+at_end-some : (state : State) (b : ℕ) (bs : List ℕ) → at_end (record { state = state; line = b ∷ bs }) ≡ all_of (after_line state (b ∷ bs))
 unfolding at_end
-at_end-some place b bs = let e : eqb (length (b ∷ bs)) 0 ≡ false = ne_eqb (length (b ∷ bs)) 0 (λ h. omega arith) in rw e refl
+at_end-some state b bs = let e : eqb (length (b ∷ bs)) 0 ≡ false = ne_eqb (length (b ∷ bs)) 0 (λ h. omega arith) in rw e refl
 
-all_of_line : (place : Place) (line : List ℕ) → all_of (after_lines place (line ∷ [])) ≡ all_of (after_line place line)
-all_of_line place line = ap (λ (rs : List (List ℕ)). rs ++ cut_off (after_line place line).place.block) (append-nil (after_line place line).replies)
+all_of_line : (state : State) (line : List ℕ) → all_of (after_lines state (line ∷ [])) ≡ all_of (after_line state line)
+all_of_line state line = ap (λ (rs : List (List ℕ)). rs ++ cut_off (after_line state line).state.block) (append-nil (after_line state line).replies)
 
-at_end-lines : (place : Place) (line : List ℕ) → at_end (record { place = place; line = line }) ≡ all_of (after_lines place (onto line []))
-at_end-lines place [] = at_end-none place ∙ ap (λ (ls : List (List ℕ)). all_of (after_lines place ls)) (sym (onto-nothing []))
-at_end-lines place (b ∷ bs) =
-    at_end-some place b bs
-    ∙ sym (all_of_line place (b ∷ bs))
-    ∙ ap (λ (ls : List (List ℕ)). all_of (after_lines place ls)) (sym (onto-none b bs))
+at_end-lines : (state : State) (line : List ℕ) → at_end (record { state = state; line = line }) ≡ all_of (after_lines state (onto line []))
+at_end-lines state [] = at_end-none state ∙ ap (λ (ls : List (List ℕ)). all_of (after_lines state ls)) (sym (onto-nothing []))
+at_end-lines state (b ∷ bs) =
+    at_end-some state b bs
+    ∙ sym (all_of_line state (b ∷ bs))
+    ∙ ap (λ (ls : List (List ℕ)). all_of (after_lines state ls)) (sym (onto-none b bs))
 
-bytewise : (place : Place) (line bs : List ℕ) → rest_of (after (record { place = place; line = line }) bs) ≡ all_of (after_lines place (onto line (lines_of bs)))
+bytewise : (state : State) (line bs : List ℕ) → rest_of (after (record { state = state; line = line }) bs) ≡ all_of (after_lines state (onto line (lines_of bs)))
 unfolding after lines_of
-bytewise place line [] = at_end-lines place line
-bytewise place line (b ∷ bs) =
-    let q = after_line place line in
+bytewise state line [] = at_end-lines state line
+bytewise state line (b ∷ bs) =
+    let q = after_line state line in
     elim (eqb b 10) as (λ t.
-    let first : Reached = cond t (at_break q) (unended place (line ++ b ∷ [])) in
-    rest_of (joined first.replies (after first.standing bs)) ≡ all_of (after_lines place (onto line (cond t ([] ∷ lines_of bs) (onto_first b (lines_of bs)))))) [
+    let first : After Cursor = cond t (at_break q) (unended state (line ++ b ∷ [])) in
+    rest_of (joined first.replies (after first.state bs)) ≡ all_of (after_lines state (onto line (cond t ([] ∷ lines_of bs) (onto_first b (lines_of bs)))))) [
       | true ↦
-          let r = after (record { place = q.place; line = [] }) bs in
-          let others = after_lines q.place (lines_of bs) in
-          append_assoc q.replies r.replies (at_end r.standing)
-          ∙ ap (λ (rs : List (List ℕ)). q.replies ++ rs) (bytewise q.place [] bs ∙ ap (λ (ls : List (List ℕ)). all_of (after_lines q.place ls)) (onto-nothing (lines_of bs)))
-          ∙ sym (append_assoc q.replies others.replies (cut_off others.place.block))
-          ∙ ap (λ (l : List ℕ). all_of (after_lines place (l ∷ lines_of bs))) (sym (append-nil line))
-          ∙ ap (λ (ls : List (List ℕ)). all_of (after_lines place ls)) (sym (onto-line line [] (lines_of bs)))
+          let r = after (record { state = q.state; line = [] }) bs in
+          let others = after_lines q.state (lines_of bs) in
+          append_assoc q.replies r.replies (at_end r.state)
+          ∙ ap (λ (rs : List (List ℕ)). q.replies ++ rs) (bytewise q.state [] bs ∙ ap (λ (ls : List (List ℕ)). all_of (after_lines q.state ls)) (onto-nothing (lines_of bs)))
+          ∙ sym (append_assoc q.replies others.replies (cut_off others.state.block))
+          ∙ ap (λ (l : List ℕ). all_of (after_lines state (l ∷ lines_of bs))) (sym (append-nil line))
+          ∙ ap (λ (ls : List (List ℕ)). all_of (after_lines state ls)) (sym (onto-line line [] (lines_of bs)))
       | false ↦
-          bytewise place (line ++ b ∷ []) bs
-          ∙ ap (λ (ls : List (List ℕ)). all_of (after_lines place ls)) (sym (onto-byte line b (lines_of bs)))
+          bytewise state (line ++ b ∷ []) bs
+          ∙ ap (λ (ls : List (List ℕ)). all_of (after_lines state ls)) (sym (onto-byte line b (lines_of bs)))
     ]
 
-pub replies_bytewise : (input : List ℕ) → replies input ≡ (after first_standing input).replies ++ at_end (after first_standing input).standing
+pub replies_bytewise : (input : List ℕ) → replies input ≡ (after first_cursor input).replies ++ at_end (after first_cursor input).state
 unfolding replies
 replies_bytewise input = sym (bytewise start [] input ∙ ap (λ (ls : List (List ℕ)). all_of (after_lines start ls)) (onto-nothing (lines_of input)))
 
@@ -108,26 +108,26 @@ before-nothing : (ls : List (List ℕ)) → before [] ls ≡ ls
 unfolding before
 before-nothing ls = refl
 
-abbrev given : Place → List (List ℕ) → List (List ℕ)
-given place ls = (after_lines place ls).replies
+abbrev given : State → List (List ℕ) → List (List ℕ)
+given state ls = (after_lines state ls).replies
 
-ended : (place : Place) (line bs : List ℕ) → (after (record { place = place; line = line }) bs).replies ≡ given place (before line (ended_lines bs))
+ended : (state : State) (line bs : List ℕ) → (after (record { state = state; line = line }) bs).replies ≡ given state (before line (ended_lines bs))
 unfolding after ended_lines
-ended place line [] = ap (given place) (sym (before-none line))
-ended place line (b ∷ bs) =
-    let q = after_line place line in
+ended state line [] = ap (given state) (sym (before-none line))
+ended state line (b ∷ bs) =
+    let q = after_line state line in
     elim (eqb b 10) as (λ t.
-    let first : Reached = cond t (at_break q) (unended place (line ++ b ∷ [])) in
-    (joined first.replies (after first.standing bs)).replies ≡ given place (before line (cond t ([] ∷ ended_lines bs) (lengthened b (ended_lines bs))))) [
+    let first : After Cursor = cond t (at_break q) (unended state (line ++ b ∷ [])) in
+    (joined first.replies (after first.state bs)).replies ≡ given state (before line (cond t ([] ∷ ended_lines bs) (lengthened b (ended_lines bs))))) [
       | true ↦
-          ap (λ (rs : List (List ℕ)). q.replies ++ rs) (ended q.place [] bs ∙ ap (given q.place) (before-nothing (ended_lines bs)))
-          ∙ ap (λ (l : List ℕ). given place (l ∷ ended_lines bs)) (sym (append-nil line))
-          ∙ ap (given place) (sym (before-line line [] (ended_lines bs)))
+          ap (λ (rs : List (List ℕ)). q.replies ++ rs) (ended q.state [] bs ∙ ap (given q.state) (before-nothing (ended_lines bs)))
+          ∙ ap (λ (l : List ℕ). given state (l ∷ ended_lines bs)) (sym (append-nil line))
+          ∙ ap (given state) (sym (before-line line [] (ended_lines bs)))
       | false ↦
-          ended place (line ++ b ∷ []) bs
-          ∙ ap (given place) (sym (before-byte line b (ended_lines bs)))
+          ended state (line ++ b ∷ []) bs
+          ∙ ap (given state) (sym (before-byte line b (ended_lines bs)))
     ]
 
-pub complete_bytewise : (bytes : List ℕ) → complete_replies bytes ≡ (after first_standing bytes).replies
+pub complete_bytewise : (bytes : List ℕ) → complete_replies bytes ≡ (after first_cursor bytes).replies
 unfolding complete_replies
 complete_bytewise bytes = sym (ended start [] bytes ∙ ap (given start) (before-nothing (ended_lines bytes)))

@@ -5,8 +5,8 @@ use Rattle.std.proofs.lemmas.List.{take_all, take-take, take-append-drop}
 use Rattle.std.proofs.Math.Seq.{take-append_seam}
 use Rattle.std.specs.List.{concat}
 use Rattle.std.specs.Io.KnownBytes.{Consumes, IsAtEnd, Keeps}
-use Rattle.workbench.specs.Replies.{replies, complete_replies, ended_lines}
-use Rattle.workbench.specs.Machine.{Standing, Reached, first_standing, after, at_end}
+use Rattle.workbench.specs.Replies.{After, replies, complete_replies, ended_lines}
+use Rattle.workbench.specs.Machine.{Cursor, first_cursor, after, at_end}
 use Rattle.workbench.specs.Written.{WroteAll, WroteFirst, WroteFront}
 use Rattle.workbench.proofs.Runs.{after-append, concat-append, wrote-then}
 use Rattle.workbench.proofs.Bytewise.{replies_bytewise, complete_bytewise}
@@ -41,41 +41,41 @@ front-more u w rs more q =
 
 -- the replies to all begin with those to what came
 abbrev pub others : List ℕ → List ℕ → List (List ℕ)
-others bytes rest = (after (after first_standing bytes).standing rest).replies ++ at_end (after first_standing (bytes ++ rest)).standing
+others bytes rest = (after (after first_cursor bytes).state rest).replies ++ at_end (after first_cursor (bytes ++ rest)).state
 
-complete-append : (bytes rest : List ℕ) → complete_replies (bytes ++ rest) ≡ complete_replies bytes ++ (after (after first_standing bytes).standing rest).replies
+complete-append : (bytes rest : List ℕ) → complete_replies (bytes ++ rest) ≡ complete_replies bytes ++ (after (after first_cursor bytes).state rest).replies
 complete-append bytes rest =
     complete_bytewise (bytes ++ rest)
-    ∙ ap (λ (p : Reached). p.replies) (after-append first_standing bytes rest)
-    ∙ ap (λ (rs : List (List ℕ)). rs ++ (after (after first_standing bytes).standing rest).replies) (sym (complete_bytewise bytes))
+    ∙ ap (λ (p : After Cursor). p.replies) (after-append first_cursor bytes rest)
+    ∙ ap (λ (rs : List (List ℕ)). rs ++ (after (after first_cursor bytes).state rest).replies) (sym (complete_bytewise bytes))
 
-replies-complete : (bytes : List ℕ) → replies bytes ≡ complete_replies bytes ++ at_end (after first_standing bytes).standing
+replies-complete : (bytes : List ℕ) → replies bytes ≡ complete_replies bytes ++ at_end (after first_cursor bytes).state
 replies-complete bytes =
     replies_bytewise bytes
-    ∙ ap (λ (rs : List (List ℕ)). rs ++ at_end (after first_standing bytes).standing) (sym (complete_bytewise bytes))
+    ∙ ap (λ (rs : List (List ℕ)). rs ++ at_end (after first_cursor bytes).state) (sym (complete_bytewise bytes))
 
 pub replies-append : (bytes rest : List ℕ) → replies (bytes ++ rest) ≡ complete_replies bytes ++ others bytes rest
 replies-append bytes rest =
     replies-complete (bytes ++ rest)
-    ∙ ap (λ (rs : List (List ℕ)). rs ++ at_end (after first_standing (bytes ++ rest)).standing) (complete-append bytes rest)
-    ∙ append_assoc (complete_replies bytes) (after (after first_standing bytes).standing rest).replies (at_end (after first_standing (bytes ++ rest)).standing)
+    ∙ ap (λ (rs : List (List ℕ)). rs ++ at_end (after first_cursor (bytes ++ rest)).state) (complete-append bytes rest)
+    ∙ append_assoc (complete_replies bytes) (after (after first_cursor bytes).state rest).replies (at_end (after first_cursor (bytes ++ rest)).state)
 
-module _ (u v cu cv : Option (List ℕ)) (bytes : List ℕ) (s : Standing) (came : Consumes u v bytes) (at : s ≡ (after first_standing bytes).standing) (wrote : WroteAll cu cv (complete_replies bytes)) where
+module _ (u v cu cv : Option (List ℕ)) (bytes : List ℕ) (s : Cursor) (came : Consumes u v bytes) (at : s ≡ (after first_cursor bytes).state) (wrote : WroteAll cu cv (complete_replies bytes)) where
   -- the input has ended
   pub all_at_end : (w : Option (List ℕ)) → IsAtEnd v → WroteAll cv w (at_end s) → IfSome u (λ input. WroteAll cu w (replies input))
   all_at_end w end h =
       known-all u v bytes (λ input. WroteAll cu w (replies input)) came end (subst (WroteAll cu w) (sym (replies-complete bytes))
-      (wrote-then cu cv w (complete_replies bytes) (at_end (after first_standing bytes).standing) wrote (subst (λ (t : Standing). WroteAll cv w (at_end t)) at h)))
+      (wrote-then cu cv w (complete_replies bytes) (at_end (after first_cursor bytes).state) wrote (subst (λ (t : Cursor). WroteAll cv w (at_end t)) at h)))
 
   pub first_at_end : (w : Option (List ℕ)) → IsAtEnd v → WroteFirst cv w (at_end s) → IfSome u (λ input. WroteFirst cu w (replies input))
   first_at_end w end h =
       known-all u v bytes (λ input. WroteFirst cu w (replies input)) came end (subst (WroteFirst cu w) (sym (replies-complete bytes))
-      (first-then cu cv w (complete_replies bytes) (at_end (after first_standing bytes).standing) wrote (subst (λ (t : Standing). WroteFirst cv w (at_end t)) at h)))
+      (first-then cu cv w (complete_replies bytes) (at_end (after first_cursor bytes).state) wrote (subst (λ (t : Cursor). WroteFirst cv w (at_end t)) at h)))
 
   pub front_at_end : (w : Option (List ℕ)) → IsAtEnd v → WroteFront cv w (at_end s) → IfSome u (λ input. WroteFront cu w (replies input))
   front_at_end w end h =
       known-all u v bytes (λ input. WroteFront cu w (replies input)) came end (subst (WroteFront cu w) (sym (replies-complete bytes))
-      (front-then cu cv w (complete_replies bytes) (at_end (after first_standing bytes).standing) wrote (subst (λ (t : Standing). WroteFront cv w (at_end t)) at h)))
+      (front-then cu cv w (complete_replies bytes) (at_end (after first_cursor bytes).state) wrote (subst (λ (t : Cursor). WroteFront cv w (at_end t)) at h)))
 
   -- after the front of one more piece, with the rest of the input behind it
   module _ (x w : Option (List ℕ)) (whole piece tail : List ℕ) (cut : whole ≡ piece ++ tail) (more : Consumes v x whole) where
@@ -83,10 +83,10 @@ module _ (u v cu cv : Option (List ℕ)) (bytes : List ℕ) (s : Standing) (came
     came_both = subst (Consumes u x) (ap (λ (t : List ℕ). bytes ++ t) cut ∙ sym (append_assoc bytes piece tail)) (Consumes-trans u v x bytes whole came more)
 
     pub complete_both : complete_replies (bytes ++ piece) ≡ complete_replies bytes ++ (after s piece).replies
-    complete_both = complete-append bytes piece ∙ ap (λ (t : Standing). complete_replies bytes ++ (after t piece).replies) (sym at)
+    complete_both = complete-append bytes piece ∙ ap (λ (t : Cursor). complete_replies bytes ++ (after t piece).replies) (sym at)
 
-    pub standing_both : (after s piece).standing ≡ (after first_standing (bytes ++ piece)).standing
-    standing_both = ap (λ (t : Standing). (after t piece).standing) at ∙ sym (ap (λ (p : Reached). p.standing) (after-append first_standing bytes piece))
+    pub cursor_both : (after s piece).state ≡ (after first_cursor (bytes ++ piece)).state
+    cursor_both = ap (λ (t : Cursor). (after t piece).state) at ∙ sym (ap (λ (p : After Cursor). p.state) (after-append first_cursor bytes piece))
 
     pub first_in_piece : WroteFirst cv w (after s piece).replies → IfSome u (λ input. WroteFirst cu w (replies input))
     first_in_piece h =
@@ -142,6 +142,6 @@ pub none_complete : complete_replies [] ≡ []
 unfolding complete_replies ended_lines
 none_complete = refl
 
-pub not_begun : (after first_standing []).standing ≡ first_standing
+pub not_begun : (after first_cursor []).state ≡ first_cursor
 unfolding after
 not_begun = refl

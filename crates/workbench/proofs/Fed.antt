@@ -3,45 +3,48 @@ use Rattle.std.proofs.Common.{◌≡◌, ℕ, suc, false, List, [], ◌∷◌, �
 use Rattle.std.specs.List.{list_all}
 use Rattle.std.proofs.Math.Bool.{and-false}
 use Rattle.std.proofs.lemmas.List.Elements.{All-head, All-tail}
-use Rattle.ini_text.specs.Text.{lines_of, trim_end, is_cr}
-use Rattle.co_commands.specs.declared.fault.EditFault.{EditFault}
-use Rattle.co_commands.specs.declared.order.Order.{Order}
-use Rattle.co_commands.specs.declared.order.Order.TheVariants as order
-use Rattle.co_commands.specs.Words.{is_blank}
+use Rattle.co_text.specs.Blanks.{is_blank, trim_end}
+use Rattle.co_text.specs.Lines.{is_cr}
+use Rattle.co_text.specs.Lines.{lines_of}
+use Rattle.co_edits.specs.declared.fault.EditFault.{EditFault}
+use Rattle.co_edits.specs.declared.edit.Edit.{Edit}
+use Rattle.co_edits.specs.declared.edit.Edit.TheVariants as edit
 use Rattle.co_commands.specs.Requests.{request}
-use Rattle.co_commands.specs.Eds.{eds_order}
-use Rattle.co_commands.specs.Orders.{IsOrder, IsEds}
-use Rattle.co_commands.specs.Lines.{words_of, line_of, line_count, block_of, asks, text_of}
+use Rattle.co_edits.specs.Eds.{eds_edit}
+use Rattle.co_edits.specs.Eds.{IsEds}
+use Rattle.co_edits.specs.Edits.{IsEdit}
+use Rattle.co_commands.specs.Lines.{words_of, line_of, block_of, asks, text_of}
+use Rattle.co_text.specs.Lines.{line_count}
 use Rattle.co_project.specs.Project.{Content, first, accept, accept_all}
-use Rattle.co_project.specs.Script.{orders, script}
+use Rattle.co_project.specs.Script.{edits, script}
 use Rattle.co_project.specs.Sound.{IsSound}
-use Rattle.workbench.specs.Replies.{Place, Progress, start, accepted, replied, in_block, asked, is_skipped, after_line, after_lines, cut_off, replies}
+use Rattle.workbench.specs.Replies.{State, After, start, accepted, replied, in_block, asked, is_skipped, after_line, after_lines, cut_off, replies}
 use Rattle.workbench.proofs.LineEnds.{asked_line, eds_lines}
 
 -- a project, and no block
-abbrev at : Content → Place
+abbrev at : Content → State
 at p = record { project = p; block = None }
 
 -- some lines more
-abbrev then_lines : Progress → List (List ℕ) → Progress
+abbrev then_lines : After State → List (List ℕ) → After State
 then_lines one lines =
-    let others = after_lines one.place lines in
-    record { place = others.place; replies = one.replies ++ others.replies }
+    let others = after_lines one.state lines in
+    record { state = others.state; replies = one.replies ++ others.replies }
 
 -- ---- an edit
 
 -- the line of an edit begins with a letter
-letter_first : (o : Order) → list_all is_blank (line_of o) ≡ false
+letter_first : (o : Edit) → list_all is_blank (line_of o) ≡ false
 unfolding line_of words_of
-letter_first (order.Bitrate rate) = refl
+letter_first (edit.Bitrate rate) = refl
 letter_first other = refl
 
 -- so it isn't skipped
-not_skipped : (o : Order) → is_skipped (line_of o) ≡ false
+not_skipped : (o : Edit) → is_skipped (line_of o) ≡ false
 not_skipped o = rw (letter_first o) (and-false (nat_le (length (line_of o)) 4096))
 
 -- the line of an edit asks for it
-line_fed : (p : Content) (o : Order) → request (line_of o) ≡ Ok (asks o) → after_line (at p) (line_of o) ≡ asked p (Ok (asks o))
+line_fed : (p : Content) (o : Edit) → request (line_of o) ≡ Ok (asks o) → after_line (at p) (line_of o) ≡ asked p (Ok (asks o))
 unfolding after_line
 line_fed p o is = rw (asked_line o (line_of o) is, not_skipped o, is) refl
 
@@ -51,67 +54,67 @@ line_came : (p : Content) (name line : List ℕ) (n : ℕ) (came : List (List �
 unfolding after_line
 line_came p name line n came kept = rw (kept, sub-one (suc n)) refl
 
-module _ (p q : Content) (o : Order) (taken : accept p o ≡ Ok q) where
+module _ (p q : Content) (o : Edit) (taken : accept p o ≡ Ok q) where
   -- the lines that are to come complete a block, and its edit is taken
-  block_fed : (name : List ℕ) (came lines rest : List (List ℕ)) → map (trim_end is_cr) lines ≡ lines → eds_order name (came ++ lines) ≡ Ok o
+  block_fed : (name : List ℕ) (came lines rest : List (List ℕ)) → map (trim_end is_cr) lines ≡ lines → eds_edit name (came ++ lines) ≡ Ok o
       → then_lines (in_block p (Some name) (length lines) came) (lines ++ rest) ≡ then_lines (replied q accepted) rest
   block_fed name came [] rest ends is =
-      let whole : eds_order name came ≡ Ok o = ap (eds_order name) (sym (append-nil came)) ∙ is in
+      let whole : eds_edit name came ≡ Ok o = ap (eds_edit name) (sym (append-nil came)) ∙ is in
       rw (whole, taken) refl
   block_fed name came (line ∷ lines) rest ends is =
       let kept : trim_end is_cr line ≡ line = ap (λ (ls : List (List ℕ)). get_or ls 0 []) ends in
-      let whole : eds_order name ((came ++ line ∷ []) ++ lines) ≡ Ok o = ap (eds_order name) (append_assoc came (line ∷ []) lines) ∙ is in
-      ap (λ (one : Progress). then_lines one (lines ++ rest)) (line_came p name line (length lines) came kept)
+      let whole : eds_edit name ((came ++ line ∷ []) ++ lines) ≡ Ok o = ap (eds_edit name) (append_assoc came (line ∷ []) lines) ∙ is in
+      ap (λ (one : After State). then_lines one (lines ++ rest)) (line_came p name line (length lines) came kept)
       ∙ block_fed name (came ++ line ∷ []) lines rest (ap (drop 1) ends) whole
 
 -- ---- a script
 
 -- the laws of printed edits: their lines are read, their blocks are, and they are printed line by line
 module _
-    (read : (o : Order) → IsOrder o → request (line_of o) ≡ Ok (asks o))
-    (blocks : (name text : List ℕ) → IsEds name text → (length (lines_of text) ≡ line_count text) × (eds_order name (lines_of text) ≡ Ok (order.Eds name text)))
-    (printed : (o : Order) (rest : List ℕ) → IsOrder o → lines_of (text_of o ++ rest) ≡ (line_of o ∷ lines_of (block_of o)) ++ lines_of rest)
+    (read : (o : Edit) → IsEdit o → request (line_of o) ≡ Ok (asks o))
+    (blocks : (name text : List ℕ) → IsEds name text → (length (lines_of text) ≡ line_count text) × (eds_edit name (lines_of text) ≡ Ok (edit.Eds name text)))
+    (printed : (o : Edit) (rest : List ℕ) → IsEdit o → lines_of (text_of o ++ rest) ≡ (line_of o ∷ lines_of (block_of o)) ++ lines_of rest)
   where
     -- the lines of an edit that is taken are answered by `ok`
-    edit_fed : (p q : Content) (o : Order) (rest : List (List ℕ)) → IsOrder o → accept p o ≡ Ok q
+    edit_fed : (p q : Content) (o : Edit) (rest : List (List ℕ)) → IsEdit o → accept p o ≡ Ok q
         → after_lines (at p) ((line_of o ∷ lines_of (block_of o)) ++ rest) ≡ then_lines (replied q accepted) rest
-    unfolding IsOrder lines_of
-    edit_fed p q (order.Eds name text) rest is taken =
+    unfolding IsEdit lines_of
+    edit_fed p q (edit.Eds name text) rest is taken =
         let block = blocks name text is in
-        rw (line_fed p (order.Eds name text) (read (order.Eds name text) is), sym block.0)
-        (block_fed p q (order.Eds name text) taken name [] (lines_of text) rest (eds_lines name text block.1) block.1)
+        rw (line_fed p (edit.Eds name text) (read (edit.Eds name text) is), sym block.0)
+        (block_fed p q (edit.Eds name text) taken name [] (lines_of text) rest (eds_lines name text block.1) block.1)
     edit_fed p q other rest is taken = rw (line_fed p other (read other is), taken) refl
 
     -- edits that are taken one after the other are each answered by `ok`
-    edits_fed : (p q : Content) (os : List Order) → All IsOrder os → accept_all (Ok p) os ≡ Ok q
-        → after_lines (at p) (lines_of (flat_map text_of os)) ≡ record { place = at q; replies = map (λ _. accepted) os }
+    edits_fed : (p q : Content) (os : List Edit) → All IsEdit os → accept_all (Ok p) os ≡ Ok q
+        → after_lines (at p) (lines_of (flat_map text_of os)) ≡ record { state = at q; replies = map (λ _. accepted) os }
     unfolding lines_of accept_all
     edits_fed p q [] are made = let same : p ≡ q = cc in rw same refl
-    edits_fed p q (o ∷ os) are made = by (accept p o) refl made (λ r. edits_fed r q os (All-tail IsOrder o os are))
+    edits_fed p q (o ∷ os) are made = by (accept p o) refl made (λ r. edits_fed r q os (All-tail IsEdit o os are))
       where
         by : (r : Result Content EditFault) → accept p o ≡ r → accept_all r os ≡ Ok q
-            → ((r : Content) → accept_all (Ok r) os ≡ Ok q → after_lines (at r) (lines_of (flat_map text_of os)) ≡ record { place = at q; replies = map (λ _. accepted) os })
-            → after_lines (at p) (lines_of (text_of o ++ flat_map text_of os)) ≡ record { place = at q; replies = map (λ _. accepted) (o ∷ os) }
+            → ((r : Content) → accept_all (Ok r) os ≡ Ok q → after_lines (at r) (lines_of (flat_map text_of os)) ≡ record { state = at q; replies = map (λ _. accepted) os })
+            → after_lines (at p) (lines_of (text_of o ++ flat_map text_of os)) ≡ record { state = at q; replies = map (λ _. accepted) (o ∷ os) }
         by (Err fault) taken made others = cc
         by (Ok r) taken made others =
-            let is = All-head IsOrder o os are in
+            let is = All-head IsEdit o os are in
             ap (after_lines (at p)) (printed o (flat_map text_of os) is)
             ∙ edit_fed p r o (lines_of (flat_map text_of os)) is taken
-            ∙ ap (λ (more : Progress). record { place = more.place; replies = accepted ∷ more.replies }) (others r made)
+            ∙ ap (λ (more : After State). record { state = more.state; replies = accepted ∷ more.replies }) (others r made)
 
     -- the laws of scripts: they have edits, and these make the project again
-    module _ (have : (p : Content) → IsSound p → All IsOrder (orders p)) (make : (p : Content) → IsSound p → accept_all (Ok first) (orders p) ≡ Ok p) where
+    module _ (have : (p : Content) → IsSound p → All IsEdit (edits p)) (make : (p : Content) → IsSound p → accept_all (Ok first) (edits p) ≡ Ok p) where
       -- a script leads to its project, and each edit is answered by `ok`
-      script_fed : (p : Content) → IsSound p → after_lines start (lines_of (script p)) ≡ record { place = at p; replies = map (λ _. accepted) (orders p) }
+      script_fed : (p : Content) → IsSound p → after_lines start (lines_of (script p)) ≡ record { state = at p; replies = map (λ _. accepted) (edits p) }
       unfolding script
-      script_fed p sound = edits_fed first p (orders p) (have p sound) (make p sound)
+      script_fed p sound = edits_fed first p (edits p) (have p sound) (make p sound)
 
       -- so it makes the equal project
-      pub project_again : (p : Content) → IsSound p → (after_lines start (lines_of (script p))).place ≡ at p
-      project_again p sound = ap (λ (all : Progress). all.place) (script_fed p sound)
+      pub project_again : (p : Content) → IsSound p → (after_lines start (lines_of (script p))).state ≡ at p
+      project_again p sound = ap (λ (all : After State). all.state) (script_fed p sound)
 
       -- and is answered by `ok` alone
-      pub answered_by_ok : (p : Content) → IsSound p → replies (script p) ≡ map (λ _. accepted) (orders p)
+      pub answered_by_ok : (p : Content) → IsSound p → replies (script p) ≡ map (λ _. accepted) (edits p)
       unfolding replies
       answered_by_ok p sound =
-          ap (λ (all : Progress). all.replies ++ cut_off all.place.block) (script_fed p sound) ∙ append-nil (map (λ _. accepted) (orders p))
+          ap (λ (all : After State). all.replies ++ cut_off all.state.block) (script_fed p sound) ∙ append-nil (map (λ _. accepted) (edits p))

@@ -4,8 +4,10 @@ use Rattle.std.proofs.lemmas.List.{take_min, drop_min, take_all, drop_all, take_
 use Rattle.std.proofs.lemmas.List.Sums.{sum_by-cons, sum_by-append}
 use Rattle.std.proofs.lemmas.Bool.{ne_eqb}
 use Rattle.std.specs.Prelude.{min}
-use Rattle.std.specs.List.{flat_map, count_by}
-use Rattle.workbench.specs.Hex.{digit, hex_line, rows, row_count, hex_text}
+use Rattle.std.specs.Fmt.{digit_glyph}
+use Rattle.std.specs.List.{flat_map}
+use Rattle.co_text.specs.Lines.{line_feed, line_count}
+use Rattle.workbench.specs.Hex.{hex_line, rows, row_count, hex_text}
 
 one_more : (n k : ℕ) → 0 < n → k ≡ n - 16 → (n + 15) / 16 ≡ suc ((k + 15) / 16)
 one_more n k some e = omega arith
@@ -54,15 +56,15 @@ hex_text-last row some le =
 -- ---- the lines counted
 
 abbrev is_lf : ℕ → ℕ
-is_lf b = cond (eqb b 10) 1 0
+is_lf b = cond (eqb b line_feed) 1 0
 
 abbrev count : List ℕ → ℕ
-count text = count_by (λ b. eqb b 10) text
+count text = line_count text
 
-not_lf : (b : ℕ) → b ≢ 10 → is_lf b ≡ 0
-not_lf b ne = rw (ne_eqb b 10 ne) refl
+not_lf : (b : ℕ) → b ≢ line_feed → is_lf b ≡ 0
+not_lf b ne = rw (ne_eqb b line_feed ne) refl
 
-digit_not_lf : (n : ℕ) → is_lf (digit n) ≡ 0
+digit_not_lf : (n : ℕ) → is_lf (digit_glyph true n) ≡ 0
 digit_not_lf n =
     elim (ltb n 10) as (λ t. is_lf (cond t (48 + n) (55 + n)) ≡ 0) [
       | true ↦ not_lf (48 + n) (λ h. absurd (omega arith))
@@ -72,19 +74,19 @@ digit_not_lf n =
 count-cons : (b : ℕ) (bs : List ℕ) → count (b ∷ bs) ≡ is_lf b + count bs
 count-cons b bs = sum_by-cons is_lf b bs
 
-count-pair : (m n end k : ℕ) (rest : List ℕ) → is_lf end ≡ k → count (digit m ∷ digit n ∷ end ∷ rest) ≡ k + count rest
+count-pair : (m n end k : ℕ) (rest : List ℕ) → is_lf end ≡ k → count (digit_glyph true m ∷ digit_glyph true n ∷ end ∷ rest) ≡ k + count rest
 count-pair m n end k rest e =
-    count-cons (digit m) (digit n ∷ end ∷ rest)
-    ∙ ap (λ x. x + count (digit n ∷ end ∷ rest)) (digit_not_lf m)
-    ∙ zero-add (count (digit n ∷ end ∷ rest))
-    ∙ count-cons (digit n) (end ∷ rest)
+    count-cons (digit_glyph true m) (digit_glyph true n ∷ end ∷ rest)
+    ∙ ap (λ x. x + count (digit_glyph true n ∷ end ∷ rest)) (digit_not_lf m)
+    ∙ zero-add (count (digit_glyph true n ∷ end ∷ rest))
+    ∙ count-cons (digit_glyph true n) (end ∷ rest)
     ∙ ap (λ x. x + count (end ∷ rest)) (digit_not_lf n)
     ∙ zero-add (count (end ∷ rest))
     ∙ count-cons end rest
     ∙ ap (λ x. x + count rest) e
 
 count-line : (b : ℕ) (bs : List ℕ) → count (hex_line (b ∷ bs)) ≡ 1
-count-line b [] = count-pair (b / 16) (b % 16) 10 1 [] refl
+count-line b [] = count-pair (b / 16) (b % 16) line_feed 1 [] refl
 count-line b (c ∷ cs) = count-pair (b / 16) (b % 16) 32 0 (hex_line (c ∷ cs)) refl ∙ zero-add (count (hex_line (c ∷ cs))) ∙ count-line c cs
 
 count-row : (n : ℕ) (bs : List ℕ) → 0 < length bs → count (hex_line (take (suc n) bs)) ≡ 1
@@ -108,6 +110,6 @@ count-rows (suc n) bs e =
     ∙ one_more_is n
 
 -- there are as many lines as rows
-pub hex_text-lines : (bs : List ℕ) → count_by (λ b. eqb b 10) (hex_text bs) ≡ row_count bs
+pub hex_text-lines : (bs : List ℕ) → line_count (hex_text bs) ≡ row_count bs
 unfolding hex_text
 hex_text-lines bs = count-rows (row_count bs) bs refl

@@ -1,44 +1,43 @@
 -- What doesn't answer `ok` leaves the project as it is.
 use Rattle.std.proofs.Common.{◌≡◌, ◌≢◌, ℕ, zero, suc, true, false, List, [], ◌∷◌, ◌++◌, Option, Some, None, Result, Ok, Err, refl}
 use Rattle.std.specs.Prelude.{if◌then◌else◌, ◌-◌}
-use Rattle.ini_text.specs.Text.{trim_end, is_cr}
-use Rattle.co_commands.specs.declared.fault.EditFault.{EditFault}
-use Rattle.co_commands.specs.declared.order.Order.{Order}
+use Rattle.co_text.specs.Blanks.{trim_end}
+use Rattle.co_text.specs.Lines.{is_cr}
+use Rattle.co_edits.specs.declared.fault.EditFault.{EditFault}
+use Rattle.co_edits.specs.declared.edit.Edit.{Edit}
 use Rattle.co_commands.specs.declared.request.Request.{Request}
-use Rattle.co_commands.specs.declared.request.Request.TheVariants.{Edit, Dcf, Cdcf, Project, Block}
+use Rattle.co_commands.specs.declared.request.Request.TheVariants.{Edit as EditAsked, Query as QueryAsked, Block}
 use Rattle.co_commands.specs.Requests.{request}
 use Rattle.co_project.specs.Project.{Content, accept}
-use Rattle.workbench.specs.Queries.{dcf_reply, cdcf_reply}
-use Rattle.workbench.specs.Replies.{Pending, Place, Progress, accepted, silent, edited, ordered, queried, block_order, in_block, asked, is_skipped, taken, after_line}
+use Rattle.workbench.specs.Queries.{answer}
+use Rattle.workbench.specs.Replies.{OpenBlock, State, After, accepted, silent, edited, after_edit, queried, block_edit, in_block, asked, is_skipped, taken, after_line}
 
-abbrev Keeps : Content → Progress → Type 0
-Keeps p progress = progress.replies ≢ accepted ∷ [] → progress.place.project ≡ p
+abbrev Keeps : Content → After State → Type 0
+Keeps p progress = progress.replies ≢ accepted ∷ [] → progress.state.project ≡ p
 
 keeps-edited : (p : Content) (r : Result Content EditFault) → Keeps p (edited p r)
 keeps-edited p (Ok q) h = absurd (h refl)
 keeps-edited p (Err fault) h = refl
 
-keeps-ordered : (p : Content) (r : Result Order EditFault) → Keeps p (ordered p r)
-keeps-ordered p (Ok order) = keeps-edited p (accept p order)
-keeps-ordered p (Err fault) = λ _. refl
+keeps-after_edit : (p : Content) (r : Result Edit EditFault) → Keeps p (after_edit p r)
+keeps-after_edit p (Ok edit) = keeps-edited p (accept p edit)
+keeps-after_edit p (Err fault) = λ _. refl
 
 keeps-queried : (p : Content) (r : Result (List ℕ) EditFault) → Keeps p (queried p r)
 keeps-queried p (Ok text) h = refl
 keeps-queried p (Err fault) h = refl
 
 keeps-in_block : (p : Content) (name : Option (List ℕ)) (n : ℕ) (lines : List (List ℕ)) → Keeps p (in_block p name n lines)
-keeps-in_block p name zero lines = keeps-ordered p (block_order name lines)
+keeps-in_block p name zero lines = keeps-after_edit p (block_edit name lines)
 keeps-in_block p name (suc n) lines = λ _. refl
 
 keeps-asked : (p : Content) (r : Result Request EditFault) → Keeps p (asked p r)
-keeps-asked p (Ok (Edit order)) = keeps-edited p (accept p order)
-keeps-asked p (Ok (Dcf id)) = keeps-queried p (dcf_reply p id)
-keeps-asked p (Ok (Cdcf id)) = keeps-queried p (cdcf_reply p id)
-keeps-asked p (Ok Project) = λ _. refl
+keeps-asked p (Ok (EditAsked edit)) = keeps-edited p (accept p edit)
+keeps-asked p (Ok (QueryAsked query)) = keeps-queried p (answer p query)
 keeps-asked p (Ok (Block name n)) = keeps-in_block p name n []
 keeps-asked p (Err fault) = λ _. refl
 
-keeps-taken : (p : Content) (block : Option Pending) (line : List ℕ) → Keeps p (taken p block line)
+keeps-taken : (p : Content) (block : Option OpenBlock) (line : List ℕ) → Keeps p (taken p block line)
 keeps-taken p None line =
     elim (is_skipped line) as (λ t. Keeps p (if t then silent (record { project = p; block = None }) else asked p (request line))) [
       | true ↦ λ _. refl
@@ -46,6 +45,6 @@ keeps-taken p None line =
     ]
 keeps-taken p (Some block) line = keeps-in_block p block.name (block.left - 1) (block.lines ++ line ∷ [])
 
-pub refused_changes_nothing : (place : Place) (line : List ℕ) → (after_line place line).replies ≢ accepted ∷ [] → (after_line place line).place.project ≡ place.project
+pub refused_changes_nothing : (state : State) (line : List ℕ) → (after_line state line).replies ≢ accepted ∷ [] → (after_line state line).state.project ≡ state.project
 unfolding after_line
-refused_changes_nothing place line = keeps-taken place.project place.block (trim_end is_cr line)
+refused_changes_nothing state line = keeps-taken state.project state.block (trim_end is_cr line)

@@ -1,4 +1,3 @@
-pub mod Known
 pub mod Hexes
 pub mod Runs
 pub mod Bytewise

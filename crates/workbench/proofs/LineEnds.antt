@@ -7,17 +7,21 @@ use Rattle.std.proofs.lemmas.Bool.{or_parts}
 use Rattle.std.proofs.lemmas.Bool.Decides.{nat_tests}
 use Rattle.std.proofs.lemmas.List.{reverse-append, take_all}
 use Rattle.std.proofs.lemmas.List.Folds.{list_any-append}
-use Rattle.ini_text.specs.Text.{lines_of, trim_end, is_cr}
-use Rattle.co_commands.specs.declared.fault.EditFault.{EditFault}
-use Rattle.co_commands.specs.declared.fault.EditFault.TheVariants.{Syntax}
-use Rattle.co_commands.specs.declared.order.Order.{Order}
-use Rattle.co_commands.specs.declared.order.Order.TheVariants as order
+use Rattle.co_text.specs.Blanks.{trim_end}
+use Rattle.co_text.specs.Lines.{is_cr}
+use Rattle.co_text.specs.Lines.{lines_of}
+use Rattle.co_edits.specs.declared.fault.EditFault.{EditFault}
+use Rattle.co_edits.specs.declared.fault.EditFault.TheVariants.{Syntax}
+use Rattle.co_edits.specs.declared.edit.Edit.{Edit}
+use Rattle.co_edits.specs.declared.edit.Edit.TheVariants as edit
 use Rattle.co_commands.specs.declared.request.Request.{Request}
 use Rattle.co_commands.specs.declared.request.Request.TheVariants.{Block}
-use Rattle.co_commands.specs.Accepts.{unless}
-use Rattle.co_commands.specs.Words.{word, after, last_word, decimal, is_control, is_bad_line}
+use Rattle.co_edits.specs.Accepts.{unless}
+use Rattle.co_edits.specs.Forms.{is_control}
+use Rattle.co_commands.specs.Words.{last_word, decimal, is_bad_line}
+use Rattle.co_text.specs.Words.{word, after}
 use Rattle.co_commands.specs.Requests.{◌>>=◌, request, block_of as block_asked, block_lines, command_of}
-use Rattle.co_commands.specs.Eds.{eds_order, text_of}
+use Rattle.co_edits.specs.Eds.{eds_edit, text_of}
 use Rattle.co_commands.specs.Lines.{asks, block_of}
 use Rattle.workbench.specs.Lines.{has_break, AreLines}
 use Rattle.workbench.proofs.Lines.{lines-ended}
@@ -84,12 +88,12 @@ named_is_good line named = by (bytes_eq (word line) (codes "eds")) (is_bad_line 
     by false true h named = absurd named
 
 -- edits are named
-order_named : (o : Order) → IsNamed (Ok (asks o))
-order_named (order.Eds name text) = tt
+order_named : (o : Edit) → IsNamed (Ok (asks o))
+order_named (edit.Eds name text) = tt
 order_named other = tt
 
 -- the line of an edit has no CRs at its end
-pub asked_line : (o : Order) (line : List ℕ) → request line ≡ Ok (asks o) → trim_end is_cr line ≡ line
+pub asked_line : (o : Edit) (line : List ℕ) → request line ≡ Ok (asks o) → trim_end is_cr line ≡ line
 asked_line o line asked =
     let named : IsNamed (request line) = subst IsNamed (sym asked) (order_named o) in
     let good = or_parts (nat_lt 4096 (length line)) (list_any is_control line) (named_is_good line named) in
@@ -132,9 +136,9 @@ given ((true, fault) ∷ tests) new taken h = cc
 given ((false, fault) ∷ tests) new taken h = given tests new taken h
 
 -- the lines of an EDS have no CRs at their ends
-pub eds_lines : (name text : List ℕ) → eds_order name (lines_of text) ≡ Ok (order.Eds name text) → map (trim_end is_cr) (lines_of text) ≡ lines_of text
-unfolding eds_order
+pub eds_lines : (name text : List ℕ) → eds_edit name (lines_of text) ≡ Ok (edit.Eds name text) → map (trim_end is_cr) (lines_of text) ≡ lines_of text
+unfolding eds_edit
 eds_lines name text is =
     let lines = lines_of text in
-    let same : order.Eds name (text_of lines) ≡ order.Eds name text = search given in
-    sym (ended_again lines (lines_are text)) ∙ ap (λ (o : Order). lines_of (block_of o)) same
+    let same : edit.Eds name (text_of lines) ≡ edit.Eds name text = search given in
+    sym (ended_again lines (lines_are text)) ∙ ap (λ (o : Edit). lines_of (block_of o)) same

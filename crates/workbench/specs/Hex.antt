@@ -1,16 +1,15 @@
 -- Bytes as lines of hexadecimal digits, as the concise DCF of a node is printed (this profile's own).
-use Rattle.std.specs.Prelude.{ℕ, zero, suc, ◌+◌, ◌/◌, ◌%◌, List, [], ◌∷◌, length, take, drop, nat_lt, if◌then◌else◌}
+use Rattle.std.specs.Prelude.{ℕ, zero, suc, ◌+◌, ◌/◌, List, [], ◌∷◌, ◌++◌, length, take, drop}
 use Rattle.std.specs.List.{flat_map}
+use Rattle.std.specs.Str.{byte}
+use Rattle.co_text.specs.Digits.{byte_digits}
+use Rattle.co_text.specs.Lines.{line_feed}
 
--- the digit, A to F in upper case
-abbrev pub digit : ℕ → ℕ
-digit n = if nat_lt n 10 then 48 + n else 55 + n
-
--- a line of bytes: two digits each, a space between two of them, an LF at its end
+-- a line of bytes: two upper-case digits each, a space between two of them, an LF at its end
 abbrev pub hex_line : List ℕ → List ℕ
 hex_line [] = []
-hex_line (b ∷ []) = digit (b / 16) ∷ digit (b % 16) ∷ 10 ∷ []
-hex_line (b ∷ c ∷ cs) = digit (b / 16) ∷ digit (b % 16) ∷ 32 ∷ hex_line (c ∷ cs)
+hex_line (b ∷ []) = byte_digits b ++ line_feed ∷ []
+hex_line (b ∷ c ∷ cs) = byte_digits b ++ byte " " ∷ hex_line (c ∷ cs)
 
 -- the first rows of 16 bytes, the last of which may be shorter
 abbrev pub rows : ℕ → List ℕ → List (List ℕ)

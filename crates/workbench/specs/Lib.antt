@@ -1,5 +1,5 @@
-pub mod Streams
 pub mod Hex
+pub mod Bench
 pub mod Queries
 pub mod Replies
 pub mod Lines

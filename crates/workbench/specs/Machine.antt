@@ -1,36 +1,39 @@
 -- Private: the same replies byte by byte, as the proofs of this crate walk. `Bytewise` of proofs/ joins them to Replies.
-use Rattle.std.specs.Prelude.{ℕ, List, [], ◌∷◌, ◌++◌, length, if◌then◌else◌, ◌==◌}
-use Rattle.workbench.specs.Replies.{Place, Progress, start, after_line, cut_off}
+use Rattle.std.specs.Prelude.{ℕ, List, [], ◌∷◌, ◌++◌, length, if◌then◌else◌, ◌==◌, Option, Some, None}
+use Rattle.co_text.specs.Lines.{line_feed}
+use Rattle.workbench.specs.Replies.{State, After, start, after_line, cut_off}
 
--- what stands between two bytes
-pub record Standing : Type 0 where
-  pub place : Place
+-- where a session is in its input: a state, and the line so far
+pub record Cursor : Type 0 where
+  pub state : State
   pub line : List ℕ
 
-abbrev pub first_standing : Standing
-first_standing = record { place = start; line = [] }
+abbrev pub first_cursor : Cursor
+first_cursor = record { state = start; line = [] }
 
--- where some bytes lead
-pub record Reached : Type 0 where
-  pub standing : Standing
-  pub replies : List (List ℕ)
+abbrev pub at_break : After State → After Cursor
+at_break p = record { state = record { state = p.state; line = [] }; replies = p.replies }
 
-abbrev pub at_break : Progress → Reached
-at_break p = record { standing = record { place = p.place; line = [] }; replies = p.replies }
+abbrev pub after_byte : Cursor → ℕ → After Cursor
+after_byte c b =
+    if b == line_feed then at_break (after_line c.state c.line)
+    else record { state = record c { line = c.line ++ b ∷ [] }; replies = [] }
 
-abbrev pub after_byte : Standing → ℕ → Reached
-after_byte s b = if b == 10 then at_break (after_line s.place s.line) else record { standing = record s { line = s.line ++ b ∷ [] }; replies = [] }
+abbrev pub joined : List (List ℕ) → After Cursor → After Cursor
+joined replies r = record { state = r.state; replies = replies ++ r.replies }
 
-abbrev pub joined : List (List ℕ) → Reached → Reached
-joined replies r = record { standing = r.standing; replies = replies ++ r.replies }
-
-unfoldable pub after : Standing → List ℕ → Reached
-after s [] = record { standing = s; replies = [] }
-after s (b ∷ bs) = let first = after_byte s b in joined first.replies (after first.standing bs)
+unfoldable pub after : Cursor → List ℕ → After Cursor
+after c [] = record { state = c; replies = [] }
+after c (b ∷ bs) = let first = after_byte c b in joined first.replies (after first.state bs)
 
 -- the end of the input ends a line that isn't empty
-abbrev pub last_line : Standing → Reached
-last_line s = if length s.line == 0 then record { standing = s; replies = [] } else at_break (after_line s.place s.line)
+abbrev pub last_line : Cursor → After Cursor
+last_line c = if length c.line == 0 then record { state = c; replies = [] } else at_break (after_line c.state c.line)
 
-unfoldable pub at_end : Standing → List (List ℕ)
-at_end s = let last = last_line s in last.replies ++ cut_off last.standing.place.block
+unfoldable pub at_end : Cursor → List (List ℕ)
+at_end c = let last = last_line c in last.replies ++ cut_off last.state.state.block
+
+-- the replies to a piece of the input, or to its end
+abbrev pub given : Cursor → Option (List ℕ) → List (List ℕ)
+given c (Some piece) = (after c piece).replies
+given c None = at_end c

@@ -1,13 +1,15 @@
 -- What queries are answered. The lines of a DCF are CiA 306's, the bytes of a concise DCF are CiA 302's; how replies show them is this profile's own.
-use Rattle.std.specs.Prelude.{ℕ, ◌==◌, List, [], ◌∷◌, ◌++◌, codes, decimal, Option, Some, None, option_map, option_and_then, Result, Ok, Err}
-use Rattle.std.specs.List.{count_by}
+use Rattle.std.specs.Prelude.{ℕ, List, ◌∷◌, [], ◌++◌, codes, decimal, Option, Some, None, option_map, option_and_then, Result, Ok, Err}
+use Rattle.co_text.specs.Lines.{line_feed, line_count}
 use Rattle.ini_text.specs.Content.{Section, content_of}
 use Rattle.ini_text.specs.Change.{text_of}
 use Rattle.concise_dcf.specs.declared.write.Write.{Write}
 use Rattle.concise_dcf.specs.Concise.{text_of as concise_text}
 use Rattle.eds_dcf.specs.Dcf.{dcf_sections}
-use Rattle.co_commands.specs.declared.fault.EditFault.{EditFault}
-use Rattle.co_commands.specs.declared.fault.EditFault.TheVariants.{Unknown}
+use Rattle.co_edits.specs.declared.fault.EditFault.{EditFault}
+use Rattle.co_edits.specs.declared.fault.EditFault.TheVariants.{Unknown}
+use Rattle.co_commands.specs.declared.query.Query.{Query}
+use Rattle.co_commands.specs.declared.query.Query.TheVariants.{Dcf, Cdcf, Project}
 use Rattle.co_project.specs.declared.node.Node.{Node}
 use Rattle.co_project.specs.Project.{Content}
 use Rattle.co_project.specs.Tables.{node_at, text_at}
@@ -45,18 +47,12 @@ dcf_of project id = option_map (λ m. text_of (dcf_sections m.sections id m.node
 unfoldable pub concise_of : Content → ℕ → Option (List ℕ)
 concise_of project id = option_map (λ m. concise_text (writes_of m id)) (member_at project id)
 
--- `lines K` and the K lines of a text, each ended by LF
+-- THE ANSWER to a query: the lines of the DCF, the concise DCF in hexadecimal digits, or the commands that make the project
+abbrev pub answer : Content → Query → Result (List ℕ) EditFault
+answer project (Dcf id) = or_unknown (dcf_of project id)
+answer project (Cdcf id) = or_unknown (option_map hex_text (concise_of project id))
+answer project Project = Ok (script project)
+
+-- how a reply shows lines, each ended by LF: `lines K`, and these K lines
 unfoldable pub shown : List ℕ → List ℕ
-shown text = codes "lines " ++ decimal (count_by (λ b. b == 10) text) ++ (10 ∷ []) ++ text
-
--- the DCF of a node, line by line
-unfoldable pub dcf_reply : Content → ℕ → Result (List ℕ) EditFault
-dcf_reply project id = or_unknown (option_map shown (dcf_of project id))
-
--- the concise DCF of a node, in hexadecimal digits
-unfoldable pub cdcf_reply : Content → ℕ → Result (List ℕ) EditFault
-cdcf_reply project id = or_unknown (option_map (λ bytes. shown (hex_text bytes)) (concise_of project id))
-
--- the commands that make the project
-unfoldable pub project_reply : Content → List ℕ
-project_reply project = shown (script project)
+shown text = codes "lines " ++ decimal (line_count text) ++ (line_feed ∷ []) ++ text

@@ -1,106 +1,106 @@
 -- The replies to an input: a fold over its lines, from the first project (this profile's own).
-use Rattle.std.specs.Prelude.{ℕ, zero, suc, ◌-◌, Bool, ◌||◌, ◌&&◌, length, nat_le, List, [], ◌∷◌, ◌++◌, codes, if◌then◌else◌, ◌==◌, Option, Some, None, Result, Ok, Err}
-use Rattle.std.specs.List.{list_all}
-use Rattle.ini_text.specs.Text.{lines_of, trim_end, is_cr}
-use Rattle.co_commands.specs.declared.fault.EditFault.{EditFault}
-use Rattle.co_commands.specs.declared.fault.EditFault.TheVariants.{Syntax, Truncated}
-use Rattle.co_commands.specs.Faults.{refusal_text}
-use Rattle.co_commands.specs.declared.order.Order.{Order}
+use Rattle.std.specs.Prelude.{ℕ, zero, suc, ◌-◌, Bool, ◌&&◌, length, nat_le, List, [], ◌∷◌, ◌++◌, codes, if◌then◌else◌, ◌==◌, Option, Some, None, Result, Ok, Err}
+use Rattle.co_text.specs.Blanks.{is_blank_line, trim_end}
+use Rattle.co_text.specs.Lines.{line_feed, is_cr}
+use Rattle.co_text.specs.Lines.{lines_of}
+use Rattle.co_edits.specs.declared.fault.EditFault.{EditFault}
+use Rattle.co_edits.specs.declared.fault.EditFault.TheVariants.{Syntax, Truncated}
+use Rattle.co_edits.specs.Faults.{refusal_text}
+use Rattle.co_edits.specs.declared.edit.Edit.{Edit}
 use Rattle.co_commands.specs.declared.request.Request.{Request}
-use Rattle.co_commands.specs.declared.request.Request.TheVariants.{Edit, Dcf, Cdcf, Project, Block}
+use Rattle.co_commands.specs.declared.request.Request.TheVariants.{Edit as EditAsked, Query as QueryAsked, Block}
 use Rattle.co_commands.specs.Requests.{request}
-use Rattle.co_commands.specs.Eds.{eds_order}
+use Rattle.co_edits.specs.Eds.{eds_edit}
 use Rattle.co_project.specs.Project.{Content, first, accept}
-use Rattle.workbench.specs.Queries.{dcf_reply, cdcf_reply, project_reply}
+use Rattle.workbench.specs.Queries.{answer, shown}
 
 -- an `eds` command whose block isn't complete: its name (none where its line wasn't of its form; then the command is refused once its lines have come), how many lines are to come, those that came
-pub record Pending : Type 0 where
+pub record OpenBlock : Type 0 where
   pub name : Option (List ℕ)
   pub left : ℕ
   pub lines : List (List ℕ)
 
 -- what stands between two lines: the project, and the open block
-pub record Place : Type 0 where
+pub record State : Type 0 where
   pub project : Content
-  pub block : Option Pending
+  pub block : Option OpenBlock
 
 -- the first project, and no block
-abbrev pub start : Place
+abbrev pub start : State
 start = record { project = first; block = None }
 
--- where some lines lead, and the replies to the commands that they complete
-pub record Progress : Type 0 where
-  pub place : Place
+-- where some input leads, and the replies to the commands that it completes
+pub record After (S : Type 0) : Type 0 where
+  pub state : S
   pub replies : List (List ℕ)
 
-abbrev pub silent : Place → Progress
-silent place = record { place = place; replies = [] }
+abbrev pub silent : State → After State
+silent state = record { state = state; replies = [] }
 
 -- the reply to an edit that was taken
 abbrev pub accepted : List ℕ
-accepted = codes "ok" ++ 10 ∷ []
+accepted = codes "ok" ++ line_feed ∷ []
 
-abbrev pub replied : Content → List ℕ → Progress
-replied p text = record { place = record { project = p; block = None }; replies = text ∷ [] }
+abbrev pub replied : Content → List ℕ → After State
+replied p text = record { state = record { project = p; block = None }; replies = text ∷ [] }
 
 -- an edit: `ok` and the new project, or a refusal and the same project
-abbrev pub edited : Content → Result Content EditFault → Progress
+abbrev pub edited : Content → Result Content EditFault → After State
 edited p (Ok q) = replied q accepted
 edited p (Err fault) = replied p (refusal_text fault)
 
-abbrev pub ordered : Content → Result Order EditFault → Progress
-ordered p (Ok order) = edited p (accept p order)
-ordered p (Err fault) = replied p (refusal_text fault)
+abbrev pub after_edit : Content → Result Edit EditFault → After State
+after_edit p (Ok edit) = edited p (accept p edit)
+after_edit p (Err fault) = replied p (refusal_text fault)
 
-abbrev pub queried : Content → Result (List ℕ) EditFault → Progress
-queried p (Ok text) = replied p text
+-- a query: its answer, or a refusal
+abbrev pub queried : Content → Result (List ℕ) EditFault → After State
+queried p (Ok text) = replied p (shown text)
 queried p (Err fault) = replied p (refusal_text fault)
 
 -- the edit of an `eds` line and its block
-abbrev pub block_order : Option (List ℕ) → List (List ℕ) → Result Order EditFault
-block_order None lines = Err Syntax
-block_order (Some name) lines = eds_order name lines
+abbrev pub block_edit : Option (List ℕ) → List (List ℕ) → Result Edit EditFault
+block_edit None lines = Err Syntax
+block_edit (Some name) lines = eds_edit name lines
 
 -- an `eds` command with some lines of its block, and the number of those to come
-abbrev pub in_block : Content → Option (List ℕ) → ℕ → List (List ℕ) → Progress
-in_block p name zero lines = ordered p (block_order name lines)
+abbrev pub in_block : Content → Option (List ℕ) → ℕ → List (List ℕ) → After State
+in_block p name zero lines = after_edit p (block_edit name lines)
 in_block p name (suc n) lines = silent (record { project = p; block = Some (record { name = name; left = suc n; lines = lines }) })
 
-abbrev pub asked : Content → Result Request EditFault → Progress
-asked p (Ok (Edit order)) = edited p (accept p order)
-asked p (Ok (Dcf id)) = queried p (dcf_reply p id)
-asked p (Ok (Cdcf id)) = queried p (cdcf_reply p id)
-asked p (Ok Project) = replied p (project_reply p)
+abbrev pub asked : Content → Result Request EditFault → After State
+asked p (Ok (EditAsked edit)) = edited p (accept p edit)
+asked p (Ok (QueryAsked query)) = queried p (answer p query)
 asked p (Ok (Block name n)) = in_block p name n []
 asked p (Err fault) = replied p (refusal_text fault)
 
 -- at most 4,096 spaces and tabs, or nothing
 abbrev pub is_skipped : List ℕ → Bool
-is_skipped line = nat_le (length line) 4096 && list_all (λ b. b == 32 || b == 9) line
+is_skipped line = nat_le (length line) 4096 && is_blank_line line
 
-abbrev pub taken : Content → Option Pending → List ℕ → Progress
+abbrev pub taken : Content → Option OpenBlock → List ℕ → After State
 taken p None line = if is_skipped line then silent (record { project = p; block = None }) else asked p (request line)
 taken p (Some block) line = in_block p block.name (block.left - 1) (block.lines ++ line ∷ [])
 
 -- one more line: the CRs at its end are removed, and it belongs to the open block or is a command
-unfoldable pub after_line : Place → List ℕ → Progress
-after_line place line = taken place.project place.block (trim_end is_cr line)
+unfoldable pub after_line : State → List ℕ → After State
+after_line state line = taken state.project state.block (trim_end is_cr line)
 
-abbrev pub after_lines : Place → List (List ℕ) → Progress
-after_lines place [] = silent place
-after_lines place (line ∷ lines) =
-    let one = after_line place line in
-    let others = after_lines one.place lines in
-    record { place = others.place; replies = one.replies ++ others.replies }
+abbrev pub after_lines : State → List (List ℕ) → After State
+after_lines state [] = silent state
+after_lines state (line ∷ lines) =
+    let one = after_line state line in
+    let others = after_lines one.state lines in
+    record { state = others.state; replies = one.replies ++ others.replies }
 
 -- the end of the input cuts an open block off
-abbrev pub cut_off : Option Pending → List (List ℕ)
+abbrev pub cut_off : Option OpenBlock → List (List ℕ)
 cut_off None = []
 cut_off (Some block) = refusal_text Truncated ∷ []
 
 -- the replies to these lines, after which the input ends
 abbrev pub replies_to_lines : List (List ℕ) → List (List ℕ)
-replies_to_lines lines = let all = after_lines start lines in all.replies ++ cut_off all.place.block
+replies_to_lines lines = let all = after_lines start lines in all.replies ++ cut_off all.state.block
 
 -- THE REPLIES to all of an input, whose lines end by LF or, where the last isn't empty, by its end
 unfoldable pub replies : List ℕ → List (List ℕ)
@@ -114,7 +114,7 @@ lengthened b (line ∷ lines) = (b ∷ line) ∷ lines
 -- the lines of these bytes that an LF ends, each without it
 unfoldable pub ended_lines : List ℕ → List (List ℕ)
 ended_lines [] = []
-ended_lines (b ∷ bs) = if b == 10 then [] ∷ ended_lines bs else lengthened b (ended_lines bs)
+ended_lines (b ∷ bs) = if b == line_feed then [] ∷ ended_lines bs else lengthened b (ended_lines bs)
 
 -- THE REPLIES to the commands that are complete in these bytes, whatever follows
 unfoldable pub complete_replies : List ℕ → List (List ℕ)

@@ -1,11 +1,8 @@
--- What a session has written.
+-- What a session has written, as replies.
 use Rattle.std.specs.Prelude.{◌≡◌, ℕ, List, ◌++◌, Option}
 use Rattle.std.specs.List.{concat}
 use Rattle.std.specs.Io.KnownBytes.{Appends}
-
--- a front of this text was written, and nothing else
-abbrev pub Took : Option (List ℕ) → Option (List ℕ) → List ℕ → Type 0
-Took old new text = (front : List ℕ) × (rest : List ℕ) × (text ≡ front ++ rest) × Appends old new front
+use Rattle.co_streams.specs.Written.{Took, Posts}
 
 -- these replies were written, and nothing else
 abbrev pub WroteAll : Option (List ℕ) → Option (List ℕ) → List (List ℕ) → Type 0
@@ -19,10 +16,6 @@ WroteFirst old new replies = (first : List (List ℕ)) × (others : List (List �
 abbrev pub WroteFront : Option (List ℕ) → Option (List ℕ) → List (List ℕ) → Type 0
 WroteFront old new replies = Took old new (concat replies)
 
--- private: what was written, and then what waits now, is what waited before, and then this text
-abbrev pub Posts : Option (List ℕ) → List ℕ → Option (List ℕ) → List ℕ → List ℕ → Type 0
-Posts old waited new waits text = (sent : List ℕ) × (waited ++ text ≡ sent ++ waits) × Appends old new sent
-
--- private: the same of the first of these replies, each whole
+-- private: the first of these replies were posted, each whole
 abbrev pub PostsFirst : Option (List ℕ) → List ℕ → Option (List ℕ) → List ℕ → List (List ℕ) → Type 0
 PostsFirst old waited new waits replies = (first : List (List ℕ)) × (others : List (List ℕ)) × (replies ≡ first ++ others) × Posts old waited new waits (concat first)

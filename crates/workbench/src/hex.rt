@@ -1,7 +1,9 @@
 //! Bytes as lines of hexadecimal digits.
-ghost use Rattle.std.specs.Prelude.{◌≡◌, ◌<◌, ◌/◌, ◌%◌, ◌++◌, ◌∷◌, [], IfOk, OnOk};
-ghost use Rattle.workbench.specs.Hex.{digit, hex_line, hex_text};
+ghost use Rattle.std.specs.Prelude.{◌≡◌, ◌++◌, ◌∷◌, [], IfOk, OnOk};
+ghost use Rattle.co_text.specs.Digits.{byte_digits};
+ghost use Rattle.workbench.specs.Hex.{hex_line, hex_text};
 
+use co_text::byte_digits;
 use std::alloc::{AllocError, Global};
 
 const ROW: usize = 16;
@@ -34,17 +36,9 @@ fn push_line(out: &mut Vec<u8>, row: &[u8]) -> Result<(), AllocError>
 }
 
 fn push_byte(out: &mut Vec<u8>, byte: u8, end: u8) -> Result<(), AllocError>
-    ensures { OnOk result (out.new.items ≡ out.old.items ++ digit (byte / 16) ∷ digit (byte % 16) ∷ end ∷ []) }
+    ensures { OnOk result (out.new.items ≡ out.old.items ++ (byte_digits byte ++ end ∷ [])) }
 {
-    out.push(digit(byte / 16))?;
-    out.push(digit(byte % 16))?;
+    out.extend_from_slice(&byte_digits(byte))?;
     out.push(end)?;
     Ok(())
-}
-
-fn digit(n: u8) -> u8
-    requires { n < 16 }
-    ensures { result ≡ digit n }
-{
-    if n < 10 { b'0' + n } else { b'A' + (n - 10) }
 }

@@ -1,13 +1,13 @@
 //! Laws of the replies, each in the words of inputs and lines.
 ghost use Rattle.std.specs.Prelude.{◌≡◌, ◌≢◌, ◌<◌, ◌≤◌, ◌++◌, ◌==◌, ◌∷◌, [], ℕ, List, None, false, length, map};
-ghost use Rattle.std.specs.List.{count_by};
-ghost use Rattle.ini_text.specs.Text.{lines_of};
+ghost use Rattle.co_text.specs.Lines.{line_count};
+ghost use Rattle.co_text.specs.Lines.{lines_of};
 ghost use Rattle.co_project.specs.Project.{Content};
-ghost use Rattle.co_project.specs.Script.{orders, script};
+ghost use Rattle.co_project.specs.Script.{edits, script};
 ghost use Rattle.co_project.specs.Sound.{IsSound};
 ghost use Rattle.workbench.specs.Hex.{hex_line, hex_text, row_count};
 ghost use Rattle.workbench.specs.Lines.{AreLines, has_break, with_breaks, if_some};
-ghost use Rattle.workbench.specs.Replies.{Place, start, accepted, after_line, after_lines, replies, replies_to_lines, complete_replies};
+ghost use Rattle.workbench.specs.Replies.{State, start, accepted, after_line, after_lines, replies, replies_to_lines, complete_replies};
 
 use co_commands::laws::{printed_blocks_are_read, printed_edits_are_lines, printed_lines_are_read};
 use co_project::laws::{script_has_edits, script_makes_the_project_again};
@@ -28,8 +28,8 @@ pub fn complete_come_first()
 
 /// A line that isn't answered by `ok` leaves the project as it was.
 pub fn refused_changes_nothing()
-    ensures { (place : Place) (line : List ℕ) → (after_line place line).replies ≢ accepted ∷ []
-        → (after_line place line).place.project ≡ place.project }
+    ensures { (state : State) (line : List ℕ) → (after_line state line).replies ≢ accepted ∷ []
+        → (after_line state line).state.project ≡ state.project }
 {}
 
 /// Bytes in hexadecimal digits begin with a line of the first 16, where there are 16.
@@ -39,7 +39,7 @@ pub fn full_rows()
 
 /// The lines of a text in hexadecimal digits, each ended by LF, are as many as the rows of 16.
 pub fn rows_are_counted()
-    ensures { (bytes : List ℕ) → count_by (λ b. b == 10) (hex_text bytes) ≡ row_count bytes }
+    ensures { (bytes : List ℕ) → line_count (hex_text bytes) ≡ row_count bytes }
 {}
 
 /// Up to 16 bytes are one line.
@@ -50,9 +50,9 @@ pub fn last_row()
 /// The script of a project, as an input, has `ok` alone for replies, one for each edit, and makes the
 /// equal project. A session takes it where it is at most 64 MiB.
 pub fn script_is_fed_again()
-    ensures replies { (p : Content) → IsSound p → replies (script p) ≡ map (λ _. accepted) (orders p) }
+    ensures replies { (p : Content) → IsSound p → replies (script p) ≡ map (λ _. accepted) (edits p) }
     ensures project { (p : Content) → IsSound p
-        → (after_lines start (lines_of (script p))).place ≡ record { project = p; block = None } }
+        → (after_lines start (lines_of (script p))).state ≡ record { project = p; block = None } }
 {
     printed_lines_are_read();
     printed_blocks_are_read();

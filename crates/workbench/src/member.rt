@@ -1,7 +1,7 @@
 //! A node with its device.
 ghost use Rattle.std.specs.Prelude.{◌≡◌, ◌↔◌, IsErrOf, None};
 ghost use Rattle.co_base.specs.Gives.{Gives};
-ghost use Rattle.co_commands.specs.Faults.{is_memory};
+ghost use Rattle.co_edits.specs.Faults.{is_memory};
 ghost use Rattle.co_project.specs.Tables.{node_at};
 ghost use Rattle.workbench.specs.Queries.{or_unknown, member_at};
 ghost use Rattle.workbench.specs.Views.{member_of};

@@ -1,95 +1,182 @@
 //! From a reader to a writer.
-ghost use Rattle.std.specs.Prelude.{◌≡◌, [], ◌≢◌, ◌<◌, ◌≤◌, ◌++◌, ◌==◌, ◌⊎◌, ℕ, List, length, take, OnOk, OnErr, IfOk, IfErr, IfSome, IsErrOf, Err};
-ghost use Rattle.std.specs.Io.KnownBytes.{Appends, Consumes, IsAtEnd};
-ghost use Rattle.workbench.specs.Replies.{replies, complete_replies, cut_off};
-ghost use Rattle.workbench.specs.Machine.{after, at_end, last_line};
-ghost use Rattle.workbench.specs.Views.{standing_of, replies_of};
-ghost use Rattle.workbench.specs.Written.{WroteAll, WroteFirst, WroteFront, Took, PostsFirst, Posts};
-ghost use Rattle.std.specs.List.{concat, position};
+ghost use Rattle.std.specs.Prelude.{◌≡◌, [], ◌≢◌, ◌<◌, ◌≤◌, ◌++◌, ◌⊎◌, ℕ, List, length, take, true, OnOk, OnErr, IfOk, IfSome, IsErrOf, Err};
+ghost use Rattle.std.specs.Io.KnownBytes.{Consumes, IsAtEnd};
+ghost use Rattle.std.specs.List.{concat};
 ghost use Rattle.std.specs.Option.{option_map};
-ghost use Rattle.ini_text.specs.Text.{split_once};
+ghost use Rattle.co_streams.specs.Written.{Took, Posts};
+ghost use Rattle.workbench.specs.Replies.{replies, complete_replies, cut_off};
+ghost use Rattle.workbench.specs.Machine.{after, at_end, last_line, given};
+ghost use Rattle.workbench.specs.Views.{cursor_of, replies_of};
+ghost use Rattle.workbench.specs.Written.{WroteAll, WroteFirst, WroteFront, PostsFirst};
 
-use crate::desk::Desk;
-use crate::fault::SessionFault;
-use crate::intake::Intake;
-use crate::outbox::{Outbox, write_all};
-use crate::outlet::Outlet;
+use crate::cursor::Cursor;
+use crate::reply::Reply;
 use crate::work::Work;
 use co_project::{EditFault, refusal};
+use co_streams::{Intake, Outbox, Outlet, SessionFault};
+use co_text::split_once;
 use std::alloc::Global;
 
 /// How many bytes an input may have: 64 MiB.
 pub const LIMIT: usize = 67_108_864;
 
-/// The place of the first LF.
-fn first_break(bytes: &[u8]) -> Option<usize>
-    ensures { result ≡ position (λ b. b == 10) bytes.now }
+/// Lets the reply to a line wait, or writes it.
+fn put_reply<W: Outlet>(
+    outbox: &mut Outbox,
+    writer: &mut W,
+    reply: Reply,
+) -> Result<(), SessionFault>
+    ensures ok { OnOk result (Posts (W.contents writer.old) outbox.old (W.contents writer.new) outbox.new (concat (replies_of reply))) }
+    ensures memory { IsErrOf result SessionFault.Memory → Posts (W.contents writer.old) outbox.old (W.contents writer.new) outbox.new [] }
+    ensures write { IsErrOf result SessionFault.Write → (W.failures writer.new ≢ W.failures writer.old)
+        × Took (W.contents writer.old) (W.contents writer.new) (outbox.old ++ concat (replies_of reply)) }
+    ensures quiet { result ≢ Err SessionFault.Write → W.failures writer.new ≡ W.failures writer.old }
+    ensures flushed { result ≢ Err SessionFault.Write → W.flushed writer.old ≡ true → W.flushed writer.new ≡ true }
+    ensures never_read { result ≢ Err SessionFault.Read }
 {
-    bytes.iter().position(|b| *b == b'\n')
-}
-
-/// What stands before the first LF, and what stands after it.
-#[tactic(auto, unfolding(ini_text::specs::Text::split_once))]
-fn next_line(bytes: &[u8]) -> Option<(&[u8], &[u8])>
-    ensures parts { option_map (λ p. (p.0.now, p.1.now)) result ≡ split_once 10 bytes.now }
-    ensures shorter { IfSome result (λ p. length p.1.now < length bytes.now) }
-{
-    match first_break(bytes) {
-        Some(at) => Some((&bytes[..at], &bytes[at + 1..])),
-        None => None,
-    }
+    outbox.put(writer, reply.text())
 }
 
 /// Takes the next piece of the input. The replies to the commands that it completes go out or wait.
-fn take_lines<W: Outlet>(
-    desk: &mut Desk,
+fn put_lines<W: Outlet>(
+    cursor: &mut Cursor,
     outbox: &mut Outbox,
     writer: &mut W,
     piece: &[u8],
 ) -> Result<(), SessionFault>
-    ensures standing { OnOk result (standing_of desk.new ≡ (after (standing_of desk.old) piece.now).standing) }
-    ensures ok { OnOk result (Posts (W.contents writer.old) outbox.old.waiting.items (W.contents writer.new) outbox.new.waiting.items
-        (concat (after (standing_of desk.old) piece.now).replies)) }
+    ensures cursor { OnOk result (cursor_of cursor.new ≡ (after (cursor_of cursor.old) piece.now).state) }
+    ensures ok { OnOk result (Posts (W.contents writer.old) outbox.old (W.contents writer.new) outbox.new
+        (concat (after (cursor_of cursor.old) piece.now).replies)) }
     ensures memory { IsErrOf result SessionFault.Memory
-        → PostsFirst (W.contents writer.old) outbox.old.waiting.items (W.contents writer.new) outbox.new.waiting.items
-        (after (standing_of desk.old) piece.now).replies }
-    ensures quiet { OnOk result (W.failures writer.new ≡ W.failures writer.old) }
-    ensures quiet_too { IsErrOf result SessionFault.Memory → W.failures writer.new ≡ W.failures writer.old }
+        → PostsFirst (W.contents writer.old) outbox.old (W.contents writer.new) outbox.new (after (cursor_of cursor.old) piece.now).replies }
     ensures write { IsErrOf result SessionFault.Write → (W.failures writer.new ≢ W.failures writer.old)
-        × Took (W.contents writer.old) (W.contents writer.new)
-        (outbox.old.waiting.items ++ concat (after (standing_of desk.old) piece.now).replies) }
+        × Took (W.contents writer.old) (W.contents writer.new) (outbox.old ++ concat (after (cursor_of cursor.old) piece.now).replies) }
+    ensures quiet { result ≢ Err SessionFault.Write → W.failures writer.new ≡ W.failures writer.old }
+    ensures flushed { result ≢ Err SessionFault.Write → W.flushed writer.old ≡ true → W.flushed writer.new ≡ true }
     ensures never_read { result ≢ Err SessionFault.Read }
 {
     let mut rest = piece;
-    'lines: while let Some((line, after)) = next_line(rest) {
-        desk.line.extend_from_slice(line)?;
-        let reply = desk.end_line()?;
-        outbox.put_reply(writer, reply)?;
+    'lines: while let Some((line, after)) = split_once(rest, b'\n') {
+        cursor.line.extend_from_slice(line)?;
+        let reply = cursor.end_line()?;
+        put_reply(outbox, writer, reply)?;
         rest = after;
     }
-    desk.line.extend_from_slice(rest)?;
+    cursor.line.extend_from_slice(rest)?;
     Ok(())
 }
 
-/// Takes the next piece of the input, and writes the replies to the commands that it completes.
-fn take_piece<W: Outlet>(
-    desk: &mut Desk,
+/// Ends a last line that has no LF.
+fn put_last_line<W: Outlet>(
+    cursor: &mut Cursor,
     outbox: &mut Outbox,
     writer: &mut W,
-    piece: &[u8],
 ) -> Result<(), SessionFault>
-    requires { outbox.old.waiting.items ≡ [] }
-    ensures ok { OnOk result ((standing_of desk.new ≡ (after (standing_of desk.old) piece.now).standing)
-        × WroteAll (W.contents writer.old) (W.contents writer.new) (after (standing_of desk.old) piece.now).replies) }
-    ensures empty { OnOk result (outbox.new.waiting.items ≡ []) }
-    ensures quiet { OnOk result (W.failures writer.new ≡ W.failures writer.old) }
-    ensures memory { IsErrOf result SessionFault.Memory
-        → WroteFirst (W.contents writer.old) (W.contents writer.new) (after (standing_of desk.old) piece.now).replies }
+    ensures cursor { OnOk result (cursor_of cursor.new ≡ (last_line (cursor_of cursor.old)).state) }
+    ensures ok { OnOk result (Posts (W.contents writer.old) outbox.old (W.contents writer.new) outbox.new
+        (concat (last_line (cursor_of cursor.old)).replies)) }
+    ensures memory { IsErrOf result SessionFault.Memory → Posts (W.contents writer.old) outbox.old (W.contents writer.new) outbox.new [] }
     ensures write { IsErrOf result SessionFault.Write → (W.failures writer.new ≢ W.failures writer.old)
-        × WroteFront (W.contents writer.old) (W.contents writer.new) (after (standing_of desk.old) piece.now).replies }
+        × Took (W.contents writer.old) (W.contents writer.new) (outbox.old ++ concat (last_line (cursor_of cursor.old)).replies) }
+    ensures quiet { result ≢ Err SessionFault.Write → W.failures writer.new ≡ W.failures writer.old }
+    ensures flushed { result ≢ Err SessionFault.Write → W.flushed writer.old ≡ true → W.flushed writer.new ≡ true }
     ensures never_read { result ≢ Err SessionFault.Read }
 {
-    match take_lines(desk, outbox, writer, piece) {
+    if cursor.line.is_empty() {
+        return Ok(());
+    }
+    let reply = cursor.end_line()?;
+    put_reply(outbox, writer, reply)
+}
+
+/// Cuts off a block that isn't complete.
+fn put_cut_off<W: Outlet>(
+    cursor: &Cursor,
+    outbox: &mut Outbox,
+    writer: &mut W,
+) -> Result<(), SessionFault>
+    ensures ok { OnOk result (Posts (W.contents writer.old) outbox.old (W.contents writer.new) outbox.new
+        (concat (cut_off (cursor_of cursor.now).state.block))) }
+    ensures memory { IsErrOf result SessionFault.Memory → Posts (W.contents writer.old) outbox.old (W.contents writer.new) outbox.new [] }
+    ensures write { IsErrOf result SessionFault.Write → (W.failures writer.new ≢ W.failures writer.old)
+        × Took (W.contents writer.old) (W.contents writer.new) (outbox.old ++ concat (cut_off (cursor_of cursor.now).state.block)) }
+    ensures quiet { result ≢ Err SessionFault.Write → W.failures writer.new ≡ W.failures writer.old }
+    ensures flushed { result ≢ Err SessionFault.Write → W.flushed writer.old ≡ true → W.flushed writer.new ≡ true }
+    ensures never_read { result ≢ Err SessionFault.Read }
+{
+    if cursor.block.is_some() {
+        return outbox.put(writer, refusal(EditFault::Truncated));
+    }
+    Ok(())
+}
+
+/// Takes the end of the input: ends a last line that has no LF, and cuts off a block that isn't
+/// complete. The replies go out or wait.
+fn put_end<W: Outlet>(
+    cursor: &mut Cursor,
+    outbox: &mut Outbox,
+    writer: &mut W,
+) -> Result<(), SessionFault>
+    ensures ok { OnOk result (Posts (W.contents writer.old) outbox.old (W.contents writer.new) outbox.new (concat (at_end (cursor_of cursor.old)))) }
+    ensures memory { IsErrOf result SessionFault.Memory
+        → PostsFirst (W.contents writer.old) outbox.old (W.contents writer.new) outbox.new (at_end (cursor_of cursor.old)) }
+    ensures write { IsErrOf result SessionFault.Write → (W.failures writer.new ≢ W.failures writer.old)
+        × Took (W.contents writer.old) (W.contents writer.new) (outbox.old ++ concat (at_end (cursor_of cursor.old))) }
+    ensures quiet { result ≢ Err SessionFault.Write → W.failures writer.new ≡ W.failures writer.old }
+    ensures flushed { result ≢ Err SessionFault.Write → W.flushed writer.old ≡ true → W.flushed writer.new ≡ true }
+    ensures never_read { result ≢ Err SessionFault.Read }
+{
+    put_last_line(cursor, outbox, writer)?;
+    put_cut_off(cursor, outbox, writer)
+}
+
+/// Takes the next piece of the input, or its end where there is none.
+fn put_turn<W: Outlet>(
+    cursor: &mut Cursor,
+    outbox: &mut Outbox,
+    writer: &mut W,
+    piece: Option<&[u8]>,
+) -> Result<(), SessionFault>
+    ensures cursor { OnOk result (IfSome piece.entry (λ p. cursor_of cursor.new ≡ (after (cursor_of cursor.old) p.now).state)) }
+    ensures ok { OnOk result (Posts (W.contents writer.old) outbox.old (W.contents writer.new) outbox.new
+        (concat (given (cursor_of cursor.old) (option_map (λ p. p.now) piece.entry)))) }
+    ensures memory { IsErrOf result SessionFault.Memory
+        → PostsFirst (W.contents writer.old) outbox.old (W.contents writer.new) outbox.new
+        (given (cursor_of cursor.old) (option_map (λ p. p.now) piece.entry)) }
+    ensures write { IsErrOf result SessionFault.Write → (W.failures writer.new ≢ W.failures writer.old)
+        × Took (W.contents writer.old) (W.contents writer.new)
+        (outbox.old ++ concat (given (cursor_of cursor.old) (option_map (λ p. p.now) piece.entry))) }
+    ensures quiet { result ≢ Err SessionFault.Write → W.failures writer.new ≡ W.failures writer.old }
+    ensures flushed { result ≢ Err SessionFault.Write → W.flushed writer.old ≡ true → W.flushed writer.new ≡ true }
+    ensures never_read { result ≢ Err SessionFault.Read }
+{
+    match piece {
+        Some(piece) => put_lines(cursor, outbox, writer, piece),
+        None => put_end(cursor, outbox, writer),
+    }
+}
+
+/// Takes the next piece of the input, or its end where there is none, and writes the replies.
+fn take_turn<W: Outlet>(
+    cursor: &mut Cursor,
+    outbox: &mut Outbox,
+    writer: &mut W,
+    piece: Option<&[u8]>,
+) -> Result<(), SessionFault>
+    requires { outbox.old ≡ [] }
+    ensures cursor { OnOk result (IfSome piece.entry (λ p. cursor_of cursor.new ≡ (after (cursor_of cursor.old) p.now).state)) }
+    ensures empty { OnOk result (outbox.new ≡ []) }
+    ensures ok { OnOk result (WroteAll (W.contents writer.old) (W.contents writer.new)
+        (given (cursor_of cursor.old) (option_map (λ p. p.now) piece.entry))) }
+    ensures memory { IsErrOf result SessionFault.Memory
+        → WroteFirst (W.contents writer.old) (W.contents writer.new) (given (cursor_of cursor.old) (option_map (λ p. p.now) piece.entry)) }
+    ensures write { IsErrOf result SessionFault.Write → (W.failures writer.new ≢ W.failures writer.old)
+        × WroteFront (W.contents writer.old) (W.contents writer.new) (given (cursor_of cursor.old) (option_map (λ p. p.now) piece.entry)) }
+    ensures quiet { result ≢ Err SessionFault.Write → W.failures writer.new ≡ W.failures writer.old }
+    ensures flushed { result ≢ Err SessionFault.Write → W.flushed writer.old ≡ true → W.flushed writer.new ≡ true }
+    ensures never_read { result ≢ Err SessionFault.Read }
+{
+    match put_turn(cursor, outbox, writer, piece) {
         Ok(()) => outbox.send(writer),
         Err(SessionFault::Memory) => {
             outbox.send(writer)?;
@@ -99,59 +186,13 @@ fn take_piece<W: Outlet>(
     }
 }
 
-/// Ends a last line that has no LF.
-fn end_last_line<W: Outlet>(desk: &mut Desk, writer: &mut W) -> Result<(), SessionFault>
-    ensures ok { OnOk result ((standing_of desk.new ≡ (last_line (standing_of desk.old)).standing)
-        × WroteAll (W.contents writer.old) (W.contents writer.new) (last_line (standing_of desk.old)).replies) }
-    ensures quiet { OnOk result (W.failures writer.new ≡ W.failures writer.old) }
-    ensures memory { IsErrOf result SessionFault.Memory → WroteAll (W.contents writer.old) (W.contents writer.new) [] }
-    ensures write { IsErrOf result SessionFault.Write → (W.failures writer.new ≢ W.failures writer.old)
-        × WroteFront (W.contents writer.old) (W.contents writer.new) (last_line (standing_of desk.old)).replies }
-    ensures never_read { result ≢ Err SessionFault.Read }
-{
-    if desk.line.is_empty() {
-        return Ok(());
-    }
-    let reply = desk.end_line()?;
-    write_all(writer, reply.text())
-}
-
-/// Ends a last line that has no LF, and cuts off a block that isn't complete.
-#[tactic(auto, unfolding(crate::specs::Machine::at_end))]
-fn finish<W: Outlet>(desk: &mut Desk, writer: &mut W) -> Result<Work, SessionFault>
-    ensures ok { OnOk result (WroteAll (W.contents writer.old) (W.contents writer.new) (at_end (standing_of desk.old))) }
-    ensures work { IfOk result (λ work. work ≡ record { segments = 0; parts = 0 }) }
-    ensures memory { IsErrOf result SessionFault.Memory
-        → WroteFirst (W.contents writer.old) (W.contents writer.new) (at_end (standing_of desk.old)) }
-    ensures write { IsErrOf result SessionFault.Write → (W.failures writer.new ≢ W.failures writer.old)
-        × WroteFront (W.contents writer.old) (W.contents writer.new) (at_end (standing_of desk.old)) }
-    ensures never_read { result ≢ Err SessionFault.Read }
-{
-    end_last_line(desk, writer)?;
-    put_cut_off(desk, writer)?;
-    Ok(Work {
-        segments: 0,
-        parts: 0,
-    })
-}
-
-fn put_cut_off<W: Outlet>(desk: &Desk, writer: &mut W) -> Result<(), SessionFault>
-    ensures ok { OnOk result (WroteAll (W.contents writer.old) (W.contents writer.new) (cut_off (standing_of desk.now).place.block)) }
-    ensures fault { IfErr result (λ e. e ≡ SessionFault.Write) }
-    ensures failed { OnErr result (W.failures writer.new ≢ W.failures writer.old) }
-    ensures front { OnErr result (WroteFront (W.contents writer.old) (W.contents writer.new) (cut_off (standing_of desk.now).place.block)) }
-{
-    if desk.block.is_some() {
-        return write_all(writer, refusal(EditFault::Truncated));
-    }
-    Ok(())
-}
-
 /// Reads commands until the input ends, and answers each: the replies to what one read gave are
-/// written before the next.
+/// written, and flushed, before the next.
 ///
-/// A session makes at most 67,108,866 reads and takes time and memory linear in its input, its
-/// replies and the project.
+/// A session makes at most 67,108,865 reads. It takes time linear in its input, up to a logarithm
+/// where an EDS is read or a table is searched; `node` and `drop-eds` also walk the nodes, and
+/// `drop-node` the events. A query takes time and memory by the length of its reply, and `dcf` and
+/// `cdcf` also by that of the node's EDS, which they read anew.
 ///
 /// # Errors
 /// - Memory: a growth was refused. The replies to the commands before were written, each whole.
@@ -188,8 +229,15 @@ pub fn session<R: Intake, W: Outlet>(
     ensures write { IsErrOf result SessionFault.Write → W.failures writer.new ≢ W.failures writer.old }
     ensures taken { IsErrOf result SessionFault.Write → IfSome (R.remaining reader.old) (λ input.
         WroteFront (W.contents writer.old) (W.contents writer.new) (replies input)) }
+
+    // No failure is passed over: the reader fails with Read alone, and the writer with Write alone.
+    ensures reader_quiet { result ≢ Err SessionFault.Read → R.failures reader.new ≡ R.failures reader.old }
+    ensures writer_quiet { result ≢ Err SessionFault.Write → W.failures writer.new ≡ W.failures writer.old }
+
+    // But for Write, what was written has also been flushed.
+    ensures flushed { result ≢ Err SessionFault.Write → W.flushed writer.old ≡ true → W.flushed writer.new ≡ true }
 {
-    let mut desk = Desk::new(alloc);
+    let mut cursor = Cursor::new(alloc);
     let mut outbox = Outbox::new(alloc)?;
     let mut buffer = [0; 4096];
     let mut room = LIMIT;
@@ -199,10 +247,14 @@ pub fn session<R: Intake, W: Outlet>(
             Err(_) => return Err(SessionFault::Read),
         };
         if n == 0 {
-            return finish(&mut desk, writer);
+            take_turn(&mut cursor, &mut outbox, writer, None)?;
+            return Ok(Work {
+                segments: 0,
+                parts: 0,
+            });
         }
         let used = n.min(room);
-        take_piece(&mut desk, &mut outbox, writer, &buffer[..used])?;
+        take_turn(&mut cursor, &mut outbox, writer, Some(&buffer[..used]))?;
         if room < n {
             return Err(SessionFault::Read);
         }

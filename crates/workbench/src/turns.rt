@@ -1,34 +1,29 @@
 //! What one line does.
-ghost use Rattle.std.specs.Prelude.{◌≡◌, ◌==◌, ◌||◌, IfOk, None};
-ghost use Rattle.std.specs.List.{list_all};
+ghost use Rattle.std.specs.Prelude.{◌≡◌, IfOk, None};
 ghost use Rattle.co_commands.specs.Requests.{request};
-ghost use Rattle.co_commands.specs.Eds.{lines_of};
+ghost use Rattle.co_edits.specs.Eds.{lines_of};
 ghost use Rattle.co_project.specs.Project.{accept};
-ghost use Rattle.workbench.specs.Replies.{after_line, asked, in_block, edited, is_skipped};
-ghost use Rattle.workbench.specs.Views.{progress_of, block_of, Refuses, Answers};
+ghost use Rattle.workbench.specs.Queries.{answer};
+ghost use Rattle.workbench.specs.Replies.{after_line, asked, in_block, edited, queried, is_skipped};
+ghost use Rattle.workbench.specs.Views.{taken_at, block_of, Refuses};
 
-use crate::block::Block;
-use crate::queries::{cdcf_reply, dcf_reply, project_reply};
+use crate::open_block::OpenBlock;
+use crate::queries::{answer, shown};
 use crate::reply::Reply;
 use crate::workbench::Workbench;
 use co_base::Octets;
-use co_commands::without_crs;
+use co_commands::Query;
 use co_project::{Command, EditFault, Request, refusal};
+use co_text::{is_blank_line, without_crs};
 use std::alloc::{AllocError, Global};
 
 /// The longest line of blanks that is skipped.
 const MAX_BLANKS: usize = 4096;
 
-fn is_blank(line: &[u8]) -> bool
-    ensures { result ≡ list_all (λ b. b == 32 || b == 9) line.now }
-{
-    line.iter().all(|b| *b == b' ' || *b == b'\t')
-}
-
 fn is_skipped(line: &[u8]) -> bool
     ensures { result ≡ is_skipped line.now }
 {
-    line.len() <= MAX_BLANKS && is_blank(line)
+    line.len() <= MAX_BLANKS && is_blank_line(line)
 }
 
 /// Takes one more line, with the CRs at its end.
@@ -36,11 +31,11 @@ fn is_skipped(line: &[u8]) -> bool
 pub fn take_line(
     alloc: Global,
     workbench: &mut Workbench,
-    block: Option<Block>,
+    block: Option<OpenBlock>,
     line: &[u8],
-) -> Result<(Reply, Option<Block>), AllocError>
-    ensures { IfOk result (λ r. progress_of workbench.new r.1 r.0
-        ≡ after_line (record { project = workbench.old; block = block_of block }) line.now) }
+) -> Result<(Reply, Option<OpenBlock>), AllocError>
+    ensures { IfOk result (λ r. taken_at workbench.new.project r.1 r.0
+        ≡ after_line (record { project = workbench.old.project; block = block_of block }) line.now) }
 {
     let line = without_crs(line);
     match block {
@@ -51,7 +46,7 @@ pub fn take_line(
             ask(alloc, workbench, line)
         }
         Some(
-            Block {
+            OpenBlock {
                 name,
                 left,
                 mut lines,
@@ -67,14 +62,12 @@ fn ask(
     alloc: Global,
     workbench: &mut Workbench,
     line: &[u8],
-) -> Result<(Reply, Option<Block>), AllocError>
-    ensures { IfOk result (λ r. progress_of workbench.new r.1 r.0 ≡ asked workbench.old (request line.now)) }
+) -> Result<(Reply, Option<OpenBlock>), AllocError>
+    ensures { IfOk result (λ r. taken_at workbench.new.project r.1 r.0 ≡ asked workbench.old.project (request line.now)) }
 {
     match Request::read(alloc, line) {
         Ok(Request::Edit(command)) => Ok((edit(workbench, command)?, None)),
-        Ok(Request::Dcf(id)) => Ok((answer(dcf_reply(alloc, workbench, id))?, None)),
-        Ok(Request::Cdcf(id)) => Ok((answer(cdcf_reply(alloc, workbench, id))?, None)),
-        Ok(Request::Project) => { Ok((Reply::Lines(project_reply(alloc, workbench)?), None)) }
+        Ok(Request::Query(query)) => Ok((reply_to(alloc, workbench, query)?, None)),
         Ok(Request::Block { name, lines }) => {
             go_on(alloc, workbench, name, lines, Vec::new(alloc))
         }
@@ -89,12 +82,12 @@ fn go_on(
     name: Option<Octets>,
     left: u32,
     lines: Vec<Vec<u8>>,
-) -> Result<(Reply, Option<Block>), AllocError>
-    ensures { IfOk result (λ r. progress_of workbench.new r.1 r.0
-        ≡ in_block workbench.old name left (lines_of lines.items)) }
+) -> Result<(Reply, Option<OpenBlock>), AllocError>
+    ensures { IfOk result (λ r. taken_at workbench.new.project r.1 r.0
+        ≡ in_block workbench.old.project name left (lines_of lines.items)) }
 {
     if left > 0 {
-        return Ok((Reply::Nothing, Some(Block { name, left, lines })));
+        return Ok((Reply::Nothing, Some(OpenBlock { name, left, lines })));
     }
     let Some(name) = name else {
         return Ok((refuse(EditFault::Syntax)?, None));
@@ -106,7 +99,7 @@ fn go_on(
 }
 
 fn edit(workbench: &mut Workbench, command: Command) -> Result<Reply, AllocError>
-    ensures { IfOk result (λ reply. progress_of workbench.new None reply ≡ edited workbench.old (accept workbench.old command)) }
+    ensures { IfOk result (λ reply. taken_at workbench.new.project None reply ≡ edited workbench.old.project (accept workbench.old.project command)) }
 {
     match workbench.edit(command) {
         Ok(()) => Ok(Reply::Fixed(b"ok\n")),
@@ -114,12 +107,13 @@ fn edit(workbench: &mut Workbench, command: Command) -> Result<Reply, AllocError
     }
 }
 
-/// What is written for the answer to a query.
-fn answer(text: Result<Vec<u8>, EditFault>) -> Result<Reply, AllocError>
-    ensures { Answers text result }
+/// What is written for a query.
+fn reply_to(alloc: Global, workbench: &Workbench, query: Query) -> Result<Reply, AllocError>
+    ensures { IfOk result (λ reply. taken_at workbench.now.project None reply
+        ≡ queried workbench.now.project (answer workbench.now.project query)) }
 {
-    match text {
-        Ok(text) => Ok(Reply::Lines(text)),
+    match answer(alloc, workbench, query) {
+        Ok(text) => Ok(Reply::Lines(shown(alloc, &text)?)),
         Err(fault) => refuse(fault),
     }
 }

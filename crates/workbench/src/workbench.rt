@@ -2,8 +2,8 @@
 ghost use Rattle.std.specs.Prelude.{◌≡◌, ◌↔◌, ◌≤◌, All, IfOk, IsErrOf, None, length};
 ghost use Rattle.co_base.specs.Gives.{Gives};
 ghost use Rattle.concise_dcf.specs.Concise.{text_of as concise_text};
-ghost use Rattle.co_commands.specs.Accepts.{Accepts};
-ghost use Rattle.co_commands.specs.Faults.{is_memory};
+ghost use Rattle.co_edits.specs.Accepts.{Accepts};
+ghost use Rattle.co_edits.specs.Faults.{is_memory};
 ghost use Rattle.co_project.specs.Project.{accept, first};
 ghost use Rattle.co_project.specs.Script.{script};
 ghost use Rattle.co_project.specs.Sound.{IsSound};
@@ -11,17 +11,18 @@ ghost use Rattle.co_project.specs.Tables.{node_at};
 ghost use Rattle.workbench.specs.Queries.{or_unknown, dcf_of, concise_of};
 
 use crate::member::find_member;
+use co_params::writes;
 use co_project::{Command, EditFault, Project};
 use concise_dcf::{Write, encode};
 use eds_dcf::dcf_text;
-use co_params::writes;
 use std::alloc::{AllocError, Global};
 use std::marker::Model;
 
-/// A workbench: a project, and the files that its nodes get. Contracts see it as its project.
+/// A workbench: a project, and the files that its nodes get. Contracts see it as a record with its
+/// project.
 ///
-/// Each file is made anew from the project of now, in time and memory by the length of the node's
-/// EDS and of the file.
+/// Each file is made anew from the project of now: that of a node reads the node's EDS each time,
+/// and takes time and memory by the length of that EDS and of the file, up to a logarithm.
 #[derive(Drop)]
 pub struct Workbench {
     alloc: Global,
@@ -29,17 +30,20 @@ pub struct Workbench {
 }
 
 impl Model for Workbench {
-    ghost use Rattle.co_project.specs.Project.{Content};
+    ghost use Rattle.co_project.specs.contracts.project.Project as held;
+    ghost use Rattle.workbench.specs.Bench.{Bench, bench_code};
 
-    ghost Value = { Content };
+    ghost Value = { Bench };
 
-    ghost view = { λ workbench. workbench.project };
+    ghost coded = { bench_code held.the_row.coded };
+
+    ghost view = { λ workbench. record { project = workbench.project } };
 }
 
 impl Workbench {
     /// A workbench with the first project.
     pub fn new(alloc: Global) -> Self
-        ensures { result ≡ first }
+        ensures { result.project ≡ first }
     {
         Workbench {
             alloc,
@@ -50,7 +54,7 @@ impl Workbench {
     /// Takes an edit, or refuses it with the first fault that applies and changes nothing. Memory
     /// can come in place of each, and changes nothing either.
     pub fn edit(&mut self, command: Command) -> Result<(), EditFault>
-        ensures { Accepts self.old self.new result (accept self.old command) }
+        ensures { Accepts self.old.project self.new.project result (accept self.old.project command) }
     {
         self.project.accept(command)
     }
@@ -60,8 +64,8 @@ impl Workbench {
     /// Unknown: the number isn't a node's. Memory can come in place of the file.
     #[tactic(auto, unfolding(crate::specs::Queries::dcf_of))]
     pub fn dcf(&self, node: u8) -> Result<Vec<u8>, EditFault>
-        ensures file { Gives is_memory (λ v. v.items) result (or_unknown (dcf_of self.now node)) }
-        ensures unknown { IsErrOf result EditFault.Unknown ↔ (node_at self.now.nodes node ≡ None) }
+        ensures file { Gives is_memory (λ v. v.items) result (or_unknown (dcf_of self.now.project node)) }
+        ensures unknown { IsErrOf result EditFault.Unknown ↔ (node_at self.now.project.nodes node ≡ None) }
     {
         let member = find_member(self.alloc, &self.project, node)?;
         let writes = writes(self.alloc, &member.node.params, &member.device, node)?;
@@ -77,8 +81,8 @@ impl Workbench {
     /// Unknown: the number isn't a node's. Memory can come in place of the file.
     #[tactic(auto, unfolding(crate::specs::Queries::concise_of))]
     pub fn concise(&self, node: u8) -> Result<Vec<u8>, EditFault>
-        ensures file { Gives is_memory (λ v. v.items) result (or_unknown (concise_of self.now node)) }
-        ensures unknown { IsErrOf result EditFault.Unknown ↔ (node_at self.now.nodes node ≡ None) }
+        ensures file { Gives is_memory (λ v. v.items) result (or_unknown (concise_of self.now.project node)) }
+        ensures unknown { IsErrOf result EditFault.Unknown ↔ (node_at self.now.project.nodes node ≡ None) }
     {
         let member = find_member(self.alloc, &self.project, node)?;
         let writes = writes(self.alloc, &member.node.params, &member.device, node)?;
@@ -88,10 +92,10 @@ impl Workbench {
 
     /// The commands that make this project of the first one, as text.
     pub fn script(&self) -> Result<Vec<u8>, AllocError>
-        ensures text { IfOk result (λ text. text.items ≡ script self.now) }
+        ensures text { IfOk result (λ text. text.items ≡ script self.now.project) }
 
         // So these commands make it again.
-        ensures sound { IsSound self.now }
+        ensures sound { IsSound self.now.project }
     {
         self.project.script()
     }

@@ -1,5 +1,5 @@
 use Rattle.std.proofs.Common.{◌≡◌, drop}
-use Rattle.co_commands.specs.Eds.{has_bad_line, lines_of}
+use Rattle.co_edits.specs.Eds.{has_bad_line, lines_of}
 use Rattle.co_commands.proofs.block.has_bad_line.Given as goal
 
 abbrev pub invariant-loop-line : goal.invariant-loop-line

@@ -1,5 +1,5 @@
 use Rattle.std.proofs.Common.{◌≡◌, ◌++◌, drop}
-use Rattle.co_commands.specs.Eds.{text_of, lines_of}
+use Rattle.co_edits.specs.Eds.{text_of, lines_of}
 use Rattle.co_commands.proofs.block.text_of.Given as goal
 
 abbrev pub invariant-loop-line : goal.invariant-loop-line

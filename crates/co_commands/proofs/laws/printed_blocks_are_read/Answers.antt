@@ -1,5 +1,5 @@
-use Rattle.co_commands.proofs.BlockLemmas.{block_again}
+use Rattle.co_commands.proofs.BlockLemmas.{lines_counted, edit_again}
 use Rattle.co_commands.proofs.laws.printed_blocks_are_read.Goals as goal
 
 pub returns : goal.returns
-returns c = block_again
+returns c = λ name text is. (lines_counted name text is, edit_again name text is)

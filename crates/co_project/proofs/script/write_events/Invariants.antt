@@ -1,8 +1,9 @@
-use Rattle.std.proofs.Common.{◌≡◌, ◌++◌}
+use Rattle.std.proofs.Common.{◌≡◌, ◌++◌, map}
+use Rattle.std.specs.FinMap.{entries}
 use Rattle.std.specs.List.{flat_map}
 use Rattle.co_commands.specs.Lines.{text_of}
-use Rattle.co_project.specs.Script.{event_orders}
+use Rattle.co_project.specs.Script.{event_edit}
 use Rattle.co_project.proofs.script.write_events.Given as goal
 
 abbrev pub invariant-loop-number : goal.invariant-loop-number
-invariant-loop-number l = l.out.items ++ flat_map text_of (event_orders l.number-iterator) ≡ l.fn.out.items ++ flat_map text_of (event_orders l.events)
+invariant-loop-number l = l.out.items ++ flat_map text_of (map event_edit l.number-iterator) ≡ l.fn.out.items ++ flat_map text_of (map event_edit (entries l.events))

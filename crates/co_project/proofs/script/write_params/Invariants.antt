@@ -1,8 +1,9 @@
 use Rattle.std.proofs.Common.{◌≡◌, ◌++◌, map}
+use Rattle.std.specs.FinMap.{entries}
 use Rattle.std.specs.List.{flat_map}
 use Rattle.co_commands.specs.Lines.{text_of}
-use Rattle.co_project.specs.Script.{param_order}
+use Rattle.co_project.specs.Script.{param_edit}
 use Rattle.co_project.proofs.script.write_params.Given as goal
 
 abbrev pub invariant-loop-index : goal.invariant-loop-index
-invariant-loop-index l = l.out.items ++ flat_map text_of (map (param_order l.id) l.index-iterator) ≡ l.fn.out.items ++ flat_map text_of (map (param_order l.id) l.params)
+invariant-loop-index l = l.out.items ++ flat_map text_of (map (param_edit l.id) l.index-iterator) ≡ l.fn.out.items ++ flat_map text_of (map (param_edit l.id) (entries l.params))

@@ -1,9 +1,10 @@
-use Rattle.std.proofs.Common.{◌≡◌, ◌++◌}
+use Rattle.std.proofs.Common.{◌≡◌, ◌++◌, map}
+use Rattle.std.specs.FinMap.{entries}
 use Rattle.std.specs.List.{flat_map}
 use Rattle.co_commands.specs.Lines.{text_of}
-use Rattle.co_project.specs.Script.{text_orders}
+use Rattle.co_project.specs.Script.{text_edit}
 use Rattle.co_project.specs.Tables.{texts_of}
 use Rattle.co_project.proofs.script.write_texts.Given as goal
 
 abbrev pub invariant-loop-name : goal.invariant-loop-name
-invariant-loop-name l = l.out.items ++ flat_map text_of (text_orders (texts_of l.name-iterator)) ≡ l.fn.out.items ++ flat_map text_of (text_orders (texts_of l.texts.entries))
+invariant-loop-name l = l.out.items ++ flat_map text_of (map text_edit (texts_of l.name-iterator)) ≡ l.fn.out.items ++ flat_map text_of (map text_edit (entries l.texts))

@@ -3,21 +3,18 @@ use Rattle.std.specs.FinMap.{get}
 use Rattle.std.specs.List.{flat_map}
 use Rattle.ini_text.specs.Change.{section_text}
 use Rattle.eds_dcf.specs.Compact.{new_values}
-use Rattle.eds_dcf.proofs.EntryLemmas.{is_some_copied, made_of_compact, not_made_beside, not_made_for_subs, not_made_of_others}
+use Rattle.eds_dcf.proofs.EntryLemmas.{is_some_copied, made_of_compact, not_made_beside, not_made_of_others}
 use Rattle.eds_dcf.proofs.TextLemmas.{nothing_more}
 use Rattle.eds_dcf.proofs.compact.put_made.Goals as goal
 
-pub returns-then-sub-ne0 : goal.returns-then-sub-ne0
-returns-then-sub-ne0 c = nothing_more _ _ (not_made_for_subs c.args.device.now.sections (get c.args.values.now) c.args.index c.args.sub c.if-sub-ne0.true)
-
 pub returns-then-is_some : goal.returns-then-is_some
 returns-then-is_some c =
-    nothing_more _ _ (not_made_beside c.args.device.now.sections (get c.args.values.now) c.args.index c.args.sub c.if-sub-ne0.false
+    nothing_more _ _ (not_made_beside c.args.device.now.sections (get c.args.values.now) c.args.index
     (sym (ap is_some c.values_section.ensures) ∙ is_some_copied c.values_section.result ∙ sym c.is_some.ensures ∙ c.if-is_some.true))
 
 pub returns-in_default : goal.returns-in_default
 returns-in_default c =
-    nothing_more _ _ (not_made_of_others c.args.device.now.sections (get c.args.values.now) c.args.index c.args.sub c.if-sub-ne0.false
+    nothing_more _ _ (not_made_of_others c.args.device.now.sections (get c.args.values.now) c.args.index
     (sym (ap is_some c.values_section.ensures) ∙ is_some_copied c.values_section.result ∙ sym c.is_some.ensures ∙ c.if-is_some.false)
     (sym c.compact_object.ensures ∙ ap (option_map (λ object. (object.0.now, object.1))) c.in_default.is))
 
@@ -26,6 +23,6 @@ returns c =
     c.in_ok-put_new.ensures
     ∙ ap (λ set. c.args.out.now.items ++ flat_map section_text (option_to_list (new_values c.args.index set))) (c.as_slice.ensures.value ∙ c.in_ok-set.ensures)
     ∙ ap (λ o. c.args.out.now.items ++ flat_map section_text (option_to_list o))
-    (made_of_compact c.args.device.now.sections (get c.args.values.now) c.args.index c.args.sub c.in-Some.field-0-0.now c.in-Some.highest c.if-sub-ne0.false
+    (made_of_compact c.args.device.now.sections (get c.args.values.now) c.args.index c.in-Some.field-0-0.now c.in-Some.highest
     (sym (ap is_some c.values_section.ensures) ∙ is_some_copied c.values_section.result ∙ sym c.is_some.ensures ∙ c.if-is_some.false)
     (sym c.compact_object.ensures ∙ ap (option_map (λ object. (object.0.now, object.1))) c.in-Some.is))

@@ -1,9 +1,9 @@
 use Rattle.std.proofs.Common.{◌≡◌, ◌≤◌, ◌++◌, [], refl, rules, take, drop, sym, ◌∙◌, arith, length, length-append, length-take, length-drop}
 use Rattle.std.proofs.KnownBytes.{Appends-nil, Consumes-nil}
-use Rattle.std.proofs.lemmas.Result.{on_ok_weaker, err_from_is_err_and}
-use Rattle.workbench.specs.Views.{standing_of}
+use Rattle.std.proofs.lemmas.Result.{err_from_is_err_and}
+use Rattle.workbench.specs.Views.{cursor_of}
 use Rattle.workbench.specs.declared.serving.TheConstants.{LIMIT}
-use Rattle.workbench.proofs.Ends.{all_at_end, first_at_end, front_at_end, first_in_piece, front_in_piece, all_in_piece, read_too_much, came-none, read-failed, cut_at, came-all, standing_both, known-all, nothing_yet, none_complete, not_begun}
+use Rattle.workbench.proofs.Ends.{all_at_end, first_at_end, front_at_end, first_in_piece, front_in_piece, all_in_piece, read_too_much, came-none, read-failed, cut_at, came-all, cursor_both, none_complete, not_begun}
 use Rattle.workbench.proofs.serving.session.Goals as goal
 
 pub returns-in-Err-clause-read : goal.returns-in-Err-clause-read
@@ -15,34 +15,35 @@ pub returns-then-n-eq0-clause-replies : goal.returns-then-n-eq0-clause-replies
 returns-then-n-eq0-clause-replies g c =
     let inv = c.loop-turn.invariant in
     let read = c.in-Ok.ensures.bytes in
-    on_ok_weaker c.finish.result (λ h. all_at_end _ _ _ _ inv.0 (standing_of c.loop-turn.desk) (came-none _ _ _ inv.0 c.read.new.buf c.in-Ok.n c.if-n-eq0.true inv.1 read.0) inv.2 inv.3 _ (read.1 c.if-n-eq0.true (omega arith)) h)
-    c.finish.ensures.ok
+    all_at_end _ _ _ _ inv.0 (cursor_of c.loop-turn.cursor) (came-none _ _ _ inv.0 c.read.new.buf c.in-Ok.n c.if-n-eq0.true inv.1 read.0) inv.2 inv.3 _ (read.1 c.if-n-eq0.true (omega arith)) c.in_ok-take_turn.ensures.ok
 
-pub returns-then-n-eq0-clause-memory : goal.returns-then-n-eq0-clause-memory
-returns-then-n-eq0-clause-memory g c =
+pub returns-in_err-take_turn-clause-memory : goal.returns-in_err-take_turn-clause-memory
+returns-in_err-take_turn-clause-memory g c =
     let inv = c.loop-turn.invariant in
     let read = c.in-Ok.ensures.bytes in
-    λ e. first_at_end _ _ _ _ inv.0 (standing_of c.loop-turn.desk) (came-none _ _ _ inv.0 c.read.new.buf c.in-Ok.n c.if-n-eq0.true inv.1 read.0) inv.2 inv.3 _ (read.1 c.if-n-eq0.true (omega arith)) (c.finish.ensures.memory e)
+    let p = err_from_is_err_and c.from_residual-in_err-take_turn.result c.from_residual-in_err-take_turn.ensures.1 in
+    λ e. first_at_end _ _ _ _ inv.0 (cursor_of c.loop-turn.cursor) (came-none _ _ _ inv.0 c.read.new.buf c.in-Ok.n c.if-n-eq0.true inv.1 read.0) inv.2 inv.3 _ (read.1 c.if-n-eq0.true (omega arith)) (c.in_err-take_turn.ensures.memory (cc))
 
-pub returns-then-n-eq0-clause-taken : goal.returns-then-n-eq0-clause-taken
-returns-then-n-eq0-clause-taken g c =
+pub returns-in_err-take_turn-clause-taken : goal.returns-in_err-take_turn-clause-taken
+returns-in_err-take_turn-clause-taken g c =
     let inv = c.loop-turn.invariant in
     let read = c.in-Ok.ensures.bytes in
-    λ e. front_at_end _ _ _ _ inv.0 (standing_of c.loop-turn.desk) (came-none _ _ _ inv.0 c.read.new.buf c.in-Ok.n c.if-n-eq0.true inv.1 read.0) inv.2 inv.3 _ (read.1 c.if-n-eq0.true (omega arith)) (c.finish.ensures.write e).1
+    let p = err_from_is_err_and c.from_residual-in_err-take_turn.result c.from_residual-in_err-take_turn.ensures.1 in
+    λ e. front_at_end _ _ _ _ inv.0 (cursor_of c.loop-turn.cursor) (came-none _ _ _ inv.0 c.read.new.buf c.in-Ok.n c.if-n-eq0.true inv.1 read.0) inv.2 inv.3 _ (read.1 c.if-n-eq0.true (omega arith)) (c.in_err-take_turn.ensures.write (cc)).1
 
-pub returns-in_err-take_piece-clause-memory : goal.returns-in_err-take_piece-clause-memory
-returns-in_err-take_piece-clause-memory g c =
+pub returns-in_err-take_turn-2-clause-memory : goal.returns-in_err-take_turn-2-clause-memory
+returns-in_err-take_turn-2-clause-memory g c =
     let inv = c.loop-turn.invariant in
-    let p = err_from_is_err_and c.from_residual-in_err-take_piece.result c.from_residual-in_err-take_piece.ensures.1 in
-    λ e. first_in_piece _ _ _ _ inv.0 (standing_of c.loop-turn.desk) inv.1 inv.2 inv.3 _ _ _ (take c.min-used.result c.read.new.buf) _
-    (cut_at c.read.new.buf c.in-Ok.n c.min-used.result (omega (arith, c.min-used.ensures))) c.in-Ok.ensures.bytes.0 (c.in_err-take_piece.ensures.memory (cc))
+    let p = err_from_is_err_and c.from_residual-in_err-take_turn-2.result c.from_residual-in_err-take_turn-2.ensures.1 in
+    λ e. first_in_piece _ _ _ _ inv.0 (cursor_of c.loop-turn.cursor) inv.1 inv.2 inv.3 _ _ _ (take c.min-used.result c.read.new.buf) _
+    (cut_at c.read.new.buf c.in-Ok.n c.min-used.result (omega (arith, c.min-used.ensures))) c.in-Ok.ensures.bytes.0 (c.in_err-take_turn-2.ensures.memory (cc))
 
-pub returns-in_err-take_piece-clause-taken : goal.returns-in_err-take_piece-clause-taken
-returns-in_err-take_piece-clause-taken g c =
+pub returns-in_err-take_turn-2-clause-taken : goal.returns-in_err-take_turn-2-clause-taken
+returns-in_err-take_turn-2-clause-taken g c =
     let inv = c.loop-turn.invariant in
-    let p = err_from_is_err_and c.from_residual-in_err-take_piece.result c.from_residual-in_err-take_piece.ensures.1 in
-    λ e. front_in_piece _ _ _ _ inv.0 (standing_of c.loop-turn.desk) inv.1 inv.2 inv.3 _ _ _ (take c.min-used.result c.read.new.buf) _
-    (cut_at c.read.new.buf c.in-Ok.n c.min-used.result (omega (arith, c.min-used.ensures))) c.in-Ok.ensures.bytes.0 (c.in_err-take_piece.ensures.write (cc)).1
+    let p = err_from_is_err_and c.from_residual-in_err-take_turn-2.result c.from_residual-in_err-take_turn-2.ensures.1 in
+    λ e. front_in_piece _ _ _ _ inv.0 (cursor_of c.loop-turn.cursor) inv.1 inv.2 inv.3 _ _ _ (take c.min-used.result c.read.new.buf) _
+    (cut_at c.read.new.buf c.in-Ok.n c.min-used.result (omega (arith, c.min-used.ensures))) c.in-Ok.ensures.bytes.0 (c.in_err-take_turn-2.ensures.write (cc)).1
 
 pub returns-then-room-n-clause-read : goal.returns-then-room-n-clause-read
 returns-then-room-n-clause-read g c =
@@ -52,11 +53,11 @@ returns-then-room-n-clause-read g c =
     let n = c.in-Ok.n in
     let fits : n ≤ length buffer = omega (arith, c.in-Ok.ensures.bound) in
     let is_room : used ≡ c.loop-turn.room = omega (arith, c.min-used.ensures) in
-    λ _. read_too_much _ _ _ _ inv.0 (standing_of c.loop-turn.desk) inv.1 inv.2 inv.3 _ _ (take n buffer) (take used buffer) (drop used (take n buffer))
+    λ _. read_too_much _ _ _ _ inv.0 (cursor_of c.loop-turn.cursor) inv.1 inv.2 inv.3 _ _ (take n buffer) (take used buffer) (drop used (take n buffer))
     (cut_at buffer n used (omega (arith, c.min-used.ensures))) c.in-Ok.ensures.bytes.0 LIMIT _
     (omega (arith, length-append inv.0 (take used buffer), length-take used buffer))
     (omega (arith, length-drop used (take n buffer), length-take n buffer))
-    c.in_ok-take_piece.ensures.ok.1
+    c.in_ok-take_turn-2.ensures.ok
 
 pub loop-turn-preserved : goal.loop-turn-preserved
 loop-turn-preserved g c =
@@ -64,49 +65,36 @@ loop-turn-preserved g c =
     let buffer = c.read.new.buf in
     let used = c.min-used.result in
     let n = c.in-Ok.n in
+    let was = c.in_ok-take_turn-2.ensures in
     let fits : n ≤ length buffer = omega (arith, c.in-Ok.ensures.bound) in
     let all : used ≡ n = omega (arith, c.min-used.ensures) in
-    let both = standing_both _ _ _ _ inv.0 (standing_of c.loop-turn.desk) inv.1 inv.2 inv.3 _ (g.W.Outlet.contents c.take_piece.new.writer) (take n buffer) (take used buffer) (drop used (take n buffer))
+    let both = cursor_both _ _ _ _ inv.0 (cursor_of c.loop-turn.cursor) inv.1 inv.2 inv.3 _ (g.W.Outlet.contents c.take_turn-in-loop-turn.new.writer) (take n buffer) (take used buffer) (drop used (take n buffer))
     (cut_at buffer n used (omega (arith, c.min-used.ensures))) c.in-Ok.ensures.bytes.0 in (
       inv.0 ++ take used buffer,
       came-all _ _ _ inv.0 buffer n used all inv.1 c.in-Ok.ensures.bytes.0,
-      c.in_ok-take_piece.ensures.ok.0 ∙ both,
-      all_in_piece _ _ _ _ inv.0 (standing_of c.loop-turn.desk) inv.1 inv.2 inv.3 _ _ (take n buffer) (take used buffer) (drop used (take n buffer))
-          (cut_at buffer n used (omega (arith, c.min-used.ensures))) c.in-Ok.ensures.bytes.0 c.in_ok-take_piece.ensures.ok.1,
+      was.cursor ∙ both,
+      all_in_piece _ _ _ _ inv.0 (cursor_of c.loop-turn.cursor) inv.1 inv.2 inv.3 _ _ (take n buffer) (take used buffer) (drop used (take n buffer))
+          (cut_at buffer n used (omega (arith, c.min-used.ensures))) c.in-Ok.ensures.bytes.0 was.ok,
       omega (arith, length-append inv.0 (take used buffer), length-take used buffer),
       omega (arith, length-append inv.0 (take used buffer), length-take used buffer),
       c.in-Ok.ensures.failed ∙ inv.6,
-      c.in_ok-take_piece.ensures.quiet ∙ inv.7,
-      c.read.auto.buf ∙ inv.8,
-      c.in_ok-take_piece.ensures.empty,
+      was.quiet (λ h. cc) ∙ inv.7,
+      λ h. was.flushed (λ e. cc) (inv.8 h),
+      c.read.auto.buf ∙ inv.9,
+      was.empty,
     )
-
-pub returns-then-n-eq0-clause-ended : goal.returns-then-n-eq0-clause-ended
-returns-then-n-eq0-clause-ended g c =
-    let read = c.in-Ok.ensures.bytes in
-    let inv = c.loop-turn.invariant in
-    on_ok_weaker c.finish.result (λ _. read.1 c.if-n-eq0.true (omega arith)) c.finish.ensures.ok
-
-pub returns-then-n-eq0-clause-limit : goal.returns-then-n-eq0-clause-limit
-returns-then-n-eq0-clause-limit g c =
-    let inv = c.loop-turn.invariant in
-    let read = c.in-Ok.ensures.bytes in
-    on_ok_weaker c.finish.result (λ _. known-all _ _ inv.0 (λ input. length input ≤ LIMIT) (came-none _ _ _ inv.0 c.read.new.buf c.in-Ok.n c.if-n-eq0.true inv.1 read.0) (read.1 c.if-n-eq0.true (omega arith)) (omega arith))
-    c.finish.ensures.ok
-
-pub returns-in_err-outbox-clause-memory : goal.returns-in_err-outbox-clause-memory
-returns-in_err-outbox-clause-memory g c = λ _. nothing_yet _ _
 
 pub loop-turn-init : goal.loop-turn-init
 loop-turn-init g c = (
   [],
   Consumes-nil _,
-  c.new-desk.ensures ∙ sym not_begun,
+  c.new-cursor.ensures ∙ sym not_begun,
   rw none_complete (Appends-nil _),
   omega arith,
   omega arith,
   refl,
   refl,
+  λ h. h,
   search rules,
   c.in_ok-outbox.ensures,
 )

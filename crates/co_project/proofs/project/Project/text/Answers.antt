@@ -8,6 +8,6 @@ use Rattle.co_project.proofs.project.Project.text.Goals as goal
 
 pub returns-clause-device : goal.returns-clause-device
 returns-clause-device c =
-    IfSome-copied (λ text. device_of text ≡ Ok (content_of text)) c.find_text.result (text_at c.self.inside.contents.texts c.args.name.now)
-    (c.find_text.ensures ∙ ap (λ (p : Inside). text_at p.contents.texts c.args.name.now) c.self-inside.view_is)
-    (texts_are_devices c.self.inside.contents c.args.name.now c.eds_are_devices.ensures c.self.invariant)
+    IfSome-copied (λ text. device_of text ≡ Ok (content_of text)) c.get.result (text_at c.self.inside.contents.texts c.args.name.now)
+    (c.get.ensures ∙ ap (λ (p : Inside). text_at p.contents.texts c.args.name.now) c.self-inside.view_is)
+    (texts_are_devices c.self.inside.contents c.args.name.now c.self.invariant)

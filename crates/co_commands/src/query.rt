@@ -1,0 +1,38 @@
+//! What a line asks without changing the project.
+ghost use Rattle.std.specs.Prelude.{◌≡◌};
+ghost use Rattle.co_base.specs.Gives.{Gives};
+ghost use Rattle.co_edits.specs.Faults.{is_memory};
+ghost use Rattle.co_commands.specs.Requests.{query_of};
+
+use crate::edits::id;
+use co_edits::EditFault;
+use co_text::is_blank_line;
+
+/// What a line asks without changing the project.
+#[derive(Clone, Copy, Debug)]
+pub enum Query {
+    /// The DCF (CiA 306) of a node.
+    Dcf(u8),
+    /// The concise DCF (CiA 302) of a node.
+    Cdcf(u8),
+    /// The commands that make the project.
+    Project,
+}
+
+impl Query {
+    /// `dcf ID`, `cdcf ID` or `project`
+    #[tactic(auto, unfolding(crate::specs::Requests::query_of))]
+    pub(crate) fn read(first: &[u8], rest: &[u8]) -> Result<Query, EditFault>
+        ensures { Gives is_memory (λ q. q) result (query_of first.now rest.now) }
+    {
+        if first == b"dcf".as_slice() {
+            Ok(Query::Dcf(id(rest)?))
+        } else if first == b"cdcf".as_slice() {
+            Ok(Query::Cdcf(id(rest)?))
+        } else if first == b"project".as_slice() && is_blank_line(rest) {
+            Ok(Query::Project)
+        } else {
+            Err(EditFault::Syntax)
+        }
+    }
+}

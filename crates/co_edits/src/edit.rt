@@ -1,0 +1,74 @@
+//! What an edit does.
+
+use crate::manager_settings::ManagerSettings;
+use co_base::Octets;
+use co_scenario::TimedEvent;
+
+/// What an edit does to a project.
+#[derive(Debug, Drop)]
+pub enum Edit {
+    /// The network's bit rate is another one, in kbit/s.
+    Bitrate(u16),
+    /// The simulation ends at another time, in microseconds from power-on.
+    Horizon(u32),
+    /// The manager (CiA 302) has other numbers.
+    Manager(ManagerSettings),
+    /// A name gets the text of an EDS (CiA 306).
+    Eds {
+        /// The name of the EDS.
+        name: Octets,
+        /// Its lines without the CRs at their ends, each ended by LF.
+        text: Octets,
+    },
+    /// The text of an EDS goes.
+    DropEds {
+        /// The name of the EDS.
+        name: Octets,
+    },
+    /// A node comes, or a known one gets another name and EDS.
+    Node {
+        /// The number of the node, 1 to 127.
+        id: u8,
+        /// Its name.
+        name: Octets,
+        /// The name of the EDS that it is made from.
+        eds: Octets,
+    },
+    /// A node goes, and its parameters with it.
+    DropNode {
+        /// The number of the node.
+        id: u8,
+    },
+    /// A parameter of a node gets a text.
+    Param {
+        /// The number of the node.
+        id: u8,
+        /// The index of the entry, outside 1400h to 1BFFh.
+        index: u16,
+        /// The sub-index of the entry.
+        sub: u8,
+        /// The text of the value.
+        text: Octets,
+    },
+    /// A parameter of a node goes.
+    Unparam {
+        /// The number of the node.
+        id: u8,
+        /// The index of the entry.
+        index: u16,
+        /// The sub-index of the entry.
+        sub: u8,
+    },
+    /// A number gets an event.
+    Event {
+        /// The number of the event, 1 to 10,000.
+        number: u16,
+        /// The event at its time.
+        event: TimedEvent,
+    },
+    /// An event goes.
+    DropEvent {
+        /// The number of the event.
+        number: u16,
+    },
+}

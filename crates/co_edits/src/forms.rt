@@ -1,0 +1,47 @@
+//! The forms of words and texts.
+ghost use Rattle.std.specs.Prelude.{◌≡◌};
+ghost use Rattle.std.specs.List.{list_all, list_any};
+ghost use Rattle.co_edits.specs.Forms.{is_control, is_name_byte, is_name, is_plain};
+
+const MAX_TEXT: usize = 4000;
+
+const MAX_NAME: usize = 32;
+
+fn is_name_byte(byte: u8) -> bool
+    ensures { result ≡ is_name_byte byte }
+{
+    matches!(byte, b'A'..=b'Z' | b'a'..=b'z' | b'0'..=b'9' | b'_')
+}
+
+fn are_name_bytes(word: &[u8]) -> bool
+    ensures { result ≡ list_all is_name_byte word.now }
+{
+    word.iter().all(|b| is_name_byte(*b))
+}
+
+/// Whether a word is 1 to 32 of `A-Z a-z 0-9 _`.
+pub fn is_name(word: &[u8]) -> bool
+    ensures { result ≡ is_name word.now }
+{
+    !word.is_empty() && word.len() <= MAX_NAME && are_name_bytes(word)
+}
+
+fn is_control(byte: u8) -> bool
+    ensures { result ≡ is_control byte }
+{
+    byte < b' ' && byte != b'\t'
+}
+
+/// Whether a line has a byte 00h to 1Fh other than tab.
+pub fn has_control(line: &[u8]) -> bool
+    ensures { result ≡ list_any is_control line.now }
+{
+    line.iter().any(|b| is_control(*b))
+}
+
+/// Whether a text has 1 to 4,000 bytes, none of them 00h to 1Fh other than tab.
+pub fn is_plain(text: &[u8]) -> bool
+    ensures { result ≡ is_plain text.now }
+{
+    !text.is_empty() && text.len() <= MAX_TEXT && !has_control(text)
+}

@@ -1,0 +1,101 @@
+//! The limits that the numbers of edits keep to. A number outside them is refused with Range.
+ghost use Rattle.std.specs.Prelude.{◌≡◌, true, IfOk};
+ghost use Rattle.co_base.specs.Gives.{Gives};
+ghost use Rattle.co_edits.specs.Faults.{is_memory};
+ghost use Rattle.co_edits.specs.Forms.{limited, is_between, is_node_number, is_node_or_all, is_own_index, is_bit_rate, is_time, is_sync_period, is_event_number};
+
+use crate::fault::EditFault;
+use co_dict::is_of_pdos;
+
+const MAX_TIME: u64 = 10_000_000;
+
+const MIN_SYNC_PERIOD: u64 = 1000;
+
+const MAX_EVENTS: u64 = 10_000;
+
+/// A number from `low` to `high`, both included.
+pub fn limited(number: u64, low: u64, high: u64) -> Result<u64, EditFault>
+    ensures value { Gives is_memory (λ n. n) result (limited (is_between low high) number) }
+    ensures within { IfOk result (λ n. is_between low high n ≡ true) }
+{
+    if number < low || number > high {
+        return Err(EditFault::Range);
+    }
+    Ok(number)
+}
+
+/// A node number, 1 to 127.
+pub fn node_number(number: u64) -> Result<u8, EditFault>
+    ensures value { Gives is_memory (λ n. n) result (limited is_node_number number) }
+    ensures within { IfOk result (λ n. is_node_number n ≡ true) }
+{
+    let number = limited(number, 1, 127)?;
+    Ok(number as u8)
+}
+
+/// A node number, or 0 for all nodes.
+pub fn node_or_all(number: u64) -> Result<u8, EditFault>
+    ensures value { Gives is_memory (λ n. n) result (limited is_node_or_all number) }
+    ensures within { IfOk result (λ n. is_node_or_all n ≡ true) }
+{
+    let number = limited(number, 0, 127)?;
+    Ok(number as u8)
+}
+
+/// An index outside 1400h to 1BFFh, which the plan of messages owns.
+pub fn own_index(index: u16) -> Result<u16, EditFault>
+    ensures value { Gives is_memory (λ n. n) result (limited is_own_index index) }
+    ensures within { IfOk result (λ n. is_own_index n ≡ true) }
+{
+    if is_of_pdos(index) {
+        return Err(EditFault::Range);
+    }
+    Ok(index)
+}
+
+fn is_bit_rate(number: u64) -> bool
+    ensures { result ≡ is_bit_rate number }
+{
+    matches!(number, 10 | 20 | 50 | 125 | 250 | 500 | 1000)
+}
+
+/// A bit rate in kbit/s.
+pub fn bit_rate(number: u64) -> Result<u16, EditFault>
+    ensures value { Gives is_memory (λ n. n) result (limited is_bit_rate number) }
+    ensures within { IfOk result (λ n. is_bit_rate n ≡ true) }
+{
+    if !is_bit_rate(number) {
+        return Err(EditFault::Range);
+    }
+    Ok(number as u16)
+}
+
+/// A time from power-on in microseconds, up to ten seconds.
+pub fn time(number: u64) -> Result<u32, EditFault>
+    ensures value { Gives is_memory (λ n. n) result (limited is_time number) }
+    ensures within { IfOk result (λ n. is_time n ≡ true) }
+{
+    let time = limited(number, 0, MAX_TIME)?;
+    Ok(time as u32)
+}
+
+/// The time between two SYNC messages in microseconds, a millisecond to ten seconds; 0 for none.
+pub fn sync_period(number: u64) -> Result<u32, EditFault>
+    ensures value { Gives is_memory (λ n. n) result (limited is_sync_period number) }
+    ensures within { IfOk result (λ n. is_sync_period n ≡ true) }
+{
+    if number == 0 {
+        return Ok(0);
+    }
+    let period = limited(number, MIN_SYNC_PERIOD, MAX_TIME)?;
+    Ok(period as u32)
+}
+
+/// The number of an event, 1 to 10,000.
+pub fn event_number(number: u64) -> Result<u16, EditFault>
+    ensures value { Gives is_memory (λ n. n) result (limited is_event_number number) }
+    ensures within { IfOk result (λ n. is_event_number n ≡ true) }
+{
+    let number = limited(number, 1, MAX_EVENTS)?;
+    Ok(number as u16)
+}

@@ -1,0 +1,11 @@
+use Rattle.std.proofs.Common.{ap, ◌∙◌}
+use Rattle.std.specs.FinMap as map
+use Rattle.std.proofs.lemmas.Cmp.{nat_cmp_total}
+use Rattle.std.proofs.lemmas.Map.Lookups.{exact_unsigned}
+use Rattle.co_scenario.proofs.TableLemmas.{made_removed}
+use Rattle.co_project.proofs.nodes.Nodes.remove.Goals as goal
+
+pub returns : goal.returns
+returns c =
+    made_removed nat_cmp_total exact_unsigned c.self.inside.nodes.entries c.remove.new.self.entries c.args.id c.remove.ensures.updates.0
+    ∙ ap (λ nodes. map.remove nodes c.args.id) c.self.view_is

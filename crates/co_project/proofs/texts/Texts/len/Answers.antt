@@ -1,0 +1,7 @@
+use Rattle.std.proofs.Common.{ap, sym, ◌∙◌}
+use Rattle.std.specs.FinMap as map
+use Rattle.co_project.proofs.TextLemmas.{texts_counted}
+use Rattle.co_project.proofs.texts.Texts.len.Goals as goal
+
+pub returns : goal.returns
+returns c = c.len.ensures.len ∙ sym (texts_counted c.self.inside.texts.entries c.len.ensures.ordered) ∙ ap map.len c.self.view_is

@@ -1,0 +1,92 @@
+//! The texts of EDS by name.
+ghost use Rattle.std.specs.Prelude.{◌≡◌, None, OnOk, OnErr, option_copied};
+ghost use Rattle.std.specs.FinMap as map;
+ghost use Rattle.co_project.specs.Tables.{texts_of, text_at, has_no_room};
+
+use co_base::Octets;
+use std::alloc::{AllocError, Global};
+use std::collections::BTreeMap;
+use std::collections::btree_map::Iter;
+use std::marker::Model;
+
+const MAX_TEXTS: usize = 64;
+
+/// The texts of EDS by name.
+#[derive(Drop)]
+pub(crate) struct Texts {
+    texts: BTreeMap<Vec<u8>, Octets>,
+}
+
+impl Model for Texts {
+    ghost use Rattle.std.specs.Coded.{coded_ℕ, coded_list};
+    ghost use Rattle.std.specs.FinMap as map;
+    ghost use Rattle.co_project.specs.Tables.{Texts as by_name, texts_of};
+
+    ghost Value = { by_name };
+
+    ghost coded = { map.code (coded_list coded_ℕ) (coded_list coded_ℕ) };
+
+    ghost view = { λ t. map.from_entries (texts_of t.texts.entries) };
+}
+
+impl Texts {
+    pub fn new(alloc: Global) -> Self
+        ensures { result ≡ map.empty }
+    {
+        Texts {
+            texts: BTreeMap::new(alloc),
+        }
+    }
+
+    pub fn len(&self) -> usize
+        ensures { result ≡ map.len self.now }
+    {
+        self.texts.len()
+    }
+
+    pub fn get(&self, name: &[u8]) -> Option<&[u8]>
+        ensures { option_copied result ≡ text_at self.now name.now }
+    {
+        match self.texts.get(name) {
+            Some(text) => Some(text.as_slice()),
+            None => None,
+        }
+    }
+
+    pub fn contains(&self, name: &[u8]) -> bool
+        ensures { result ≡ map.contains_key self.now name.now }
+    {
+        self.get(name).is_some()
+    }
+
+    /// Whether no other name than the known ones can have a text.
+    pub fn has_no_room(&self, name: &[u8]) -> bool
+        ensures { result ≡ has_no_room self.now name.now }
+    {
+        self.len() >= MAX_TEXTS && !self.contains(name)
+    }
+
+    pub fn iter(&self) -> Iter<'_, Vec<u8>, Octets>
+        ensures { texts_of result ≡ map.entries self.now }
+    {
+        self.texts.iter()
+    }
+
+    /// Gives a name a text, in place of any that it has. Want of memory changes nothing, and can come
+    /// at a name without a text alone.
+    pub fn put(&mut self, name: Octets, text: Octets) -> Result<(), AllocError>
+        ensures ok { OnOk result (self.new ≡ map.insert self.old name text) }
+        ensures err { OnErr result (self.new ≡ self.old) }
+        ensures absent { OnErr result (map.get self.old name ≡ None) }
+    {
+        self.texts.insert(name.into_vec(), text)?;
+        Ok(())
+    }
+
+    /// Takes the text of a name away, if it has one.
+    pub fn remove(&mut self, name: &[u8])
+        ensures { self.new ≡ map.remove self.old name.now }
+    {
+        self.texts.remove(name);
+    }
+}

@@ -1,0 +1,23 @@
+//! Readers whose failed calls contracts can count.
+ghost use Rattle.std.specs.Prelude.{ℕ, List, Option};
+ghost use Rattle.std.specs.Io.{ReadsAtMost};
+ghost use Rattle.std.specs.Io.KnownBytes.{ReadConsumes};
+ghost use Rattle.co_streams.specs.Streams.{CallFails};
+
+use std::io;
+
+/// What is read from.
+pub trait Intake {
+    /// The bytes that reads will give from here on, where they are known.
+    ghost remaining: { Self → Option (List ℕ) };
+
+    /// The number of failed calls.
+    ghost failures: { Self → ℕ };
+
+    /// Gives the next bytes into the front of the buffer, and their number: 0 only at the end, or
+    /// where there is no room.
+    fn read(&mut self, buf: &mut [u8]) -> io::Result<usize>
+        ensures bound { ReadsAtMost result buf.new }
+        ensures bytes { ReadConsumes (remaining self.old) (remaining self.new) result buf.new }
+        ensures failed { CallFails (failures self.old) (failures self.new) result };
+}

@@ -1,0 +1,4 @@
+pub mod Capped
+pub mod DigitLemmas
+pub mod FoundLemmas
+pub mod LineLemmas

@@ -1,0 +1,4 @@
+pub mod Blanks
+pub mod Digits
+pub mod Lines
+pub mod Words

@@ -1,0 +1,58 @@
+//! Numbers from digits, and digits of numbers.
+ghost use Rattle.std.specs.Prelude.{◌≡◌, ◌<◌, ◌≤◌, ◌^◌, true, length, IfSome};
+ghost use Rattle.std.specs.Fmt.{digit_glyph};
+ghost use Rattle.co_text.specs.Digits.{digits_number, capped, byte_digits, index_digits};
+
+/// 2^64, where the numbers that are read are cut.
+const LIMIT: u128 = 0x1_0000_0000_0000_0000;
+
+/// The number that digits write to a base from 2 to 16, letters in any case, cut at 2^64. `None`
+/// where a byte is no digit or there is none. Takes time linear in the text.
+pub fn read_digits(base: u32, text: &[u8]) -> Option<u128>
+    requires low { 2 ≤ base }
+    requires high { base ≤ 16 }
+    ensures number { result ≡ capped (digits_number base text.now) }
+    ensures exact { length text.now ≤ 15 → result ≡ digits_number base text.now }
+    ensures bound { IfSome result (λ n. n < base ^ length text.now) }
+{
+    if text.is_empty() {
+        return None;
+    }
+    let mut number: u128 = 0;
+    for byte in text {
+        let digit = char::from(*byte).to_digit(base)?;
+        number = (number * u128::from(base) + u128::from(digit)).min(LIMIT);
+    }
+    Some(number)
+}
+
+/// The upper-case hexadecimal digit of a number below 16.
+pub fn upper_digit(number: u8) -> u8
+    requires { number < 16 }
+    ensures { result ≡ digit_glyph true number }
+{
+    if number < 10 {
+        b'0' + number
+    } else {
+        b'A' - 10 + number
+    }
+}
+
+/// A byte as two upper-case hexadecimal digits.
+pub fn byte_digits(byte: u8) -> [u8; 2]
+    ensures { result ≡ byte_digits byte }
+{
+    [upper_digit(byte / 16), upper_digit(byte % 16)]
+}
+
+/// An index as four upper-case hexadecimal digits.
+pub fn index_digits(index: u16) -> [u8; 4]
+    ensures { result ≡ index_digits index }
+{
+    [
+        upper_digit((index / 4096) as u8),
+        upper_digit((index / 256 % 16) as u8),
+        upper_digit((index / 16 % 16) as u8),
+        upper_digit((index % 16) as u8),
+    ]
+}

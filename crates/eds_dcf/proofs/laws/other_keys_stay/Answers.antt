@@ -1,0 +1,6 @@
+use Rattle.eds_dcf.specs.Writes.{last_of}
+use Rattle.eds_dcf.proofs.LawLemmas.{parameter_others}
+use Rattle.eds_dcf.proofs.laws.other_keys_stay.Goals as goal
+
+pub returns : goal.returns
+returns c = λ ss writes s place key is other. parameter_others ss (last_of writes) s place is key other

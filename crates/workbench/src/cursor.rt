@@ -1,0 +1,45 @@
+//! Where a session is in its input.
+ghost use Rattle.std.specs.Prelude.{◌≡◌, IfOk};
+ghost use Rattle.workbench.specs.Replies.{after_line};
+ghost use Rattle.workbench.specs.Machine.{first_cursor, at_break};
+ghost use Rattle.workbench.specs.Views.{cursor_of, ended_at};
+
+use crate::open_block::OpenBlock;
+use crate::reply::Reply;
+use crate::turns::take_line;
+use crate::workbench::Workbench;
+use std::alloc::{AllocError, Global};
+
+#[derive(Drop)]
+pub struct Cursor {
+    pub alloc: Global,
+    pub workbench: Workbench,
+    pub block: Option<OpenBlock>,
+    /// The line so far.
+    pub line: Vec<u8>,
+}
+
+impl Cursor {
+    pub fn new(alloc: Global) -> Self
+        ensures { cursor_of result ≡ first_cursor }
+    {
+        Cursor {
+            alloc,
+            workbench: Workbench::new(alloc),
+            block: None,
+            line: Vec::new(alloc),
+        }
+    }
+
+    /// Takes the line so far as whole.
+    pub fn end_line(&mut self) -> Result<Reply, AllocError>
+        ensures { IfOk result (λ reply. ended_at self.new reply
+            ≡ at_break (after_line (cursor_of self.old).state self.old.line.items)) }
+    {
+        let block = self.block.take();
+        let (reply, block) = take_line(self.alloc, &mut self.workbench, block, &self.line)?;
+        self.block = block;
+        self.line.clear();
+        Ok(reply)
+    }
+}
