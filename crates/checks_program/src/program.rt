@@ -108,7 +108,10 @@ const HELP: &[u8] = b"\
     \n\
     Options:\n\
     \x20     --script <FILE>  Read commands from FILE, not from the standard input\n\
-    \x20 -h, --help           Print help\n";
+    \x20 -h, --help           Print help\n\
+    \x20 -V, --version        Print version\n";
+
+const VERSION: &[u8] = b"cobench 0.1.0\n";
 
 const UNEXPECTED: &[u8] = b"\
     error: unexpected argument '--work' found\n\
@@ -123,17 +126,20 @@ const NO_FILE: &[u8] = b"\
     For more information, try '--help'.\n";
 
 /// Words after the program's name, and what it gives for them before FILE is opened.
-const WORDS: [(&[&str], Outcome<'static>); 5] = [
+const WORDS: [(&[&str], Outcome<'static>); 7] = [
     (&["--help"], (0, HELP, b"")),
     (&["-h"], (0, HELP, b"")),
+    (&["--version"], (0, VERSION, b"")),
+    (&["-V"], (0, VERSION, b"")),
     (&["--work"], (2, b"", UNEXPECTED)),
     (&["--script"], (2, b"", NO_FILE)),
     (&["--work", "--script", "/nosuch"], (2, b"", UNEXPECTED)),
 ];
 
 /// Words after the program's name, and its status where every stream fails.
-const STATUSES: [(&[&str], u8); 4] = [
+const STATUSES: [(&[&str], u8); 5] = [
     (&["--help"], 0),
+    (&["--version"], 0),
     (&[], 1),
     (&["--script", "/nosuch"], 1),
     (&["--work"], 2),

@@ -1,4 +1,5 @@
-//! A tour of the session: commands from the standard input, replies on the standard output.
+//! The example: a session with commands from the standard input and replies on the standard output.
+//! The stored input lays out two drives of `examples/servo_drive.eds` and asks for their files.
 #![tactic(auto)]
 
 use anyhow::Result;
