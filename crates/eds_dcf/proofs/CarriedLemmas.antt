@@ -20,6 +20,9 @@ use Rattle.eds_device.specs.Entries.{entry_at, entry_by}
 use Rattle.eds_device.specs.Origins.{Origin, own, compact, origin_of}
 use Rattle.eds_device.specs.Places.{pairs_of}
 use Rattle.eds_device.specs.Sections.{kind_of}
+use Rattle.std.specs.FinMap.{empty, get-empty}
+use Rattle.co_dict.specs.Places.{place_cmp}
+use Rattle.co_params.specs.Params.{Texts}
 use Rattle.co_params.proofs.JudgedLemmas.{judged_entry, judged_suits}
 use Rattle.co_params.proofs.ParameterLemmas.{behind, kind_of_entry, writes_sized}
 use Rattle.co_params.proofs.WrittenLemmas.{All-filter_map, Contains-filter_map}
@@ -35,7 +38,7 @@ use Rattle.eds_dcf.proofs.EntryLemmas.{left_holds}
 use Rattle.eds_dcf.proofs.WholeLemmas.{dcf_pairs, dcf_stands}
 
 abbrev Params : Type 0
-Params = List ((ℕ × ℕ) × List ℕ)
+Params = Texts
 
 -- ---- entries that may be written
 
@@ -149,9 +152,9 @@ text_stands : (ss : List Section) (place : ℕ × ℕ) → value_text ss place.0
 unfolding value_text standing
 text_stands ss place = refl
 
-unset_text : (ss : List Section) (place : ℕ × ℕ) → parameter_text ss [] place ≡ option_and_then unless_empty (cond (is_of_pdos place.0) None (value_text ss place.0 place.1))
+unset_text : (ss : List Section) (place : ℕ × ℕ) → parameter_text ss empty place ≡ option_and_then unless_empty (cond (is_of_pdos place.0) None (value_text ss place.0 place.1))
 unfolding parameter_text
-unset_text ss place = refl
+unset_text ss place = ap (λ (o : Option (List ℕ)). option_and_then unless_empty (option_or o (cond (is_of_pdos place.0) None (value_text ss place.0 place.1)))) (get-empty place_cmp place)
 
 module _ (ss : List Section) (params : Params) (node : ℕ) (name : List ℕ) (bitrate : ℕ) where
   abbrev writes : List Write
@@ -166,7 +169,7 @@ module _ (ss : List Section) (params : Params) (node : ℕ) (name : List ℕ) (b
 
   -- a text that is read there
   dcf_text : (place : ℕ × ℕ) → is_of_pdos place.0 ≡ false → is_typed ss place ≡ true
-      → parameter_text dcf [] place ≡ option_and_then unless_empty (option_and_then unless_empty (option_map (printed (kind_at ss place)) (last_of writes place)))
+      → parameter_text dcf empty place ≡ option_and_then unless_empty (option_and_then unless_empty (option_map (printed (kind_at ss place)) (last_of writes place)))
   dcf_text place other typed =
       unset_text dcf place
       ∙ ap (λ (t : Bool). option_and_then unless_empty (cond t None (value_text dcf place.0 place.1))) other
@@ -180,7 +183,7 @@ module _ (ss : List Section) (params : Params) (node : ℕ) (name : List ℕ) (b
   write_some place w there e = let sized = All-contains (λ w. (1 ≤ length w.bytes) × (length w.bytes ≤ 512)) writes w (writes_sized ss params node) (among_writes place w there e) in omega (arith, sized.0)
 
   -- a parameter is read again
-  again : (place : ℕ × ℕ) (w : Write) → Contains (pairs_of ss) place → is_of_pdos place.0 ≡ false → parameter_write ss params node place ≡ Some w → parameter_write dcf [] node place ≡ Some w
+  again : (place : ℕ × ℕ) (w : Write) → Contains (pairs_of ss) place → is_of_pdos place.0 ≡ false → parameter_write ss params node place ≡ Some w → parameter_write dcf empty node place ≡ Some w
   again place w there other e =
       let b = behind ss params node place w e in
       let j = judged_entry (entry_at ss node place.0 place.1) b.text w.bytes node b.judged_ok in
@@ -189,7 +192,7 @@ module _ (ss : List Section) (params : Params) (node : ℕ) (name : List ℕ) (b
       let kind = kind_of_entry ss node place.0 place.1 entry j.1 in
       let spelled = value_again entry.kind b.text w.bytes node s.spelled in
       let some : 0 < length (printed entry.kind w.bytes) = printed_some entry.kind w.bytes s.modelled (write_some place w there e) in
-      let text : parameter_text dcf [] place ≡ Some (printed entry.kind w.bytes) =
+      let text : parameter_text dcf empty place ≡ Some (printed entry.kind w.bytes) =
       dcf_text place other (typed ss node place.0 place.1 entry j.1 s.modelled s.writable)
       ∙ ap (λ o. option_and_then unless_empty (option_and_then unless_empty (option_map (printed (kind_at ss place)) o))) (last_write ss params node place w there e)
       ∙ ap (λ k. option_and_then unless_empty (unless_empty (printed k w.bytes))) kind
@@ -200,26 +203,26 @@ module _ (ss : List Section) (params : Params) (node : ℕ) (name : List ℕ) (b
       rw (text, ok) (ap (λ p. Some (write_to p w.bytes)) (sym b.at_place))
 
   -- and an entry without one gives none
-  none_again : (place : ℕ × ℕ) → parameter_write ss params node place ≡ None → parameter_write dcf [] node place ≡ None
+  none_again : (place : ℕ × ℕ) → parameter_write ss params node place ≡ None → parameter_write dcf empty node place ≡ None
   none_again place e = by (is_of_pdos place.0) refl (is_typed ss place) refl
     where
-      nothing : parameter_text dcf [] place ≡ None → parameter_write dcf [] node place ≡ None
+      nothing : parameter_text dcf empty place ≡ None → parameter_write dcf empty node place ≡ None
       nothing h = rw h refl
 
-      by : (t : Bool) → is_of_pdos place.0 ≡ t → (u : Bool) → is_typed ss place ≡ u → parameter_write dcf [] node place ≡ None
+      by : (t : Bool) → is_of_pdos place.0 ≡ t → (u : Bool) → is_typed ss place ≡ u → parameter_write dcf empty node place ≡ None
       by true p u h = nothing (unset_text dcf place ∙ ap (λ (t : Bool). option_and_then unless_empty (cond t None (value_text dcf place.0 place.1))) p)
       by false p true h =
           nothing (dcf_text place p h ∙ ap (λ o. option_and_then unless_empty (option_and_then unless_empty (option_map (printed (kind_at ss place)) o))) (no_last ss params node place e))
       by false p false h =
           ap (option_map (write_to place))
-          (ap (λ o. option_and_then (λ text. result_ok (judged o text node)) (parameter_text dcf [] place)) (dcf_entry place.0 place.1)
-          ∙ and_none (λ text. result_ok (judged (entry_at ss node place.0 place.1) text node)) (parameter_text dcf [] place) (untyped ss node place.0 place.1 h))
+          (ap (λ o. option_and_then (λ text. result_ok (judged o text node)) (parameter_text dcf empty place)) (dcf_entry place.0 place.1)
+          ∙ and_none (λ text. result_ok (judged (entry_at ss node place.0 place.1) text node)) (parameter_text dcf empty place) (untyped ss node place.0 place.1 h))
 
   -- entry by entry
-  pub same_write : ((w : Write) → Contains writes w → is_of_pdos w.index ≡ false) → (place : ℕ × ℕ) → Contains (pairs_of ss) place → parameter_write dcf [] node place ≡ parameter_write ss params node place
+  pub same_write : ((w : Write) → Contains writes w → is_of_pdos w.index ≡ false) → (place : ℕ × ℕ) → Contains (pairs_of ss) place → parameter_write dcf empty node place ≡ parameter_write ss params node place
   same_write outside place there = by (parameter_write ss params node place) refl
     where
-      by : (o : Option Write) → parameter_write ss params node place ≡ o → parameter_write dcf [] node place ≡ o
+      by : (o : Option Write) → parameter_write ss params node place ≡ o → parameter_write dcf empty node place ≡ o
       by None e = none_again place e
       by (Some w) e =
           let at = (behind ss params node place w e).at_place in
@@ -232,11 +235,11 @@ filter_map_agree f g (x ∷ xs) h = λ i. cons_option (h.0 i) (filter_map_agree 
 module _ (ss : List Section) (params : Params) (node : ℕ) (name : List ℕ) (bitrate : ℕ) where
   -- THE DCF CARRIES THE PARAMETERS
   pub carried : ((w : Write) → Contains (parameter_writes ss params node) w → is_of_pdos w.index ≡ false)
-      → parameter_writes (dcf_sections ss node name bitrate (parameter_writes ss params node)) [] node ≡ parameter_writes ss params node
+      → parameter_writes (dcf_sections ss node name bitrate (parameter_writes ss params node)) empty node ≡ parameter_writes ss params node
   unfolding parameter_writes
   carried outside =
       let there = dcf_sections ss node name bitrate (filter_map (parameter_write ss params node) (pairs_of ss)) in
-      ap (filter_map (parameter_write there [] node)) (dcf_pairs ss node name bitrate (filter_map (parameter_write ss params node) (pairs_of ss)))
-      ∙ filter_map_agree (parameter_write there [] node) (parameter_write ss params node) (pairs_of ss)
-      (recursion_from_All (λ place. parameter_write there [] node place ≡ parameter_write ss params node place) (pairs_of ss)
-      (All-weaker (Contains (pairs_of ss)) (λ place. parameter_write there [] node place ≡ parameter_write ss params node place) (same_write ss params node name bitrate outside) (pairs_of ss) (All-contains_itself (pairs_of ss))))
+      ap (filter_map (parameter_write there empty node)) (dcf_pairs ss node name bitrate (filter_map (parameter_write ss params node) (pairs_of ss)))
+      ∙ filter_map_agree (parameter_write there empty node) (parameter_write ss params node) (pairs_of ss)
+      (recursion_from_All (λ place. parameter_write there empty node place ≡ parameter_write ss params node place) (pairs_of ss)
+      (All-weaker (Contains (pairs_of ss)) (λ place. parameter_write there empty node place ≡ parameter_write ss params node place) (same_write ss params node name bitrate outside) (pairs_of ss) (All-contains_itself (pairs_of ss))))

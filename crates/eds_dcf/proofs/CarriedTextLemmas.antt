@@ -23,7 +23,8 @@ use Rattle.eds_device.specs.Sections.{compact_count, is_plain}
 use Rattle.co_params.proofs.JudgedLemmas.{judged_entry}
 use Rattle.co_params.proofs.ParameterLemmas.{behind, kind_of_entry}
 use Rattle.co_params.proofs.WrittenLemmas.{All-filter_map}
-use Rattle.co_params.specs.Params.{param_at}
+use Rattle.std.specs.FinMap.{empty, get}
+use Rattle.co_params.specs.Params.{Texts}
 use Rattle.co_params.specs.Parameters.{given_text, parameter_text, parameter_write, parameter_writes}
 use Rattle.eds_dcf.specs.Dcf.{dcf_sections}
 use Rattle.eds_dcf.specs.Printable.{StandsInLine}
@@ -34,7 +35,7 @@ use Rattle.eds_dcf.proofs.PrintedLemmas.{dcf_again}
 use Rattle.eds_dcf.proofs.SectionLemmas.{found_all}
 
 abbrev Params : Type 0
-Params = List ((ℕ × ℕ) × List ℕ)
+Params = Texts
 
 -- ---- texts that can stand in a line
 
@@ -44,14 +45,6 @@ value_all (p ∷ ps) key h = by (same key p.key) (value_all ps key h.1)
   where
     by : (t : Bool) → IfSome (value_at ps key) IsValue → IfSome (cond t (Some p.value) (value_at ps key)) IsValue
     by true rest = h.0.value
-    by false rest = rest
-
-lookup_all : (test : ℕ × ℕ → Bool) (params : Params) → AllByRecursion (λ e. IsValue e.1) params → IfSome (lookup test params) IsValue
-lookup_all test [] h = tt
-lookup_all test (e ∷ es) h = by (test e.0) (lookup_all test es h.1)
-  where
-    by : (t : Bool) → IfSome (lookup test es) IsValue → IfSome (cond t (Some e.1) (lookup test es)) IsValue
-    by true rest = h.0
     by false rest = rest
 
 -- the section of an entry is one of the sections
@@ -117,12 +110,12 @@ unless_pdo : (t : Bool) (o : Option (List ℕ)) → IfSome o IsValue → IfSome 
 unless_pdo true o h = tt
 unless_pdo false o h = h
 
-module _ (ss : List Section) (params : Params) (node : ℕ) (printable : IsPrintable ss) (lines : AllByRecursion (λ e. IsValue e.1) params) where
+module _ (ss : List Section) (params : Params) (node : ℕ) (printable : IsPrintable ss) (lines : (place : ℕ × ℕ) → IfSome (get params place) IsValue) where
   text_all : (place : ℕ × ℕ) → IfSome (parameter_text ss params place) IsValue
   unfolding parameter_text
   text_all place =
-      left_some (option_or (param_at params place) (given_text ss place))
-      (either_value (param_at params place) (given_text ss place) (lookup_all (is_at (place_cmp place)) params lines) (unless_pdo (is_of_pdos place.0) (value_text ss place.0 place.1) (given_all ss place.0 place.1 printable.each)))
+      left_some (option_or (get params place) (given_text ss place))
+      (either_value (get params place) (given_text ss place) (lines place) (unless_pdo (is_of_pdos place.0) (value_text ss place.0 place.1) (given_all ss place.0 place.1 printable.each)))
 
   write_stands : (place : ℕ × ℕ) (w : Write) → parameter_write ss params node place ≡ Some w → StandsInLine ss w
   write_stands place w e kind =
@@ -138,10 +131,10 @@ module _ (ss : List Section) (params : Params) (node : ℕ) (printable : IsPrint
   all_stand = All-filter_map (parameter_write ss params node) (StandsInLine ss) write_stands (pairs_of ss)
 
 -- reading its text gives the parameters again
-pub carried_text : (ss : List Section) (params : Params) (node : ℕ) (name : List ℕ) (bitrate : ℕ) → IsPrintable ss → IsValue name → All (λ (e : (ℕ × ℕ) × List ℕ). IsValue e.1) params
+pub carried_text : (ss : List Section) (params : Params) (node : ℕ) (name : List ℕ) (bitrate : ℕ) → IsPrintable ss → IsValue name → ((place : ℕ × ℕ) → IfSome (get params place) IsValue)
     → ((w : Write) → Contains (parameter_writes ss params node) w → is_of_pdos w.index ≡ false)
-    → parameter_writes (content_of (text_of (dcf_sections ss node name bitrate (parameter_writes ss params node)))).sections [] node ≡ parameter_writes ss params node
+    → parameter_writes (content_of (text_of (dcf_sections ss node name bitrate (parameter_writes ss params node)))).sections empty node ≡ parameter_writes ss params node
 carried_text ss params node name bitrate printable label lines outside =
-    let all = all_stand ss params node printable (recursion_from_All (λ (e : (ℕ × ℕ) × List ℕ). IsValue e.1) params lines) in
-    ap (λ sections. parameter_writes sections [] node) (dcf_again ss node name bitrate (parameter_writes ss params node) printable label all)
+    let all = all_stand ss params node printable lines in
+    ap (λ sections. parameter_writes sections empty node) (dcf_again ss node name bitrate (parameter_writes ss params node) printable label all)
     ∙ carried ss params node name bitrate outside

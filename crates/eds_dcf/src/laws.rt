@@ -1,13 +1,15 @@
 //! Laws of the definitions: what stands in the sections of a DCF.
 
-ghost use Rattle.std.specs.Prelude.{◌≡◌, ◌⊎◌, [], All, IsFalse, Contains, ℕ, List, None, Some, count_by, option_map, false, true, codes, decimal};
+ghost use Rattle.std.specs.Prelude.{◌≡◌, ◌⊎◌, All, IsFalse, IfSome, Contains, ℕ, List, None, Some, count_by, option_map, false, true, codes, decimal};
 ghost use Rattle.ini_text.specs.Change.{text_of};
 ghost use Rattle.ini_text.specs.Content.{Pair, Section, content_of, same, value_at};
 ghost use Rattle.ini_text.specs.Printable.{IsPrintable, IsValue};
 ghost use Rattle.co_values.specs.Types.{is_modelled};
 ghost use Rattle.co_values.specs.Values.{printed};
 ghost use Rattle.co_dict.specs.Pdos.{is_of_pdos};
+ghost use Rattle.std.specs.FinMap as map;
 ghost use Rattle.co_params.specs.Parameters.{parameter_writes};
+ghost use Rattle.co_params.specs.Params.{Texts};
 ghost use Rattle.concise_dcf.specs.declared.write.Write.{Write as written};
 ghost use Rattle.eds_device.specs.Described.{described, kind_at};
 ghost use Rattle.eds_device.specs.Names.{values_named};
@@ -56,13 +58,13 @@ pub fn values_are_counted()
 /// device of a node that has no texts of its own, it gives the writes that it was made of. So does
 /// its text, for sections that a text gave, and texts of the node that can stand in a line.
 pub fn a_dcf_carries_the_parameters()
-    ensures sections { (ss : List Section) (params : List ((ℕ × ℕ) × List ℕ)) (node : ℕ) (name : List ℕ) (bitrate : ℕ)
+    ensures sections { (ss : List Section) (params : Texts) (node : ℕ) (name : List ℕ) (bitrate : ℕ)
         → ((write : written) → Contains (parameter_writes ss params node) write → IsFalse (is_of_pdos write.index))
-        → parameter_writes (dcf_sections ss node name bitrate (parameter_writes ss params node)) [] node ≡ parameter_writes ss params node }
-    ensures text { (ss : List Section) (params : List ((ℕ × ℕ) × List ℕ)) (node : ℕ) (name : List ℕ) (bitrate : ℕ)
-        → IsPrintable ss → IsValue name → All (λ (param : (ℕ × ℕ) × List ℕ). IsValue param.1) params
+        → parameter_writes (dcf_sections ss node name bitrate (parameter_writes ss params node)) map.empty node ≡ parameter_writes ss params node }
+    ensures text { (ss : List Section) (params : Texts) (node : ℕ) (name : List ℕ) (bitrate : ℕ)
+        → IsPrintable ss → IsValue name → ((place : ℕ × ℕ) → IfSome (map.get params place) IsValue)
         → ((write : written) → Contains (parameter_writes ss params node) write → IsFalse (is_of_pdos write.index))
-        → parameter_writes (content_of (text_of (dcf_sections ss node name bitrate (parameter_writes ss params node)))).sections [] node ≡ parameter_writes ss params node }
+        → parameter_writes (content_of (text_of (dcf_sections ss node name bitrate (parameter_writes ss params node)))).sections map.empty node ≡ parameter_writes ss params node }
 {}
 
 /// The other keys of the section of a modelled entry have what they had.
