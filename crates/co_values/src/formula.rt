@@ -34,8 +34,8 @@ fn sum_of_terms(left: &[u8], right: &[u8], node: u8) -> Option<i128>
     }
 }
 
-/// The place of the first `+`.
-fn plus_place(text: &[u8]) -> Option<usize>
+/// The position of the first `+`.
+fn plus_position(text: &[u8]) -> Option<usize>
     ensures { result ≡ position (λ c. c == byte "+") text.now }
 {
     text.iter().position(|byte| *byte == b'+')
@@ -45,7 +45,7 @@ fn plus_place(text: &[u8]) -> Option<usize>
 fn sum(text: &[u8], node: u8) -> Option<i128>
     ensures { result ≡ node_sum text.now node }
 {
-    let plus = plus_place(text)?;
+    let plus = plus_position(text)?;
     let left = without_last_blanks(&text[..plus]);
     let right = without_first_blanks(&text[plus + 1..]);
     sum_of_terms(left, right, node)

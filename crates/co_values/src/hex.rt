@@ -60,8 +60,8 @@ pub(crate) fn read_pairs(alloc: Global, text: &[u8]) -> Result<Vec<u8>, AllocErr
     ensures { IfOk result (λ bytes. Some bytes.items ≡ paired text.now) }
 {
     let mut bytes = Vec::with_capacity(alloc, text.len() / 2)?;
-    for place in 0..text.len() / 2 {
-        bytes.push(pair_number(text[2 * place], text[2 * place + 1]))?;
+    for pair in 0..text.len() / 2 {
+        bytes.push(pair_number(text[2 * pair], text[2 * pair + 1]))?;
     }
     Ok(bytes)
 }
