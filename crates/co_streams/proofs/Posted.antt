@@ -33,15 +33,7 @@ posts_directly u v w a b t p none q = (a ++ t, sym (ap (λ (x : List ℕ). (a ++
 pub took_more : (u v : Option (List ℕ)) (a t : List ℕ) → Took u v a → Took u v (a ++ t)
 took_more u v a t q = (q.0, q.1 ++ t, ap (λ (x : List ℕ). x ++ t) q.2 ∙ append_assoc q.0 q.1 t, q.3)
 
-pub took_then : (u v w : Option (List ℕ)) (a t : List ℕ) → Appends u v a → Took v w t → Took u w (a ++ t)
-took_then u v w a t p q = (a ++ q.0, q.1, ap (λ (x : List ℕ). a ++ x) q.2 ∙ sym (append_assoc a q.0 q.1), Appends-trans u v w a q.0 p q.3)
-
--- what waits goes out, where nothing waited before
-pub sent_all : (u v w : Option (List ℕ)) (a b t : List ℕ) → a ≡ [] → Posts u a v b t → Appends v w b → Appends u w t
-sent_all u v w a b t none p out =
-    let e : t ≡ p.0 ++ b = ap (λ (x : List ℕ). x ++ t) (sym none) ∙ p.1 in
-    subst (Appends u w) (sym e) (Appends-trans u v w p.0 b p.2 out)
-
+-- a front of what waits went out, where nothing waited before
 pub sent_front : (u v w : Option (List ℕ)) (a b t : List ℕ) → a ≡ [] → Posts u a v b t → Took v w b → Took u w t
 sent_front u v w a b t none p out =
     let e : t ≡ p.0 ++ b = ap (λ (x : List ℕ). x ++ t) (sym none) ∙ p.1 in

@@ -1,13 +1,13 @@
 -- What a session has written where it ends.
 use Rattle.std.proofs.Common.{◌≡◌, ℕ, ◌<◌, ◌≤◌, List, [], ◌++◌, take, drop, length, Option, Some, None, IfSome, refl, sym, ap, ◌∙◌, append_assoc, append-nil, subst, arith, inl, inr, ◌⊎◌, length-append}
-use Rattle.std.proofs.KnownBytes.{Appends-nil, Appends-trans, Consumes-trans, Consumes-kept}
+use Rattle.std.proofs.KnownBytes.{Appends-nil, Appends-trans, Consumes-trans, Consumes-kept, Consumes-nil}
 use Rattle.std.proofs.lemmas.List.{take_all, take-take, take-append-drop}
 use Rattle.std.proofs.Math.Seq.{take-append_seam}
 use Rattle.std.specs.List.{concat}
 use Rattle.std.specs.Io.KnownBytes.{Consumes, IsAtEnd, Keeps}
 use Rattle.workbench.specs.Replies.{After, replies, complete_replies, ended_lines}
 use Rattle.workbench.specs.Machine.{Cursor, first_cursor, after, at_end}
-use Rattle.workbench.specs.Written.{WroteAll, WroteFirst, WroteFront}
+use Rattle.workbench.specs.Written.{WroteAll, WroteFirst, WroteFront, WroteAtLeast}
 use Rattle.workbench.proofs.Runs.{after-append, concat-append, wrote-then}
 use Rattle.workbench.proofs.Bytewise.{replies_bytewise, complete_bytewise}
 
@@ -134,10 +134,6 @@ pub came-all : (u v x : Option (List ℕ)) (bytes buffer : List ℕ) (n used : �
 came-all u v x bytes buffer n used e came more =
     Consumes-trans u v x bytes (take used buffer) came (subst (λ (k : ℕ). Consumes v x (take k buffer)) (sym e) more)
 
-pub nothing_yet : (u cu : Option (List ℕ)) → IfSome u (λ input. WroteFirst cu cu (replies input))
-nothing_yet None cu = tt
-nothing_yet (Some xs) cu = ([], replies xs, refl, Appends-nil cu)
-
 pub none_complete : complete_replies [] ≡ []
 unfolding complete_replies ended_lines
 none_complete = refl
@@ -145,3 +141,15 @@ none_complete = refl
 pub not_begun : (after first_cursor []).state ≡ first_cursor
 unfolding after
 not_begun = refl
+
+-- what is due where memory runs out
+abbrev pub Due : Option (List ℕ) → Option (List ℕ) → Option (List ℕ) → Option (List ℕ) → Type 0
+Due u x cu w = (bytes last : List ℕ) × Consumes u x (bytes ++ last) × (length last ≤ 4096) × WroteAtLeast cu w (complete_replies bytes)
+
+pub due_then : (u v x cu cv w : Option (List ℕ)) (bytes last : List ℕ) (rs : List (List ℕ)) → Consumes u v bytes → Consumes v x last → length last ≤ 4096
+    → WroteAll cu cv (complete_replies bytes) → WroteFirst cv w rs → Due u x cu w
+due_then u v x cu cv w bytes last rs came more le wrote first =
+    (bytes, last, Consumes-trans u v x bytes last came more, le, (concat first.0, Appends-trans cu cv w (concat (complete_replies bytes)) (concat first.0) wrote first.3))
+
+pub due_none : (u cu : Option (List ℕ)) → Due u u cu cu
+due_none u cu = ([], [], Consumes-nil u, omega arith, ([], rw none_complete (Appends-nil cu)))

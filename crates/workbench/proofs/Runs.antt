@@ -4,12 +4,11 @@ use Rattle.std.proofs.lemmas.Bool.{ltb-true, ltb-false, true≢false}
 use Rattle.std.proofs.KnownBytes.{Appends-trans}
 use Rattle.std.specs.List.{concat, position_or_len}
 use Rattle.co_text.specs.Lines.{split_once}
-use Rattle.std.specs.Io.KnownBytes.{Appends}
 use Rattle.workbench.specs.Replies.{After, State, after_line}
 use Rattle.workbench.specs.Machine.{Cursor, after, after_byte, at_break, joined}
 use Rattle.co_streams.specs.Written.{Took, Posts}
-use Rattle.co_streams.proofs.Posted.{posts_then, posts_front, took_more, sent_all}
-use Rattle.workbench.specs.Written.{WroteAll, WroteFirst, PostsFirst}
+use Rattle.co_streams.proofs.Posted.{posts_then, posts_front, took_more}
+use Rattle.workbench.specs.Written.{WroteAll}
 
 pub after-append : (s : Cursor) (xs ys : List ℕ) → after s (xs ++ ys) ≡ joined (after s xs).replies (after (after s xs).state ys)
 unfolding after
@@ -152,7 +151,3 @@ took_first u w a rs qs p =
 pub front_more : (u w : Option (List ℕ)) (rs first others : List (List ℕ)) → rs ≡ first ++ others → Took u w (concat first) → Took u w (concat rs)
 front_more u w rs first others e q =
     subst (Took u w) (sym (ap concat e ∙ concat-append first others)) (took_more u w (concat first) (concat others) q)
-
--- posted replies were sent, where nothing waited before
-pub sent_first : (u v w : Option (List ℕ)) (a b : List ℕ) (rs : List (List ℕ)) → a ≡ [] → PostsFirst u a v b rs → Appends v w b → WroteFirst u w rs
-sent_first u v w a b rs none p out = (p.0, p.1, p.2, sent_all u v w a b (concat p.0) none p.3 out)

@@ -16,6 +16,10 @@ WroteFirst old new replies = (first : List (List ℕ)) × (others : List (List �
 abbrev pub WroteFront : Option (List ℕ) → Option (List ℕ) → List (List ℕ) → Type 0
 WroteFront old new replies = Took old new (concat replies)
 
+-- these replies were written, and perhaps more
+abbrev pub WroteAtLeast : Option (List ℕ) → Option (List ℕ) → List (List ℕ) → Type 0
+WroteAtLeast old new replies = (more : List ℕ) × Appends old new (concat replies ++ more)
+
 -- private: the first of these replies were posted, each whole
 abbrev pub PostsFirst : Option (List ℕ) → List ℕ → Option (List ℕ) → List ℕ → List (List ℕ) → Type 0
 PostsFirst old waited new waits replies = (first : List (List ℕ)) × (others : List (List ℕ)) × (replies ≡ first ++ others) × Posts old waited new waits (concat first)

@@ -7,7 +7,7 @@ ghost use Rattle.co_streams.specs.Written.{Took, Posts};
 ghost use Rattle.workbench.specs.Replies.{replies, complete_replies, cut_off};
 ghost use Rattle.workbench.specs.Machine.{after, at_end, last_line, given};
 ghost use Rattle.workbench.specs.Views.{cursor_of, replies_of};
-ghost use Rattle.workbench.specs.Written.{WroteAll, WroteFirst, WroteFront, PostsFirst};
+ghost use Rattle.workbench.specs.Written.{WroteAll, WroteFirst, WroteFront, WroteAtLeast, PostsFirst};
 
 use crate::cursor::Cursor;
 use crate::reply::Reply;
@@ -195,7 +195,8 @@ fn take_turn<W: Outlet>(
 /// `cdcf` also by that of the node's EDS, which they read anew.
 ///
 /// # Errors
-/// - Memory: a growth was refused. The replies to the commands before were written, each whole.
+/// - Memory: a growth was refused. The replies to the commands before were written, each whole;
+///   these are at least those to the commands that were complete before the last read.
 /// - Read: the reader failed, or more than 64 MiB came. The replies to the commands that are
 ///   complete in the first 64 MiB of what was read were written.
 /// - Write: the writer failed, or took no byte of some. It took a front of the replies.
@@ -218,6 +219,12 @@ pub fn session<R: Intake, W: Outlet>(
     // Where memory runs out, the first of the replies, each whole.
     ensures memory { IsErrOf result SessionFault.Memory → IfSome (R.remaining reader.old) (λ input.
         WroteFirst (W.contents writer.old) (W.contents writer.new) (replies input)) }
+
+    // Among them those that were due before the last read.
+    ensures due { IsErrOf result SessionFault.Memory → (bytes last : List ℕ)
+        × Consumes (R.remaining reader.old) (R.remaining reader.new) (bytes ++ last)
+        × (length last ≤ 4096)
+        × WroteAtLeast (W.contents writer.old) (W.contents writer.new) (complete_replies bytes) }
 
     // Where reading stops, the replies to the commands that are complete in what was read.
     ensures read { IsErrOf result SessionFault.Read → (bytes : List ℕ)

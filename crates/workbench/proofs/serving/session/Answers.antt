@@ -3,7 +3,7 @@ use Rattle.std.proofs.KnownBytes.{Appends-nil, Consumes-nil}
 use Rattle.std.proofs.lemmas.Result.{err_from_is_err_and}
 use Rattle.workbench.specs.Views.{cursor_of}
 use Rattle.workbench.specs.declared.serving.TheConstants.{LIMIT}
-use Rattle.workbench.proofs.Ends.{all_at_end, first_at_end, front_at_end, first_in_piece, front_in_piece, all_in_piece, read_too_much, came-none, read-failed, cut_at, came-all, cursor_both, none_complete, not_begun}
+use Rattle.workbench.proofs.Ends.{all_at_end, first_at_end, front_at_end, first_in_piece, front_in_piece, all_in_piece, read_too_much, came-none, read-failed, cut_at, came-all, cursor_both, none_complete, not_begun, due_then, due_none}
 use Rattle.workbench.proofs.serving.session.Goals as goal
 
 pub returns-in-Err-clause-read : goal.returns-in-Err-clause-read
@@ -44,6 +44,23 @@ returns-in_err-take_turn-2-clause-taken g c =
     let p = err_from_is_err_and c.from_residual-in_err-take_turn-2.result c.from_residual-in_err-take_turn-2.ensures.1 in
     λ e. front_in_piece _ _ _ _ inv.0 (cursor_of c.loop-turn.cursor) inv.1 inv.2 inv.3 _ _ _ (take c.min-used.result c.read.new.buf) _
     (cut_at c.read.new.buf c.in-Ok.n c.min-used.result (omega (arith, c.min-used.ensures))) c.in-Ok.ensures.bytes.0 (c.in_err-take_turn-2.ensures.write (cc)).1
+
+pub returns-in_err-outbox-clause-due : goal.returns-in_err-outbox-clause-due
+returns-in_err-outbox-clause-due g c = λ _. due_none _ _
+
+pub returns-in_err-take_turn-clause-due : goal.returns-in_err-take_turn-clause-due
+returns-in_err-take_turn-clause-due g c =
+    let inv = c.loop-turn.invariant in
+    let buffer = c.read.new.buf in
+    let p = err_from_is_err_and c.from_residual-in_err-take_turn.result c.from_residual-in_err-take_turn.ensures.1 in
+    λ e. due_then _ _ _ _ _ _ inv.0 (take c.in-Ok.n buffer) _ inv.1 c.in-Ok.ensures.bytes.0 (omega (arith, length-take c.in-Ok.n buffer, c.read.auto.buf, inv.9)) inv.3 (c.in_err-take_turn.ensures.memory (cc))
+
+pub returns-in_err-take_turn-2-clause-due : goal.returns-in_err-take_turn-2-clause-due
+returns-in_err-take_turn-2-clause-due g c =
+    let inv = c.loop-turn.invariant in
+    let buffer = c.read.new.buf in
+    let p = err_from_is_err_and c.from_residual-in_err-take_turn-2.result c.from_residual-in_err-take_turn-2.ensures.1 in
+    λ e. due_then _ _ _ _ _ _ inv.0 (take c.in-Ok.n buffer) _ inv.1 c.in-Ok.ensures.bytes.0 (omega (arith, length-take c.in-Ok.n buffer, c.read.auto.buf, inv.9)) inv.3 (c.in_err-take_turn-2.ensures.memory (cc))
 
 pub returns-then-room-n-clause-read : goal.returns-then-room-n-clause-read
 returns-then-room-n-clause-read g c =
