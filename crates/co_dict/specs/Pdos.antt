@@ -1,5 +1,6 @@
 -- PDOs and an object dictionary (CiA 301): their objects, which entries they can carry, and which identifiers they can't have.
-use Rattle.std.specs.Prelude.{ℕ, nat_le, ◌&&◌, ◌||◌, Bool, true, false, is_some}
+use Rattle.std.specs.Prelude.{ℕ, ◌&&◌, ◌||◌, Bool, true, false, is_some}
+use Rattle.co_base.specs.Ranges.{is_between}
 use Rattle.co_values.specs.Types.{width_bits}
 use Rattle.co_dict.specs.declared.access.Access.{Access}
 use Rattle.co_dict.specs.declared.access.Access.TheVariants.{ReadOnly, WriteOnly, ReadWrite, ReadWriteOnInput, ReadWriteOnOutput, Constant}
@@ -9,7 +10,7 @@ use Rattle.co_dict.specs.declared.entry.Entry.{Entry}
 
 -- 1400h to 1BFFh: the communication and mapping objects of PDOs, which messages alone configure
 abbrev pub is_of_pdos : ℕ → Bool
-is_of_pdos index = nat_le 0x1400 index && nat_le index 0x1BFF
+is_of_pdos index = is_between 0x1400 0x1BFF index
 
 -- the access with which a TPDO can carry an entry (own)
 abbrev pub is_sendable : Access → Bool
@@ -36,9 +37,6 @@ has_access_for Receive access = is_receivable access
 -- an entry that a PDO of this direction can map: PDOMapping says so, it is BOOLEAN or an integer, and its access fits
 abbrev pub is_mappable : Direction → Entry → Bool
 is_mappable direction entry = entry.mappable && is_some (width_bits entry.kind) && has_access_for direction entry.access
-
-abbrev pub is_between : ℕ → ℕ → ℕ → Bool
-is_between low high n = nat_le low n && nat_le n high
 
 -- the identifiers that no PDO may have (CiA 301, restricted CAN-IDs)
 unfoldable pub is_restricted : ℕ → Bool

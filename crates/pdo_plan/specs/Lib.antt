@@ -1,0 +1,5 @@
+pub mod Devices
+pub mod Least
+pub mod Mapping
+pub mod Plan
+pub mod Shown
