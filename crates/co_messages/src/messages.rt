@@ -1,9 +1,7 @@
 //! The messages of a project.
-ghost use Rattle.std.specs.Prelude.{◌≡◌, [], ◌==◌, length, OnOk, OnErr};
-ghost use Rattle.std.specs.Map.{remove_entry};
-ghost use Rattle.std.specs.BTreeMap.{is_at};
+ghost use Rattle.std.specs.Prelude.{◌≡◌, [], ◌==◌, length, IfSome};
 ghost use Rattle.std.specs.Option.{option_copied};
-ghost use Rattle.co_messages.specs.Messages.{by_name, message_at, name_cmp, with_message};
+ghost use Rattle.co_messages.specs.Messages.{by_name, message_at, IsLinked, AreMessages};
 
 use crate::linked::Linked;
 use crate::message::Message;
@@ -25,11 +23,13 @@ pub struct Messages {
 impl Model for Messages {
     ghost use Rattle.std.specs.Prelude.{ℕ, List};
     ghost use Rattle.co_messages.specs.declared.linked.Linked.{Linked};
-    ghost use Rattle.co_messages.specs.Messages.{by_name};
+    ghost use Rattle.co_messages.specs.Messages.{by_name, AreMessages};
 
     ghost Value = { List (List ℕ × Linked) };
 
     ghost view = { λ messages. by_name messages.linked.entries };
+
+    ghost invariant = { λ messages. AreMessages (by_name messages.linked.entries) };
 }
 
 impl Messages {
@@ -59,14 +59,16 @@ impl Messages {
 
     /// The message of a name.
     pub fn get(&self, name: &[u8]) -> Option<&Linked>
-        ensures { option_copied result ≡ message_at self.now name.now }
+        ensures message { option_copied result ≡ message_at self.now name.now }
+        ensures limits { IfSome result (λ linked. IsLinked linked.now) }
     {
         self.linked.get(name)
     }
 
     /// The messages by name.
     pub fn iter(&self) -> Iter<'_, Vec<u8>, Linked>
-        ensures { by_name result ≡ self.now }
+        ensures messages { by_name result ≡ self.now }
+        ensures limits { AreMessages (by_name result) }
     {
         self.linked.iter()
     }
