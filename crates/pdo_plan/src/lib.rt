@@ -10,6 +10,8 @@ mod message_plan;
 mod outcome;
 mod planned_message;
 mod planning;
+mod room;
+mod station;
 
 pub use clean::Clean;
 pub use consumer::Consumer;
