@@ -1,8 +1,11 @@
 //! The plan of messages: who gets which identifier and PDOs, or why it can't be sent.
 #![tactic(auto)]
 
+mod carried;
 mod clean;
+mod consumed;
 mod consumer;
+mod dummy;
 mod listed;
 mod mapped;
 mod message_fault;
@@ -12,6 +15,9 @@ mod planned_message;
 mod planning;
 mod room;
 mod station;
+mod stations;
+mod taken;
+mod taken_rpdos;
 
 pub use clean::Clean;
 pub use consumer::Consumer;
