@@ -1,3 +1,4 @@
 pub mod LeastLemmas
 pub mod RoomLemmas
+pub mod SpareLemmas
 pub mod StationLemmas

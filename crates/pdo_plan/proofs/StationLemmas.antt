@@ -4,13 +4,12 @@ use Rattle.std.specs.Prelude.{if◌then◌else◌}
 use Rattle.std.specs.BTreeMap.{is_at}
 use Rattle.std.specs.Borrow.{Bor}
 use Rattle.std.specs.FinMap.{get}
-use Rattle.std.specs.List.{slice_get}
 use Rattle.std.specs.Map.{lookup}
 use Rattle.std.specs.Option.{option_map_or}
 use Rattle.std.specs.Ordering.{nat_cmp}
 use Rattle.std.proofs.lemmas.Bool.Decides.{nat_tests}
 use Rattle.std.proofs.lemmas.List.{drop_more}
-use Rattle.std.proofs.lemmas.Option.{slice_get_read, same_Some}
+use Rattle.std.proofs.lemmas.Option.{slice_get-get_or, same_Some}
 use Rattle.ini_text.specs.Content.{Content, Section}
 use Rattle.co_dict.specs.declared.entry.Entry.{Entry}
 use Rattle.co_dict.specs.Shapes.{Shaped, is_dummy_allowed}
@@ -110,12 +109,8 @@ stations_more before after number ss nodes put so_far node = put node ∙ by (nu
     by false e = so_far node
 
 -- the node before the last ones
-pub node_before : (nodes : List (ℕ × Bor Content)) (i : ℕ) (a b : ℕ × Bor Content) → i < length nodes → a ≡ get_or nodes i a → b ≡ get_or nodes i b
-    → nodes_of (drop i nodes) ≡ (a.0, b.1.now.sections) ∷ nodes_of (drop (i + 1) nodes)
-node_before nodes i a b below at_a at_b =
-    let here : slice_get nodes i ≡ Some a = slice_get_read nodes (length nodes) i a refl below at_a in
-    let again : slice_get nodes i ≡ Some b = slice_get_read nodes (length nodes) i b refl below at_b in
-    let same : a ≡ b = same_Some a b (sym here ∙ again) in
-    ap nodes_of (drop_more nodes i a below)
-    ∙ ap (λ (n : ℕ × Bor Content). (n.0, n.1.now.sections) ∷ nodes_of (drop (i + 1) nodes)) (sym at_a)
-    ∙ ap (λ (n : ℕ × Bor Content). (a.0, n.1.now.sections) ∷ nodes_of (drop (i + 1) nodes)) same
+pub node_before : (nodes : List (ℕ × Bor Content)) (i : ℕ) (a b : ℕ × Bor Content) → i < length nodes
+    → nodes_of (drop i nodes) ≡ ((get_or nodes i a).0, (get_or nodes i b).1.now.sections) ∷ nodes_of (drop (i + 1) nodes)
+node_before nodes i a b below =
+    let same : get_or nodes i a ≡ get_or nodes i b = same_Some (get_or nodes i a) (get_or nodes i b) (sym (slice_get-get_or nodes i a below) ∙ slice_get-get_or nodes i b below) in
+    ap nodes_of (drop_more nodes i a below) ∙ ap (λ (n : ℕ × Bor Content). ((get_or nodes i a).0, n.1.now.sections) ∷ nodes_of (drop (i + 1) nodes)) same

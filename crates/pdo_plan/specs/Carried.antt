@@ -26,7 +26,7 @@ abbrev pub sent_by : List Carried → List Mapped
 sent_by cs = map (λ (c : Carried). mapped_to c.place (bits_in c)) cs
 
 -- what a consumer's PDO maps for a source
-abbrev pub taken_by : Devices → Sinks → ℕ → Carried → Option Mapped
+unfoldable pub taken_by : Devices → Sinks → ℕ → Carried → Option Mapped
 taken_by devices sinks node c =
     option_or (option_map (λ place. mapped_to place (bits_in c)) (sink_at sinks c.position node)) (option_and_then (dummy_for devices node) c.bits)
 

@@ -8,6 +8,7 @@ use Rattle.co_dict.specs.declared.direction.Direction.TheVariants.{Transmit, Rec
 use Rattle.co_base.specs.Ranges.{is_between}
 use Rattle.co_dict.specs.Pdos.{is_restricted}
 use Rattle.co_messages.specs.declared.linked.Linked.{Linked}
+use Rattle.co_messages.specs.declared.message.Message.{Message}
 use Rattle.pdo_plan.specs.declared.message_fault.MessageFault.{MessageFault}
 use Rattle.pdo_plan.specs.declared.message_fault.MessageFault.TheVariants.{NoObjects, TpdoTaken, TooManyBits, NotMappable, Mismatched, NoRpdo, NoDummy, BadIdentifier, NoIdentifier, ReservedType}
 use Rattle.pdo_plan.specs.declared.consumer.Consumer.{Consumer}
@@ -82,9 +83,8 @@ automatic had node tpdo =
     if nat_le tpdo 4 && not (had.identifier (predefined node tpdo)) then Some (predefined node tpdo)
     else least_free (λ id. not (had.identifier id)) 0x681 95
 
-unfoldable pub identifier : Had → Linked → Option ℕ
-identifier had m =
-    if m.message.cob == 0 then automatic had m.message.node m.message.tpdo else explicit had m.message.cob
+unfoldable pub identifier_for : Had → Message → Option ℕ
+identifier_for had m = if m.cob == 0 then automatic had m.node m.tpdo else explicit had m.cob
 
 -- ---- faults
 
@@ -123,8 +123,8 @@ faults had devices m =
     ++ when (has_mismatch devices m) Mismatched
     ++ when (lacks_rpdo had devices m) NoRpdo
     ++ when (lacks_dummy devices m) NoDummy
-    ++ when (not (m.message.cob == 0) && is_none (identifier had m)) BadIdentifier
-    ++ when (m.message.cob == 0 && is_none (identifier had m)) NoIdentifier
+    ++ when (not (m.message.cob == 0) && is_none (identifier_for had m.message)) BadIdentifier
+    ++ when (m.message.cob == 0 && is_none (identifier_for had m.message)) NoIdentifier
     ++ when (is_between 241 251 m.message.transmission) ReservedType
 
 -- ---- the plan
@@ -142,7 +142,7 @@ outcome had devices m None others = Faulty others
 
 -- what is said of a message where this is had
 unfoldable pub judged : Had → Devices → Linked → Outcome
-judged had devices m = outcome had devices m (identifier had m) (faults had devices m)
+judged had devices m = outcome had devices m (identifier_for had m.message) (faults had devices m)
 
 abbrev pub clean_of : Outcome → Option Clean
 clean_of (Planned c) = Some c

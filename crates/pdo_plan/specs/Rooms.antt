@@ -1,7 +1,8 @@
 -- How many mapping entries the PDOs of a device have room for.
-use Rattle.std.specs.Prelude.{◌≡◌, ℕ, ◌-◌, ◌≤◌, nat_le, Bool, false, List, length, slice_index_or, Option, Some, None}
+use Rattle.std.specs.Prelude.{◌≡◌, ℕ, ◌-◌, ◌≤◌, nat_le, ◌&&◌, not, Bool, false, List, length, slice_index_or, Option, Some, None}
 use Rattle.std.specs.FinMap.{get}
 use Rattle.co_dict.specs.Shapes.{Shaped, is_dummy_allowed}
+use Rattle.pdo_plan.specs.Flags.{is_flagged}
 use Rattle.pdo_plan.specs.Devices.{Devices, has_pdo, rpdo_object}
 
 -- the device of a shape, at whatever node
@@ -26,3 +27,7 @@ room_of rooms number = slice_index_or rooms (number - 1) None
 
 abbrev pub AreRoomsOf : Shaped → List (Option ℕ) → Type 0
 AreRoomsOf shape rooms = (number : ℕ) → 1 ≤ number → number ≤ 512 → IsRoomOf shape (rpdo_object number) (room_of rooms number)
+
+-- an RPDO of a node that no flag has, and that has what its writes name
+unfoldable pub is_spare : Shaped → List Bool → ℕ → ℕ → ℕ → Bool
+is_spare shape flags node count number = not (is_flagged flags node number) && has_pdo (device_with shape) 0 (rpdo_object number) count

@@ -36,6 +36,7 @@ pub(crate) fn consumers_of(alloc: Global, sinks: &Sinks) -> Result<Vec<u8>, Allo
 }
 
 /// What a consumer's PDO maps for a source: its sink at that position, else a dummy.
+#[tactic(auto, unfolding(crate::specs::Carried::taken_by))]
 fn taken_by(stations: &Stations, sinks: &Sinks, node: u8, carried: &Carried) -> Option<Mapped>
     ensures { result ≡ taken_by (devices_in stations.now.entries) sinks.now node carried.now }
 {

@@ -1,6 +1,7 @@
 //! A node as the plan sees it.
 ghost use Rattle.std.specs.Prelude.{◌≡◌, ◌≤◌, length, IfOk};
-ghost use Rattle.pdo_plan.specs.Rooms.{has_room, room_of, AreRoomsOf};
+ghost use Rattle.pdo_plan.specs.Devices.{has_pdo, rpdo_object};
+ghost use Rattle.pdo_plan.specs.Rooms.{device_with, has_room, AreRoomsOf};
 
 use crate::room::room;
 use co_dict::Shape;
@@ -28,6 +29,16 @@ fn rooms(alloc: Global, shape: &Shape) -> Result<Vec<Option<u8>>, AllocError>
     Ok(rooms)
 }
 
+/// Whether a PDO has room for so many mapping entries.
+fn has_room(room: Option<u8>, count: usize) -> bool
+    ensures { result ≡ has_room room count }
+{
+    match room {
+        Some(room) => count <= usize::from(room),
+        None => false,
+    }
+}
+
 impl Station {
     /// Looks the RPDOs of a device up.
     pub fn new(alloc: Global, shape: Shape) -> Result<Station, AllocError>
@@ -37,15 +48,13 @@ impl Station {
         Ok(Station { shape, rooms })
     }
 
-    /// Whether an RPDO has room for so many mapping entries, up to 64.
-    pub fn has_room(&self, number: u16, count: usize) -> bool
+    /// Whether an RPDO, from 1 to 512, has what the writes of so many mapping entries, up to 64, name.
+    pub fn has_rpdo(&self, number: u16, count: usize) -> bool
         requires low { 1 ≤ number }
         requires high { number ≤ 512 }
-        ensures { result ≡ has_room (room_of self.now.rooms.items number) count }
+        requires few { count ≤ 64 }
+        ensures { result ≡ has_pdo (device_with self.now.shape) 0 (rpdo_object number) count }
     {
-        match self.rooms[usize::from(number) - 1] {
-            Some(room) => count <= usize::from(room),
-            None => false,
-        }
+        has_room(self.rooms[usize::from(number) - 1], count)
     }
 }
