@@ -1,3 +1,5 @@
+pub mod CarriedLemmas
+pub mod FaultLemmas
 pub mod LeastLemmas
 pub mod RoomLemmas
 pub mod SpareLemmas

@@ -1,5 +1,5 @@
 -- The plan of messages: which identifier and PDOs each gets, or why it can't be sent (the pool and the order are this profile's own).
-use Rattle.std.specs.Prelude.{◌≡◌, ℕ, ◌+◌, ◌*◌, ◌<◌, ◌≤◌, ◌==◌, Bool, true, not, ◌&&◌, ◌||◌, nat_lt, nat_le, if◌then◌else◌, List, [], ◌∷◌, ◌++◌, length, map, filter_map, Option, Some, None, is_some, is_none, option_map}
+use Rattle.std.specs.Prelude.{◌≡◌, ℕ, ◌+◌, ◌*◌, ◌<◌, ◌≤◌, ◌==◌, Bool, true, not, ◌&&◌, ◌||◌, nat_lt, nat_le, if◌then◌else◌, List, [], ◌∷◌, ◌++◌, length, map, filter, filter_map, Option, Some, None, is_some, is_none, option_map}
 use Rattle.std.specs.List.{list_any, All, Contains}
 use Rattle.ini_text.specs.Content.{Section}
 use Rattle.std.specs.BTreeSet.{insert_key}
@@ -110,22 +110,24 @@ abbrev pub lacks_dummy : Devices → Linked → Bool
 lacks_dummy devices m =
     list_any (λ node. list_any (lacks_dummy_at devices m.message.node m.sinks node) m.sources) (consumers_of m.sinks)
 
-abbrev pub when : Bool → MessageFault → List MessageFault
-when test fault = if test then fault ∷ [] else []
+-- of faults with their tests those whose test holds
+abbrev pub noted : List (Bool × MessageFault) → List MessageFault
+noted tests = map (λ t. t.1) (filter (λ t. t.0) tests)
 
 -- ALL FAULTS of a message, where this is had
 unfoldable pub faults : Had → Devices → Linked → List MessageFault
 faults had devices m =
-    when (not (has_objects devices m)) NoObjects
-    ++ when (had.tpdo m.message.node m.message.tpdo) TpdoTaken
-    ++ when (nat_lt 64 (bits_of devices m.message.node m.sources)) TooManyBits
-    ++ when (has_unmappable devices m) NotMappable
-    ++ when (has_mismatch devices m) Mismatched
-    ++ when (lacks_rpdo had devices m) NoRpdo
-    ++ when (lacks_dummy devices m) NoDummy
-    ++ when (not (m.message.cob == 0) && is_none (identifier_for had m.message)) BadIdentifier
-    ++ when (m.message.cob == 0 && is_none (identifier_for had m.message)) NoIdentifier
-    ++ when (is_between 241 251 m.message.transmission) ReservedType
+    let has_identifier = is_some (identifier_for had m.message) in
+    noted ((not (has_objects devices m), NoObjects)
+    ∷ (had.tpdo m.message.node m.message.tpdo, TpdoTaken)
+    ∷ (nat_lt 64 (bits_of devices m.message.node m.sources), TooManyBits)
+    ∷ (has_unmappable devices m, NotMappable)
+    ∷ (has_mismatch devices m, Mismatched)
+    ∷ (lacks_rpdo had devices m, NoRpdo)
+    ∷ (lacks_dummy devices m, NoDummy)
+    ∷ (not (m.message.cob == 0) && not has_identifier, BadIdentifier)
+    ∷ (m.message.cob == 0 && not has_identifier, NoIdentifier)
+    ∷ (is_between 241 251 m.message.transmission, ReservedType) ∷ [])
 
 -- ---- the plan
 

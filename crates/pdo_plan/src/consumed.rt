@@ -51,6 +51,7 @@ fn taken_by(stations: &Stations, sinks: &Sinks, node: u8, carried: &Carried) -> 
 }
 
 /// What a consumer's PDO maps.
+#[tactic(auto, unfolding(crate::specs::Carried::taken_all))]
 pub(crate) fn taken_mapping(
     alloc: Global,
     stations: &Stations,

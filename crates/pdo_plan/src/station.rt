@@ -30,7 +30,7 @@ fn rooms(alloc: Global, shape: &Shape) -> Result<Vec<Option<u8>>, AllocError>
 }
 
 /// Whether a PDO has room for so many mapping entries.
-fn has_room(room: Option<u8>, count: usize) -> bool
+pub(crate) fn has_room(room: Option<u8>, count: usize) -> bool
     ensures { result ≡ has_room room count }
 {
     match room {
