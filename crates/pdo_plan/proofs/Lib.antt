@@ -1,6 +1,10 @@
 pub mod CarriedLemmas
+pub mod CleanLemmas
 pub mod FaultLemmas
+pub mod JudgedLemmas
 pub mod LeastLemmas
+pub mod LimitLemmas
+pub mod PlanLemmas
 pub mod RoomLemmas
 pub mod SpareLemmas
 pub mod StationLemmas

@@ -4,6 +4,8 @@ use Rattle.std.specs.List.{list_any}
 use Rattle.std.specs.Option.{option_map_or, unwrap_or, option_or}
 use Rattle.co_messages.specs.Messages.{sink_at}
 use Rattle.pdo_plan.specs.declared.carried.Carried.{Carried}
+use Rattle.co_messages.specs.declared.linked.Linked.{Linked}
+use Rattle.pdo_plan.specs.declared.clean.Clean.{Clean}
 use Rattle.pdo_plan.specs.declared.consumer.Consumer.{Consumer}
 use Rattle.pdo_plan.specs.declared.mapped.Mapped.{Mapped}
 use Rattle.pdo_plan.specs.Devices.{Devices, width_at}
@@ -53,6 +55,15 @@ abbrev pub mismatches : Devices → List Carried → (ℕ × ℕ) × (ℕ × ℕ
 mismatches devices cs sink = option_map_or (λ (c : Carried). differ c.bits (width_at devices sink.0.1 sink.1)) (carried_at cs sink.0.0) true
 
 -- a consumer with its RPDO and what that maps
-abbrev pub consumer_by : Had → Devices → Sinks → List Carried → ℕ → Option Consumer
+unfoldable pub consumer_by : Had → Devices → Sinks → List Carried → ℕ → Option Consumer
 consumer_by had devices sinks cs node =
     option_map (λ number. record { node = node; rpdo = number; mapping = taken_all devices sinks node cs }) (rpdo_for had devices (length cs) node)
+
+-- a clean message with its identifier
+abbrev pub clean_by : Had → Devices → Linked → List Carried → List ℕ → ℕ → Clean
+clean_by had devices m cs nodes id = record {
+  message = m.message;
+  identifier = id;
+  mapping = sent_by cs;
+  consumers = filter_map (consumer_by had devices m.sinks cs) nodes;
+}
