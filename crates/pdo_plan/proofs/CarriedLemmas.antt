@@ -13,7 +13,7 @@ use Rattle.pdo_plan.specs.Devices.{Devices, width_at}
 use Rattle.pdo_plan.specs.Mapping.{Sources, Sinks, bits_of, sent_mapping, taken_mapping, lacks_dummy_at, is_mismatched, differ}
 use Rattle.pdo_plan.specs.Carried.{carried_by, carried_of, bits_in, total_bits, sent_by, taken_by, taken_all, lacks_some, lacks_dummy_for, mismatches, carried_at}
 
-fold_map : {X Y : Type 0} (g : X → Y) (f : ℕ → Y → ℕ) (n : ℕ) (xs : List X) → fold f n (map g xs) ≡ fold (λ a x. f a (g x)) n xs
+pub fold_map : {X Y : Type 0} (g : X → Y) (f : ℕ → Y → ℕ) (n : ℕ) (xs : List X) → fold f n (map g xs) ≡ fold (λ a x. f a (g x)) n xs
 fold_map g f n [] = refl
 fold_map g f n (x ∷ xs) = fold_map g f (f n (g x)) xs
 

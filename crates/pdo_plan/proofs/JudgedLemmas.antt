@@ -55,7 +55,7 @@ judged_clean had devices m c e = by (identifier_for had m.message) (faults had d
         }
 
 -- a test that holds gives a fault
-noted_some : (tests : List (Bool × MessageFault)) (k : ℕ) (f : MessageFault) → slice_get tests k ≡ Some (true, f) → 1 ≤ length (noted tests)
+pub noted_some : (tests : List (Bool × MessageFault)) (k : ℕ) (f : MessageFault) → slice_get tests k ≡ Some (true, f) → 1 ≤ length (noted tests)
 noted_some [] k f e = cc
 noted_some (t ∷ ts) zero f e =
     let first : Bool × MessageFault = (true, f) in
@@ -68,7 +68,7 @@ noted_some (t ∷ ts) (suc k) f e = by t.0 (noted_some ts k f e)
     by false h = h
 
 -- the tests of a message, where this is said of its identifier
-abbrev tests_with : Had → Devices → Linked → Bool → Bool → List (Bool × MessageFault)
+abbrev pub tests_with : Had → Devices → Linked → Bool → Bool → List (Bool × MessageFault)
 tests_with had devices m automatic has =
     (not (has_objects devices m), NoObjects) ∷ (had.tpdo m.message.node m.message.tpdo, TpdoTaken) ∷ (nat_lt 64 (bits_of devices m.message.node m.sources), TooManyBits)
     ∷ (has_unmappable devices m, NotMappable) ∷ (has_mismatch devices m, Mismatched) ∷ (lacks_rpdo had devices m, NoRpdo) ∷ (lacks_dummy devices m, NoDummy)
@@ -216,7 +216,7 @@ consumer_is had devices m node k e = by (rpdo_for had devices (length m.sources)
           least = least_free_is (is_free_rpdo had devices node (length m.sources)) 1 512 (Some k.rpdo) (sym (f ∙ ap (λ (x : Consumer). Some x.rpdo) same));
         }
 
-taken_few : (devices : Devices) (m : Linked) (node : ℕ) → length (taken_mapping devices m.message.node m.sources m.sinks node) ≤ length m.sources
+pub taken_few : (devices : Devices) (m : Linked) (node : ℕ) → length (taken_mapping devices m.message.node m.sources m.sinks node) ≤ length m.sources
 unfolding taken_mapping
 taken_few devices m node = given_few (taken_at devices m.message.node m.sinks node) m.sources
 
@@ -232,7 +232,7 @@ consumers_within had devices m few =
     All-from_recursion (λ (k : Consumer). IsNumbered k.rpdo k.mapping) (planned_consumers had devices m)
     (each_given (consumer_of had devices m) (λ (k : Consumer). IsNumbered k.rpdo k.mapping) (consumer_within had devices m few) (consumers_of m.sinks))
 
-sent_count : (devices : Devices) (m : Linked) → length (sent_mapping devices m.message.node m.sources) ≡ length m.sources
+pub sent_count : (devices : Devices) (m : Linked) → length (sent_mapping devices m.message.node m.sources) ≡ length m.sources
 unfolding sent_mapping
 sent_count devices m = length-map m.sources (λ s. mapped_to s.1 (source_bits devices m.message.node s))
 

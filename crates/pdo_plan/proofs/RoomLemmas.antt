@@ -7,7 +7,7 @@ use Rattle.std.proofs.lemmas.List.{get_or_append_left, get_or_push}
 use Rattle.pdo_plan.specs.Rooms.{room_of}
 use Rattle.pdo_plan.proofs.LeastLemmas.{here_or_past}
 
-all_pass : (test : ℕ → Bool) (first n : ℕ) → ((k : ℕ) → first ≤ k → k < first + n → test k ≡ true) → list_all test (range_with_len first n) ≡ true
+pub all_pass : (test : ℕ → Bool) (first n : ℕ) → ((k : ℕ) → first ≤ k → k < first + n → test k ≡ true) → list_all test (range_with_len first n) ≡ true
 all_pass test first zero each = refl
 all_pass test first (suc n) each =
     let here : test first ≡ true = each first (omega arith) (omega arith) in
@@ -18,7 +18,7 @@ and_false : (a b : Bool) → b ≡ false → (a && b) ≡ false
 and_false true b e = e
 and_false false b e = refl
 
-one_fails : (test : ℕ → Bool) (first n k : ℕ) → first ≤ k → k < first + n → test k ≡ false → list_all test (range_with_len first n) ≡ false
+pub one_fails : (test : ℕ → Bool) (first n k : ℕ) → first ≤ k → k < first + n → test k ≡ false → list_all test (range_with_len first n) ≡ false
 one_fails test first zero k low below e = absurd (omega arith)
 one_fails test first (suc n) k low below e = by (here_or_past first k low) (λ past. one_fails test (first + 1) n k past (omega arith) e)
   where

@@ -11,6 +11,10 @@ use Rattle.pdo_plan.specs.Devices.{Devices, width_at}
 abbrev pub mapped_bytes : Mapped → List ℕ
 mapped_bytes m = m.bits ∷ m.sub ∷ little_bytes 2 m.index
 
+-- the bits that a mapping fills in a frame
+abbrev pub mapping_bits : List Mapped → ℕ
+mapping_bits mapping = sum_by (λ (m : Mapped). m.bits) mapping
+
 abbrev pub mapped_to : ℕ × ℕ → ℕ → Mapped
 mapped_to place bits = record { index = place.0; sub = place.1; bits = bits }
 

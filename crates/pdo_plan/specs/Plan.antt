@@ -19,7 +19,7 @@ use Rattle.pdo_plan.specs.declared.planned_message.PlannedMessage.{PlannedMessag
 use Rattle.pdo_plan.specs.declared.mapped.Mapped.{Mapped}
 use Rattle.pdo_plan.specs.Devices.{Devices, devices_of, can_map, has_pdo, has_times, tpdo_object, rpdo_object}
 use Rattle.pdo_plan.specs.Least.{least_free}
-use Rattle.pdo_plan.specs.Mapping.{Sources, Sinks, bits_of, sent_mapping, taken_mapping, is_mismatched, lacks_dummy_at}
+use Rattle.pdo_plan.specs.Mapping.{Sources, Sinks, mapping_bits, bits_of, sent_mapping, taken_mapping, is_mismatched, lacks_dummy_at}
 
 -- ---- what is had
 
@@ -179,6 +179,10 @@ pub record IsWithin (c : Clean) : Type 0 where
   pub sent : IsNumbered c.message.tpdo c.mapping
   pub identifier : c.identifier < 0x800
   pub taken : All (λ (k : Consumer). IsNumbered k.rpdo k.mapping) c.consumers
+
+-- what a clean message maps fits a frame, at its sender and at each consumer: at most 64 bits
+abbrev pub FitFrames : Clean → Type 0
+FitFrames c = (mapping_bits c.mapping ≤ 64) × All (λ (k : Consumer). mapping_bits k.mapping ≤ 64) c.consumers
 
 -- a device has what the writes of a PDO name
 abbrev pub HasPdo : List Section → ℕ → ℕ → ℕ → Type 0

@@ -9,6 +9,7 @@ mod dummy;
 mod faults;
 mod identifiers;
 mod judging;
+pub mod laws;
 mod listed;
 mod mapped;
 mod message_fault;
