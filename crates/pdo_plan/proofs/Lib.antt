@@ -1,0 +1,16 @@
+pub mod BitLemmas
+pub mod CarriedLemmas
+pub mod ChainLemmas
+pub mod CleanLemmas
+pub mod FaultLemmas
+pub mod FreeLemmas
+pub mod JudgedLemmas
+pub mod LeastLemmas
+pub mod LimitLemmas
+pub mod MadeLemmas
+pub mod OrderLemmas
+pub mod PlaceLemmas
+pub mod PlanLemmas
+pub mod RoomLemmas
+pub mod SpareLemmas
+pub mod StationLemmas

@@ -1,0 +1,177 @@
+//! The faults of a message.
+ghost use Rattle.std.specs.Prelude.{◌≡◌, ◌≤◌, ◌==◌, ◌&&◌, ◌||◌, not, length, is_none, is_some, IfOk};
+ghost use Rattle.std.specs.List.{list_any};
+ghost use Rattle.co_base.specs.Ranges.{is_between};
+ghost use Rattle.co_dict.specs.declared.direction.Direction.TheVariants as direction;
+ghost use Rattle.pdo_plan.specs.Carried.{carried_of, lacks_some, mismatches};
+ghost use Rattle.pdo_plan.specs.Devices.{can_map};
+ghost use Rattle.pdo_plan.specs.Plan.{rpdo_for, identifier_for, has_unmappable, consumers_of, noted, faults};
+ghost use Rattle.pdo_plan.specs.Stations.{devices_in};
+ghost use Rattle.pdo_plan.specs.Taken.{had_in};
+
+use crate::carried::{Carried, total_bits};
+use crate::consumed::{lacks_dummy, mismatches};
+use crate::listed::Listed;
+use crate::message_fault::MessageFault;
+use crate::rpdos::rpdo_for;
+use crate::sender::has_tpdo;
+use crate::stations::{Stations, can_map};
+use crate::taken::Taken;
+use co_dict::Direction;
+use co_messages::{Linked, Sinks, Sources};
+use std::alloc::{AllocError, Global};
+
+/// Whether a source isn't there or no TPDO can map it.
+fn has_unsendable(stations: &Stations, sender: u8, sources: &Sources) -> bool
+    ensures { result ≡ list_any (λ s. not (can_map direction.Transmit (devices_in stations.now.entries) sender s.1)) sources.now }
+{
+    sources
+        .iter()
+        .any(|(_, place)| !can_map(Direction::Transmit, stations, sender, *place))
+}
+
+/// Whether a sink isn't there, no RPDO can map it, or it is on the sender.
+fn has_untakable(stations: &Stations, sender: u8, sinks: &Sinks) -> bool
+    ensures { result ≡ list_any (λ s. not (can_map direction.Receive (devices_in stations.now.entries) s.0.1 s.1) || (s.0.1 == sender)) sinks.now }
+{
+    sinks.iter().any(|(seat, place)| {
+        !can_map(Direction::Receive, stations, seat.1, *place) || seat.1 == sender
+    })
+}
+
+/// Whether a source or sink isn't there or can't be mapped in its direction, or a sink is on the
+/// sender.
+fn has_unmappable(stations: &Stations, linked: &Linked) -> bool
+    ensures { result ≡ has_unmappable (devices_in stations.now.entries) linked.now }
+{
+    let sender = linked.message.node;
+    has_unsendable(stations, sender, &linked.sources)
+        || has_untakable(stations, sender, &linked.sinks)
+}
+
+/// Whether a sink has no source at its position, or one of another width.
+fn has_mismatch(stations: &Stations, carried: &[Carried], sinks: &Sinks) -> bool
+    ensures { result ≡ list_any (mismatches (devices_in stations.now.entries) carried.now) sinks.now }
+{
+    sinks
+        .iter()
+        .any(|(seat, place)| mismatches(stations, carried, *seat, *place))
+}
+
+/// Whether a consumer has no free RPDO for so many mapping entries.
+fn lacks_rpdo(stations: &Stations, taken: &Taken, consumers: &[u8], count: usize) -> bool
+    requires { count ≤ 64 }
+    ensures { result ≡ list_any (λ node. is_none (rpdo_for (had_in taken.now) (devices_in stations.now.entries) count node)) consumers.now }
+{
+    consumers
+        .iter()
+        .any(|node| rpdo_for(stations, taken, *node, count).is_none())
+}
+
+/// Whether a consumer needs a dummy that it doesn't allow.
+fn lacks_any_dummy(
+    stations: &Stations,
+    carried: &[Carried],
+    sinks: &Sinks,
+    consumers: &[u8],
+) -> bool
+    ensures { result ≡ list_any (λ node. lacks_some (devices_in stations.now.entries) sinks.now node carried.now) consumers.now }
+{
+    consumers
+        .iter()
+        .any(|node| lacks_dummy(stations, sinks, *node, carried))
+}
+
+/// Of faults with their tests those whose test holds.
+fn noted(
+    alloc: Global,
+    tests: &[(bool, MessageFault)],
+) -> Result<Vec<MessageFault>, AllocError>
+    ensures { IfOk result (λ faults. faults.items ≡ noted tests.now) }
+{
+    let mut faults = Vec::new(alloc);
+    for test in tests {
+        if test.0 {
+            faults.push(test.1)?;
+        }
+    }
+    Ok(faults)
+}
+
+/// Whether an explicit identifier can't be had.
+fn is_bad(cob: u16, has_identifier: bool) -> bool
+    ensures { result ≡ (not (cob == 0) && not has_identifier) }
+{
+    cob != 0 && !has_identifier
+}
+
+/// Whether no automatic identifier is free.
+fn lacks_identifier(cob: u16, has_identifier: bool) -> bool
+    ensures { result ≡ (cob == 0 && not has_identifier) }
+{
+    cob == 0 && !has_identifier
+}
+
+/// Whether a transmission type is reserved (CiA 301): 241 to 251.
+fn is_reserved(transmission: u8) -> bool
+    ensures { result ≡ is_between 241 251 transmission }
+{
+    (241..=251).contains(&transmission)
+}
+
+/// All faults of a message with these sources and consumers, which can have an identifier or not.
+pub(crate) fn faults(
+    alloc: Global,
+    stations: &Stations,
+    taken: &Taken,
+    linked: &Linked,
+    carried: &[Carried],
+    consumers: &[u8],
+    has_identifier: bool,
+) -> Result<Listed<MessageFault>, AllocError>
+    requires number { linked.now.message.tpdo ≤ 512 }
+    requires few { length carried.now ≤ 64 }
+    requires sources { carried.now ≡ carried_of (devices_in stations.now.entries) linked.now.message.node linked.now.sources }
+    requires consumers { consumers.now ≡ consumers_of linked.now.sinks }
+    requires identifier { has_identifier ≡ is_some (identifier_for (had_in taken.now) linked.now.message) }
+    ensures { IfOk result (λ found. found ≡ faults (had_in taken.now) (devices_in stations.now.entries) linked.now) }
+{
+    let message = &linked.message;
+    let sinks = &linked.sinks;
+    let count = carried.len();
+    let tests = [
+        (!has_tpdo(stations, message, count), MessageFault::NoObjects),
+        (
+            taken.tpdos.contains(&(message.node, message.tpdo)),
+            MessageFault::TpdoTaken,
+        ),
+        (total_bits(carried) > 64, MessageFault::TooManyBits),
+        (has_unmappable(stations, linked), MessageFault::NotMappable),
+        (
+            has_mismatch(stations, carried, sinks),
+            MessageFault::Mismatched,
+        ),
+        (
+            lacks_rpdo(stations, taken, consumers, count),
+            MessageFault::NoRpdo,
+        ),
+        (
+            lacks_any_dummy(stations, carried, sinks, consumers),
+            MessageFault::NoDummy,
+        ),
+        (
+            is_bad(message.cob, has_identifier),
+            MessageFault::BadIdentifier,
+        ),
+        (
+            lacks_identifier(message.cob, has_identifier),
+            MessageFault::NoIdentifier,
+        ),
+        (
+            is_reserved(message.transmission),
+            MessageFault::ReservedType,
+        ),
+    ];
+    let faults = noted(alloc, &tests)?;
+    Ok(Listed::from_vec(faults))
+}

@@ -1,0 +1,81 @@
+//! Laws of the plan, each a function whose contract is the law.
+ghost use Rattle.std.specs.Prelude.{◌≡◌, ◌↔◌, ◌≤◌, ◌==◌, ℕ, Bool, List, [], length, take, All, Option, Some, IsFalse, slice_get};
+ghost use Rattle.std.specs.Map.{lookup};
+ghost use Rattle.ini_text.specs.Content.{Section};
+ghost use Rattle.co_dict.specs.Pdos.{is_restricted};
+ghost use Rattle.co_messages.specs.Messages.{AreMessages};
+ghost use Rattle.co_messages.specs.declared.linked.Linked.{Linked};
+ghost use Rattle.pdo_plan.specs.declared.clean.Clean.{Clean as Sent};
+ghost use Rattle.pdo_plan.specs.declared.consumer.Consumer.{Consumer as Taker};
+ghost use Rattle.pdo_plan.specs.declared.message_fault.MessageFault.{MessageFault as Fault};
+ghost use Rattle.pdo_plan.specs.declared.outcome.Outcome.TheVariants as says;
+ghost use Rattle.pdo_plan.specs.declared.planned_message.PlannedMessage.{PlannedMessage as Said};
+ghost use Rattle.pdo_plan.specs.Devices.{Devices, devices_of};
+ghost use Rattle.pdo_plan.specs.Least.{least_free, IsLeastFree};
+ghost use Rattle.pdo_plan.specs.Plan.{Had, had_by, identifier_for, faults, judged, said_of, clean, plan_of, FitFrames, IsMadeFor};
+
+/// The least free number is free, and none of those before it is; there is none where no number is
+/// free.
+#[tactic(auto, using(crate::proofs::LeastLemmas::least_free_both))]
+pub fn least_free_is_least()
+    ensures { (is_free : ℕ → Bool) (first count : ℕ) (o : Option ℕ) → (o ≡ least_free is_free first count) ↔ IsLeastFree is_free first count o }
+{}
+
+/// A message is clean where it has no fault, and else all its faults are said.
+pub fn a_message_without_a_fault_is_clean()
+    ensures clean { (had : Had) (devices : Devices) (m : Linked) (c : Sent) → judged had devices m ≡ says.Planned c
+        → (faults had devices m ≡ []) × (identifier_for had m.message ≡ Some c.identifier) }
+    ensures faulty { (had : Had) (devices : Devices) (m : Linked) (fs : List Fault) → judged had devices m ≡ says.Faulty fs
+        → (fs ≡ faults had devices m) × (1 ≤ length fs) }
+{}
+
+/// Each message is judged against the clean ones before it alone.
+#[tactic(auto, using(crate::proofs::PlaceLemmas::plan_count, crate::proofs::PlaceLemmas::plan_at))]
+pub fn each_is_judged_against_the_clean_ones_before_it()
+    ensures count { (devices : Devices) (ms : List (List ℕ × Linked)) → length (plan_of devices ms) ≡ length ms }
+    ensures judged { (devices : Devices) (ms : List (List ℕ × Linked)) (k : ℕ) (p : Said) → slice_get (plan_of devices ms) k ≡ Some p
+        → (m : List ℕ × Linked) × (slice_get ms k ≡ Some m) × (p ≡ said_of (had_by (clean (take k (plan_of devices ms)))) devices m) }
+{}
+
+/// No two clean messages share an identifier.
+#[tactic(auto, using(crate::proofs::FreeLemmas::identifiers_apart))]
+pub fn no_identifier_is_had_twice()
+    ensures { (devices : Devices) (ms : List (List ℕ × Linked)) (i j : ℕ) (c d : Sent)
+        → slice_get (clean (plan_of devices ms)) i ≡ Some c → slice_get (clean (plan_of devices ms)) j ≡ Some d
+        → c.identifier ≡ d.identifier → i ≡ j }
+{}
+
+/// No node has one TPDO number in two clean messages.
+#[tactic(auto, using(crate::proofs::FreeLemmas::tpdos_apart))]
+pub fn no_tpdo_is_had_twice()
+    ensures { (devices : Devices) (ms : List (List ℕ × Linked)) (i j : ℕ) (c d : Sent)
+        → slice_get (clean (plan_of devices ms)) i ≡ Some c → slice_get (clean (plan_of devices ms)) j ≡ Some d
+        → c.message.node ≡ d.message.node → c.message.tpdo ≡ d.message.tpdo → i ≡ j }
+{}
+
+/// No node has one RPDO number twice.
+#[tactic(auto, using(crate::proofs::FreeLemmas::rpdos_apart))]
+pub fn no_rpdo_is_had_twice()
+    ensures { (devices : Devices) (ms : List (List ℕ × Linked)) (i j a b : ℕ) (c d : Sent) (k l : Taker)
+        → slice_get (clean (plan_of devices ms)) i ≡ Some c → slice_get (clean (plan_of devices ms)) j ≡ Some d
+        → slice_get c.consumers a ≡ Some k → slice_get d.consumers b ≡ Some l
+        → k.node ≡ l.node → k.rpdo ≡ l.rpdo → (i ≡ j) × (a ≡ b) }
+{}
+
+/// No clean message has a restricted identifier.
+#[tactic(auto, using(crate::proofs::MadeLemmas::none_restricted))]
+pub fn no_clean_identifier_is_restricted()
+    ensures { (devices : Devices) (ms : List (List ℕ × Linked)) → AreMessages ms
+        → All (λ (c : Sent). IsFalse (is_restricted c.identifier)) (clean (plan_of devices ms)) }
+{}
+
+/// What a clean message maps fits a frame, at its sender and at each consumer.
+pub fn mappings_fit_frames()
+    ensures { (devices : Devices) (ms : List (List ℕ × Linked)) → All FitFrames (clean (plan_of devices ms)) }
+{}
+
+/// Each PDO that the plan gives a node is one that its device has.
+pub fn plans_are_made_for_their_devices()
+    ensures { (nodes : List (ℕ × List Section)) (ms : List (List ℕ × Linked)) (node : ℕ) (ss : List Section) → lookup (λ n. n == node) nodes ≡ Some ss
+        → IsMadeFor (plan_of (devices_of nodes) ms) ss node }
+{}

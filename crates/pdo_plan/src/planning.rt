@@ -1,0 +1,53 @@
+//! The plan of messages, message by message.
+ghost use Rattle.std.specs.Prelude.{◌≡◌, ◌∷◌, [], All, IfOk, IfSome, OnOk};
+ghost use Rattle.pdo_plan.specs.Devices.{devices_of};
+ghost use Rattle.pdo_plan.specs.Plan.{clean, clean_of, IsWithin, plan_of};
+ghost use Rattle.pdo_plan.specs.Shown.{nodes_of};
+ghost use Rattle.pdo_plan.specs.Taken.{had_in, had_after};
+
+use crate::judging::judge;
+use crate::message_plan::Plan;
+use crate::outcome::Outcome;
+use crate::planned_message::PlannedMessage;
+use crate::stations::stations;
+use crate::taken::Taken;
+use co_base::Octets;
+use co_messages::Messages;
+use eds_device::Device;
+use std::alloc::{AllocError, Global};
+
+/// Takes what a message has, if it is clean.
+fn take_clean(taken: &mut Taken, outcome: &Outcome) -> Result<(), AllocError>
+    requires { IfSome (clean_of outcome.now) IsWithin }
+    ensures { OnOk result (had_in taken.new ≡ had_after (had_in taken.old) outcome.now) }
+{
+    if let Outcome::Planned(clean) = outcome {
+        taken.take(clean)?;
+    }
+    Ok(())
+}
+
+/// The plan of messages (CiA 301, PDOs): in order of name each is judged against the clean ones
+/// before it alone, by what the devices of the nodes say. A node that isn't listed has no entry; of
+/// two with one number the first counts.
+///
+/// Takes time by the number of the devices' entries, of the messages' sources and sinks and of their
+/// consumers, and by the logarithms of these.
+pub fn plan(
+    alloc: Global,
+    nodes: &[(u8, &Device)],
+    messages: &Messages,
+) -> Result<Plan, AllocError>
+    ensures { IfOk result (λ plan. plan ≡ plan_of (devices_of (nodes_of nodes.now)) messages.now) }
+{
+    let stations = stations(alloc, nodes)?;
+    let mut taken = Taken::new(alloc)?;
+    let mut plan = Vec::new(alloc);
+    'messages: for (name, linked) in messages.iter() {
+        let outcome = judge(alloc, &stations, &taken, linked)?;
+        take_clean(&mut taken, &outcome)?;
+        let name = Octets::from_slice(alloc, name)?;
+        plan.push(PlannedMessage { name, outcome })?;
+    }
+    Ok(Plan::new(plan))
+}
