@@ -1,4 +1,4 @@
 mod JudgedLemmas
 mod ParameterLemmas
 mod SizeLemmas
-mod WrittenLemmas
+pub mod WrittenLemmas

@@ -1,6 +1,13 @@
 //! The links of messages: their plan, and the writes that it gives each node.
 #![tactic(auto)]
 
+mod first;
+mod mapping;
+mod parameters;
+mod put;
+mod rpdo;
+mod taken;
+mod tpdo;
 mod writing;
 
 pub use pdo_plan::{

@@ -1,0 +1,5 @@
+mod Mappings
+mod Numbered
+mod Sizes
+mod Tabled
+mod Values
