@@ -1,4 +1,4 @@
 mod JudgedLemmas
-mod ParameterLemmas
+pub mod ParameterLemmas
 mod SizeLemmas
 pub mod WrittenLemmas

@@ -20,7 +20,7 @@ use Rattle.pdo_links.proofs.Values.{no_values, both_values}
 
 -- ---- one number more
 
-append_none : {X : Type 0} (xs : List X) → xs ++ [] ≡ xs
+pub append_none : {X : Type 0} (xs : List X) → xs ++ [] ≡ xs
 append_none [] = refl
 append_none (x ∷ xs) = ap (λ ys. x ∷ ys) (append_none xs)
 
@@ -91,7 +91,7 @@ sends cs node number c e = let b : (a : Clean) × Contains cs a × (tpdo_of node
         subst (Sends cs node number) here (record { message = has; sender = exact_unsigned_eq a.message.node node is; numbered = ap (λ (q : ℕ × Clean). q.0) p })
     by a has false is same = cc
 
-found : (test : Consumer → Bool) (ks : List Consumer) (k : Consumer) → find test ks ≡ Some k → Contains ks k × (test k ≡ true)
+pub found : (test : Consumer → Bool) (ks : List Consumer) (k : Consumer) → find test ks ≡ Some k → Contains ks k × (test k ≡ true)
 found test [] k e = cc
 found test (x ∷ ks) k e = by (test x) refl e (found test ks k)
   where

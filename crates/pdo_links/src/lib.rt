@@ -2,6 +2,7 @@
 #![tactic(auto)]
 
 mod first;
+pub mod laws;
 mod mapping;
 mod parameters;
 mod put;
