@@ -2,6 +2,7 @@
 ghost use Rattle.std.specs.Prelude.{◌≡◌, ◌≤◌, length, All, IfOk, IfSome, option_copied};
 ghost use Rattle.co_values.specs.Values.{Fits};
 ghost use Rattle.eds_device.specs.Described.{kind_at};
+ghost use Rattle.eds_device.specs.Faults.{most_entries};
 ghost use Rattle.co_params.specs.Parameters.{parameter_text, parameter_write, parameter_writes};
 
 use crate::judgement::judge;
@@ -62,10 +63,10 @@ pub fn writes(
 ) -> Result<Vec<Write>, AllocError>
     ensures writes { IfOk result (λ writes. writes.items ≡ parameter_writes device.now.sections params.now node) }
 
-    // Each is a value of its entry, of from 1 to 512 bytes, and they can be counted in 32 bits.
+    // Each is a value of its entry, of from 1 to 512 bytes, and they are at most as many as a device has entries.
     ensures fits { IfOk result (λ writes. All (λ w. Fits (kind_at device.now.sections (w.index, w.sub)) w.bytes) writes.items) }
     ensures sizes { IfOk result (λ writes. All (λ w. (1 ≤ length w.bytes) × (length w.bytes ≤ 512)) writes.items) }
-    ensures count { IfOk result (λ writes. length writes.items ≤ 4294967295) }
+    ensures count { IfOk result (λ writes. length writes.items ≤ most_entries) }
 {
     let mut writes = Vec::new(alloc);
     for (index, sub) in device.pairs() {

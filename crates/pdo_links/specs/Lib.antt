@@ -1,1 +1,3 @@
+pub mod Order
+pub mod Tables
 pub mod Writes

@@ -1,13 +1,15 @@
 -- The writes that a plan gives a node: its TPDOs and RPDOs (CiA 301, PDO communication and mapping parameters). The order is this profile's own.
-use Rattle.std.specs.Prelude.{ℕ, ◌+◌, ◌==◌, ◌&&◌, nat_le, Bool, false, if◌then◌else◌, List, [], ◌∷◌, ◌++◌, length, map, Option, Some, None, option_map}
+use Rattle.std.specs.Prelude.{ℕ, ◌+◌, ◌==◌, nat_le, false, if◌then◌else◌, List, [], ◌∷◌, ◌++◌, length, map, filter_map, Option, Some, None, option_map}
+use Rattle.std.specs.BTreeMap.{is_at}
 use Rattle.std.specs.List.{find, flat_map, enumerate_from, range_with_len}
+use Rattle.std.specs.Map.{lookup}
 use Rattle.std.specs.Option.{option_map_or}
+use Rattle.std.specs.Ordering.{nat_cmp}
 use Rattle.byteorder.specs.Endian.{little_bytes}
 use Rattle.co_values.specs.declared.form.Width.TheVariants.{Bits16}
 use Rattle.concise_dcf.specs.declared.write.Write.{Write}
 use Rattle.ini_text.specs.Content.{Section}
 use Rattle.co_params.specs.Parameters.{parameter_writes}
-use Rattle.co_dict.specs.declared.entry.Entry.{Entry}
 use Rattle.eds_device.specs.Entries.{entry_at}
 use Rattle.pdo_plan.specs.declared.clean.Clean.{Clean}
 use Rattle.pdo_plan.specs.declared.consumer.Consumer.{Consumer}
@@ -20,24 +22,24 @@ use Rattle.pdo_plan.specs.Plan.{clean}
 abbrev pub write_at : ℕ → ℕ → List ℕ → Write
 write_at index sub bytes = record { index = index; sub = sub; bytes = bytes }
 
--- a COB-ID (CiA 301): bit 31 says that the PDO isn't valid, bit 30 of a TPDO that no RTR is allowed
-abbrev pub is_off : ℕ
-is_off = 0x80000000
+-- a COB-ID (CiA 301): bit 31 says that the PDO is off, bit 30 of a TPDO that no RTR is allowed
+abbrev pub off_bit : ℕ
+off_bit = 0x80000000
 
-abbrev pub no_rtr : ℕ
-no_rtr = 0x40000000
+abbrev pub no_rtr_bit : ℕ
+no_rtr_bit = 0x40000000
 
 abbrev pub cob_write : ℕ → ℕ → Write
 cob_write object cob = write_at object 1 (little_bytes 4 cob)
 
--- the mapping entries from sub 1 on
-abbrev pub mapped_writes : ℕ → List Mapped → List Write
-mapped_writes object mapping = map (λ e. write_at object e.0 (mapped_bytes e.1)) (enumerate_from 1 mapping)
+-- the mapping entries, one a sub, from a sub on
+abbrev pub mapped_writes : ℕ → ℕ → List Mapped → List Write
+mapped_writes object first mapping = map (λ e. write_at object e.0 (mapped_bytes e.1)) (enumerate_from first mapping)
 
--- a mapping is switched off by count 0, its entries are written, and then their count
+-- a mapping is switched off by count 0, its entries are written from sub 1 on, and then their count
 abbrev pub mapping_writes : ℕ → List Mapped → List Write
 mapping_writes object mapping =
-    write_at object 0 (0 ∷ []) ∷ (mapped_writes object mapping ++ write_at object 0 (length mapping ∷ []) ∷ [])
+    write_at object 0 (0 ∷ []) ∷ (mapped_writes object 1 mapping ++ write_at object 0 (length mapping ∷ []) ∷ [])
 
 -- a time is written where the entry is there, UNSIGNED16 and writable
 abbrev pub time_write : List Section → ℕ → ℕ → ℕ → ℕ → List Write
@@ -45,52 +47,51 @@ time_write ss node object sub time =
     if option_map_or (takes_unsigned Bits16) (entry_at ss node object sub) false then write_at object sub (little_bytes 2 time) ∷ [] else []
 
 -- a TPDO: it is switched off; transmission type, inhibit time and event timer; the mapping; it is switched on
-abbrev pub tpdo_writes : List Section → ℕ → Clean → List Write
+unfoldable pub tpdo_writes : List Section → ℕ → Clean → List Write
 tpdo_writes ss node c =
     let object = tpdo_object c.message.tpdo in
-    cob_write object (is_off + no_rtr + c.identifier)
+    cob_write object (off_bit + (no_rtr_bit + c.identifier))
     ∷ write_at object 2 (c.message.transmission ∷ [])
     ∷ (time_write ss node object 3 c.message.inhibit ++ time_write ss node object 5 c.message.event
     ++ mapping_writes (mapping_of object) c.mapping
-    ++ cob_write object (no_rtr + c.identifier) ∷ [])
+    ++ cob_write object (no_rtr_bit + c.identifier) ∷ [])
 
 -- the transmission type of the RPDOs of a message: with the SYNC for 0 to 240, else at once
 abbrev pub taken_type : ℕ → ℕ
 taken_type transmission = if nat_le transmission 240 then 0 else 255
 
 -- an RPDO likewise
-abbrev pub rpdo_writes : Clean → Consumer → List Write
+unfoldable pub rpdo_writes : Clean → Consumer → List Write
 rpdo_writes c consumer =
     let object = rpdo_object consumer.rpdo in
-    cob_write object (is_off + c.identifier)
+    cob_write object (off_bit + c.identifier)
     ∷ write_at object 2 (taken_type c.message.transmission ∷ [])
     ∷ (mapping_writes (mapping_of object) consumer.mapping
     ++ cob_write object c.identifier ∷ [])
 
 -- ---- by number
 
-abbrev pub sends_tpdo : ℕ → ℕ → Clean → Bool
-sends_tpdo node number c = (c.message.node == node) && (c.message.tpdo == number)
+-- the TPDO by which a node sends a message, by its number
+abbrev pub tpdo_of : ℕ → Clean → Option (ℕ × Clean)
+tpdo_of node c = if c.message.node == node then Some (c.message.tpdo, c) else None
 
--- the writes of the TPDO of a number, where a clean message has it
-abbrev pub tpdo_writes_of : List Clean → List Section → ℕ → ℕ → List Write
-tpdo_writes_of cs ss node number = option_map_or (tpdo_writes ss node) (find (sends_tpdo node number) cs) []
+-- the RPDO by which a node takes a message, by its number
+abbrev pub rpdo_of : ℕ → Clean → Option (ℕ × (Clean × Consumer))
+rpdo_of node c = option_map (λ k. (k.rpdo, (c, k))) (find (λ k. k.node == node) c.consumers)
 
--- the consumer of a clean message that has the RPDO of a number at a node
-abbrev pub takes_rpdo : ℕ → ℕ → Clean → Option Consumer
-takes_rpdo node number c = find (λ consumer. (consumer.node == node) && (consumer.rpdo == number)) c.consumers
+-- the writes of the PDO of a number, where there is one; of two the first counts
+abbrev pub at_number : {X : Type 0} → (X → List Write) → List (ℕ × X) → ℕ → List Write
+at_number pdo_writes pdos number = option_map_or pdo_writes (lookup (is_at (nat_cmp number)) pdos) []
 
-abbrev pub rpdo_writes_by : ℕ → ℕ → Clean → List Write
-rpdo_writes_by node number c = option_map_or (rpdo_writes c) (takes_rpdo node number c) []
+-- the writes of PDOs in the order of their numbers (CiA 301: 1 to 512)
+unfoldable pub by_number : {X : Type 0} → (X → List Write) → List (ℕ × X) → List Write
+by_number pdo_writes pdos = flat_map (at_number pdo_writes pdos) (range_with_len 1 512)
 
-abbrev pub rpdo_writes_of : List Clean → ℕ → ℕ → List Write
-rpdo_writes_of cs node number = flat_map (rpdo_writes_by node number) cs
-
--- all of a node's TPDOs, and then all of its RPDOs, by number
+-- all of a node's TPDOs, and then all of its RPDOs
 unfoldable pub link_writes : List PlannedMessage → List Section → ℕ → List Write
 link_writes plan ss node =
-    flat_map (tpdo_writes_of (clean plan) ss node) (range_with_len 1 512)
-    ++ flat_map (rpdo_writes_of (clean plan) node) (range_with_len 1 512)
+    by_number (tpdo_writes ss node) (filter_map (tpdo_of node) (clean plan))
+    ++ by_number (λ taken. rpdo_writes taken.0 taken.1) (filter_map (rpdo_of node) (clean plan))
 
 -- THE WRITES of a node: those of its parameters, and then those of its PDOs
 unfoldable pub node_writes : List PlannedMessage → List ((ℕ × ℕ) × List ℕ) → List Section → ℕ → List Write

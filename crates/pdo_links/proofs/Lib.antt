@@ -1,0 +1,7 @@
+mod Mappings
+mod Numbered
+mod OrderLemmas
+mod Sizes
+mod Tabled
+mod Values
+mod WhoseLemmas

@@ -1,0 +1,58 @@
+-- In which order a PDO is configured, and whose writes a node gets, in the words of CiA 301.
+use Rattle.std.specs.Prelude.{◌≡◌, ◌⊎◌, ℕ, ◌%◌, ◌==◌, ◌&&◌, nat_le, Bool, true, false, not, List, [], ◌∷◌, ◌++◌, length, filter, Contains}
+use Rattle.byteorder.specs.Endian.{little_number}
+use Rattle.concise_dcf.specs.declared.write.Write.{Write}
+use Rattle.ini_text.specs.Content.{Section}
+use Rattle.pdo_plan.specs.declared.clean.Clean.{Clean}
+use Rattle.pdo_plan.specs.declared.consumer.Consumer.{Consumer}
+use Rattle.pdo_plan.specs.declared.mapped.Mapped.{Mapped}
+use Rattle.pdo_plan.specs.Devices.{mapping_of}
+use Rattle.pdo_links.specs.Writes.{write_at, mapped_writes, tpdo_writes, rpdo_writes}
+
+-- ---- order
+
+-- a write is to this entry
+abbrev pub is_to : ℕ → ℕ → Write → Bool
+is_to index sub w = (w.sub == sub) && (w.index == index)
+
+-- the writes to an object
+abbrev pub to_object : ℕ → List Write → List Write
+to_object index ws = filter (λ w. w.index == index) ws
+
+-- an entry is written twice, and each write to another entry stands between the two
+abbrev pub AreBetween : (Write → Bool) → Write → Write → List Write → Type 0
+AreBetween is_of_entry first last ws = (before after : List Write) (w : Write) → ws ≡ before ++ w ∷ after → is_of_entry w ≡ false
+    → (filter is_of_entry before ≡ first ∷ []) × (filter is_of_entry after ≡ last ∷ [])
+
+-- bit 31 of a COB-ID: the PDO is off
+abbrev pub is_off : Write → Bool
+is_off cob = nat_le 0x80000000 (little_number 4 cob.bytes)
+
+-- the identifier in a COB-ID: its bits 0 to 10
+abbrev pub identifier_in : Write → ℕ
+identifier_in cob = little_number 4 cob.bytes % 0x800
+
+-- a PDO is configured while it is off, and its mapping entries are written while their count is 0; in the end the count is theirs, and the PDO is on with its identifier
+pub record IsConfigured (object identifier : ℕ) (mapping : List Mapped) (ws : List Write) : Type 0 where
+  pub off : Write
+  pub on : Write
+  pub meanwhile : AreBetween (is_to object 1) off on ws
+  pub is_switched_off : is_off off ≡ true
+  pub is_switched_on : is_off on ≡ false
+  pub has_identifier : identifier_in on ≡ identifier
+  pub counted : AreBetween (is_to (mapping_of object) 0) (write_at (mapping_of object) 0 (0 ∷ [])) (write_at (mapping_of object) 0 (length mapping ∷ [])) (to_object (mapping_of object) ws)
+  pub entries : filter (λ w. not (is_to (mapping_of object) 0 w)) (to_object (mapping_of object) ws) ≡ mapped_writes (mapping_of object) 1 mapping
+
+-- ---- whose writes
+
+-- a write of the TPDO by which a node sends one of the messages
+abbrev pub IsOfSent : List Clean → List Section → ℕ → Write → Type 0
+IsOfSent cs ss node w = (c : Clean) × Contains cs c × (c.message.node ≡ node) × Contains (tpdo_writes ss node c) w
+
+-- a write of the RPDO by which a node takes one of them
+abbrev pub IsOfTaken : List Clean → ℕ → Write → Type 0
+IsOfTaken cs node w = (c : Clean) × Contains cs c × ((k : Consumer) × Contains c.consumers k × (k.node ≡ node) × Contains (rpdo_writes c k) w)
+
+-- no message is sent or taken by a node
+abbrev pub IsNamedByNone : List Clean → ℕ → Type 0
+IsNamedByNone cs node = (c : Clean) → Contains cs c → ((c.message.node ≡ node → ⊥) × ((k : Consumer) → Contains c.consumers k → k.node ≡ node → ⊥))

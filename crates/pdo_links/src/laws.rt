@@ -1,0 +1,38 @@
+//! Laws of the writes of a node.
+ghost use Rattle.std.specs.Prelude.{◌≡◌, ◌⊎◌, ℕ, List, None, Contains, IsTrue};
+ghost use Rattle.concise_dcf.specs.declared.write.Write.{Write as written};
+ghost use Rattle.ini_text.specs.Content.{Section};
+ghost use Rattle.co_dict.specs.Pdos.{is_of_pdos};
+ghost use Rattle.co_params.specs.Params.{param_at};
+ghost use Rattle.co_params.specs.Parameters.{parameter_writes};
+ghost use Rattle.pdo_plan.specs.declared.clean.Clean.{Clean};
+ghost use Rattle.pdo_plan.specs.declared.consumer.Consumer.{Consumer};
+ghost use Rattle.pdo_plan.specs.declared.planned_message.PlannedMessage.{PlannedMessage};
+ghost use Rattle.pdo_plan.specs.Devices.{tpdo_object, rpdo_object};
+ghost use Rattle.pdo_plan.specs.Plan.{IsWithin, clean};
+ghost use Rattle.pdo_links.specs.Order.{IsConfigured, IsOfSent, IsOfTaken, IsNamedByNone};
+ghost use Rattle.pdo_links.specs.Writes.{tpdo_writes, rpdo_writes, node_writes};
+
+/// A PDO is configured only while it is off (CiA 301): each write of it stands behind that of a
+/// COB-ID with bit 31 set and before that of one with bit 31 clear, which has its identifier. Its
+/// mapping entries are written behind the count 0 and before the count of them.
+#[tactic(auto, using(crate::proofs::OrderLemmas::tpdo_configured, crate::proofs::OrderLemmas::rpdo_configured))]
+pub fn a_pdo_is_configured_while_it_is_off()
+    ensures tpdo { (ss : List Section) (node : ℕ) (c : Clean) → IsWithin c
+        → IsConfigured (tpdo_object c.message.tpdo) c.identifier c.mapping (tpdo_writes ss node c) }
+    ensures rpdo { (c : Clean) (k : Consumer) → IsWithin c
+        → IsConfigured (rpdo_object k.rpdo) c.identifier k.mapping (rpdo_writes c k) }
+{}
+
+/// The writes to the objects of PDOs are those of the clean messages that the node sends or takes,
+/// where its parameters are of other objects; a node that no clean message names gets its parameters
+/// alone.
+#[tactic(auto, using(crate::proofs::WhoseLemmas::parameters_alone))]
+pub fn the_writes_to_pdos_are_those_of_the_nodes_messages()
+    ensures of_messages { (plan : List PlannedMessage) (params : List ((ℕ × ℕ) × List ℕ)) (ss : List Section) (node : ℕ) (w : written)
+        → ((place : ℕ × ℕ) → IsTrue (is_of_pdos place.0) → param_at params place ≡ None)
+        → Contains (node_writes plan params ss node) w → IsTrue (is_of_pdos w.index)
+        → IsOfSent (clean plan) ss node w ⊎ IsOfTaken (clean plan) node w }
+    ensures alone { (plan : List PlannedMessage) (params : List ((ℕ × ℕ) × List ℕ)) (ss : List Section) (node : ℕ)
+        → IsNamedByNone (clean plan) node → node_writes plan params ss node ≡ parameter_writes ss params node }
+{}

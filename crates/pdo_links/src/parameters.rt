@@ -1,0 +1,43 @@
+//! The communication and mapping parameters of PDOs (CiA 301): where they stand.
+
+/// The highest number of a TPDO or RPDO of a node; the lowest is 1.
+pub(crate) const LAST_PDO: u16 = 512;
+
+/// The communication parameter of the first TPDO; that of each next one is the next object.
+pub(crate) const FIRST_TPDO: u16 = 0x1800;
+
+/// The communication parameter of the first RPDO; that of each next one is the next object.
+pub(crate) const FIRST_RPDO: u16 = 0x1400;
+
+/// How far behind its communication parameter the mapping parameter of a PDO stands.
+pub(crate) const MAPPING_DISTANCE: u16 = 0x200;
+
+/// COB-ID: the identifier, and whether the PDO is off.
+pub(crate) const COB_ID: u8 = 1;
+
+/// Transmission type.
+pub(crate) const TRANSMISSION_TYPE: u8 = 2;
+
+/// Inhibit time, in multiples of 100 microseconds.
+pub(crate) const INHIBIT_TIME: u8 = 3;
+
+/// Event timer, in milliseconds.
+pub(crate) const EVENT_TIMER: u8 = 5;
+
+/// The number of mapped entries, in a mapping parameter.
+pub(crate) const MAPPED_COUNT: u8 = 0;
+
+/// Bit 31 of a COB-ID: the PDO is off.
+pub(crate) const OFF_BIT: u32 = 0x8000_0000;
+
+/// Bit 30 of the COB-ID of a TPDO: no RTR is allowed.
+pub(crate) const NO_RTR_BIT: u32 = 0x4000_0000;
+
+/// The highest synchronous transmission type: up to it a PDO goes with the SYNC.
+pub(crate) const LAST_SYNCHRONOUS: u8 = 240;
+
+/// The transmission type of an RPDO that counts from the next SYNC on.
+pub(crate) const WITH_SYNC: u8 = 0;
+
+/// The transmission type of an RPDO that counts at once.
+pub(crate) const AT_ONCE: u8 = 255;

@@ -1,0 +1,127 @@
+//! The writes of a node's RPDOs.
+ghost use Rattle.std.specs.Prelude.{◌≡◌, ℕ, List, true, ◌==◌, ◌≤◌, ◌<◌, [], ◌∷◌, ◌++◌, false, length, filter_map, All, OnOk, IfOk};
+ghost use Rattle.std.specs.List.{find};
+ghost use Rattle.std.specs.Option.{option_map, option_and_then, option_copied};
+ghost use Rattle.co_base.specs.Ranges.{is_between};
+ghost use Rattle.ini_text.specs.Content.{Section};
+ghost use Rattle.pdo_plan.specs.Devices.{rpdo_object, mapping_of};
+ghost use Rattle.pdo_plan.specs.Plan.{HasPdo, IsMadeFor, IsNumbered, clean, clean_of};
+ghost use Rattle.pdo_links.specs.Tables.{AreFew, AreValues, IsTableOf};
+ghost use Rattle.pdo_links.specs.Writes.{taken_type, rpdo_writes, rpdo_of, by_number};
+
+use crate::first::put_first;
+use crate::mapping::put_mapping;
+use crate::parameters::{
+    AT_ONCE, COB_ID, FIRST_RPDO, LAST_PDO, LAST_SYNCHRONOUS, MAPPING_DISTANCE, OFF_BIT,
+    TRANSMISSION_TYPE, WITH_SYNC,
+};
+use crate::put::{put_u8, put_u32};
+use crate::taken::Taken;
+use concise_dcf::Write;
+use eds_device::Device;
+use pdo_plan::{Clean, Consumer, Outcome, Plan, PlannedMessage};
+use std::alloc::{AllocError, Global};
+use std::collections::BTreeMap;
+
+/// The communication parameter of an RPDO.
+fn rpdo_object(number: u16) -> u16
+    requires { is_between 1 512 number ≡ true }
+    ensures { result ≡ rpdo_object number }
+{
+    FIRST_RPDO + (number - 1)
+}
+
+/// The transmission type of the RPDOs of a message: what is sent with the SYNC is taken with it.
+fn taken_type(transmission: u8) -> u8
+    ensures { result ≡ taken_type transmission }
+{
+    if transmission <= LAST_SYNCHRONOUS {
+        WITH_SYNC
+    } else {
+        AT_ONCE
+    }
+}
+
+/// Adds the writes of an RPDO: it is switched off; when what it takes counts, and what it maps; it is
+/// switched on.
+#[tactic(auto, unfolding(crate::specs::Writes::rpdo_writes))]
+fn put_rpdo(writes: &mut Vec<Write>, clean: &Clean, consumer: &Consumer) -> Result<(), AllocError>
+    requires { IsNumbered consumer.now.rpdo consumer.now.mapping }
+    ensures writes { OnOk result (writes.new.items ≡ writes.old.items ++ rpdo_writes clean.now consumer.now) }
+    ensures fits { (ss : List Section) (node : ℕ) → HasPdo ss node (rpdo_object consumer.now.rpdo) (length consumer.now.mapping)
+        → OnOk result (AreValues ss (rpdo_writes clean.now consumer.now)) }
+{
+    let object = rpdo_object(consumer.rpdo);
+    let identifier = u32::from(clean.identifier);
+    put_u32(writes, object, COB_ID, OFF_BIT + identifier)?;
+    put_u8(
+        writes,
+        object,
+        TRANSMISSION_TYPE,
+        taken_type(clean.message.transmission),
+    )?;
+    put_mapping(
+        writes,
+        object + MAPPING_DISTANCE,
+        consumer.mapping.as_slice(),
+    )?;
+    put_u32(writes, object, COB_ID, identifier)?;
+    Ok(())
+}
+
+/// The consumer that is a node.
+fn consumer_at(consumers: &[Consumer], node: u8) -> Option<&Consumer>
+    ensures { option_copied result ≡ find (λ k. k.node == node) consumers.now }
+{
+    consumers.iter().find(|consumer| consumer.node == node)
+}
+
+/// The RPDO by which a node takes a message of a plan.
+fn rpdo_of(planned: &PlannedMessage, node: u8) -> Option<Taken<'_>>
+    ensures { option_map (λ t. (t.consumer.now.rpdo, (t.clean.now, t.consumer.now))) result
+        ≡ option_and_then (rpdo_of node) (clean_of planned.now.outcome) }
+{
+    let Outcome::Planned(clean) = &planned.outcome else {
+        return None;
+    };
+    let consumer = consumer_at(clean.consumers.as_slice(), node)?;
+    Some(Taken { clean, consumer })
+}
+
+/// The RPDOs by which a node takes the messages of a plan, by number.
+fn rpdos_of(
+    alloc: Global,
+    messages: &[PlannedMessage],
+    node: u8,
+) -> Result<BTreeMap<u16, Taken<'_>>, AllocError>
+    ensures { IfOk result (λ table. IsTableOf (λ t. (t.clean.now, t.consumer.now)) table.entries (filter_map (rpdo_of node) (clean messages.now))) }
+{
+    let mut rpdos = BTreeMap::new(alloc);
+    for planned in messages {
+        if let Some(taken) = rpdo_of(planned, node) {
+            put_first(&mut rpdos, taken.consumer.rpdo, taken)?;
+        }
+    }
+    Ok(rpdos)
+}
+
+/// Adds the writes of the RPDOs that a plan gives a node, by number.
+pub(crate) fn put_rpdos(
+    alloc: Global,
+    writes: &mut Vec<Write>,
+    plan: &Plan,
+    node: u8,
+) -> Result<(), AllocError>
+    ensures writes { OnOk result (writes.new.items ≡ writes.old.items ++ by_number (λ t. rpdo_writes t.0 t.1) (filter_map (rpdo_of node) (clean plan.now))) }
+    ensures few { OnOk result (AreFew (by_number (λ t. rpdo_writes t.0 t.1) (filter_map (rpdo_of node) (clean plan.now)))) }
+    ensures fits { (ss : List Section) → IsMadeFor plan.now ss node
+        → OnOk result (AreValues ss (by_number (λ t. rpdo_writes t.0 t.1) (filter_map (rpdo_of node) (clean plan.now)))) }
+{
+    let rpdos = rpdos_of(alloc, plan.messages(), node)?;
+    for number in 1..=LAST_PDO {
+        if let Some(taken) = rpdos.get(&number) {
+            put_rpdo(writes, taken.clean, taken.consumer)?;
+        }
+    }
+    Ok(())
+}

@@ -1,0 +1,151 @@
+//! The writes of a node's TPDOs.
+ghost use Rattle.std.specs.Prelude.{◌≡◌, true, ◌≤◌, ◌<◌, [], ◌∷◌, ◌++◌, false, length, filter_map, All, OnOk, IfOk};
+ghost use Rattle.std.specs.Option.{option_map, option_map_or, option_and_then};
+ghost use Rattle.co_base.specs.Ranges.{is_between};
+ghost use Rattle.co_values.specs.declared.form.Width.TheVariants.{Bits16};
+ghost use Rattle.eds_device.specs.Entries.{entry_at};
+ghost use Rattle.pdo_plan.specs.Devices.{takes_unsigned, tpdo_object, mapping_of};
+ghost use Rattle.pdo_plan.specs.Plan.{HasPdo, IsMadeFor, IsWithin, clean, clean_of};
+ghost use Rattle.pdo_links.specs.Tables.{AreFew, AreValues, IsTableOf};
+ghost use Rattle.pdo_links.specs.Writes.{write_at, time_write, tpdo_writes, tpdo_of, by_number};
+
+use crate::first::put_first;
+use crate::mapping::put_mapping;
+use crate::parameters::{
+    COB_ID, EVENT_TIMER, FIRST_TPDO, INHIBIT_TIME, LAST_PDO, MAPPING_DISTANCE, NO_RTR_BIT, OFF_BIT,
+    TRANSMISSION_TYPE,
+};
+use crate::put::{put_u8, put_u16, put_u32};
+use co_messages::Message;
+use co_values::{Form, Width};
+use concise_dcf::Write;
+use eds_device::Device;
+use pdo_plan::{Clean, Outcome, Plan, PlannedMessage};
+use std::alloc::{AllocError, Global};
+use std::collections::BTreeMap;
+
+/// Whether an entry is there, UNSIGNED16 and writable.
+fn takes_unsigned16(device: &Device, node: u8, index: u16, sub: u8) -> bool
+    ensures { result ≡ option_map_or (takes_unsigned Bits16) (entry_at device.now.sections node index sub) false }
+{
+    match device.entry(node, index, sub) {
+        Some(entry) => {
+            matches!(entry.kind.form(), Form::Unsigned(Width::Bits16)) && entry.access.is_writable()
+        }
+        None => false,
+    }
+}
+
+/// Adds the write of a time, where its entry is there, UNSIGNED16 and writable.
+fn put_time(
+    writes: &mut Vec<Write>,
+    device: &Device,
+    node: u8,
+    object: u16,
+    sub: u8,
+    time: u16,
+) -> Result<(), AllocError>
+    ensures { OnOk result (writes.new.items ≡ writes.old.items ++ time_write device.now.sections node object sub time) }
+{
+    if takes_unsigned16(device, node, object, sub) {
+        put_u16(writes, object, sub, time)?;
+    }
+    Ok(())
+}
+
+/// Adds the writes that say when a TPDO is sent: transmission type, inhibit time and event timer.
+fn put_timing(
+    writes: &mut Vec<Write>,
+    device: &Device,
+    node: u8,
+    object: u16,
+    message: &Message,
+) -> Result<(), AllocError>
+    ensures writes { OnOk result (writes.new.items ≡ writes.old.items ++ (write_at object 2 (message.now.transmission ∷ [])
+        ∷ (time_write device.now.sections node object 3 message.now.inhibit ++ time_write device.now.sections node object 5 message.now.event))) }
+    ensures range { OnOk result (message.now.transmission < 256) }
+{
+    put_u8(writes, object, TRANSMISSION_TYPE, message.transmission)?;
+    put_time(writes, device, node, object, INHIBIT_TIME, message.inhibit)?;
+    put_time(writes, device, node, object, EVENT_TIMER, message.event)
+}
+
+/// The communication parameter of a TPDO.
+fn tpdo_object(number: u16) -> u16
+    requires { is_between 1 512 number ≡ true }
+    ensures { result ≡ tpdo_object number }
+{
+    FIRST_TPDO + (number - 1)
+}
+
+/// Adds the writes of a TPDO: it is switched off; when it is sent, and what it maps; it is switched
+/// on.
+#[tactic(auto, unfolding(crate::specs::Writes::tpdo_writes))]
+fn put_tpdo(
+    writes: &mut Vec<Write>,
+    device: &Device,
+    node: u8,
+    clean: &Clean,
+) -> Result<(), AllocError>
+    requires { IsWithin clean.now }
+    ensures writes { OnOk result (writes.new.items ≡ writes.old.items ++ tpdo_writes device.now.sections node clean.now) }
+    ensures fits { HasPdo device.now.sections node (tpdo_object clean.now.message.tpdo) (length clean.now.mapping)
+        → OnOk result (AreValues device.now.sections (tpdo_writes device.now.sections node clean.now)) }
+{
+    let object = tpdo_object(clean.message.tpdo);
+    let identifier = NO_RTR_BIT + u32::from(clean.identifier);
+    put_u32(writes, object, COB_ID, OFF_BIT + identifier)?;
+    put_timing(writes, device, node, object, &clean.message)?;
+    put_mapping(writes, object + MAPPING_DISTANCE, clean.mapping.as_slice())?;
+    put_u32(writes, object, COB_ID, identifier)?;
+    Ok(())
+}
+
+/// The TPDO by which a node sends a message of a plan.
+fn tpdo_of(planned: &PlannedMessage, node: u8) -> Option<&Clean>
+    ensures { option_map (λ c. (c.now.message.tpdo, c.now)) result ≡ option_and_then (tpdo_of node) (clean_of planned.now.outcome) }
+{
+    match &planned.outcome {
+        Outcome::Planned(clean) if clean.message.node == node => Some(clean),
+        _ => None,
+    }
+}
+
+/// The TPDOs by which a node sends the messages of a plan, by number.
+fn tpdos_of(
+    alloc: Global,
+    messages: &[PlannedMessage],
+    node: u8,
+) -> Result<BTreeMap<u16, &Clean>, AllocError>
+    ensures { IfOk result (λ table. IsTableOf (λ c. c.now) table.entries (filter_map (tpdo_of node) (clean messages.now))) }
+{
+    let mut tpdos = BTreeMap::new(alloc);
+    for planned in messages {
+        if let Some(clean) = tpdo_of(planned, node) {
+            put_first(&mut tpdos, clean.message.tpdo, clean)?;
+        }
+    }
+    Ok(tpdos)
+}
+
+/// Adds the writes of the TPDOs that a plan gives a node, by number.
+pub(crate) fn put_tpdos(
+    alloc: Global,
+    writes: &mut Vec<Write>,
+    plan: &Plan,
+    device: &Device,
+    node: u8,
+) -> Result<(), AllocError>
+    ensures writes { OnOk result (writes.new.items ≡ writes.old.items ++ by_number (tpdo_writes device.now.sections node) (filter_map (tpdo_of node) (clean plan.now))) }
+    ensures few { OnOk result (AreFew (by_number (tpdo_writes device.now.sections node) (filter_map (tpdo_of node) (clean plan.now)))) }
+    ensures fits { IsMadeFor plan.now device.now.sections node
+        → OnOk result (AreValues device.now.sections (by_number (tpdo_writes device.now.sections node) (filter_map (tpdo_of node) (clean plan.now)))) }
+{
+    let tpdos = tpdos_of(alloc, plan.messages(), node)?;
+    for number in 1..=LAST_PDO {
+        if let Some(clean) = tpdos.get(&number) {
+            put_tpdo(writes, device, node, clean)?;
+        }
+    }
+    Ok(())
+}
