@@ -10,7 +10,8 @@ use Rattle.std.proofs.lemmas.Map.Views.{exact_unsigned_eq}
 use Rattle.concise_dcf.specs.declared.write.Write.{Write}
 use Rattle.ini_text.specs.Content.{Section}
 use Rattle.co_dict.specs.Pdos.{is_of_pdos}
-use Rattle.co_params.specs.Params.{param_at}
+use Rattle.std.specs.FinMap.{get}
+use Rattle.co_params.specs.Params.{Texts}
 use Rattle.co_params.specs.Parameters.{parameter_text, parameter_writes, place_of}
 use Rattle.co_params.proofs.ParameterLemmas.{nothing_else, pdo_text}
 use Rattle.pdo_plan.specs.declared.clean.Clean.{Clean}
@@ -75,8 +76,8 @@ of_rpdos cs node w has =
     let t : Takes cs node b.0 b.1.0 = takes cs node b.0 b.1.0 b.1.1 in
     (b.1.0.0, t.message, (b.1.0.1, t.consumer, t.taker, b.1.2))
 
-pub of_messages : (plan : List PlannedMessage) (params : List ((ℕ × ℕ) × List ℕ)) (ss : List Section) (node : ℕ) (w : Write)
-    → ((place : ℕ × ℕ) → is_of_pdos place.0 ≡ true → param_at params place ≡ None)
+pub of_messages : (plan : List PlannedMessage) (params : Texts) (ss : List Section) (node : ℕ) (w : Write)
+    → ((place : ℕ × ℕ) → is_of_pdos place.0 ≡ true → get params place ≡ None)
     → Contains (node_writes plan params ss node) w → is_of_pdos w.index ≡ true
     → IsOfSent (clean plan) ss node w ⊎ IsOfTaken (clean plan) node w
 unfolding node_writes link_writes
@@ -113,7 +114,7 @@ no_rpdo node c other = by (find (λ (k : Consumer). k.node == node) c.consumers)
     by None is = refl
     by (Some k) is = let f : Contains c.consumers k × ((k.node == node) ≡ true) = found (λ (k : Consumer). k.node == node) c.consumers k is in absurd (other k f.0 (exact_unsigned_eq k.node node f.1))
 
-pub parameters_alone : (plan : List PlannedMessage) (params : List ((ℕ × ℕ) × List ℕ)) (ss : List Section) (node : ℕ) → IsNamedByNone (clean plan) node
+pub parameters_alone : (plan : List PlannedMessage) (params : Texts) (ss : List Section) (node : ℕ) → IsNamedByNone (clean plan) node
     → node_writes plan params ss node ≡ parameter_writes ss params node
 unfolding node_writes link_writes
 parameters_alone plan params ss node none =

@@ -9,6 +9,7 @@ use Rattle.byteorder.specs.Endian.{little_bytes}
 use Rattle.co_values.specs.declared.form.Width.TheVariants.{Bits16}
 use Rattle.concise_dcf.specs.declared.write.Write.{Write}
 use Rattle.ini_text.specs.Content.{Section}
+use Rattle.co_params.specs.Params.{Texts}
 use Rattle.co_params.specs.Parameters.{parameter_writes}
 use Rattle.eds_device.specs.Entries.{entry_at}
 use Rattle.pdo_plan.specs.declared.clean.Clean.{Clean}
@@ -94,5 +95,5 @@ link_writes plan ss node =
     ++ by_number (λ taken. rpdo_writes taken.0 taken.1) (filter_map (rpdo_of node) (clean plan))
 
 -- THE WRITES of a node: those of its parameters, and then those of its PDOs
-unfoldable pub node_writes : List PlannedMessage → List ((ℕ × ℕ) × List ℕ) → List Section → ℕ → List Write
+unfoldable pub node_writes : List PlannedMessage → Texts → List Section → ℕ → List Write
 node_writes plan params ss node = parameter_writes ss params node ++ link_writes plan ss node

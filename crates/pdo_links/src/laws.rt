@@ -3,7 +3,8 @@ ghost use Rattle.std.specs.Prelude.{◌≡◌, ◌⊎◌, ℕ, List, None, Conta
 ghost use Rattle.concise_dcf.specs.declared.write.Write.{Write as written};
 ghost use Rattle.ini_text.specs.Content.{Section};
 ghost use Rattle.co_dict.specs.Pdos.{is_of_pdos};
-ghost use Rattle.co_params.specs.Params.{param_at};
+ghost use Rattle.std.specs.FinMap as map;
+ghost use Rattle.co_params.specs.Params.{Texts};
 ghost use Rattle.co_params.specs.Parameters.{parameter_writes};
 ghost use Rattle.pdo_plan.specs.declared.clean.Clean.{Clean};
 ghost use Rattle.pdo_plan.specs.declared.consumer.Consumer.{Consumer};
@@ -29,10 +30,10 @@ pub fn a_pdo_is_configured_while_it_is_off()
 /// alone.
 #[tactic(auto, using(crate::proofs::WhoseLemmas::parameters_alone))]
 pub fn the_writes_to_pdos_are_those_of_the_nodes_messages()
-    ensures of_messages { (plan : List PlannedMessage) (params : List ((ℕ × ℕ) × List ℕ)) (ss : List Section) (node : ℕ) (w : written)
-        → ((place : ℕ × ℕ) → IsTrue (is_of_pdos place.0) → param_at params place ≡ None)
+    ensures of_messages { (plan : List PlannedMessage) (params : Texts) (ss : List Section) (node : ℕ) (w : written)
+        → ((place : ℕ × ℕ) → IsTrue (is_of_pdos place.0) → map.get params place ≡ None)
         → Contains (node_writes plan params ss node) w → IsTrue (is_of_pdos w.index)
         → IsOfSent (clean plan) ss node w ⊎ IsOfTaken (clean plan) node w }
-    ensures alone { (plan : List PlannedMessage) (params : List ((ℕ × ℕ) × List ℕ)) (ss : List Section) (node : ℕ)
+    ensures alone { (plan : List PlannedMessage) (params : Texts) (ss : List Section) (node : ℕ)
         → IsNamedByNone (clean plan) node → node_writes plan params ss node ≡ parameter_writes ss params node }
 {}

@@ -38,9 +38,9 @@ module _ (had : Had) (devices : Devices) (m : Linked) where
   planned_is cs nodes id fs carried named found all none =
       let sent_is : sent_by cs ≡ sent_mapping devices m.message.node m.sources = ap sent_by carried ∙ sent_same devices m.message.node m.sources in
       let taken_is : filter_map (consumer_by had devices m.sinks cs) nodes ≡ planned_consumers had devices m =
-          ap (λ (x : List Carried). filter_map (consumer_by had devices m.sinks x) nodes) carried ∙ ap (filter_map (consumer_by had devices m.sinks sources)) named ∙ consumers_same in
+      ap (λ (x : List Carried). filter_map (consumer_by had devices m.sinks x) nodes) carried ∙ ap (filter_map (consumer_by had devices m.sinks sources)) named ∙ consumers_same in
       let made : Planned (clean_by had devices m cs nodes id) ≡ outcome had devices m (Some id) [] =
-          λ i. Planned (record { message = m.message; identifier = id; mapping = sent_is i; consumers = taken_is i }) in
+      λ i. Planned (record { message = m.message; identifier = id; mapping = sent_is i; consumers = taken_is i }) in
       let clean : [] ≡ faults had devices m = sym none ∙ all in
       made ∙ (λ i. outcome had devices m (sym found i) (clean i))
 

@@ -116,9 +116,9 @@ module _ (devices : Devices) where
   unfolding planned_consumers
   consumers_once had m a b k l ea eb same =
       let nodes : map node_of (planned_consumers had devices m) ≡ filter (λ n. is_some (consumer_of had devices m n)) (consumers_of m.sinks) =
-          places_given (consumer_of had devices m) node_of (λ n k e. (consumer_is had devices m n k e).at) (consumers_of m.sinks) in
+      places_given (consumer_of had devices m) node_of (λ n k e. (consumer_is had devices m n k e).at) (consumers_of m.sinks) in
       let in_order : IsStrictlySortedBy nat_cmp (map node_of (planned_consumers had devices m)) =
-          subst (IsStrictlySortedBy nat_cmp) (sym nodes) (IsStrictlySortedBy-filter nat_cmp (λ n. is_some (consumer_of had devices m n)) (consumers_of m.sinks) (consumers_sorted m.sinks)) in
+      subst (IsStrictlySortedBy nat_cmp) (sym nodes) (IsStrictlySortedBy-filter nat_cmp (λ n. is_some (consumer_of had devices m n)) (consumers_of m.sinks) (consumers_sorted m.sinks)) in
       let at_b = get_map node_of (planned_consumers had devices m) b l eb in
       once (map node_of (planned_consumers had devices m)) a b k.node in_order (get_map node_of (planned_consumers had devices m) a k ea) (at_b ∙ ap Some (sym same))
 

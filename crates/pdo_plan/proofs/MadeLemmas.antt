@@ -108,7 +108,7 @@ module _ (nodes : List (ℕ × List Section)) (node : ℕ) (ss : List Section) (
       let objects = (faultless (had_by before) (devices_of nodes) m is.faultless).objects in
       let has : has_pdo (devices_of nodes) m.message.node (tpdo_object m.message.tpdo) (length m.sources) ≡ true = and_left _ _ objects in
       let same : has_pdo (devices_of nodes) c.message.node (tpdo_object c.message.tpdo) (length m.sources) ≡ true =
-          subst (λ (x : Message). has_pdo (devices_of nodes) x.node (tpdo_object x.tpdo) (length m.sources) ≡ true) is.message has in
+      subst (λ (x : Message). has_pdo (devices_of nodes) x.node (tpdo_object x.tpdo) (length m.sources) ≡ true) is.message has in
       let count : length c.mapping ≤ length m.sources = let f = ap length (sym is.mapping) in let g = sent_count (devices_of nodes) m in omega (arith, f, g) in
       let takers : All MadeTaker c.consumers = subst (All MadeTaker) is.consumers (takers_made (had_by before) m) in
       ((λ at. has_here c.message.node (tpdo_object c.message.tpdo) (length c.mapping) (length m.sources) at count same), λ k among. All-contains MadeTaker c.consumers k takers among)

@@ -41,7 +41,7 @@ unfolding is_spare
 spare_free stations taken node count shape at =
     let entries : (devices_in stations).entry node ≡ (device_with shape).entry 0 = entries_at stations node shape at in
     let same : (number : ℕ) → is_spare shape taken.rpdos.flags.items node count number ≡ is_free_rpdo (had_in taken) (devices_in stations) node count number =
-        λ number. ap (λ b. not (is_flagged taken.rpdos.flags.items node number) && b) (sym (pdo_alike (devices_in stations) (device_with shape) node 0 (rpdo_object number) count entries)) in
+    λ number. ap (λ b. not (is_flagged taken.rpdos.flags.items node number) && b) (sym (pdo_alike (devices_in stations) (device_with shape) node 0 (rpdo_object number) count entries)) in
     ap (λ (f : ℕ → Bool). least_free f 1 512) (λ i number. same number i)
 
 and_false : (a b : Bool) → b ≡ false → (a && b) ≡ false

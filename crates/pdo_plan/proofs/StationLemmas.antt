@@ -71,9 +71,9 @@ allowed_shaped node kind (Some ss) = dummy_shaped ss node kind
 pub devices_alike : (stations : List (ℕ × Station)) (nodes : List (ℕ × List Section)) → ((node : ℕ) → shape_at stations node ≡ shaped node nodes) → devices_in stations ≡ devices_of nodes
 devices_alike stations nodes same =
     let entries : (node : ℕ) (place : ℕ × ℕ) → (devices_in stations).entry node place ≡ (devices_of nodes).entry node place =
-        λ node place. ap (option_and_then (λ (s : Shaped). get s.entries place)) (same node) ∙ entry_shaped node place (lookup (λ n. n == node) nodes) in
+    λ node place. ap (option_and_then (λ (s : Shaped). get s.entries place)) (same node) ∙ entry_shaped node place (lookup (λ n. n == node) nodes) in
     let dummies : (node kind : ℕ) → (devices_in stations).dummy node kind ≡ (devices_of nodes).dummy node kind =
-        λ node kind. ap (λ o. option_map_or (λ (s : Shaped). is_dummy_allowed s kind) o false) (same node) ∙ allowed_shaped node kind (lookup (λ n. n == node) nodes) in
+    λ node kind. ap (λ o. option_map_or (λ (s : Shaped). is_dummy_allowed s kind) o false) (same node) ∙ allowed_shaped node kind (lookup (λ n. n == node) nodes) in
     λ i. record { entry = λ node place. entries node place i; dummy = λ node kind. dummies node kind i }
 
 -- ---- one more node

@@ -68,10 +68,7 @@ pub(crate) fn total_bits(carried: &[Carried]) -> u32
 }
 
 /// What the sender's PDO maps.
-pub(crate) fn sent_mapping(
-    alloc: Global,
-    carried: &[Carried],
-) -> Result<Listed<Mapped>, AllocError>
+pub(crate) fn sent_mapping(alloc: Global, carried: &[Carried]) -> Result<Listed<Mapped>, AllocError>
     ensures { IfOk result (λ mapping. mapping ≡ sent_by carried.now) }
 {
     let mut mapping = Vec::new(alloc);

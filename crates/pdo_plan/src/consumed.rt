@@ -76,20 +76,14 @@ fn lacks_dummy_for(stations: &Stations, sinks: &Sinks, node: u8, carried: &Carri
 {
     match carried.bits {
         Some(bits) => {
-            dummy_for(stations, node, bits).is_none()
-                && sinks.get(carried.position, node).is_none()
+            dummy_for(stations, node, bits).is_none() && sinks.get(carried.position, node).is_none()
         }
         None => false,
     }
 }
 
 /// Whether a consumer needs a dummy that it doesn't allow.
-pub(crate) fn lacks_dummy(
-    stations: &Stations,
-    sinks: &Sinks,
-    node: u8,
-    carried: &[Carried],
-) -> bool
+pub(crate) fn lacks_dummy(stations: &Stations, sinks: &Sinks, node: u8, carried: &[Carried]) -> bool
     ensures { result ≡ lacks_some (devices_in stations.now.entries) sinks.now node carried.now }
 {
     carried

@@ -25,9 +25,7 @@ use std::alloc::{AllocError, Global};
 fn has_unsendable(stations: &Stations, sender: u8, sources: &Sources) -> bool
     ensures { result ≡ list_any (λ s. not (can_map direction.Transmit (devices_in stations.now.entries) sender s.1)) sources.now }
 {
-    sources
-        .iter()
-        .any(|(_, place)| !can_map(Direction::Transmit, stations, sender, *place))
+    sources.iter().any(|(_, place)| !can_map(Direction::Transmit, stations, sender, *place))
 }
 
 /// Whether a sink isn't there, no RPDO can map it, or it is on the sender.
@@ -53,9 +51,7 @@ fn has_unmappable(stations: &Stations, linked: &Linked) -> bool
 fn has_mismatch(stations: &Stations, carried: &[Carried], sinks: &Sinks) -> bool
     ensures { result ≡ list_any (mismatches (devices_in stations.now.entries) carried.now) sinks.now }
 {
-    sinks
-        .iter()
-        .any(|(seat, place)| mismatches(stations, carried, *seat, *place))
+    sinks.iter().any(|(seat, place)| mismatches(stations, carried, *seat, *place))
 }
 
 /// Whether a consumer has no free RPDO for so many mapping entries.
@@ -83,10 +79,7 @@ fn lacks_any_dummy(
 }
 
 /// Of faults with their tests those whose test holds.
-fn noted(
-    alloc: Global,
-    tests: &[(bool, MessageFault)],
-) -> Result<Vec<MessageFault>, AllocError>
+fn noted(alloc: Global, tests: &[(bool, MessageFault)]) -> Result<Vec<MessageFault>, AllocError>
     ensures { IfOk result (λ faults. faults.items ≡ noted tests.now) }
 {
     let mut faults = Vec::new(alloc);

@@ -104,7 +104,15 @@ pub(crate) fn judge(
     let nodes = named.as_slice();
     let identifier = identifier_for(taken, &linked.message);
     let has_identifier = identifier.is_some();
-    let faults = faults(alloc, stations, taken, linked, carried, nodes, has_identifier)?;
+    let faults = faults(
+        alloc,
+        stations,
+        taken,
+        linked,
+        carried,
+        nodes,
+        has_identifier,
+    )?;
     match identifier {
         Some(identifier) if faults.as_slice().is_empty() => {
             let clean = clean(alloc, stations, taken, linked, carried, nodes, identifier)?;

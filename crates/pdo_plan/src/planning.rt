@@ -33,11 +33,7 @@ fn take_clean(taken: &mut Taken, outcome: &Outcome) -> Result<(), AllocError>
 ///
 /// Takes time by the number of the devices' entries, of the messages' sources and sinks and of their
 /// consumers, and by the logarithms of these.
-pub fn plan(
-    alloc: Global,
-    nodes: &[(u8, &Device)],
-    messages: &Messages,
-) -> Result<Plan, AllocError>
+pub fn plan(alloc: Global, nodes: &[(u8, &Device)], messages: &Messages) -> Result<Plan, AllocError>
     ensures { IfOk result (λ plan. plan ≡ plan_of (devices_of (nodes_of nodes.now)) messages.now) }
 {
     let stations = stations(alloc, nodes)?;

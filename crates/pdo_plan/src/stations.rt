@@ -61,12 +61,7 @@ pub(crate) fn width(stations: &Stations, node: u8, place: (u16, u8)) -> Option<u
 }
 
 /// Whether an entry of a node is there and can be mapped in a direction.
-pub(crate) fn can_map(
-    direction: Direction,
-    stations: &Stations,
-    node: u8,
-    place: (u16, u8),
-) -> bool
+pub(crate) fn can_map(direction: Direction, stations: &Stations, node: u8, place: (u16, u8)) -> bool
     ensures { result ≡ can_map direction (devices_in stations.now.entries) node place }
 {
     match entry(stations, node, place) {

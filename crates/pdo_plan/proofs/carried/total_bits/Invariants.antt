@@ -6,5 +6,5 @@ use Rattle.pdo_plan.proofs.carried.total_bits.Given as goal
 abbrev pub invariant-loop-source : goal.invariant-loop-source
 invariant-loop-source l = record {
   total : l.total ≡ total_bits (take l.source-index l.carried);
-  bound : l.total ≤ 255 * l.source-index
+  bound : l.total ≤ 255 * l.source-index;
 }

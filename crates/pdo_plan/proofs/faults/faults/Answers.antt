@@ -13,11 +13,11 @@ returns c =
     let devices = devices_in c.args.stations.now.entries in
     let m = c.args.linked.now in
     let tests : noted ((not c.has_tpdo.result, NoObjects) ∷ (c.contains.result, TpdoTaken) ∷ (nat_lt 64 c.total_bits.result, TooManyBits) ∷ (c.has_unmappable.result, NotMappable)
-        ∷ (c.has_mismatch.result, Mismatched) ∷ (c.lacks_rpdo.result, NoRpdo) ∷ (c.lacks_any_dummy.result, NoDummy) ∷ (c.is_bad.result, BadIdentifier)
-        ∷ (c.lacks_identifier.result, NoIdentifier) ∷ (c.is_reserved.result, ReservedType) ∷ [])
-        ≡ tested had devices m c.args.carried.now c.args.consumers.now c.args.has_identifier =
-        λ i. noted ((not (c.has_tpdo.ensures i), NoObjects) ∷ (c.contains.ensures i, TpdoTaken) ∷ (nat_lt 64 (c.total_bits.ensures i), TooManyBits) ∷ (c.has_unmappable.ensures i, NotMappable)
-        ∷ (c.has_mismatch.ensures i, Mismatched) ∷ (c.lacks_rpdo.ensures i, NoRpdo) ∷ (c.lacks_any_dummy.ensures i, NoDummy) ∷ (c.is_bad.ensures i, BadIdentifier)
-        ∷ (c.lacks_identifier.ensures i, NoIdentifier) ∷ (c.is_reserved.ensures i, ReservedType) ∷ []) in
+    ∷ (c.has_mismatch.result, Mismatched) ∷ (c.lacks_rpdo.result, NoRpdo) ∷ (c.lacks_any_dummy.result, NoDummy) ∷ (c.is_bad.result, BadIdentifier)
+    ∷ (c.lacks_identifier.result, NoIdentifier) ∷ (c.is_reserved.result, ReservedType) ∷ [])
+    ≡ tested had devices m c.args.carried.now c.args.consumers.now c.args.has_identifier =
+    λ i. noted ((not (c.has_tpdo.ensures i), NoObjects) ∷ (c.contains.ensures i, TpdoTaken) ∷ (nat_lt 64 (c.total_bits.ensures i), TooManyBits) ∷ (c.has_unmappable.ensures i, NotMappable)
+    ∷ (c.has_mismatch.ensures i, Mismatched) ∷ (c.lacks_rpdo.ensures i, NoRpdo) ∷ (c.lacks_any_dummy.ensures i, NoDummy) ∷ (c.is_bad.ensures i, BadIdentifier)
+    ∷ (c.lacks_identifier.ensures i, NoIdentifier) ∷ (c.is_reserved.ensures i, ReservedType) ∷ []) in
     let all = tests ∙ tested_are had devices m c.args.carried.now c.args.consumers.now c.args.has_identifier c.requires.sources c.requires.consumers c.requires.identifier in
     c.from_vec.ensures ∙ c.in_ok-faults.ensures ∙ all

@@ -37,8 +37,8 @@ returns c =
     let devices = devices_in c.args.stations.now.entries in
     let m = c.args.linked.now in
     let not_clean : (id : ℕ) → identifier_for had m.message ≡ Some id → c.in_ok-faults.faults ≡ [] → ⊥ =
-        λ id found none. elim c.in_default.branch [
-          | in_default-via-in-Some+else-is_empty w ↦ let full : (length c.in_ok-faults.faults == 0) ≡ false = search rules in some_of c.in_ok-faults.faults full none
-          | in_default-via-in_default w ↦ w.in_default.not-Some id (c.identifier_for-identifier.ensures ∙ found)
-        ] in
+    λ id found none. elim c.in_default.branch [
+      | in_default-via-in-Some+else-is_empty w ↦ let full : (length c.in_ok-faults.faults == 0) ≡ false = search rules in some_of c.in_ok-faults.faults full none
+      | in_default-via-in_default w ↦ w.in_default.not-Some id (c.identifier_for-identifier.ensures ∙ found)
+    ] in
     faulty_is had devices m c.in_ok-faults.faults c.in_ok-faults.ensures not_clean

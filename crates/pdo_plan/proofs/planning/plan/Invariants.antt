@@ -12,5 +12,5 @@ invariant-messages l = record {
   whole : l.plan.items ++ plan_after (devices_in l.stations.entries) (clean l.plan.items) (by_name l.name-iterator) ≡ plan_of (devices_in l.stations.entries) l.messages;
   taken : had_in l.taken ≡ had_by (clean l.plan.items);
   within : All IsWithin (clean l.plan.items);
-  rest : All (λ e. IsLinked e.1) (by_name l.name-iterator)
+  rest : All (λ e. IsLinked e.1) (by_name l.name-iterator);
 }

@@ -7,5 +7,5 @@ use Rattle.pdo_plan.proofs.station.rooms.Given as goal
 abbrev pub invariant-loop-number : goal.invariant-loop-number
 invariant-loop-number l = record {
   count : length l.rooms.items + 1 ≡ l.number;
-  rooms : (number : ℕ) → 1 ≤ number → number < l.number → IsRoomOf l.shape (rpdo_object number) (room_of l.rooms.items number)
+  rooms : (number : ℕ) → 1 ≤ number → number < l.number → IsRoomOf l.shape (rpdo_object number) (room_of l.rooms.items number);
 }

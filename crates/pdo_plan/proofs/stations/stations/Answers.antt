@@ -12,7 +12,7 @@ nodes-preserved c =
     let device = get_or nodes i c.index-nodes-count-in-nodes.result in
     let next : i + 1 ≡ c.nodes.count = omega arith in
     let left : nodes_of (drop i nodes) ≡ (number.0, device.1.now.sections) ∷ nodes_of (drop c.nodes.count nodes) =
-        node_before nodes i c.index-nodes-count.result c.index-nodes-count-in-nodes.result (omega arith) ∙ ap (λ n. (number.0, device.1.now.sections) ∷ nodes_of (drop n nodes)) next in
+    node_before nodes i c.index-nodes-count.result c.index-nodes-count-in-nodes.result (omega arith) ∙ ap (λ n. (number.0, device.1.now.sections) ∷ nodes_of (drop n nodes)) next in
     let more = stations_more c.nodes.stations.entries c.add_station.new.stations.entries number.0 device.1.now.sections (nodes_of (drop c.nodes.count nodes)) c.in_ok-add_station.ensures c.nodes.invariant.stations in
     record {
       within = omega arith;

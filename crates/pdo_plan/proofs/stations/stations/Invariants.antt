@@ -8,7 +8,7 @@ use Rattle.pdo_plan.proofs.stations.stations.Given as goal
 abbrev pub invariant-nodes : goal.invariant-nodes
 invariant-nodes l = record {
   within : l.count ≤ length l.nodes;
-  stations : (node : ℕ) → shape_at l.stations.entries node ≡ shaped node (nodes_of (drop l.count l.nodes))
+  stations : (node : ℕ) → shape_at l.stations.entries node ≡ shaped node (nodes_of (drop l.count l.nodes));
 }
 
 abbrev pub decreases-nodes : goal.decreases-nodes
