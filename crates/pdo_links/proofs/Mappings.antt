@@ -1,8 +1,7 @@
 -- Mappings and their writes.
-use Rattle.std.proofs.Common.{◌≡◌, ℕ, suc, ◌+◌, ◌<◌, ◌%◌, List, [], ◌∷◌, ◌++◌, length, take, map, get_or, All, length-take, append_assoc, refl, subst, sym, ap, ◌∙◌, arith}
-use Rattle.std.specs.List.{enumerate_from}
+use Rattle.std.proofs.Common.{◌≡◌, ℕ, suc, ◌+◌, ◌<◌, List, [], ◌∷◌, ◌++◌, length, take, get_or, All, length-take, append_assoc, subst, sym, ap, ◌∙◌, arith}
 use Rattle.std.proofs.lemmas.List.{take_more}
-use Rattle.std.proofs.lemmas.List.Elements.{All-nil, All-cons, All-push}
+use Rattle.std.proofs.lemmas.List.Elements.{All-nil, All-push}
 use Rattle.co_base.specs.Bytes.{AreBytes}
 use Rattle.concise_dcf.specs.declared.write.Write.{Write}
 use Rattle.pdo_plan.specs.declared.mapped.Mapped.{Mapped}

@@ -1,6 +1,6 @@
 -- The writes of PDOs by number.
-use Rattle.std.proofs.Common.{◌≡◌, ℕ, zero, suc, ◌+◌, ◌-◌, ◌<◌, ◌≤◌, Bool, true, false, cond, List, [], ◌∷◌, ◌++◌, length, All, Contains, Option, Some, None, option_map, refl, sym, ap, subst, ◌∙◌, append_assoc, arith}
-use Rattle.std.specs.Prelude.{◌==◌, filter_map, if◌then◌else◌, option_copied}
+use Rattle.std.proofs.Common.{◌≡◌, ℕ, zero, suc, ◌+◌, ◌-◌, ◌≤◌, Bool, true, false, cond, List, [], ◌∷◌, ◌++◌, Contains, Option, Some, None, option_map, refl, sym, ap, subst, ◌∙◌, append_assoc, arith}
+use Rattle.std.specs.Prelude.{◌==◌, filter_map, if◌then◌else◌}
 use Rattle.std.specs.BTreeMap.{is_at}
 use Rattle.std.specs.List.{find, flat_map, range_with_len}
 use Rattle.std.specs.Map.{lookup}
@@ -16,7 +16,7 @@ use Rattle.pdo_plan.specs.declared.consumer.Consumer.{Consumer}
 use Rattle.pdo_links.specs.Tables.{AreValues, IsTableOf}
 use Rattle.pdo_links.specs.Writes.{at_number, by_number, tpdo_of, rpdo_of}
 use Rattle.pdo_links.proofs.Tabled.{tabled}
-use Rattle.pdo_links.proofs.Values.{no_values, both_values}
+use Rattle.pdo_links.proofs.Values.{both_values}
 
 -- ---- one number more
 

@@ -1,5 +1,5 @@
 -- The sizes and the number of the writes of PDOs.
-use Rattle.std.proofs.Common.{◌≡◌, ℕ, zero, suc, ◌+◌, ◌*◌, ◌<◌, ◌≤◌, Bool, true, false, List, [], ◌∷◌, ◌++◌, length, length-append, All, Option, Some, None, refl, sym, ap, subst, ◌∙◌, arith}
+use Rattle.std.proofs.Common.{◌≡◌, ℕ, zero, suc, ◌+◌, ◌*◌, ◌≤◌, Bool, true, false, List, [], ◌∷◌, ◌++◌, length, length-append, All, Option, Some, None, refl, arith}
 use Rattle.std.specs.Prelude.{if◌then◌else◌}
 use Rattle.std.specs.BTreeMap.{is_at}
 use Rattle.std.specs.List.{flat_map, range_with_len}
@@ -17,7 +17,7 @@ use Rattle.pdo_plan.specs.declared.consumer.Consumer.{Consumer}
 use Rattle.pdo_plan.specs.declared.mapped.Mapped.{Mapped}
 use Rattle.pdo_plan.specs.Devices.{takes_unsigned, tpdo_object, rpdo_object, mapping_of}
 use Rattle.pdo_plan.specs.Mapping.{mapped_bytes}
-use Rattle.pdo_links.specs.Tables.{AreFew, most_pdo_writes}
+use Rattle.pdo_links.specs.Tables.{AreFew}
 use Rattle.pdo_links.specs.Writes.{write_at, cob_write, mapped_writes, mapping_writes, time_write, taken_type, tpdo_writes, rpdo_writes, off_bit, no_rtr_bit, at_number, by_number}
 
 abbrev IsSized : Write → Type 0

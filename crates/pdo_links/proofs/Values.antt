@@ -1,12 +1,11 @@
 -- The writes of a PDO are values of their entries.
-use Rattle.std.proofs.Common.{◌≡◌, ℕ, zero, suc, ◌+◌, ◌<◌, Bool, true, false, ◌&&◌, cond, List, [], ◌∷◌, ◌++◌, length, map, All, Option, Some, None, option_map, refl, sym, ap, subst, ◌∙◌, arith}
+use Rattle.std.proofs.Common.{◌≡◌, ℕ, zero, suc, ◌+◌, ◌<◌, Bool, true, false, ◌&&◌, cond, List, [], ◌∷◌, ◌++◌, length, Option, Some, None, option_map, refl, ◌∙◌, arith}
 use Rattle.std.specs.Prelude.{◌==◌, if◌then◌else◌, option_and_then}
 use Rattle.std.specs.List.{list_all, range_with_len}
 use Rattle.std.specs.Option.{option_map_or}
 use Rattle.std.proofs.lemmas.List.Elements.{All-nil, All-cons, All-head, All-tail, All-append}
 use Rattle.byteorder.specs.Endian.{little_bytes}
 use Rattle.co_base.specs.Bytes.{AreBytes}
-use Rattle.co_values.specs.declared.data_type.DataType.{DataType}
 use Rattle.co_values.specs.declared.data_type.DataType.TheVariants.{NotModelled}
 use Rattle.co_values.specs.declared.form.Form.{Form}
 use Rattle.co_values.specs.declared.form.Form.TheVariants.{Flag, Signed, Unsigned, Characters, HexPairs, Unmodelled}
@@ -22,7 +21,7 @@ use Rattle.eds_device.specs.Entries.{entry_by, entry_at}
 use Rattle.pdo_plan.specs.declared.clean.Clean.{Clean}
 use Rattle.pdo_plan.specs.declared.consumer.Consumer.{Consumer}
 use Rattle.pdo_plan.specs.declared.mapped.Mapped.{Mapped}
-use Rattle.pdo_plan.specs.Devices.{Devices, devices_of, is_width, is_unsigned_form, takes_unsigned, has_unsigned, has_mapping, tpdo_object, rpdo_object, mapping_of}
+use Rattle.pdo_plan.specs.Devices.{devices_of, is_width, is_unsigned_form, takes_unsigned, has_unsigned, has_mapping, tpdo_object, rpdo_object, mapping_of}
 use Rattle.pdo_plan.specs.Mapping.{mapped_bytes}
 use Rattle.pdo_plan.specs.Plan.{HasPdo}
 use Rattle.pdo_links.specs.Tables.{AreMapped, AreValues}

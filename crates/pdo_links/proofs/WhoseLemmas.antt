@@ -1,8 +1,8 @@
 -- Whose writes a node gets.
-use Rattle.std.proofs.Common.{◌≡◌, ◌⊎◌, inl, inr, ⊎_elim, ℕ, zero, suc, ◌+◌, ◌<◌, ◌≤◌, Bool, true, false, ◌&&◌, cond, List, [], ◌∷◌, ◌++◌, length, length-append, get_or, Contains, Option, Some, None, option_map, refl, sym, ap, subst, ◌∙◌, arith}
+use Rattle.std.proofs.Common.{◌≡◌, ◌⊎◌, inl, inr, ⊎_elim, ℕ, zero, suc, ◌+◌, ◌<◌, Bool, true, false, List, [], ◌∷◌, ◌++◌, length, Contains, Option, Some, None, option_map, refl, sym, ◌∙◌, arith}
 use Rattle.std.specs.Prelude.{◌==◌, filter_map, if◌then◌else◌}
 use Rattle.std.specs.BTreeMap.{is_at}
-use Rattle.std.specs.List.{cons_option, find, flat_map, range_with_len}
+use Rattle.std.specs.List.{find, flat_map, range_with_len}
 use Rattle.std.specs.Map.{lookup}
 use Rattle.std.specs.Option.{option_map_or}
 use Rattle.std.specs.Ordering.{nat_cmp}

@@ -1,4 +1,4 @@
-use Rattle.std.proofs.Common.{◌≡◌, ℕ, ◌≤◌, Some, None, List, [], ◌++◌, Vec, rules, sym, ap, subst, ◌∙◌, arith}
+use Rattle.std.proofs.Common.{◌≡◌, ℕ, ◌≤◌, List, [], ◌++◌, Vec, rules, ap, subst, ◌∙◌, arith}
 use Rattle.std.specs.Prelude.{filter_map}
 use Rattle.std.specs.Global.{Global}
 use Rattle.std.proofs.lemmas.List.Elements.{All-contains}
@@ -8,7 +8,7 @@ use Rattle.pdo_plan.specs.declared.consumer.Consumer.{Consumer}
 use Rattle.pdo_plan.specs.Plan.{clean, IsWithin, IsNumbered}
 use Rattle.pdo_links.specs.declared.taken.Taken.{Taken}
 use Rattle.pdo_links.specs.Tables.{AreValues, IsTableOf}
-use Rattle.pdo_links.specs.Writes.{rpdo_of, rpdo_writes, at_number, by_number}
+use Rattle.pdo_links.specs.Writes.{rpdo_of, rpdo_writes, at_number}
 use Rattle.pdo_links.proofs.Numbered.{Takes, all_numbers, at_none, at_there, takes, there, unwritten_more, values_more, written_more}
 use Rattle.pdo_links.proofs.Sizes.{few_rpdos}
 use Rattle.pdo_links.proofs.Values.{no_values}

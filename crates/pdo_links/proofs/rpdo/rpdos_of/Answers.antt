@@ -1,4 +1,3 @@
-use Rattle.std.proofs.Common.{rules}
 use Rattle.pdo_links.specs.declared.taken.Taken.{Taken}
 use Rattle.pdo_links.specs.Writes.{rpdo_of}
 use Rattle.pdo_links.proofs.Tabled.{none_tabled, skipped, noted}

@@ -1,15 +1,12 @@
-use Rattle.std.proofs.Common.{◌≡◌, ℕ, ◌≤◌, Some, None, Bor, List, [], ◌++◌, Vec, rules, sym, ap, subst, ◌∙◌, arith}
+use Rattle.std.proofs.Common.{◌≡◌, ℕ, ◌≤◌, Bor, List, [], ◌++◌, Vec, rules, ap, subst, ◌∙◌, arith}
 use Rattle.std.specs.Prelude.{filter_map}
-use Rattle.std.specs.BTreeMap.{is_at}
 use Rattle.std.specs.Global.{Global}
-use Rattle.std.specs.Map.{lookup}
-use Rattle.std.specs.Ordering.{nat_cmp}
 use Rattle.std.proofs.lemmas.List.Elements.{All-contains}
 use Rattle.concise_dcf.specs.declared.write.Write.{Write}
 use Rattle.pdo_plan.specs.declared.clean.Clean.{Clean}
 use Rattle.pdo_plan.specs.Plan.{clean, IsWithin}
 use Rattle.pdo_links.specs.Tables.{AreValues, IsTableOf}
-use Rattle.pdo_links.specs.Writes.{tpdo_of, tpdo_writes, at_number, by_number}
+use Rattle.pdo_links.specs.Writes.{tpdo_of, tpdo_writes, at_number}
 use Rattle.pdo_links.proofs.Numbered.{all_numbers, at_none, at_there, Sends, sends, there, unwritten_more, values_more, written_more}
 use Rattle.pdo_links.proofs.Sizes.{few_tpdos}
 use Rattle.pdo_links.proofs.Values.{no_values}

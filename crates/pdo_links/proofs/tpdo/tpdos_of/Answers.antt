@@ -1,4 +1,4 @@
-use Rattle.std.proofs.Common.{rules, Bor}
+use Rattle.std.proofs.Common.{Bor}
 use Rattle.pdo_plan.specs.declared.clean.Clean.{Clean}
 use Rattle.pdo_links.specs.Writes.{tpdo_of}
 use Rattle.pdo_links.proofs.Tabled.{none_tabled, skipped, noted}
