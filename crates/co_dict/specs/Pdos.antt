@@ -1,6 +1,45 @@
--- The objects of PDOs in an object dictionary (CiA 301).
-use Rattle.std.specs.Prelude.{ℕ, nat_le, ◌&&◌, Bool}
+-- PDOs and an object dictionary (CiA 301): their objects, which entries they can carry, and which identifiers they can't have.
+use Rattle.std.specs.Prelude.{ℕ, ◌&&◌, ◌||◌, Bool, true, false, is_some}
+use Rattle.co_base.specs.Ranges.{is_between}
+use Rattle.co_values.specs.Types.{width_bits}
+use Rattle.co_dict.specs.declared.access.Access.{Access}
+use Rattle.co_dict.specs.declared.access.Access.TheVariants.{ReadOnly, WriteOnly, ReadWrite, ReadWriteOnInput, ReadWriteOnOutput, Constant}
+use Rattle.co_dict.specs.declared.direction.Direction.{Direction}
+use Rattle.co_dict.specs.declared.direction.Direction.TheVariants.{Transmit, Receive}
+use Rattle.co_dict.specs.declared.entry.Entry.{Entry}
 
 -- 1400h to 1BFFh: the communication and mapping objects of PDOs, which messages alone configure
 abbrev pub is_of_pdos : ℕ → Bool
-is_of_pdos index = nat_le 0x1400 index && nat_le index 0x1BFF
+is_of_pdos index = is_between 0x1400 0x1BFF index
+
+-- the access with which a TPDO can carry an entry (own)
+abbrev pub is_sendable : Access → Bool
+is_sendable ReadOnly = true
+is_sendable WriteOnly = false
+is_sendable ReadWrite = true
+is_sendable ReadWriteOnInput = true
+is_sendable ReadWriteOnOutput = false
+is_sendable Constant = true
+
+-- the access with which an RPDO can (own)
+abbrev pub is_receivable : Access → Bool
+is_receivable ReadOnly = false
+is_receivable WriteOnly = true
+is_receivable ReadWrite = true
+is_receivable ReadWriteOnInput = false
+is_receivable ReadWriteOnOutput = true
+is_receivable Constant = false
+
+abbrev pub has_access_for : Direction → Access → Bool
+has_access_for Transmit access = is_sendable access
+has_access_for Receive access = is_receivable access
+
+-- an entry that a PDO of this direction can map: PDOMapping says so, it is BOOLEAN or an integer, and its access fits
+abbrev pub is_mappable : Direction → Entry → Bool
+is_mappable direction entry = entry.mappable && is_some (width_bits entry.kind) && has_access_for direction entry.access
+
+-- the identifiers that no PDO may have (CiA 301, restricted CAN-IDs)
+unfoldable pub is_restricted : ℕ → Bool
+is_restricted id =
+    is_between 0x000 0x07F id || is_between 0x101 0x180 id || is_between 0x581 0x5FF id || is_between 0x601 0x67F id
+    || is_between 0x6E0 0x6FF id || is_between 0x701 0x7FF id

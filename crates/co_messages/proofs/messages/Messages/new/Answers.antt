@@ -1,0 +1,8 @@
+use Rattle.std.specs.BTreeMap.{BTreeMap}
+use Rattle.std.proofs.Common.{sym, subst, ap}
+use Rattle.co_messages.specs.Messages.{by_name, AreMessages}
+use Rattle.co_messages.proofs.LimitLemmas.{no_messages}
+use Rattle.co_messages.proofs.messages.Messages.new.Goals as goal
+
+pub invariant_of-result : goal.invariant_of-result
+invariant_of-result c = rw c.new.ensures.empty no_messages

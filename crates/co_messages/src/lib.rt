@@ -1,0 +1,14 @@
+//! The messages of a project: the signals that nodes send to one another.
+#![tactic(auto)]
+
+mod linked;
+mod message;
+mod messages;
+mod sinks;
+mod sources;
+
+pub use linked::Linked;
+pub use message::Message;
+pub use messages::Messages;
+pub use sinks::Sinks;
+pub use sources::Sources;

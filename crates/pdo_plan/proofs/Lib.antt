@@ -1,0 +1,4 @@
+pub mod LeastLemmas
+pub mod RoomLemmas
+pub mod SpareLemmas
+pub mod StationLemmas

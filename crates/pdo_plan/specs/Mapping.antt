@@ -1,0 +1,75 @@
+-- The mapping of a message (CiA 301, PDO mapping parameters): what each PDO of it carries.
+use Rattle.std.specs.Prelude.{ℕ, ◌==◌, ◌&&◌, Bool, true, false, not, List, ◌∷◌, map, filter_map, if◌then◌else◌, Option, Some, None, is_none, option_map, option_and_then, sum_by}
+use Rattle.std.specs.List.{list_any}
+use Rattle.std.specs.Option.{option_map_or, unwrap_or, option_or}
+use Rattle.byteorder.specs.Endian.{little_bytes}
+use Rattle.co_messages.specs.Messages.{source_at, sink_at}
+use Rattle.pdo_plan.specs.declared.mapped.Mapped.{Mapped}
+use Rattle.pdo_plan.specs.Devices.{Devices, width_at}
+
+-- a mapping entry in the mapping object: the bits, the sub-index and the index, the lowest byte first, as 20020010h is 10 00 02 20
+abbrev pub mapped_bytes : Mapped → List ℕ
+mapped_bytes m = m.bits ∷ m.sub ∷ little_bytes 2 m.index
+
+abbrev pub mapped_to : ℕ × ℕ → ℕ → Mapped
+mapped_to place bits = record { index = place.0; sub = place.1; bits = bits }
+
+-- the data type of the dummy of so many bits (CiA 301, dummy entries): BOOLEAN and UNSIGNED8, 16 and 32 have one
+abbrev pub dummy_type : ℕ → Option ℕ
+dummy_type bits =
+    if bits == 1 then Some 0x0001
+    else if bits == 8 then Some 0x0005
+    else if bits == 16 then Some 0x0006
+    else if bits == 32 then Some 0x0007
+    else None
+
+-- the dummy of so many bits, where a node allows it
+abbrev pub dummy_for : Devices → ℕ → ℕ → Option Mapped
+dummy_for devices node bits =
+    option_and_then (λ kind. if devices.dummy node kind then Some (mapped_to (kind, 0) bits) else None) (dummy_type bits)
+
+-- the sources of a message, by position, each an entry of the sender
+abbrev pub Sources : Type 0
+Sources = List (ℕ × (ℕ × ℕ))
+
+-- and its sinks, by position and node, each an entry of that node
+abbrev pub Sinks : Type 0
+Sinks = List ((ℕ × ℕ) × (ℕ × ℕ))
+
+-- the bits of a source; one without a width adds nothing
+abbrev pub source_bits : Devices → ℕ → ℕ × (ℕ × ℕ) → ℕ
+source_bits devices sender source = unwrap_or (width_at devices sender source.1) 0
+
+-- all bits of a message
+abbrev pub bits_of : Devices → ℕ → Sources → ℕ
+bits_of devices sender sources = sum_by (source_bits devices sender) sources
+
+-- what the sender's PDO maps: each source by position
+unfoldable pub sent_mapping : Devices → ℕ → Sources → List Mapped
+sent_mapping devices sender sources = map (λ s. mapped_to s.1 (source_bits devices sender s)) sources
+
+-- what a consumer's PDO maps for a source: its sink at that position, else a dummy of that width
+abbrev pub taken_at : Devices → ℕ → Sinks → ℕ → ℕ × (ℕ × ℕ) → Option Mapped
+taken_at devices sender sinks node source =
+    option_or (option_map (λ place. mapped_to place (source_bits devices sender source)) (sink_at sinks source.0 node))
+    (option_and_then (dummy_for devices node) (width_at devices sender source.1))
+
+unfoldable pub taken_mapping : Devices → ℕ → Sources → Sinks → ℕ → List Mapped
+taken_mapping devices sender sources sinks node = filter_map (taken_at devices sender sinks node) sources
+
+-- a dummy is needed at a source, and there is none of that width or the consumer doesn't allow it; a source without a width needs none
+abbrev pub lacks_dummy_at : Devices → ℕ → Sinks → ℕ → ℕ × (ℕ × ℕ) → Bool
+lacks_dummy_at devices sender sinks node source =
+    is_none (sink_at sinks source.0 node)
+    && option_map_or (λ bits. is_none (dummy_for devices node bits)) (width_at devices sender source.1) false
+
+-- two widths that differ; an entry without a width differs from none
+abbrev pub differ : Option ℕ → Option ℕ → Bool
+differ None other = false
+differ (Some bits) None = false
+differ (Some bits) (Some other) = not (bits == other)
+
+-- a sink without a source at its position, or of another width
+abbrev pub is_mismatched : Devices → ℕ → Sources → (ℕ × ℕ) × (ℕ × ℕ) → Bool
+is_mismatched devices sender sources sink =
+    option_map_or (λ place. differ (width_at devices sender place) (width_at devices sink.0.1 sink.1)) (source_at sources sink.0.0) true

@@ -1,0 +1,37 @@
+-- What the program knows of what clean messages have.
+use Rattle.std.specs.Prelude.{ℕ, ◌==◌, ◌&&◌, ◌||◌}
+use Rattle.std.specs.List.{list_any}
+use Rattle.std.specs.declared.cmp.Ordering.{Ordering}
+use Rattle.std.specs.Ordering.{nat_cmp, ordering_then}
+use Rattle.std.specs.BTreeSet.{contains}
+use Rattle.pdo_plan.specs.declared.clean.Clean.{Clean}
+use Rattle.pdo_plan.specs.declared.outcome.Outcome.{Outcome}
+use Rattle.pdo_plan.specs.declared.outcome.Outcome.TheVariants.{Planned, Faulty}
+use Rattle.pdo_plan.specs.declared.taken.Taken.{Taken}
+use Rattle.pdo_plan.specs.Flags.{is_flagged}
+use Rattle.pdo_plan.specs.Plan.{Had, is_at_node}
+
+-- a number at a node: by node, and then by number
+abbrev pub pair_cmp : ℕ × ℕ → ℕ × ℕ → Ordering
+pair_cmp a b = ordering_then (nat_cmp a.0 b.0) (nat_cmp a.1 b.1)
+
+-- what the tables have
+abbrev pub had_in : Taken → Had
+had_in taken = record {
+  identifier = λ id. contains nat_cmp taken.identifiers id;
+  tpdo = λ node number. contains pair_cmp taken.tpdos (node, number);
+  rpdo = λ node number. is_flagged taken.rpdos.flags.items node number;
+}
+
+-- what is had when one more clean message has its own
+abbrev pub had_too : Had → Clean → Had
+had_too had c = record {
+  identifier = λ id. had.identifier id || c.identifier == id;
+  tpdo = λ node number. had.tpdo node number || ((c.message.node == node) && (c.message.tpdo == number));
+  rpdo = λ node number. had.rpdo node number || list_any (is_at_node node number) c.consumers;
+}
+
+-- when the message of an outcome, where it is clean, has its own
+abbrev pub had_after : Had → Outcome → Had
+had_after had (Planned c) = had_too had c
+had_after had (Faulty fs) = had

@@ -1,0 +1,15 @@
+//! A node that takes a message.
+
+use crate::listed::Listed;
+use crate::mapped::Mapped;
+
+/// A node that takes a message, by one of its RPDOs.
+#[derive(Drop)]
+pub struct Consumer {
+    /// The number of the node.
+    pub node: u8,
+    /// The number of its RPDO, 1 to 512.
+    pub rpdo: u16,
+    /// What the RPDO maps.
+    pub mapping: Listed<Mapped>,
+}

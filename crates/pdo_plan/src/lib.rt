@@ -1,0 +1,32 @@
+//! The plan of messages: who gets which identifier and PDOs, or why it can't be sent.
+#![tactic(auto)]
+
+mod carried;
+mod clean;
+mod consumed;
+mod consumer;
+mod dummy;
+mod identifiers;
+mod listed;
+mod mapped;
+mod message_fault;
+mod message_plan;
+mod outcome;
+mod planned_message;
+mod planning;
+mod room;
+mod rpdos;
+mod station;
+mod stations;
+mod taken;
+mod taken_rpdos;
+
+pub use clean::Clean;
+pub use consumer::Consumer;
+pub use listed::Listed;
+pub use mapped::Mapped;
+pub use message_fault::MessageFault;
+pub use message_plan::Plan;
+pub use outcome::Outcome;
+pub use planned_message::PlannedMessage;
+pub use planning::plan;

@@ -1,0 +1,41 @@
+//! The plan of messages.
+ghost use Rattle.std.specs.Prelude.{◌≡◌, All};
+ghost use Rattle.pdo_plan.specs.Plan.{IsWithin, clean};
+
+use crate::planned_message::PlannedMessage;
+use std::marker::Model;
+
+/// The plan of messages, seen as the list of what is said of each, by name.
+#[derive(Drop)]
+pub struct Plan {
+    messages: Vec<PlannedMessage>,
+}
+
+impl Model for Plan {
+    ghost use Rattle.std.specs.Prelude.{List, All};
+    ghost use Rattle.pdo_plan.specs.declared.planned_message.PlannedMessage.{PlannedMessage};
+    ghost use Rattle.pdo_plan.specs.Plan.{IsWithin, clean};
+
+    ghost Value = { List PlannedMessage };
+
+    ghost view = { λ plan. plan.messages.items };
+
+    ghost invariant = { λ plan. All IsWithin (clean plan.messages.items) };
+}
+
+impl Plan {
+    pub(crate) fn new(messages: Vec<PlannedMessage>) -> Self
+        requires { All IsWithin (clean messages.items) }
+        ensures { result ≡ messages.items }
+    {
+        Plan { messages }
+    }
+
+    /// What is said of each message, by name.
+    pub fn messages(&self) -> &[PlannedMessage]
+        ensures list { result.now ≡ self.now }
+        ensures within { All IsWithin (clean result.now) }
+    {
+        &self.messages
+    }
+}

@@ -1,0 +1,14 @@
+//! What the plan says of a message.
+
+use crate::clean::Clean;
+use crate::listed::Listed;
+use crate::message_fault::MessageFault;
+
+/// What the plan says of a message.
+#[derive(Drop)]
+pub enum Outcome {
+    /// It is clean: it can be sent.
+    Planned(Clean),
+    /// It has these faults, in the order of their declaration.
+    Faulty(Listed<MessageFault>),
+}
