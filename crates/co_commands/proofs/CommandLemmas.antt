@@ -12,9 +12,10 @@ use Rattle.co_edits.specs.declared.edit.Edit.TheVariants as edit
 use Rattle.co_commands.specs.declared.request.Request.TheVariants.{Block}
 use Rattle.co_text.specs.Words.{after}
 use Rattle.co_text.specs.Digits.{byte_digits, index_digits}
-use Rattle.co_edits.specs.Forms.{is_name, is_node_number, is_node_or_all, is_between, is_bit_rate, is_time, is_sync_period, is_event_number}
+use Rattle.co_base.specs.Ranges.{is_between, AreIndices}
+use Rattle.co_edits.specs.Forms.{is_name, is_node_number, is_node_or_all, is_bit_rate, is_time, is_sync_period, is_event_number}
 use Rattle.co_commands.specs.Requests.{block_of, bitrate_of, horizon_of, manager_of, drop_eds_of, node_of, drop_node_of, id_of, param_of, unparam_of, event_at_time, set_of, switch, power_of, nmt, nmt_of, happening_of, event_of, drop_event_of}
-use Rattle.co_edits.specs.Edits.{AreIndices, IsManager, IsSetting}
+use Rattle.co_edits.specs.Edits.{IsManager, IsSetting}
 use Rattle.co_commands.proofs.NumberLemmas.{decimal_again, index_again, sub_again}
 use Rattle.co_commands.proofs.LineLemmas.{Has, Ends, Keeps}
 

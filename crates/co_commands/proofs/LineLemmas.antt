@@ -9,7 +9,8 @@ use Rattle.std.proofs.lemmas.Slice.Eq.{bytes_eq-Decides}
 use Rattle.co_text.specs.Blanks.{is_blank, trim_end, trimmed}
 use Rattle.co_text.specs.Words.{word, after}
 use Rattle.co_commands.specs.declared.request.Request.{Request}
-use Rattle.co_edits.specs.Forms.{is_control, is_plain, is_text, is_between}
+use Rattle.co_base.specs.Ranges.{is_between}
+use Rattle.co_edits.specs.Forms.{is_control, is_plain, is_text}
 use Rattle.co_commands.specs.Words.{is_bad_line, text}
 use Rattle.co_commands.specs.Requests.{request, command_of, block_of}
 use Rattle.co_commands.proofs.WordLemmas.{is_visible, IsWord, clean_word, trim-space, word-space, after-space, word_is, after_is}

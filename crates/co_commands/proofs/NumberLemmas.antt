@@ -9,7 +9,8 @@ use Rattle.std.proofs.lemmas.Bool.Decides.{nat_tests}
 use Rattle.std.proofs.lemmas.Fmt.{decimal_is_IsNumeral, length-decimal-le}
 use Rattle.co_text.specs.Digits.{digits_number, byte_digits, index_digits}
 use Rattle.co_text.proofs.DigitLemmas as digits
-use Rattle.co_edits.specs.Forms.{is_name, is_name_byte, is_between}
+use Rattle.co_base.specs.Ranges.{is_between}
+use Rattle.co_edits.specs.Forms.{is_name, is_name_byte}
 use Rattle.co_commands.specs.Words.{name, number, hexadecimal}
 use Rattle.co_commands.specs.Words.{decimal as decimal_word}
 use Rattle.co_commands.proofs.WordLemmas.{is_visible, IsWord}

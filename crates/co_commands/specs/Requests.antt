@@ -16,7 +16,8 @@ use Rattle.co_commands.specs.declared.query.Query.TheVariants.{Dcf, Cdcf, Projec
 use Rattle.co_text.specs.Blanks.{is_blank_line}
 use Rattle.co_text.specs.Words.{word, after}
 use Rattle.co_edits.specs.Eds.{most_lines}
-use Rattle.co_edits.specs.Forms.{is_name, limited, is_between, is_node_number, is_node_or_all, is_own_index, is_bit_rate, is_time, is_sync_period, is_event_number}
+use Rattle.co_base.specs.Ranges.{is_between}
+use Rattle.co_edits.specs.Forms.{is_name, limited, is_node_number, is_node_or_all, is_own_index, is_bit_rate, is_time, is_sync_period, is_event_number}
 use Rattle.co_commands.specs.Words.{last_word, is_bad_line, name, decimal, hexadecimal, text}
 
 infixl 10 ◌>>=◌

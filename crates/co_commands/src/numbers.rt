@@ -2,7 +2,7 @@
 ghost use Rattle.std.specs.Prelude.{◌≡◌, ◌<◌, ◌≤◌, ◌^◌, true, IfOk};
 ghost use Rattle.co_base.specs.Gives.{Gives};
 ghost use Rattle.co_edits.specs.Faults.{is_memory};
-ghost use Rattle.co_edits.specs.Forms.{is_between};
+ghost use Rattle.co_base.specs.Ranges.{is_between};
 ghost use Rattle.co_commands.specs.Words.{number, decimal, hexadecimal};
 
 use co_edits::EditFault;

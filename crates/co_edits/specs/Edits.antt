@@ -1,16 +1,14 @@
 -- What every edit keeps to (this profile's own).
 use Rattle.std.specs.Prelude.{◌≡◌, ℕ, List, true}
+use Rattle.co_messages.specs.Messages.{is_position, IsMessage}
 use Rattle.co_scenario.specs.declared.event.Event.{Event}
 use Rattle.co_scenario.specs.declared.event.Event.TheVariants as event
 use Rattle.co_edits.specs.declared.edit.Edit.{Edit}
 use Rattle.co_edits.specs.declared.edit.Edit.TheVariants as edit
 use Rattle.co_edits.specs.declared.manager_settings.ManagerSettings.{ManagerSettings}
-use Rattle.co_edits.specs.Forms.{is_name, is_text, is_between, is_node_number, is_node_or_all, is_own_index, is_bit_rate, is_time, is_sync_period, is_event_number}
+use Rattle.co_base.specs.Ranges.{is_between, AreIndices}
+use Rattle.co_edits.specs.Forms.{is_name, is_text, is_node_number, is_node_or_all, is_own_index, is_bit_rate, is_time, is_sync_period, is_event_number}
 use Rattle.co_edits.specs.Eds.{IsEds}
-
--- an index of an object dictionary and a sub-index (CiA 301)
-abbrev pub AreIndices : ℕ → ℕ → Type 0
-AreIndices index sub = (is_between 0 0xFFFF index ≡ true) × (is_between 0 0xFF sub ≡ true)
 
 -- the manager (CiA 302): the number of its node, the period of SYNC, and in milliseconds its heartbeat's time and the longest wait for an SDO answer
 unfoldable pub IsManager : ManagerSettings → Type 0
@@ -38,5 +36,11 @@ IsEdit (edit.Node id name eds) = (is_node_number id ≡ true) × (is_name name �
 IsEdit (edit.DropNode id) = is_node_number id ≡ true
 IsEdit (edit.Param id index sub text) = (is_node_number id ≡ true) × IsSetting index sub text
 IsEdit (edit.Unparam id index sub) = (is_node_number id ≡ true) × AreIndices index sub
+IsEdit (edit.Message name m) = (is_name name ≡ true) × IsMessage m
+IsEdit (edit.DropMessage name) = is_name name ≡ true
+IsEdit (edit.Source name position index sub) = (is_name name ≡ true) × (is_position position ≡ true) × AreIndices index sub
+IsEdit (edit.Unsource name position) = (is_name name ≡ true) × (is_position position ≡ true)
+IsEdit (edit.Sink name position node index sub) = (is_name name ≡ true) × (is_position position ≡ true) × (is_node_number node ≡ true) × AreIndices index sub
+IsEdit (edit.Unsink name position node) = (is_name name ≡ true) × (is_position position ≡ true) × (is_node_number node ≡ true)
 IsEdit (edit.Event number e) = (is_event_number number ≡ true) × (is_time e.time ≡ true) × IsEvent e.event
 IsEdit (edit.DropEvent number) = is_event_number number ≡ true

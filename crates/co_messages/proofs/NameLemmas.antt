@@ -1,35 +1,116 @@
--- Maps by names, seen by the bytes of their keys.
-use Rattle.std.proofs.Common.{◌≡◌, ℕ, Vec, List, [], ◌∷◌, Bool, true, false, cond, Some, refl, ap}
-use Rattle.std.specs.Map.{lookup, remove_entry}
-use Rattle.std.specs.BTreeMap.{insert_entry}
-use Rattle.std.specs.Ordering.{match_ordering}
+-- The map that a tree by names makes.
+use Rattle.std.proofs.Common.{◌≡◌, ℕ, Vec, sym, ◌∙◌, List, [], ◌∷◌, length, suc, Bool, true, false, cond, ◌⊎◌, Option, Some, None, inl, inr, refl, ap, subst}
 use Rattle.std.specs.declared.cmp.Ordering.{Ordering}
-use Rattle.std.specs.declared.cmp.Ordering.TheVariants.{Less, Equal, Greater}
-use Rattle.co_messages.specs.Messages.{by_name}
+use Rattle.std.specs.declared.cmp.Ordering.TheVariants.{Less}
+use Rattle.std.specs.List.{AllByRecursion}
+use Rattle.std.specs.List.Sorted.{IsStrictlySortedBy}
+use Rattle.std.specs.Map.{lookup, keys_of}
+use Rattle.std.specs.BTreeMap.{is_at}
+use Rattle.std.specs.FinMap.{FinMap, entries, from_entries, get, insert, len, remove}
+use Rattle.std.proofs.lemmas.Cmp.{nat_list_cmp_total}
+use Rattle.std.proofs.lemmas.Map.Lookups.{exact_bytes}
+use Rattle.std.proofs.lemmas.Map.Views.{tells_apart}
+use Rattle.co_base.proofs.TableLemmas.{entries_made, get_made, len_made, made_put, made_removed}
+use Rattle.co_messages.specs.Messages.{by_name, name_cmp}
+
+-- the order of its keys
+abbrev pub key_cmp : {A : Type 0} → Vec ℕ A → Vec ℕ A → Ordering
+key_cmp a b = name_cmp a.items b.items
 
 module _ {A X : Type 0} where
+  -- the map that it makes
+  abbrev pub made : List (Vec ℕ A × X) → FinMap name_cmp X
+  made es = from_entries (by_name es)
+
+  -- what it has at the bytes of a name
+  abbrev pub value_in : List (Vec ℕ A × X) → List ℕ → Option X
+  value_in es name = lookup (λ k. is_at (name_cmp name) k.items) es
+
   -- a look-up by the bytes of a key
-  pub lookup-by_name : (test : List ℕ → Bool) (es : List (Vec ℕ A × X)) → lookup test (by_name es) ≡ lookup (λ k. test k.items) es
-  lookup-by_name test [] = refl
-  lookup-by_name test (e ∷ es) = ap (cond (test e.0.items) (Some e.1)) (lookup-by_name test es)
+  by_bytes : (name : List ℕ) (es : List (Vec ℕ A × X)) → lookup (is_at (name_cmp name)) (by_name es) ≡ value_in es name
+  by_bytes name [] = refl
+  by_bytes name (e ∷ es) = ap (cond (is_at (name_cmp name) e.0.items) (Some e.1)) (by_bytes name es)
 
-  -- a new entry by the bytes of its key
-  pub by_name-insert : (cmp : List ℕ → List ℕ → Ordering) (es : List (Vec ℕ A × X)) (k : Vec ℕ A) (v : X)
-      → by_name (insert_entry (λ a b. cmp a.items b.items) es k v) ≡ insert_entry cmp (by_name es) k.items v
-  by_name-insert cmp [] k v = refl
-  by_name-insert cmp (e ∷ es) k v =
-      elim (cmp k.items e.0.items) as (λ o. by_name (match_ordering o ((k, v) ∷ e ∷ es) ((e.0, v) ∷ es) (e ∷ insert_entry (λ a b. cmp a.items b.items) es k v))
-      ≡ match_ordering o ((k.items, v) ∷ (e.0.items, e.1) ∷ by_name es) ((e.0.items, v) ∷ by_name es) ((e.0.items, e.1) ∷ insert_entry cmp (by_name es) k.items v)) [
-        | Less ↦ refl
-        | Equal ↦ refl
-        | Greater ↦ ap (λ (t : List (List ℕ × X)). (e.0.items, e.1) ∷ t) (by_name-insert cmp es k v)
-      ]
+  -- the value of a name
+  pub value_found : (es : List (Vec ℕ A × X)) (name : List ℕ) → get (made es) name ≡ value_in es name
+  value_found es name = get_made nat_list_cmp_total exact_bytes (by_name es) name ∙ by_bytes name es
 
-  -- an entry that goes by the bytes of its key
-  pub by_name-remove : (test : List ℕ → Bool) (es : List (Vec ℕ A × X)) → by_name (remove_entry (λ k. test k.items) es) ≡ remove_entry test (by_name es)
-  by_name-remove test [] = refl
-  by_name-remove test (e ∷ es) =
-      elim (test e.0.items) as (λ t. by_name (cond t es (e ∷ remove_entry (λ k. test k.items) es)) ≡ cond t (by_name es) ((e.0.items, e.1) ∷ remove_entry test (by_name es))) [
-        | true ↦ refl
-        | false ↦ ap (λ (t : List (List ℕ × X)). (e.0.items, e.1) ∷ t) (by_name-remove test es)
-      ]
+  -- a name that has a value is that of a key
+  pub key_of : (es : List (Vec ℕ A × X)) (name : List ℕ) (value : X) → value_in es name ≡ Some value → (key : Vec ℕ A) × (key.items ≡ name)
+  key_of [] name value is = cc
+  key_of (e ∷ es) name value is = by (is_at (name_cmp name) e.0.items) refl is (key_of es name value)
+    where
+      by : (t : Bool) → is_at (name_cmp name) e.0.items ≡ t → cond t (Some e.1) (value_in es name) ≡ Some value → (value_in es name ≡ Some value → (key : Vec ℕ A) × (key.items ≡ name))
+          → (key : Vec ℕ A) × (key.items ≡ name)
+      by true same is rest = (e.0, sym (tells_apart exact_bytes name e.0.items same))
+      by false other is rest = rest is
+
+  module _ (es fs : List (Vec ℕ A × X)) (name : List ℕ) (value : Option X) where
+    -- trees that differ at the keys of a name
+    abbrev pub DifferAtKeys : Type 0
+    DifferAtKeys = (q : Vec ℕ A) → value_in fs q.items ≡ cond (is_at (name_cmp name) q.items) value (value_in es q.items)
+
+    abbrev pub DifferAt : List ℕ → Type 0
+    DifferAt q = value_in fs q ≡ cond (is_at (name_cmp name) q) value (value_in es q)
+
+    -- differ there alone, if names that no key has make no difference
+    differ : DifferAtKeys → ((q : List ℕ) → cond (is_at (name_cmp name) q) value None ≡ None ⊎ DifferAt q)
+        → (q : List ℕ) → lookup (is_at (name_cmp q)) (by_name fs) ≡ cond (is_at (name_cmp name) q) value (lookup (is_at (name_cmp q)) (by_name es))
+    differ h others q = by_bytes q fs ∙ by (value_in es q) (value_in fs q) refl refl (others q) ∙ ap (cond (is_at (name_cmp name) q) value) (sym (by_bytes q es))
+      where
+        at : (key : Vec ℕ A) × (key.items ≡ q) → DifferAt q
+        at key = subst DifferAt key.1 (h key.0)
+
+        by : (old new : Option X) → value_in es q ≡ old → value_in fs q ≡ new → cond (is_at (name_cmp name) q) value None ≡ None ⊎ DifferAt q → DifferAt q
+        by (Some v) new e g other = at (key_of es q v e)
+        by None (Some v) e g other = at (key_of fs q v g)
+        by None None e g (inl none) = g ∙ sym none ∙ ap (cond (is_at (name_cmp name) q) value) (sym e)
+        by None None e g (inr differs) = differs
+
+  -- a value that is put
+  pub value_put : (es fs : List (Vec ℕ A × X)) (key : Vec ℕ A) (value : X) → DifferAtKeys es fs key.items (Some value) → made fs ≡ insert (made es) key.items value
+  value_put es fs key value h =
+      made_put nat_list_cmp_total exact_bytes (by_name es) (by_name fs) key.items value
+      (differ es fs key.items (Some value) h (λ q. by q (is_at (name_cmp key.items) q) refl))
+    where
+      by : (q : List ℕ) (t : Bool) → is_at (name_cmp key.items) q ≡ t → cond t (Some value) None ≡ None ⊎ DifferAt es fs key.items (Some value) q
+      by q true same = inr (subst (DifferAt es fs key.items (Some value)) (tells_apart exact_bytes key.items q same) (h key))
+      by q false other = inl refl
+
+  -- a value that is changed at a name that has one
+  pub value_changed : (es fs : List (Vec ℕ A × X)) (name : List ℕ) (old value : X) → Some old ≡ value_in es name → DifferAtKeys es fs name (Some value) → made fs ≡ insert (made es) name value
+  value_changed es fs name old value found h = by (key_of es name old (sym found))
+    where
+      by : (key : Vec ℕ A) × (key.items ≡ name) → made fs ≡ insert (made es) name value
+      by key =
+          value_put es fs key.0 value (subst (λ (n : List ℕ). DifferAtKeys es fs n (Some value)) (sym key.1) h)
+          ∙ ap (λ n. insert (made es) n value) key.1
+
+  -- a value that is taken away
+  pub value_removed : (es fs : List (Vec ℕ A × X)) (name : List ℕ) → DifferAtKeys es fs name None → made fs ≡ remove (made es) name
+  value_removed es fs name h = made_removed nat_list_cmp_total exact_bytes (by_name es) (by_name fs) name (differ es fs name None h (λ q. inl (by (is_at (name_cmp name) q))))
+    where
+      by : (t : Bool) → ◌≡◌ {A = Option X} (cond t None None) None
+      by true = refl
+      by false = refl
+
+  below : (k : Vec ℕ A) (es : List (Vec ℕ A × X)) → AllByRecursion (λ x. key_cmp k x ≡ Less) (keys_of es) → AllByRecursion (λ x. name_cmp k.items x ≡ Less) (keys_of (by_name es))
+  below k [] h = tt
+  below k (e ∷ es) h = (h.0, below k es h.1)
+
+  in_order : (es : List (Vec ℕ A × X)) → IsStrictlySortedBy key_cmp (keys_of es) → IsStrictlySortedBy name_cmp (keys_of (by_name es))
+  unfolding IsStrictlySortedBy
+  in_order [] h = tt
+  in_order (e ∷ es) h = (below e.0 es h.0, in_order es h.1)
+
+  -- its entries are those of the tree
+  pub values_made : (es : List (Vec ℕ A × X)) → IsStrictlySortedBy key_cmp (keys_of es) → entries (made es) ≡ by_name es
+  values_made es h = entries_made nat_list_cmp_total exact_bytes (by_name es) (in_order es h)
+
+  length-by_name : (es : List (Vec ℕ A × X)) → length (by_name es) ≡ length es
+  length-by_name [] = refl
+  length-by_name (e ∷ es) = ap suc (length-by_name es)
+
+  -- and as many
+  pub values_counted : (es : List (Vec ℕ A × X)) → IsStrictlySortedBy key_cmp (keys_of es) → len (made es) ≡ length es
+  values_counted es h = len_made nat_list_cmp_total exact_bytes (by_name es) (in_order es h) ∙ length-by_name es

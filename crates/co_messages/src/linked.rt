@@ -1,5 +1,8 @@
 //! A message with its sources and sinks.
 
+ghost use Rattle.std.specs.Prelude.{◌≡◌};
+ghost use Rattle.co_messages.specs.Messages.{concerns};
+
 use crate::message::Message;
 use crate::sinks::Sinks;
 use crate::sources::Sources;
@@ -13,4 +16,13 @@ pub struct Linked {
     pub sources: Sources,
     /// The entries of other nodes, by position and node.
     pub sinks: Sinks,
+}
+
+impl Linked {
+    /// Whether a node sends the message or takes a part of it.
+    pub fn concerns(&self, node: u8) -> bool
+        ensures { result ≡ concerns node self.now }
+    {
+        self.message.node == node || self.sinks.has_node(node)
+    }
 }

@@ -1,5 +1,6 @@
 //! The sinks of a message.
-ghost use Rattle.std.specs.Prelude.{◌≡◌, [], OnOk, OnErr};
+ghost use Rattle.std.specs.Prelude.{◌≡◌, [], OnOk, OnErr, None, ◌==◌};
+ghost use Rattle.std.specs.List.{list_any};
 ghost use Rattle.std.specs.Map.{remove_entry};
 ghost use Rattle.std.specs.BTreeMap.{insert_entry, is_at};
 ghost use Rattle.std.specs.Option.{option_copied};
@@ -49,11 +50,19 @@ impl Sinks {
         self.entries.iter()
     }
 
+    /// Whether an entry of a node is among them.
+    pub fn has_node(&self, node: u8) -> bool
+        ensures { result ≡ list_any (λ s. s.0.1 == node) self.now }
+    {
+        self.iter().any(|((_, taker), _)| *taker == node)
+    }
+
     /// Gives a position an entry of a node, in place of the one that it has there. Want of memory
-    /// changes nothing.
+    /// changes nothing, and can come only where it has none.
     pub fn put(&mut self, position: u8, node: u8, index: u16, sub: u8) -> Result<(), AllocError>
         ensures ok { OnOk result (self.new ≡ insert_entry seat_cmp self.old (position, node) (index, sub)) }
         ensures err { OnErr result (self.new ≡ self.old) }
+        ensures absent { OnErr result (sink_at self.old position node ≡ None) }
     {
         self.entries.insert((position, node), (index, sub))?;
         Ok(())

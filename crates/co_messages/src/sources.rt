@@ -1,5 +1,5 @@
 //! The sources of a message.
-ghost use Rattle.std.specs.Prelude.{◌≡◌, [], OnOk, OnErr};
+ghost use Rattle.std.specs.Prelude.{◌≡◌, [], OnOk, OnErr, None};
 ghost use Rattle.std.specs.Map.{remove_entry};
 ghost use Rattle.std.specs.BTreeMap.{insert_entry, is_at};
 ghost use Rattle.std.specs.Option.{option_copied};
@@ -50,10 +50,11 @@ impl Sources {
     }
 
     /// Gives a position an entry, in place of the one that stands there. Want of memory changes
-    /// nothing.
+    /// nothing, and can come only where none stands.
     pub fn put(&mut self, position: u8, index: u16, sub: u8) -> Result<(), AllocError>
         ensures ok { OnOk result (self.new ≡ insert_entry nat_cmp self.old position (index, sub)) }
         ensures err { OnErr result (self.new ≡ self.old) }
+        ensures absent { OnErr result (source_at self.old position ≡ None) }
     {
         self.entries.insert(position, (index, sub))?;
         Ok(())

@@ -11,7 +11,7 @@ use Rattle.std.proofs.lemmas.Map.Lookups.{exact_unsigned, exact_bytes}
 use Rattle.std.proofs.lemmas.Slice.Eq.{bytes_eq-Decides}
 use Rattle.co_scenario.specs.declared.timed_event.TimedEvent.{TimedEvent}
 use Rattle.co_scenario.specs.Scenario.{node_of}
-use Rattle.co_scenario.proofs.TableLemmas.{removed_elsewhere}
+use Rattle.co_base.proofs.TableLemmas.{removed_elsewhere}
 use Rattle.co_edits.specs.declared.fault.EditFault.{EditFault}
 use Rattle.co_edits.specs.declared.manager_settings.ManagerSettings.{ManagerSettings}
 use Rattle.co_edits.specs.declared.edit.Edit.{Edit}
@@ -27,7 +27,7 @@ use Rattle.co_project.specs.declared.node.Node.{Node}
 use Rattle.co_project.specs.Tables.{Texts, Nodes, name_cmp, name_taken, has_no_room, is_used, is_named, is_of, is_of_known, put_node, renamed, with_param, without_param}
 use Rattle.co_project.specs.Project.{Content, first, accept, with_nodes}
 use Rattle.co_project.specs.Sound.{AreTexts, AreParams, IsNodeOf, IsEventOf, IsSound}
-use Rattle.co_project.proofs.EachLemmas.{each_empty, each_fails, each_found, each_put, each_removed, each_weaker, fewer, known_after_put, none_pass, room_for}
+use Rattle.co_base.proofs.EachLemmas.{each_empty, each_fails, each_found, each_put, each_removed, each_weaker, fewer, known_after_put, none_pass, room_for}
 
 -- ---- texts
 

@@ -1,4 +1,3 @@
-pub mod EachLemmas
 pub mod KeepsSound
 pub mod LineLemmas
 pub mod NodeLemmas

@@ -5,7 +5,7 @@ use Rattle.std.specs.Ordering.{nat_cmp, eq_by_cmp}
 use Rattle.std.specs.FinMap.{contains_key, from_entries, get, get-insert, insert, remove, same_map}
 use Rattle.std.proofs.lemmas.Cmp.{nat_cmp_total}
 use Rattle.std.proofs.lemmas.Map.Lookups.{exact_unsigned}
-use Rattle.co_scenario.proofs.TableLemmas.{alike, get_made, made_put}
+use Rattle.co_base.proofs.TableLemmas.{alike, get_made, made_put}
 use Rattle.co_edits.specs.declared.fault.EditFault.TheVariants.{Limit, Unknown}
 use Rattle.co_params.specs.Params.{Texts, is_full_for}
 use Rattle.co_project.specs.declared.node.Node.{Node}

@@ -15,7 +15,7 @@ use Rattle.std.specs.FinMap.{FinMap, empty, entries, entries_sorted, find, get, 
 use Rattle.std.specs.FinMap.Entries.{below_all}
 use Rattle.co_scenario.specs.declared.timed_event.TimedEvent.{TimedEvent}
 use Rattle.co_scenario.specs.Scenario.{Events}
-use Rattle.co_scenario.proofs.TableLemmas.{alike, put_there, put_twice}
+use Rattle.co_base.proofs.TableLemmas.{alike, put_there, put_twice}
 use Rattle.co_edits.specs.declared.fault.EditFault.{EditFault}
 use Rattle.co_edits.specs.declared.fault.EditFault.TheVariants.{Unknown, Taken, Limit}
 use Rattle.co_edits.specs.declared.edit.Edit.{Edit}
@@ -28,7 +28,7 @@ use Rattle.co_project.specs.Tables.{Texts, Nodes, name_taken, has_no_room, renam
 use Rattle.co_project.specs.Project.{Content, first, accept, accept_all, with_nodes}
 use Rattle.co_project.specs.Script.{edits, event_edit, node_edit, param_edit, param_edits, text_edit}
 use Rattle.co_project.specs.Sound.{AreTexts, AreParams, Each, IsNodeOf, IsEventOf, IsSound}
-use Rattle.co_project.proofs.EachLemmas.{all_entries, both, each_empty, each_fails, each_found, each_put, each_there, each_weaker, find_below, first_part, get-put_all, made_again, none_pass, one_more, put_all, second_part}
+use Rattle.co_base.proofs.EachLemmas.{all_entries, both, each_empty, each_fails, each_found, each_put, each_there, each_weaker, find_below, first_part, get-put_all, made_again, none_pass, one_more, put_all, second_part}
 use Rattle.co_project.proofs.NodeLemmas.{same_put}
 use Rattle.co_project.proofs.ScriptEdits.{settings}
 

@@ -16,7 +16,7 @@ use Rattle.co_project.specs.declared.node.Node.{Node}
 use Rattle.co_project.specs.Project.{Content}
 use Rattle.co_project.specs.Script.{edits, event_edit, node_edit, param_edit, param_edits, text_edit}
 use Rattle.co_project.specs.Sound.{AreTexts, AreParams, IsNodeOf, IsEventOf, IsSound}
-use Rattle.co_project.proofs.EachLemmas.{all_entries}
+use Rattle.co_base.proofs.EachLemmas.{all_entries}
 
 module _ {X Y : Type 0} (P : Y → Type 0) (f : X → List Y) where
   -- what holds of each element of each list holds of each of them all

@@ -6,7 +6,7 @@ use Rattle.eds_device.specs.Faults.{device_of}
 use Rattle.co_edits.specs.Eds.{IsEds}
 use Rattle.co_project.specs.Project.{Content}
 use Rattle.co_project.specs.Sound.{AreTexts, IsNodeOf, IsSound}
-use Rattle.co_project.proofs.EachLemmas.{each_weaker}
+use Rattle.co_base.proofs.EachLemmas.{each_weaker}
 
 -- each text of a project is that of a device
 pub texts_are_devices : (p : Content) (name : List ℕ) → IsSound p

@@ -10,7 +10,7 @@ use Rattle.std.specs.FinMap.{entries, from_entries, get, insert, len, remove}
 use Rattle.std.proofs.lemmas.Cmp.{nat_list_cmp_total}
 use Rattle.std.proofs.lemmas.Map.Lookups.{exact_bytes}
 use Rattle.std.proofs.lemmas.Map.Views.{tells_apart}
-use Rattle.co_scenario.proofs.TableLemmas.{entries_made, get_made, len_made, made_put, made_removed}
+use Rattle.co_base.proofs.TableLemmas.{entries_made, get_made, len_made, made_put, made_removed}
 use Rattle.co_project.specs.Tables.{Texts, name_cmp, texts_of}
 
 -- a tree of texts

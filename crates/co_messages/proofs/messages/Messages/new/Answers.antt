@@ -1,6 +1,3 @@
-use Rattle.std.specs.BTreeMap.{BTreeMap}
-use Rattle.std.proofs.Common.{sym, subst, ap}
-use Rattle.co_messages.specs.Messages.{by_name, AreMessages}
 use Rattle.co_messages.proofs.LimitLemmas.{no_messages}
 use Rattle.co_messages.proofs.messages.Messages.new.Goals as goal
 

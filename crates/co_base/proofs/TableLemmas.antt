@@ -56,6 +56,14 @@ module _ {K : Type 0} {R : K → K → Ordering} (total : IsTotalOrder R) (exact
     pub removed_elsewhere : (m : FinMap R X) (k q : K) → q ≢ k → get (remove m k) q ≡ get m q
     removed_elsewhere m k q other = get-remove total m k q ∙ ap (λ t. cond t None (get m q)) (apart q k other)
 
+    -- a value that is put where it is
+    pub put_again : (m : FinMap R X) (k : K) (v : X) → get m k ≡ Some v → insert m k v ≡ m
+    put_again m k v there = same_map total exact _ _ (λ q. get-insert total m k v q ∙ by q (eq_by_cmp R q k) refl)
+      where
+        by : (q : K) (t : Bool) → eq_by_cmp R q k ≡ t → cond t (Some v) (get m q) ≡ get m q
+        by q true same = sym there ∙ ap (get m) (sym (alike q k same))
+        by q false other = refl
+
     -- what is put last counts
     pub put_twice : (m : FinMap R X) (k : K) (v w : X) → insert (insert m k v) k w ≡ insert m k w
     put_twice m k v w = same_map total exact _ _ (λ q.
@@ -101,7 +109,7 @@ module _ {K : Type 0} {R : K → K → Ordering} (total : IsTotalOrder R) (exact
     below_all_from x [] h = tt
     below_all_from x (e ∷ es) h = both _ _ (subst (λ r. T (is_lt r)) (sym h.0) tt) (below_all_from x es h.1)
 
-    is_sorted_from : (es : List (K × X)) → IsStrictlySortedBy R (keys_of es) → T (is_sorted R es)
+    pub is_sorted_from : (es : List (K × X)) → IsStrictlySortedBy R (keys_of es) → T (is_sorted R es)
     unfolding IsStrictlySortedBy
     is_sorted_from [] h = tt
     is_sorted_from (e ∷ es) h = both _ _ (below_all_from e.0 es h.0) (is_sorted_from es h.1)

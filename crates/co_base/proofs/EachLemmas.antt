@@ -13,8 +13,8 @@ use Rattle.std.specs.List.{list_any}
 use Rattle.std.specs.Option.{option_or}
 use Rattle.std.specs.FinMap.{FinMap, contains_key, empty, entries, entries_sorted, find, get, get-empty, get-entries, get-insert, get-remove, insert, is_sorted, len, len-insert, len-remove, remove, same_map}
 use Rattle.std.specs.FinMap.Entries.{below_all}
-use Rattle.co_scenario.proofs.TableLemmas.{alike}
-use Rattle.co_project.specs.Sound.{Each}
+use Rattle.co_base.proofs.TableLemmas.{alike}
+use Rattle.co_base.specs.Tables.{Each}
 
 -- a test that no element passes fails at each
 none_passes : {X : Type 0} (test : X → Bool) (xs : List X) → list_any test xs ≡ false → All (λ x. test x ≡ false) xs
