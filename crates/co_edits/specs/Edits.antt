@@ -1,6 +1,5 @@
 -- What every edit keeps to (this profile's own).
 use Rattle.std.specs.Prelude.{◌≡◌, ℕ, List, true}
-use Rattle.co_messages.specs.Messages.{is_position, IsMessage}
 use Rattle.co_scenario.specs.declared.event.Event.{Event}
 use Rattle.co_scenario.specs.declared.event.Event.TheVariants as event
 use Rattle.co_edits.specs.declared.edit.Edit.{Edit}
@@ -36,11 +35,5 @@ IsEdit (edit.Node id name eds) = (is_node_number id ≡ true) × (is_name name �
 IsEdit (edit.DropNode id) = is_node_number id ≡ true
 IsEdit (edit.Param id index sub text) = (is_node_number id ≡ true) × IsSetting index sub text
 IsEdit (edit.Unparam id index sub) = (is_node_number id ≡ true) × AreIndices index sub
-IsEdit (edit.Message name m) = (is_name name ≡ true) × IsMessage m
-IsEdit (edit.DropMessage name) = is_name name ≡ true
-IsEdit (edit.Source name position index sub) = (is_name name ≡ true) × (is_position position ≡ true) × AreIndices index sub
-IsEdit (edit.Unsource name position) = (is_name name ≡ true) × (is_position position ≡ true)
-IsEdit (edit.Sink name position node index sub) = (is_name name ≡ true) × (is_position position ≡ true) × (is_node_number node ≡ true) × AreIndices index sub
-IsEdit (edit.Unsink name position node) = (is_name name ≡ true) × (is_position position ≡ true) × (is_node_number node ≡ true)
 IsEdit (edit.Event number e) = (is_event_number number ≡ true) × (is_time e.time ≡ true) × IsEvent e.event
 IsEdit (edit.DropEvent number) = is_event_number number ≡ true

@@ -3,7 +3,6 @@ ghost use Rattle.std.specs.Prelude.{◌≡◌, true, IfOk};
 ghost use Rattle.co_base.specs.Gives.{Gives};
 ghost use Rattle.co_edits.specs.Faults.{is_memory};
 ghost use Rattle.co_base.specs.Ranges.{is_between};
-ghost use Rattle.co_messages.specs.Messages.{is_position};
 ghost use Rattle.co_edits.specs.Forms.{limited, is_node_number, is_node_or_all, is_own_index, is_bit_rate, is_time, is_sync_period, is_event_number};
 
 use crate::fault::EditFault;
@@ -12,12 +11,6 @@ use co_dict::is_of_pdos;
 const MAX_TIME: u64 = 10_000_000;
 
 const MIN_SYNC_PERIOD: u64 = 1000;
-
-const MAX_TPDOS: u64 = 512;
-
-const MAX_POSITIONS: u64 = 64;
-
-const MAX_IDENTIFIER: u16 = 0x7FF;
 
 const MAX_EVENTS: u64 = 10_000;
 
@@ -97,54 +90,6 @@ pub fn sync_period(number: u64) -> Result<u32, EditFault>
     }
     let period = limited(number, MIN_SYNC_PERIOD, MAX_TIME)?;
     Ok(period as u32)
-}
-
-/// The number of a TPDO, 1 to 512 (CiA 301).
-pub fn tpdo_number(number: u64) -> Result<u16, EditFault>
-    ensures value { Gives is_memory (λ n. n) result (limited (is_between 1 512) number) }
-    ensures within { IfOk result (λ n. is_between 1 512 n ≡ true) }
-{
-    let number = limited(number, 1, MAX_TPDOS)?;
-    Ok(number as u16)
-}
-
-/// A position in a message, 1 to 64.
-pub fn position(number: u64) -> Result<u8, EditFault>
-    ensures value { Gives is_memory (λ n. n) result (limited is_position number) }
-    ensures within { IfOk result (λ n. is_position n ≡ true) }
-{
-    let position = limited(number, 1, MAX_POSITIONS)?;
-    Ok(position as u8)
-}
-
-/// A number of 8 bits.
-pub fn byte(number: u64) -> Result<u8, EditFault>
-    ensures value { Gives is_memory (λ n. n) result (limited (is_between 0 0xFF) number) }
-    ensures within { IfOk result (λ n. is_between 0 0xFF n ≡ true) }
-{
-    let byte = limited(number, 0, 0xFF)?;
-    Ok(byte as u8)
-}
-
-/// A number of 16 bits.
-pub fn short(number: u64) -> Result<u16, EditFault>
-    ensures value { Gives is_memory (λ n. n) result (limited (is_between 0 0xFFFF) number) }
-    ensures within { IfOk result (λ n. is_between 0 0xFFFF n ≡ true) }
-{
-    let short = limited(number, 0, 0xFFFF)?;
-    Ok(short as u16)
-}
-
-/// An identifier of frames (ISO 11898-1, base format), at most 7FFh; 0 for one that the plan of
-/// messages gives.
-pub fn identifier(number: u16) -> Result<u16, EditFault>
-    ensures value { Gives is_memory (λ n. n) result (limited (is_between 0 0x7FF) number) }
-    ensures within { IfOk result (λ n. is_between 0 0x7FF n ≡ true) }
-{
-    if number > MAX_IDENTIFIER {
-        return Err(EditFault::Range);
-    }
-    Ok(number)
 }
 
 /// The number of an event, 1 to 10,000.

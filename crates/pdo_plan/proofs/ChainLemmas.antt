@@ -5,7 +5,7 @@ use Rattle.std.specs.List.{list_any, slice_get, cons_option, All, AllByRecursion
 use Rattle.std.proofs.lemmas.List.{append-nil}
 use Rattle.std.proofs.lemmas.List.Elements.{All-head, All-tail, All-from_recursion}
 use Rattle.co_messages.specs.declared.linked.Linked.{Linked}
-use Rattle.co_messages.specs.Messages.{IsLinked, AreMessages}
+use Rattle.co_messages.specs.Messages.{IsLinked}
 use Rattle.pdo_plan.specs.declared.clean.Clean.{Clean}
 use Rattle.pdo_plan.specs.declared.outcome.Outcome.{Outcome}
 use Rattle.pdo_plan.specs.declared.outcome.Outcome.TheVariants.{Planned, Faulty}
@@ -51,9 +51,9 @@ module _ (devices : Devices) (P : List Clean → Clean → Type 0) where
   unfolding plan_of
   each_clean holds ms = each_after holds [] ms
 
-  pub each_within : WithinLimits devices P → (ms : List (List ℕ × Linked)) → AreMessages ms → Each P [] (clean (plan_of devices ms))
-  unfolding plan_of AreMessages
-  each_within holds ms kept = within_after holds [] ms kept.1
+  pub each_within : WithinLimits devices P → (ms : List (List ℕ × Linked)) → All OfLinked ms → Each P [] (clean (plan_of devices ms))
+  unfolding plan_of
+  each_within holds ms kept = within_after holds [] ms kept
 
   from_place : (before cs : List Clean) (k : ℕ) (c : Clean) → Each P before cs → slice_get cs k ≡ Some c → P (before ++ take k cs) c
   from_place before [] k c each e = cc

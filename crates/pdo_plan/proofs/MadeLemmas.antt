@@ -10,7 +10,7 @@ use Rattle.co_dict.specs.Pdos.{is_restricted}
 use Rattle.eds_device.specs.Entries.{entry_at}
 use Rattle.co_messages.specs.declared.linked.Linked.{Linked}
 use Rattle.co_messages.specs.declared.message.Message.{Message}
-use Rattle.co_messages.specs.Messages.{IsLinked, AreMessages}
+use Rattle.co_messages.specs.Messages.{IsLinked}
 use Rattle.pdo_plan.specs.declared.clean.Clean.{Clean}
 use Rattle.pdo_plan.specs.declared.consumer.Consumer.{Consumer}
 use Rattle.pdo_plan.specs.declared.outcome.Outcome.TheVariants.{Planned}
@@ -31,7 +31,7 @@ not_restricted devices before m c kept e =
     let limits = limits_of m kept in
     (identifier_fine (had_by before) m.message c.identifier is.identifier).allowed limits.tpdo.0 limits.node.0 limits.node.1
 
-pub none_restricted : (devices : Devices) (ms : List (List ℕ × Linked)) → AreMessages ms → All (λ (c : Clean). IsFalse (is_restricted c.identifier)) (clean (plan_of devices ms))
+pub none_restricted : (devices : Devices) (ms : List (List ℕ × Linked)) → All (λ e. IsLinked e.1) ms → All (λ (c : Clean). IsFalse (is_restricted c.identifier)) (clean (plan_of devices ms))
 none_restricted devices ms kept =
     all_clean (λ (c : Clean). IsFalse (is_restricted c.identifier)) (clean (plan_of devices ms)) (each_within devices (λ before c. IsFalse (is_restricted c.identifier)) (not_restricted devices) ms kept)
 

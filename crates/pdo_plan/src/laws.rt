@@ -3,7 +3,7 @@ ghost use Rattle.std.specs.Prelude.{◌≡◌, ◌↔◌, ◌≤◌, ◌==◌, �
 ghost use Rattle.std.specs.Map.{lookup};
 ghost use Rattle.ini_text.specs.Content.{Section};
 ghost use Rattle.co_dict.specs.Pdos.{is_restricted};
-ghost use Rattle.co_messages.specs.Messages.{AreMessages};
+ghost use Rattle.co_messages.specs.Messages.{IsLinked};
 ghost use Rattle.co_messages.specs.declared.linked.Linked.{Linked};
 ghost use Rattle.pdo_plan.specs.declared.clean.Clean.{Clean as Sent};
 ghost use Rattle.pdo_plan.specs.declared.consumer.Consumer.{Consumer as Taker};
@@ -65,7 +65,7 @@ pub fn no_rpdo_is_had_twice()
 /// No clean message has a restricted identifier.
 #[tactic(auto, using(crate::proofs::MadeLemmas::none_restricted))]
 pub fn no_clean_identifier_is_restricted()
-    ensures { (devices : Devices) (ms : List (List ℕ × Linked)) → AreMessages ms
+    ensures { (devices : Devices) (ms : List (List ℕ × Linked)) → All (λ (e : List ℕ × Linked). IsLinked e.1) ms
         → All (λ (c : Sent). IsFalse (is_restricted c.identifier)) (clean (plan_of devices ms)) }
 {}
 

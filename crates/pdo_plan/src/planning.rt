@@ -1,4 +1,5 @@
 //! The plan of messages, message by message.
+ghost use Rattle.std.specs.FinMap as map;
 ghost use Rattle.std.specs.Prelude.{◌≡◌, ◌∷◌, [], All, IfOk, IfSome, OnOk};
 ghost use Rattle.pdo_plan.specs.Devices.{devices_of};
 ghost use Rattle.pdo_plan.specs.Plan.{clean, clean_of, IsWithin, plan_of};
@@ -34,7 +35,7 @@ fn take_clean(taken: &mut Taken, outcome: &Outcome) -> Result<(), AllocError>
 /// Takes time by the number of the devices' entries, of the messages' sources and sinks and of their
 /// consumers, and by the logarithms of these.
 pub fn plan(alloc: Global, nodes: &[(u8, &Device)], messages: &Messages) -> Result<Plan, AllocError>
-    ensures { IfOk result (λ plan. plan ≡ plan_of (devices_of (nodes_of nodes.now)) messages.now) }
+    ensures { IfOk result (λ plan. plan ≡ plan_of (devices_of (nodes_of nodes.now)) (map.entries messages.now)) }
 {
     let stations = stations(alloc, nodes)?;
     let mut taken = Taken::new(alloc)?;

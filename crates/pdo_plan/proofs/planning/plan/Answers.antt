@@ -1,8 +1,9 @@
 use Rattle.std.proofs.Common.{◌≡◌, ℕ, List, [], ◌∷◌, ◌++◌, ap, sym, subst, ◌∙◌, rules}
+use Rattle.std.specs.FinMap.{entries}
 use Rattle.std.specs.List.{All}
 use Rattle.std.proofs.lemmas.List.Elements.{All-nil, All-head, All-tail}
 use Rattle.co_messages.specs.declared.linked.Linked.{Linked}
-use Rattle.co_messages.specs.Messages.{by_name, IsLinked, AreMessages}
+use Rattle.co_messages.specs.Messages.{by_name, IsLinked}
 use Rattle.pdo_plan.specs.declared.planned_message.PlannedMessage.{PlannedMessage}
 use Rattle.pdo_plan.specs.Plan.{had_by, clean, plan_after, plan_of, said_of, IsWithin}
 use Rattle.pdo_plan.specs.Stations.{devices_in}
@@ -14,17 +15,13 @@ use Rattle.pdo_plan.proofs.planning.plan.Goals as goal
 abbrev OfLinked : List ℕ × Linked → Type 0
 OfLinked e = IsLinked e.1
 
-linked_all : (ms : List (List ℕ × Linked)) → AreMessages ms → All OfLinked ms
-unfolding AreMessages
-linked_all ms kept = kept.1
-
 pub messages-init : goal.messages-init
 unfolding plan_of
 messages-init c =
     let devices = devices_in c.in_ok-stations.stations.entries in
     let none : c.new-plan.result.items ≡ [] = c.new-plan.ensures.items in
-    let all : by_name c.into_iter-name-iterator.result ≡ c.args.messages.now = search rules in
-    let kept : All OfLinked c.args.messages.now = linked_all c.args.messages.now (subst AreMessages c.iter-name-items.ensures.messages c.iter-name-items.ensures.limits) in
+    let all : by_name c.into_iter-name-iterator.result ≡ entries c.args.messages.now = search rules in
+    let kept : All OfLinked (entries c.args.messages.now) = subst (All OfLinked) c.iter-name-items.ensures.messages c.iter-name-items.ensures.limits in
     record {
       whole = ap (λ (ps : List PlannedMessage). ps ++ plan_after devices (clean ps) (by_name c.into_iter-name-iterator.result)) none ∙ ap (plan_after devices []) all;
       taken = c.in_ok-taken.ensures ∙ ap (λ (ps : List PlannedMessage). had_by (clean ps)) (sym none);
