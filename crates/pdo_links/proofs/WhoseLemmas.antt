@@ -1,14 +1,16 @@
 -- Whose writes a node gets.
-use Rattle.std.proofs.Common.{◌≡◌, ◌⊎◌, inl, inr, ⊎_elim, ℕ, zero, suc, ◌+◌, ◌<◌, Bool, true, false, List, [], ◌∷◌, ◌++◌, length, Contains, Option, Some, None, option_map, refl, sym, ◌∙◌, arith}
+use Rattle.std.proofs.Common.{◌≡◌, ◌⊎◌, inl, inr, ⊎_elim, ℕ, zero, suc, ◌+◌, ◌<◌, ◌≤◌, Bool, true, false, cond, List, [], ◌∷◌, ◌++◌, length, Contains, Option, Some, None, option_map, refl, sym, ap, subst, ◌∙◌, arith}
 use Rattle.std.specs.Prelude.{◌==◌, filter_map, if◌then◌else◌}
 use Rattle.std.specs.BTreeMap.{is_at}
-use Rattle.std.specs.List.{find, flat_map, range_with_len}
+use Rattle.std.specs.List.{cons_option, find, flat_map, range_with_len}
 use Rattle.std.specs.Map.{lookup}
 use Rattle.std.specs.Option.{option_map_or}
 use Rattle.std.specs.Ordering.{nat_cmp}
+use Rattle.std.proofs.lemmas.Bool.{cases_eq}
 use Rattle.std.proofs.lemmas.Map.Views.{exact_unsigned_eq}
 use Rattle.concise_dcf.specs.declared.write.Write.{Write}
 use Rattle.ini_text.specs.Content.{Section}
+use Rattle.co_base.specs.Ranges.{is_between}
 use Rattle.co_dict.specs.Pdos.{is_of_pdos}
 use Rattle.std.specs.FinMap.{get}
 use Rattle.co_params.specs.Params.{Texts}
@@ -18,7 +20,7 @@ use Rattle.pdo_plan.specs.declared.clean.Clean.{Clean}
 use Rattle.pdo_plan.specs.declared.consumer.Consumer.{Consumer}
 use Rattle.pdo_plan.specs.declared.planned_message.PlannedMessage.{PlannedMessage}
 use Rattle.pdo_plan.specs.Plan.{clean}
-use Rattle.pdo_links.specs.Order.{IsOfSent, IsOfTaken, IsNamedByNone}
+use Rattle.pdo_links.specs.Order.{IsOfSent, IsOfTaken, IsNamedByNone, IsSentAlone, IsTakenAlone}
 use Rattle.pdo_links.specs.Writes.{at_number, by_number, link_writes, node_writes, tpdo_of, rpdo_of, tpdo_writes, rpdo_writes}
 use Rattle.pdo_links.proofs.Numbered.{Sends, Takes, sends, takes, found, append_none}
 
@@ -123,3 +125,106 @@ parameters_alone plan params ss node none =
     let rpdos : by_number (λ (t : Clean × Consumer). rpdo_writes t.0 t.1) (filter_map (rpdo_of node) (clean plan)) ≡ [] =
     none_by_number (λ (t : Clean × Consumer). rpdo_writes t.0 t.1) (filter_map (rpdo_of node) (clean plan)) (none_given (rpdo_of node) (clean plan) (λ c has. no_rpdo node c (none c has).1)) in
     rw (tpdos, rpdos) (append_none (parameter_writes ss params node))
+
+-- ---- nothing is missing
+
+in_first : {X : Type 0} (xs ys : List X) (x : X) → Contains xs x → Contains (xs ++ ys) x
+in_first [] ys x (k, lt, is) = absurd (omega arith)
+in_first (z ∷ xs) ys x (zero, lt, is) = (zero, omega arith, is)
+in_first (z ∷ xs) ys x (suc k, lt, is) = let r : Contains (xs ++ ys) x = in_first xs ys x (k, omega arith, is) in (suc r.0, (let j : r.0 < length (xs ++ ys) = r.1 in omega arith), r.2)
+
+in_second : {X : Type 0} (xs ys : List X) (x : X) → Contains ys x → Contains (xs ++ ys) x
+in_second [] ys x has = has
+in_second (z ∷ xs) ys x has = let r : Contains (xs ++ ys) x = in_second xs ys x has in (suc r.0, (let j : r.0 < length (xs ++ ys) = r.1 in omega arith), r.2)
+
+at_itself : (n : ℕ) → is_at (nat_cmp n) n ≡ true
+at_itself n = grind arith
+
+-- a number that is given is found
+given_found : {Y : Type 0} (h : Clean → Option (ℕ × Y)) (cs : List Clean) (c : Clean) (number : ℕ) (y : Y) → Contains cs c → h c ≡ Some (number, y)
+    → (z : Y) × (lookup (is_at (nat_cmp number)) (filter_map h cs) ≡ Some z)
+given_found h [] c number y (k, lt, is) e = absurd (omega arith)
+given_found {Y} h (x ∷ cs) c number y (zero, lt, is) e = (y, rw (ap h is ∙ e, at_itself number) refl)
+given_found {Y} h (x ∷ cs) c number y (suc k, lt, is) e = by (h x) (given_found h cs c number y (k, omega arith, is) e)
+  where
+    by : (o : Option (ℕ × Y)) → (z : Y) × (lookup (is_at (nat_cmp number)) (filter_map h cs) ≡ Some z) → (z : Y) × (lookup (is_at (nat_cmp number)) (cons_option o (filter_map h cs)) ≡ Some z)
+    by None r = r
+    by (Some p) r = test (is_at (nat_cmp number) p.0)
+      where
+        test : (b : Bool) → (z : Y) × (cond b (Some p.1) (lookup (is_at (nat_cmp number)) (filter_map h cs)) ≡ Some z)
+        test true = (p.1, refl)
+        test false = r
+
+module _ {Y : Type 0} (f : Y → List Write) (pdos : List (ℕ × Y)) (number : ℕ) (w : Write) (has : Contains (at_number f pdos number) w) where
+  in_range : (first n : ℕ) → first ≤ number → number < first + n → Contains (flat_map (at_number f pdos) (range_with_len first n)) w
+  in_range first zero low high = absurd (omega arith)
+  in_range first (suc n) low high = ⊎_elim
+      (λ (same : first ≡ number). in_first (at_number f pdos first) (flat_map (at_number f pdos) (range_with_len (first + 1) n)) w (subst (λ (k : ℕ). Contains (at_number f pdos k) w) (sym same) has))
+      (λ (other : first ≡ number → ⊥). in_second (at_number f pdos first) (flat_map (at_number f pdos) (range_with_len (first + 1) n)) w (in_range (first + 1) n (above first number low other) (omega arith)))
+      (cases_eq first number)
+    where
+      above : (a b : ℕ) → a ≤ b → (a ≡ b → ⊥) → a + 1 ≤ b
+      above a b le other = omega (arith, other)
+
+  in_numbers : is_between 1 512 number ≡ true → Contains (by_number f pdos) w
+  unfolding by_number
+  in_numbers test = in_range 1 512 (bounds number test).0 (bounds number test).1
+    where
+      bounds : (n : ℕ) → is_between 1 512 n ≡ true → (1 ≤ n) × (n < 1 + 512)
+      bounds n test = grind arith
+
+pub sent_written : (plan : List PlannedMessage) (params : List ((ℕ × ℕ) × List ℕ)) (ss : List Section) (node : ℕ) (c : Clean) (w : Write)
+    → IsSentAlone (clean plan) node c → Contains (tpdo_writes ss node c) w → Contains (node_writes plan params ss node) w
+unfolding node_writes link_writes
+sent_written plan params ss node c w sent has =
+    let pdos : List (ℕ × Clean) = filter_map (tpdo_of node) (clean plan) in
+    let f : Clean → List Write = tpdo_writes ss node in
+    let number : ℕ = c.message.tpdo in
+    let given : tpdo_of node c ≡ Some (number, c) = own (c.message.node == node) (same_number c.message.node node sent.sender) in
+    let at : (z : Clean) × (lookup (is_at (nat_cmp number)) pdos ≡ Some z) = given_found (tpdo_of node) (clean plan) c number c sent.there given in
+    let s : Sends (clean plan) node number at.0 = sends (clean plan) node number at.0 at.1 in
+    let same : at.0 ≡ c = sent.alone at.0 s.message s.sender s.numbered in
+    let here : at_number f pdos number ≡ f c = ap (λ (o : Option Clean). option_map_or f o []) at.1 ∙ ap f same in
+    in_second (parameter_writes ss params node) (link_writes plan ss node) w
+    (in_first (by_number f pdos) (by_number (λ (t : Clean × Consumer). rpdo_writes t.0 t.1) (filter_map (rpdo_of node) (clean plan))) w
+    (in_numbers f pdos number w (subst (λ (ws : List Write). Contains ws w) (sym here) has) sent.numbered))
+  where
+    own : (b : Bool) → b ≡ true → (let none : Option (ℕ × Clean) = None in let o : Option (ℕ × Clean) = if b then Some (c.message.tpdo, c) else none in o ≡ Some (c.message.tpdo, c))
+    own true is = refl
+    own false is = cc
+
+    same_number : (m n : ℕ) → m ≡ n → (m == n) ≡ true
+    same_number m n e = grind arith
+
+-- the consumer that is a node is found
+node_found : (node : ℕ) (ks : List Consumer) (k : Consumer) → Contains ks k → k.node ≡ node → (j : Consumer) × (find (λ (k : Consumer). k.node == node) ks ≡ Some j)
+node_found node [] k (i, lt, is) e = absurd (omega arith)
+node_found node (x ∷ ks) k (zero, lt, is) e = (x, rw (same_number x.node node (ap (λ (y : Consumer). y.node) is ∙ e)) refl)
+  where
+    same_number : (m n : ℕ) → m ≡ n → (m == n) ≡ true
+    same_number m n e = grind arith
+node_found node (x ∷ ks) k (suc i, lt, is) e = by (x.node == node) (node_found node ks k (i, omega arith, is) e)
+  where
+    by : (b : Bool) → (j : Consumer) × (find (λ (k : Consumer). k.node == node) ks ≡ Some j) → (j : Consumer) × (cond b (Some x) (find (λ (k : Consumer). k.node == node) ks) ≡ Some j)
+    by true r = (x, refl)
+    by false r = r
+
+pub taken_written : (plan : List PlannedMessage) (params : List ((ℕ × ℕ) × List ℕ)) (ss : List Section) (node : ℕ) (c : Clean) (k : Consumer) (w : Write)
+    → IsTakenAlone (clean plan) node c k → Contains (rpdo_writes c k) w → Contains (node_writes plan params ss node) w
+unfolding node_writes link_writes
+taken_written plan params ss node c k w taken has =
+    let pdos : List (ℕ × (Clean × Consumer)) = filter_map (rpdo_of node) (clean plan) in
+    let f : Clean × Consumer → List Write = λ (t : Clean × Consumer). rpdo_writes t.0 t.1 in
+    let number : ℕ = k.rpdo in
+    let there : (j : Consumer) × (find (λ (k : Consumer). k.node == node) c.consumers ≡ Some j) = node_found node c.consumers k taken.consumer taken.taker in
+    let j : Contains c.consumers there.0 × ((there.0.node == node) ≡ true) = found (λ (k : Consumer). k.node == node) c.consumers there.0 there.1 in
+    let it : there.0 ≡ k = taken.once there.0 j.0 (exact_unsigned_eq there.0.node node j.1) in
+    let given : rpdo_of node c ≡ Some (number, (c, k)) = ap (option_map {U = ℕ × (Clean × Consumer)} (λ (k : Consumer). (k.rpdo, (c, k)))) (there.1 ∙ ap (λ (i : Consumer). Some i) it) in
+    let at : (z : Clean × Consumer) × (lookup (is_at (nat_cmp number)) pdos ≡ Some z) = given_found (rpdo_of node) (clean plan) c number (c, k) taken.there given in
+    let t : Takes (clean plan) node number at.0 = takes (clean plan) node number at.0 at.1 in
+    let message : at.0.0 ≡ c = taken.alone at.0.0 at.0.1 t.message t.consumer t.taker t.numbered in
+    let consumer : at.0.1 ≡ k = taken.once at.0.1 (subst (λ (d : Clean). Contains d.consumers at.0.1) message t.consumer) t.taker in
+    let here : at_number f pdos number ≡ rpdo_writes c k = ap (λ (o : Option (Clean × Consumer)). option_map_or f o []) at.1 ∙ ap (λ (d : Clean). rpdo_writes d at.0.1) message ∙ ap (rpdo_writes c) consumer in
+    in_second (parameter_writes ss params node) (link_writes plan ss node) w
+    (in_second (by_number (tpdo_writes ss node) (filter_map (tpdo_of node) (clean plan))) (by_number f pdos) w
+    (in_numbers f pdos number w (subst (λ (ws : List Write). Contains ws w) (sym here) has) taken.numbered))

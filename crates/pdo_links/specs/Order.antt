@@ -1,6 +1,7 @@
 -- In which order a PDO is configured, and whose writes a node gets, in the words of CiA 301.
 use Rattle.std.specs.Prelude.{◌≡◌, ℕ, ◌%◌, ◌==◌, ◌&&◌, nat_le, Bool, true, false, not, List, [], ◌∷◌, ◌++◌, length, filter, Contains}
 use Rattle.byteorder.specs.Endian.{little_number}
+use Rattle.co_base.specs.Ranges.{is_between}
 use Rattle.concise_dcf.specs.declared.write.Write.{Write}
 use Rattle.ini_text.specs.Content.{Section}
 use Rattle.pdo_plan.specs.declared.clean.Clean.{Clean}
@@ -56,3 +57,19 @@ IsOfTaken cs node w = (c : Clean) × Contains cs c × ((k : Consumer) × Contain
 -- no message is sent or taken by a node
 abbrev pub IsNamedByNone : List Clean → ℕ → Type 0
 IsNamedByNone cs node = (c : Clean) → Contains cs c → ((c.message.node ≡ node → ⊥) × ((k : Consumer) → Contains c.consumers k → k.node ≡ node → ⊥))
+
+-- a node sends a message by a TPDO, and no other of the messages by that one
+pub record IsSentAlone (cs : List Clean) (node : ℕ) (c : Clean) : Type 0 where
+  pub there : Contains cs c
+  pub sender : c.message.node ≡ node
+  pub numbered : is_between 1 512 c.message.tpdo ≡ true
+  pub alone : (d : Clean) → Contains cs d → d.message.node ≡ node → d.message.tpdo ≡ c.message.tpdo → d ≡ c
+
+-- a node takes a message by an RPDO alone, and no other of the messages by that one
+pub record IsTakenAlone (cs : List Clean) (node : ℕ) (c : Clean) (k : Consumer) : Type 0 where
+  pub there : Contains cs c
+  pub consumer : Contains c.consumers k
+  pub taker : k.node ≡ node
+  pub numbered : is_between 1 512 k.rpdo ≡ true
+  pub once : (j : Consumer) → Contains c.consumers j → j.node ≡ node → j ≡ k
+  pub alone : (d : Clean) (j : Consumer) → Contains cs d → Contains d.consumers j → j.node ≡ node → j.rpdo ≡ k.rpdo → d ≡ c

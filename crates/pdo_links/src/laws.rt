@@ -11,7 +11,7 @@ ghost use Rattle.pdo_plan.specs.declared.consumer.Consumer.{Consumer};
 ghost use Rattle.pdo_plan.specs.declared.planned_message.PlannedMessage.{PlannedMessage};
 ghost use Rattle.pdo_plan.specs.Devices.{tpdo_object, rpdo_object};
 ghost use Rattle.pdo_plan.specs.Plan.{IsWithin, clean};
-ghost use Rattle.pdo_links.specs.Order.{IsConfigured, IsOfSent, IsOfTaken, IsNamedByNone};
+ghost use Rattle.pdo_links.specs.Order.{IsConfigured, IsOfSent, IsOfTaken, IsNamedByNone, IsSentAlone, IsTakenAlone};
 ghost use Rattle.pdo_links.specs.Writes.{tpdo_writes, rpdo_writes, node_writes};
 
 /// A PDO is configured only while it is off (CiA 301): each write of it stands behind that of a
@@ -36,4 +36,13 @@ pub fn the_writes_to_pdos_are_those_of_the_nodes_messages()
         → IsOfSent (clean plan) ss node w ⊎ IsOfTaken (clean plan) node w }
     ensures alone { (plan : List PlannedMessage) (params : Texts) (ss : List Section) (node : ℕ)
         → IsNamedByNone (clean plan) node → node_writes plan params ss node ≡ parameter_writes ss params node }
+{}
+
+/// No PDO is missing: each write of a TPDO by which the node sends a clean message, and of an RPDO by
+/// which it takes one, is among the node's writes, where no other of the messages has that PDO.
+pub fn no_pdo_of_a_node_is_missing()
+    ensures sent { (plan : List PlannedMessage) (params : List ((ℕ × ℕ) × List ℕ)) (ss : List Section) (node : ℕ) (c : Clean) (w : written)
+        → IsSentAlone (clean plan) node c → Contains (tpdo_writes ss node c) w → Contains (node_writes plan params ss node) w }
+    ensures taken { (plan : List PlannedMessage) (params : List ((ℕ × ℕ) × List ℕ)) (ss : List Section) (node : ℕ) (c : Clean) (k : Consumer) (w : written)
+        → IsTakenAlone (clean plan) node c k → Contains (rpdo_writes c k) w → Contains (node_writes plan params ss node) w }
 {}
