@@ -173,7 +173,7 @@ module _ {Y : Type 0} (f : Y → List Write) (pdos : List (ℕ × Y)) (number : 
       bounds : (n : ℕ) → is_between 1 512 n ≡ true → (1 ≤ n) × (n < 1 + 512)
       bounds n test = grind arith
 
-pub sent_written : (plan : List PlannedMessage) (params : List ((ℕ × ℕ) × List ℕ)) (ss : List Section) (node : ℕ) (c : Clean) (w : Write)
+pub sent_written : (plan : List PlannedMessage) (params : Texts) (ss : List Section) (node : ℕ) (c : Clean) (w : Write)
     → IsSentAlone (clean plan) node c → Contains (tpdo_writes ss node c) w → Contains (node_writes plan params ss node) w
 unfolding node_writes link_writes
 sent_written plan params ss node c w sent has =
@@ -209,7 +209,7 @@ node_found node (x ∷ ks) k (suc i, lt, is) e = by (x.node == node) (node_found
     by true r = (x, refl)
     by false r = r
 
-pub taken_written : (plan : List PlannedMessage) (params : List ((ℕ × ℕ) × List ℕ)) (ss : List Section) (node : ℕ) (c : Clean) (k : Consumer) (w : Write)
+pub taken_written : (plan : List PlannedMessage) (params : Texts) (ss : List Section) (node : ℕ) (c : Clean) (k : Consumer) (w : Write)
     → IsTakenAlone (clean plan) node c k → Contains (rpdo_writes c k) w → Contains (node_writes plan params ss node) w
 unfolding node_writes link_writes
 taken_written plan params ss node c k w taken has =

@@ -41,8 +41,8 @@ pub fn the_writes_to_pdos_are_those_of_the_nodes_messages()
 /// No PDO is missing: each write of a TPDO by which the node sends a clean message, and of an RPDO by
 /// which it takes one, is among the node's writes, where no other of the messages has that PDO.
 pub fn no_pdo_of_a_node_is_missing()
-    ensures sent { (plan : List PlannedMessage) (params : List ((ℕ × ℕ) × List ℕ)) (ss : List Section) (node : ℕ) (c : Clean) (w : written)
+    ensures sent { (plan : List PlannedMessage) (params : Texts) (ss : List Section) (node : ℕ) (c : Clean) (w : written)
         → IsSentAlone (clean plan) node c → Contains (tpdo_writes ss node c) w → Contains (node_writes plan params ss node) w }
-    ensures taken { (plan : List PlannedMessage) (params : List ((ℕ × ℕ) × List ℕ)) (ss : List Section) (node : ℕ) (c : Clean) (k : Consumer) (w : written)
+    ensures taken { (plan : List PlannedMessage) (params : Texts) (ss : List Section) (node : ℕ) (c : Clean) (k : Consumer) (w : written)
         → IsTakenAlone (clean plan) node c k → Contains (rpdo_writes c k) w → Contains (node_writes plan params ss node) w }
 {}
