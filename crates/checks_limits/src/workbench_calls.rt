@@ -54,7 +54,7 @@ fn edit(alloc: Global, workbench: &mut Workbench, line: &[u8]) -> Result<(), Edi
 }
 
 /// Whether these are the files of node 5, and the commands of the project.
-fn has_files(workbench: &Workbench) -> Result<bool, EditFault> {
+fn has_files(workbench: &mut Workbench) -> Result<bool, EditFault> {
     let dcf = workbench.dcf(5)?;
     let concise = workbench.concise(5)?;
     let script = workbench.script()?;
@@ -62,7 +62,7 @@ fn has_files(workbench: &Workbench) -> Result<bool, EditFault> {
 }
 
 /// Whether a number is answered by Unknown.
-fn is_unknown(workbench: &Workbench, number: u8) -> bool {
+fn is_unknown(workbench: &mut Workbench, number: u8) -> bool {
     let unknown = Some(EditFault::Unknown);
     workbench.dcf(number).err() == unknown && workbench.concise(number).err() == unknown
 }
@@ -74,9 +74,9 @@ fn edits_and_files_of_a_workbench(rt: HostRuntime) -> Result<(), EditFault> {
     for (line, fault) in &EDITS {
         assert!(rt; edit(rt.alloc(), &mut workbench, line).err() == *fault);
     }
-    assert!(rt; has_files(&workbench)?);
+    assert!(rt; has_files(&mut workbench)?);
     for number in &OTHERS {
-        assert!(rt; is_unknown(&workbench, *number));
+        assert!(rt; is_unknown(&mut workbench, *number));
     }
     Ok(())
 }

@@ -6,6 +6,6 @@ pub mod WordLemmas
 pub mod NumberLemmas
 pub mod LineLemmas
 pub mod CommandLemmas
+pub mod LinkLemmas
 pub mod PrintedLemmas
 pub mod ScriptLemmas
-pub mod EventLemmas

@@ -67,30 +67,30 @@ kept t h =
 
 -- ---- the first word
 
--- a word of up to ten bytes; of a word in letters it computes
+-- a word of up to twelve bytes; of a word in letters it computes
 abbrev pub is_short : List ℕ → Bool
-is_short w = nat_lt 0 (length w) && nat_le (length w) 10 && list_all is_visible w
+is_short w = nat_lt 0 (length w) && nat_le (length w) 12 && list_all is_visible w
 
-pub short : (w : List ℕ) → is_short w ≡ true → IsWord 10 w
+pub short : (w : List ℕ) → is_short w ≡ true → IsWord 12 w
 short w h =
-    let all = and_parts (nat_lt 0 (length w) && nat_le (length w) 10) (list_all is_visible w) h in
-    let sizes = and_parts (nat_lt 0 (length w)) (nat_le (length w) 10) all.0 in
-    record { some = ltb-true 0 (length w) sizes.0; few = leb-true (length w) 10 sizes.1; visible = all.1 }
+    let all = and_parts (nat_lt 0 (length w) && nat_le (length w) 12) (list_all is_visible w) h in
+    let sizes = and_parts (nat_lt 0 (length w)) (nat_le (length w) 12) all.0 in
+    record { some = ltb-true 0 (length w) sizes.0; few = leb-true (length w) 12 sizes.1; visible = all.1 }
 
 -- a line without control bytes, and what it asks
 pub record IsRead (line : List ℕ) (asked : Request) : Type 0 where
   pub clean : list_any is_control line ≡ false
   pub is : request line ≡ Ok asked
 
-module _ {P : List ℕ → Type 0} {n : ℕ} {line : List ℕ} {words : List (List ℕ)} (first : List ℕ) (is : is_short first ≡ true) (few : n ≤ 4085) (rest : Spells P n line words) where
-  all_words : Spells P (10 + suc n) (first ++ 32 ∷ line) (first ∷ words)
+module _ {P : List ℕ → Type 0} {n : ℕ} {line : List ℕ} {words : List (List ℕ)} (first : List ℕ) (is : is_short first ≡ true) (few : n ≤ 4083) (rest : Spells P n line words) where
+  all_words : Spells P (12 + suc n) (first ++ 32 ∷ line) (first ∷ words)
   all_words = more (short first is) rest
 
   first_is : word (first ++ 32 ∷ line) ≡ first
   first_is = sym (word-space (first ++ 32 ∷ line)) ∙ all_words.has.0
 
   rest_is : after (first ++ 32 ∷ line) ≡ 32 ∷ line
-  rest_is = sym (after-space (first ++ 32 ∷ line)) ∙ after_is 10 first (32 ∷ line) (short first is) refl
+  rest_is = sym (after-space (first ++ 32 ∷ line)) ∙ after_is 12 first (32 ∷ line) (short first is) refl
 
   good_line : is_bad_line (first ++ 32 ∷ line) ≡ false
   good_line = rw (le-ltb 4096 (length (first ++ 32 ∷ line)) (omega (arith, all_words.few)), all_words.clean) refl

@@ -7,7 +7,7 @@ use Rattle.std.specs.Str.Parse.{AllDigits}
 use Rattle.std.proofs.lemmas.Bool.{and_parts, cases_lt, lt-ltb, le-ltb, leb-true}
 use Rattle.std.proofs.lemmas.Bool.Decides.{nat_tests}
 use Rattle.std.proofs.lemmas.Fmt.{decimal_is_IsNumeral, length-decimal-le}
-use Rattle.co_text.specs.Digits.{digits_number, byte_digits, index_digits}
+use Rattle.co_text.specs.Digits.{digits_number, byte_digits, index_digits, identifier_digits}
 use Rattle.co_text.proofs.DigitLemmas as digits
 use Rattle.co_base.specs.Ranges.{is_between}
 use Rattle.co_edits.specs.Forms.{is_name, is_name_byte}
@@ -53,11 +53,17 @@ index_is_word n h = record { some = lit< tt; few = lit≤ tt; visible = visible_
 pub sub_is_word : (n : ℕ) → n ≤ 255 → IsWord 10 (byte_digits n)
 sub_is_word n h = record { some = lit< tt; few = lit≤ tt; visible = visible_digits 16 (byte_digits n) (lit≤ tt) (digits.byte_is_digits n h) }
 
+pub identifier_is_word : (n : ℕ) → n ≤ 2047 → IsWord 10 (identifier_digits n)
+identifier_is_word n h = record { some = lit< tt; few = lit≤ tt; visible = visible_digits 16 (identifier_digits n) (lit≤ tt) (digits.identifier_is_digits n (omega arith)) }
+
 pub index_again : (n : ℕ) → n ≤ 65535 → hexadecimal 4 (index_digits n) ≡ Ok n
 index_again n h = number_is 16 4 n (index_digits n) (lit≤ tt) (digits.index_again n h)
 
 pub sub_again : (n : ℕ) → n ≤ 255 → hexadecimal 2 (byte_digits n) ≡ Ok n
 sub_again n h = number_is 16 2 n (byte_digits n) (lit≤ tt) (digits.byte_again n h)
+
+pub identifier_again : (n : ℕ) → n ≤ 2047 → hexadecimal 3 (identifier_digits n) ≡ Ok n
+identifier_again n h = number_is 16 3 n (identifier_digits n) (lit≤ tt) (digits.identifier_again n (omega arith))
 
 -- ---- names
 

@@ -14,11 +14,13 @@ use Rattle.co_edits.specs.Eds.{IsEds}
 use Rattle.co_edits.specs.Forms.{is_event_number, is_time}
 use Rattle.co_commands.specs.Requests.{command_of, asks_edit, event_at_time, happening_of}
 use Rattle.co_edits.specs.Edits.{IsEdit, IsManager, IsSetting, IsEvent}
-use Rattle.co_commands.specs.Lines.{event_words, words_of, line_of, asks}
+use Rattle.co_lines.specs.Lines.{event_words, words_of, line_of}
+use Rattle.co_commands.specs.Asked.{asks}
 use Rattle.co_commands.proofs.WordLemmas.{IsWord}
 use Rattle.co_commands.proofs.NumberLemmas.{number_word, index_is_word, sub_is_word, name_word}
 use Rattle.co_commands.proofs.LineLemmas.{Has, Spells, Keeps, last, more, kept, is_short, short, IsRead, command, block}
 use Rattle.co_commands.proofs.CommandLemmas.{most, node_below, id_below, rate_below, time_below, period_below, key_below, short_below, command_below, block_is, bitrate_is, horizon_is, manager_is, drop_eds_is, node_is, drop_node_is, param_is, unparam_is, drop_event_is, event_is, set_is, power_is, nmt_is}
+use Rattle.co_commands.proofs.LinkLemmas.{read_message, read_drop_message, read_source, read_unsource, read_sink, read_unsink}
 use Rattle.co_commands.proofs.BlockLemmas.{lines_counted}
 
 -- ---- words at the end of a line
@@ -28,7 +30,7 @@ setting : (index sub : ℕ) (text : List ℕ) → IsSetting index sub text → S
 unfolding IsSetting
 setting index sub text is = more (index_is_word index (most 0 65535 index is.0.0)) (more (sub_is_word sub (most 0 255 sub is.0.1)) (kept text is.2))
 
-switch_word : (on : Bool) → IsWord 10 (if on then codes "on" else codes "off")
+switch_word : (on : Bool) → IsWord 12 (if on then codes "on" else codes "off")
 switch_word true = short (codes "on") refl
 switch_word false = short (codes "off") refl
 
@@ -36,7 +38,7 @@ switch_word false = short (codes "off") refl
 
 module _ (key time : ℕ) (numbered : is_event_number key ≡ true) (timed : is_time time ≡ true) where
   -- the line of an event, where what happens is read behind its kind
-  event_line : {P : List ℕ → Type 0} {n : ℕ} {line : List ℕ} {words : List (List ℕ)} (kind : List ℕ) → is_short kind ≡ true → n ≤ 4052 → Spells P n line words → (e : Event)
+  event_line : {P : List ℕ → Type 0} {n : ℕ} {line : List ℕ} {words : List (List ℕ)} (kind : List ℕ) → is_short kind ≡ true → n ≤ 4048 → Spells P n line words → (e : Event)
       → ((rest : List ℕ) → Has P rest words → happening_of key time kind rest ≡ Ok (event_at_time key time e))
       → IsRead (codes "event" ++ 32 ∷ (decimal key ++ 32 ∷ (decimal time ++ 32 ∷ (kind ++ 32 ∷ line)))) (EditAsked (event_at_time key time e))
   unfolding command_of
@@ -98,6 +100,12 @@ read_again (edit.Param id index sub text) is =
 read_again (edit.Unparam id index sub) is =
     let line = more (number_word id (id_below id is.0)) (more (index_is_word index (most 0 65535 index is.1.0)) (last (sub_is_word sub (most 0 255 sub is.1.1)))) in
     command (codes "unparam") refl (lit≤ tt) line refl (ap asks_edit (unparam_is _ id index sub line.has is.0 is.1))
+read_again (edit.Message name m) is = read_message name m is.0 is.1
+read_again (edit.DropMessage name) named = read_drop_message name named
+read_again (edit.Source message position index sub) is = read_source message position index sub is.0 is.1 is.2
+read_again (edit.Unsource message position) is = read_unsource message position is.0 is.1
+read_again (edit.Sink message position node index sub) is = read_sink message position node index sub is.0 is.1 is.2 is.3
+read_again (edit.Unsink message position node) is = read_unsink message position node is.0 is.1 is.2
 read_again (edit.Event key e) is = read_event key e.time is.0 is.1 e.event is.2
 read_again (edit.DropEvent key) fits =
     let line = last (number_word key (key_below key fits)) in

@@ -11,7 +11,7 @@ use Rattle.co_edits.specs.declared.edit.Edit.TheVariants as edit
 use Rattle.co_edits.specs.Forms.{is_control}
 use Rattle.co_edits.specs.Eds.{text_of as eds_text}
 use Rattle.co_edits.specs.Edits.{IsEdit}
-use Rattle.co_commands.specs.Lines.{line_of, block_of, text_of}
+use Rattle.co_lines.specs.Lines.{line_of, block_of, text_of}
 use Rattle.co_commands.proofs.LineFeeds.{other_first, first_other, no_lf, no_lf_kept}
 use Rattle.co_commands.proofs.PrintedLemmas.{read_again}
 

@@ -1,3 +1,5 @@
 pub mod Words
+pub mod Steps
+pub mod Links
 pub mod Requests
-pub mod Lines
+pub mod Asked

@@ -18,13 +18,9 @@ use Rattle.co_text.specs.Words.{word, after}
 use Rattle.co_edits.specs.Eds.{most_lines}
 use Rattle.co_base.specs.Ranges.{is_between}
 use Rattle.co_edits.specs.Forms.{is_name, limited, is_node_number, is_node_or_all, is_own_index, is_bit_rate, is_time, is_sync_period, is_event_number}
+use Rattle.co_commands.specs.Steps.{◌>>=◌}
+use Rattle.co_commands.specs.Links.{message_of, drop_message_of, source_of, unsource_of, sink_of, unsink_of}
 use Rattle.co_commands.specs.Words.{last_word, is_bad_line, name, decimal, hexadecimal, text}
-
-infixl 10 ◌>>=◌
--- a step after a step; the first fault stays
-abbrev pub ◌>>=◌ : {A B : Type 0} → Result A EditFault → (A → Result B EditFault) → Result B EditFault
-(Ok x) >>= f = f x
-(Err e) >>= f = Err e
 
 -- an edit is asked
 abbrev pub asks_edit : Result Edit EditFault → Result Request EditFault
@@ -225,6 +221,17 @@ query_of first rest =
     else if bytes_eq first (codes "project") && is_blank_line rest then Ok Project
     else Err Syntax
 
+-- what is asked of messages, or by a query
+unfoldable pub link_of : List ℕ → List ℕ → Result Request EditFault
+link_of first rest =
+    if bytes_eq first (codes "message") then asks_edit (message_of rest)
+    else if bytes_eq first (codes "drop-message") then asks_edit (drop_message_of rest)
+    else if bytes_eq first (codes "source") then asks_edit (source_of rest)
+    else if bytes_eq first (codes "unsource") then asks_edit (unsource_of rest)
+    else if bytes_eq first (codes "sink") then asks_edit (sink_of rest)
+    else if bytes_eq first (codes "unsink") then asks_edit (unsink_of rest)
+    else asks_query (query_of first rest)
+
 -- what a first word and the rest of its line ask
 unfoldable pub command_of : List ℕ → List ℕ → Result Request EditFault
 command_of first rest =
@@ -238,7 +245,7 @@ command_of first rest =
     else if bytes_eq first (codes "unparam") then asks_edit (unparam_of rest)
     else if bytes_eq first (codes "event") then asks_edit (event_of rest)
     else if bytes_eq first (codes "drop-event") then asks_edit (drop_event_of rest)
-    else asks_query (query_of first rest)
+    else link_of first rest
 
 -- THE REQUEST: what a line asks. The line has neither the LF nor the CRs at its end
 unfoldable pub request : List ℕ → Result Request EditFault

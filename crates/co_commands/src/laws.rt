@@ -6,7 +6,8 @@ ghost use Rattle.co_edits.specs.declared.edit.Edit.TheVariants.{Eds};
 ghost use Rattle.co_commands.specs.Requests.{request};
 ghost use Rattle.co_edits.specs.Eds.{IsEds, eds_edit};
 ghost use Rattle.co_edits.specs.Edits.{IsEdit};
-ghost use Rattle.co_commands.specs.Lines.{line_of, asks, text_of, block_of};
+ghost use Rattle.co_lines.specs.Lines.{line_of, text_of, block_of};
+ghost use Rattle.co_commands.specs.Asked.{asks};
 
 /// The line of each edit is read as that edit; that of an EDS asks for its lines.
 pub fn printed_lines_are_read()

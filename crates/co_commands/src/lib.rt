@@ -1,19 +1,17 @@
-//! Commands read and printed: what each line of a script asks, and each edit as the text that is
-//! read as it.
+//! Commands read: what each line of a script asks.
 #![tactic(auto)]
 
 mod block;
 mod command;
 mod edits;
-mod event_lines;
 mod events;
 pub mod laws;
+mod links;
 mod numbers;
-pub mod printing;
 mod query;
 mod request;
+mod stated;
 mod words;
-mod written;
 
 pub use co_edits::{Edit, EditFault, ManagerSettings, refusal};
 pub use command::Command;

@@ -50,3 +50,11 @@ pub(crate) fn sub_index(word: &[u8]) -> Result<u8, EditFault>
     let sub = number(word, 16, 2)?;
     Ok(sub as u8)
 }
+
+/// An identifier: 1 to 3 hexadecimal digits.
+pub(crate) fn cob(word: &[u8]) -> Result<u16, EditFault>
+    ensures { Gives is_memory (λ n. n) result (hexadecimal 3 word.now) }
+{
+    let identifier = number(word, 16, 3)?;
+    Ok(identifier as u16)
+}

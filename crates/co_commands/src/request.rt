@@ -2,11 +2,12 @@
 ghost use Rattle.std.specs.Prelude.{◌≡◌};
 ghost use Rattle.co_base.specs.Gives.{Gives};
 ghost use Rattle.co_edits.specs.Faults.{is_memory};
-ghost use Rattle.co_commands.specs.Requests.{block_of, command_of, asks_edit, asks_query, request};
+ghost use Rattle.co_commands.specs.Requests.{block_of, command_of, asks_edit, asks_query, link_of, request};
 
 use crate::command::Command;
 use crate::edits::{bitrate, drop_eds, drop_node, horizon, manager, node, param, unparam};
 use crate::events::{drop_event, event};
+use crate::links::{drop_message, message, sink, source, unsink, unsource};
 use crate::numbers::decimal;
 use crate::query::Query;
 use crate::words::{is_bad_line, last_word};
@@ -113,6 +114,27 @@ fn command(alloc: Global, first: &[u8], rest: &[u8]) -> Result<Request, EditFaul
         edit(event(alloc, rest))
     } else if first == b"drop-event".as_slice() {
         edit(drop_event(rest))
+    } else {
+        link(alloc, first, rest)
+    }
+}
+
+#[tactic(auto, unfolding(crate::specs::Requests::link_of))]
+fn link(alloc: Global, first: &[u8], rest: &[u8]) -> Result<Request, EditFault>
+    ensures { Gives is_memory (λ r. r) result (link_of first.now rest.now) }
+{
+    if first == b"message".as_slice() {
+        edit(message(alloc, rest))
+    } else if first == b"drop-message".as_slice() {
+        edit(drop_message(alloc, rest))
+    } else if first == b"source".as_slice() {
+        edit(source(alloc, rest))
+    } else if first == b"unsource".as_slice() {
+        edit(unsource(alloc, rest))
+    } else if first == b"sink".as_slice() {
+        edit(sink(alloc, rest))
+    } else if first == b"unsink".as_slice() {
+        edit(unsink(alloc, rest))
     } else {
         query(Query::read(first, rest))
     }

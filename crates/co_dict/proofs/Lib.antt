@@ -1,3 +1,8 @@
+pub mod CheckLaws
+pub mod CheckLemmas
+pub mod IndexLemmas
+pub mod MappingLemmas
 pub mod PlaceLemmas
+pub mod RestoredLemmas
 pub mod ShapeLemmas
 pub mod ValueLemmas

@@ -1,5 +1,11 @@
+pub mod Aborts
 pub mod Accesses
+pub mod Checks
+pub mod Mappings
+pub mod PdoChecks
 pub mod Pdos
 pub mod Places
+pub mod Restored
 pub mod Shapes
 pub mod Values
+pub mod WriteCheck

@@ -1,10 +1,14 @@
 //! The values of a device's entries.
 
-ghost use Rattle.std.specs.Prelude.{◌≡◌, ◌≤◌, length, OnOk, OnErr, IfOk, IfSome, option_copied};
+ghost use Rattle.std.specs.Prelude.{◌≡◌, ◌≤◌, ◌↔◌, IsTrue, length, OnOk, OnErr, IfOk, IfSome, option_copied};
 ghost use Rattle.std.specs.FinMap as map;
 ghost use Rattle.co_dict.specs.Places.{place_cmp};
+ghost use Rattle.co_dict.specs.Restored.{restored};
+ghost use Rattle.co_dict.specs.Values.{bytes_at, number_at};
 ghost use Rattle.co_values.specs.Values.{longest_value};
 
+use crate::entries::{restored, same_entries};
+use crate::numbers::{number_8, number_16, number_32, number_64};
 use co_base::Octets;
 use std::alloc::{AllocError, Global};
 use std::collections::BTreeMap;
@@ -66,6 +70,45 @@ impl Dict {
         }
     }
 
+    /// The bytes that an entry holds; none where it has no value.
+    fn bytes(&self, index: u16, sub: u8) -> &[u8]
+        ensures { result.now ≡ bytes_at self.now (index, sub) }
+    {
+        match self.read(index, sub) {
+            Some(bytes) => bytes,
+            None => &[],
+        }
+    }
+
+    /// The number in the first byte that an entry holds; 0 where it holds none.
+    pub fn number_8(&self, index: u16, sub: u8) -> u8
+        ensures { result ≡ number_at 1 self.now (index, sub) }
+    {
+        number_8(self.bytes(index, sub))
+    }
+
+    /// The number in the first two bytes that an entry holds, the lowest first (CiA 301); a byte that
+    /// it lacks counts as 0.
+    pub fn number_16(&self, index: u16, sub: u8) -> u16
+        ensures { result ≡ number_at 2 self.now (index, sub) }
+    {
+        number_16(self.bytes(index, sub))
+    }
+
+    /// The same of the first four bytes.
+    pub fn number_32(&self, index: u16, sub: u8) -> u32
+        ensures { result ≡ number_at 4 self.now (index, sub) }
+    {
+        number_32(self.bytes(index, sub))
+    }
+
+    /// The same of the first eight bytes.
+    pub fn number_64(&self, index: u16, sub: u8) -> u64
+        ensures { result ≡ number_at 8 self.now (index, sub) }
+    {
+        number_64(self.bytes(index, sub))
+    }
+
     /// An equal dictionary.
     pub fn copy(&self) -> Result<Dict, AllocError>
         ensures { IfOk result (λ dict. dict ≡ self.now) }
@@ -74,5 +117,24 @@ impl Dict {
             alloc: self.alloc,
             values: self.values.clone()?,
         })
+    }
+
+    /// Whether the other dictionary has the same entries with the same values.
+    pub fn same(&self, other: &Dict) -> bool
+        ensures { IsTrue result ↔ (self.now ≡ other.now) }
+    {
+        same_entries(&self.values, &other.values)
+    }
+
+    /// Makes the entries whose index is from `first` to `last` those of another dictionary: each has
+    /// the value that it has there, and is gone where it has none there. All others stay. Takes time
+    /// by the length of both dictionaries.
+    pub fn restore(&mut self, from: &Dict, first: u16, last: u16) -> Result<(), AllocError>
+        ensures ok { OnOk result (self.new ≡ restored first last from.now self.old) }
+        ensures err { OnErr result (self.new ≡ self.old) }
+    {
+        let values = restored(self.alloc, &self.values, &from.values, first, last)?;
+        self.values = values;
+        Ok(())
     }
 }

@@ -6,6 +6,7 @@ use Rattle.co_edits.specs.declared.edit.Edit.{Edit}
 use Rattle.co_edits.specs.declared.edit.Edit.TheVariants as edit
 use Rattle.co_edits.specs.declared.manager_settings.ManagerSettings.{ManagerSettings}
 use Rattle.co_base.specs.Ranges.{is_between, AreIndices}
+use Rattle.co_messages.specs.Messages.{IsMessage, is_position}
 use Rattle.co_edits.specs.Forms.{is_name, is_text, is_node_number, is_node_or_all, is_own_index, is_bit_rate, is_time, is_sync_period, is_event_number}
 use Rattle.co_edits.specs.Eds.{IsEds}
 
@@ -35,5 +36,12 @@ IsEdit (edit.Node id name eds) = (is_node_number id ≡ true) × (is_name name �
 IsEdit (edit.DropNode id) = is_node_number id ≡ true
 IsEdit (edit.Param id index sub text) = (is_node_number id ≡ true) × IsSetting index sub text
 IsEdit (edit.Unparam id index sub) = (is_node_number id ≡ true) × AreIndices index sub
+IsEdit (edit.Message name m) = (is_name name ≡ true) × IsMessage m
+IsEdit (edit.DropMessage name) = is_name name ≡ true
+IsEdit (edit.Source message position index sub) = (is_name message ≡ true) × (is_position position ≡ true) × AreIndices index sub
+IsEdit (edit.Unsource message position) = (is_name message ≡ true) × (is_position position ≡ true)
+IsEdit (edit.Sink message position node index sub) =
+    (is_name message ≡ true) × (is_position position ≡ true) × (is_node_number node ≡ true) × AreIndices index sub
+IsEdit (edit.Unsink message position node) = (is_name message ≡ true) × (is_position position ≡ true) × (is_node_number node ≡ true)
 IsEdit (edit.Event number e) = (is_event_number number ≡ true) × (is_time e.time ≡ true) × IsEvent e.event
 IsEdit (edit.DropEvent number) = is_event_number number ≡ true

@@ -60,6 +60,14 @@ is_time n = is_between 0 10000000 n
 abbrev pub is_sync_period : ℕ → Bool
 is_sync_period n = n == 0 || is_between 1000 10000000 n
 
+-- the number of a TPDO (CiA 301)
+abbrev pub is_tpdo_number : ℕ → Bool
+is_tpdo_number n = is_between 1 512 n
+
+-- an identifier of 11 bits (ISO 11898-1, base frames), as a message names it: 0 for one that the plan gives
+abbrev pub is_identifier : ℕ → Bool
+is_identifier n = is_between 0 0x7FF n
+
 -- the number of an event
 abbrev pub is_event_number : ℕ → Bool
 is_event_number n = is_between 1 10000 n

@@ -2,6 +2,7 @@
 
 use crate::manager_settings::ManagerSettings;
 use co_base::Octets;
+use co_messages::Message;
 use co_scenario::TimedEvent;
 
 /// What an edit does to a project.
@@ -58,6 +59,58 @@ pub enum Edit {
         index: u16,
         /// The sub-index of the entry.
         sub: u8,
+    },
+    /// A name gets a message (CiA 301, PDOs); a known one keeps its sources and sinks.
+    Message {
+        /// The name of the message.
+        name: Octets,
+        /// How it is sent.
+        message: Message,
+    },
+    /// A message goes, and its sources and sinks with it.
+    DropMessage {
+        /// The name of the message.
+        name: Octets,
+    },
+    /// A message carries an entry of its sender.
+    Source {
+        /// The name of the message.
+        message: Octets,
+        /// The position in the message, 1 to 64.
+        position: u8,
+        /// The index of the entry.
+        index: u16,
+        /// The sub-index of the entry.
+        sub: u8,
+    },
+    /// A message carries nothing at a position any more.
+    Unsource {
+        /// The name of the message.
+        message: Octets,
+        /// The position in the message, 1 to 64.
+        position: u8,
+    },
+    /// An entry of a node takes what a message carries at a position.
+    Sink {
+        /// The name of the message.
+        message: Octets,
+        /// The position in the message, 1 to 64.
+        position: u8,
+        /// The number of the node.
+        node: u8,
+        /// The index of the entry.
+        index: u16,
+        /// The sub-index of the entry.
+        sub: u8,
+    },
+    /// A node takes nothing any more of what a message carries at a position.
+    Unsink {
+        /// The name of the message.
+        message: Octets,
+        /// The position in the message, 1 to 64.
+        position: u8,
+        /// The number of the node.
+        node: u8,
     },
     /// A number gets an event.
     Event {

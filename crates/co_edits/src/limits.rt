@@ -3,7 +3,8 @@ ghost use Rattle.std.specs.Prelude.{◌≡◌, true, IfOk};
 ghost use Rattle.co_base.specs.Gives.{Gives};
 ghost use Rattle.co_edits.specs.Faults.{is_memory};
 ghost use Rattle.co_base.specs.Ranges.{is_between};
-ghost use Rattle.co_edits.specs.Forms.{limited, is_node_number, is_node_or_all, is_own_index, is_bit_rate, is_time, is_sync_period, is_event_number};
+ghost use Rattle.co_messages.specs.Messages.{is_position};
+ghost use Rattle.co_edits.specs.Forms.{limited, is_node_number, is_node_or_all, is_own_index, is_bit_rate, is_time, is_sync_period, is_tpdo_number, is_identifier, is_event_number};
 
 use crate::fault::EditFault;
 use co_dict::is_of_pdos;
@@ -11,6 +12,12 @@ use co_dict::is_of_pdos;
 const MAX_TIME: u64 = 10_000_000;
 
 const MIN_SYNC_PERIOD: u64 = 1000;
+
+const MAX_TPDO: u64 = 512;
+
+const MAX_POSITION: u64 = 64;
+
+const MAX_IDENTIFIER: u16 = 0x7FF;
 
 const MAX_EVENTS: u64 = 10_000;
 
@@ -90,6 +97,53 @@ pub fn sync_period(number: u64) -> Result<u32, EditFault>
     }
     let period = limited(number, MIN_SYNC_PERIOD, MAX_TIME)?;
     Ok(period as u32)
+}
+
+/// A number of 8 bits.
+pub fn byte(number: u64) -> Result<u8, EditFault>
+    ensures value { Gives is_memory (λ n. n) result (limited (is_between 0 0xFF) number) }
+    ensures within { IfOk result (λ n. is_between 0 0xFF n ≡ true) }
+{
+    let number = limited(number, 0, 0xFF)?;
+    Ok(number as u8)
+}
+
+/// A number of 16 bits.
+pub fn short(number: u64) -> Result<u16, EditFault>
+    ensures value { Gives is_memory (λ n. n) result (limited (is_between 0 0xFFFF) number) }
+    ensures within { IfOk result (λ n. is_between 0 0xFFFF n ≡ true) }
+{
+    let number = limited(number, 0, 0xFFFF)?;
+    Ok(number as u16)
+}
+
+/// The number of a TPDO (CiA 301), 1 to 512.
+pub fn tpdo_number(number: u64) -> Result<u16, EditFault>
+    ensures value { Gives is_memory (λ n. n) result (limited is_tpdo_number number) }
+    ensures within { IfOk result (λ n. is_tpdo_number n ≡ true) }
+{
+    let number = limited(number, 1, MAX_TPDO)?;
+    Ok(number as u16)
+}
+
+/// A position in a message, 1 to 64.
+pub fn position(number: u64) -> Result<u8, EditFault>
+    ensures value { Gives is_memory (λ n. n) result (limited is_position number) }
+    ensures within { IfOk result (λ n. is_position n ≡ true) }
+{
+    let number = limited(number, 1, MAX_POSITION)?;
+    Ok(number as u8)
+}
+
+/// An identifier of 11 bits, 0 to 7FFh.
+pub fn identifier(number: u16) -> Result<u16, EditFault>
+    ensures value { Gives is_memory (λ n. n) result (limited is_identifier number) }
+    ensures within { IfOk result (λ n. is_identifier n ≡ true) }
+{
+    if number > MAX_IDENTIFIER {
+        return Err(EditFault::Range);
+    }
+    Ok(number)
 }
 
 /// The number of an event, 1 to 10,000.

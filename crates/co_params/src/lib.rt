@@ -10,5 +10,5 @@ mod params;
 
 pub use judgement::{judge, judge_set};
 pub use parameter_fault::ParameterFault;
-pub use parameters::writes;
+pub use parameters::{parameter_text, writes};
 pub use params::Params;

@@ -12,9 +12,10 @@ use concise_dcf::Write;
 use eds_device::Device;
 use std::alloc::{AllocError, Global};
 
-/// The text of the parameter of an entry.
+/// The text of the parameter of an entry: the one that the node has for it, else the ParameterValue
+/// of the device's text (CiA 306) outside 1400h to 1BFFh. `None` where that is missing or empty.
 #[tactic(auto, unfolding(crate::specs::Parameters::parameter_text))]
-fn parameter_text<'a>(
+pub fn parameter_text<'a>(
     params: &'a Params,
     device: &'a Device,
     index: u16,

@@ -1,17 +1,20 @@
 -- Each edit that is taken leaves a project that keeps to what every project does.
-use Rattle.std.proofs.Common.{◌≡◌, ℕ, sym, ◌∙◌, List, [], ◌∷◌, Bool, true, false, not, ◌&&◌, ◌||◌, ◌==◌, Option, Some, None, Ok, refl, ap, subst, arith}
+use Rattle.std.proofs.Common.{◌≡◌, ◌≤◌, ℕ, sym, ◌∙◌, List, [], ◌∷◌, Bool, true, false, not, ◌&&◌, ◌||◌, ◌==◌, Option, Some, None, Ok, refl, ap, subst, arith}
 use Rattle.std.proofs.Math.Path.{ap₂}
-use Rattle.std.proofs.lemmas.Bool.{true≢false, false_from_ne_true, or_parts, not-false, eqb-true, eq-eqb}
+use Rattle.std.proofs.lemmas.Bool.{true≢false, false_from_ne_true, or_parts, not-false, eqb-true}
 use Rattle.std.specs.Option.{option_map_or}
 use Rattle.std.specs.Ordering.{nat_cmp}
 use Rattle.std.specs.Str.{bytes_eq}
-use Rattle.std.specs.FinMap.{FinMap, contains_key, empty, get, insert, len-empty, remove}
+use Rattle.std.specs.FinMap.{FinMap, contains_key, empty, get, insert, len, len-empty, remove}
 use Rattle.std.proofs.lemmas.Cmp.{nat_cmp_total, nat_list_cmp_total, nat_eq_equiv, nat_list_eq_equiv}
 use Rattle.std.proofs.lemmas.Map.Lookups.{exact_unsigned, exact_bytes}
 use Rattle.std.proofs.lemmas.Slice.Eq.{bytes_eq-Decides}
 use Rattle.co_scenario.specs.declared.timed_event.TimedEvent.{TimedEvent}
 use Rattle.co_scenario.specs.Scenario.{node_of}
 use Rattle.co_base.proofs.TableLemmas.{removed_elsewhere}
+use Rattle.co_messages.specs.declared.linked.Linked.{Linked}
+use Rattle.co_messages.specs.declared.message.Message.{Message}
+use Rattle.co_messages.specs.Messages.{changed, concern, is_full_for as is_full_of, linked_to, with_message, with_sink, with_source, without_sink, without_source, Named}
 use Rattle.co_edits.specs.declared.fault.EditFault.{EditFault}
 use Rattle.co_edits.specs.declared.manager_settings.ManagerSettings.{ManagerSettings}
 use Rattle.co_edits.specs.declared.edit.Edit.{Edit}
@@ -26,8 +29,10 @@ use Rattle.co_params.specs.Params.{Texts as Params, is_full_for}
 use Rattle.co_project.specs.declared.node.Node.{Node}
 use Rattle.co_project.specs.Tables.{Texts, Nodes, name_cmp, name_taken, has_no_room, is_used, is_named, is_of, is_of_known, put_node, renamed, with_param, without_param}
 use Rattle.co_project.specs.Project.{Content, first, accept, with_nodes}
-use Rattle.co_project.specs.Sound.{AreTexts, AreParams, IsNodeOf, IsEventOf, IsSound}
+use Rattle.co_base.specs.Tables.{Each}
+use Rattle.co_project.specs.Sound.{AreTexts, AreParams, IsNodeOf, IsMessageOf, IsEventOf, IsSound}
 use Rattle.co_base.proofs.EachLemmas.{each_empty, each_fails, each_found, each_put, each_removed, each_weaker, fewer, known_after_put, none_pass, room_for}
+use Rattle.co_project.proofs.KeepsMessages.{as_many, message_sent, messages_changed, messages_with_node, messages_without_node, sink_kept, source_kept, still_there, unsink_kept, unsource_kept}
 
 -- ---- texts
 
@@ -69,11 +74,7 @@ params_dropped params place are = (fewer places_total params place 4096 are.0, e
 
 -- ---- keys that differ
 
--- another number is left where one is taken away
-still_there : {X : Type 0} (m : FinMap nat_cmp X) (id n : ℕ) → (n == id) ≡ false → get (remove m id) n ≡ get m n
-still_there m id n other = removed_elsewhere nat_cmp_total exact_unsigned m id n (λ same. true≢false (sym (eq-eqb n id same) ∙ other))
-
--- and another name
+-- another name is left where one is taken away
 still_named : (texts : Texts) (gone name : List ℕ) → bytes_eq name gone ≡ false → get (remove texts gone) name ≡ get texts name
 still_named texts gone name other = removed_elsewhere nat_list_cmp_total exact_bytes texts gone name (λ same. true≢false (sym ((bytes_eq-Decides name gone).1 same) ∙ other))
 
@@ -147,6 +148,8 @@ module _ (p : Content) (sound : IsSound p) (id : ℕ) (node : Node) (new : IsNod
     manager = sound.manager;
     texts = sound.texts;
     nodes = each_put nat_cmp_total exact_unsigned (IsNodeOf with_node) p.nodes id node (each_weaker (IsNodeOf p) (IsNodeOf with_node) p.nodes old_node sound.nodes) new_node;
+    count = sound.count;
+    messages = messages_with_node p id sound.messages node;
     events = each_weaker (IsEventOf p) (IsEventOf with_node) p.events (λ number e there. old_event number e) sound.events;
   }
 
@@ -180,18 +183,18 @@ renamed_node p id name eds sound h there free (Some node) found =
 module _ (p : Content) (sound : IsSound p) where
   -- another bit rate
   bitrate_keeps : (rate : ℕ) → is_bit_rate rate ≡ true → IsSound (record p { bitrate = rate })
-  unfolding IsNodeOf IsEventOf
-  bitrate_keeps rate h = record { bitrate = h; horizon = sound.horizon; manager = sound.manager; texts = sound.texts; nodes = sound.nodes; events = sound.events }
+  unfolding IsNodeOf IsMessageOf IsEventOf
+  bitrate_keeps rate h = record { bitrate = h; horizon = sound.horizon; manager = sound.manager; texts = sound.texts; nodes = sound.nodes; count = sound.count; messages = sound.messages; events = sound.events }
 
   -- another horizon
   horizon_keeps : (time : ℕ) → is_time time ≡ true → IsSound (record p { horizon = time })
-  unfolding IsNodeOf IsEventOf
-  horizon_keeps time h = record { bitrate = sound.bitrate; horizon = h; manager = sound.manager; texts = sound.texts; nodes = sound.nodes; events = sound.events }
+  unfolding IsNodeOf IsMessageOf IsEventOf
+  horizon_keeps time h = record { bitrate = sound.bitrate; horizon = h; manager = sound.manager; texts = sound.texts; nodes = sound.nodes; count = sound.count; messages = sound.messages; events = sound.events }
 
   -- another manager
   manager_keeps : (m : ManagerSettings) → IsManager m → contains_key p.nodes m.id ≡ false → IsSound (record p { manager = m })
-  unfolding IsNodeOf IsEventOf
-  manager_keeps m h free = record { bitrate = sound.bitrate; horizon = sound.horizon; manager = h; texts = sound.texts; nodes = each_weaker (IsNodeOf p) (IsNodeOf (record p { manager = m })) p.nodes node_of_it sound.nodes; events = sound.events }
+  unfolding IsNodeOf IsMessageOf IsEventOf
+  manager_keeps m h free = record { bitrate = sound.bitrate; horizon = sound.horizon; manager = h; texts = sound.texts; nodes = each_weaker (IsNodeOf p) (IsNodeOf (record p { manager = m })) p.nodes node_of_it sound.nodes; count = sound.count; messages = sound.messages; events = sound.events }
     where
       node_of_it : (id : ℕ) (node : Node) → get p.nodes id ≡ Some node → IsNodeOf p id node → IsNodeOf (record p { manager = m }) id node
       node_of_it id node there is = (is.0, other_number p.nodes m.id id node free there, is.2, is.3, is.4, is.5, is.6)
@@ -202,8 +205,8 @@ module _ (p : Content) (sound : IsSound p) where
 
   -- other texts, among which are those of all nodes
   texts_keep : (texts : Texts) → AreTexts texts → ((id : ℕ) (node : Node) → get p.nodes id ≡ Some node → contains_key p.texts node.eds ≡ true → contains_key texts node.eds ≡ true) → IsSound (with_texts texts)
-  unfolding IsNodeOf IsEventOf
-  texts_keep texts are there = record { bitrate = sound.bitrate; horizon = sound.horizon; manager = sound.manager; texts = are; nodes = each_weaker (IsNodeOf p) (IsNodeOf (with_texts texts)) p.nodes node_of_it sound.nodes; events = sound.events }
+  unfolding IsNodeOf IsMessageOf IsEventOf
+  texts_keep texts are there = record { bitrate = sound.bitrate; horizon = sound.horizon; manager = sound.manager; texts = are; nodes = each_weaker (IsNodeOf p) (IsNodeOf (with_texts texts)) p.nodes node_of_it sound.nodes; count = sound.count; messages = sound.messages; events = sound.events }
     where
       node_of_it : (id : ℕ) (node : Node) → get p.nodes id ≡ Some node → IsNodeOf p id node → IsNodeOf (with_texts texts) id node
       node_of_it id node found is = (is.0, is.1, is.2, is.3, is.4, there id node found is.5, is.6)
@@ -225,15 +228,17 @@ module _ (p : Content) (sound : IsSound p) where
   node_keeps : (id : ℕ) (name eds : List ℕ) → IsEdit (edit.Node id name eds) → contains_key p.texts eds ≡ true → (id == p.manager.id || name_taken p.nodes id name) ≡ false → IsSound (record p { nodes = put_node p.nodes id name eds })
   node_keeps id name eds h there free = node_put p sound id (renamed name eds (get p.nodes id)) (renamed_node p id name eds sound h there free (get p.nodes id) refl)
 
-  -- a node that no event is of goes
-  drop_node_keeps : (id : ℕ) → is_named p.events id ≡ false → IsSound (record p { nodes = remove p.nodes id })
-  unfolding IsNodeOf IsEventOf
-  drop_node_keeps id unnamed = record {
+  -- a node that no message concerns and no event is of goes
+  drop_node_keeps : (id : ℕ) → concern id p.messages ≡ false → is_named p.events id ≡ false → IsSound (record p { nodes = remove p.nodes id })
+  unfolding IsNodeOf IsMessageOf IsEventOf
+  drop_node_keeps id apart unnamed = record {
     bitrate = sound.bitrate;
     horizon = sound.horizon;
     manager = sound.manager;
     texts = sound.texts;
     nodes = each_removed nat_cmp_total exact_unsigned (IsNodeOf without) p.nodes id (each_weaker (IsNodeOf p) (IsNodeOf without) p.nodes (λ n node there. node_without n node) sound.nodes);
+    count = sound.count;
+    messages = messages_without_node p id sound.messages apart;
     events = each_weaker (IsEventOf p) (IsEventOf without) p.events event_without sound.events;
   }
     where
@@ -254,27 +259,62 @@ module _ (p : Content) (sound : IsSound p) where
 
   -- an event of a known node
   event_keeps : (number : ℕ) (e : TimedEvent) → IsEdit (edit.Event number e) → is_of_known p.nodes e.event ≡ true → IsSound (record p { events = insert p.events number e })
-  unfolding IsEdit IsNodeOf IsEventOf
+  unfolding IsEdit IsNodeOf IsMessageOf IsEventOf
   event_keeps number e h known = record {
     bitrate = sound.bitrate;
     horizon = sound.horizon;
     manager = sound.manager;
     texts = sound.texts;
     nodes = sound.nodes;
+    count = sound.count;
+    messages = sound.messages;
     events = each_put nat_cmp_total exact_unsigned (IsEventOf p) p.events number e sound.events (h.0, h.1, h.2, known);
   }
 
   -- an event goes
   drop_event_keeps : (number : ℕ) → IsSound (record p { events = remove p.events number })
-  unfolding IsNodeOf IsEventOf
+  unfolding IsNodeOf IsMessageOf IsEventOf
   drop_event_keeps number = record {
     bitrate = sound.bitrate;
     horizon = sound.horizon;
     manager = sound.manager;
     texts = sound.texts;
     nodes = sound.nodes;
+    count = sound.count;
+    messages = sound.messages;
     events = each_removed nat_cmp_total exact_unsigned (IsEventOf p) p.events number sound.events;
   }
+
+  -- other messages of the project
+  messages_keep : (messages : Named) → len messages ≤ 1024 → Each (IsMessageOf p) messages → IsSound (record p { messages = messages })
+  unfolding IsNodeOf IsMessageOf IsEventOf
+  messages_keep messages few each = record { bitrate = sound.bitrate; horizon = sound.horizon; manager = sound.manager; texts = sound.texts; nodes = sound.nodes; count = few; messages = each; events = sound.events }
+
+  -- a message, new or sent in another way
+  message_keeps : (name : List ℕ) (m : Message) → IsEdit (edit.Message name m) → contains_key p.nodes m.node ≡ true → is_full_of p.messages name ≡ false → IsSound (record p { messages = with_message p.messages name m })
+  message_keeps name m h there free =
+      messages_keep (with_message p.messages name m)
+      (room_for nat_list_cmp_total 1024 p.messages name (linked_to (get p.messages name) m) sound.count free)
+      (message_sent p name m h there sound.messages)
+
+  -- a message goes
+  drop_message_keeps : (name : List ℕ) → IsSound (record p { messages = remove p.messages name })
+  drop_message_keeps name = messages_keep (remove p.messages name) (fewer nat_list_cmp_total p.messages name 1024 sound.count) (each_removed nat_list_cmp_total exact_bytes (IsMessageOf p) p.messages name sound.messages)
+
+  -- a message is changed
+  changed_keeps : (name : List ℕ) (change : Linked → Linked) → ((l : Linked) → IsMessageOf p name l → IsMessageOf p name (change l)) → IsSound (record p { messages = changed change p.messages name })
+  changed_keeps name change keeps = messages_keep (changed change p.messages name) (rw (as_many p name change p.messages) sound.count) (messages_changed p name change keeps sound.messages)
+
+  -- it carries an entry of its sender
+  source_keeps : (name : List ℕ) (position : ℕ) (place : ℕ × ℕ) → IsEdit (edit.Source name position place.0 place.1) → IsSound (record p { messages = changed (with_source position place) p.messages name })
+  unfolding IsEdit
+  source_keeps name position place h = changed_keeps name (with_source position place) (source_kept p name position place h.1 h.2)
+
+  -- an entry of a node that is there takes a part of it
+  sink_keeps : (name : List ℕ) (position node : ℕ) (place : ℕ × ℕ) → IsEdit (edit.Sink name position node place.0 place.1) → contains_key p.nodes node ≡ true
+      → IsSound (record p { messages = changed (with_sink position node place) p.messages name })
+  unfolding IsEdit
+  sink_keeps name position node place h there = changed_keeps name (with_sink position node place) (sink_kept p name position node place h.1 h.2 h.3 there)
 
   -- a node of the project gets other parameters
   params_keep : (id : ℕ) (node : Node) (params : Params) → get p.nodes id ≡ Some node → AreParams params → IsSound (record p { nodes = insert p.nodes id (record node { params = params }) })
@@ -330,6 +370,8 @@ first_sound = record {
   manager = (refl, refl, refl, refl);
   texts = no_texts;
   nodes = each_empty (IsNodeOf first) empty refl;
+  count = rw (len-empty name_cmp Linked) (omega arith);
+  messages = each_empty (IsMessageOf first) empty refl;
   events = each_empty (IsEventOf first) empty refl;
 }
 
@@ -342,8 +384,20 @@ edits_keep_sound p q (edit.Manager m) sound h taken = let e = passed _ _ _ q tak
 edits_keep_sound p q (edit.Eds name text) sound h taken = let e = passed _ _ _ q taken in subst IsSound e.1 (eds_keeps p sound name text h e.0)
 edits_keep_sound p q (edit.DropEds name) sound h taken = let e = passed_both _ _ _ _ _ q taken in subst IsSound e.2 (drop_eds_keeps p sound name e.1)
 edits_keep_sound p q (edit.Node id name eds) sound h taken = let e = passed_both _ _ _ _ _ q taken in subst IsSound e.2 (node_keeps p sound id name eds h (not-false _ e.0) e.1)
-edits_keep_sound p q (edit.DropNode id) sound h taken = let e = passed_both _ _ _ _ _ q taken in subst IsSound e.2 (drop_node_keeps p sound id e.1)
+edits_keep_sound p q (edit.DropNode id) sound h taken =
+    let e = passed_both _ _ _ _ _ q taken in
+    let apart = or_parts (concern id p.messages) (is_named p.events id) e.1 in
+    subst IsSound e.2 (drop_node_keeps p sound id apart.0 apart.1)
 edits_keep_sound p q (edit.Param id index sub text) sound h taken = param_keeps p q sound id (index, sub) text (get p.nodes id) refl h.1 taken
 edits_keep_sound p q (edit.Unparam id index sub) sound h taken = unparam_keeps p q sound id (index, sub) (get p.nodes id) refl taken
+edits_keep_sound p q (edit.Message name m) sound h taken = let e = passed_both _ _ _ _ _ q taken in subst IsSound e.2 (message_keeps p sound name m h (not-false _ e.0) e.1)
+edits_keep_sound p q (edit.DropMessage name) sound h taken = let e = passed _ _ _ q taken in subst IsSound e.1 (drop_message_keeps p sound name)
+edits_keep_sound p q (edit.Source name position index sub) sound h taken = let e = passed _ _ _ q taken in subst IsSound e.1 (source_keeps p sound name position (index, sub) h)
+edits_keep_sound p q (edit.Unsource name position) sound h taken = let e = passed _ _ _ q taken in subst IsSound e.1 (changed_keeps p sound name (without_source position) (unsource_kept p name position))
+edits_keep_sound p q (edit.Sink name position node index sub) sound h taken =
+    let e = passed _ _ _ q taken in
+    let known = or_parts (not (contains_key p.messages name)) (not (contains_key p.nodes node)) e.0 in
+    subst IsSound e.1 (sink_keeps p sound name position node (index, sub) h (not-false _ known.1))
+edits_keep_sound p q (edit.Unsink name position node) sound h taken = let e = passed _ _ _ q taken in subst IsSound e.1 (changed_keeps p sound name (without_sink position node) (unsink_kept p name position node))
 edits_keep_sound p q (edit.Event number e) sound h taken = let t = passed _ _ _ q taken in subst IsSound t.1 (event_keeps p sound number e h (not-false _ t.0))
 edits_keep_sound p q (edit.DropEvent number) sound h taken = let e = passed _ _ _ q taken in subst IsSound e.1 (drop_event_keeps p sound number)

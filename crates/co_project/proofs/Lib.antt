@@ -1,7 +1,11 @@
+pub mod EditsInTurn
+pub mod KeepsMessages
 pub mod KeepsSound
 pub mod LineLemmas
+pub mod MessagesAgain
 pub mod NodeLemmas
 pub mod RoundTrip
 pub mod ScriptEdits
 pub mod SoundLemmas
 pub mod TextLemmas
+pub mod ToCome

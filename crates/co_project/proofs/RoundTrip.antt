@@ -1,24 +1,19 @@
 -- The edits of a project's script make the project again.
-use Rattle.std.proofs.Common.{◌≡◌, ℕ, suc, ◌+◌, ◌≤◌, sym, ◌∙◌, List, [], ◌∷◌, ◌++◌, length, map, Bool, true, false, cond, not, ◌&&◌, ◌||◌, ◌==◌, T, Option, Some, None, Result, Ok, Err, IfSome, All, option_map, is_some, refl, ap, subst, arith}
-use Rattle.std.proofs.lemmas.Bool.{and_left, lt-leb, or_from}
+use Rattle.std.proofs.Common.{◌≡◌, ℕ, ◌+◌, ◌≤◌, sym, ◌∙◌, List, [], ◌∷◌, length, map, Bool, true, false, cond, not, ◌&&◌, ◌||◌, ◌==◌, T, Option, Some, None, Ok, IfSome, All, option_map, is_some, refl, ap, arith}
+use Rattle.std.proofs.lemmas.Bool.{or_from}
 use Rattle.std.proofs.lemmas.Cmp.{nat_cmp_total, nat_list_cmp_total}
 use Rattle.std.proofs.lemmas.List.Elements.{All-head, All-tail}
 use Rattle.std.proofs.lemmas.Map.Lookups.{exact_unsigned, exact_bytes}
-use Rattle.std.specs.Prelude.{nat_le}
-use Rattle.std.specs.declared.cmp.Ordering.{Ordering}
-use Rattle.std.specs.Cmp.{tied_itself}
 use Rattle.std.specs.List.{flat_map}
 use Rattle.std.specs.Option.{option_or}
-use Rattle.std.specs.Ordering.{nat_cmp, eq_by_cmp, is_eq}
+use Rattle.std.specs.Ordering.{nat_cmp, eq_by_cmp}
 use Rattle.std.specs.Str.{bytes_eq}
-use Rattle.std.specs.FinMap.{FinMap, empty, entries, entries_sorted, find, get, get-empty, get-entries, get-insert, insert, is_sorted, len, len-empty, len-entries, same_map}
+use Rattle.std.specs.FinMap.{empty, entries, entries_sorted, find, get, get-empty, get-entries, insert, is_sorted, len, same_map}
 use Rattle.std.specs.FinMap.Entries.{below_all}
 use Rattle.co_scenario.specs.declared.timed_event.TimedEvent.{TimedEvent}
 use Rattle.co_scenario.specs.Scenario.{Events}
-use Rattle.co_base.proofs.TableLemmas.{alike, put_there, put_twice}
-use Rattle.co_edits.specs.declared.fault.EditFault.{EditFault}
+use Rattle.co_base.proofs.TableLemmas.{put_there, put_twice}
 use Rattle.co_edits.specs.declared.fault.EditFault.TheVariants.{Unknown, Taken, Limit}
-use Rattle.co_edits.specs.declared.edit.Edit.{Edit}
 use Rattle.co_edits.specs.declared.edit.Edit.TheVariants as edit
 use Rattle.co_edits.specs.Accepts.{unless}
 use Rattle.co_dict.proofs.PlaceLemmas.{places_exact, places_total}
@@ -26,35 +21,15 @@ use Rattle.co_params.specs.Params.{Texts as Params, is_full_for}
 use Rattle.co_project.specs.declared.node.Node.{Node}
 use Rattle.co_project.specs.Tables.{Texts, Nodes, name_taken, has_no_room, renamed, with_param}
 use Rattle.co_project.specs.Project.{Content, first, accept, accept_all, with_nodes}
-use Rattle.co_project.specs.Script.{edits, event_edit, node_edit, param_edit, param_edits, text_edit}
-use Rattle.co_project.specs.Sound.{AreTexts, AreParams, Each, IsNodeOf, IsEventOf, IsSound}
-use Rattle.co_base.proofs.EachLemmas.{all_entries, both, each_empty, each_fails, each_found, each_put, each_there, each_weaker, find_below, first_part, get-put_all, made_again, none_pass, one_more, put_all, second_part}
+use Rattle.co_project.specs.Script.{edits, event_edit, message_edits, node_edit, param_edit, param_edits, text_edit}
+use Rattle.co_base.specs.Tables.{Each}
+use Rattle.co_project.specs.Sound.{AreTexts, AreParams, IsNodeOf, IsMessageOf, IsEventOf, IsSound}
+use Rattle.co_base.proofs.EachLemmas.{all_entries, both, each_empty, each_fails, each_found, each_put, each_there, each_weaker, first_part, get-put_all, made_again, none_pass, one_more, put_all, second_part}
 use Rattle.co_project.proofs.NodeLemmas.{same_put}
 use Rattle.co_project.proofs.ScriptEdits.{settings}
-
--- ---- edits one after the other
-
--- edits in two parts
-accept_all-append : (r : Result Content EditFault) (xs ys : List Edit) → accept_all r (xs ++ ys) ≡ accept_all (accept_all r xs) ys
-unfolding accept_all
-accept_all-append (Err fault) xs ys = refl
-accept_all-append (Ok p) [] ys = refl
-accept_all-append (Ok p) (x ∷ xs) ys = accept_all-append (accept p x) xs ys
-
--- edits that are taken, and then others
-then : (r : Result Content EditFault) (xs ys : List Edit) (a : Content) {b : Result Content EditFault} → accept_all r xs ≡ Ok a → accept_all (Ok a) ys ≡ b → accept_all r (xs ++ ys) ≡ b
-then r xs ys a ok others = accept_all-append r xs ys ∙ ap (λ t. accept_all t ys) ok ∙ others
-
--- an edit that is taken, and then others
-one_then : (p : Content) (x : Edit) (ys : List Edit) (a : Content) {b : Result Content EditFault} → accept p x ≡ Ok a → accept_all (Ok a) ys ≡ b → accept_all (Ok p) (x ∷ ys) ≡ b
-unfolding accept_all
-one_then p x ys a ok others = ap (λ t. accept_all t ys) ok ∙ others
-
--- ---- room
-
--- a table with room for all that is still to come has room for one
-room : (most front back : ℕ) (known : Bool) → front + suc back ≤ most → (nat_le most front && known) ≡ false
-room most front back known small = and_left _ _ (lt-leb most front (omega arith))
+use Rattle.co_project.proofs.EditsInTurn.{one_then, room, then, whole_small}
+use Rattle.co_project.proofs.MessagesAgain.{messages_come_again}
+use Rattle.co_project.proofs.ToCome.{AreToCome, first_to_come, others_to_come}
 
 -- ---- texts
 
@@ -82,9 +57,9 @@ bare node = record { name = node.name; eds = node.eds; params = empty }
 abbrev bare_entry : ℕ × Node → ℕ × Node
 bare_entry e = (e.0, bare e.1)
 
--- the project with these nodes and no events
+-- the project with these nodes, no messages and no events
 abbrev with_nodes_alone : Content → Nodes → Content
-with_nodes_alone p nodes = record p { nodes = nodes; events = empty }
+with_nodes_alone p nodes = record p { nodes = nodes; messages = empty; events = empty }
 
 module _ (p : Content) where
   -- nodes of the project without their parameters
@@ -160,10 +135,6 @@ module _ (p : Content) (nodes : Nodes) (id : ℕ) (node : Node) where
       (param_taken params e (room 4096 (len params) (length back) _ small))
       (params_again (insert params e.0 e.1) back (let more = one_more places_total params e.0 e.1 in omega arith))
 
--- as many entries as a table has
-whole_small : {K X : Type 0} {R : K → K → Ordering} (most : ℕ) (m : FinMap R X) → len m ≤ most → len (empty {X = X} {R = R}) + length (entries m) ≤ most
-whole_small {X = X} {R = R} most m small = let none = len-empty R X in let all = len-entries m in omega arith
-
 -- all parameters of a node
 node_filled : (p q : Content) (nodes : Nodes) (id : ℕ) (node : Node) → get nodes id ≡ Some (bare node) → IsNodeOf q id node
     → accept_all (Ok (record p { nodes = nodes })) (param_edits (id, node)) ≡ Ok (record p { nodes = insert nodes id node })
@@ -173,33 +144,19 @@ node_filled p q nodes id node there is =
     ∙ params_again p nodes id node empty (entries node.params) (whole_small 4096 node.params is.6.0)
     ∙ ap (λ params. Ok (with_params p nodes id node params)) (made_again places_total places_exact node.params)
 
--- the nodes that are still to come are there without their parameters
-abbrev AreToCome : Nodes → List (ℕ × Node) → Type 0
-AreToCome nodes back = (q : ℕ) → IfSome (find nat_cmp q back) (λ node. get nodes q ≡ Some (bare node))
-
--- the first of them
-first_to_come : (nodes : Nodes) (e : ℕ × Node) (back : List (ℕ × Node)) → AreToCome nodes (e ∷ back) → get nodes e.0 ≡ Some (bare e.1)
-first_to_come nodes e back come = subst (λ o. IfSome (cond (is_eq o) (Some e.1) (find nat_cmp e.0 back)) (λ node. get nodes e.0 ≡ Some (bare node))) (tied_itself nat_cmp_total e.0) (come e.0)
-
--- the others, once it has its parameters
-others_to_come : (nodes : Nodes) (e : ℕ × Node) (back : List (ℕ × Node)) → T (is_sorted nat_cmp (e ∷ back)) → AreToCome nodes (e ∷ back) → AreToCome (insert nodes e.0 e.1) back
-others_to_come nodes e back sorted come q = by (eq_by_cmp nat_cmp q e.0) refl (get-insert nat_cmp_total nodes e.0 e.1 q) (come q)
-  where
-    by : (t : Bool) → eq_by_cmp nat_cmp q e.0 ≡ t → get (insert nodes e.0 e.1) q ≡ cond t (Some e.1) (get nodes q)
-        → IfSome (cond t (Some e.1) (find nat_cmp q back)) (λ node. get nodes q ≡ Some (bare node)) → IfSome (find nat_cmp q back) (λ node. get (insert nodes e.0 e.1) q ≡ Some (bare node))
-    by true same now h = subst (λ (o : Option Node). IfSome o (λ node. get (insert nodes e.0 e.1) q ≡ Some (bare node)))
-        (sym (ap (λ x. find nat_cmp x back) (alike nat_cmp_total exact_unsigned q e.0 same) ∙ find_below nat_cmp e.0 back (first_part _ _ sorted))) tt
-    by false other now h = subst (λ (o : Option Node). IfSome (find nat_cmp q back) (λ node. o ≡ Some (bare node))) (sym now) h
+-- a node that is still to come is there without its parameters
+abbrev IsBareThere : Node → Option Node → Type 0
+IsBareThere node found = found ≡ Some (bare node)
 
 -- the parameters of the nodes that are still to come
-nodes_filled : (p q : Content) (nodes : Nodes) (back : List (ℕ × Node)) → T (is_sorted nat_cmp back) → AreToCome nodes back → All (λ e. IsNodeOf q e.0 e.1) back
+nodes_filled : (p q : Content) (nodes : Nodes) (back : List (ℕ × Node)) → T (is_sorted nat_cmp back) → AreToCome IsBareThere nodes back → All (λ e. IsNodeOf q e.0 e.1) back
     → accept_all (Ok (record p { nodes = nodes })) (flat_map param_edits back) ≡ Ok (record p { nodes = put_all nodes back })
 unfolding accept_all put_all
 nodes_filled p q nodes [] sorted come all = refl
 nodes_filled p q nodes (e ∷ back) sorted come all =
     then (Ok (record p { nodes = nodes })) (param_edits e) (flat_map param_edits back) (record p { nodes = insert nodes e.0 e.1 })
-    (node_filled p q nodes e.0 e.1 (first_to_come nodes e back come) (All-head (λ x. IsNodeOf q x.0 x.1) e back all))
-    (nodes_filled p q (insert nodes e.0 e.1) back (second_part _ _ sorted) (others_to_come nodes e back sorted come) (All-tail (λ x. IsNodeOf q x.0 x.1) e back all))
+    (node_filled p q nodes e.0 e.1 (first_to_come IsBareThere nat_cmp_total exact_unsigned nodes e back come) (All-head (λ x. IsNodeOf q x.0 x.1) e back all))
+    (nodes_filled p q (insert nodes e.0 e.1) back (second_part _ _ sorted) (others_to_come IsBareThere nat_cmp_total exact_unsigned nodes e back come sorted) (All-tail (λ x. IsNodeOf q x.0 x.1) e back all))
 
 -- ---- all nodes
 
@@ -233,7 +190,7 @@ module _ (nodes : Nodes) where
       ∙ ap (λ o. option_or o None) (find-bare q (entries nodes))
 
   -- are there when their parameters come
-  bare_come : AreToCome all_bare (entries nodes)
+  bare_come : AreToCome IsBareThere all_bare (entries nodes)
   bare_come q = by (find nat_cmp q (entries nodes)) (get-bare q)
     where
       by : (o : Option Node) → get all_bare q ≡ option_or (option_map bare o) None → IfSome o (λ node. get all_bare q ≡ Some (bare node))
@@ -271,7 +228,7 @@ events_again p events (e ∷ back) all =
 
 -- the first project with the settings of another
 abbrev set_up : Content → Content
-set_up p = record { bitrate = p.bitrate; horizon = p.horizon; manager = p.manager; texts = empty; nodes = empty; events = empty }
+set_up p = record { bitrate = p.bitrate; horizon = p.horizon; manager = p.manager; texts = empty; nodes = empty; messages = empty; events = empty }
 
 -- the settings
 settings_again : (p : Content) → accept_all (Ok first) (settings p) ≡ Ok (set_up p)
@@ -290,6 +247,11 @@ all_texts p sound =
     texts_again (set_up p) empty (entries p.texts) (whole_small 64 p.texts sound.texts.0)
     ∙ ap (λ texts. Ok (record (set_up p) { texts = texts })) (made_again nat_list_cmp_total exact_bytes p.texts)
 
+-- all messages
+all_messages : (p : Content) → IsSound p → accept_all (Ok (with_nodes_alone p p.nodes)) (flat_map message_edits (entries p.messages)) ≡ Ok (record p { events = empty })
+unfolding IsMessageOf
+all_messages p sound = messages_come_again (with_nodes_alone p p.nodes) p.messages sound.count sound.messages
+
 -- the edits of a project's script, taken by the first project, make the equal project
 pub script_again : (p : Content) → IsSound p → accept_all (Ok first) (edits p) ≡ Ok p
 unfolding edits
@@ -305,5 +267,6 @@ script_again p sound =
     then (Ok first) _ params (with_nodes_alone p (all_bare p.nodes)) nodes_made
     (nodes_filled (with_nodes_alone p empty) p (all_bare p.nodes) (entries p.nodes) (entries_sorted p.nodes) (bare_come p.nodes) each_node ∙ ap (λ m. Ok (with_nodes_alone p m)) (all_filled p.nodes))
     in
-    then (Ok first) _ (map event_edit (entries p.events)) (with_nodes_alone p p.nodes) params_made
+    let messages_made = then (Ok first) _ (flat_map message_edits (entries p.messages)) (with_nodes_alone p p.nodes) params_made (all_messages p sound) in
+    then (Ok first) _ (map event_edit (entries p.events)) (record p { events = empty }) messages_made
     (events_again p empty (entries p.events) each_event ∙ ap (λ events. Ok (record p { events = events })) (made_again nat_cmp_total exact_unsigned p.events))

@@ -1,19 +1,17 @@
 -- What every project keeps to, whatever edits made it (this profile's own).
-use Rattle.std.specs.Prelude.{◌≡◌, ◌≤◌, ◌==◌, ℕ, true, false, IfSome}
-use Rattle.std.specs.declared.cmp.Ordering.{Ordering}
-use Rattle.std.specs.FinMap.{FinMap, contains_key, get, len}
+use Rattle.std.specs.Prelude.{◌≡◌, ◌≤◌, ◌==◌, ℕ, true, false, List, All}
+use Rattle.std.specs.FinMap.{contains_key, len}
+use Rattle.co_base.specs.Tables.{Each}
 use Rattle.co_scenario.specs.declared.timed_event.TimedEvent.{TimedEvent}
 use Rattle.co_edits.specs.Forms.{is_name, is_node_number, is_bit_rate, is_time, is_event_number}
 use Rattle.co_edits.specs.Eds.{IsEds}
 use Rattle.co_edits.specs.Edits.{IsManager, IsSetting, IsEvent}
+use Rattle.co_messages.specs.declared.linked.Linked.{Linked}
+use Rattle.co_messages.specs.Messages.{IsLinked}
 use Rattle.co_params.specs.Params.{Texts as Params}
 use Rattle.co_project.specs.declared.node.Node.{Node}
 use Rattle.co_project.specs.Tables.{Texts, name_taken, is_of_known}
 use Rattle.co_project.specs.Project.{Content}
-
--- what holds of each key and its value in a table
-abbrev pub Each : {K X : Type 0} {R : K → K → Ordering} → (K → X → Type 0) → FinMap R X → Type 0
-Each {K} P table = (key : K) → IfSome (get table key) (P key)
 
 -- at most 64 texts, each of an EDS
 unfoldable pub AreTexts : Texts → Type 0
@@ -31,16 +29,24 @@ IsNodeOf p id node =
     × (is_name node.eds ≡ true) × (contains_key p.texts node.eds ≡ true)
     × AreParams node.params
 
+-- a message of the project: its sender and the nodes of its sinks are there
+unfoldable pub IsMessageOf : Content → List ℕ → Linked → Type 0
+IsMessageOf p name linked =
+    (is_name name ≡ true) × IsLinked linked
+    × (contains_key p.nodes linked.message.node ≡ true) × All (λ s. contains_key p.nodes s.0.1 ≡ true) linked.sinks
+
 -- an event of the project: its node is there
 unfoldable pub IsEventOf : Content → ℕ → TimedEvent → Type 0
 IsEventOf p number e =
     (is_event_number number ≡ true) × (is_time e.time ≡ true) × IsEvent e.event × (is_of_known p.nodes e.event ≡ true)
 
--- EVERY PROJECT: its settings, texts, nodes and events
+-- EVERY PROJECT: its settings, texts, nodes, at most 1,024 messages, and events
 pub record IsSound (p : Content) : Type 0 where
   pub bitrate : is_bit_rate p.bitrate ≡ true
   pub horizon : is_time p.horizon ≡ true
   pub manager : IsManager p.manager
   pub texts : AreTexts p.texts
   pub nodes : Each (IsNodeOf p) p.nodes
+  pub count : len p.messages ≤ 1024
+  pub messages : Each (IsMessageOf p) p.messages
   pub events : Each (IsEventOf p) p.events

@@ -2,6 +2,7 @@
 ghost use Rattle.std.specs.Prelude.{◌≡◌, IsErrOf, IsTrue};
 ghost use Rattle.co_edits.specs.Accepts.{Accepts};
 ghost use Rattle.co_edits.specs.declared.edit.Edit.TheVariants as edit;
+ghost use Rattle.co_edits.specs.Edits.{IsEdit};
 ghost use Rattle.co_project.specs.Project.{accept, adds, first};
 
 use crate::node_events::{is_named, is_of_known};
@@ -9,6 +10,7 @@ use crate::nodes::Nodes;
 use crate::texts::Texts;
 use co_base::Octets;
 use co_commands::{Edit, EditFault, ManagerSettings};
+use co_messages::Messages;
 use co_scenario::{Script, TimedEvent};
 use std::alloc::Global;
 use std::marker::Model;
@@ -22,6 +24,7 @@ pub(crate) struct Contents {
     pub manager: ManagerSettings,
     pub texts: Texts,
     pub nodes: Nodes,
+    pub messages: Messages,
     pub events: Script,
 }
 
@@ -29,11 +32,12 @@ impl Model for Contents {
     ghost use Rattle.co_edits.specs.contracts.manager_settings.ManagerSettings as settings;
     ghost use Rattle.co_scenario.specs.contracts.timed_event.TimedEvent as timed;
     ghost use Rattle.co_project.specs.contracts.node.Node as node;
+    ghost use Rattle.co_messages.specs.contracts.messages.Messages as linked;
     ghost use Rattle.co_project.specs.Project.{Content, content_code};
 
     ghost Value = { Content };
 
-    ghost coded = { content_code settings.the_row.coded node.the_row.coded timed.the_row.coded };
+    ghost coded = { content_code settings.the_row.coded node.the_row.coded linked.the_row.coded timed.the_row.coded };
 
     ghost view = { λ c. record {
       bitrate = c.bitrate;
@@ -41,6 +45,7 @@ impl Model for Contents {
       manager = c.manager;
       texts = c.texts;
       nodes = c.nodes;
+      messages = c.messages;
       events = c.events;
     } };
 }
@@ -61,6 +66,7 @@ impl Contents {
             },
             texts: Texts::new(alloc),
             nodes: Nodes::new(alloc),
+            messages: Messages::new(alloc),
             events: Script::new(alloc),
         }
     }
@@ -68,6 +74,7 @@ impl Contents {
     /// Does an edit, or refuses it with the first fault that applies and changes nothing.
     #[tactic(auto, unfolding(crate::specs::Project::accept, crate::specs::Project::adds))]
     pub fn accept(&mut self, edit: Edit) -> Result<(), EditFault>
+        requires { IsEdit edit }
         ensures accepts { Accepts self.old self.new result (accept self.old edit) }
         ensures memory { IsErrOf result EditFault.Memory → IsTrue (adds self.old edit) }
     {
@@ -92,6 +99,29 @@ impl Contents {
                 text,
             } => self.nodes.put_param(id, index, sub, text),
             Edit::Unparam { id, index, sub } => self.nodes.drop_param(id, index, sub),
+            Edit::Message { name, message } => self.put_message(name, message),
+            Edit::DropMessage { name } => self.drop_message(name.as_slice()),
+            Edit::Source {
+                message,
+                position,
+                index,
+                sub,
+            } => self.put_source(message.as_slice(), position, index, sub),
+            Edit::Unsource { message, position } => {
+                self.drop_source(message.as_slice(), position)
+            }
+            Edit::Sink {
+                message,
+                position,
+                node,
+                index,
+                sub,
+            } => self.put_sink(message.as_slice(), position, node, index, sub),
+            Edit::Unsink {
+                message,
+                position,
+                node,
+            } => self.drop_sink(message.as_slice(), position, node),
             Edit::Event { number, event } => self.put_event(number, event),
             Edit::DropEvent { number } => self.drop_event(number),
         }
@@ -155,7 +185,7 @@ impl Contents {
         Ok(())
     }
 
-    /// Takes a node away that no event is of, and its parameters with it.
+    /// Takes a node away that no message names and no event is of, and its parameters with it.
     #[tactic(auto, unfolding(crate::specs::Project::accept, crate::specs::Project::adds))]
     fn drop_node(&mut self, id: u8) -> Result<(), EditFault>
         ensures accepts { Accepts self.old self.new result (accept self.old (edit.DropNode id)) }
@@ -164,7 +194,7 @@ impl Contents {
         if !self.nodes.contains(id) {
             return Err(EditFault::Unknown);
         }
-        if is_named(&self.events, id) {
+        if self.messages.concern(id) || is_named(&self.events, id) {
             return Err(EditFault::InUse);
         }
         self.nodes.remove(id);

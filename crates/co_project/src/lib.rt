@@ -4,6 +4,7 @@
 
 mod contents;
 pub mod laws;
+mod links;
 mod node;
 mod node_events;
 mod nodes;

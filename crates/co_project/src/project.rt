@@ -14,13 +14,14 @@ use crate::node::Node;
 use crate::script::script_text;
 use co_base::Octets;
 use co_commands::{Command, EditFault, ManagerSettings};
+use co_messages::Messages;
 use co_scenario::Script;
 use std::alloc::{AllocError, Global};
 use std::collections::btree_map::Iter;
 use std::marker::Model;
 
 /// A project: the bit rate, the horizon, the manager, the texts of EDS by name, the nodes by number
-/// with their parameters, and the events by number.
+/// with their parameters, the messages by name, and the events by number.
 #[derive(Drop)]
 pub struct Project {
     contents: Contents,
@@ -53,14 +54,16 @@ impl Project {
 
     /// Takes an edit, or refuses it with the first fault that applies and changes nothing.
     ///
-    /// Unknown: an EDS, a node, a parameter or an event that is named isn't there. Taken: the
-    /// number is the manager's or a node's, or the name another node's. InUse: a node still uses
-    /// the EDS, or an event is of the node. Limit: a 65th text, or a 4,097th parameter of a node.
-    /// Memory can come in place of each where the edit gives a text, a node, a parameter or an event
-    /// where there is none, and changes nothing either.
+    /// Unknown: an EDS, a node, a parameter, a message, a source, a sink or an event that is named
+    /// isn't there. Taken: the number is the manager's or a node's, or the name another node's.
+    /// InUse: a node still uses the EDS, a message is sent or taken by the node, or an event is of
+    /// it. Limit: a 65th text, a 4,097th parameter of a node, or a 1,025th message. Memory can come
+    /// in place of each where the edit gives a text, a node, a parameter, a message, a source, a
+    /// sink or an event where there is none, and changes nothing either.
     ///
-    /// `drop-eds` and `node` take time by the number of nodes, `drop-node` by that of events and of
-    /// the node's parameters, every other edit by the logarithm of its table.
+    /// `drop-eds` and `node` take time by the number of nodes, `drop-node` by that of messages, sinks,
+    /// events and the node's parameters, `drop-message` by that of its sources and sinks, every other
+    /// edit by the logarithm of its table.
     pub fn accept(&mut self, command: Command) -> Result<(), EditFault>
         ensures accepts { Accepts self.old self.new result (accept self.old command) }
         ensures memory { IsErrOf result EditFault.Memory → IsTrue (adds self.old command) }
@@ -120,6 +123,13 @@ impl Project {
         self.contents.nodes.iter()
     }
 
+    /// The messages. Their senders and the nodes of their sinks are there.
+    pub fn messages(&self) -> &Messages
+        ensures { result.now ≡ self.now.messages }
+    {
+        &self.contents.messages
+    }
+
     /// The events of the scenario.
     pub fn events(&self) -> &Script
         ensures { result.now ≡ self.now.events }
@@ -135,8 +145,9 @@ impl Project {
     }
 
     /// The commands that make this project of the first one, as text: its settings, the EDS by name
-    /// with their lines, the nodes by number, their parameters by entry, the events by number. Takes
-    /// time and memory by the length of the text.
+    /// with their lines, the nodes by number, their parameters by entry, the messages by name, each
+    /// with its sources and sinks, and the events by number. Takes time and memory by the length of
+    /// the text.
     pub fn script(&self) -> Result<Vec<u8>, AllocError>
         ensures text { IfOk result (λ text. text.items ≡ script self.now) }
         ensures sound { IsSound self.now }

@@ -8,7 +8,7 @@ use Rattle.std.specs.Str.Parse.{digits_value, AllDigits, IsNumeral}
 use Rattle.std.proofs.lemmas.Bool.{cases_lt, lt-ltb, lt-leb}
 use Rattle.std.proofs.lemmas.Bool.Decides.{nat_tests}
 use Rattle.std.proofs.lemmas.Fmt.{decimal_is_IsNumeral_wide}
-use Rattle.co_text.specs.Digits.{digits_number, byte_digits, index_digits}
+use Rattle.co_text.specs.Digits.{digits_number, byte_digits, index_digits, identifier_digits}
 
 -- ---- one digit
 
@@ -48,6 +48,9 @@ pub index_is_digits : (n : ℕ) → n ≤ 65535 → AllDigits 16 (index_digits n
 index_is_digits n h =
     (digit_value-glyph-lt (n / 4096) (omega arith), (digit_value-glyph-lt (n / 256 % 16) (omega arith), (digit_value-glyph-lt (n / 16 % 16) (omega arith), (digit_value-glyph-lt (n % 16) (omega arith), tt))))
 
+pub identifier_is_digits : (n : ℕ) → n ≤ 4095 → AllDigits 16 (identifier_digits n)
+identifier_is_digits n h = (digit_value-glyph-lt (n / 256) (omega arith), (digit_value-glyph-lt (n / 16 % 16) (omega arith), (digit_value-glyph-lt (n % 16) (omega arith), tt)))
+
 byte_value : (n : ℕ) → n ≤ 255 → digits_value 16 (byte_digits n) ≡ n
 byte_value n h = rw (digit_value-glyph (n / 16) (omega arith), digit_value-glyph (n % 16) (omega arith)) (omega arith)
 
@@ -55,14 +58,21 @@ index_value : (n : ℕ) → n ≤ 65535 → digits_value 16 (index_digits n) ≡
 index_value n h =
     rw (digit_value-glyph (n / 4096) (omega arith), digit_value-glyph (n / 256 % 16) (omega arith), digit_value-glyph (n / 16 % 16) (omega arith), digit_value-glyph (n % 16) (omega arith)) (omega arith)
 
--- the digits of a byte, an index or a number are read as that
+identifier_value : (n : ℕ) → n ≤ 4095 → digits_value 16 (identifier_digits n) ≡ n
+identifier_value n h =
+    rw (digit_value-glyph (n / 256) (omega arith), digit_value-glyph (n / 16 % 16) (omega arith), digit_value-glyph (n % 16) (omega arith)) (omega arith)
+
+-- the digits of a byte, an index, an identifier or a number are read as that
 pub byte_again : (n : ℕ) → n ≤ 255 → digits_number 16 (byte_digits n) ≡ Some n
 byte_again n h = digits_number-numeral 16 (byte_digits n) (lit< tt, byte_is_digits n h) ∙ ap Some (byte_value n h)
 
 pub index_again : (n : ℕ) → n ≤ 65535 → digits_number 16 (index_digits n) ≡ Some n
 index_again n h = digits_number-numeral 16 (index_digits n) (lit< tt, index_is_digits n h) ∙ ap Some (index_value n h)
 
+pub identifier_again : (n : ℕ) → n ≤ 4095 → digits_number 16 (identifier_digits n) ≡ Some n
+identifier_again n h = digits_number-numeral 16 (identifier_digits n) (lit< tt, identifier_is_digits n h) ∙ ap Some (identifier_value n h)
+
 pub decimal_again : (n : ℕ) → n < 10 ^ 64 → digits_number 10 (decimal n) ≡ Some n
 decimal_again n h = let is = decimal_is_IsNumeral_wide n h in digits_number-numeral 10 (decimal n) is.0 ∙ ap Some is.1
 
-pub ruleset digit_laws = (byte_again, index_again, decimal_again)
+pub ruleset digit_laws = (byte_again, index_again, identifier_again, decimal_again)

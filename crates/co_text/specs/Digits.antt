@@ -21,3 +21,7 @@ byte_digits n = digit_glyph true (n / 16) ∷ digit_glyph true (n % 16) ∷ []
 -- an index as four upper-case hexadecimal digits
 abbrev pub index_digits : ℕ → List ℕ
 index_digits n = digit_glyph true (n / 4096) ∷ digit_glyph true (n / 256 % 16) ∷ digit_glyph true (n / 16 % 16) ∷ digit_glyph true (n % 16) ∷ []
+
+-- an identifier of 11 bits as three upper-case hexadecimal digits
+abbrev pub identifier_digits : ℕ → List ℕ
+identifier_digits n = digit_glyph true (n / 256) ∷ digit_glyph true (n / 16 % 16) ∷ digit_glyph true (n % 16) ∷ []

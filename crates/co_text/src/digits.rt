@@ -1,7 +1,7 @@
 //! Numbers from digits, and digits of numbers.
 ghost use Rattle.std.specs.Prelude.{◌≡◌, ◌<◌, ◌≤◌, ◌^◌, true, length, IfSome};
 ghost use Rattle.std.specs.Fmt.{digit_glyph};
-ghost use Rattle.co_text.specs.Digits.{digits_number, capped, byte_digits, index_digits};
+ghost use Rattle.co_text.specs.Digits.{digits_number, capped, byte_digits, index_digits, identifier_digits};
 
 /// 2^64, where the numbers that are read are cut.
 const LIMIT: u128 = 0x1_0000_0000_0000_0000;
@@ -54,5 +54,17 @@ pub fn index_digits(index: u16) -> [u8; 4]
         upper_digit((index / 256 % 16) as u8),
         upper_digit((index / 16 % 16) as u8),
         upper_digit((index % 16) as u8),
+    ]
+}
+
+/// An identifier of at most 12 bits as three upper-case hexadecimal digits.
+pub fn identifier_digits(identifier: u16) -> [u8; 3]
+    requires { identifier < 4096 }
+    ensures { result ≡ identifier_digits identifier }
+{
+    [
+        upper_digit((identifier / 256) as u8),
+        upper_digit((identifier / 16 % 16) as u8),
+        upper_digit((identifier % 16) as u8),
     ]
 }

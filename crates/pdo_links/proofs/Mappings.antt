@@ -4,7 +4,7 @@ use Rattle.std.proofs.lemmas.List.{take_more}
 use Rattle.std.proofs.lemmas.List.Elements.{All-nil, All-push}
 use Rattle.co_base.specs.Bytes.{AreBytes}
 use Rattle.concise_dcf.specs.declared.write.Write.{Write}
-use Rattle.pdo_plan.specs.declared.mapped.Mapped.{Mapped}
+use Rattle.pdo_devices.specs.declared.mapped.Mapped.{Mapped}
 use Rattle.pdo_plan.specs.Mapping.{mapped_bytes}
 use Rattle.pdo_links.specs.Tables.{AreMapped}
 use Rattle.pdo_links.specs.Writes.{mapped_writes, write_at}

@@ -14,8 +14,8 @@ use Rattle.ini_text.specs.Content.{Section}
 use Rattle.eds_device.specs.Entries.{entry_at}
 use Rattle.pdo_plan.specs.declared.clean.Clean.{Clean}
 use Rattle.pdo_plan.specs.declared.consumer.Consumer.{Consumer}
-use Rattle.pdo_plan.specs.declared.mapped.Mapped.{Mapped}
-use Rattle.pdo_plan.specs.Devices.{takes_unsigned, tpdo_object, rpdo_object, mapping_of}
+use Rattle.pdo_devices.specs.declared.mapped.Mapped.{Mapped}
+use Rattle.pdo_devices.specs.Devices.{takes_unsigned, tpdo_object, rpdo_object, mapping_of}
 use Rattle.pdo_plan.specs.Mapping.{mapped_bytes}
 use Rattle.pdo_links.specs.Tables.{AreFew}
 use Rattle.pdo_links.specs.Writes.{write_at, cob_write, mapped_writes, mapping_writes, time_write, taken_type, tpdo_writes, rpdo_writes, off_bit, no_rtr_bit, at_number, by_number}

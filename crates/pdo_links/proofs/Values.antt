@@ -20,8 +20,8 @@ use Rattle.eds_device.specs.Described.{Described, described, kind_at}
 use Rattle.eds_device.specs.Entries.{entry_by, entry_at}
 use Rattle.pdo_plan.specs.declared.clean.Clean.{Clean}
 use Rattle.pdo_plan.specs.declared.consumer.Consumer.{Consumer}
-use Rattle.pdo_plan.specs.declared.mapped.Mapped.{Mapped}
-use Rattle.pdo_plan.specs.Devices.{devices_of, is_width, is_unsigned_form, takes_unsigned, has_unsigned, has_mapping, tpdo_object, rpdo_object, mapping_of}
+use Rattle.pdo_devices.specs.declared.mapped.Mapped.{Mapped}
+use Rattle.pdo_devices.specs.Devices.{devices_of, is_width, is_unsigned_form, takes_unsigned, has_unsigned, has_mapping, tpdo_object, rpdo_object, mapping_of}
 use Rattle.pdo_plan.specs.Mapping.{mapped_bytes}
 use Rattle.pdo_plan.specs.Plan.{HasPdo}
 use Rattle.pdo_links.specs.Tables.{AreMapped, AreValues}

@@ -8,7 +8,7 @@ use Rattle.co_values.specs.Values.{Fits}
 use Rattle.concise_dcf.specs.declared.write.Write.{Write}
 use Rattle.eds_device.specs.Described.{kind_at}
 use Rattle.ini_text.specs.Content.{Section}
-use Rattle.pdo_plan.specs.declared.mapped.Mapped.{Mapped}
+use Rattle.pdo_devices.specs.declared.mapped.Mapped.{Mapped}
 use Rattle.pdo_plan.specs.Mapping.{mapped_bytes}
 
 -- a table has at each number what a list has there first

@@ -9,7 +9,7 @@ ghost use Rattle.co_params.specs.Parameters.{parameter_writes};
 ghost use Rattle.pdo_plan.specs.declared.clean.Clean.{Clean};
 ghost use Rattle.pdo_plan.specs.declared.consumer.Consumer.{Consumer};
 ghost use Rattle.pdo_plan.specs.declared.planned_message.PlannedMessage.{PlannedMessage};
-ghost use Rattle.pdo_plan.specs.Devices.{tpdo_object, rpdo_object};
+ghost use Rattle.pdo_devices.specs.Devices.{tpdo_object, rpdo_object};
 ghost use Rattle.pdo_plan.specs.Plan.{IsWithin, clean};
 ghost use Rattle.pdo_links.specs.Order.{IsConfigured, IsOfSent, IsOfTaken, IsNamedByNone, IsSentAlone, IsTakenAlone};
 ghost use Rattle.pdo_links.specs.Writes.{tpdo_writes, rpdo_writes, node_writes};

@@ -4,7 +4,7 @@ ghost use Rattle.std.specs.List.{find};
 ghost use Rattle.std.specs.Option.{option_map, option_and_then, option_copied};
 ghost use Rattle.co_base.specs.Ranges.{is_between};
 ghost use Rattle.ini_text.specs.Content.{Section};
-ghost use Rattle.pdo_plan.specs.Devices.{rpdo_object};
+ghost use Rattle.pdo_devices.specs.Devices.{rpdo_object};
 ghost use Rattle.pdo_plan.specs.Plan.{HasPdo, IsMadeFor, IsNumbered, clean, clean_of};
 ghost use Rattle.pdo_links.specs.Tables.{AreFew, AreValues, IsTableOf};
 ghost use Rattle.pdo_links.specs.Writes.{taken_type, rpdo_writes, rpdo_of, by_number};

@@ -4,7 +4,7 @@ ghost use Rattle.std.specs.Option.{option_map, option_map_or, option_and_then};
 ghost use Rattle.co_base.specs.Ranges.{is_between};
 ghost use Rattle.co_values.specs.declared.form.Width.TheVariants.{Bits16};
 ghost use Rattle.eds_device.specs.Entries.{entry_at};
-ghost use Rattle.pdo_plan.specs.Devices.{takes_unsigned, tpdo_object};
+ghost use Rattle.pdo_devices.specs.Devices.{takes_unsigned, tpdo_object};
 ghost use Rattle.pdo_plan.specs.Plan.{HasPdo, IsMadeFor, IsWithin, clean, clean_of};
 ghost use Rattle.pdo_links.specs.Tables.{AreFew, AreValues, IsTableOf};
 ghost use Rattle.pdo_links.specs.Writes.{write_at, time_write, tpdo_writes, tpdo_of, by_number};

@@ -1,22 +1,23 @@
 -- Each mapping of a clean message has at most 64 bits.
-use Rattle.std.proofs.Common.{◌≡◌, ℕ, ◌+◌, ◌≤◌, Bool, true, false, List, [], ◌∷◌, map, filter_map, Option, Some, None, option_map, option_and_then, refl, sym, ap, subst, ◌∙◌, arith}
+use Rattle.std.proofs.Common.{◌≡◌, ℕ, ◌+◌, ◌≤◌, Bool, true, false, List, [], ◌∷◌, filter_map, Option, Some, None, option_map, option_and_then, refl, sym, ap, subst, ◌∙◌, arith}
 use Rattle.std.specs.Prelude.{fold, if◌then◌else◌}
-use Rattle.std.specs.List.{cons_option, All, AllByRecursion}
+use Rattle.std.specs.List.{cons_option, All}
 use Rattle.std.specs.Option.{option_or, unwrap_or}
 use Rattle.std.proofs.lemmas.List.Elements.{All-from_recursion}
 use Rattle.co_messages.specs.declared.linked.Linked.{Linked}
 use Rattle.co_messages.specs.Messages.{sink_at}
 use Rattle.pdo_plan.specs.declared.clean.Clean.{Clean}
 use Rattle.pdo_plan.specs.declared.consumer.Consumer.{Consumer}
-use Rattle.pdo_plan.specs.declared.mapped.Mapped.{Mapped}
+use Rattle.pdo_devices.specs.declared.mapped.Mapped.{Mapped}
 use Rattle.pdo_plan.specs.declared.outcome.Outcome.TheVariants.{Planned}
-use Rattle.pdo_plan.specs.Devices.{Devices, width_at}
-use Rattle.pdo_plan.specs.Mapping.{Sources, Sinks, mapped_to, mapping_bits, dummy_type, dummy_for, source_bits, bits_of, sent_mapping, taken_at, taken_mapping}
+use Rattle.pdo_devices.specs.Devices.{Devices, width_at}
+use Rattle.pdo_devices.specs.Dummies.{mapped_to, dummy_type, dummy_for}
+use Rattle.pdo_plan.specs.Mapping.{Sources, Sinks, mapping_bits, source_bits, bits_of, sent_mapping, taken_at, taken_mapping}
 use Rattle.pdo_plan.specs.Plan.{Had, had_by, judged, consumer_of, consumers_of, planned_consumers, clean, plan_of, FitFrames}
 use Rattle.pdo_plan.proofs.CarriedLemmas.{fold_map}
-use Rattle.pdo_plan.proofs.ChainLemmas.{Each, each_clean, all_clean}
-use Rattle.pdo_plan.proofs.FreeLemmas.{Faultless, faultless}
-use Rattle.pdo_plan.proofs.JudgedLemmas.{IsCleanAs, judged_clean, each_given, IsConsumer, consumer_is}
+use Rattle.pdo_plan.proofs.ChainLemmas.{each_clean, all_clean}
+use Rattle.pdo_plan.proofs.FreeLemmas.{faultless}
+use Rattle.pdo_plan.proofs.JudgedLemmas.{judged_clean, each_given, consumer_is}
 
 -- the bits of an entry that is given are at most those that it is given for
 sum_given : {X : Type 0} (h : X → Option Mapped) (g : X → ℕ) → ((x : X) (m : Mapped) → h x ≡ Some m → m.bits ≤ g x)

@@ -1,5 +1,5 @@
 -- What is said of the sources by their widths is what is said of them by the sender's entries.
-use Rattle.std.proofs.Common.{◌≡◌, ℕ, ◌+◌, ◌==◌, ◌||◌, Bool, true, false, cond, List, [], ◌∷◌, map, filter_map, Option, Some, None, option_map, refl, sym, ap, ◌∙◌, arith}
+use Rattle.std.proofs.Common.{◌≡◌, ℕ, ◌+◌, ◌==◌, ◌||◌, Bool, true, false, cond, List, [], ◌∷◌, map, Some, refl, ap, arith}
 use Rattle.std.specs.Prelude.{fold}
 use Rattle.std.specs.List.{list_any, cons_option}
 use Rattle.std.specs.Map.{lookup}
@@ -8,8 +8,8 @@ use Rattle.std.specs.Option.{option_map_or}
 use Rattle.std.specs.Ordering.{nat_cmp}
 use Rattle.std.proofs.lemmas.Bool.Decides.{nat_tests}
 use Rattle.pdo_plan.specs.declared.carried.Carried.{Carried}
-use Rattle.pdo_plan.specs.declared.mapped.Mapped.{Mapped}
-use Rattle.pdo_plan.specs.Devices.{Devices, width_at}
+use Rattle.pdo_devices.specs.declared.mapped.Mapped.{Mapped}
+use Rattle.pdo_devices.specs.Devices.{Devices, width_at}
 use Rattle.pdo_plan.specs.Mapping.{Sources, Sinks, bits_of, sent_mapping, taken_mapping, lacks_dummy_at, is_mismatched, differ}
 use Rattle.pdo_plan.specs.Carried.{carried_by, carried_of, bits_in, total_bits, sent_by, taken_by, taken_all, lacks_some, lacks_dummy_for, mismatches, carried_at}
 

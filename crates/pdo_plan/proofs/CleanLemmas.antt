@@ -1,22 +1,18 @@
 -- A clean message, by its sources with their widths and its consumers.
-use Rattle.std.proofs.Common.{◌≡◌, ◌==◌, Bool, true, false, ℕ, List, [], ◌∷◌, length, map, filter_map, Option, Some, None, option_map, ◌≤◌, refl, sym, ap, ◌∙◌, arith}
+use Rattle.std.proofs.Common.{◌≡◌, ◌==◌, true, false, ℕ, List, [], ◌∷◌, length, filter_map, Option, Some, None, option_map, ◌≤◌, refl, sym, ap, ◌∙◌, arith}
 use Rattle.std.proofs.lemmas.Bool.Decides.{nat_tests}
 use Rattle.std.proofs.lemmas.List.{length-map}
 use Rattle.co_messages.specs.declared.linked.Linked.{Linked}
 use Rattle.co_messages.specs.Messages.{IsLinked}
 use Rattle.pdo_plan.specs.declared.carried.Carried.{Carried}
-use Rattle.pdo_plan.specs.declared.clean.Clean.{Clean}
-use Rattle.pdo_plan.specs.declared.consumer.Consumer.{Consumer}
-use Rattle.pdo_plan.specs.declared.mapped.Mapped.{Mapped}
 use Rattle.pdo_plan.specs.declared.message_fault.MessageFault.{MessageFault}
-use Rattle.pdo_plan.specs.declared.outcome.Outcome.{Outcome}
 use Rattle.pdo_plan.specs.declared.outcome.Outcome.TheVariants.{Planned, Faulty}
-use Rattle.pdo_plan.specs.Devices.{Devices}
+use Rattle.pdo_devices.specs.Devices.{Devices}
 use Rattle.pdo_plan.specs.Mapping.{sent_mapping}
 use Rattle.pdo_plan.specs.Carried.{carried_by, carried_of, sent_by, consumer_by, clean_by}
 use Rattle.pdo_plan.specs.Plan.{Had, rpdo_for, identifier_for, consumer_of, consumers_of, planned_consumers, faults, outcome, judged}
 use Rattle.pdo_plan.proofs.CarriedLemmas.{sent_same, taken_same}
-use Rattle.pdo_plan.proofs.LimitLemmas.{Limits, limits_of}
+use Rattle.pdo_plan.proofs.LimitLemmas.{limits_of}
 
 module _ (had : Had) (devices : Devices) (m : Linked) where
   abbrev sources : List Carried

@@ -1,5 +1,5 @@
 -- The faults of a message, by its sources with their widths and its consumers.
-use Rattle.std.proofs.Common.{◌≡◌, ℕ, ◌==◌, ◌&&◌, not, nat_lt, Bool, List, [], ◌∷◌, length, is_none, is_some, refl, sym, ap, subst, ◌∙◌}
+use Rattle.std.proofs.Common.{◌≡◌, ℕ, ◌==◌, ◌&&◌, not, nat_lt, Bool, List, [], ◌∷◌, length, is_none, is_some, ap, ◌∙◌}
 use Rattle.std.specs.List.{list_any}
 use Rattle.std.proofs.lemmas.List.{length-map}
 use Rattle.co_base.specs.Ranges.{is_between}
@@ -7,9 +7,9 @@ use Rattle.co_messages.specs.declared.linked.Linked.{Linked}
 use Rattle.pdo_plan.specs.declared.carried.Carried.{Carried}
 use Rattle.pdo_plan.specs.declared.message_fault.MessageFault.{MessageFault}
 use Rattle.pdo_plan.specs.declared.message_fault.MessageFault.TheVariants.{NoObjects, TpdoTaken, TooManyBits, NotMappable, Mismatched, NoRpdo, NoDummy, BadIdentifier, NoIdentifier, ReservedType}
-use Rattle.pdo_plan.specs.Devices.{Devices, has_pdo, has_times, tpdo_object}
+use Rattle.pdo_devices.specs.Devices.{Devices, has_pdo, has_times, tpdo_object}
 use Rattle.pdo_plan.specs.Carried.{carried_by, carried_of, total_bits, lacks_some, mismatches}
-use Rattle.pdo_plan.specs.Plan.{Had, rpdo_for, identifier_for, has_objects, has_unmappable, consumers_of, noted, faults}
+use Rattle.pdo_plan.specs.Plan.{Had, rpdo_for, identifier_for, has_unmappable, consumers_of, noted, faults}
 use Rattle.pdo_plan.proofs.CarriedLemmas.{bits_same, lacks_same, mismatch_same}
 
 -- the faults as they are tested

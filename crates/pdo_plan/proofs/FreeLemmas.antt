@@ -1,5 +1,5 @@
 -- What a clean message has no other has.
-use Rattle.std.proofs.Common.{◌≡◌, ℕ, zero, suc, ◌<◌, ◌≤◌, ◌==◌, ◌&&◌, ◌||◌, not, nat_lt, nat_le, Bool, true, false, cond, List, [], ◌∷◌, take, length, map, filter, filter_map, Option, Some, None, is_some, refl, sym, ap, subst, ◌∙◌, arith}
+use Rattle.std.proofs.Common.{◌≡◌, ℕ, zero, suc, ◌<◌, ◌≤◌, ◌==◌, ◌&&◌, ◌||◌, not, nat_lt, Bool, true, false, cond, List, [], ◌∷◌, take, length, map, filter, filter_map, Option, Some, None, is_some, refl, sym, ap, subst, ◌∙◌, arith}
 use Rattle.std.specs.List.{list_any, slice_get, cons_option}
 use Rattle.std.specs.List.Sorted.{IsStrictlySortedBy}
 use Rattle.std.specs.declared.cmp.Ordering.{Ordering}
@@ -16,11 +16,11 @@ use Rattle.pdo_plan.specs.declared.consumer.Consumer.{Consumer}
 use Rattle.pdo_plan.specs.declared.message_fault.MessageFault.{MessageFault}
 use Rattle.pdo_plan.specs.declared.message_fault.MessageFault.TheVariants.{NoObjects, TpdoTaken, TooManyBits}
 use Rattle.pdo_plan.specs.declared.outcome.Outcome.TheVariants.{Planned}
-use Rattle.pdo_plan.specs.Devices.{Devices, has_pdo, tpdo_object, rpdo_object}
+use Rattle.pdo_devices.specs.Devices.{Devices}
 use Rattle.pdo_plan.specs.Mapping.{bits_of}
 use Rattle.pdo_plan.specs.Plan.{Had, had_by, is_at_node, judged, faults, noted, identifier_for, has_objects, consumer_of, consumers_of, planned_consumers, clean, plan_of}
-use Rattle.pdo_plan.proofs.ChainLemmas.{Each, each_clean, at_place, had_earlier}
-use Rattle.pdo_plan.proofs.JudgedLemmas.{IsCleanAs, judged_clean, identifier_fine, is_false, tests_with, noted_some, IsConsumer, consumer_is}
+use Rattle.pdo_plan.proofs.ChainLemmas.{each_clean, at_place, had_earlier}
+use Rattle.pdo_plan.proofs.JudgedLemmas.{judged_clean, identifier_fine, is_false, tests_with, noted_some, consumer_is}
 use Rattle.pdo_plan.proofs.OrderLemmas.{consumers_sorted, once, get_map}
 
 -- ---- tests that didn't hold

@@ -16,15 +16,15 @@ use Rattle.pdo_plan.specs.declared.message_fault.MessageFault.{MessageFault}
 use Rattle.pdo_plan.specs.declared.message_fault.MessageFault.TheVariants.{NoObjects, TpdoTaken, TooManyBits, NotMappable, Mismatched, NoRpdo, NoDummy, BadIdentifier, NoIdentifier, ReservedType}
 use Rattle.pdo_plan.specs.declared.clean.Clean.{Clean}
 use Rattle.pdo_plan.specs.declared.consumer.Consumer.{Consumer}
-use Rattle.pdo_plan.specs.declared.mapped.Mapped.{Mapped}
 use Rattle.pdo_plan.specs.declared.outcome.Outcome.{Outcome}
 use Rattle.pdo_plan.specs.declared.outcome.Outcome.TheVariants.{Planned, Faulty}
-use Rattle.pdo_plan.specs.Devices.{Devices}
+use Rattle.pdo_devices.specs.Devices.{Devices}
 use Rattle.pdo_plan.specs.Least.{least_free, IsLeastFree}
-use Rattle.pdo_plan.specs.Mapping.{bits_of, mapped_to, source_bits, sent_mapping, taken_at, taken_mapping}
+use Rattle.pdo_devices.specs.Dummies.{mapped_to}
+use Rattle.pdo_plan.specs.Mapping.{bits_of, source_bits, sent_mapping, taken_at, taken_mapping}
 use Rattle.pdo_plan.specs.Plan.{Had, predefined, explicit, automatic, identifier_for, is_free_rpdo, rpdo_for, consumer_of, consumers_of, planned_consumers, has_objects, has_unmappable, has_mismatch, lacks_rpdo, lacks_dummy, noted, faults, outcome, judged, clean_of, IsNumbered, IsWithin}
 use Rattle.pdo_plan.proofs.LeastLemmas.{least_free_is}
-use Rattle.pdo_plan.proofs.LimitLemmas.{Limits, limits_of, is_within}
+use Rattle.pdo_plan.proofs.LimitLemmas.{limits_of, is_within}
 
 -- ---- clean or faulty
 

@@ -1,20 +1,13 @@
 -- The least free number is the one that is free and below which none is.
-use Rattle.std.proofs.Common.{◌≡◌, ◌↔◌, ◌⊎◌, inl, inr, ℕ, zero, suc, ◌+◌, ◌<◌, ◌≤◌, min, Bool, true, false, cond, List, ◌∷◌, filter, Option, Some, None, refl, sym, ap, subst, ◌∙◌, arith}
+use Rattle.std.proofs.Common.{◌≡◌, ◌↔◌, ◌⊎◌, inl, inr, ℕ, zero, suc, ◌+◌, ◌≤◌, min, Bool, true, false, cond, List, ◌∷◌, filter, Option, Some, None, refl, sym, ap, subst, ◌∙◌, arith}
 use Rattle.std.specs.List.{range_with_len}
 use Rattle.std.specs.declared.cmp.Ordering.{Ordering}
 use Rattle.std.specs.declared.cmp.Ordering.TheVariants.{Less, Equal, Greater}
 use Rattle.std.specs.Ordering.{nat_cmp}
 use Rattle.std.proofs.lemmas.Bool.{false≢true}
 use Rattle.std.proofs.lemmas.Cmp.{ranked}
+use Rattle.pdo_devices.proofs.RoomLemmas.{here_or_past}
 use Rattle.pdo_plan.specs.Least.{lesser, least, least_free, IsLeastFree}
-
-pub here_or_past : (first k : ℕ) → first ≤ k → (first ≡ k) ⊎ (first + 1 ≤ k)
-here_or_past first k low = by (nat_cmp first k) refl
-  where
-    by : (o : Ordering) → o ≡ nat_cmp first k → (first ≡ k) ⊎ (first + 1 ≤ k)
-    by Less e = let lt : first < k = ranked first k Less e in inr (omega arith)
-    by Equal e = inl (ranked first k Equal e)
-    by Greater e = let lt : k < first = ranked first k Greater e in absurd (omega arith)
 
 -- what holds of a number and of those after it
 from : (is_free : ℕ → Bool) (first k : ℕ) → is_free first ≡ false → first ≤ k → (first + 1 ≤ k → is_free k ≡ false) → is_free k ≡ false

@@ -8,9 +8,8 @@ pub mod JudgedLemmas
 pub mod LeastLemmas
 pub mod LimitLemmas
 pub mod MadeLemmas
+pub mod NamedLemmas
 pub mod OrderLemmas
 pub mod PlaceLemmas
 pub mod PlanLemmas
-pub mod RoomLemmas
 pub mod SpareLemmas
-pub mod StationLemmas

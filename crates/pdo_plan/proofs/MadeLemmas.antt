@@ -1,5 +1,5 @@
 -- Each PDO of the plan is one that its node's device has, and no identifier is restricted.
-use Rattle.std.proofs.Common.{◌≡◌, ℕ, zero, suc, ◌+◌, ◌<◌, ◌≤◌, ◌==◌, ◌&&◌, Bool, true, false, cond, List, [], ◌∷◌, length, Option, Some, option_and_then, refl, sym, ap, subst, ◌∙◌, arith, IsFalse}
+use Rattle.std.proofs.Common.{◌≡◌, ℕ, ◌+◌, ◌<◌, ◌≤◌, ◌==◌, ◌&&◌, Bool, true, false, cond, List, [], ◌∷◌, length, Some, option_and_then, refl, sym, ap, subst, ◌∙◌, arith, IsFalse}
 use Rattle.std.specs.List.{list_all, range_with_len, All, Contains}
 use Rattle.std.specs.Map.{lookup}
 use Rattle.std.proofs.lemmas.Bool.Decides.{nat_tests}
@@ -14,14 +14,14 @@ use Rattle.co_messages.specs.Messages.{IsLinked}
 use Rattle.pdo_plan.specs.declared.clean.Clean.{Clean}
 use Rattle.pdo_plan.specs.declared.consumer.Consumer.{Consumer}
 use Rattle.pdo_plan.specs.declared.outcome.Outcome.TheVariants.{Planned}
-use Rattle.pdo_plan.specs.Devices.{Devices, devices_of, has_unsigned, has_mapping, has_pdo, has_times, mapping_of, tpdo_object, rpdo_object}
+use Rattle.pdo_devices.specs.Devices.{Devices, devices_of, has_unsigned, has_mapping, has_pdo, mapping_of, tpdo_object, rpdo_object}
 use Rattle.pdo_plan.specs.Plan.{Had, had_by, judged, consumer_of, consumers_of, planned_consumers, clean, plan_of, HasPdo, IsMadeFor}
-use Rattle.pdo_plan.proofs.ChainLemmas.{Each, each_clean, each_within, all_clean}
-use Rattle.pdo_plan.proofs.FreeLemmas.{Faultless, faultless}
-use Rattle.pdo_plan.proofs.JudgedLemmas.{IsCleanAs, judged_clean, each_given, IsConsumer, consumer_is, identifier_fine, sent_count, taken_few}
-use Rattle.pdo_plan.proofs.LimitLemmas.{Limits, limits_of}
-use Rattle.pdo_plan.proofs.RoomLemmas.{all_pass, one_fails}
-use Rattle.pdo_plan.proofs.SpareLemmas.{pdo_alike}
+use Rattle.pdo_plan.proofs.ChainLemmas.{each_clean, each_within, all_clean}
+use Rattle.pdo_plan.proofs.FreeLemmas.{faultless}
+use Rattle.pdo_plan.proofs.JudgedLemmas.{judged_clean, each_given, consumer_is, identifier_fine, sent_count, taken_few}
+use Rattle.pdo_plan.proofs.LimitLemmas.{limits_of}
+use Rattle.pdo_devices.proofs.RoomLemmas.{all_pass, one_fails}
+use Rattle.pdo_devices.proofs.AlikeLemmas.{pdo_alike}
 
 -- ---- identifiers
 

@@ -1,5 +1,5 @@
 -- The nodes that sinks name stand by number, each once.
-use Rattle.std.proofs.Common.{◌≡◌, ℕ, zero, suc, List, [], ◌∷◌, map, Option, Some, option_map, refl, sym, ap, subst, ◌∙◌}
+use Rattle.std.proofs.Common.{◌≡◌, ℕ, zero, suc, List, [], ◌∷◌, map, Some, option_map, refl, ap, subst, ◌∙◌}
 use Rattle.std.specs.List.{slice_get, AllByRecursion}
 use Rattle.std.specs.List.Sorted.{IsStrictlySortedBy}
 use Rattle.std.specs.BTreeSet.{insert_key}
@@ -10,7 +10,8 @@ use Rattle.std.proofs.lemmas.Cmp.{tied_itself, nat_cmp_total}
 use Rattle.pdo_plan.specs.Mapping.{Sinks}
 use Rattle.pdo_plan.specs.Plan.{nodes_put, consumers_of}
 
-all_inserted : (P : ℕ → Type 0) (xs : List ℕ) (k : ℕ) → AllByRecursion P xs → P k → AllByRecursion P (insert_key nat_cmp xs k)
+-- a number more: all are so, where it is
+pub all_inserted : (P : ℕ → Type 0) (xs : List ℕ) (k : ℕ) → AllByRecursion P xs → P k → AllByRecursion P (insert_key nat_cmp xs k)
 all_inserted P [] k h p = (p, tt)
 all_inserted P (x ∷ xs) k h p = by (nat_cmp k x) (all_inserted P xs k h.1 p)
   where

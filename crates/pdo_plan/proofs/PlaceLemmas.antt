@@ -7,7 +7,7 @@ use Rattle.pdo_plan.specs.declared.clean.Clean.{Clean}
 use Rattle.pdo_plan.specs.declared.outcome.Outcome.{Outcome}
 use Rattle.pdo_plan.specs.declared.outcome.Outcome.TheVariants.{Planned, Faulty}
 use Rattle.pdo_plan.specs.declared.planned_message.PlannedMessage.{PlannedMessage}
-use Rattle.pdo_plan.specs.Devices.{Devices}
+use Rattle.pdo_devices.specs.Devices.{Devices}
 use Rattle.pdo_plan.specs.Plan.{had_by, said_of, clean, plan_after, plan_of}
 
 more : (before : List Clean) (name : List ℕ) (o : Outcome) (ps : List PlannedMessage)

@@ -1,5 +1,5 @@
 -- The plan, message by message.
-use Rattle.std.proofs.Common.{◌≡◌, ◌==◌, ℕ, Bool, true, false, ◌||◌, ◌&&◌, List, [], ◌∷◌, ◌++◌, append_assoc, Option, Some, None, refl, sym, ap, subst, ◌∙◌}
+use Rattle.std.proofs.Common.{◌≡◌, ◌==◌, ℕ, Bool, true, false, ◌||◌, ◌&&◌, List, [], ◌∷◌, ◌++◌, append_assoc, refl, sym, ap, subst, ◌∙◌}
 use Rattle.std.specs.List.{list_any, All}
 use Rattle.std.specs.Option.{IfSome}
 use Rattle.std.proofs.lemmas.List.Elements.{filter_map-append, All-nil, All-cons, All-append}
@@ -10,8 +10,8 @@ use Rattle.pdo_plan.specs.declared.clean.Clean.{Clean}
 use Rattle.pdo_plan.specs.declared.outcome.Outcome.{Outcome}
 use Rattle.pdo_plan.specs.declared.outcome.Outcome.TheVariants.{Planned, Faulty}
 use Rattle.pdo_plan.specs.declared.planned_message.PlannedMessage.{PlannedMessage}
-use Rattle.pdo_plan.specs.Devices.{Devices}
-use Rattle.pdo_plan.specs.Plan.{Had, had_by, is_at_node, judged, said_of, clean_of, clean, plan_after, IsWithin}
+use Rattle.pdo_devices.specs.Devices.{Devices}
+use Rattle.pdo_plan.specs.Plan.{Had, had_by, is_at_node, said_of, clean_of, clean, plan_after, IsWithin}
 use Rattle.pdo_plan.specs.Taken.{had_too, had_after}
 
 or_false : (a b : Bool) → a || b ≡ a || (b || false)

@@ -7,9 +7,10 @@ use Rattle.pdo_plan.specs.declared.carried.Carried.{Carried}
 use Rattle.co_messages.specs.declared.linked.Linked.{Linked}
 use Rattle.pdo_plan.specs.declared.clean.Clean.{Clean}
 use Rattle.pdo_plan.specs.declared.consumer.Consumer.{Consumer}
-use Rattle.pdo_plan.specs.declared.mapped.Mapped.{Mapped}
-use Rattle.pdo_plan.specs.Devices.{Devices, width_at}
-use Rattle.pdo_plan.specs.Mapping.{Sources, Sinks, mapped_to, dummy_for, differ}
+use Rattle.pdo_devices.specs.declared.mapped.Mapped.{Mapped}
+use Rattle.pdo_devices.specs.Devices.{Devices, width_at}
+use Rattle.pdo_devices.specs.Dummies.{mapped_to, dummy_for}
+use Rattle.pdo_plan.specs.Mapping.{Sources, Sinks, differ}
 use Rattle.pdo_plan.specs.Plan.{Had, rpdo_for}
 
 abbrev pub carried_by : Devices → ℕ → ℕ × (ℕ × ℕ) → Carried

@@ -1,10 +1,6 @@
 pub mod Carried
-pub mod Devices
 pub mod Flags
 pub mod Least
 pub mod Mapping
 pub mod Plan
-pub mod Rooms
-pub mod Shown
-pub mod Stations
 pub mod Taken

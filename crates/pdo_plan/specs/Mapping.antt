@@ -1,11 +1,11 @@
 -- The mapping of a message (CiA 301, PDO mapping parameters): what each PDO of it carries.
-use Rattle.std.specs.Prelude.{ℕ, ◌==◌, ◌&&◌, Bool, true, false, not, List, ◌∷◌, map, filter_map, if◌then◌else◌, Option, Some, None, is_none, option_map, option_and_then, sum_by}
-use Rattle.std.specs.List.{list_any}
+use Rattle.std.specs.Prelude.{ℕ, ◌==◌, ◌&&◌, Bool, true, false, not, List, ◌∷◌, map, filter_map, Option, Some, None, is_none, option_map, option_and_then, sum_by}
 use Rattle.std.specs.Option.{option_map_or, unwrap_or, option_or}
 use Rattle.byteorder.specs.Endian.{little_bytes}
 use Rattle.co_messages.specs.Messages.{source_at, sink_at}
-use Rattle.pdo_plan.specs.declared.mapped.Mapped.{Mapped}
-use Rattle.pdo_plan.specs.Devices.{Devices, width_at}
+use Rattle.pdo_devices.specs.declared.mapped.Mapped.{Mapped}
+use Rattle.pdo_devices.specs.Devices.{Devices, width_at}
+use Rattle.pdo_devices.specs.Dummies.{mapped_to, dummy_for}
 
 -- a mapping entry in the mapping object: the bits, the sub-index and the index, the lowest byte first, as 20020010h is 10 00 02 20
 abbrev pub mapped_bytes : Mapped → List ℕ
@@ -14,23 +14,6 @@ mapped_bytes m = m.bits ∷ m.sub ∷ little_bytes 2 m.index
 -- the bits that a mapping fills in a frame
 abbrev pub mapping_bits : List Mapped → ℕ
 mapping_bits mapping = sum_by (λ (m : Mapped). m.bits) mapping
-
-abbrev pub mapped_to : ℕ × ℕ → ℕ → Mapped
-mapped_to place bits = record { index = place.0; sub = place.1; bits = bits }
-
--- the data type of the dummy of so many bits (CiA 301, dummy entries): BOOLEAN and UNSIGNED8, 16 and 32 have one
-abbrev pub dummy_type : ℕ → Option ℕ
-dummy_type bits =
-    if bits == 1 then Some 0x0001
-    else if bits == 8 then Some 0x0005
-    else if bits == 16 then Some 0x0006
-    else if bits == 32 then Some 0x0007
-    else None
-
--- the dummy of so many bits, where a node allows it
-abbrev pub dummy_for : Devices → ℕ → ℕ → Option Mapped
-dummy_for devices node bits =
-    option_and_then (λ kind. if devices.dummy node kind then Some (mapped_to (kind, 0) bits) else None) (dummy_type bits)
 
 -- the sources of a message, by position, each an entry of the sender
 abbrev pub Sources : Type 0

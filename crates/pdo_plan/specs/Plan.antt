@@ -16,10 +16,10 @@ use Rattle.pdo_plan.specs.declared.clean.Clean.{Clean}
 use Rattle.pdo_plan.specs.declared.outcome.Outcome.{Outcome}
 use Rattle.pdo_plan.specs.declared.outcome.Outcome.TheVariants.{Planned, Faulty}
 use Rattle.pdo_plan.specs.declared.planned_message.PlannedMessage.{PlannedMessage}
-use Rattle.pdo_plan.specs.declared.mapped.Mapped.{Mapped}
-use Rattle.pdo_plan.specs.Devices.{Devices, devices_of, can_map, has_pdo, has_times, tpdo_object, rpdo_object}
+use Rattle.pdo_devices.specs.declared.mapped.Mapped.{Mapped}
+use Rattle.pdo_devices.specs.Devices.{Devices, devices_of, can_map, has_pdo, has_times, tpdo_object, rpdo_object}
 use Rattle.pdo_plan.specs.Least.{least_free}
-use Rattle.pdo_plan.specs.Mapping.{Sources, Sinks, mapping_bits, bits_of, sent_mapping, taken_mapping, is_mismatched, lacks_dummy_at}
+use Rattle.pdo_plan.specs.Mapping.{Sinks, mapping_bits, bits_of, sent_mapping, taken_mapping, is_mismatched, lacks_dummy_at}
 
 -- ---- what is had
 

@@ -2,12 +2,11 @@
 ghost use Rattle.std.specs.Prelude.{◌≡◌, ◌≤◌, length, IfOk};
 ghost use Rattle.std.specs.Option.{option_copied};
 ghost use Rattle.pdo_plan.specs.Carried.{carried_of, carried_at, bits_in, total_bits, sent_by};
-ghost use Rattle.pdo_plan.specs.Stations.{devices_in};
+ghost use Rattle.pdo_devices.specs.Stations.{devices_in};
 
 use crate::listed::Listed;
-use crate::mapped::Mapped;
-use crate::stations::{Stations, width};
 use co_messages::Sources;
+use pdo_devices::{Mapped, Stations};
 use std::alloc::{AllocError, Global};
 
 /// A source of a message.
@@ -28,14 +27,14 @@ pub(crate) fn carried_sources(
     sender: u8,
     sources: &Sources,
 ) -> Result<Vec<Carried>, AllocError>
-    ensures { IfOk result (λ carried. carried.items ≡ carried_of (devices_in stations.now.entries) sender sources.now) }
+    ensures { IfOk result (λ carried. carried.items ≡ carried_of (devices_in stations.now) sender sources.now) }
 {
     let mut carried = Vec::new(alloc);
     'sources: for (position, place) in sources.iter() {
         carried.push(Carried {
             position: *position,
             place: *place,
-            bits: width(stations, sender, *place),
+            bits: stations.width(sender, *place),
         })?;
     }
     Ok(carried)

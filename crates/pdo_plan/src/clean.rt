@@ -2,8 +2,8 @@
 
 use crate::consumer::Consumer;
 use crate::listed::Listed;
-use crate::mapped::Mapped;
 use co_messages::Message;
+use pdo_devices::Mapped;
 
 /// A message that can be sent: its identifier, what its PDO maps, and who takes it.
 #[derive(Drop)]

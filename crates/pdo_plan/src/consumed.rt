@@ -3,14 +3,12 @@ ghost use Rattle.std.specs.Prelude.{◌≡◌, [], IfOk};
 ghost use Rattle.pdo_plan.specs.Carried.{taken_by, taken_all, lacks_dummy_for, lacks_some, mismatches};
 ghost use Rattle.pdo_plan.specs.Mapping.{differ};
 ghost use Rattle.pdo_plan.specs.Plan.{nodes_put, consumers_of};
-ghost use Rattle.pdo_plan.specs.Stations.{devices_in};
+ghost use Rattle.pdo_devices.specs.Stations.{devices_in};
 
 use crate::carried::{Carried, bits_in, carried_at};
-use crate::dummy::dummy_for;
 use crate::listed::Listed;
-use crate::mapped::Mapped;
-use crate::stations::{Stations, width};
 use co_messages::Sinks;
+use pdo_devices::{Mapped, Stations};
 use std::alloc::{AllocError, Global};
 use std::collections::BTreeSet;
 
@@ -38,7 +36,7 @@ pub(crate) fn consumers_of(alloc: Global, sinks: &Sinks) -> Result<Vec<u8>, Allo
 /// What a consumer's PDO maps for a source: its sink at that position, else a dummy.
 #[tactic(auto, unfolding(crate::specs::Carried::taken_by))]
 fn taken_by(stations: &Stations, sinks: &Sinks, node: u8, carried: &Carried) -> Option<Mapped>
-    ensures { result ≡ taken_by (devices_in stations.now.entries) sinks.now node carried.now }
+    ensures { result ≡ taken_by (devices_in stations.now) sinks.now node carried.now }
 {
     if let Some(place) = sinks.get(carried.position, node) {
         return Some(Mapped {
@@ -47,7 +45,7 @@ fn taken_by(stations: &Stations, sinks: &Sinks, node: u8, carried: &Carried) -> 
             bits: bits_in(carried),
         });
     }
-    dummy_for(stations, node, carried.bits?)
+    stations.dummy_for(node, carried.bits?)
 }
 
 /// What a consumer's PDO maps.
@@ -59,7 +57,7 @@ pub(crate) fn taken_mapping(
     node: u8,
     carried: &[Carried],
 ) -> Result<Listed<Mapped>, AllocError>
-    ensures { IfOk result (λ mapping. mapping ≡ taken_all (devices_in stations.now.entries) sinks.now node carried.now) }
+    ensures { IfOk result (λ mapping. mapping ≡ taken_all (devices_in stations.now) sinks.now node carried.now) }
 {
     let mut mapping = Vec::new(alloc);
     for source in carried {
@@ -72,11 +70,11 @@ pub(crate) fn taken_mapping(
 
 /// Whether a dummy is needed for a source, and the consumer allows none of that width.
 fn lacks_dummy_for(stations: &Stations, sinks: &Sinks, node: u8, carried: &Carried) -> bool
-    ensures { result ≡ lacks_dummy_for (devices_in stations.now.entries) sinks.now node carried.now }
+    ensures { result ≡ lacks_dummy_for (devices_in stations.now) sinks.now node carried.now }
 {
     match carried.bits {
         Some(bits) => {
-            dummy_for(stations, node, bits).is_none() && sinks.get(carried.position, node).is_none()
+            stations.dummy_for(node, bits).is_none() && sinks.get(carried.position, node).is_none()
         }
         None => false,
     }
@@ -84,7 +82,7 @@ fn lacks_dummy_for(stations: &Stations, sinks: &Sinks, node: u8, carried: &Carri
 
 /// Whether a consumer needs a dummy that it doesn't allow.
 pub(crate) fn lacks_dummy(stations: &Stations, sinks: &Sinks, node: u8, carried: &[Carried]) -> bool
-    ensures { result ≡ lacks_some (devices_in stations.now.entries) sinks.now node carried.now }
+    ensures { result ≡ lacks_some (devices_in stations.now) sinks.now node carried.now }
 {
     carried
         .iter()
@@ -108,10 +106,10 @@ pub(crate) fn mismatches(
     seat: (u8, u8),
     place: (u16, u8),
 ) -> bool
-    ensures { result ≡ mismatches (devices_in stations.now.entries) carried.now (seat, place) }
+    ensures { result ≡ mismatches (devices_in stations.now) carried.now (seat, place) }
 {
     match carried_at(carried, seat.0) {
-        Some(source) => differ(source.bits, width(stations, seat.1, place)),
+        Some(source) => differ(source.bits, stations.width(seat.1, place)),
         None => true,
     }
 }

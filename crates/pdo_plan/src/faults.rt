@@ -4,9 +4,9 @@ ghost use Rattle.std.specs.List.{list_any};
 ghost use Rattle.co_base.specs.Ranges.{is_between};
 ghost use Rattle.co_dict.specs.declared.direction.Direction.TheVariants as direction;
 ghost use Rattle.pdo_plan.specs.Carried.{carried_of, lacks_some, mismatches};
-ghost use Rattle.pdo_plan.specs.Devices.{can_map};
+ghost use Rattle.pdo_devices.specs.Devices.{can_map};
 ghost use Rattle.pdo_plan.specs.Plan.{rpdo_for, identifier_for, has_unmappable, consumers_of, noted, faults};
-ghost use Rattle.pdo_plan.specs.Stations.{devices_in};
+ghost use Rattle.pdo_devices.specs.Stations.{devices_in};
 ghost use Rattle.pdo_plan.specs.Taken.{had_in};
 
 use crate::carried::{Carried, total_bits};
@@ -15,32 +15,32 @@ use crate::listed::Listed;
 use crate::message_fault::MessageFault;
 use crate::rpdos::rpdo_for;
 use crate::sender::has_tpdo;
-use crate::stations::{Stations, can_map};
 use crate::taken::Taken;
 use co_dict::Direction;
 use co_messages::{Linked, Sinks, Sources};
+use pdo_devices::Stations;
 use std::alloc::{AllocError, Global};
 
 /// Whether a source isn't there or no TPDO can map it.
 fn has_unsendable(stations: &Stations, sender: u8, sources: &Sources) -> bool
-    ensures { result ≡ list_any (λ s. not (can_map direction.Transmit (devices_in stations.now.entries) sender s.1)) sources.now }
+    ensures { result ≡ list_any (λ s. not (can_map direction.Transmit (devices_in stations.now) sender s.1)) sources.now }
 {
-    sources.iter().any(|(_, place)| !can_map(Direction::Transmit, stations, sender, *place))
+    sources.iter().any(|(_, place)| !stations.can_map(Direction::Transmit, sender, *place))
 }
 
 /// Whether a sink isn't there, no RPDO can map it, or it is on the sender.
 fn has_untakable(stations: &Stations, sender: u8, sinks: &Sinks) -> bool
-    ensures { result ≡ list_any (λ s. not (can_map direction.Receive (devices_in stations.now.entries) s.0.1 s.1) || (s.0.1 == sender)) sinks.now }
+    ensures { result ≡ list_any (λ s. not (can_map direction.Receive (devices_in stations.now) s.0.1 s.1) || (s.0.1 == sender)) sinks.now }
 {
     sinks.iter().any(|(seat, place)| {
-        !can_map(Direction::Receive, stations, seat.1, *place) || seat.1 == sender
+        !stations.can_map(Direction::Receive, seat.1, *place) || seat.1 == sender
     })
 }
 
 /// Whether a source or sink isn't there or can't be mapped in its direction, or a sink is on the
 /// sender.
 fn has_unmappable(stations: &Stations, linked: &Linked) -> bool
-    ensures { result ≡ has_unmappable (devices_in stations.now.entries) linked.now }
+    ensures { result ≡ has_unmappable (devices_in stations.now) linked.now }
 {
     let sender = linked.message.node;
     has_unsendable(stations, sender, &linked.sources)
@@ -49,7 +49,7 @@ fn has_unmappable(stations: &Stations, linked: &Linked) -> bool
 
 /// Whether a sink has no source at its position, or one of another width.
 fn has_mismatch(stations: &Stations, carried: &[Carried], sinks: &Sinks) -> bool
-    ensures { result ≡ list_any (mismatches (devices_in stations.now.entries) carried.now) sinks.now }
+    ensures { result ≡ list_any (mismatches (devices_in stations.now) carried.now) sinks.now }
 {
     sinks.iter().any(|(seat, place)| mismatches(stations, carried, *seat, *place))
 }
@@ -57,7 +57,7 @@ fn has_mismatch(stations: &Stations, carried: &[Carried], sinks: &Sinks) -> bool
 /// Whether a consumer has no free RPDO for so many mapping entries.
 fn lacks_rpdo(stations: &Stations, taken: &Taken, consumers: &[u8], count: usize) -> bool
     requires { count ≤ 64 }
-    ensures { result ≡ list_any (λ node. is_none (rpdo_for (had_in taken.now) (devices_in stations.now.entries) count node)) consumers.now }
+    ensures { result ≡ list_any (λ node. is_none (rpdo_for (had_in taken.now) (devices_in stations.now) count node)) consumers.now }
 {
     consumers
         .iter()
@@ -71,7 +71,7 @@ fn lacks_any_dummy(
     sinks: &Sinks,
     consumers: &[u8],
 ) -> bool
-    ensures { result ≡ list_any (λ node. lacks_some (devices_in stations.now.entries) sinks.now node carried.now) consumers.now }
+    ensures { result ≡ list_any (λ node. lacks_some (devices_in stations.now) sinks.now node carried.now) consumers.now }
 {
     consumers
         .iter()
@@ -124,10 +124,10 @@ pub(crate) fn faults(
 ) -> Result<Listed<MessageFault>, AllocError>
     requires number { linked.now.message.tpdo ≤ 512 }
     requires few { length carried.now ≤ 64 }
-    requires sources { carried.now ≡ carried_of (devices_in stations.now.entries) linked.now.message.node linked.now.sources }
+    requires sources { carried.now ≡ carried_of (devices_in stations.now) linked.now.message.node linked.now.sources }
     requires consumers { consumers.now ≡ consumers_of linked.now.sinks }
     requires identifier { has_identifier ≡ is_some (identifier_for (had_in taken.now) linked.now.message) }
-    ensures { IfOk result (λ found. found ≡ faults (had_in taken.now) (devices_in stations.now.entries) linked.now) }
+    ensures { IfOk result (λ found. found ≡ faults (had_in taken.now) (devices_in stations.now) linked.now) }
 {
     let message = &linked.message;
     let sinks = &linked.sinks;

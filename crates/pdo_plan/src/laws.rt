@@ -1,16 +1,17 @@
 //! Laws of the plan, each a function whose contract is the law.
-ghost use Rattle.std.specs.Prelude.{◌≡◌, ◌↔◌, ◌≤◌, ◌==◌, ℕ, Bool, List, [], length, take, All, Option, Some, IsFalse, slice_get};
+ghost use Rattle.std.specs.Prelude.{◌≡◌, ◌↔◌, ◌≤◌, ◌==◌, ℕ, Bool, true, List, [], length, take, All, Option, Some, IsFalse, slice_get};
+ghost use Rattle.std.specs.FinMap as map;
 ghost use Rattle.std.specs.Map.{lookup};
 ghost use Rattle.ini_text.specs.Content.{Section};
 ghost use Rattle.co_dict.specs.Pdos.{is_restricted};
-ghost use Rattle.co_messages.specs.Messages.{IsLinked};
+ghost use Rattle.co_messages.specs.Messages.{concern, Named, IsLinked};
 ghost use Rattle.co_messages.specs.declared.linked.Linked.{Linked};
 ghost use Rattle.pdo_plan.specs.declared.clean.Clean.{Clean as Sent};
 ghost use Rattle.pdo_plan.specs.declared.consumer.Consumer.{Consumer as Taker};
 ghost use Rattle.pdo_plan.specs.declared.message_fault.MessageFault.{MessageFault as Fault};
 ghost use Rattle.pdo_plan.specs.declared.outcome.Outcome.TheVariants as says;
 ghost use Rattle.pdo_plan.specs.declared.planned_message.PlannedMessage.{PlannedMessage as Said};
-ghost use Rattle.pdo_plan.specs.Devices.{Devices, devices_of};
+ghost use Rattle.pdo_devices.specs.Devices.{Devices, devices_of};
 ghost use Rattle.pdo_plan.specs.Least.{least_free, IsLeastFree};
 ghost use Rattle.pdo_plan.specs.Plan.{Had, had_by, identifier_for, faults, judged, said_of, clean, plan_of, FitFrames, IsMadeFor};
 
@@ -78,4 +79,12 @@ pub fn mappings_fit_frames()
 pub fn plans_are_made_for_their_devices()
     ensures { (nodes : List (ℕ × List Section)) (ms : List (List ℕ × Linked)) (node : ℕ) (ss : List Section) → lookup (λ n. n == node) nodes ≡ Some ss
         → IsMadeFor (plan_of (devices_of nodes) ms) ss node }
+{}
+
+/// The plan asks only of the nodes that its messages name: those that send a message, or take a part
+/// of one.
+pub fn the_plan_asks_only_of_the_nodes_that_messages_name()
+    ensures { (a b : List (ℕ × List Section)) (messages : Named)
+        → ((node : ℕ) → concern node messages ≡ true → lookup (λ n. n == node) a ≡ lookup (λ n. n == node) b)
+        → plan_of (devices_of a) (map.entries messages) ≡ plan_of (devices_of b) (map.entries messages) }
 {}

@@ -1,20 +1,20 @@
 //! The plan of messages, message by message.
 ghost use Rattle.std.specs.FinMap as map;
 ghost use Rattle.std.specs.Prelude.{◌≡◌, ◌∷◌, [], All, IfOk, IfSome, OnOk};
-ghost use Rattle.pdo_plan.specs.Devices.{devices_of};
+ghost use Rattle.pdo_devices.specs.Devices.{devices_of};
 ghost use Rattle.pdo_plan.specs.Plan.{clean, clean_of, IsWithin, plan_of};
-ghost use Rattle.pdo_plan.specs.Shown.{nodes_of};
+ghost use Rattle.pdo_devices.specs.Shown.{nodes_of};
 ghost use Rattle.pdo_plan.specs.Taken.{had_in, had_after};
 
 use crate::judging::judge;
 use crate::message_plan::Plan;
 use crate::outcome::Outcome;
 use crate::planned_message::PlannedMessage;
-use crate::stations::stations;
 use crate::taken::Taken;
 use co_base::Octets;
 use co_messages::Messages;
 use eds_device::Device;
+use pdo_devices::Stations;
 use std::alloc::{AllocError, Global};
 
 /// Takes what a message has, if it is clean.
@@ -37,7 +37,7 @@ fn take_clean(taken: &mut Taken, outcome: &Outcome) -> Result<(), AllocError>
 pub fn plan(alloc: Global, nodes: &[(u8, &Device)], messages: &Messages) -> Result<Plan, AllocError>
     ensures { IfOk result (λ plan. plan ≡ plan_of (devices_of (nodes_of nodes.now)) (map.entries messages.now)) }
 {
-    let stations = stations(alloc, nodes)?;
+    let stations = Stations::new(alloc, nodes)?;
     let mut taken = Taken::new(alloc)?;
     let mut plan = Vec::new(alloc);
     'messages: for (name, linked) in messages.iter() {

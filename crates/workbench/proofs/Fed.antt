@@ -13,7 +13,8 @@ use Rattle.co_commands.specs.Requests.{request}
 use Rattle.co_edits.specs.Eds.{eds_edit}
 use Rattle.co_edits.specs.Eds.{IsEds}
 use Rattle.co_edits.specs.Edits.{IsEdit}
-use Rattle.co_commands.specs.Lines.{words_of, line_of, block_of, asks, text_of}
+use Rattle.co_lines.specs.Lines.{words_of, line_of, block_of, text_of}
+use Rattle.co_commands.specs.Asked.{asks}
 use Rattle.co_text.specs.Lines.{line_count}
 use Rattle.co_project.specs.Project.{Content, first, accept, accept_all}
 use Rattle.co_project.specs.Script.{edits, script}

@@ -6,3 +6,4 @@ pub mod Lines
 pub mod Keeps
 pub mod LineEnds
 pub mod Fed
+pub mod Plans

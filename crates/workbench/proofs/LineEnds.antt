@@ -20,9 +20,11 @@ use Rattle.co_edits.specs.Accepts.{unless}
 use Rattle.co_edits.specs.Forms.{is_control}
 use Rattle.co_commands.specs.Words.{last_word, decimal, is_bad_line}
 use Rattle.co_text.specs.Words.{word, after}
-use Rattle.co_commands.specs.Requests.{◌>>=◌, request, block_of as block_asked, block_lines, command_of}
+use Rattle.co_commands.specs.Steps.{◌>>=◌}
+use Rattle.co_commands.specs.Requests.{request, block_of as block_asked, block_lines, command_of}
 use Rattle.co_edits.specs.Eds.{eds_edit, text_of}
-use Rattle.co_commands.specs.Lines.{asks, block_of}
+use Rattle.co_lines.specs.Lines.{block_of}
+use Rattle.co_commands.specs.Asked.{asks}
 use Rattle.workbench.specs.Lines.{has_break, AreLines}
 use Rattle.workbench.proofs.Lines.{lines-ended}
 

@@ -1,7 +1,6 @@
 -- What queries are answered. The lines of a DCF are CiA 306's, the bytes of a concise DCF are CiA 302's; how replies show them is this profile's own.
-use Rattle.std.specs.Prelude.{ℕ, List, ◌∷◌, [], ◌++◌, codes, decimal, Option, Some, None, option_map, option_and_then, Result, Ok, Err}
+use Rattle.std.specs.Prelude.{ℕ, List, ◌∷◌, [], ◌++◌, codes, decimal, Option, Some, None, option_map, Result, Ok, Err}
 use Rattle.co_text.specs.Lines.{line_feed, line_count}
-use Rattle.ini_text.specs.Content.{Section, content_of}
 use Rattle.ini_text.specs.Change.{text_of}
 use Rattle.concise_dcf.specs.declared.write.Write.{Write}
 use Rattle.concise_dcf.specs.Concise.{text_of as concise_text}
@@ -10,11 +9,9 @@ use Rattle.co_edits.specs.declared.fault.EditFault.{EditFault}
 use Rattle.co_edits.specs.declared.fault.EditFault.TheVariants.{Unknown}
 use Rattle.co_commands.specs.declared.query.Query.{Query}
 use Rattle.co_commands.specs.declared.query.Query.TheVariants.{Dcf, Cdcf, Project}
-use Rattle.co_project.specs.declared.node.Node.{Node}
 use Rattle.co_project.specs.Project.{Content}
-use Rattle.co_project.specs.Tables.{node_at, text_at}
 use Rattle.co_project.specs.Script.{script}
-use Rattle.co_params.specs.Parameters.{parameter_writes}
+use Rattle.co_network.specs.Network.{Member, member_at, writes_of}
 use Rattle.workbench.specs.Hex.{hex_text}
 
 -- what is named isn't there
@@ -22,30 +19,22 @@ abbrev pub or_unknown : {X : Type 0} → Option X → Result X EditFault
 or_unknown None = Err Unknown
 or_unknown (Some x) = Ok x
 
--- a node, and the sections of the EDS that it is made from
-pub record Member : Type 0 where
-  pub node : Node
-  pub sections : List Section
+-- a node with the sections of its EDS, and the writes that configure it
+pub record Configuration : Type 0 where
+  pub member : Member
+  pub writes : List Write
 
--- a node with its EDS
-abbrev pub with_sections : Content → Node → Option Member
-with_sections project node = option_map (λ text. record { node = node; sections = (content_of text).sections }) (text_at project.texts node.eds)
-
--- the node of a number with its EDS
-unfoldable pub member_at : Content → ℕ → Option Member
-member_at project id = option_and_then (with_sections project) (node_at project.nodes id)
-
--- the writes of the node's parameters
-abbrev pub writes_of : Member → ℕ → List Write
-writes_of m id = parameter_writes m.sections m.node.params id
+-- those of the node of a number
+unfoldable pub configured_at : Content → ℕ → Option Configuration
+configured_at project id = option_map (λ m. record { member = m; writes = writes_of project m id }) (member_at project id)
 
 -- THE DCF (CiA 306) of the node of a number
 unfoldable pub dcf_of : Content → ℕ → Option (List ℕ)
-dcf_of project id = option_map (λ m. text_of (dcf_sections m.sections id m.node.name project.bitrate (writes_of m id))) (member_at project id)
+dcf_of project id = option_map (λ (c : Configuration). text_of (dcf_sections c.member.sections id c.member.node.name project.bitrate c.writes)) (configured_at project id)
 
 -- THE CONCISE DCF (CiA 302) of the node of a number
 unfoldable pub concise_of : Content → ℕ → Option (List ℕ)
-concise_of project id = option_map (λ m. concise_text (writes_of m id)) (member_at project id)
+concise_of project id = option_map (λ (c : Configuration). concise_text c.writes) (configured_at project id)
 
 -- THE ANSWER to a query: the lines of the DCF, the concise DCF in hexadecimal digits, or the commands that make the project
 abbrev pub answer : Content → Query → Result (List ℕ) EditFault

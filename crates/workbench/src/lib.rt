@@ -1,6 +1,7 @@
 //! Commands in, replies out: a session over one project of a CANopen network.
 #![tactic(auto)]
 
+mod configured;
 mod cursor;
 mod hex;
 pub mod laws;

@@ -1,14 +1,17 @@
 //! A node with its device.
-ghost use Rattle.std.specs.Prelude.{◌≡◌, ◌↔◌, IsErrOf, None};
+ghost use Rattle.std.specs.Prelude.{◌≡◌, ◌↔◌, IfSome, IsErrOf, None, OnOk, Some};
 ghost use Rattle.co_base.specs.Gives.{Gives};
 ghost use Rattle.co_edits.specs.Faults.{is_memory};
 ghost use Rattle.co_project.specs.Tables.{node_at};
-ghost use Rattle.workbench.specs.Queries.{or_unknown, member_at};
+ghost use Rattle.co_network.specs.Network.{member_at, project_plan};
+ghost use Rattle.workbench.specs.Queries.{or_unknown};
 ghost use Rattle.workbench.specs.Views.{member_of};
 
+use co_network::Library;
 use co_project::{EditFault, Node, Project};
-use eds_device::{Device, DeviceFault};
-use std::alloc::Global;
+use eds_device::Device;
+use pdo_links::Plan;
+use std::alloc::{AllocError, Global};
 
 /// A node, and the device that the EDS which it is made from describes.
 #[derive(Drop)]
@@ -17,21 +20,48 @@ pub(crate) struct Member<'a> {
     pub device: Device,
 }
 
-/// The node of a number with its device, which is read from its EDS each time.
-#[tactic(auto, unfolding(crate::specs::Queries::member_at))]
-pub(crate) fn find_member(alloc: Global, project: &Project, id: u8) -> Result<Member<'_>, EditFault>
+/// Makes the plan of a library's project, where there is none.
+fn fill_plan(
+    alloc: Global,
+    library: &mut Library<'_>,
+    plan: &mut Option<Plan>,
+) -> Result<(), AllocError>
+    requires { IfSome plan.old (λ plan. plan ≡ project_plan library.old.project) }
+    ensures filled { OnOk result (plan.new ≡ Some (project_plan library.old.project)) }
+    ensures plan { IfSome plan.new (λ plan. plan ≡ project_plan library.old.project) }
+    ensures project { library.new.project ≡ library.old.project }
+{
+    if plan.is_none() {
+        let made = co_network::plan(alloc, library)?;
+        *plan = Some(made);
+    }
+    Ok(())
+}
+
+/// The node of a number with its device. Each EDS is read at most once: those of the nodes that
+/// messages name where there is no plan yet, and the node's own.
+#[tactic(auto, unfolding(co_network::specs::Network::member_at))]
+pub(crate) fn find_member<'a>(
+    alloc: Global,
+    project: &'a Project,
+    plan: &mut Option<Plan>,
+    id: u8,
+) -> Result<Member<'a>, EditFault>
+    requires { IfSome plan.old (λ plan. plan ≡ project_plan project.now) }
     ensures member { Gives is_memory member_of result (or_unknown (member_at project.now id)) }
     ensures unknown { IsErrOf result EditFault.Unknown ↔ (node_at project.now.nodes id ≡ None) }
+    ensures filled { OnOk result (plan.new ≡ Some (project_plan project.now)) }
+    ensures plan { IfSome plan.new (λ plan. plan ≡ project_plan project.now) }
 {
     let Some(node) = project.node(id) else {
         return Err(EditFault::Unknown);
     };
-    let Some(text) = project.text(node.eds.as_slice()) else {
+    let mut library = Library::new(alloc, project);
+    fill_plan(alloc, &mut library, plan)?;
+    let name = node.eds.as_slice();
+    library.read(name)?;
+    let Some(device) = library.into_device(name) else {
         unreachable!()
     };
-    match Device::read(alloc, text) {
-        Ok(device) => Ok(Member { node, device }),
-        Err(DeviceFault::Memory) => Err(EditFault::Memory),
-        Err(_fault) => unreachable!(),
-    }
+    Ok(Member { node, device })
 }

@@ -12,8 +12,9 @@ use co_text::line_count;
 use std::alloc::{AllocError, Global};
 
 /// The answer to a query, of the project as it is now.
-pub fn answer(alloc: Global, workbench: &Workbench, query: Query) -> Result<Vec<u8>, EditFault>
-    ensures { Gives is_memory (λ v. v.items) result (answer workbench.now.project query) }
+pub fn answer(alloc: Global, workbench: &mut Workbench, query: Query) -> Result<Vec<u8>, EditFault>
+    ensures answer { Gives is_memory (λ v. v.items) result (answer workbench.old.project query) }
+    ensures same { workbench.new.project ≡ workbench.old.project }
 {
     match query {
         Query::Dcf(id) => workbench.dcf(id),

@@ -108,9 +108,9 @@ fn edit(workbench: &mut Workbench, command: Command) -> Result<Reply, AllocError
 }
 
 /// What is written for a query.
-fn reply_to(alloc: Global, workbench: &Workbench, query: Query) -> Result<Reply, AllocError>
-    ensures { IfOk result (λ reply. taken_at workbench.now.project None reply
-        ≡ queried workbench.now.project (answer workbench.now.project query)) }
+fn reply_to(alloc: Global, workbench: &mut Workbench, query: Query) -> Result<Reply, AllocError>
+    ensures { IfOk result (λ reply. taken_at workbench.new.project None reply
+        ≡ queried workbench.old.project (answer workbench.old.project query)) }
 {
     match answer(alloc, workbench, query) {
         Ok(text) => Ok(Reply::Lines(shown(alloc, &text)?)),

@@ -10,11 +10,11 @@ ghost use Rattle.co_project.specs.Sound.{IsSound};
 ghost use Rattle.co_project.specs.Tables.{node_at};
 ghost use Rattle.workbench.specs.Queries.{or_unknown, dcf_of, concise_of};
 
-use crate::member::find_member;
-use co_params::writes;
+use crate::configured::configuration;
 use co_project::{Command, EditFault, Project};
 use concise_dcf::{Write, encode};
 use eds_dcf::dcf_text;
+use pdo_links::Plan;
 use std::alloc::{AllocError, Global};
 use std::marker::Model;
 
@@ -22,15 +22,20 @@ use std::marker::Model;
 /// project.
 ///
 /// Each file is made anew from the project of now: that of a node reads the node's EDS each time,
-/// and takes time and memory by the length of that EDS and of the file, up to a logarithm.
+/// and takes time and memory by the length of that EDS and of the file, up to a logarithm. The plan
+/// of the messages is kept until an edit is taken; the first file after it also reads the EDS of
+/// the nodes that messages name, each once, and takes the time of a plan.
 #[derive(Drop)]
 pub struct Workbench {
     alloc: Global,
     project: Project,
+    plan: Option<Plan>,
 }
 
 impl Model for Workbench {
     ghost use Rattle.co_project.specs.contracts.project.Project as held;
+    ghost use Rattle.std.specs.Prelude.{◌≡◌, IfSome};
+    ghost use Rattle.co_network.specs.Network.{project_plan};
     ghost use Rattle.workbench.specs.Bench.{Bench, bench_code};
 
     ghost Value = { Bench };
@@ -38,6 +43,8 @@ impl Model for Workbench {
     ghost coded = { bench_code held.the_row.coded };
 
     ghost view = { λ workbench. record { project = workbench.project } };
+
+    ghost invariant = { λ workbench. IfSome workbench.plan (λ plan. plan ≡ project_plan workbench.project) };
 }
 
 impl Workbench {
@@ -48,6 +55,7 @@ impl Workbench {
         Workbench {
             alloc,
             project: Project::new(alloc),
+            plan: None,
         }
     }
 
@@ -56,22 +64,24 @@ impl Workbench {
     pub fn edit(&mut self, command: Command) -> Result<(), EditFault>
         ensures { Accepts self.old.project self.new.project result (accept self.old.project command) }
     {
-        self.project.accept(command)
+        self.project.accept(command)?;
+        self.plan = None;
+        Ok(())
     }
 
     /// The device configuration file (CiA 306) of a node, of the project as it is now.
     ///
     /// Unknown: the number isn't a node's. Memory can come in place of the file.
     #[tactic(auto, unfolding(crate::specs::Queries::dcf_of))]
-    pub fn dcf(&self, node: u8) -> Result<Vec<u8>, EditFault>
-        ensures file { Gives is_memory (λ v. v.items) result (or_unknown (dcf_of self.now.project node)) }
-        ensures unknown { IsErrOf result EditFault.Unknown ↔ (node_at self.now.project.nodes node ≡ None) }
+    pub fn dcf(&mut self, node: u8) -> Result<Vec<u8>, EditFault>
+        ensures file { Gives is_memory (λ v. v.items) result (or_unknown (dcf_of self.old.project node)) }
+        ensures unknown { IsErrOf result EditFault.Unknown ↔ (node_at self.old.project.nodes node ≡ None) }
+        ensures same { self.new.project ≡ self.old.project }
     {
-        let member = find_member(self.alloc, &self.project, node)?;
-        let writes = writes(self.alloc, &member.node.params, &member.device, node)?;
-        let name = member.node.name.as_slice();
         let rate = self.project.bitrate();
-        let text = dcf_text(self.alloc, &member.device, node, name, rate, &writes)?;
+        let made = configuration(self.alloc, &self.project, &mut self.plan, node)?;
+        let name = made.node.name.as_slice();
+        let text = dcf_text(self.alloc, &made.device, node, name, rate, &made.writes)?;
         Ok(text)
     }
 
@@ -80,13 +90,13 @@ impl Workbench {
     ///
     /// Unknown: the number isn't a node's. Memory can come in place of the file.
     #[tactic(auto, unfolding(crate::specs::Queries::concise_of))]
-    pub fn concise(&self, node: u8) -> Result<Vec<u8>, EditFault>
-        ensures file { Gives is_memory (λ v. v.items) result (or_unknown (concise_of self.now.project node)) }
-        ensures unknown { IsErrOf result EditFault.Unknown ↔ (node_at self.now.project.nodes node ≡ None) }
+    pub fn concise(&mut self, node: u8) -> Result<Vec<u8>, EditFault>
+        ensures file { Gives is_memory (λ v. v.items) result (or_unknown (concise_of self.old.project node)) }
+        ensures unknown { IsErrOf result EditFault.Unknown ↔ (node_at self.old.project.nodes node ≡ None) }
+        ensures same { self.new.project ≡ self.old.project }
     {
-        let member = find_member(self.alloc, &self.project, node)?;
-        let writes = writes(self.alloc, &member.node.params, &member.device, node)?;
-        let bytes = encoded(self.alloc, &writes)?;
+        let made = configuration(self.alloc, &self.project, &mut self.plan, node)?;
+        let bytes = encoded(self.alloc, &made.writes)?;
         Ok(bytes)
     }
 

@@ -1,7 +1,7 @@
 use Rattle.std.proofs.Common.{◌≡◌, ◌++◌, map}
 use Rattle.std.specs.FinMap.{entries}
 use Rattle.std.specs.List.{flat_map}
-use Rattle.co_commands.specs.Lines.{text_of}
+use Rattle.co_lines.specs.Lines.{text_of}
 use Rattle.co_project.specs.Script.{event_edit}
 use Rattle.co_project.proofs.script.write_events.Given as goal
 

@@ -1,8 +1,7 @@
-use Rattle.std.proofs.Common.{◌≡◌, not, List, [], ◌∷◌, IfOk, nat_lt, subst, sym, ap, ◌∙◌}
-use Rattle.pdo_plan.specs.declared.message_fault.MessageFault.{MessageFault}
+use Rattle.std.proofs.Common.{◌≡◌, not, [], ◌∷◌, nat_lt, ◌∙◌}
 use Rattle.pdo_plan.specs.declared.message_fault.MessageFault.TheVariants.{NoObjects, TpdoTaken, TooManyBits, NotMappable, Mismatched, NoRpdo, NoDummy, BadIdentifier, NoIdentifier, ReservedType}
-use Rattle.pdo_plan.specs.Plan.{noted, faults}
-use Rattle.pdo_plan.specs.Stations.{devices_in}
+use Rattle.pdo_plan.specs.Plan.{noted}
+use Rattle.pdo_devices.specs.Stations.{devices_in}
 use Rattle.pdo_plan.specs.Taken.{had_in}
 use Rattle.pdo_plan.proofs.FaultLemmas.{tested, tested_are}
 use Rattle.pdo_plan.proofs.faults.faults.Goals as goal
@@ -10,7 +9,7 @@ use Rattle.pdo_plan.proofs.faults.faults.Goals as goal
 pub returns : goal.returns
 returns c =
     let had = had_in c.args.taken.now in
-    let devices = devices_in c.args.stations.now.entries in
+    let devices = devices_in c.args.stations.now in
     let m = c.args.linked.now in
     let tests : noted ((not c.has_tpdo.result, NoObjects) ∷ (c.contains.result, TpdoTaken) ∷ (nat_lt 64 c.total_bits.result, TooManyBits) ∷ (c.has_unmappable.result, NotMappable)
     ∷ (c.has_mismatch.result, Mismatched) ∷ (c.lacks_rpdo.result, NoRpdo) ∷ (c.lacks_any_dummy.result, NoDummy) ∷ (c.is_bad.result, BadIdentifier)

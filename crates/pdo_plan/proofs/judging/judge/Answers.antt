@@ -1,12 +1,10 @@
-use Rattle.std.proofs.Common.{◌≡◌, ◌==◌, ◌≤◌, ℕ, List, [], length, true, false, Some, ap, sym, ◌∙◌, rules, arith}
-use Rattle.pdo_plan.specs.declared.message_fault.MessageFault.{MessageFault}
+use Rattle.std.proofs.Common.{◌≡◌, ◌==◌, ℕ, [], length, true, false, Some, ap, sym, ◌∙◌, rules}
 use Rattle.pdo_plan.specs.declared.outcome.Outcome.TheVariants.{Planned}
-use Rattle.pdo_plan.specs.Carried.{carried_of}
-use Rattle.pdo_plan.specs.Plan.{consumers_of, identifier_for}
-use Rattle.pdo_plan.specs.Stations.{devices_in}
+use Rattle.pdo_plan.specs.Plan.{identifier_for}
+use Rattle.pdo_devices.specs.Stations.{devices_in}
 use Rattle.pdo_plan.specs.Taken.{had_in}
 use Rattle.pdo_plan.proofs.CleanLemmas.{planned_is, faulty_is, carried_few, none_of, some_of}
-use Rattle.pdo_plan.proofs.LimitLemmas.{Limits, limits_of}
+use Rattle.pdo_plan.proofs.LimitLemmas.{limits_of}
 use Rattle.pdo_plan.proofs.judging.judge.Goals.{in_default-via-in-Some+else-is_empty, in_default-via-in_default}
 use Rattle.pdo_plan.proofs.judging.judge.Goals as goal
 
@@ -15,16 +13,16 @@ faults-requires-clause-number c = (limits_of c.args.linked.now c.requires).tpdo.
 
 pub faults-requires-clause-few : goal.faults-requires-clause-few
 faults-requires-clause-few c =
-    carried_few (devices_in c.args.stations.now.entries) c.args.linked.now c.as_slice-carried.result.now c.requires (c.as_slice-carried.ensures.value ∙ c.in_ok-looked_up.ensures)
+    carried_few (devices_in c.args.stations.now) c.args.linked.now c.as_slice-carried.result.now c.requires (c.as_slice-carried.ensures.value ∙ c.in_ok-looked_up.ensures)
 
 pub clean-requires : goal.clean-requires
 clean-requires c =
-    carried_few (devices_in c.args.stations.now.entries) c.args.linked.now c.as_slice-carried.result.now c.requires (c.as_slice-carried.ensures.value ∙ c.in_ok-looked_up.ensures)
+    carried_few (devices_in c.args.stations.now) c.args.linked.now c.as_slice-carried.result.now c.requires (c.as_slice-carried.ensures.value ∙ c.in_ok-looked_up.ensures)
 
 pub returns-in-Some : goal.returns-in-Some
 returns-in-Some c =
     let had = had_in c.args.taken.now in
-    let devices = devices_in c.args.stations.now.entries in
+    let devices = devices_in c.args.stations.now in
     let m = c.args.linked.now in
     let found : identifier_for had m.message ≡ Some c.in-Some.identifier = sym c.identifier_for-identifier.ensures ∙ c.in-Some.is in
     let empty : (length c.in_ok-faults.faults == 0) ≡ true = search rules in
@@ -34,7 +32,7 @@ returns-in-Some c =
 pub returns : goal.returns
 returns c =
     let had = had_in c.args.taken.now in
-    let devices = devices_in c.args.stations.now.entries in
+    let devices = devices_in c.args.stations.now in
     let m = c.args.linked.now in
     let not_clean : (id : ℕ) → identifier_for had m.message ≡ Some id → c.in_ok-faults.faults ≡ [] → ⊥ =
     λ id found none. elim c.in_default.branch [

@@ -1,0 +1,6 @@
+pub mod Frames
+pub mod Identifiers
+pub mod Least
+pub mod TraceLines
+pub mod WaitingFrames
+pub mod Winner

@@ -1,0 +1,27 @@
+-- The lines of a trace (this profile's own).
+use Rattle.std.specs.Prelude.{ℕ, ◌/◌, ◌%◌, ◌-◌, true, List, [], ◌∷◌, ◌++◌, length, replicate, codes, decimal}
+use Rattle.std.specs.Fmt.{digit_glyph}
+use Rattle.std.specs.List.{flat_map}
+use Rattle.std.specs.Str.{byte}
+use Rattle.co_text.specs.Digits.{byte_digits}
+use Rattle.can_frame.specs.Frames.{BaseFrame}
+
+-- a number in ten decimal digits: 0 for each that it lacks
+abbrev pub ten_digits : ℕ → List ℕ
+ten_digits n = replicate (10 - length (decimal n)) (byte "0") ++ decimal n
+
+-- an identifier in three upper-case hexadecimal digits
+abbrev pub identifier_digits : ℕ → List ℕ
+identifier_digits id = digit_glyph true (id / 256) ∷ digit_glyph true (id / 16 % 16) ∷ digit_glyph true (id % 16) ∷ []
+
+-- a number of bytes, at most 8, in brackets
+abbrev pub counted : ℕ → List ℕ
+counted n = codes " [" ++ digit_glyph true n ∷ codes "]"
+
+-- each byte as a space and two digits
+abbrev pub spaced_bytes : List ℕ → List ℕ
+spaced_bytes bytes = flat_map (λ b. byte " " ∷ byte_digits b) bytes
+
+-- the line of a frame at a time: the time, the identifier, the number of bytes, and each byte
+abbrev pub frame_line : ℕ → BaseFrame → List ℕ
+frame_line time frame = ten_digits time ++ (byte " " ∷ identifier_digits frame.id ++ (counted (length frame.bytes) ++ spaced_bytes frame.bytes))

@@ -1,0 +1,47 @@
+//! A waiting frame as it contends for the bus.
+ghost use Rattle.std.specs.Prelude.{◌≡◌};
+ghost use Rattle.can_frame.specs.Winner.{is_below as below, lower as lower_of};
+
+/// A waiting frame as it contends for the bus: what is least by identifier, then node, then place
+/// wins.
+#[derive(Clone, Copy, Debug)]
+pub struct Contender {
+    /// The identifier of the frame.
+    pub id: u16,
+    /// The number of the node where it waits.
+    pub node: u8,
+    /// Its place in the list of that node.
+    pub place: usize,
+}
+
+impl Contender {
+    /// Whether this one is below another.
+    pub fn is_below(&self, other: &Contender) -> bool
+        ensures { result ≡ below self.now other.now }
+    {
+        if self.id != other.id {
+            return self.id < other.id;
+        }
+        if self.node != other.node {
+            return self.node < other.node;
+        }
+        self.place < other.place
+    }
+
+    /// The lower of two, where there are two.
+    pub fn lower(one: Option<Contender>, other: Option<Contender>) -> Option<Contender>
+        ensures { result ≡ lower_of one other }
+    {
+        match (one, other) {
+            (None, _) => other,
+            (Some(_), None) => one,
+            (Some(first), Some(second)) => {
+                if second.is_below(&first) {
+                    Some(second)
+                } else {
+                    Some(first)
+                }
+            }
+        }
+    }
+}

@@ -1,0 +1,25 @@
+//! Frames of a CAN bus, the frames that wait for it, and which of them starts.
+#![tactic(auto)]
+
+mod arbitration;
+mod contender;
+mod frame;
+pub mod identifiers;
+pub mod laws;
+mod pending;
+mod purpose;
+mod slots;
+mod trace_line;
+mod unwanted;
+mod waiting;
+mod walks;
+
+pub use arbitration::winner;
+pub use contender::Contender;
+pub use frame::Frame;
+pub use pending::Pending;
+pub use purpose::Purpose;
+pub use slots::{bit_time, slot_bits, slot_time};
+pub use trace_line::line;
+pub use unwanted::Unwanted;
+pub use waiting::Waiting;

@@ -1,0 +1,162 @@
+//! The edits of messages: the messages, their sources and their sinks.
+ghost use Rattle.std.specs.Prelude.{◌≡◌, IfOk};
+ghost use Rattle.co_base.specs.Gives.{Gives};
+ghost use Rattle.co_edits.specs.Faults.{is_memory};
+ghost use Rattle.co_messages.specs.Messages.{IsMessage};
+ghost use Rattle.co_commands.specs.Links.{stated_of, message_within, message_of, drop_message_of, source_of, unsource_of, sink_of, unsink_of};
+
+use crate::command::Command;
+use crate::numbers::{cob, decimal, index, sub_index};
+use crate::stated::Stated;
+use crate::words::{last_word, name};
+use co_base::Octets;
+use co_edits::limits::{byte, identifier, node_number, position, short, tpdo_number};
+use co_edits::{Edit, EditFault};
+use co_messages::Message;
+use co_text::next_word;
+use std::alloc::Global;
+
+/// `ID TPDO TYPE INHIBIT EVENT COB`
+#[tactic(auto, unfolding(crate::specs::Links::stated_of))]
+fn stated(rest: &[u8]) -> Result<Stated, EditFault>
+    ensures { Gives is_memory (λ s. s) result (stated_of rest.now) }
+{
+    let (node, rest) = next_word(rest);
+    let (tpdo, rest) = next_word(rest);
+    let (transmission, rest) = next_word(rest);
+    let (inhibit, rest) = next_word(rest);
+    let (event, rest) = next_word(rest);
+    let last = last_word(rest)?;
+    Ok(Stated {
+        node: decimal(node)?,
+        tpdo: decimal(tpdo)?,
+        transmission: decimal(transmission)?,
+        inhibit: decimal(inhibit)?,
+        event: decimal(event)?,
+        cob: cob(last)?,
+    })
+}
+
+/// These numbers, where each is within its limits.
+#[tactic(auto, unfolding(crate::specs::Links::message_within, co_messages::specs::Messages::IsMessage))]
+fn message_within(stated: Stated) -> Result<Message, EditFault>
+    ensures value { Gives is_memory (λ m. m) result (message_within stated) }
+    ensures within { IfOk result (λ m. IsMessage m) }
+{
+    Ok(Message {
+        node: node_number(stated.node)?,
+        tpdo: tpdo_number(stated.tpdo)?,
+        transmission: byte(stated.transmission)?,
+        inhibit: short(stated.inhibit)?,
+        event: short(stated.event)?,
+        cob: identifier(stated.cob)?,
+    })
+}
+
+/// `message NAME ID TPDO TYPE INHIBIT EVENT COB`
+#[tactic(auto, unfolding(crate::specs::Links::message_of, co_edits::specs::Edits::IsEdit))]
+pub(crate) fn message(alloc: Global, rest: &[u8]) -> Result<Command, EditFault>
+    ensures { Gives is_memory (λ c. c) result (message_of rest.now) }
+{
+    let (called, rest) = next_word(rest);
+    let called = name(called)?;
+    let stated = stated(rest)?;
+    let message = message_within(stated)?;
+    let name = Octets::from_slice(alloc, called)?;
+    Ok(Command::new(Edit::Message { name, message }))
+}
+
+/// `drop-message NAME`
+#[tactic(auto, unfolding(crate::specs::Links::drop_message_of, co_edits::specs::Edits::IsEdit))]
+pub(crate) fn drop_message(alloc: Global, rest: &[u8]) -> Result<Command, EditFault>
+    ensures { Gives is_memory (λ c. c) result (drop_message_of rest.now) }
+{
+    let called = name(last_word(rest)?)?;
+    let name = Octets::from_slice(alloc, called)?;
+    Ok(Command::new(Edit::DropMessage { name }))
+}
+
+/// `source MESSAGE POS INDEX SUB`
+#[tactic(auto, unfolding(crate::specs::Links::source_of, co_edits::specs::Edits::IsEdit))]
+pub(crate) fn source(alloc: Global, rest: &[u8]) -> Result<Command, EditFault>
+    ensures { Gives is_memory (λ c. c) result (source_of rest.now) }
+{
+    let (called, rest) = next_word(rest);
+    let (place, rest) = next_word(rest);
+    let (entry, rest) = next_word(rest);
+    let sub = last_word(rest)?;
+    let called = name(called)?;
+    let place = decimal(place)?;
+    let index = index(entry)?;
+    let sub = sub_index(sub)?;
+    let position = position(place)?;
+    let message = Octets::from_slice(alloc, called)?;
+    Ok(Command::new(Edit::Source {
+        message,
+        position,
+        index,
+        sub,
+    }))
+}
+
+/// `unsource MESSAGE POS`
+#[tactic(auto, unfolding(crate::specs::Links::unsource_of, co_edits::specs::Edits::IsEdit))]
+pub(crate) fn unsource(alloc: Global, rest: &[u8]) -> Result<Command, EditFault>
+    ensures { Gives is_memory (λ c. c) result (unsource_of rest.now) }
+{
+    let (called, rest) = next_word(rest);
+    let place = last_word(rest)?;
+    let called = name(called)?;
+    let place = decimal(place)?;
+    let position = position(place)?;
+    let message = Octets::from_slice(alloc, called)?;
+    Ok(Command::new(Edit::Unsource { message, position }))
+}
+
+/// `sink MESSAGE POS ID INDEX SUB`
+#[tactic(auto, unfolding(crate::specs::Links::sink_of, co_edits::specs::Edits::IsEdit))]
+pub(crate) fn sink(alloc: Global, rest: &[u8]) -> Result<Command, EditFault>
+    ensures { Gives is_memory (λ c. c) result (sink_of rest.now) }
+{
+    let (called, rest) = next_word(rest);
+    let (place, rest) = next_word(rest);
+    let (node, rest) = next_word(rest);
+    let (entry, rest) = next_word(rest);
+    let sub = last_word(rest)?;
+    let called = name(called)?;
+    let place = decimal(place)?;
+    let node = decimal(node)?;
+    let index = index(entry)?;
+    let sub = sub_index(sub)?;
+    let position = position(place)?;
+    let node = node_number(node)?;
+    let message = Octets::from_slice(alloc, called)?;
+    Ok(Command::new(Edit::Sink {
+        message,
+        position,
+        node,
+        index,
+        sub,
+    }))
+}
+
+/// `unsink MESSAGE POS ID`
+#[tactic(auto, unfolding(crate::specs::Links::unsink_of, co_edits::specs::Edits::IsEdit))]
+pub(crate) fn unsink(alloc: Global, rest: &[u8]) -> Result<Command, EditFault>
+    ensures { Gives is_memory (λ c. c) result (unsink_of rest.now) }
+{
+    let (called, rest) = next_word(rest);
+    let (place, rest) = next_word(rest);
+    let node = last_word(rest)?;
+    let called = name(called)?;
+    let place = decimal(place)?;
+    let node = decimal(node)?;
+    let position = position(place)?;
+    let node = node_number(node)?;
+    let message = Octets::from_slice(alloc, called)?;
+    Ok(Command::new(Edit::Unsink {
+        message,
+        position,
+        node,
+    }))
+}

@@ -1,0 +1,203 @@
+-- What is found is what holds.
+use Rattle.std.proofs.Common.{◌≡◌, ◌↔◌, ◌⊎◌, inl, inr, List, ◌++◌, filter_map, Contains}
+use Rattle.std.specs.FinMap.{entries}
+use Rattle.std.specs.List.{flat_map}
+use Rattle.std.proofs.lemmas.List.Elements.{Contains-append_cases, Contains-append_left, Contains-append_right}
+use Rattle.co_params.specs.declared.parameter_fault.ParameterFault.TheVariants as parameter
+use Rattle.pdo_plan.specs.declared.message_fault.MessageFault.TheVariants as message
+use Rattle.co_project.specs.Project.{Content}
+use Rattle.co_network.specs.Network.{project_plan}
+use Rattle.co_diag.specs.declared.code.Code.{Code}
+use Rattle.co_diag.specs.declared.code.Code.TheVariants.{NoEntry, Unreadable, OutsideLimits, NotWritable, NoObjects, TpdoTaken, TooManyBits, NotMappable, Mismatched, NoRpdo, NoDummy, BadIdentifier, NoIdentifier, ReservedType, SharedIdentifier, NotModelled, RemoteType, NoSync, UnfitConsumer, SkippedLine}
+use Rattle.co_diag.specs.declared.subject.Subject.{Subject}
+use Rattle.co_diag.specs.declared.subject.Subject.TheVariants as of
+use Rattle.co_diag.specs.declared.diag.Diag.{Diag}
+use Rattle.co_diag.specs.Values.{members}
+use Rattle.co_diag.specs.Order.{diag_cmp}
+use Rattle.co_diag.specs.Sets.{IsListOf, sorted_set}
+use Rattle.co_diag.specs.Holds.{HoldsOf, Holds}
+use Rattle.co_diag.specs.Found.{said, unfit_parameters, unreadable_defaults, unfit_consumers, shared_identifiers, message_faults, remote_type, no_sync, unfit_event, skipped_lines, found, diagnostics_of}
+use Rattle.co_diag.proofs.OrderLemmas.{diag_total, diag_exact}
+use Rattle.co_diag.proofs.SetLemmas.{one_list, same_sets, set_is}
+use Rattle.co_diag.proofs.ParameterFound.{parameters_hold, parameters_listed}
+use Rattle.co_diag.proofs.DefaultFound.{defaults_hold, defaults_listed}
+use Rattle.co_diag.proofs.ConsumerFound.{consumers_hold, consumers_listed}
+use Rattle.co_diag.proofs.SharedFound.{shared_hold, shared_listed}
+use Rattle.co_diag.proofs.MessageFound.{messages_hold, messages_listed, remote_types_hold, remote_types_listed, no_syncs_hold, no_syncs_listed}
+use Rattle.co_diag.proofs.EventFound.{events_hold, events_listed}
+use Rattle.co_diag.proofs.TextFound.{lines_hold, lines_listed}
+
+-- what is found, group by group
+abbrev parameters : Content → List Diag
+parameters p = flat_map unfit_parameters (members p)
+
+abbrev defaults : Content → List Diag
+defaults p = flat_map unreadable_defaults (members p)
+
+abbrev consumers : Content → List Diag
+consumers p = flat_map (unfit_consumers p) (members p)
+
+abbrev messages : Content → List Diag
+messages p = flat_map message_faults (project_plan p)
+
+abbrev remote_types : Content → List Diag
+remote_types p = filter_map remote_type (entries p.messages)
+
+abbrev no_syncs : Content → List Diag
+no_syncs p = filter_map (no_sync p) (entries p.messages)
+
+abbrev events : Content → List Diag
+events p = filter_map (unfit_event p) (entries p.events)
+
+abbrev lines : Content → List Diag
+lines p = flat_map skipped_lines (entries p.texts)
+
+-- what is found of one of two lists
+of_either : (xs ys : List Diag) (P : Diag → Type 0) (d : Diag) → (Contains xs d → P d) → (Contains ys d → P d) → Contains (xs ++ ys) d → P d
+of_either xs ys P d first second c = by (Contains-append_cases xs ys d c)
+  where
+    by : Contains xs d ⊎ Contains ys d → P d
+    by (inl c) = first c
+    by (inr c) = second c
+
+-- the groups up to each
+abbrev to_defaults : Content → List Diag
+to_defaults p = parameters p ++ defaults p
+
+abbrev to_consumers : Content → List Diag
+to_consumers p = to_defaults p ++ consumers p
+
+abbrev to_shared : Content → List Diag
+to_shared p = to_consumers p ++ shared_identifiers p
+
+abbrev to_messages : Content → List Diag
+to_messages p = to_shared p ++ messages p
+
+abbrev to_remote_types : Content → List Diag
+to_remote_types p = to_messages p ++ remote_types p
+
+abbrev to_no_syncs : Content → List Diag
+to_no_syncs p = to_remote_types p ++ no_syncs p
+
+abbrev to_events : Content → List Diag
+to_events p = to_no_syncs p ++ events p
+
+-- what is found holds
+all_hold : (p : Content) (d : Diag) → Contains (found p) d → Holds p d
+unfolding found
+all_hold p d =
+    of_either (to_events p) (lines p) (Holds p) d
+    (of_either (to_no_syncs p) (events p) (Holds p) d
+    (of_either (to_remote_types p) (no_syncs p) (Holds p) d
+    (of_either (to_messages p) (remote_types p) (Holds p) d
+    (of_either (to_shared p) (messages p) (Holds p) d
+    (of_either (to_consumers p) (shared_identifiers p) (Holds p) d
+    (of_either (to_defaults p) (consumers p) (Holds p) d
+    (of_either (parameters p) (defaults p) (Holds p) d
+    (parameters_hold p d)
+    (defaults_hold p d))
+    (consumers_hold p d))
+    (shared_hold p d))
+    (messages_hold p d))
+    (remote_types_hold p d))
+    (no_syncs_hold p d))
+    (events_hold p d))
+    (lines_hold p d)
+
+-- where each group stands
+module _ (p : Content) (d : Diag) where
+  up_to_events : Contains (to_events p) d → Contains (found p) d
+  unfolding found
+  up_to_events c = Contains-append_left (to_events p) (lines p) d c
+
+  in_lines : Contains (lines p) d → Contains (found p) d
+  unfolding found
+  in_lines c = Contains-append_right (to_events p) (lines p) d c
+
+  up_to_no_syncs : Contains (to_no_syncs p) d → Contains (found p) d
+  up_to_no_syncs c = up_to_events (Contains-append_left (to_no_syncs p) (events p) d c)
+
+  in_events : Contains (events p) d → Contains (found p) d
+  in_events c = up_to_events (Contains-append_right (to_no_syncs p) (events p) d c)
+
+  up_to_remote_types : Contains (to_remote_types p) d → Contains (found p) d
+  up_to_remote_types c = up_to_no_syncs (Contains-append_left (to_remote_types p) (no_syncs p) d c)
+
+  in_no_syncs : Contains (no_syncs p) d → Contains (found p) d
+  in_no_syncs c = up_to_no_syncs (Contains-append_right (to_remote_types p) (no_syncs p) d c)
+
+  up_to_messages : Contains (to_messages p) d → Contains (found p) d
+  up_to_messages c = up_to_remote_types (Contains-append_left (to_messages p) (remote_types p) d c)
+
+  in_remote_types : Contains (remote_types p) d → Contains (found p) d
+  in_remote_types c = up_to_remote_types (Contains-append_right (to_messages p) (remote_types p) d c)
+
+  up_to_shared : Contains (to_shared p) d → Contains (found p) d
+  up_to_shared c = up_to_messages (Contains-append_left (to_shared p) (messages p) d c)
+
+  in_messages : Contains (messages p) d → Contains (found p) d
+  in_messages c = up_to_messages (Contains-append_right (to_shared p) (messages p) d c)
+
+  up_to_consumers : Contains (to_consumers p) d → Contains (found p) d
+  up_to_consumers c = up_to_shared (Contains-append_left (to_consumers p) (shared_identifiers p) d c)
+
+  in_shared : Contains (shared_identifiers p) d → Contains (found p) d
+  in_shared c = up_to_shared (Contains-append_right (to_consumers p) (shared_identifiers p) d c)
+
+  up_to_defaults : Contains (to_defaults p) d → Contains (found p) d
+  up_to_defaults c = up_to_consumers (Contains-append_left (to_defaults p) (consumers p) d c)
+
+  in_consumers : Contains (consumers p) d → Contains (found p) d
+  in_consumers c = up_to_consumers (Contains-append_right (to_defaults p) (consumers p) d c)
+
+  in_parameters : Contains (parameters p) d → Contains (found p) d
+  in_parameters c = up_to_defaults (Contains-append_left (parameters p) (defaults p) d c)
+
+  in_defaults : Contains (defaults p) d → Contains (found p) d
+  in_defaults c = up_to_defaults (Contains-append_right (parameters p) (defaults p) d c)
+
+-- what holds is found
+all_listed : (p : Content) (code : Code) (subject : Subject) → HoldsOf p code subject → Contains (found p) (said code subject)
+all_listed p NoEntry (of.Param n i s) h = in_parameters p _ (parameters_listed p parameter.NoEntry n i s h)
+all_listed p NoEntry (of.Event k) h = in_events p _ (events_listed p parameter.NoEntry k h)
+all_listed p NotModelled (of.Param n i s) h = in_parameters p _ (parameters_listed p parameter.NotModelled n i s h)
+all_listed p NotModelled (of.Event k) h = in_events p _ (events_listed p parameter.NotModelled k h)
+all_listed p NotWritable (of.Param n i s) h = in_parameters p _ (parameters_listed p parameter.NotWritable n i s h)
+all_listed p Unreadable (of.Param n i s) h = in_parameters p _ (parameters_listed p parameter.Unreadable n i s h)
+all_listed p Unreadable (of.Event k) h = in_events p _ (events_listed p parameter.Unreadable k h)
+all_listed p Unreadable (of.Default n i s) h = in_defaults p _ (defaults_listed p n i s h)
+all_listed p OutsideLimits (of.Param n i s) h = in_parameters p _ (parameters_listed p parameter.OutsideLimits n i s h)
+all_listed p NoObjects (of.Message name) h = in_messages p _ (messages_listed p message.NoObjects name h)
+all_listed p TpdoTaken (of.Message name) h = in_messages p _ (messages_listed p message.TpdoTaken name h)
+all_listed p TooManyBits (of.Message name) h = in_messages p _ (messages_listed p message.TooManyBits name h)
+all_listed p NotMappable (of.Message name) h = in_messages p _ (messages_listed p message.NotMappable name h)
+all_listed p Mismatched (of.Message name) h = in_messages p _ (messages_listed p message.Mismatched name h)
+all_listed p NoRpdo (of.Message name) h = in_messages p _ (messages_listed p message.NoRpdo name h)
+all_listed p NoDummy (of.Message name) h = in_messages p _ (messages_listed p message.NoDummy name h)
+all_listed p BadIdentifier (of.Message name) h = in_messages p _ (messages_listed p message.BadIdentifier name h)
+all_listed p NoIdentifier (of.Message name) h = in_messages p _ (messages_listed p message.NoIdentifier name h)
+all_listed p ReservedType (of.Message name) h = in_messages p _ (messages_listed p message.ReservedType name h)
+all_listed p SharedIdentifier (of.Cob id) h = in_shared p _ (shared_listed p id h)
+all_listed p RemoteType (of.Message name) h = in_remote_types p _ (remote_types_listed p name h)
+all_listed p NoSync (of.Message name) h = in_no_syncs p _ (no_syncs_listed p name h)
+all_listed p UnfitConsumer (of.Node n s) h = in_consumers p _ (consumers_listed p n s h)
+all_listed p SkippedLine (of.Eds name line) h = in_lines p _ (lines_listed p name line h)
+all_listed p code subject h = absurd h
+
+found_holds : (p : Content) (d : Diag) → Contains (found p) d ↔ Holds p d
+unfolding Holds
+found_holds p d = (all_hold p d, all_listed p d.code d.subject)
+
+-- THE LIST has exactly what holds, each once, in order
+pub the_list : (p : Content) → IsListOf diag_cmp (Holds p) (diagnostics_of p)
+unfolding diagnostics_of
+the_list p = set_is diag_total diag_exact (Holds p) (found p) (found_holds p)
+
+-- and there is no other
+pub two_lists : (p : Content) (xs ys : List Diag) → IsListOf diag_cmp (Holds p) xs → IsListOf diag_cmp (Holds p) ys → xs ≡ ys
+two_lists p xs ys = one_list diag_total (Holds p) xs ys
+
+-- what has all that is found, in any order and however often, sorted
+pub collected : (p : Content) (ds : List Diag) → ((d : Diag) → Contains ds d ↔ Contains (found p) d) → sorted_set diag_cmp ds ≡ diagnostics_of p
+unfolding diagnostics_of
+collected p ds same = same_sets diag_total diag_exact ds (found p) same

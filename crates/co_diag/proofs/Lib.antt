@@ -1,0 +1,17 @@
+pub mod ListLemmas
+pub mod OrderLemmas
+pub mod SetLemmas
+pub mod MemberLemmas
+pub mod ParameterFound
+pub mod DefaultFound
+pub mod ConsumerFound
+pub mod SharedFound
+pub mod MessageFound
+pub mod EventFound
+pub mod TextFound
+pub mod FoundLemmas
+pub mod DeviceLemmas
+pub mod WalkLemmas
+pub mod ConfiguredLemmas
+pub mod CountLemmas
+pub mod ConsumerWalk

@@ -1,0 +1,12 @@
+use Rattle.std.proofs.Common.{◌≡◌}
+use Rattle.std.specs.FinMap.{entries}
+use Rattle.co_project.specs.Tables.{texts_of}
+use Rattle.co_diag.proofs.DeviceLemmas.{AreReadFirst}
+use Rattle.co_diag.proofs.devices.read_all.Given as goal
+
+-- the devices of the first texts were read
+abbrev pub invariant-loop-name : goal.invariant-loop-name
+invariant-loop-name l = record {
+  project : l.library.project ≡ l.fn.library.project;
+  read : AreReadFirst l.library (texts_of l.name-iterator) (entries l.fn.library.project.texts);
+}

@@ -1,0 +1,8 @@
+use Rattle.std.proofs.Common.{◌≡◌, ◌++◌, map, take}
+use Rattle.co_diag.specs.declared.subject.Subject.TheVariants as of
+use Rattle.co_diag.specs.Codes.{message_code}
+use Rattle.co_diag.specs.Found.{said}
+use Rattle.co_diag.proofs.messages.find_faults.Given as goal
+
+abbrev pub invariant-loop-fault : goal.invariant-loop-fault
+invariant-loop-fault l = l.found.items ≡ l.fn.found.items ++ map (λ fault. said (message_code fault) (of.Message l.name)) (take l.fault-index l.faults)

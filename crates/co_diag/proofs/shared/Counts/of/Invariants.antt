@@ -1,0 +1,7 @@
+use Rattle.std.proofs.Common.{◌≡◌, ◌==◌, ℕ, filter, length, take}
+use Rattle.std.specs.Prelude.{slice_index_or}
+use Rattle.co_diag.specs.Counts.{capped}
+use Rattle.co_diag.proofs.shared.Counts.of.Given as goal
+
+abbrev pub invariant-loop-identifier : goal.invariant-loop-identifier
+invariant-loop-identifier l = (q : ℕ) → slice_index_or l.counts.had q 0 ≡ capped (length (filter (λ n. n == q) (take l.identifier-index l.identifiers)))

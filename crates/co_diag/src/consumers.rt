@@ -1,0 +1,77 @@
+//! The heartbeat consumers that are unfit, put at the end of what was found.
+ghost use Rattle.std.specs.Prelude.{◌≡◌, ◌++◌, ◌==◌, OnOk, filter_map, option_copied};
+ghost use Rattle.std.specs.List.{find};
+ghost use Rattle.co_diag.specs.Configured.{producer_among, unfit_among, unfit_said};
+
+use crate::code::Code;
+use crate::consumer::HeartbeatConsumer;
+use crate::diag::Diag;
+use crate::subject::Subject;
+use co_project::Project;
+use std::alloc::AllocError;
+
+/// The node of a number and its time.
+fn find_time(times: &[(u8, u16)], node: u8) -> Option<&(u8, u16)>
+    ensures { option_copied result ≡ find (λ t. t.0 == node) times.now }
+{
+    times.iter().find(|time| time.0 == node)
+}
+
+/// The heartbeat time of the manager or a node in milliseconds, if it is there.
+fn producer_time(project: &Project, times: &[(u8, u16)], node: u8) -> Option<u16>
+    ensures { result ≡ producer_among project.now.manager times.now node }
+{
+    let manager = project.manager();
+    if node == manager.id {
+        return Some(manager.heartbeat_ms);
+    }
+    let time = find_time(times, node)?;
+    Some(time.1)
+}
+
+/// Whether a heartbeat consumer is on, and no such node is there, or its heartbeat doesn't come
+/// within the time.
+fn is_unfit(project: &Project, times: &[(u8, u16)], consumer: u32) -> bool
+    ensures { result ≡ unfit_among project.now.manager times.now consumer }
+{
+    let node = consumer / 0x1_0000 % 0x100;
+    let time = consumer % 0x1_0000;
+    if node == 0 || time == 0 {
+        return false;
+    }
+    match producer_time(project, times, node as u8) {
+        Some(period) => period == 0 || time <= u32::from(period),
+        None => true,
+    }
+}
+
+/// What is said of a heartbeat consumer.
+fn unfit_said(project: &Project, times: &[(u8, u16)], consumer: &HeartbeatConsumer) -> Option<Diag>
+    ensures { result ≡ unfit_said project.now.manager times.now consumer.now }
+{
+    if !is_unfit(project, times, consumer.number) {
+        return None;
+    }
+    Some(Diag {
+        code: Code::UnfitConsumer,
+        subject: Subject::Node(consumer.node, consumer.sub),
+    })
+}
+
+/// Finds the heartbeat consumers that are unfit, by the times of the nodes. Takes time
+/// by the number of consumers and that of nodes.
+pub(crate) fn find_unfit_consumers(
+    found: &mut Vec<Diag>,
+    project: &Project,
+    times: &[(u8, u16)],
+    consumers: &[HeartbeatConsumer],
+) -> Result<(), AllocError>
+    ensures { OnOk result (found.new.items ≡ found.old.items ++ filter_map (unfit_said project.now.manager times.now) consumers.now) }
+{
+    for consumer in consumers {
+        if let Some(diag) = unfit_said(project, times, consumer) {
+            found.push(diag)?;
+        }
+    }
+    Ok(())
+}

@@ -1,0 +1,27 @@
+//! The devices of a project, all of them read.
+ghost use Rattle.std.specs.Prelude.{◌≡◌, OnOk, option_copied};
+ghost use Rattle.co_diag.specs.Devices.{AreAllRead, device_at};
+
+use co_network::Library;
+use eds_device::Device;
+use std::alloc::AllocError;
+
+/// Reads the devices of all texts of a project, each once.
+pub(crate) fn read_all(library: &mut Library<'_>) -> Result<(), AllocError>
+    ensures project { library.new.project ≡ library.old.project }
+    ensures read { OnOk result (AreAllRead library.new) }
+{
+    let project = library.project();
+    for (name, _text) in project.texts() {
+        library.read(name)?;
+    }
+    Ok(())
+}
+
+/// The device of an EDS, where the project has its text.
+pub(crate) fn device_of<'b>(library: &'b Library<'_>, name: &[u8]) -> Option<&'b Device>
+    requires { AreAllRead library.now }
+    ensures { option_copied result ≡ device_at library.now.project.texts name.now }
+{
+    library.device(name)
+}

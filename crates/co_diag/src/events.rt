@@ -1,0 +1,72 @@
+//! What is wrong with the events of the scenario, put at the end of what was found.
+ghost use Rattle.std.specs.Prelude.{◌≡◌, ◌++◌, OnOk, IfOk, filter_map, option_copied};
+ghost use Rattle.std.specs.FinMap as table;
+ghost use Rattle.co_diag.specs.Devices.{AreAllRead, device_fault, device_for};
+ghost use Rattle.co_diag.specs.Found.{unfit_event};
+
+use crate::devices::device_of;
+use crate::diag::Diag;
+use crate::parameters::parameter_code;
+use crate::subject::Subject;
+use co_network::Library;
+use co_params::judge_set;
+use co_scenario::Event;
+use eds_device::Device;
+use std::alloc::{AllocError, Global};
+
+/// The device of a node.
+fn device_for<'b>(library: &'b Library<'_>, id: u8) -> Option<&'b Device>
+    requires { AreAllRead library.now }
+    ensures { option_copied result ≡ device_for library.now.project id }
+{
+    let node = library.project().node(id)?;
+    device_of(library, node.eds.as_slice())
+}
+
+/// What is said of an event by its number.
+fn unfit_event(
+    alloc: Global,
+    library: &Library<'_>,
+    number: u16,
+    event: &Event,
+) -> Result<Option<Diag>, AllocError>
+    requires { AreAllRead library.now }
+    ensures { IfOk result (λ diag. diag ≡ device_fault library.now.project number event.now) }
+{
+    let Event::Set {
+        node,
+        index,
+        sub,
+        text,
+    } = event
+    else {
+        return Ok(None);
+    };
+    let Some(device) = device_for(library, *node) else {
+        return Ok(None);
+    };
+    match judge_set(alloc, device, *node, *index, *sub, text.as_slice())? {
+        Ok(_bytes) => Ok(None),
+        Err(fault) => Ok(Some(Diag {
+            code: parameter_code(fault),
+            subject: Subject::Event(number),
+        })),
+    }
+}
+
+/// Finds the events that set what they can't.
+pub(crate) fn find_unfit_events(
+    found: &mut Vec<Diag>,
+    alloc: Global,
+    library: &Library<'_>,
+) -> Result<(), AllocError>
+    requires { AreAllRead library.now }
+    ensures { OnOk result (found.new.items ≡ found.old.items ++ filter_map (unfit_event library.now.project) (table.entries library.now.project.events)) }
+{
+    for (number, timed) in library.project().events().iter() {
+        if let Some(diag) = unfit_event(alloc, library, *number, &timed.event)? {
+            found.push(diag)?;
+        }
+    }
+    Ok(())
+}

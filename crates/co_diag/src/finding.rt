@@ -1,0 +1,92 @@
+//! All that is wrong with a project.
+ghost use Rattle.std.specs.Prelude.{◌≡◌, ◌++◌, IfOk, OnOk, filter_map};
+ghost use Rattle.std.specs.FinMap as table;
+ghost use Rattle.std.specs.List.{flat_map};
+ghost use Rattle.co_network.specs.Network.{project_plan};
+ghost use Rattle.co_diag.specs.Devices.{AreAllRead};
+ghost use Rattle.co_diag.specs.Found.{unfit_parameters, unreadable_defaults, unfit_consumers, shared_identifiers, message_faults, remote_type, no_sync, found, diagnostics_of};
+ghost use Rattle.co_diag.specs.Values.{members};
+
+use crate::consumers::find_unfit_consumers;
+use crate::defaults::find_unreadable_defaults;
+use crate::devices::read_all;
+use crate::diag::Diag;
+use crate::events::find_unfit_events;
+use crate::kept::keep_all;
+use crate::messages::{find_message_faults, find_no_syncs, find_remote_types};
+use crate::parameters::find_unfit_parameters;
+use crate::shared::find_shared;
+use crate::sorting::sort_once;
+use crate::texts::find_skipped_lines;
+use co_network::Library;
+use co_project::Project;
+use pdo_plan::Plan;
+use std::alloc::{AllocError, Global};
+
+/// Finds what is wrong with the nodes once they are configured.
+fn find_of_configured(
+    found: &mut Vec<Diag>,
+    alloc: Global,
+    library: &Library<'_>,
+    plan: &Plan,
+) -> Result<(), AllocError>
+    requires read { AreAllRead library.now }
+    requires plan { plan.now ≡ project_plan library.now.project }
+    ensures { OnOk result (found.new.items ≡ found.old.items ++ flat_map (unfit_consumers library.now.project) (members library.now.project) ++ shared_identifiers library.now.project) }
+{
+    let kept = keep_all(alloc, library, plan)?;
+    find_unfit_consumers(found, library.project(), &kept.times, &kept.consumers)?;
+    find_shared(found, &kept.identifiers)?;
+    Ok(())
+}
+
+/// Finds what is wrong with the messages.
+fn find_of_messages(
+    found: &mut Vec<Diag>,
+    alloc: Global,
+    project: &Project,
+    plan: &Plan,
+) -> Result<(), AllocError>
+    ensures { OnOk result (found.new.items ≡ found.old.items ++ flat_map message_faults plan.now ++ filter_map remote_type (table.entries project.now.messages) ++ filter_map (no_sync project.now) (table.entries project.now.messages)) }
+{
+    find_message_faults(found, alloc, plan)?;
+    find_remote_types(found, alloc, project)?;
+    find_no_syncs(found, alloc, project)?;
+    Ok(())
+}
+
+/// Finds all that is wrong.
+#[tactic(auto, unfolding(crate::specs::Found::found))]
+fn find_all(alloc: Global, library: &Library<'_>, plan: &Plan) -> Result<Vec<Diag>, AllocError>
+    requires read { AreAllRead library.now }
+    requires plan { plan.now ≡ project_plan library.now.project }
+    ensures { IfOk result (λ list. list.items ≡ found library.now.project) }
+{
+    let mut list = Vec::new(alloc);
+    find_unfit_parameters(&mut list, alloc, library)?;
+    find_unreadable_defaults(&mut list, alloc, library)?;
+    find_of_configured(&mut list, alloc, library, plan)?;
+    find_of_messages(&mut list, alloc, library.project(), plan)?;
+    find_unfit_events(&mut list, alloc, library)?;
+    find_skipped_lines(&mut list, alloc, library)?;
+    Ok(list)
+}
+
+/// The diagnostics of a project, by the plan of its messages: all that is wrong with it, each once,
+/// in order.
+///
+/// Reads each text once. Else takes time by the number of the texts' warnings, of the entries,
+/// parameters and writes of all nodes, of the messages and the events, and that of the diagnostics
+/// with its logarithm; memory by the number of diagnostics, the devices of all texts, and the values
+/// of one node at a time. Want of memory is the only error.
+#[tactic(auto, unfolding(crate::specs::Found::diagnostics_of))]
+pub fn diagnostics(alloc: Global, project: &Project, plan: &Plan) -> Result<Vec<Diag>, AllocError>
+    requires { plan.now ≡ project_plan project.now }
+    ensures { IfOk result (λ list. list.items ≡ diagnostics_of project.now) }
+{
+    let mut library = Library::new(alloc, project);
+    read_all(&mut library)?;
+    let mut list = find_all(alloc, &library, plan)?;
+    sort_once(&mut list);
+    Ok(list)
+}

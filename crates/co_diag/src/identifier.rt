@@ -1,0 +1,100 @@
+//! The identifier of a COB-ID.
+ghost use Rattle.std.specs.Prelude.{◌≡◌, ◌<◌, nat_eq};
+ghost use Rattle.std.proofs.Common.{rules};
+ghost use Rattle.std.specs.Cmp as Cmp;
+ghost use Rattle.std.specs.Cmp.Rules.{comparing};
+ghost use Rattle.std.specs.Ordering.{nat_cmp, as_partial_cmp};
+ghost use Rattle.co_text.specs.Digits.{identifier_digits};
+ghost use Rattle.co_diag.specs.Holds.{identifier_in};
+
+use std::cmp::Ordering;
+use std::marker::Model;
+
+/// An identifier of 11 bits (CiA 301: bits 0 to 10 of a COB-ID), in the order of the numbers.
+#[derive(Debug, Drop)]
+pub struct Identifier {
+    number: u16,
+}
+
+impl Model for Identifier {
+    ghost use Rattle.std.specs.Prelude.{ℕ, ◌<◌};
+
+    ghost Value = { ℕ };
+
+    ghost view = { λ identifier. identifier.number };
+
+    ghost invariant = { λ identifier. identifier.number < 0x800 };
+}
+
+impl Identifier {
+    /// The identifier of a COB-ID.
+    pub fn of_cob(cob: u32) -> Self
+        ensures { result ≡ identifier_in cob }
+    {
+        Identifier {
+            number: (cob % 0x800) as u16,
+        }
+    }
+
+    /// Its number, below 800h.
+    pub fn number(&self) -> u16
+        ensures number { result ≡ self.now }
+        ensures below { result < 0x800 }
+    {
+        self.number
+    }
+
+    /// The same identifier.
+    pub(crate) fn copy(&self) -> Self
+        ensures { result ≡ self.now }
+    {
+        Identifier {
+            number: self.number,
+        }
+    }
+
+    /// Its three upper-case hexadecimal digits.
+    pub fn digits(&self) -> [u8; 3]
+        ensures { result ≡ identifier_digits self.now }
+    {
+        co_text::identifier_digits(self.number)
+    }
+}
+
+impl PartialEq for Identifier {
+    ghost eq = { nat_eq };
+
+    ghost laws = { Prim.search (comparing, rules) };
+
+    fn eq(&self, other: &Identifier) -> bool {
+        self.number == other.number
+    }
+}
+
+impl Eq for Identifier {
+    ghost laws = { Prim.search (comparing, rules) };
+}
+
+impl PartialOrd for Identifier {
+    ghost partial_cmp = { as_partial_cmp nat_cmp };
+
+    ghost laws = { Cmp.partial_order_from_own_ties (Prim.search (comparing, rules)) (Prim.search (comparing, rules)) };
+
+    fn partial_cmp(&self, other: &Identifier) -> Option<Ordering> {
+        Some(self.cmp(other))
+    }
+}
+
+impl Ord for Identifier {
+    ghost cmp = { nat_cmp };
+
+    ghost total = { Prim.search (comparing, rules) };
+
+    ghost matches_partial_cmp = { Prim.search (comparing, rules) };
+
+    ghost matches_eq = { Prim.search (comparing, rules) };
+
+    fn cmp(&self, other: &Identifier) -> Ordering {
+        self.number.cmp(&other.number)
+    }
+}

@@ -1,0 +1,150 @@
+//! What is wrong with messages, put at the end of what was found.
+ghost use Rattle.std.specs.Prelude.{◌≡◌, ◌++◌, ◌∷◌, [], OnOk, IfOk, map, filter_map};
+ghost use Rattle.std.specs.FinMap as table;
+ghost use Rattle.std.specs.List.{flat_map};
+ghost use Rattle.co_diag.specs.declared.subject.Subject.TheVariants as of;
+ghost use Rattle.co_diag.specs.Codes.{message_code};
+ghost use Rattle.co_diag.specs.Found.{said, message_faults, remote_type, no_sync};
+
+use crate::code::Code;
+use crate::diag::Diag;
+use crate::name::Name;
+use crate::subject::Subject;
+use co_messages::Linked;
+use co_project::Project;
+use pdo_plan::{MessageFault, Outcome, Plan, PlannedMessage};
+use std::alloc::{AllocError, Global};
+
+/// The code of a fault.
+fn message_code(fault: MessageFault) -> Code
+    ensures { result ≡ message_code fault }
+{
+    match fault {
+        MessageFault::NoObjects => Code::NoObjects,
+        MessageFault::TpdoTaken => Code::TpdoTaken,
+        MessageFault::TooManyBits => Code::TooManyBits,
+        MessageFault::NotMappable => Code::NotMappable,
+        MessageFault::Mismatched => Code::Mismatched,
+        MessageFault::NoRpdo => Code::NoRpdo,
+        MessageFault::NoDummy => Code::NoDummy,
+        MessageFault::BadIdentifier => Code::BadIdentifier,
+        MessageFault::NoIdentifier => Code::NoIdentifier,
+        MessageFault::ReservedType => Code::ReservedType,
+    }
+}
+
+/// Says something of a message.
+fn said_of(alloc: Global, code: Code, name: &[u8]) -> Result<Diag, AllocError>
+    ensures { IfOk result (λ diag. diag ≡ said code (of.Message name.now)) }
+{
+    Ok(Diag {
+        code,
+        subject: Subject::Message(Name::from_slice(alloc, name)?),
+    })
+}
+
+/// Finds the faults of a message.
+fn find_faults(
+    found: &mut Vec<Diag>,
+    alloc: Global,
+    name: &[u8],
+    faults: &[MessageFault],
+) -> Result<(), AllocError>
+    ensures { OnOk result (found.new.items ≡ found.old.items ++ map (λ fault. said (message_code fault) (of.Message name.now)) faults.now) }
+{
+    for fault in faults {
+        let diag = said_of(alloc, message_code(*fault), name)?;
+        found.push(diag)?;
+    }
+    Ok(())
+}
+
+/// Finds what the plan says against a message.
+#[tactic(auto, unfolding(crate::specs::Found::message_faults))]
+fn find_of_message(
+    found: &mut Vec<Diag>,
+    alloc: Global,
+    message: &PlannedMessage,
+) -> Result<(), AllocError>
+    ensures { OnOk result (found.new.items ≡ found.old.items ++ message_faults message.now) }
+{
+    match &message.outcome {
+        Outcome::Planned(_clean) => Ok(()),
+        Outcome::Faulty(faults) => {
+            find_faults(found, alloc, message.name.as_slice(), faults.as_slice())
+        }
+    }
+}
+
+/// Finds the faults that keep messages out of the plan.
+pub(crate) fn find_message_faults(
+    found: &mut Vec<Diag>,
+    alloc: Global,
+    plan: &Plan,
+) -> Result<(), AllocError>
+    ensures { OnOk result (found.new.items ≡ found.old.items ++ flat_map message_faults plan.now) }
+{
+    for message in plan.messages() {
+        find_of_message(found, alloc, message)?;
+    }
+    Ok(())
+}
+
+/// What is said of a message that asks for remote frames.
+fn remote_type(alloc: Global, name: &[u8], linked: &Linked) -> Result<Option<Diag>, AllocError>
+    ensures { IfOk result (λ diag. diag ≡ remote_type (name.now, linked.now)) }
+{
+    if !matches!(linked.message.transmission, 252..=253) {
+        return Ok(None);
+    }
+    let diag = said_of(alloc, Code::RemoteType, name)?;
+    Ok(Some(diag))
+}
+
+/// Finds the messages that ask for remote frames.
+pub(crate) fn find_remote_types(
+    found: &mut Vec<Diag>,
+    alloc: Global,
+    project: &Project,
+) -> Result<(), AllocError>
+    ensures { OnOk result (found.new.items ≡ found.old.items ++ filter_map remote_type (table.entries project.now.messages)) }
+{
+    for (name, linked) in project.messages().iter() {
+        if let Some(diag) = remote_type(alloc, name, linked)? {
+            found.push(diag)?;
+        }
+    }
+    Ok(())
+}
+
+/// What is said of a message that waits for a SYNC, where the period of the manager's is 0.
+fn no_sync(
+    alloc: Global,
+    project: &Project,
+    name: &[u8],
+    linked: &Linked,
+) -> Result<Option<Diag>, AllocError>
+    ensures { IfOk result (λ diag. diag ≡ no_sync project.now (name.now, linked.now)) }
+{
+    if linked.message.transmission > 240 || project.manager().sync_us != 0 {
+        return Ok(None);
+    }
+    let diag = said_of(alloc, Code::NoSync, name)?;
+    Ok(Some(diag))
+}
+
+/// Finds the messages that wait for a SYNC, where there is none.
+pub(crate) fn find_no_syncs(
+    found: &mut Vec<Diag>,
+    alloc: Global,
+    project: &Project,
+) -> Result<(), AllocError>
+    ensures { OnOk result (found.new.items ≡ found.old.items ++ filter_map (no_sync project.now) (table.entries project.now.messages)) }
+{
+    for (name, linked) in project.messages().iter() {
+        if let Some(diag) = no_sync(alloc, project, name, linked)? {
+            found.push(diag)?;
+        }
+    }
+    Ok(())
+}

@@ -1,0 +1,127 @@
+//! What is wrong with the parameters of nodes, put at the end of what was found.
+ghost use Rattle.std.specs.Prelude.{◌≡◌, ◌++◌, OnOk, IfOk, filter_map};
+ghost use Rattle.std.specs.FinMap as table;
+ghost use Rattle.std.specs.List.{flat_map};
+ghost use Rattle.eds_device.specs.Places.{pairs_of};
+ghost use Rattle.co_diag.specs.Codes.{parameter_code};
+ghost use Rattle.co_diag.specs.Devices.{AreAllRead, member_of, of_node};
+ghost use Rattle.co_diag.specs.Found.{unfit_parameter, unfit_parameters};
+ghost use Rattle.co_diag.specs.Values.{members};
+
+use crate::code::Code;
+use crate::devices::device_of;
+use crate::diag::Diag;
+use crate::subject::Subject;
+use co_network::Library;
+use co_params::{ParameterFault, judge, parameter_text};
+use co_project::Node;
+use eds_device::Device;
+use std::alloc::{AllocError, Global};
+
+/// The code of a fault.
+pub(crate) fn parameter_code(fault: ParameterFault) -> Code
+    ensures { result ≡ parameter_code fault }
+{
+    match fault {
+        ParameterFault::NoEntry => Code::NoEntry,
+        ParameterFault::NotModelled => Code::NotModelled,
+        ParameterFault::NotWritable => Code::NotWritable,
+        ParameterFault::Unreadable => Code::Unreadable,
+        ParameterFault::OutsideLimits => Code::OutsideLimits,
+    }
+}
+
+/// What is said of the parameter of an entry.
+#[tactic(auto, unfolding(crate::specs::Found::unfit_parameter))]
+fn unfit_parameter(
+    alloc: Global,
+    id: u8,
+    node: &Node,
+    device: &Device,
+    index: u16,
+    sub: u8,
+) -> Result<Option<Diag>, AllocError>
+    ensures { IfOk result (λ diag. diag ≡ unfit_parameter (member_of id node.now device.now) (index, sub)) }
+{
+    let Some(text) = parameter_text(&node.params, device, index, sub) else {
+        return Ok(None);
+    };
+    match judge(alloc, device, id, index, sub, text)? {
+        Ok(_bytes) => Ok(None),
+        Err(fault) => Ok(Some(Diag {
+            code: parameter_code(fault),
+            subject: Subject::Param(id, index, sub),
+        })),
+    }
+}
+
+/// Finds the faults of a node's own parameters.
+fn find_own(
+    found: &mut Vec<Diag>,
+    alloc: Global,
+    id: u8,
+    node: &Node,
+    device: &Device,
+) -> Result<(), AllocError>
+    ensures { OnOk result (found.new.items ≡ found.old.items ++ filter_map (λ own. unfit_parameter (member_of id node.now device.now) own.0) (table.entries node.now.params)) }
+{
+    for ((index, sub), _text) in node.params.iter() {
+        if let Some(diag) = unfit_parameter(alloc, id, node, device, *index, *sub)? {
+            found.push(diag)?;
+        }
+    }
+    Ok(())
+}
+
+/// Finds the faults of the parameters of a device's entries.
+fn find_given(
+    found: &mut Vec<Diag>,
+    alloc: Global,
+    id: u8,
+    node: &Node,
+    device: &Device,
+) -> Result<(), AllocError>
+    ensures { OnOk result (found.new.items ≡ found.old.items ++ filter_map (unfit_parameter (member_of id node.now device.now)) (pairs_of device.now.sections)) }
+{
+    for (index, sub) in device.pairs() {
+        if let Some(diag) = unfit_parameter(alloc, id, node, device, *index, *sub)? {
+            found.push(diag)?;
+        }
+    }
+    Ok(())
+}
+
+/// Finds the faults of a node's parameters.
+#[tactic(auto, unfolding(crate::specs::Found::unfit_parameters))]
+fn find_of_node(
+    found: &mut Vec<Diag>,
+    alloc: Global,
+    library: &Library<'_>,
+    id: u8,
+    node: &Node,
+) -> Result<(), AllocError>
+    requires { AreAllRead library.now }
+    ensures { OnOk result (found.new.items ≡ found.old.items ++ of_node unfit_parameters library.now.project (id, node.now)) }
+{
+    let Some(device) = device_of(library, node.eds.as_slice()) else {
+        return Ok(());
+    };
+    find_own(found, alloc, id, node, device)?;
+    find_given(found, alloc, id, node, device)?;
+    Ok(())
+}
+
+/// Finds the faults of the parameters of all nodes.
+pub(crate) fn find_unfit_parameters(
+    found: &mut Vec<Diag>,
+    alloc: Global,
+    library: &Library<'_>,
+) -> Result<(), AllocError>
+    requires { AreAllRead library.now }
+    ensures { OnOk result (found.new.items ≡ found.old.items ++ flat_map unfit_parameters (members library.now.project)) }
+{
+    for (id, node) in library.project().nodes() {
+        find_of_node(found, alloc, library, *id, node)?;
+    }
+    Ok(())
+}

@@ -1,0 +1,13 @@
+//! Edits as the lines that are read as them.
+#![tactic(auto)]
+
+mod event_lines;
+mod link_lines;
+mod printing;
+mod written;
+
+pub use event_lines::write_event;
+pub use link_lines::{write_message, write_sink, write_source};
+pub use printing::{
+    write_bitrate, write_eds, write_horizon, write_manager, write_node, write_param,
+};

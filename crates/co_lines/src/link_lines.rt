@@ -1,0 +1,89 @@
+//! Messages, their sources and their sinks as text, written at the end of an output. Where memory runs
+//! out, a part of the text may stand there.
+#![tactic(auto, unfolding(crate::specs::Lines::text_of, crate::specs::Lines::line_of, crate::specs::Lines::words_of))]
+
+ghost use Rattle.std.specs.Prelude.{◌≡◌, ◌++◌, ◌∷◌, ◌<◌, OnOk, decimal};
+ghost use Rattle.std.specs.Str.{byte};
+ghost use Rattle.co_text.specs.Digits.{identifier_digits};
+ghost use Rattle.co_lines.specs.Lines.{text_of};
+ghost use Rattle.co_edits.specs.declared.edit.Edit.TheVariants as edit;
+
+use crate::written::{write_identifier, write_index, write_number, write_sub, write_word};
+use co_messages::Message;
+use std::alloc::{AllocError, Global};
+
+/// Writes ` ID TPDO TYPE INHIBIT EVENT COB`.
+fn write_numbers(out: &mut Vec<u8>, alloc: Global, message: &Message) -> Result<(), AllocError>
+    requires { message.now.cob < 4096 }
+    ensures { OnOk result (out.new.items ≡ out.old.items ++ byte " " ∷ decimal message.now.node
+        ++ byte " " ∷ decimal message.now.tpdo ++ byte " " ∷ decimal message.now.transmission
+        ++ byte " " ∷ decimal message.now.inhibit ++ byte " " ∷ decimal message.now.event
+        ++ byte " " ∷ identifier_digits message.now.cob) }
+{
+    write_number(out, alloc, u64::from(message.node))?;
+    write_number(out, alloc, u64::from(message.tpdo))?;
+    write_number(out, alloc, u64::from(message.transmission))?;
+    write_number(out, alloc, u64::from(message.inhibit))?;
+    write_number(out, alloc, u64::from(message.event))?;
+    write_identifier(out, message.cob)?;
+    Ok(())
+}
+
+/// Writes `message NAME ID TPDO TYPE INHIBIT EVENT COB`.
+pub fn write_message(
+    out: &mut Vec<u8>,
+    alloc: Global,
+    name: &[u8],
+    message: &Message,
+) -> Result<(), AllocError>
+    requires { message.now.cob < 4096 }
+    ensures { OnOk result (out.new.items ≡ out.old.items ++ text_of (edit.Message name.now message.now)) }
+{
+    out.extend_from_slice(b"message")?;
+    write_word(out, name)?;
+    write_numbers(out, alloc, message)?;
+    out.push(b'\n')?;
+    Ok(())
+}
+
+/// Writes `source MESSAGE POS INDEX SUB`.
+pub fn write_source(
+    out: &mut Vec<u8>,
+    alloc: Global,
+    message: &[u8],
+    position: u8,
+    index: u16,
+    sub: u8,
+) -> Result<(), AllocError>
+    ensures { OnOk result (out.new.items ≡ out.old.items ++ text_of (edit.Source message.now position index sub)) }
+{
+    out.extend_from_slice(b"source")?;
+    write_word(out, message)?;
+    write_number(out, alloc, u64::from(position))?;
+    write_index(out, index)?;
+    write_sub(out, sub)?;
+    out.push(b'\n')?;
+    Ok(())
+}
+
+/// Writes `sink MESSAGE POS ID INDEX SUB`.
+pub fn write_sink(
+    out: &mut Vec<u8>,
+    alloc: Global,
+    message: &[u8],
+    position: u8,
+    node: u8,
+    index: u16,
+    sub: u8,
+) -> Result<(), AllocError>
+    ensures { OnOk result (out.new.items ≡ out.old.items ++ text_of (edit.Sink message.now position node index sub)) }
+{
+    out.extend_from_slice(b"sink")?;
+    write_word(out, message)?;
+    write_number(out, alloc, u64::from(position))?;
+    write_number(out, alloc, u64::from(node))?;
+    write_index(out, index)?;
+    write_sub(out, sub)?;
+    out.push(b'\n')?;
+    Ok(())
+}

@@ -1,0 +1,104 @@
+//! Edits of the network as text, written at the end of an output. Where memory runs out, a part of
+//! the text may stand there.
+#![tactic(auto, unfolding(crate::specs::Lines::text_of, crate::specs::Lines::line_of, crate::specs::Lines::words_of))]
+
+ghost use Rattle.std.specs.Prelude.{◌≡◌, ◌++◌, ◌∷◌, OnOk};
+ghost use Rattle.co_lines.specs.Lines.{text_of};
+ghost use Rattle.co_edits.specs.declared.edit.Edit.TheVariants as edit;
+
+use crate::written::{write_index, write_number, write_sub, write_word};
+use co_edits::ManagerSettings;
+use co_text::line_count;
+use std::alloc::{AllocError, Global};
+
+/// Writes `bitrate K`.
+pub fn write_bitrate(out: &mut Vec<u8>, alloc: Global, rate: u16) -> Result<(), AllocError>
+    ensures { OnOk result (out.new.items ≡ out.old.items ++ text_of (edit.Bitrate rate)) }
+{
+    out.extend_from_slice(b"bitrate")?;
+    write_number(out, alloc, u64::from(rate))?;
+    out.push(b'\n')?;
+    Ok(())
+}
+
+/// Writes `horizon US`.
+pub fn write_horizon(out: &mut Vec<u8>, alloc: Global, time: u32) -> Result<(), AllocError>
+    ensures { OnOk result (out.new.items ≡ out.old.items ++ text_of (edit.Horizon time)) }
+{
+    out.extend_from_slice(b"horizon")?;
+    write_number(out, alloc, u64::from(time))?;
+    out.push(b'\n')?;
+    Ok(())
+}
+
+/// Writes `manager ID SYNC_US HB_MS TIMEOUT_MS`.
+pub fn write_manager(
+    out: &mut Vec<u8>,
+    alloc: Global,
+    manager: ManagerSettings,
+) -> Result<(), AllocError>
+    ensures { OnOk result (out.new.items ≡ out.old.items ++ text_of (edit.Manager manager)) }
+{
+    out.extend_from_slice(b"manager")?;
+    write_number(out, alloc, u64::from(manager.id))?;
+    write_number(out, alloc, u64::from(manager.sync_us))?;
+    write_number(out, alloc, u64::from(manager.heartbeat_ms))?;
+    write_number(out, alloc, u64::from(manager.timeout_ms))?;
+    out.push(b'\n')?;
+    Ok(())
+}
+
+/// Writes `eds NAME LINES` and the lines.
+pub fn write_eds(
+    out: &mut Vec<u8>,
+    alloc: Global,
+    name: &[u8],
+    text: &[u8],
+) -> Result<(), AllocError>
+    ensures { OnOk result (out.new.items ≡ out.old.items ++ text_of (edit.Eds name.now text.now)) }
+{
+    out.extend_from_slice(b"eds")?;
+    write_word(out, name)?;
+    write_number(out, alloc, line_count(text) as u64)?;
+    out.push(b'\n')?;
+    out.extend_from_slice(text)?;
+    Ok(())
+}
+
+/// Writes `node ID NAME EDS`.
+pub fn write_node(
+    out: &mut Vec<u8>,
+    alloc: Global,
+    id: u8,
+    name: &[u8],
+    eds: &[u8],
+) -> Result<(), AllocError>
+    ensures { OnOk result (out.new.items ≡ out.old.items ++ text_of (edit.Node id name.now eds.now)) }
+{
+    out.extend_from_slice(b"node")?;
+    write_number(out, alloc, u64::from(id))?;
+    write_word(out, name)?;
+    write_word(out, eds)?;
+    out.push(b'\n')?;
+    Ok(())
+}
+
+/// Writes `param ID INDEX SUB TEXT`.
+pub fn write_param(
+    out: &mut Vec<u8>,
+    alloc: Global,
+    id: u8,
+    index: u16,
+    sub: u8,
+    text: &[u8],
+) -> Result<(), AllocError>
+    ensures { OnOk result (out.new.items ≡ out.old.items ++ text_of (edit.Param id index sub text.now)) }
+{
+    out.extend_from_slice(b"param")?;
+    write_number(out, alloc, u64::from(id))?;
+    write_index(out, index)?;
+    write_sub(out, sub)?;
+    write_word(out, text)?;
+    out.push(b'\n')?;
+    Ok(())
+}

@@ -1,0 +1,5 @@
+pub mod BitLemmas
+pub mod PackLemmas
+pub mod UnpackLemmas
+pub mod PositionLaws
+pub mod CarriedLaws

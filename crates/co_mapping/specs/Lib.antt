@@ -1,0 +1,3 @@
+pub mod Bits
+pub mod Carried
+pub mod Packing

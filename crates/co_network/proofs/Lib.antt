@@ -1,0 +1,3 @@
+pub mod LibraryLemmas
+pub mod NamedLemmas
+pub mod NetworkLemmas

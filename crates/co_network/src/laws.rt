@@ -1,0 +1,10 @@
+//! Laws of a project's plan.
+ghost use Rattle.std.specs.Prelude.{◌≡◌, ℕ, Some};
+ghost use Rattle.co_project.specs.Project.{Content};
+ghost use Rattle.pdo_plan.specs.Plan.{IsMadeFor};
+ghost use Rattle.co_network.specs.Network.{member_at, project_plan, Member};
+
+/// Each PDO that the plan gives a node is one that the device of its EDS has.
+pub fn plans_are_made_for_their_nodes()
+    ensures { (project : Content) (id : ℕ) (m : Member) → member_at project id ≡ Some m → IsMadeFor (project_plan project) m.sections id }
+{}

@@ -1,0 +1,111 @@
+//! What edits do to the messages of a project.
+ghost use Rattle.std.specs.Prelude.{◌≡◌, IsErrOf, IsTrue};
+ghost use Rattle.co_edits.specs.Accepts.{Accepts};
+ghost use Rattle.co_edits.specs.Edits.{IsEdit};
+ghost use Rattle.co_edits.specs.declared.edit.Edit.TheVariants as edit;
+ghost use Rattle.co_project.specs.Project.{accept, adds};
+
+use crate::contents::Contents;
+use co_base::Octets;
+use co_commands::EditFault;
+use co_messages::Message;
+
+impl Contents {
+    /// Gives a name a message. A known one keeps its sources and sinks.
+    #[tactic(auto, unfolding(crate::specs::Project::accept, crate::specs::Project::adds, co_edits::specs::Edits::IsEdit))]
+    pub fn put_message(&mut self, name: Octets, message: Message) -> Result<(), EditFault>
+        requires { IsEdit (edit.Message name message) }
+        ensures accepts { Accepts self.old self.new result (accept self.old (edit.Message name message)) }
+        ensures memory { IsErrOf result EditFault.Memory → IsTrue (adds self.old (edit.Message name message)) }
+    {
+        if !self.nodes.contains(message.node) {
+            return Err(EditFault::Unknown);
+        }
+        if self.messages.is_full_for(name.as_slice()) {
+            return Err(EditFault::Limit);
+        }
+        self.messages.put(self.alloc, name, message)?;
+        Ok(())
+    }
+
+    /// Takes a message away, and its sources and sinks with it.
+    #[tactic(auto, unfolding(crate::specs::Project::accept, crate::specs::Project::adds))]
+    pub fn drop_message(&mut self, name: &[u8]) -> Result<(), EditFault>
+        ensures accepts { Accepts self.old self.new result (accept self.old (edit.DropMessage name.now)) }
+        ensures memory { IsErrOf result EditFault.Memory → IsTrue (adds self.old (edit.DropMessage name.now)) }
+    {
+        if !self.messages.contains(name) {
+            return Err(EditFault::Unknown);
+        }
+        self.messages.remove(name);
+        Ok(())
+    }
+
+    /// Gives a message an entry of its sender at a position, in place of the one that stands there.
+    #[tactic(auto, unfolding(crate::specs::Project::accept, crate::specs::Project::adds, co_edits::specs::Edits::IsEdit))]
+    pub fn put_source(
+        &mut self,
+        name: &[u8],
+        position: u8,
+        index: u16,
+        sub: u8,
+    ) -> Result<(), EditFault>
+        requires { IsEdit (edit.Source name.now position index sub) }
+        ensures accepts { Accepts self.old self.new result (accept self.old (edit.Source name.now position index sub)) }
+        ensures memory { IsErrOf result EditFault.Memory → IsTrue (adds self.old (edit.Source name.now position index sub)) }
+    {
+        if !self.messages.contains(name) {
+            return Err(EditFault::Unknown);
+        }
+        self.messages.put_source(name, position, index, sub)?;
+        Ok(())
+    }
+
+    /// Takes the source at a position of a message away.
+    #[tactic(auto, unfolding(crate::specs::Project::accept, crate::specs::Project::adds))]
+    pub fn drop_source(&mut self, name: &[u8], position: u8) -> Result<(), EditFault>
+        ensures accepts { Accepts self.old self.new result (accept self.old (edit.Unsource name.now position)) }
+        ensures memory { IsErrOf result EditFault.Memory → IsTrue (adds self.old (edit.Unsource name.now position)) }
+    {
+        if !self.messages.has_source(name, position) {
+            return Err(EditFault::Unknown);
+        }
+        self.messages.remove_source(name, position);
+        Ok(())
+    }
+
+    /// Gives a message an entry of a node that takes what stands at a position, in place of the one
+    /// that the node has there.
+    #[tactic(auto, unfolding(crate::specs::Project::accept, crate::specs::Project::adds, co_edits::specs::Edits::IsEdit))]
+    pub fn put_sink(
+        &mut self,
+        name: &[u8],
+        position: u8,
+        node: u8,
+        index: u16,
+        sub: u8,
+    ) -> Result<(), EditFault>
+        requires { IsEdit (edit.Sink name.now position node index sub) }
+        ensures accepts { Accepts self.old self.new result (accept self.old (edit.Sink name.now position node index sub)) }
+        ensures memory { IsErrOf result EditFault.Memory → IsTrue (adds self.old (edit.Sink name.now position node index sub)) }
+    {
+        if !self.messages.contains(name) || !self.nodes.contains(node) {
+            return Err(EditFault::Unknown);
+        }
+        self.messages.put_sink(name, position, node, index, sub)?;
+        Ok(())
+    }
+
+    /// Takes the sink of a node at a position of a message away.
+    #[tactic(auto, unfolding(crate::specs::Project::accept, crate::specs::Project::adds))]
+    pub fn drop_sink(&mut self, name: &[u8], position: u8, node: u8) -> Result<(), EditFault>
+        ensures accepts { Accepts self.old self.new result (accept self.old (edit.Unsink name.now position node)) }
+        ensures memory { IsErrOf result EditFault.Memory → IsTrue (adds self.old (edit.Unsink name.now position node)) }
+    {
+        if !self.messages.has_sink(name, position, node) {
+            return Err(EditFault::Unknown);
+        }
+        self.messages.remove_sink(name, position, node);
+        Ok(())
+    }
+}

@@ -1,0 +1,4 @@
+pub mod FrameLemmas
+pub mod RestLemmas
+pub mod WriteLemmas
+pub mod WroteLaws

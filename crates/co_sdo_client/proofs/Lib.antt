@@ -1,0 +1,5 @@
+pub mod DownloadLaws
+pub mod PieceLemmas
+pub mod PlayLaws
+pub mod ReadLemmas
+pub mod UploadLaws

@@ -1,0 +1,3 @@
+pub mod AlikeLemmas
+pub mod RoomLemmas
+pub mod StationLemmas

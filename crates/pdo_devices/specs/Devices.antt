@@ -1,0 +1,83 @@
+-- What the devices of a project say of their entries (CiA 301), as the plan of messages asks it.
+use Rattle.std.specs.Prelude.{ℕ, ◌+◌, ◌==◌, ◌&&◌, ◌||◌, Bool, true, false, List, Option, option_and_then}
+use Rattle.std.specs.List.{list_all, range_with_len}
+use Rattle.std.specs.Map.{lookup}
+use Rattle.std.specs.Option.{option_map_or}
+use Rattle.ini_text.specs.Content.{Section}
+use Rattle.co_values.specs.declared.form.Form.{Form}
+use Rattle.co_values.specs.declared.form.Form.TheVariants.{Unsigned}
+use Rattle.co_values.specs.declared.form.Width.{Width}
+use Rattle.co_values.specs.declared.form.Width.TheVariants.{Bits8, Bits16, Bits32, Bits64}
+use Rattle.co_values.specs.Types.{form, width_bits}
+use Rattle.co_dict.specs.declared.direction.Direction.{Direction}
+use Rattle.co_dict.specs.declared.entry.Entry.{Entry}
+use Rattle.co_dict.specs.Accesses.{is_writable}
+use Rattle.co_dict.specs.Pdos.{is_mappable}
+use Rattle.eds_device.specs.Entries.{entry_at, dummy_allowed}
+
+-- the entry that a node has at an index and sub-index, and whether it allows the dummy of a type
+pub record Devices : Type 0 where
+  pub entry : ℕ → ℕ × ℕ → Option Entry
+  pub dummy : ℕ → ℕ → Bool
+
+-- the devices of nodes, each the sections of its EDS; a node that isn't there has no entry
+abbrev pub devices_of : List (ℕ × List Section) → Devices
+devices_of nodes = record {
+  entry = λ node place. option_and_then (λ ss. entry_at ss node place.0 place.1) (lookup (λ n. n == node) nodes);
+  dummy = λ node kind. option_map_or (λ ss. dummy_allowed ss kind) (lookup (λ n. n == node) nodes) false;
+}
+
+abbrev pub is_width : Width → Width → Bool
+is_width Bits8 Bits8 = true
+is_width Bits16 Bits16 = true
+is_width Bits32 Bits32 = true
+is_width Bits64 Bits64 = true
+is_width width other = false
+
+abbrev pub is_unsigned_form : Width → Form → Bool
+is_unsigned_form width (Unsigned w) = is_width width w
+is_unsigned_form width other = false
+
+-- an entry is an unsigned integer of this width that can be written
+abbrev pub takes_unsigned : Width → Entry → Bool
+takes_unsigned width entry = is_unsigned_form width (form entry.kind) && is_writable entry.access
+
+-- a node has such an entry
+abbrev pub has_unsigned : Devices → ℕ → Width → ℕ × ℕ → Bool
+has_unsigned devices node width place = option_map_or (takes_unsigned width) (devices.entry node place) false
+
+-- the bits of an entry in a PDO, where it is there and BOOLEAN or an integer
+abbrev pub width_at : Devices → ℕ → ℕ × ℕ → Option ℕ
+width_at devices node place = option_and_then (λ (e : Entry). width_bits e.kind) (devices.entry node place)
+
+-- an entry that is there and that a PDO of a direction can map
+abbrev pub can_map : Direction → Devices → ℕ → ℕ × ℕ → Bool
+can_map direction devices node place = option_map_or (is_mappable direction) (devices.entry node place) false
+
+-- the communication objects of TPDO and RPDO k, and their mapping objects (CiA 301)
+abbrev pub tpdo_object : ℕ → ℕ
+tpdo_object k = 0x17FF + k
+
+abbrev pub rpdo_object : ℕ → ℕ
+rpdo_object k = 0x13FF + k
+
+abbrev pub mapping_of : ℕ → ℕ
+mapping_of object = object + 0x200
+
+-- a mapping object has room for so many entries: sub 0 and subs 1 to the count
+unfoldable pub has_mapping : Devices → ℕ → ℕ → ℕ → Bool
+has_mapping devices node object count =
+    has_unsigned devices node Bits8 (object, 0)
+    && list_all (λ sub. has_unsigned devices node Bits32 (object, sub)) (range_with_len 1 count)
+
+-- a PDO has what its writes name: COB-ID, transmission type, and room for so many mapping entries
+abbrev pub has_pdo : Devices → ℕ → ℕ → ℕ → Bool
+has_pdo devices node object count =
+    has_unsigned devices node Bits32 (object, 1) && has_unsigned devices node Bits8 (object, 2)
+    && has_mapping devices node (mapping_of object) count
+
+-- and the inhibit time and the event timer, where they aren't 0
+abbrev pub has_times : Devices → ℕ → ℕ → ℕ → ℕ → Bool
+has_times devices node object inhibit event =
+    (inhibit == 0 || has_unsigned devices node Bits16 (object, 3))
+    && (event == 0 || has_unsigned devices node Bits16 (object, 5))

@@ -1,0 +1,5 @@
+pub mod Devices
+pub mod Dummies
+pub mod Rooms
+pub mod Shown
+pub mod Stations
