@@ -72,21 +72,35 @@ fn find_all(alloc: Global, library: &Library<'_>, plan: &Plan) -> Result<Vec<Dia
     Ok(list)
 }
 
-/// The diagnostics of a project, by the plan of its messages: all that is wrong with it, each once,
-/// in order.
+/// The diagnostics of a library's project, by the plan of its messages: all that is wrong with it, each
+/// once, in order.
 ///
-/// Reads each text once. Else takes time by the number of the texts' warnings, of the entries,
+/// Reads each text that the library hasn't read. Else takes time by the number of the texts' warnings, of the entries,
 /// parameters and writes of all nodes, of the messages and the events, and that of the diagnostics
 /// with its logarithm; memory by the number of diagnostics, the devices of all texts, and the values
 /// of one node at a time. Want of memory is the only error.
 #[tactic(auto, unfolding(crate::specs::Found::diagnostics_of))]
+pub fn diagnostics_by(
+    alloc: Global,
+    library: &mut Library<'_>,
+    plan: &Plan,
+) -> Result<Vec<Diag>, AllocError>
+    requires { plan.now ≡ project_plan library.old.project }
+    ensures list { IfOk result (λ list. list.items ≡ diagnostics_of library.old.project) }
+    ensures project { library.new.project ≡ library.old.project }
+{
+    read_all(library)?;
+    let mut list = find_all(alloc, library, plan)?;
+    sort_once(&mut list);
+    Ok(list)
+}
+
+/// The diagnostics of a project, by the plan of its messages: all that is wrong with it, each once,
+/// in order. Reads each text once; else as `diagnostics_by`.
 pub fn diagnostics(alloc: Global, project: &Project, plan: &Plan) -> Result<Vec<Diag>, AllocError>
     requires { plan.now ≡ project_plan project.now }
     ensures { IfOk result (λ list. list.items ≡ diagnostics_of project.now) }
 {
     let mut library = Library::new(alloc, project);
-    read_all(&mut library)?;
-    let mut list = find_all(alloc, &library, plan)?;
-    sort_once(&mut list);
-    Ok(list)
+    diagnostics_by(alloc, &mut library, plan)
 }

@@ -24,7 +24,7 @@ mod texts;
 
 pub use code::Code;
 pub use diag::Diag;
-pub use finding::diagnostics;
+pub use finding::{diagnostics, diagnostics_by};
 pub use identifier::Identifier;
 pub use lines::text;
 pub use name::Name;
