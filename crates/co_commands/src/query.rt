@@ -15,12 +15,14 @@ pub enum Query {
     Dcf(u8),
     /// The concise DCF (CiA 302) of a node.
     Cdcf(u8),
+    /// All that is wrong with the project.
+    Diag,
     /// The commands that make the project.
     Project,
 }
 
 impl Query {
-    /// `dcf ID`, `cdcf ID` or `project`
+    /// `dcf ID`, `cdcf ID`, `diag` or `project`
     #[tactic(auto, unfolding(crate::specs::Requests::query_of))]
     pub(crate) fn read(first: &[u8], rest: &[u8]) -> Result<Query, EditFault>
         ensures { Gives is_memory (λ q. q) result (query_of first.now rest.now) }
@@ -29,6 +31,8 @@ impl Query {
             Ok(Query::Dcf(id(rest)?))
         } else if first == b"cdcf".as_slice() {
             Ok(Query::Cdcf(id(rest)?))
+        } else if first == b"diag".as_slice() && is_blank_line(rest) {
+            Ok(Query::Diag)
         } else if first == b"project".as_slice() && is_blank_line(rest) {
             Ok(Query::Project)
         } else {

@@ -8,9 +8,11 @@ use Rattle.eds_dcf.specs.Dcf.{dcf_sections}
 use Rattle.co_edits.specs.declared.fault.EditFault.{EditFault}
 use Rattle.co_edits.specs.declared.fault.EditFault.TheVariants.{Unknown}
 use Rattle.co_commands.specs.declared.query.Query.{Query}
-use Rattle.co_commands.specs.declared.query.Query.TheVariants.{Dcf, Cdcf, Project}
+use Rattle.co_commands.specs.declared.query.Query.TheVariants.{Dcf, Cdcf, Diag, Project}
 use Rattle.co_project.specs.Project.{Content}
 use Rattle.co_project.specs.Script.{script}
+use Rattle.co_diag.specs.Found.{diagnostics_of}
+use Rattle.co_diag.specs.Lines.{diag_text}
 use Rattle.co_network.specs.Network.{Member, member_at, writes_of}
 use Rattle.workbench.specs.Hex.{hex_text}
 
@@ -36,10 +38,11 @@ dcf_of project id = option_map (λ (c : Configuration). text_of (dcf_sections c.
 unfoldable pub concise_of : Content → ℕ → Option (List ℕ)
 concise_of project id = option_map (λ (c : Configuration). concise_text c.writes) (configured_at project id)
 
--- THE ANSWER to a query: the lines of the DCF, the concise DCF in hexadecimal digits, or the commands that make the project
+-- THE ANSWER to a query: the lines of the DCF, the concise DCF in hexadecimal digits, the lines of all diagnostics, or the commands that make the project
 abbrev pub answer : Content → Query → Result (List ℕ) EditFault
 answer project (Dcf id) = or_unknown (dcf_of project id)
 answer project (Cdcf id) = or_unknown (option_map hex_text (concise_of project id))
+answer project Diag = Ok (diag_text (diagnostics_of project))
 answer project Project = Ok (script project)
 
 -- how a reply shows lines, each ended by LF: `lines K`, and these K lines

@@ -21,7 +21,7 @@ pub(crate) struct Member<'a> {
 }
 
 /// Makes the plan of a library's project, where there is none.
-fn fill_plan(
+pub(crate) fn fill_plan(
     alloc: Global,
     library: &mut Library<'_>,
     plan: &mut Option<Plan>,

@@ -22,6 +22,10 @@ pub fn answer(alloc: Global, workbench: &mut Workbench, query: Query) -> Result<
             let bytes = workbench.concise(id)?;
             Ok(hex_text(alloc, &bytes)?)
         }
+        Query::Diag => {
+            let found = workbench.diagnostics()?;
+            Ok(co_diag::text(alloc, &found)?)
+        }
         Query::Project => Ok(workbench.script()?),
     }
 }

@@ -2,6 +2,7 @@
 ghost use Rattle.std.specs.Prelude.{◌≡◌, ◌↔◌, ◌≤◌, All, IfOk, IsErrOf, None, length};
 ghost use Rattle.co_base.specs.Gives.{Gives};
 ghost use Rattle.concise_dcf.specs.Concise.{text_of as concise_text};
+ghost use Rattle.co_diag.specs.Found.{diagnostics_of};
 ghost use Rattle.co_edits.specs.Accepts.{Accepts};
 ghost use Rattle.co_edits.specs.Faults.{is_memory};
 ghost use Rattle.co_project.specs.Project.{accept, first};
@@ -11,6 +12,9 @@ ghost use Rattle.co_project.specs.Tables.{node_at};
 ghost use Rattle.workbench.specs.Queries.{or_unknown, dcf_of, concise_of};
 
 use crate::configured::configuration;
+use crate::member::fill_plan;
+use co_diag::{Diag, diagnostics_by};
+use co_network::Library;
 use co_project::{Command, EditFault, Project};
 use concise_dcf::{Write, encode};
 use eds_dcf::dcf_text;
@@ -98,6 +102,23 @@ impl Workbench {
         let made = configuration(self.alloc, &self.project, &mut self.plan, node)?;
         let bytes = encoded(self.alloc, &made.writes)?;
         Ok(bytes)
+    }
+
+    /// All that is wrong with the project as it is now, each once, in order.
+    ///
+    /// Reads each text once. Takes time by the length of the texts, the number of entries, parameters
+    /// and writes of all nodes, and that of messages and events; where an edit was taken since the last
+    /// file or diagnostics, the time of a plan too.
+    pub fn diagnostics(&mut self) -> Result<Vec<Diag>, AllocError>
+        ensures list { IfOk result (λ list. list.items ≡ diagnostics_of self.old.project) }
+        ensures same { self.new.project ≡ self.old.project }
+    {
+        let mut library = Library::new(self.alloc, &self.project);
+        fill_plan(self.alloc, &mut library, &mut self.plan)?;
+        let Some(plan) = &self.plan else {
+            unreachable!()
+        };
+        diagnostics_by(self.alloc, &mut library, plan)
     }
 
     /// The commands that make this project of the first one, as text.
