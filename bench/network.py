@@ -5,12 +5,12 @@ Takes the path of the built program, and runs it over one script on its standard
 65,536 lines and nearly 1 MiB, one with 4,000 entries and a PDO each way, one with 2,900 and 125 PDOs
 each way; 125 nodes of the first and a controller of the second; 4,096 parameters of one node and 100
 of each other; a message from the controller to each node, and one back; `dcf` and `cdcf` of each
-node, and `project`. With the word `plain` behind the path there are no messages, and all nodes are of
-one EDS without PDOs.
+node, `diag`, and `project`. With the word `plain` behind the path there are no messages, and all nodes
+are of one EDS without PDOs.
 
 Prints the seconds by the clock and of the processor, and the peak memory. Asserts under 10 seconds
-of the processor and at most 512 MiB, and the replies: the heads of all, and the lines of `project`.
-Run it from anywhere: bench/network.py crates/cobench/out/cobench
+of the processor and at most 512 MiB, and the replies: the heads of all, and the lines of `diag` and
+`project`. Run it from anywhere: bench/network.py crates/cobench/out/cobench
 """
 import os
 import resource
@@ -101,6 +101,11 @@ def heads(node, linked):
     return [b"lines %d" % lines, b"lines %d" % -(-(4 + 9 * written + 57 * pdos) // 16)]
 
 
+def missing():
+    """The lines of `diag`: the parameters of entries that the first node doesn't have."""
+    return [b"E01 param 1 %04X 00" % (0x2000 + number) for number in range(ENTRIES, MOST)]
+
+
 def run(program, script):
     """The seconds by the clock, the replies and the standing of one session.
 
@@ -119,7 +124,7 @@ def run(program, script):
 
 
 def is_right(replies, edits, commands, linked):
-    """Whether the replies have these heads, and `project` prints the commands."""
+    """Whether the replies have these heads, `diag` prints what is wrong and `project` the commands."""
     if replies[:edits] != [b"ok"] * edits:
         return False
     at = edits
@@ -129,7 +134,8 @@ def is_right(replies, edits, commands, linked):
                 return False
             at += 1 + int(head[6:])
     want = [line[:-1] for line in commands]
-    return replies[at:] == [b"lines %d" % len(want), *want]
+    wrong = missing()
+    return replies[at:] == [b"lines %d" % len(wrong), *wrong, b"lines %d" % len(want), *want]
 
 
 def main():
@@ -139,7 +145,7 @@ def main():
     program = os.path.abspath(sys.argv[1])
     commands, edits = network(linked)
     queries = [b"dcf %d\ncdcf %d\n" % (node, node) for node in range(1, NODES + 1)]
-    seconds, replies = run(program, [*commands, *queries, b"project\n"])
+    seconds, replies = run(program, [*commands, *queries, b"diag\n", b"project\n"])
     usage = resource.getrusage(resource.RUSAGE_CHILDREN)
     work, memory = usage.ru_utime + usage.ru_stime, usage.ru_maxrss * 1024
     right = is_right(replies, edits, commands, linked)
