@@ -15,9 +15,9 @@ use Rattle.co_params.proofs.WrittenLemmas.{Contains-filter_map, from_filter_map}
 use Rattle.pdo_devices.specs.Devices.{is_unsigned_form}
 use Rattle.co_project.specs.Project.{Content}
 use Rattle.co_network.specs.Network.{Member}
-use Rattle.co_diag.specs.declared.code.Code.TheVariants.{UnfitConsumer}
-use Rattle.co_diag.specs.declared.diag.Diag.{Diag}
-use Rattle.co_diag.specs.declared.subject.Subject.TheVariants as of
+use Rattle.diag_lines.specs.declared.code.Code.TheVariants.{UnfitConsumer}
+use Rattle.diag_lines.specs.declared.diag.Diag.{Diag}
+use Rattle.diag_lines.specs.declared.subject.Subject.TheVariants as of
 use Rattle.co_diag.specs.Values.{members, number_after, values_after}
 use Rattle.co_diag.specs.Holds.{HasUnfitConsumer, HoldsOf, Holds, is_unfit}
 use Rattle.co_diag.specs.Found.{said, unfit_consumer, unfit_consumers}

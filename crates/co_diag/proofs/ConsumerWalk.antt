@@ -10,15 +10,15 @@ use Rattle.eds_device.specs.Places.{pairs_of}
 use Rattle.pdo_plan.specs.declared.planned_message.PlannedMessage.{PlannedMessage}
 use Rattle.co_project.specs.Project.{Content}
 use Rattle.co_network.specs.Network.{Member, member_at, project_plan, writes_of}
-use Rattle.co_diag.specs.declared.code.Code.TheVariants.{UnfitConsumer}
+use Rattle.diag_lines.specs.declared.code.Code.TheVariants.{UnfitConsumer}
 use Rattle.co_diag.specs.declared.consumer.HeartbeatConsumer.{HeartbeatConsumer}
-use Rattle.co_diag.specs.declared.diag.Diag.{Diag}
-use Rattle.co_diag.specs.declared.subject.Subject.TheVariants as of
+use Rattle.diag_lines.specs.declared.diag.Diag.{Diag}
+use Rattle.diag_lines.specs.declared.subject.Subject.TheVariants as of
 use Rattle.co_diag.specs.Configured.{consumer_among, consumers_by, identifiers_by, producer_among, times_by, unfit_among, unfit_said}
 use Rattle.co_diag.specs.Found.{said, identifier_of, identifiers, shared_identifiers, shared_in, unfit_consumer, unfit_consumers}
 use Rattle.co_diag.specs.Holds.{consumed_node, consumer_time, is_unfit, producer_time}
 use Rattle.co_diag.specs.Values.{members, number_after, values_after}
-use Rattle.co_diag.proofs.ListLemmas.{Contains-nil, Contains-first, Contains-later, Contains-cases}
+use Rattle.diag_lines.proofs.ListLemmas.{Contains-nil, Contains-first, Contains-later, Contains-cases}
 use Rattle.co_diag.proofs.MemberLemmas.{member_found, member_listed}
 
 -- ---- identifiers

@@ -5,8 +5,8 @@ use Rattle.std.proofs.Math.ListN.{replicate}
 use Rattle.std.proofs.lemmas.Bool.{le-leb}
 use Rattle.std.proofs.lemmas.List.Elements.{filter-append}
 use Rattle.co_dict.specs.Pdos.{is_restricted}
-use Rattle.co_diag.specs.declared.code.Code.TheVariants.{SharedIdentifier}
-use Rattle.co_diag.specs.declared.subject.Subject.TheVariants as of
+use Rattle.diag_lines.specs.declared.code.Code.TheVariants.{SharedIdentifier}
+use Rattle.diag_lines.specs.declared.subject.Subject.TheVariants as of
 use Rattle.co_diag.specs.Counts.{capped, one_more, shared_among}
 use Rattle.co_diag.specs.Found.{said, shared_in}
 

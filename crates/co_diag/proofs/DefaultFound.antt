@@ -11,9 +11,9 @@ use Rattle.eds_device.specs.Places.{pairs_of}
 use Rattle.co_params.proofs.WrittenLemmas.{Contains-filter_map, from_filter_map}
 use Rattle.co_project.specs.Project.{Content}
 use Rattle.co_network.specs.Network.{Member}
-use Rattle.co_diag.specs.declared.code.Code.TheVariants.{Unreadable}
-use Rattle.co_diag.specs.declared.diag.Diag.{Diag}
-use Rattle.co_diag.specs.declared.subject.Subject.TheVariants as of
+use Rattle.diag_lines.specs.declared.code.Code.TheVariants.{Unreadable}
+use Rattle.diag_lines.specs.declared.diag.Diag.{Diag}
+use Rattle.diag_lines.specs.declared.subject.Subject.TheVariants as of
 use Rattle.co_diag.specs.Values.{members}
 use Rattle.co_diag.specs.Holds.{HasUnreadableDefault, HoldsOf, Holds}
 use Rattle.co_diag.specs.Found.{said, spells_none, unreadable_default, unreadable_defaults}

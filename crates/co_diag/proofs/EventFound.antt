@@ -19,9 +19,9 @@ use Rattle.co_params.specs.Judgement.{judged_set}
 use Rattle.co_params.proofs.WrittenLemmas.{Contains-filter_map, from_filter_map}
 use Rattle.co_project.specs.Project.{Content}
 use Rattle.co_network.specs.Network.{Member, member_at}
-use Rattle.co_diag.specs.declared.diag.Diag.{Diag}
-use Rattle.co_diag.specs.declared.subject.Subject.TheVariants as of
-use Rattle.co_diag.specs.Codes.{parameter_code}
+use Rattle.diag_lines.specs.declared.diag.Diag.{Diag}
+use Rattle.diag_lines.specs.declared.subject.Subject.TheVariants as of
+use Rattle.co_diag.specs.Faults.{parameter_code}
 use Rattle.co_diag.specs.Holds.{SetsUnfitValue, HoldsOf, Holds}
 use Rattle.co_diag.specs.Found.{said, set_fault, unfit_event}
 use Rattle.co_diag.proofs.MemberLemmas.{at_entry, entry_of}

@@ -7,18 +7,18 @@ use Rattle.co_params.specs.declared.parameter_fault.ParameterFault.TheVariants a
 use Rattle.pdo_plan.specs.declared.message_fault.MessageFault.TheVariants as message
 use Rattle.co_project.specs.Project.{Content}
 use Rattle.co_network.specs.Network.{project_plan}
-use Rattle.co_diag.specs.declared.code.Code.{Code}
-use Rattle.co_diag.specs.declared.code.Code.TheVariants.{NoEntry, Unreadable, OutsideLimits, NotWritable, NoObjects, TpdoTaken, TooManyBits, NotMappable, Mismatched, NoRpdo, NoDummy, BadIdentifier, NoIdentifier, ReservedType, SharedIdentifier, NotModelled, RemoteType, NoSync, UnfitConsumer, SkippedLine}
-use Rattle.co_diag.specs.declared.subject.Subject.{Subject}
-use Rattle.co_diag.specs.declared.subject.Subject.TheVariants as of
-use Rattle.co_diag.specs.declared.diag.Diag.{Diag}
+use Rattle.diag_lines.specs.declared.code.Code.{Code}
+use Rattle.diag_lines.specs.declared.code.Code.TheVariants.{NoEntry, Unreadable, OutsideLimits, NotWritable, NoObjects, TpdoTaken, TooManyBits, NotMappable, Mismatched, NoRpdo, NoDummy, BadIdentifier, NoIdentifier, ReservedType, SharedIdentifier, NotModelled, RemoteType, NoSync, UnfitConsumer, SkippedLine}
+use Rattle.diag_lines.specs.declared.subject.Subject.{Subject}
+use Rattle.diag_lines.specs.declared.subject.Subject.TheVariants as of
+use Rattle.diag_lines.specs.declared.diag.Diag.{Diag}
 use Rattle.co_diag.specs.Values.{members}
-use Rattle.co_diag.specs.Order.{diag_cmp}
-use Rattle.co_diag.specs.Sets.{IsListOf, sorted_set}
+use Rattle.diag_lines.specs.Order.{diag_cmp}
+use Rattle.diag_lines.specs.Sets.{IsListOf, sorted_set}
 use Rattle.co_diag.specs.Holds.{HoldsOf, Holds}
 use Rattle.co_diag.specs.Found.{said, unfit_parameters, unreadable_defaults, unfit_consumers, shared_identifiers, message_faults, remote_type, no_sync, unfit_event, skipped_lines, found, diagnostics_of}
-use Rattle.co_diag.proofs.OrderLemmas.{diag_total, diag_exact}
-use Rattle.co_diag.proofs.SetLemmas.{one_list, same_sets, set_is}
+use Rattle.diag_lines.proofs.OrderLemmas.{diag_total, diag_exact}
+use Rattle.diag_lines.proofs.SetLemmas.{one_list, same_sets, set_is}
 use Rattle.co_diag.proofs.ParameterFound.{parameters_hold, parameters_listed}
 use Rattle.co_diag.proofs.DefaultFound.{defaults_hold, defaults_listed}
 use Rattle.co_diag.proofs.ConsumerFound.{consumers_hold, consumers_listed}

@@ -1,6 +1,4 @@
 pub mod ListLemmas
-pub mod OrderLemmas
-pub mod SetLemmas
 pub mod MemberLemmas
 pub mod ParameterFound
 pub mod DefaultFound

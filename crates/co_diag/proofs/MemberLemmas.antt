@@ -25,7 +25,7 @@ use Rattle.co_project.specs.declared.node.Node.{Node}
 use Rattle.co_project.specs.Project.{Content}
 use Rattle.co_network.specs.Network.{Member, with_sections, member_at}
 use Rattle.co_diag.specs.Values.{members}
-use Rattle.co_diag.proofs.ListLemmas.{Contains-first, Contains-later}
+use Rattle.diag_lines.proofs.ListLemmas.{Contains-first, Contains-later}
 
 -- ---- tables
 

@@ -15,14 +15,15 @@ use Rattle.pdo_plan.specs.declared.outcome.Outcome.TheVariants.{Planned, Faulty}
 use Rattle.pdo_plan.specs.declared.planned_message.PlannedMessage.{PlannedMessage}
 use Rattle.co_project.specs.Project.{Content}
 use Rattle.co_network.specs.Network.{project_plan}
-use Rattle.co_diag.specs.declared.code.Code.{Code}
-use Rattle.co_diag.specs.declared.code.Code.TheVariants.{RemoteType, NoSync}
-use Rattle.co_diag.specs.declared.diag.Diag.{Diag}
-use Rattle.co_diag.specs.declared.subject.Subject.TheVariants as of
-use Rattle.co_diag.specs.Codes.{message_code}
+use Rattle.diag_lines.specs.declared.code.Code.{Code}
+use Rattle.diag_lines.specs.declared.code.Code.TheVariants.{RemoteType, NoSync}
+use Rattle.diag_lines.specs.declared.diag.Diag.{Diag}
+use Rattle.diag_lines.specs.declared.subject.Subject.TheVariants as of
+use Rattle.co_diag.specs.Faults.{message_code}
 use Rattle.co_diag.specs.Holds.{HasMessageFault, HasType, HoldsOf, Holds}
 use Rattle.co_diag.specs.Found.{said, message_faults, outcome_faults, remote_type, no_sync}
-use Rattle.co_diag.proofs.ListLemmas.{Contains-nil, Contains-map, from_map, Contains-flat_map, from_flat_map}
+use Rattle.diag_lines.proofs.ListLemmas.{Contains-nil}
+use Rattle.co_diag.proofs.ListLemmas.{Contains-map, from_map, Contains-flat_map, from_flat_map}
 use Rattle.co_diag.proofs.MemberLemmas.{at_entry, entry_of}
 
 -- ---- faults

@@ -18,9 +18,9 @@ use Rattle.co_params.specs.Parameters.{given_text, parameter_text}
 use Rattle.co_params.proofs.WrittenLemmas.{Contains-filter_map, from_filter_map}
 use Rattle.co_project.specs.Project.{Content}
 use Rattle.co_network.specs.Network.{Member, member_at}
-use Rattle.co_diag.specs.declared.diag.Diag.{Diag}
-use Rattle.co_diag.specs.declared.subject.Subject.TheVariants as of
-use Rattle.co_diag.specs.Codes.{parameter_code}
+use Rattle.diag_lines.specs.declared.diag.Diag.{Diag}
+use Rattle.diag_lines.specs.declared.subject.Subject.TheVariants as of
+use Rattle.co_diag.specs.Faults.{parameter_code}
 use Rattle.co_diag.specs.Values.{members}
 use Rattle.co_diag.specs.Holds.{HasUnfitParameter, HoldsOf, Holds}
 use Rattle.co_diag.specs.Found.{said, unfit_parameter, unfit_parameters}

@@ -11,11 +11,12 @@ use Rattle.eds_device.specs.Places.{pairs_of}
 use Rattle.co_params.proofs.WrittenLemmas.{Contains-filter_map, from_filter_map}
 use Rattle.co_project.specs.Project.{Content}
 use Rattle.co_network.specs.Network.{Member}
-use Rattle.co_diag.specs.declared.code.Code.TheVariants.{SharedIdentifier}
-use Rattle.co_diag.specs.declared.diag.Diag.{Diag}
-use Rattle.co_diag.specs.declared.subject.Subject.TheVariants as of
+use Rattle.diag_lines.specs.declared.code.Code.TheVariants.{SharedIdentifier}
+use Rattle.diag_lines.specs.declared.diag.Diag.{Diag}
+use Rattle.diag_lines.specs.declared.subject.Subject.TheVariants as of
 use Rattle.co_diag.specs.Values.{members, number_after}
-use Rattle.co_diag.specs.Holds.{HoldsOf, Holds, IsShared, is_on, identifier_in, sends_with, senders_with}
+use Rattle.diag_lines.specs.Identifiers.{identifier_in}
+use Rattle.co_diag.specs.Holds.{HoldsOf, Holds, IsShared, is_on, sends_with, senders_with}
 use Rattle.co_diag.specs.Found.{said, identifier_of, identifiers, shared_in, shared_identifiers}
 use Rattle.co_diag.proofs.ListLemmas.{length-filter_flat_map, length-filter_given, member_of_some}
 

@@ -6,9 +6,9 @@ use Rattle.std.proofs.lemmas.Cmp.{nat_list_cmp_total}
 use Rattle.std.proofs.lemmas.Map.Lookups.{exact_bytes}
 use Rattle.ini_text.specs.Content.{content_of}
 use Rattle.co_project.specs.Project.{Content}
-use Rattle.co_diag.specs.declared.code.Code.TheVariants.{SkippedLine}
-use Rattle.co_diag.specs.declared.diag.Diag.{Diag}
-use Rattle.co_diag.specs.declared.subject.Subject.TheVariants as of
+use Rattle.diag_lines.specs.declared.code.Code.TheVariants.{SkippedLine}
+use Rattle.diag_lines.specs.declared.diag.Diag.{Diag}
+use Rattle.diag_lines.specs.declared.subject.Subject.TheVariants as of
 use Rattle.co_diag.specs.Holds.{SkipsLine, HoldsOf, Holds}
 use Rattle.co_diag.specs.Found.{said, skipped_lines}
 use Rattle.co_diag.proofs.ListLemmas.{Contains-map, from_map, Contains-flat_map, from_flat_map}

@@ -19,11 +19,11 @@ use Rattle.co_project.specs.declared.node.Node.{Node}
 use Rattle.co_project.specs.Project.{Content}
 use Rattle.co_project.specs.Tables.{Texts, node_at, text_at}
 use Rattle.co_network.specs.Network.{Member, member_at, with_sections}
-use Rattle.co_diag.specs.declared.code.Code.TheVariants.{SkippedLine}
-use Rattle.co_diag.specs.declared.diag.Diag.{Diag}
-use Rattle.co_diag.specs.declared.subject.Subject.TheVariants as of
+use Rattle.diag_lines.specs.declared.code.Code.TheVariants.{SkippedLine}
+use Rattle.diag_lines.specs.declared.diag.Diag.{Diag}
+use Rattle.diag_lines.specs.declared.subject.Subject.TheVariants as of
 use Rattle.co_diag.specs.Devices.{device_fault, device_for, lines_at, member_of, of_node}
-use Rattle.co_diag.specs.Codes.{parameter_code}
+use Rattle.co_diag.specs.Faults.{parameter_code}
 use Rattle.co_diag.specs.Found.{said, set_fault, skipped_lines, unfit_event}
 use Rattle.co_diag.specs.Values.{members}
 

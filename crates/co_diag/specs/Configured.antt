@@ -18,11 +18,12 @@ use Rattle.pdo_plan.specs.declared.planned_message.PlannedMessage.{PlannedMessag
 use Rattle.pdo_links.specs.Writes.{node_writes}
 use Rattle.co_edits.specs.declared.manager_settings.ManagerSettings.{ManagerSettings}
 use Rattle.co_network.specs.Network.{Member}
-use Rattle.co_diag.specs.declared.code.Code.TheVariants.{UnfitConsumer}
+use Rattle.diag_lines.specs.declared.code.Code.TheVariants.{UnfitConsumer}
 use Rattle.co_diag.specs.declared.consumer.HeartbeatConsumer.{HeartbeatConsumer}
-use Rattle.co_diag.specs.declared.diag.Diag.{Diag}
-use Rattle.co_diag.specs.declared.subject.Subject.TheVariants as of
-use Rattle.co_diag.specs.Holds.{is_on, identifier_in, consumed_node, consumer_time}
+use Rattle.diag_lines.specs.declared.diag.Diag.{Diag}
+use Rattle.diag_lines.specs.declared.subject.Subject.TheVariants as of
+use Rattle.diag_lines.specs.Identifiers.{identifier_in}
+use Rattle.co_diag.specs.Holds.{is_on, consumed_node, consumer_time}
 use Rattle.co_diag.specs.Found.{said}
 use Rattle.co_diag.specs.Values.{written}
 

@@ -13,10 +13,10 @@ use Rattle.co_project.specs.Project.{Content}
 use Rattle.co_project.specs.Tables.{Texts, node_at, text_at}
 use Rattle.co_network.specs.Library.{Read}
 use Rattle.co_network.specs.Network.{Member}
-use Rattle.co_diag.specs.declared.code.Code.TheVariants.{SkippedLine}
-use Rattle.co_diag.specs.declared.diag.Diag.{Diag}
-use Rattle.co_diag.specs.declared.subject.Subject.TheVariants as of
-use Rattle.co_diag.specs.Codes.{parameter_code}
+use Rattle.diag_lines.specs.declared.code.Code.TheVariants.{SkippedLine}
+use Rattle.diag_lines.specs.declared.diag.Diag.{Diag}
+use Rattle.diag_lines.specs.declared.subject.Subject.TheVariants as of
+use Rattle.co_diag.specs.Faults.{parameter_code}
 use Rattle.co_diag.specs.Found.{said}
 
 -- the device of each text was read

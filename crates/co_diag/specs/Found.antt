@@ -25,15 +25,16 @@ use Rattle.pdo_plan.specs.declared.outcome.Outcome.TheVariants.{Planned, Faulty}
 use Rattle.pdo_plan.specs.declared.planned_message.PlannedMessage.{PlannedMessage}
 use Rattle.co_project.specs.Project.{Content}
 use Rattle.co_network.specs.Network.{Member, member_at, project_plan}
-use Rattle.co_diag.specs.declared.code.Code.{Code}
-use Rattle.co_diag.specs.declared.code.Code.TheVariants.{Unreadable, SharedIdentifier, RemoteType, NoSync, UnfitConsumer, SkippedLine}
-use Rattle.co_diag.specs.declared.subject.Subject.{Subject}
-use Rattle.co_diag.specs.declared.subject.Subject.TheVariants as of
-use Rattle.co_diag.specs.declared.diag.Diag.{Diag}
-use Rattle.co_diag.specs.Codes.{parameter_code, message_code}
-use Rattle.co_diag.specs.Holds.{is_on, identifier_in, is_unfit}
-use Rattle.co_diag.specs.Order.{diag_cmp}
-use Rattle.co_diag.specs.Sets.{sorted_set}
+use Rattle.diag_lines.specs.declared.code.Code.{Code}
+use Rattle.diag_lines.specs.declared.code.Code.TheVariants.{Unreadable, SharedIdentifier, RemoteType, NoSync, UnfitConsumer, SkippedLine}
+use Rattle.diag_lines.specs.declared.subject.Subject.{Subject}
+use Rattle.diag_lines.specs.declared.subject.Subject.TheVariants as of
+use Rattle.diag_lines.specs.declared.diag.Diag.{Diag}
+use Rattle.co_diag.specs.Faults.{parameter_code, message_code}
+use Rattle.diag_lines.specs.Identifiers.{identifier_in}
+use Rattle.co_diag.specs.Holds.{is_on, is_unfit}
+use Rattle.diag_lines.specs.Order.{diag_cmp}
+use Rattle.diag_lines.specs.Sets.{sorted_set}
 use Rattle.co_diag.specs.Values.{members, number_after}
 
 abbrev pub said : Code → Subject → Diag

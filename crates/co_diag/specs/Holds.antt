@@ -25,11 +25,12 @@ use Rattle.pdo_plan.specs.declared.outcome.Outcome.TheVariants.{Faulty}
 use Rattle.pdo_plan.specs.declared.planned_message.PlannedMessage.{PlannedMessage}
 use Rattle.co_project.specs.Project.{Content}
 use Rattle.co_network.specs.Network.{Member, member_at, project_plan}
-use Rattle.co_diag.specs.declared.code.Code.{Code}
-use Rattle.co_diag.specs.declared.code.Code.TheVariants.{NoEntry, Unreadable, OutsideLimits, NotWritable, NoObjects, TpdoTaken, TooManyBits, NotMappable, Mismatched, NoRpdo, NoDummy, BadIdentifier, NoIdentifier, ReservedType, SharedIdentifier, NotModelled, RemoteType, NoSync, UnfitConsumer, SkippedLine}
-use Rattle.co_diag.specs.declared.subject.Subject.{Subject}
-use Rattle.co_diag.specs.declared.subject.Subject.TheVariants as of
-use Rattle.co_diag.specs.declared.diag.Diag.{Diag}
+use Rattle.diag_lines.specs.declared.code.Code.{Code}
+use Rattle.diag_lines.specs.declared.code.Code.TheVariants.{NoEntry, Unreadable, OutsideLimits, NotWritable, NoObjects, TpdoTaken, TooManyBits, NotMappable, Mismatched, NoRpdo, NoDummy, BadIdentifier, NoIdentifier, ReservedType, SharedIdentifier, NotModelled, RemoteType, NoSync, UnfitConsumer, SkippedLine}
+use Rattle.diag_lines.specs.declared.subject.Subject.{Subject}
+use Rattle.diag_lines.specs.declared.subject.Subject.TheVariants as of
+use Rattle.diag_lines.specs.declared.diag.Diag.{Diag}
+use Rattle.diag_lines.specs.Identifiers.{identifier_in}
 use Rattle.co_diag.specs.Values.{members, number_after}
 
 -- a parameter of a node, its own or one of the EDS, has this fault
@@ -78,12 +79,9 @@ pub record HasType (p : Content) (test : ℕ → Bool) (name : List ℕ) : Type 
   pub there : get p.messages name ≡ Some linked
   pub fits : test linked.message.transmission ≡ true
 
--- the COB-ID of a PDO (CiA 301): it is on and of 11 bits where bits 31 and 29 are clear; its identifier is bits 0 to 10
+-- the COB-ID of a PDO (CiA 301): it is on and of 11 bits where bits 31 and 29 are clear
 abbrev pub is_on : ℕ → Bool
 is_on cob = nat_lt cob 0x80000000 && cob / 0x20000000 % 2 == 0
-
-abbrev pub identifier_in : ℕ → ℕ
-identifier_in cob = cob % 0x800
 
 -- a TPDO of a node that is on with an identifier
 unfoldable pub sends_with : Content → ℕ → ℕ × Member → ℕ × ℕ → Bool

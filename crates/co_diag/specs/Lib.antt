@@ -1,10 +1,7 @@
-pub mod Codes
-pub mod Order
-pub mod Sets
+pub mod Faults
 pub mod Values
 pub mod Holds
 pub mod Found
-pub mod Lines
 pub mod Devices
 pub mod Configured
 pub mod Counts

@@ -3,11 +3,9 @@ ghost use Rattle.std.specs.Prelude.{◌≡◌, ◌++◌, ◌==◌, OnOk, filter_
 ghost use Rattle.std.specs.List.{find};
 ghost use Rattle.co_diag.specs.Configured.{producer_among, unfit_among, unfit_said};
 
-use crate::code::Code;
 use crate::consumer::HeartbeatConsumer;
-use crate::diag::Diag;
-use crate::subject::Subject;
 use co_project::Project;
+use diag_lines::{Code, Diag, Subject};
 use std::alloc::AllocError;
 
 /// The node of a number and its time.

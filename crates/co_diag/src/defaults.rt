@@ -6,14 +6,12 @@ ghost use Rattle.co_diag.specs.Devices.{AreAllRead, member_of, of_node};
 ghost use Rattle.co_diag.specs.Found.{spells_none, unreadable_default, unreadable_defaults};
 ghost use Rattle.co_diag.specs.Values.{members};
 
-use crate::code::Code;
 use crate::devices::device_of;
-use crate::diag::Diag;
-use crate::subject::Subject;
 use co_dict::Entry;
 use co_network::Library;
 use co_project::Node;
 use co_values::value_of;
+use diag_lines::{Code, Diag, Subject};
 use eds_device::Device;
 use std::alloc::{AllocError, Global};
 

@@ -5,12 +5,11 @@ ghost use Rattle.co_diag.specs.Devices.{AreAllRead, device_fault, device_for};
 ghost use Rattle.co_diag.specs.Found.{unfit_event};
 
 use crate::devices::device_of;
-use crate::diag::Diag;
 use crate::parameters::parameter_code;
-use crate::subject::Subject;
 use co_network::Library;
 use co_params::judge_set;
 use co_scenario::Event;
+use diag_lines::{Diag, Subject};
 use eds_device::Device;
 use std::alloc::{AllocError, Global};
 

@@ -10,16 +10,15 @@ ghost use Rattle.co_diag.specs.Values.{members};
 use crate::consumers::find_unfit_consumers;
 use crate::defaults::find_unreadable_defaults;
 use crate::devices::read_all;
-use crate::diag::Diag;
 use crate::events::find_unfit_events;
 use crate::kept::keep_all;
 use crate::messages::{find_message_faults, find_no_syncs, find_remote_types};
 use crate::parameters::find_unfit_parameters;
 use crate::shared::find_shared;
-use crate::sorting::sort_once;
 use crate::texts::find_skipped_lines;
 use co_network::Library;
 use co_project::Project;
+use diag_lines::{Diag, sort_once};
 use pdo_plan::Plan;
 use std::alloc::{AllocError, Global};
 

@@ -1,9 +1,9 @@
 //! Laws of the diagnostics of a project.
 ghost use Rattle.std.specs.Prelude.{◌≡◌, List};
 ghost use Rattle.co_project.specs.Project.{Content};
-ghost use Rattle.co_diag.specs.declared.diag.Diag.{Diag};
-ghost use Rattle.co_diag.specs.Order.{diag_cmp};
-ghost use Rattle.co_diag.specs.Sets.{IsListOf};
+ghost use Rattle.diag_lines.specs.declared.diag.Diag.{Diag};
+ghost use Rattle.diag_lines.specs.Order.{diag_cmp};
+ghost use Rattle.diag_lines.specs.Sets.{IsListOf};
 ghost use Rattle.co_diag.specs.Holds.{Holds};
 ghost use Rattle.co_diag.specs.Found.{diagnostics_of};
 

@@ -2,16 +2,13 @@
 ghost use Rattle.std.specs.Prelude.{◌≡◌, ◌++◌, ◌∷◌, [], OnOk, IfOk, map, filter_map};
 ghost use Rattle.std.specs.FinMap as table;
 ghost use Rattle.std.specs.List.{flat_map};
-ghost use Rattle.co_diag.specs.declared.subject.Subject.TheVariants as of;
-ghost use Rattle.co_diag.specs.Codes.{message_code};
+ghost use Rattle.diag_lines.specs.declared.subject.Subject.TheVariants as of;
+ghost use Rattle.co_diag.specs.Faults.{message_code};
 ghost use Rattle.co_diag.specs.Found.{said, message_faults, remote_type, no_sync};
 
-use crate::code::Code;
-use crate::diag::Diag;
-use crate::name::Name;
-use crate::subject::Subject;
 use co_messages::Linked;
 use co_project::Project;
+use diag_lines::{Code, Diag, Name, Subject};
 use pdo_plan::{MessageFault, Outcome, Plan, PlannedMessage};
 use std::alloc::{AllocError, Global};
 

@@ -3,18 +3,16 @@ ghost use Rattle.std.specs.Prelude.{◌≡◌, ◌++◌, OnOk, IfOk, filter_map}
 ghost use Rattle.std.specs.FinMap as table;
 ghost use Rattle.std.specs.List.{flat_map};
 ghost use Rattle.eds_device.specs.Places.{pairs_of};
-ghost use Rattle.co_diag.specs.Codes.{parameter_code};
+ghost use Rattle.co_diag.specs.Faults.{parameter_code};
 ghost use Rattle.co_diag.specs.Devices.{AreAllRead, member_of, of_node};
 ghost use Rattle.co_diag.specs.Found.{unfit_parameter, unfit_parameters};
 ghost use Rattle.co_diag.specs.Values.{members};
 
-use crate::code::Code;
 use crate::devices::device_of;
-use crate::diag::Diag;
-use crate::subject::Subject;
 use co_network::Library;
 use co_params::{ParameterFault, judge, parameter_text};
 use co_project::Node;
+use diag_lines::{Code, Diag, Subject};
 use eds_device::Device;
 use std::alloc::{AllocError, Global};
 

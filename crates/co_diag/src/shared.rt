@@ -3,11 +3,8 @@ ghost use Rattle.std.specs.Prelude.{◌≡◌, ◌++◌, ◌==◌, ℕ, OnOk, fi
 ghost use Rattle.co_diag.specs.Counts.{capped, one_more, shared_among};
 ghost use Rattle.co_diag.specs.Found.{shared_in};
 
-use crate::code::Code;
-use crate::diag::Diag;
-use crate::identifier::Identifier;
-use crate::subject::Subject;
 use co_dict::is_restricted;
+use diag_lines::{Code, Diag, Identifier, Subject};
 use std::alloc::AllocError;
 
 /// How often each identifier is had: never, once, or 2 for twice and more.

@@ -2,17 +2,14 @@
 ghost use Rattle.std.specs.Prelude.{◌≡◌, ◌++◌, OnOk, IfOk, map};
 ghost use Rattle.std.specs.FinMap as table;
 ghost use Rattle.std.specs.List.{flat_map};
-ghost use Rattle.co_diag.specs.declared.code.Code.TheVariants.{SkippedLine};
-ghost use Rattle.co_diag.specs.declared.subject.Subject.TheVariants as of;
+ghost use Rattle.diag_lines.specs.declared.code.Code.TheVariants.{SkippedLine};
+ghost use Rattle.diag_lines.specs.declared.subject.Subject.TheVariants as of;
 ghost use Rattle.co_diag.specs.Devices.{AreAllRead, lines_at};
 ghost use Rattle.co_diag.specs.Found.{said, skipped_lines};
 
-use crate::code::Code;
 use crate::devices::device_of;
-use crate::diag::Diag;
-use crate::name::Name;
-use crate::subject::Subject;
 use co_network::Library;
+use diag_lines::{Code, Diag, Name, Subject};
 use std::alloc::{AllocError, Global};
 
 /// Says that a line isn't used.

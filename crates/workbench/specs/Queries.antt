@@ -12,7 +12,7 @@ use Rattle.co_commands.specs.declared.query.Query.TheVariants.{Dcf, Cdcf, Diag, 
 use Rattle.co_project.specs.Project.{Content}
 use Rattle.co_project.specs.Script.{script}
 use Rattle.co_diag.specs.Found.{diagnostics_of}
-use Rattle.co_diag.specs.Lines.{diag_text}
+use Rattle.diag_lines.specs.Lines.{diag_text}
 use Rattle.co_network.specs.Network.{Member, member_at, writes_of}
 use Rattle.workbench.specs.Hex.{hex_text}
 

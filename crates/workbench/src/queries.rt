@@ -24,7 +24,7 @@ pub fn answer(alloc: Global, workbench: &mut Workbench, query: Query) -> Result<
         }
         Query::Diag => {
             let found = workbench.diagnostics()?;
-            Ok(co_diag::text(alloc, &found)?)
+            Ok(diag_lines::text(alloc, &found)?)
         }
         Query::Project => Ok(workbench.script()?),
     }

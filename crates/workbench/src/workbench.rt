@@ -13,10 +13,11 @@ ghost use Rattle.workbench.specs.Queries.{or_unknown, dcf_of, concise_of};
 
 use crate::configured::configuration;
 use crate::member::fill_plan;
-use co_diag::{Diag, diagnostics_by};
+use co_diag::diagnostics_by;
 use co_network::Library;
 use co_project::{Command, EditFault, Project};
 use concise_dcf::{Write, encode};
+use diag_lines::Diag;
 use eds_dcf::dcf_text;
 use pdo_links::Plan;
 use std::alloc::{AllocError, Global};

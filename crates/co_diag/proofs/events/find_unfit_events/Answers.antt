@@ -1,5 +1,5 @@
 use Rattle.std.proofs.Common.{◌≡◌, ◌∙◌, List, [], ◌++◌, ap, rules}
-use Rattle.co_diag.specs.declared.diag.Diag.{Diag}
+use Rattle.diag_lines.specs.declared.diag.Diag.{Diag}
 use Rattle.co_diag.proofs.WalkLemmas.{all_events, event_fault, picks_end}
 use Rattle.co_diag.proofs.events.find_unfit_events.Goals as goal
 

@@ -1,6 +1,6 @@
 use Rattle.std.proofs.Common.{◌≡◌, ◌++◌, map, take}
-use Rattle.co_diag.specs.declared.subject.Subject.TheVariants as of
-use Rattle.co_diag.specs.Codes.{message_code}
+use Rattle.diag_lines.specs.declared.subject.Subject.TheVariants as of
+use Rattle.co_diag.specs.Faults.{message_code}
 use Rattle.co_diag.specs.Found.{said}
 use Rattle.co_diag.proofs.messages.find_faults.Given as goal
 

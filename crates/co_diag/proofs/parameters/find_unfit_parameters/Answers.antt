@@ -1,6 +1,6 @@
 use Rattle.std.proofs.Common.{◌≡◌, ◌∙◌, ℕ, List, [], ◌∷◌, ◌++◌, ap, rules}
 use Rattle.co_project.specs.declared.node.Node.{Node}
-use Rattle.co_diag.specs.declared.diag.Diag.{Diag}
+use Rattle.diag_lines.specs.declared.diag.Diag.{Diag}
 use Rattle.co_diag.specs.Devices.{of_node}
 use Rattle.co_diag.specs.Found.{unfit_parameters}
 use Rattle.co_diag.proofs.WalkLemmas.{all_members, walk_ends, walk_on}

@@ -1,6 +1,6 @@
 use Rattle.std.proofs.Common.{◌≡◌, ◌++◌, map, take}
-use Rattle.co_diag.specs.declared.code.Code.TheVariants.{SkippedLine}
-use Rattle.co_diag.specs.declared.subject.Subject.TheVariants as of
+use Rattle.diag_lines.specs.declared.code.Code.TheVariants.{SkippedLine}
+use Rattle.diag_lines.specs.declared.subject.Subject.TheVariants as of
 use Rattle.co_diag.specs.Found.{said}
 use Rattle.co_diag.proofs.texts.find_lines.Given as goal
 

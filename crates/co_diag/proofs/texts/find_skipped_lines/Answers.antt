@@ -1,6 +1,6 @@
 use Rattle.std.proofs.Common.{◌≡◌, ◌∙◌, ℕ, List, [], ◌∷◌, ◌++◌, ap, rules}
 use Rattle.co_project.specs.Tables.{texts_of}
-use Rattle.co_diag.specs.declared.diag.Diag.{Diag}
+use Rattle.diag_lines.specs.declared.diag.Diag.{Diag}
 use Rattle.co_diag.specs.Devices.{lines_at}
 use Rattle.co_diag.proofs.WalkLemmas.{all_lines, walk_ends, walk_on}
 use Rattle.co_diag.proofs.texts.find_skipped_lines.Goals as goal

@@ -1,6 +1,6 @@
 //! A diagnostic.
 ghost use Rattle.std.specs.Prelude.{◌≡◌, IfOk};
-ghost use Rattle.co_diag.specs.Lines.{diag_line};
+ghost use Rattle.diag_lines.specs.Lines.{diag_line};
 
 use crate::code::Code;
 use crate::lines::write_line;

@@ -4,11 +4,11 @@ use Rattle.std.specs.List.{flat_map}
 use Rattle.std.specs.Str.{byte}
 use Rattle.co_text.specs.Digits.{byte_digits, index_digits, identifier_digits}
 use Rattle.co_text.specs.Lines.{line_feed}
-use Rattle.co_diag.specs.declared.code.Code.{Code}
-use Rattle.co_diag.specs.declared.subject.Subject.{Subject}
-use Rattle.co_diag.specs.declared.subject.Subject.TheVariants.{Cob, Default, Eds, Event, Message, Node, Param}
-use Rattle.co_diag.specs.declared.diag.Diag.{Diag}
-use Rattle.co_diag.specs.Codes.{number_of}
+use Rattle.diag_lines.specs.declared.code.Code.{Code}
+use Rattle.diag_lines.specs.declared.subject.Subject.{Subject}
+use Rattle.diag_lines.specs.declared.subject.Subject.TheVariants.{Cob, Default, Eds, Event, Message, Node, Param}
+use Rattle.diag_lines.specs.declared.diag.Diag.{Diag}
+use Rattle.diag_lines.specs.Codes.{number_of}
 
 -- E for an error, W for a warning, and the number in two digits
 abbrev pub code_word : Code → List ℕ

@@ -4,7 +4,7 @@ ghost use Rattle.std.proofs.Common.{rules};
 ghost use Rattle.std.specs.Cmp as Cmp;
 ghost use Rattle.std.specs.Cmp.Rules.{comparing};
 ghost use Rattle.std.specs.Ordering.{nat_cmp, on, as_partial_cmp};
-ghost use Rattle.co_diag.specs.Codes.{number_of};
+ghost use Rattle.diag_lines.specs.Codes.{number_of};
 
 use std::cmp::Ordering;
 

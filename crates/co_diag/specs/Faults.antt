@@ -1,33 +1,10 @@
--- The codes of diagnostics and their numbers (this profile's own): up to 16 errors, from 17 on warnings.
-use Rattle.std.specs.Prelude.{ℕ}
+-- The codes of faults (this profile's own).
 use Rattle.co_params.specs.declared.parameter_fault.ParameterFault.{ParameterFault}
 use Rattle.co_params.specs.declared.parameter_fault.ParameterFault.TheVariants as parameter
 use Rattle.pdo_plan.specs.declared.message_fault.MessageFault.{MessageFault}
 use Rattle.pdo_plan.specs.declared.message_fault.MessageFault.TheVariants as message
-use Rattle.co_diag.specs.declared.code.Code.{Code}
-use Rattle.co_diag.specs.declared.code.Code.TheVariants.{NoEntry, Unreadable, OutsideLimits, NotWritable, NoObjects, TpdoTaken, TooManyBits, NotMappable, Mismatched, NoRpdo, NoDummy, BadIdentifier, NoIdentifier, ReservedType, SharedIdentifier, NotModelled, RemoteType, NoSync, UnfitConsumer, SkippedLine}
-
-unfoldable pub number_of : Code → ℕ
-number_of NoEntry = 1
-number_of Unreadable = 2
-number_of OutsideLimits = 3
-number_of NotWritable = 4
-number_of NoObjects = 5
-number_of TpdoTaken = 6
-number_of TooManyBits = 7
-number_of NotMappable = 8
-number_of Mismatched = 9
-number_of NoRpdo = 10
-number_of NoDummy = 11
-number_of BadIdentifier = 12
-number_of NoIdentifier = 13
-number_of ReservedType = 14
-number_of SharedIdentifier = 15
-number_of NotModelled = 16
-number_of RemoteType = 17
-number_of NoSync = 18
-number_of UnfitConsumer = 19
-number_of SkippedLine = 20
+use Rattle.diag_lines.specs.declared.code.Code.{Code}
+use Rattle.diag_lines.specs.declared.code.Code.TheVariants.{NoEntry, Unreadable, OutsideLimits, NotWritable, NoObjects, TpdoTaken, TooManyBits, NotMappable, Mismatched, NoRpdo, NoDummy, BadIdentifier, NoIdentifier, ReservedType, NotModelled}
 
 -- the code of a fault of a parameter, or of what an event sets
 abbrev pub parameter_code : ParameterFault → Code

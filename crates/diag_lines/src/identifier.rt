@@ -5,7 +5,7 @@ ghost use Rattle.std.specs.Cmp as Cmp;
 ghost use Rattle.std.specs.Cmp.Rules.{comparing};
 ghost use Rattle.std.specs.Ordering.{nat_cmp, as_partial_cmp};
 ghost use Rattle.co_text.specs.Digits.{identifier_digits};
-ghost use Rattle.co_diag.specs.Holds.{identifier_in};
+ghost use Rattle.diag_lines.specs.Identifiers.{identifier_in};
 
 use std::cmp::Ordering;
 use std::marker::Model;
@@ -45,7 +45,7 @@ impl Identifier {
     }
 
     /// The same identifier.
-    pub(crate) fn copy(&self) -> Self
+    pub fn copy(&self) -> Self
         ensures { result ≡ self.now }
     {
         Identifier {

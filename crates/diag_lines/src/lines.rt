@@ -6,7 +6,7 @@ ghost use Rattle.std.specs.Prelude.{◌≡◌, ◌++◌, ◌∷◌, decimal, IfO
 ghost use Rattle.std.specs.Str.{byte};
 ghost use Rattle.std.specs.List.{flat_map};
 ghost use Rattle.co_text.specs.Digits.{byte_digits, index_digits};
-ghost use Rattle.co_diag.specs.Lines.{code_word, subject_words, diag_line, diag_text};
+ghost use Rattle.diag_lines.specs.Lines.{code_word, subject_words, diag_line, diag_text};
 
 use crate::code::Code;
 use crate::diag::Diag;

@@ -4,10 +4,10 @@ use Rattle.std.specs.declared.cmp.Ordering.{Ordering}
 use Rattle.std.specs.declared.cmp.Ordering.TheVariants.{Less, Greater}
 use Rattle.std.specs.Ordering.{nat_cmp, ordering_then}
 use Rattle.std.specs.Cmp.Lexicographic.{slice_cmp}
-use Rattle.co_diag.specs.Codes.{number_of}
-use Rattle.co_diag.specs.declared.subject.Subject.{Subject}
-use Rattle.co_diag.specs.declared.subject.Subject.TheVariants.{Cob, Default, Eds, Event, Message, Node, Param}
-use Rattle.co_diag.specs.declared.diag.Diag.{Diag}
+use Rattle.diag_lines.specs.Codes.{number_of}
+use Rattle.diag_lines.specs.declared.subject.Subject.{Subject}
+use Rattle.diag_lines.specs.declared.subject.Subject.TheVariants.{Cob, Default, Eds, Event, Message, Node, Param}
+use Rattle.diag_lines.specs.declared.diag.Diag.{Diag}
 
 -- a word of a subject
 pub data Word : Type 0 where

@@ -9,8 +9,8 @@ use Rattle.std.specs.Cmp.{IsTotalOrder}
 use Rattle.std.specs.BTreeSet.{insert_key}
 use Rattle.std.proofs.lemmas.Cmp.{tied_itself}
 use Rattle.std.proofs.lemmas.Map.Lookups.{CmpEqualImpliesEq}
-use Rattle.co_diag.specs.Sets.{IsListOf, sorted_set}
-use Rattle.co_diag.proofs.ListLemmas.{Contains-nil, Contains-first, Contains-later, Contains-cases}
+use Rattle.diag_lines.specs.Sets.{IsListOf, sorted_set}
+use Rattle.diag_lines.proofs.ListLemmas.{Contains-nil, Contains-first, Contains-later, Contains-cases}
 
 module _ {X : Type 0} where
   all_from : (P : X → Type 0) (xs : List X) → ((x : X) → Contains xs x → P x) → AllByRecursion P xs

@@ -1,7 +1,7 @@
 use Rattle.std.proofs.Common.{arith}
 use Rattle.std.proofs.lemmas.Grind.{common_steps}
-use Rattle.co_diag.specs.Lines.{diag_text}
-use Rattle.co_diag.proofs.lines.text.Goals as goal
+use Rattle.diag_lines.specs.Lines.{diag_text}
+use Rattle.diag_lines.proofs.lines.text.Goals as goal
 
 pub loop-diag-preserved : goal.loop-diag-preserved
 unfolding diag_text

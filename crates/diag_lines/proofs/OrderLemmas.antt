@@ -9,17 +9,17 @@ use Rattle.std.specs.List.Sorted.{IsSorted, IsStrictlySortedBy}
 use Rattle.std.proofs.lemmas.List.Kept.{IsStrictlySortedBy-dedup}
 use Rattle.std.proofs.lemmas.Map.Lookups.{CmpEqualImpliesEq, exact_unsigned, exact_bytes}
 use Rattle.std.specs.Cmp.Lexicographic.{slice_cmp}
-use Rattle.co_diag.specs.declared.code.Code.{Code}
-use Rattle.co_diag.specs.declared.code.Code.TheVariants.{NoEntry, Unreadable, OutsideLimits, NotWritable, NoObjects, TpdoTaken, TooManyBits, NotMappable, Mismatched, NoRpdo, NoDummy, BadIdentifier, NoIdentifier, ReservedType, SharedIdentifier, NotModelled, RemoteType, NoSync, UnfitConsumer, SkippedLine}
-use Rattle.co_diag.specs.declared.subject.Subject.{Subject}
-use Rattle.co_diag.specs.declared.subject.Subject.TheVariants.{Cob, Default, Eds, Event, Message, Node, Param}
-use Rattle.co_diag.specs.declared.diag.Diag.{Diag}
-use Rattle.co_diag.specs.contracts.subject.SubjectOrd.TheImpl as subject_ord
-use Rattle.co_diag.specs.contracts.diag.DiagOrd.TheImpl as diag_ord
-use Rattle.co_diag.specs.contracts.diag.DiagPartialEq.TheImpl as diag_eq
-use Rattle.co_diag.specs.contracts.diag.DiagOrd.TheImpl.Laws.{total-law, matches_eq-law}
-use Rattle.co_diag.specs.Codes.{number_of}
-use Rattle.co_diag.specs.Order.{word_cmp, words_of, diag_cmp}
+use Rattle.diag_lines.specs.declared.code.Code.{Code}
+use Rattle.diag_lines.specs.declared.code.Code.TheVariants.{NoEntry, Unreadable, OutsideLimits, NotWritable, NoObjects, TpdoTaken, TooManyBits, NotMappable, Mismatched, NoRpdo, NoDummy, BadIdentifier, NoIdentifier, ReservedType, SharedIdentifier, NotModelled, RemoteType, NoSync, UnfitConsumer, SkippedLine}
+use Rattle.diag_lines.specs.declared.subject.Subject.{Subject}
+use Rattle.diag_lines.specs.declared.subject.Subject.TheVariants.{Cob, Default, Eds, Event, Message, Node, Param}
+use Rattle.diag_lines.specs.declared.diag.Diag.{Diag}
+use Rattle.diag_lines.specs.contracts.subject.SubjectOrd.TheImpl as subject_ord
+use Rattle.diag_lines.specs.contracts.diag.DiagOrd.TheImpl as diag_ord
+use Rattle.diag_lines.specs.contracts.diag.DiagPartialEq.TheImpl as diag_eq
+use Rattle.diag_lines.specs.contracts.diag.DiagOrd.TheImpl.Laws.{total-law, matches_eq-law}
+use Rattle.diag_lines.specs.Codes.{number_of}
+use Rattle.diag_lines.specs.Order.{word_cmp, words_of, diag_cmp}
 
 then_equal : (o : Ordering) → o ≡ ordering_then o Equal
 then_equal Less = refl

@@ -1,10 +1,10 @@
 use Rattle.std.proofs.lemmas.List.Filters.{dedup_is}
 use Rattle.std.proofs.lemmas.List.Kept.{Contains-dedup, Contains-from_dedup}
 use Rattle.std.proofs.lemmas.List.Sorted.{Contains-permutation, IsPermutation-sym}
-use Rattle.co_diag.specs.contracts.diag.DiagEq.TheImpl.Laws as diag_equal
-use Rattle.co_diag.proofs.OrderLemmas.{diag_total, diag_exact, equal_exact, once_in_order}
-use Rattle.co_diag.proofs.SetLemmas.{the_set}
-use Rattle.co_diag.proofs.sorting.sort_once.Goals as goal
+use Rattle.diag_lines.specs.contracts.diag.DiagEq.TheImpl.Laws as diag_equal
+use Rattle.diag_lines.proofs.OrderLemmas.{diag_total, diag_exact, equal_exact, once_in_order}
+use Rattle.diag_lines.proofs.SetLemmas.{the_set}
+use Rattle.diag_lines.proofs.sorting.sort_once.Goals as goal
 
 pub returns : goal.returns
 returns c =

@@ -1,0 +1,5 @@
+pub mod Codes
+pub mod Identifiers
+pub mod Order
+pub mod Sets
+pub mod Lines
