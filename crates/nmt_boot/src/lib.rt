@@ -1,0 +1,16 @@
+//! The NMT manager of a network, and the boot of its nodes.
+#![tactic(auto)]
+
+mod boot_stage;
+mod booting;
+mod boots;
+mod note;
+mod turn;
+mod word;
+
+pub use boot_stage::BootStage;
+pub use booting::Booting;
+pub use boots::Boots;
+pub use note::Note;
+pub use turn::Turn;
+pub use word::Word;
