@@ -3,6 +3,7 @@
 
 mod content;
 mod identity;
+mod moments;
 mod part;
 mod read;
 mod roster;
@@ -10,6 +11,7 @@ mod window;
 
 pub use content::PartContent;
 pub use identity::Identity;
+pub use moments::END;
 pub use part::Part;
 pub use read::Read;
 pub use roster::Roster;
