@@ -3,6 +3,7 @@
 
 mod defaults;
 mod device_state;
+pub mod laws;
 mod learnt;
 mod nmt_state;
 mod receiving;
