@@ -1,2 +1,3 @@
 pub mod MomentLemmas
 pub mod PartLemmas
+pub mod StateLemmas

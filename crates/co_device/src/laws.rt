@@ -1,11 +1,14 @@
 //! Laws of devices, each a function whose contract is the law.
 
-ghost use Rattle.std.specs.Prelude.{◌≡◌, ◌<◌, ◌≤◌, ◌+◌, ℕ, Bool, All, IfSome};
+ghost use Rattle.std.specs.Prelude.{◌≡◌, ◌<◌, ◌≤◌, ◌+◌, ◌⊎◌, ℕ, Bool, true, false, All, IfSome, remove};
 ghost use Rattle.asking.specs.Asking.{outcome, reads};
 ghost use Rattle.can_frame.specs.Frames.{BaseFrame};
 ghost use Rattle.co_parts.specs.Contents.{Image};
 ghost use Rattle.co_device.specs.Ahead.{IsAhead, IsOwnPart};
-ghost use Rattle.co_device.specs.Device.{Device, next_due, powered, received, timers};
+ghost use Rattle.co_device.specs.Device.{Device, is_in, next_due, powered, received, stop_remote_node, timers, without_power};
+ghost use Rattle.co_device.specs.States.{HasBooted, IsSilent, SaysNothing, nmt_message};
+
+use crate::nmt_state::NmtState;
 
 /// Before its next due moment nothing happens to a device of itself.
 #[tactic(auto, using(crate::proofs::MomentLemmas::quiet))]
@@ -31,4 +34,26 @@ pub fn what_comes_is_due_later()
 pub fn a_device_reads_its_own_parts()
     ensures frame { (image : Image) (t : ℕ) (frame : BaseFrame) (d : Device) → All (λ r. IsOwnPart d.number r.0) (reads (received t frame d) image) }
     ensures power { (image : Image) (t : ℕ) (on : Bool) (d : Device) → All (λ r. IsOwnPart d.number r.0) (reads (powered on t d) image) }
+{}
+
+/// Power-on and both resets end with the boot-up message, which waits alone.
+#[tactic(auto, using(crate::proofs::StateLemmas::power_boots, crate::proofs::StateLemmas::reset_node_boots, crate::proofs::StateLemmas::reset_communication_boots))]
+pub fn a_reset_ends_with_the_boot_up()
+    ensures power { (image : Image) (t : ℕ) (d : Device) → d.has_power ≡ false → HasBooted d.number (outcome (powered true t d) image) }
+    ensures node { (image : Image) (t node : ℕ) (d : Device) → d.has_power ≡ true → (node ≡ 0) ⊎ (node ≡ d.number)
+        → HasBooted d.number (outcome (received t (nmt_message 129 node) d) image) }
+    ensures communication { (image : Image) (t node : ℕ) (d : Device) → d.has_power ≡ true → (node ≡ 0) ⊎ (node ≡ d.number)
+        → HasBooted d.number (outcome (received t (nmt_message 130 node) d) image) }
+{}
+
+/// In Stopped no answer of the SDO server waits and no transfer is open: entering it drops them, and
+/// nothing that happens to the device brings one.
+#[tactic(auto, using(crate::proofs::StateLemmas::stop_says_nothing, crate::proofs::StateLemmas::frame_is_silent, crate::proofs::StateLemmas::power_is_silent, crate::proofs::StateLemmas::timers_are_silent, crate::proofs::StateLemmas::sending_is_silent))]
+pub fn a_stopped_device_says_nothing_by_sdo()
+    ensures entered { (d : Device) → is_in NmtState.Stopped d ≡ false → SaysNothing (stop_remote_node d) }
+    ensures new { (spent : Bool) (number : ℕ) → IsSilent (without_power spent number) }
+    ensures frame { (image : Image) (t : ℕ) (frame : BaseFrame) (d : Device) → IsSilent d → IsSilent (outcome (received t frame d) image) }
+    ensures power { (image : Image) (t : ℕ) (on : Bool) (d : Device) → IsSilent d → IsSilent (outcome (powered on t d) image) }
+    ensures instant { (t : ℕ) (d : Device) → IsSilent d → IsSilent (timers t d) }
+    ensures sent { (place : ℕ) (d : Device) → IsSilent d → IsSilent (record d { waiting = remove d.waiting place }) }
 {}
