@@ -11,7 +11,7 @@ use Rattle.co_parts.specs.declared.part.Part.{Part}
 use Rattle.co_parts.specs.declared.part.Part.TheVariants.{Shape}
 use Rattle.co_sdo.specs.Server.{Answered, answered}
 use Rattle.co_device.specs.Ahead.{IsAhead}
-use Rattle.co_device.specs.Device.{Device, Learnt, after_request, after_write, answer_frames, enter_pre_operational, heartbeat_started, initialised, is_addressed, is_due, is_in, is_producer_time, next_due, next_heartbeat, nmt_service, powered, producer_heartbeat_time, received, reset_communication, reset_node, sdo_request, start_remote_node, stop_remote_node, timers, without_power}
+use Rattle.co_device.specs.Device.{Device, Learnt, after_write, answer_frames, enter_pre_operational, heartbeat_started, initialised, is_addressed, is_due, is_in, is_producer_time, next_due, next_heartbeat, nmt_service, powered, producer_heartbeat_time, received, reset_communication, reset_node, sdo_request, start_remote_node, stop_remote_node, timers, without_power}
 use Rattle.co_device.specs.declared.nmt_state.NmtState.TheVariants.{Stopped}
 
 -- ---- the timers

@@ -1,5 +1,5 @@
 -- Which parts a device reads.
-use Rattle.std.proofs.Common.{◌≡◌, ℕ, zero, suc, ◌==◌, inl, inr, Bool, true, false, not, ◌&&◌, List, [], ◌∷◌, All, refl, arith}
+use Rattle.std.proofs.Common.{ℕ, zero, suc, ◌==◌, inl, inr, Bool, true, false, not, ◌&&◌, List, [], ◌∷◌, All, refl, arith}
 use Rattle.std.specs.Prelude.{if◌then◌else◌, length, slice_index_or}
 use Rattle.asking.specs.Asking.{Asking, reads}
 use Rattle.can_frame.specs.Frames.{BaseFrame}

@@ -1,5 +1,5 @@
 -- What holds of a device in an NMT state.
-use Rattle.std.proofs.Common.{◌≡◌, ◌≢◌, ℕ, zero, suc, ◌+◌, ◌<◌, ◌==◌, inl, inr, ◌⊎◌, Bool, true, false, not, ◌&&◌, List, [], ◌∷◌, ◌++◌, Option, Some, None, All, refl, sym, ap, ◌∙◌, arith}
+use Rattle.std.proofs.Common.{◌≡◌, ℕ, suc, ◌==◌, inl, inr, ◌⊎◌, Bool, true, false, not, ◌&&◌, List, [], ◌∷◌, ◌++◌, Option, Some, None, All, refl, arith}
 use Rattle.std.specs.Prelude.{if◌then◌else◌, length, remove, slice_index_or, take, drop, ◌||◌}
 use Rattle.std.proofs.lemmas.Bool.Decides.{nat_tests}
 use Rattle.std.proofs.lemmas.List.Elements.{All-append, All-cons, All-drop, All-take, filter_passes}
@@ -16,21 +16,21 @@ use Rattle.co_parts.specs.declared.part.Part.{Part}
 use Rattle.co_parts.specs.declared.part.Part.TheVariants.{Shape}
 use Rattle.co_sdo.specs.Server.{Answered, answered}
 use Rattle.co_sdo.specs.declared.transfer.Transfer.TheVariants.{Idle}
-use Rattle.co_device.specs.Device.{Device, after_request, after_write, answer_frames, heartbeat_started, initialised, is_addressed, is_due, is_in, is_producer_time, next_heartbeat, nmt_service, powered, received, reset_communication, reset_node, sdo_request, stop_remote_node, timers}
+use Rattle.co_device.specs.Device.{Device, after_write, answer_frames, heartbeat_started, initialised, is_addressed, is_due, is_in, is_producer_time, nmt_service, powered, received, reset_communication, reset_node, sdo_request, stop_remote_node, timers}
 use Rattle.co_device.specs.States.{HasBooted, IsSilent, SaysNothing, nmt_message}
 use Rattle.co_device.specs.declared.nmt_state.NmtState.TheVariants.{Stopped}
 
 -- one of two trees, with what the test gave
-picked : (image : Image) (P : Device → Type 0) (b : Bool) (m n : Asking Part Content Device) → (b ≡ true → P (outcome m image)) → (b ≡ false → P (outcome n image)) → P (outcome (if b then m else n) image)
+pub picked : (image : Image) (P : Device → Type 0) (b : Bool) (m n : Asking Part Content Device) → (b ≡ true → P (outcome m image)) → (b ≡ false → P (outcome n image)) → P (outcome (if b then m else n) image)
 picked image P true m n p q = p refl
 picked image P false m n p q = q refl
 
 -- one of two devices, with what the test gave
-either : (P : Device → Type 0) (b : Bool) (d e : Device) → (b ≡ true → P d) → (b ≡ false → P e) → P (if b then d else e)
+pub either : (P : Device → Type 0) (b : Bool) (d e : Device) → (b ≡ true → P d) → (b ≡ false → P e) → P (if b then d else e)
 either P true d e p q = p refl
 either P false d e p q = q refl
 
-not_both : {A : Type 0} (b : Bool) → b ≡ false → b ≡ true → A
+pub not_both : {A : Type 0} (b : Bool) → b ≡ false → b ≡ true → A
 not_both b e h = absurd cc
 
 -- ---- after a reset
@@ -123,6 +123,7 @@ replaced_all P purpose frame (w ∷ ws) new h = one_of (is_same w.purpose purpos
   where
     rest : All P ws
     rest k v less = h (suc k) v (omega (arith, less))
+
     one_of : (b : Bool) → All P (replaced purpose frame ws) → All P (if b then waiting purpose frame ∷ ws else w ∷ replaced purpose frame ws)
     one_of true behind = All-cons P (waiting purpose frame) ws new rest
     one_of false behind = All-cons P w (replaced purpose frame ws) (h 0 w (omega arith)) behind

@@ -1,5 +1,5 @@
 -- What holds of a device in an NMT state.
-use Rattle.std.specs.Prelude.{◌≡◌, ℕ, true, false, List, [], ◌∷◌, All}
+use Rattle.std.specs.Prelude.{◌≡◌, ℕ, true, false, [], ◌∷◌, All}
 use Rattle.can_frame.specs.Frames.{BaseFrame}
 use Rattle.can_frame.specs.Identifiers.{nmt_id}
 use Rattle.can_frame.specs.WaitingFrames.{is_unwanted}
