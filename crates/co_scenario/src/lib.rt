@@ -5,9 +5,13 @@ mod event;
 pub mod laws;
 mod nmt_command;
 mod script;
+mod step;
 mod timed_event;
+mod timed_step;
 
 pub use event::Event;
 pub use nmt_command::NmtCommand;
 pub use script::Script;
+pub use step::Step;
 pub use timed_event::TimedEvent;
+pub use timed_step::TimedStep;

@@ -7,8 +7,9 @@ pub mod laws;
 mod rest;
 mod server;
 mod step;
-mod transfer;
+pub mod transfer;
 mod uploads;
 
 pub use rest::Rest;
-pub use server::{Reply, Server};
+pub use server::{Reply, Server, answered};
+pub use step::Step;

@@ -3,7 +3,7 @@
 ghost use Rattle.std.specs.Prelude.{◌≡◌, ◌↔◌, Option, Some, None, ℕ, IsTrue, IsErr, IfOk, OnErr, option_map};
 ghost use Rattle.co_dict.specs.Values.{HoldEach};
 ghost use Rattle.co_sdo.specs.declared.transfer.Transfer.TheVariants.{Idle as idle};
-ghost use Rattle.co_sdo.specs.Server.{Serves, answered};
+ghost use Rattle.co_sdo.specs.Server.{Serves, answered as is_answered};
 
 use crate::downloads::{download_begun, download_segment, expedited_taken};
 use crate::step::{Step, not_understood};
@@ -39,16 +39,18 @@ pub struct Reply {
     pub wrote: Option<(u16, u8)>,
 }
 
-/// The answer to a request, and what it leaves open.
+/// What a request makes a server do that has a transfer open, over values of the entries of `shape`; an entry
+/// without a value counts as one that holds no bytes. Want of memory leaves the values as they were. Takes
+/// time as `Server::serve`.
 #[tactic(auto, unfolding(crate::specs::Server::answered))]
-fn step(
+pub fn answered(
     alloc: Global,
     transfer: Transfer,
     request: &[u8; 8],
     shape: &Shape,
     dict: &mut Dict,
 ) -> Result<Step, AllocError>
-    ensures ok { IfOk result (λ step. answered shape.now dict.old transfer request.now ≡ record { answer = step.answer; values = dict.new; transfer = step.transfer; wrote = step.wrote }) }
+    ensures ok { IfOk result (λ step. is_answered shape.now dict.old transfer request.now ≡ record { answer = step.answer; values = dict.new; transfer = step.transfer; wrote = step.wrote }) }
     ensures held { HoldEach shape.now.entries dict.old → HoldEach shape.now.entries dict.new }
     ensures err { OnErr result (dict.new ≡ dict.old) }
 {
@@ -142,7 +144,7 @@ impl Server {
         let Some(transfer) = self.transfer.take() else {
             return Err(AllocError);
         };
-        let step = step(self.alloc, transfer, request, shape, dict)?;
+        let step = answered(self.alloc, transfer, request, shape, dict)?;
         self.transfer = Some(step.transfer);
         Ok(Reply {
             answer: step.answer,

@@ -3,7 +3,7 @@
 ghost use Rattle.std.specs.Prelude.{◌≡◌, ◌≤◌, ◌↔◌, Some, None, IsTrue, IsErr, IfOk, OnErr, length, option_map};
 ghost use Rattle.co_values.specs.Values.{longest_value};
 ghost use Rattle.co_sdo_client.specs.declared.stage.Stage.TheVariants.{Idle as idle};
-ghost use Rattle.co_sdo_client.specs.Client.{Advances, Starts, advanced as is_advanced, download_started as is_download_started, timed_out_at, upload_started};
+ghost use Rattle.co_sdo_client.specs.Client.{Advances, Starts, advanced as is_advanced, download_started as is_download_started, timed_out_at, upload_started as is_upload_started};
 
 use crate::advance::timed_out;
 use crate::answers::advanced;
@@ -34,7 +34,7 @@ impl Model for Client {
 
 /// The first frame of the download of a value, and what is awaited then.
 #[tactic(auto, unfolding(crate::specs::Client::download_started))]
-fn download_started(
+pub fn download_started(
     alloc: Global,
     place: (u16, u8),
     value: &[u8],
@@ -49,6 +49,13 @@ fn download_started(
     let frame = segmented_download(place, value.len() as u32);
     let rest = Rest::new(Octets::from_slice(alloc, value)?);
     Ok((frame, Stage::Offering { place, rest }))
+}
+
+/// The frame of the upload of an entry, and what is awaited then.
+pub fn upload_started(place: (u16, u8)) -> ([u8; 8], Stage)
+    ensures { result ≡ is_upload_started place }
+{
+    (upload_request(place), Stage::Uploading { place })
 }
 
 impl Client {
@@ -122,16 +129,16 @@ impl Client {
     /// Starts the upload of an entry's value, and drops an open transfer: the frame to send. Only a
     /// spent client answers `AllocError`.
     pub fn start_read(&mut self, index: u16, sub: u8) -> Result<[u8; 8], AllocError>
-        ensures starts { IfOk result (λ frame. Starts self.old (upload_started (index, sub)) frame self.new) }
+        ensures starts { IfOk result (λ frame. Starts self.old (is_upload_started (index, sub)) frame self.new) }
         ensures err { IsErr result ↔ (self.old ≡ None) }
         ensures spent { self.old ≡ None → self.new ≡ None }
     {
         let Some(_stage) = self.stage.take() else {
             return Err(AllocError);
         };
-        let place = (index, sub);
-        self.stage = Some(Stage::Uploading { place });
-        Ok(upload_request(place))
+        let (frame, stage) = upload_started((index, sub));
+        self.stage = Some(stage);
+        Ok(frame)
     }
 
     /// Takes an answer of the server: how the open transfer goes on. It is none where no transfer is

@@ -6,7 +6,10 @@ mod answers;
 mod client;
 pub mod laws;
 mod progress;
-mod stage;
+pub mod stage;
 
-pub use client::Client;
+pub use advance::{Advance, timed_out};
+pub use answers::advanced;
+pub use client::{Client, download_started, upload_started};
 pub use progress::Progress;
+pub use stage::Stage;

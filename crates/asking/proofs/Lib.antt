@@ -1,0 +1,5 @@
+pub mod QuestionLemmas
+pub mod LoopLemmas
+pub mod BlockLemmas
+pub mod ToldLemmas
+pub mod DueLemmas

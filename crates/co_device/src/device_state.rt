@@ -1,0 +1,235 @@
+//! The device at a moment.
+
+ghost use Rattle.std.specs.Prelude.{◌≡◌, ◌↔◌, ◌<◌, ◌≤◌, ◌+◌, Some, false, length, remove, slice_get, IfOk, OnOk, OnErr, IsErr, IsTrue};
+ghost use Rattle.asking.specs.Asking.{followed, outcome, reads};
+ghost use Rattle.can_frame.specs.Winner.{contenders_of, IsWinner};
+ghost use Rattle.co_device.specs.Device.{is_in as is_in_state, next_due, powered, received, timers, without_power};
+
+use crate::learnt::Learnt;
+use crate::nmt_state::NmtState;
+use crate::shapes::Shapes;
+use can_frame::{Contender, Frame, Pending, Waiting};
+use co_dict::Dict;
+use co_parts::END;
+use co_sdo::transfer::{self, Transfer};
+use std::alloc::{AllocError, Global};
+use std::marker::Model;
+
+/// A device at a moment (CiA 301): its values, its NMT state, what it has open, due and waiting.
+///
+/// A device that found no memory in a call is spent: `spent` answers true, and each later call that can
+/// answer `AllocError` does. All moments are microseconds from the power-on of the network.
+#[derive(Drop)]
+pub struct DeviceState {
+    pub(crate) alloc: Global,
+    pub(crate) spent: bool,
+    pub(crate) number: u8,
+    pub(crate) has_power: bool,
+    pub(crate) state: NmtState,
+    pub(crate) learnt: Learnt,
+    pub(crate) values: Dict,
+    pub(crate) heartbeat: Option<u64>,
+    pub(crate) waiting: Pending,
+    pub(crate) transfer: Transfer,
+}
+
+impl Model for DeviceState {
+    ghost use Rattle.std.specs.Coded.{codes, coded_ℕ, coded_list, coded×};
+    ghost use Rattle.std.specs.FinMap as map;
+    ghost use Rattle.co_dict.specs.Places.{place_cmp};
+    ghost use Rattle.co_device.specs.Device.{Device};
+
+    ghost Value = { Device };
+
+    ghost coded = { Prim.hlevel (codes, map.code {R = place_cmp} (coded× coded_ℕ coded_ℕ) (coded_list coded_ℕ)) };
+
+    ghost view = { λ d. record { spent = d.spent; number = d.number; has_power = d.has_power; state = d.state; learnt = d.learnt; values = d.values; heartbeat = d.heartbeat; waiting = d.waiting; transfer = d.transfer } };
+}
+
+impl DeviceState {
+    /// A device of this number without power. Takes no memory.
+    pub fn new(alloc: Global, number: u8) -> DeviceState
+        ensures { result ≡ without_power false number }
+    {
+        DeviceState {
+            alloc,
+            spent: false,
+            number,
+            has_power: false,
+            state: NmtState::PreOperational,
+            learnt: Learnt::nothing(),
+            values: Dict::new(alloc),
+            heartbeat: None,
+            waiting: Pending::new(alloc),
+            transfer: Transfer::Idle,
+        }
+    }
+
+    /// An equal device. A spent one has none.
+    pub fn copy(&self) -> Result<DeviceState, AllocError>
+        ensures same { IfOk result (λ device. device ≡ self.now) }
+        ensures refused { IsTrue self.now.spent → IsErr result }
+    {
+        if self.spent {
+            return Err(AllocError);
+        }
+        Ok(DeviceState {
+            alloc: self.alloc,
+            spent: false,
+            number: self.number,
+            has_power: self.has_power,
+            state: self.state,
+            learnt: self.learnt.copy(),
+            values: self.values.copy()?,
+            heartbeat: self.heartbeat,
+            waiting: self.waiting.copy()?,
+            transfer: transfer::copy(&self.transfer)?,
+        })
+    }
+
+    /// Whether the other device is the same.
+    pub fn same(&self, other: &DeviceState) -> bool
+        ensures { IsTrue result ↔ (self.now ≡ other.now) }
+    {
+        if self.spent != other.spent {
+            return false;
+        }
+        if self.number != other.number {
+            return false;
+        }
+        if self.has_power != other.has_power {
+            return false;
+        }
+        if self.state != other.state {
+            return false;
+        }
+        if !self.learnt.same(&other.learnt) {
+            return false;
+        }
+        if self.heartbeat != other.heartbeat {
+            return false;
+        }
+        if !transfer::same(&self.transfer, &other.transfer) {
+            return false;
+        }
+        if !self.values.same(&other.values) {
+            return false;
+        }
+        self.waiting.same(&other.waiting)
+    }
+
+    /// Whether a call before found no memory.
+    pub fn spent(&self) -> bool
+        ensures { result ≡ self.now.spent }
+    {
+        self.spent
+    }
+
+    /// The number of the device's node.
+    pub fn number(&self) -> u8
+        ensures { result ≡ self.now.number }
+    {
+        self.number
+    }
+
+    /// The values of its entries.
+    pub fn values(&self) -> &Dict
+        ensures { result.now ≡ self.now.values }
+    {
+        &self.values
+    }
+
+    /// Whether it is in an NMT state.
+    pub(crate) fn is_in(&self, state: NmtState) -> bool
+        ensures { result ≡ is_in_state state self.now }
+    {
+        self.state == state
+    }
+
+    /// The first moment at which it is due, if there is one. Takes constant time.
+    #[tactic(auto, unfolding(crate::specs::Device::next_due))]
+    pub fn next_due(&self) -> Option<u64>
+        ensures { result ≡ next_due self.now }
+    {
+        self.heartbeat
+    }
+
+    /// The frame with which it contends for the bus: the first of those waiting that have the least
+    /// identifier. Takes constant time.
+    pub fn contender(&self) -> Option<Contender>
+        ensures { IsWinner (contenders_of (self.now.number, self.now.waiting)) result }
+    {
+        self.waiting.contender(self.number)
+    }
+
+    /// Takes the waiting frame at a place for the bus; the others keep their order.
+    pub fn send(&mut self, place: usize) -> Waiting
+        requires { place < length self.old.waiting }
+        ensures frame { slice_get self.old.waiting place ≡ Some result }
+        ensures left { self.new ≡ record self.old { waiting = remove self.old.waiting place } }
+    {
+        self.waiting.take(place)
+    }
+
+    /// Switches the power of the device at the moment t. Where it is as it was, nothing changes.
+    pub fn power<P: Shapes>(&mut self, on: bool, t: u64, shapes: &mut P) -> Result<(), AllocError>
+        requires { t < END }
+        ensures state { OnOk result (self.new ≡ outcome (powered on t self.old) (P.seen shapes.old).image) }
+        ensures noted { OnOk result (P.seen shapes.new ≡ followed (powered on t self.old) (P.seen shapes.old)) }
+        ensures counted { OnOk result (P.asks shapes.new ≤ P.asks shapes.old + length (reads (powered on t self.old) (P.seen shapes.old).image)) }
+        ensures kept { (P.seen shapes.new).image ≡ (P.seen shapes.old).image }
+        ensures refused { IsTrue self.old.spent → IsErr result }
+        ensures spent { OnErr result (IsTrue self.new.spent) }
+    {
+        if self.spent {
+            return Err(AllocError);
+        }
+        let done = self.switch(on, t, shapes);
+        if done.is_err() {
+            self.spent = true;
+        }
+        done
+    }
+
+    /// Takes a frame of another node at the moment t.
+    pub fn on_frame<P: Shapes>(
+        &mut self,
+        t: u64,
+        frame: &Frame,
+        shapes: &mut P,
+    ) -> Result<(), AllocError>
+        requires { t < END }
+        ensures state { OnOk result (self.new ≡ outcome (received t frame.now self.old) (P.seen shapes.old).image) }
+        ensures noted { OnOk result (P.seen shapes.new ≡ followed (received t frame.now self.old) (P.seen shapes.old)) }
+        ensures counted { OnOk result (P.asks shapes.new ≤ P.asks shapes.old + length (reads (received t frame.now self.old) (P.seen shapes.old).image)) }
+        ensures kept { (P.seen shapes.new).image ≡ (P.seen shapes.old).image }
+        ensures refused { IsTrue self.old.spent → IsErr result }
+        ensures spent { OnErr result (IsTrue self.new.spent) }
+    {
+        if self.spent {
+            return Err(AllocError);
+        }
+        let done = self.receive(t, frame, shapes);
+        if done.is_err() {
+            self.spent = true;
+        }
+        done
+    }
+
+    /// Runs what is due at the moment t.
+    pub fn on_instant(&mut self, t: u64) -> Result<(), AllocError>
+        requires { t < END }
+        ensures state { OnOk result (self.new ≡ timers t self.old) }
+        ensures refused { IsTrue self.old.spent → IsErr result }
+        ensures spent { OnErr result (IsTrue self.new.spent) }
+    {
+        if self.spent {
+            return Err(AllocError);
+        }
+        let done = self.run_timers(t);
+        if done.is_err() {
+            self.spent = true;
+        }
+        done
+    }
+}

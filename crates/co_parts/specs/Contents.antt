@@ -1,0 +1,92 @@
+-- What the parts of an image are, and what stands in for a part that is absent.
+use Rattle.std.specs.Prelude.{ℕ, false, List, [], ◌∷◌, Option, Some, None, replicate}
+use Rattle.std.specs.FinMap as map
+use Rattle.co_dict.specs.Shapes.{Shaped}
+use Rattle.co_dict.specs.Values.{Values}
+use Rattle.co_scenario.specs.declared.timed_step.TimedStep.{TimedStep}
+use Rattle.concise_dcf.specs.declared.write.Write.{Write}
+use Rattle.co_parts.specs.declared.identity.Identity.{Identity}
+use Rattle.co_parts.specs.declared.part.Part.{Part}
+use Rattle.co_parts.specs.declared.roster.Roster.{Roster}
+
+-- the content of a part, or none where the part is absent
+pub data Content : Type 0 where
+  RosterIs : Option Roster → Content
+  DefaultsAre : Option Values → Content
+  ShapeIs : Option Shaped → Content
+  ExpectIs : Option Identity → Content
+  BootIs : Option Write → Content
+  EventsAre : Option (List TimedStep) → Content
+
+-- AN IMAGE: the content of every part by its name
+abbrev pub Image : Type 0
+Image = Part → Content
+
+-- ---- what stands in for an absent part
+
+-- the network of the first project: its manager alone
+abbrev pub first_roster : Roster
+first_roster = record { bit_rate = 1000; manager = 127; sync_us = 0; heartbeat_ms = 0; timeout_ms = 500; nodes = [] }
+
+-- the shape of a device without entries
+abbrev pub no_shape : Shaped
+no_shape = record { entries = map.empty; dummies = replicate 7 false }
+
+-- nothing is expected
+abbrev pub no_identity : Identity
+no_identity = record { numbers = 0 ∷ 0 ∷ 0 ∷ 0 ∷ 0 ∷ [] }
+
+abbrev pub or_else : {A : Type 0} → A → Option A → A
+or_else a None = a
+or_else a (Some b) = b
+
+-- ---- the content of a part as the simulation takes it
+
+abbrev pub roster_of : Content → Roster
+roster_of (RosterIs roster) = or_else first_roster roster
+roster_of (DefaultsAre values) = first_roster
+roster_of (ShapeIs shape) = first_roster
+roster_of (ExpectIs identity) = first_roster
+roster_of (BootIs write) = first_roster
+roster_of (EventsAre steps) = first_roster
+
+abbrev pub values_of : Content → Values
+values_of (DefaultsAre values) = or_else map.empty values
+values_of (RosterIs roster) = map.empty
+values_of (ShapeIs shape) = map.empty
+values_of (ExpectIs identity) = map.empty
+values_of (BootIs write) = map.empty
+values_of (EventsAre steps) = map.empty
+
+abbrev pub shape_of : Content → Shaped
+shape_of (ShapeIs shape) = or_else no_shape shape
+shape_of (RosterIs roster) = no_shape
+shape_of (DefaultsAre values) = no_shape
+shape_of (ExpectIs identity) = no_shape
+shape_of (BootIs write) = no_shape
+shape_of (EventsAre steps) = no_shape
+
+abbrev pub identity_of : Content → Identity
+identity_of (ExpectIs identity) = or_else no_identity identity
+identity_of (RosterIs roster) = no_identity
+identity_of (DefaultsAre values) = no_identity
+identity_of (ShapeIs shape) = no_identity
+identity_of (BootIs write) = no_identity
+identity_of (EventsAre steps) = no_identity
+
+-- None is the end of the writes
+abbrev pub write_of : Content → Option Write
+write_of (BootIs write) = write
+write_of (RosterIs roster) = None
+write_of (DefaultsAre values) = None
+write_of (ShapeIs shape) = None
+write_of (ExpectIs identity) = None
+write_of (EventsAre steps) = None
+
+abbrev pub steps_of : Content → List TimedStep
+steps_of (EventsAre steps) = or_else [] steps
+steps_of (RosterIs roster) = []
+steps_of (DefaultsAre values) = []
+steps_of (ShapeIs shape) = []
+steps_of (ExpectIs identity) = []
+steps_of (BootIs write) = []

@@ -1,0 +1,76 @@
+-- What holds of every image, and which images are coherent.
+use Rattle.std.specs.Prelude.{◌≡◌, ◌≢◌, ℕ, ◌+◌, ◌*◌, ◌<◌, ◌≤◌, ◌⊎◌, ◌^◌, true, false, Contains, List, [], ◌∷◌, length, Some, IfSome}
+use Rattle.std.specs.FinMap.{get}
+use Rattle.std.specs.List.{AllByRecursion}
+use Rattle.co_base.specs.Ranges.{is_between}
+use Rattle.co_values.specs.Types.{is_modelled}
+use Rattle.co_values.specs.Values.{longest_value}
+use Rattle.co_dict.specs.Values.{HasLength, HoldEach}
+use Rattle.co_dict.specs.declared.entry.Entry.{Entry}
+use Rattle.co_scenario.specs.declared.step.Step.{Step}
+use Rattle.co_scenario.specs.declared.step.Step.TheVariants.{Set, Power, Nmt}
+use Rattle.co_scenario.specs.declared.timed_step.TimedStep.{TimedStep}
+use Rattle.concise_dcf.specs.declared.write.Write.{Write}
+use Rattle.co_parts.specs.Contents.{Image, roster_of, shape_of, steps_of, values_of, write_of}
+use Rattle.co_parts.specs.declared.part.Part.{Part}
+use Rattle.co_parts.specs.declared.part.Part.TheVariants as part
+use Rattle.co_parts.specs.declared.roster.Roster.{Roster}
+
+-- ---- every image
+
+-- the bit rates of CiA 301 that the simulation knows, in kbit/s
+abbrev pub bit_rates : List ℕ
+bit_rates = 10 ∷ 20 ∷ 50 ∷ 125 ∷ 250 ∷ 500 ∷ 1000 ∷ []
+
+-- a node number beside the manager's
+abbrev pub IsNode : ℕ → ℕ → Type 0
+IsNode manager node = (1 ≤ node) × (node ≤ 127) × (node ≢ manager)
+
+-- numbers rise from one to the next
+abbrev pub Rise : List ℕ → Type 0
+Rise [] = Unit {0}
+Rise (a ∷ []) = Unit {0}
+Rise (a ∷ b ∷ rest) = (a < b) × Rise (b ∷ rest)
+
+-- a roster has a bit rate and numbers of the manager within their limits, and node numbers that differ from one another and from the manager's
+pub record IsRoster (roster : Roster) : Type 0 where
+  pub bit_rate : Contains bit_rates roster.bit_rate
+  pub manager : (1 ≤ roster.manager) × (roster.manager ≤ 127)
+  pub sync : (roster.sync_us ≡ 0) ⊎ ((1000 ≤ roster.sync_us) × (roster.sync_us ≤ 10000000))
+  pub heartbeat : roster.heartbeat_ms < 2 ^ 16
+  pub timeout : (1 ≤ roster.timeout_ms) × (roster.timeout_ms < 2 ^ 16)
+  pub nodes : AllByRecursion (IsNode roster.manager) roster.nodes
+  pub rise : Rise roster.nodes
+
+-- a write of a concise DCF has data of 1 to 512 bytes
+abbrev pub IsBootWrite : Write → Type 0
+IsBootWrite write = (1 ≤ length write.bytes) × (length write.bytes ≤ longest_value)
+
+-- PDO objects belong to the plan of messages: no event sets one
+abbrev pub IsFree : Step → Type 0
+IsFree (Set node index sub bytes) = is_between 0x1400 0x1BFF index ≡ false
+IsFree (Power node on) = Unit {0}
+IsFree (Nmt node command) = Unit {0}
+
+-- a step of window i has its time there
+abbrev pub IsWithin : ℕ → TimedStep → Type 0
+IsWithin i step = (10000 * i ≤ step.time) × (step.time < 10000 * i + 10000) × IsFree step.step
+
+-- ---- coherent images
+
+-- what a step sets has the length of its entry's type
+abbrev pub FitsShape : Image → TimedStep → Type 0
+FitsShape image step = Sets image step.step
+  where
+    Sets : Image → Step → Type 0
+    Sets image (Set node index sub bytes) = (entry : Entry) → get (shape_of (image (part.Shape node))).entries (index, sub) ≡ Some entry → is_modelled entry.kind ≡ true → HasLength entry.kind bytes
+    Sets image (Power node on) = Unit {0}
+    Sets image (Nmt node command) = Unit {0}
+
+-- AN IMAGE IS COHERENT: its parts are what those of an image are, and each modelled entry of a node's shape has by its defaults, and gets by each event, a value of its type's length
+pub record IsCoherent (image : Image) : Type 0 where
+  pub roster : IsRoster (roster_of (image part.Roster))
+  pub writes : (node place : ℕ) → IfSome (write_of (image (part.Boot node place))) IsBootWrite
+  pub within : (i : ℕ) → AllByRecursion (IsWithin i) (steps_of (image (part.Events i)))
+  pub defaults : (node : ℕ) → HoldEach (shape_of (image (part.Shape node))).entries (values_of (image (part.Defaults node)))
+  pub steps : (i : ℕ) → AllByRecursion (FitsShape image) (steps_of (image (part.Events i)))

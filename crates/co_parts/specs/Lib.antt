@@ -1,0 +1,4 @@
+pub mod Shared
+pub mod Contents
+pub mod ContentView
+pub mod Images

@@ -1,0 +1,20 @@
+//! The network as a whole.
+
+use co_base::Octets;
+
+/// The bit rate, the manager (CiA 302) and the nodes of a network.
+#[derive(Debug, Drop)]
+pub struct Roster {
+    /// The bit rate in kbit/s.
+    pub bit_rate: u16,
+    /// The manager's node number.
+    pub manager: u8,
+    /// The time between two SYNC messages in microseconds; 0 for none.
+    pub sync_us: u32,
+    /// The manager's producer heartbeat time in milliseconds; 0 for none.
+    pub heartbeat_ms: u16,
+    /// The longest wait of the manager for an SDO answer in milliseconds.
+    pub timeout_ms: u16,
+    /// The numbers of the nodes beside the manager, in rising order.
+    pub nodes: Octets,
+}

@@ -1,0 +1,37 @@
+//! The events of a window.
+
+ghost use Rattle.std.specs.Prelude.{◌≡◌};
+
+use co_scenario::TimedStep;
+use std::marker::Model;
+
+/// The events of a window, by time and then by number.
+#[derive(Debug, Drop)]
+pub struct Window {
+    steps: Vec<TimedStep>,
+}
+
+impl Model for Window {
+    ghost use Rattle.std.specs.Prelude.{List};
+    ghost use Rattle.co_scenario.specs.declared.timed_step.TimedStep.{TimedStep};
+
+    ghost Value = { List TimedStep };
+
+    ghost view = { λ window. window.steps.items };
+}
+
+impl Window {
+    /// The window of these events.
+    pub fn new(steps: Vec<TimedStep>) -> Window
+        ensures { result ≡ steps.items }
+    {
+        Window { steps }
+    }
+
+    /// The events.
+    pub fn steps(&self) -> &[TimedStep]
+        ensures { result.now ≡ self.now }
+    {
+        &self.steps
+    }
+}

@@ -1,0 +1,152 @@
+-- The boot of one node by the manager (CiA 302, Boot NMT slave). All moments are absolute, in microseconds from the power-on of the network.
+use Rattle.std.specs.Prelude.{ℕ, ◌+◌, ◌*◌, ◌==◌, ◌&&◌, not, Bool, false, List, length, slice_index_or, nat_le, Option, Some, None, if◌then◌else◌}
+use Rattle.asking.specs.Asking.{Asking, Answer, Ask}
+use Rattle.byteorder.specs.Endian.{little_number}
+use Rattle.co_dict.specs.declared.abort.Abort.{Abort}
+use Rattle.co_sdo_client.specs.Client.{advanced, download_started, upload_started, timed_out_at}
+use Rattle.co_sdo_client.specs.declared.advance.Advance.{Advance}
+use Rattle.co_sdo_client.specs.declared.progress.Progress.{Progress}
+use Rattle.co_sdo_client.specs.declared.progress.Progress.TheVariants as progress
+use Rattle.co_sdo_client.specs.declared.stage.Stage.{Stage as Transfer}
+use Rattle.concise_dcf.specs.declared.write.Write.{Write}
+use Rattle.co_parts.specs.Contents.{Content, identity_of, write_of}
+use Rattle.co_parts.specs.declared.identity.Identity.{Identity}
+use Rattle.co_parts.specs.declared.part.Part.{Part}
+use Rattle.co_parts.specs.declared.part.Part.TheVariants.{Expect, Boot}
+use Rattle.nmt_boot.specs.declared.boot_stage.BootStage.{BootStage}
+use Rattle.nmt_boot.specs.declared.boot_stage.BootStage.TheVariants.{Unseen, Comparing, Writing, Configured, Failed}
+use Rattle.nmt_boot.specs.declared.turn.Turn.{Turn}
+use Rattle.nmt_boot.specs.declared.word.Word.{Word}
+use Rattle.nmt_boot.specs.declared.word.Word.TheVariants as word
+
+-- the stage stays, and nothing is queued or noted
+abbrev pub stays : BootStage → Turn
+stays stage = record { stage = stage; request = None; word = None }
+
+-- the boot has failed, for a reason
+abbrev pub failed : Word → Option (List ℕ) → Turn
+failed reason request = record { stage = Failed; request = request; word = Some reason }
+
+-- a request is queued now, and its answer awaited until the deadline
+abbrev pub asked : BootStage → List ℕ → Turn
+asked stage request = record { stage = stage; request = Some request; word = None }
+
+-- ---- check node type and identity: 1000h:00, then 1018h:01 to 04, each where a number is expected
+
+-- the entry that is compared in place k of the five
+abbrev pub identity_entry : ℕ → ℕ × ℕ
+identity_entry place = (if place == 0 then 0x1000 else 0x1018, place)
+
+abbrev pub expected_number : Identity → ℕ → ℕ
+expected_number expected place = slice_index_or expected.numbers place 0
+
+abbrev pub is_expected : Identity → ℕ → Bool
+is_expected expected place = not (expected_number expected place == 0)
+
+unfoldable pub compared : ℕ → Identity → ℕ → Turn
+compared deadline expected place =
+    asked (Comparing place expected (upload_started (identity_entry place)).1 deadline) (upload_started (identity_entry place)).0
+
+-- the first place from this one on at which a number is expected; 5 where there is none
+unfoldable pub next_compared : Identity → ℕ → ℕ
+next_compared expected place =
+    if nat_le place 0 && is_expected expected 0 then 0
+    else if nat_le place 1 && is_expected expected 1 then 1
+    else if nat_le place 2 && is_expected expected 2 then 2
+    else if nat_le place 3 && is_expected expected 3 then 3
+    else if nat_le place 4 && is_expected expected 4 then 4
+    else 5
+
+-- a value of at most four bytes that is the expected number
+unfoldable pub is_as_expected : Identity → ℕ → List ℕ → Bool
+is_as_expected expected place bytes = nat_le (length bytes) 4 && (little_number (length bytes) bytes == expected_number expected place)
+
+-- ---- download configuration: the writes of the concise DCF, up to the first that is absent
+
+abbrev pub configured : Turn
+configured = record { stage = Configured; request = None; word = Some word.Configured }
+
+unfoldable pub written : ℕ → ℕ → Option Write → Turn
+written deadline place None = configured
+written deadline place (Some w) =
+    asked (Writing place (download_started (w.index, w.sub) w.bytes).1 deadline) (download_started (w.index, w.sub) w.bytes).0
+
+unfoldable pub download_configuration : ℕ → ℕ → ℕ → Asking Part Content Turn
+download_configuration deadline node place = Ask (Boot node place) (λ v. Answer (written deadline place (write_of v)))
+
+-- the greatest number that a write can have: a concise DCF has no more
+abbrev pub last_write : ℕ
+last_write = 4294967295
+
+abbrev pub download_next : ℕ → ℕ → ℕ → Asking Part Content Turn
+download_next deadline node place = if place == last_write then Answer configured else download_configuration deadline node (place + 1)
+
+unfoldable pub check_identity : ℕ → ℕ → Identity → ℕ → Asking Part Content Turn
+check_identity deadline node expected place =
+    if next_compared expected place == 5 then download_configuration deadline node 0
+    else Answer (compared deadline expected (next_compared expected place))
+
+-- ---- boot NMT slave: on the boot-up of a node; the expected numbers are read here alone
+
+unfoldable pub boot_nmt_slave : ℕ → ℕ → Asking Part Content Turn
+boot_nmt_slave deadline node = Ask (Expect node) (λ v. check_identity deadline node (identity_of v) 0)
+
+-- ---- SDO answers of a node that is booting; what is queued now has the new deadline, and else the old one stays
+
+abbrev pub after_compare : ℕ → ℕ → ℕ → ℕ → Identity → Transfer → Option Progress → Asking Part Content Turn
+after_compare deadline old node place expected transfer None = Answer (stays (Comparing place expected transfer old))
+after_compare deadline old node place expected transfer (Some (progress.Ask request)) = Answer (asked (Comparing place expected transfer deadline) request)
+after_compare deadline old node place expected transfer (Some progress.Written) = Answer (stays (Comparing place expected transfer old))
+after_compare deadline old node place expected transfer (Some (progress.Read bytes)) = if is_as_expected expected place bytes then check_identity deadline node expected (place + 1) else Answer (failed word.Difference None)
+after_compare deadline old node place expected transfer (Some (progress.Failed abort frame)) = Answer (failed (word.Aborted abort) frame)
+
+abbrev pub after_write : ℕ → ℕ → ℕ → ℕ → Transfer → Option Progress → Asking Part Content Turn
+after_write deadline old node place transfer None = Answer (stays (Writing place transfer old))
+after_write deadline old node place transfer (Some (progress.Ask request)) = Answer (asked (Writing place transfer deadline) request)
+after_write deadline old node place transfer (Some progress.Written) = download_next deadline node place
+after_write deadline old node place transfer (Some (progress.Read bytes)) = Answer (stays (Writing place transfer old))
+after_write deadline old node place transfer (Some (progress.Failed abort frame)) = Answer (failed (word.Aborted abort) frame)
+
+abbrev pub answer_taken : ℕ → ℕ → BootStage → List ℕ → Asking Part Content Turn
+answer_taken deadline node Unseen answer = Answer (stays Unseen)
+answer_taken deadline node (Comparing place expected transfer old) answer = after_compare deadline old node place expected (advanced transfer answer).stage (advanced transfer answer).progress
+answer_taken deadline node (Writing place transfer old) answer = after_write deadline old node place (advanced transfer answer).stage (advanced transfer answer).progress
+answer_taken deadline node Configured answer = Answer (stays Configured)
+answer_taken deadline node Failed answer = Answer (stays Failed)
+
+unfoldable pub sdo_answer : ℕ → ℕ → BootStage → List ℕ → Asking Part Content Turn
+sdo_answer deadline node stage answer = answer_taken deadline node stage answer
+
+-- ---- SDO time-outs
+
+abbrev pub deadline_of : BootStage → Option ℕ
+deadline_of Unseen = None
+deadline_of (Comparing place expected transfer deadline) = Some deadline
+deadline_of (Writing place transfer deadline) = Some deadline
+deadline_of Configured = None
+deadline_of Failed = None
+
+abbrev pub is_at : ℕ → Option ℕ → Bool
+is_at t None = false
+is_at t (Some moment) = moment == t
+
+abbrev pub is_timed_out : ℕ → BootStage → Bool
+is_timed_out t stage = is_at t (deadline_of stage)
+
+-- the frame of an abort by the client, if there is one
+abbrev pub abort_sent : Option Progress → Option (List ℕ)
+abort_sent None = None
+abort_sent (Some (progress.Ask request)) = None
+abort_sent (Some progress.Written) = None
+abort_sent (Some (progress.Read bytes)) = None
+abort_sent (Some (progress.Failed abort frame)) = frame
+
+abbrev pub time_out_frame : BootStage → Option (List ℕ)
+time_out_frame Unseen = None
+time_out_frame (Comparing place expected transfer deadline) = abort_sent (timed_out_at transfer).progress
+time_out_frame (Writing place transfer deadline) = abort_sent (timed_out_at transfer).progress
+time_out_frame Configured = None
+time_out_frame Failed = None
+
+unfoldable pub sdo_time_out : BootStage → Turn
+sdo_time_out stage = failed word.TimedOut (time_out_frame stage)

@@ -1,0 +1,194 @@
+-- The NMT manager (CiA 302): the boots of its nodes, its own heartbeat, and the frames that it has waiting. All nodes boot side by side.
+use Rattle.std.specs.Prelude.{ℕ, ◌+◌, ◌*◌, ◌==◌, Bool, false, List, [], ◌∷◌, ◌++◌, length, map, min, slice_index_or, slice_set, Option, Some, None, if◌then◌else◌}
+use Rattle.std.specs.List.{position}
+use Rattle.asking.specs.Asking.{Asking, Answer, bind}
+use Rattle.can_frame.specs.Frames.{BaseFrame}
+use Rattle.can_frame.specs.Identifiers.{error_control_id, nmt_id, sdo_answer_id, sdo_request_id}
+use Rattle.can_frame.specs.WaitingFrames.{replaced, waiting, without}
+use Rattle.can_frame.specs.declared.purpose.Purpose.TheVariants.{BootUp, Heartbeat, Nmt, Sdo}
+use Rattle.can_frame.specs.declared.unwanted.Unwanted.TheVariants.{SdoOf}
+use Rattle.can_frame.specs.declared.waiting.Waiting.{Waiting}
+use Rattle.co_parts.specs.Contents.{Content}
+use Rattle.co_parts.specs.declared.part.Part.{Part}
+use Rattle.co_parts.specs.declared.roster.Roster.{Roster}
+use Rattle.nmt_boot.specs.Boot.{boot_nmt_slave, sdo_answer, sdo_time_out, deadline_of, is_at, is_timed_out}
+use Rattle.nmt_boot.specs.declared.boot_stage.BootStage.{BootStage}
+use Rattle.nmt_boot.specs.declared.boot_stage.BootStage.TheVariants.{Unseen, Comparing, Writing, Configured, Failed}
+use Rattle.nmt_boot.specs.declared.booting.Booting.{Booting}
+use Rattle.nmt_boot.specs.declared.note.Note.{Note}
+use Rattle.nmt_boot.specs.declared.turn.Turn.{Turn}
+use Rattle.nmt_boot.specs.declared.word.Word.{Word}
+use Rattle.nmt_boot.specs.declared.word.Word.TheVariants as word
+
+-- its number, the time-out and the heartbeat's period in microseconds (0 for none), the next heartbeat, the nodes by number with their boots, and the waiting frames
+pub record Manager : Type 0 where
+  pub spent : Bool
+  pub number : ℕ
+  pub timeout : ℕ
+  pub period : ℕ
+  pub heartbeat : Option ℕ
+  pub nodes : List Booting
+  pub waiting : List Waiting
+
+-- ---- before and at the power-on of the network
+
+abbrev pub blank : Manager
+blank = record { spent = false; number = 0; timeout = 0; period = 0; heartbeat = None; nodes = []; waiting = [] }
+
+abbrev pub unseen : ℕ → Booting
+unseen number = record { number = number; stage = Unseen }
+
+-- heartbeats come at the whole multiples of the period above 0
+abbrev pub period_from : ℕ → ℕ → Option ℕ
+period_from t period = if period == 0 then None else Some (t + period)
+
+-- at time 0 no node was seen, and the manager's own boot-up waits
+unfoldable pub powered_on : Roster → Manager
+powered_on roster = record {
+  spent = false;
+  number = roster.manager;
+  timeout = 1000 * roster.timeout_ms;
+  period = 1000 * roster.heartbeat_ms;
+  heartbeat = period_from 0 (1000 * roster.heartbeat_ms);
+  nodes = map unseen roster.nodes;
+  waiting = waiting BootUp (record { id = error_control_id roster.manager; bytes = 0 ∷ [] }) ∷ [];
+}
+
+-- ---- what a turn of a node's boot queues and notes
+
+-- an SDO request to the node, or an abort
+abbrev pub sdo_frames : ℕ → Option (List ℕ) → List Waiting
+sdo_frames node None = []
+sdo_frames node (Some bytes) = waiting (Sdo node) (record { id = sdo_request_id node; bytes = bytes }) ∷ []
+
+-- Start remote node: a node that is configured is started
+abbrev pub start_frames : ℕ → Option Word → List Waiting
+start_frames node None = []
+start_frames node (Some word.Lost) = []
+start_frames node (Some word.Configured) = waiting Nmt (record { id = nmt_id; bytes = 1 ∷ node ∷ [] }) ∷ []
+start_frames node (Some word.Difference) = []
+start_frames node (Some (word.Aborted abort)) = []
+start_frames node (Some word.TimedOut) = []
+
+abbrev pub notes_of : ℕ → Option Word → List Note
+notes_of node None = []
+notes_of node (Some w) = record { node = node; word = w } ∷ []
+
+abbrev pub waiting_after : ℕ → Turn → List Waiting → List Waiting
+waiting_after node turn ws = (ws ++ sdo_frames node turn.request) ++ start_frames node turn.word
+
+-- ---- the table of nodes
+
+abbrev pub is_from : ℕ → ℕ → Booting → Bool
+is_from base id node = base + node.number == id
+
+-- the place of the node whose frames have this identifier: its number above a base
+unfoldable pub place_of : ℕ → ℕ → List Booting → Option ℕ
+place_of base id nodes = position (is_from base id) nodes
+
+abbrev pub no_node : Booting
+no_node = unseen 0
+
+abbrev pub node_at : List Booting → ℕ → Booting
+node_at nodes i = slice_index_or nodes i no_node
+
+-- what a rule gave stands in the table, at that node alone
+abbrev pub with_stage : List Booting → ℕ → BootStage → List Booting
+with_stage nodes i stage = slice_set nodes i (record (node_at nodes i) { stage = stage })
+
+abbrev pub turned : ℕ → Turn → Manager → Manager × List Note
+turned i turn m = (
+  record m { nodes = with_stage m.nodes i turn.stage; waiting = waiting_after (node_at m.nodes i).number turn m.waiting },
+  notes_of (node_at m.nodes i).number turn.word,
+)
+
+-- ---- boot-up of a node: frames to it that wait are dropped, and its boot begins anew
+
+-- a node that was configured is lost
+abbrev pub lost : BootStage → Option Word
+lost Unseen = None
+lost (Comparing place expected transfer deadline) = None
+lost (Writing place transfer deadline) = None
+lost Configured = Some word.Lost
+lost Failed = None
+
+abbrev pub begun : ℕ → Manager → Turn → Manager × List Note
+begun i m turn =
+    let node = node_at m.nodes i in
+    ((turned i turn (record m { waiting = without (SdoOf node.number) m.waiting })).0, notes_of node.number (lost node.stage) ++ notes_of node.number turn.word)
+
+unfoldable pub boots_at : ℕ → ℕ → Manager → Asking Part Content (Manager × List Note)
+boots_at t i m = bind (boot_nmt_slave (t + m.timeout) (node_at m.nodes i).number) (λ turn. Answer (begun i m turn))
+
+unfoldable pub boot_up_event : ℕ → Option ℕ → Manager → Asking Part Content (Manager × List Note)
+boot_up_event t None m = Answer (m, [])
+boot_up_event t (Some i) m = boots_at t i m
+
+-- ---- SDO answer of a node
+
+unfoldable pub answered_at : ℕ → List ℕ → ℕ → Manager → Asking Part Content (Manager × List Note)
+answered_at t answer i m = bind (sdo_answer (t + m.timeout) (node_at m.nodes i).number (node_at m.nodes i).stage answer) (λ turn. Answer (turned i turn m))
+
+unfoldable pub sdo_event : ℕ → List ℕ → Option ℕ → Manager → Asking Part Content (Manager × List Note)
+sdo_event t answer None m = Answer (m, [])
+sdo_event t answer (Some i) m = answered_at t answer i m
+
+-- ---- received frames
+
+unfoldable pub is_boot_up : List ℕ → Bool
+is_boot_up bytes = if length bytes == 1 then slice_index_or bytes 0 0 == 0 else false
+
+unfoldable pub received : ℕ → BaseFrame → Manager → Asking Part Content (Manager × List Note)
+received t frame m =
+    if is_boot_up frame.bytes then boot_up_event t (place_of (error_control_id 0) frame.id m.nodes) m
+    else if length frame.bytes == 8 then sdo_event t frame.bytes (place_of (sdo_answer_id 0) frame.id m.nodes) m
+    else Answer (m, [])
+
+-- ---- timers: time-outs by node, and then the heartbeat
+
+-- a request that still waits is dropped, and an abort is queued
+abbrev pub node_after : ℕ → Booting → Booting
+node_after t node = if is_timed_out t node.stage then record node { stage = (sdo_time_out node.stage).stage } else node
+
+abbrev pub queue_after : ℕ → Booting → List Waiting → List Waiting
+queue_after t node ws = if is_timed_out t node.stage then waiting_after node.number (sdo_time_out node.stage) (without (SdoOf node.number) ws) else ws
+
+abbrev pub notes_after : ℕ → Booting → List Note
+notes_after t node = if is_timed_out t node.stage then notes_of node.number (sdo_time_out node.stage).word else []
+
+abbrev pub queue_after_all : ℕ → List Booting → List Waiting → List Waiting
+queue_after_all t [] ws = ws
+queue_after_all t (node ∷ nodes) ws = queue_after_all t nodes (queue_after t node ws)
+
+abbrev pub notes_after_all : ℕ → List Booting → List Note
+notes_after_all t [] = []
+notes_after_all t (node ∷ nodes) = notes_after t node ++ notes_after_all t nodes
+
+unfoldable pub time_outs : ℕ → Manager → Manager × List Note
+time_outs t m = (record m { nodes = map (node_after t) m.nodes; waiting = queue_after_all t m.nodes m.waiting }, notes_after_all t m.nodes)
+
+-- a heartbeat of state Operational takes the place of one that still waits
+abbrev pub heartbeat_frame : ℕ → BaseFrame
+heartbeat_frame number = record { id = error_control_id number; bytes = 5 ∷ [] }
+
+unfoldable pub heartbeats : ℕ → Manager → Manager
+heartbeats t m =
+    if is_at t m.heartbeat then record m { heartbeat = period_from t m.period; waiting = replaced Heartbeat (heartbeat_frame m.number) m.waiting }
+    else m
+
+unfoldable pub timers : ℕ → Manager → Manager × List Note
+timers t m = (heartbeats t (time_outs t m).0, (time_outs t m).1)
+
+-- ---- the first moment at which the manager is due
+
+abbrev pub earlier : Option ℕ → Option ℕ → Option ℕ
+earlier None b = b
+earlier (Some a) None = Some a
+earlier (Some a) (Some b) = Some (min a b)
+
+abbrev pub first_deadline : Option ℕ → List Booting → Option ℕ
+first_deadline first [] = first
+first_deadline first (node ∷ nodes) = first_deadline (earlier first (deadline_of node.stage)) nodes
+
+unfoldable pub next_due : Manager → Option ℕ
+next_due m = first_deadline m.heartbeat m.nodes
