@@ -11,6 +11,8 @@ mod manager;
 mod note;
 mod notes;
 mod sent;
+mod table;
+mod telling;
 mod time_outs;
 mod turn;
 mod word;
