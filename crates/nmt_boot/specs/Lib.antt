@@ -1,3 +1,4 @@
 pub mod Boot
 pub mod Manager
 pub mod Ahead
+pub mod Sending
