@@ -41,7 +41,7 @@ unfoldable pub write_of_node : Project → ℕ → ℕ → Option Write
 write_of_node project node place = option_and_then (λ (m : Member). slice_get (writes_of project m node) place) (member_at project node)
 
 -- THE IMAGE: the parts of a number that isn't a node's are none. No window has events: what a step sets isn't resolved until events act.
-unfoldable pub image_of : Project → Image
+abbrev pub image_of : Project → Image
 image_of project part.Roster = RosterIs (Some (roster_of_project project))
 image_of project (part.Defaults node) = DefaultsAre (defaults_of_node project node)
 image_of project (part.Shape node) = ShapeIs (shape_of_node project node)

@@ -23,7 +23,7 @@ supply_code roster_code nodes_code read_code =
     (λ s. (s.roster, (s.nodes, (s.asked, s.asks)))) (λ t. record { roster = t.0; nodes = t.1.0; asked = t.1.1.0; asks = t.1.1.1 }) (λ _. refl)
 
 -- the image of these parts
-unfoldable pub image_held : Roster → AllHeld → Image
+abbrev pub image_held : Roster → AllHeld → Image
 image_held roster nodes part.Roster = RosterIs (Some roster)
 image_held roster nodes (part.Defaults node) = DefaultsAre (option_map (λ (h : Held). h.defaults) (get nodes node))
 image_held roster nodes (part.Shape node) = ShapeIs (option_map (λ (h : Held). h.shape) (get nodes node))
