@@ -1,0 +1,47 @@
+-- The image of each project is coherent.
+use Rattle.std.proofs.Common.{◌≡◌, ℕ, true, List, Option, Some, None, IfSome, option_map, option_and_then, refl, sym, ◌∙◌, slice_get}
+use Rattle.std.specs.FinMap.{get, get-empty}
+use Rattle.co_values.specs.Types.{is_modelled}
+use Rattle.co_dict.specs.Places.{place_cmp}
+use Rattle.co_dict.specs.declared.entry.Entry.{Entry}
+use Rattle.co_dict.specs.Values.{HasLength, HoldEach}
+use Rattle.concise_dcf.specs.declared.write.Write.{Write}
+use Rattle.eds_device.specs.Entries.{defaults_of, shape_of}
+use Rattle.eds_device.proofs.LawLemmas.{values_have_lengths}
+use Rattle.co_network.specs.Network.{member_at, writes_of, Member}
+use Rattle.co_project.specs.Project.{Content as Project}
+use Rattle.co_project.specs.Sound.{IsSound}
+use Rattle.co_parts.specs.Contents.{DefaultsAre, ShapeIs, shape_of as shape_in, values_of as values_in}
+use Rattle.co_parts.specs.Images.{IsBootWrite, IsCoherent}
+use Rattle.co_depend.specs.Image.{defaults_of_node, image_of, shape_of_node, write_of_node}
+use Rattle.co_depend.proofs.PointerLemmas.{all_at}
+use Rattle.co_depend.proofs.RosterLemmas.{is_roster}
+use Rattle.co_depend.proofs.SizeLemmas.{node_fits}
+
+-- each write has data of 1 to 512 bytes
+write_fits : (p : Project) → (node place : ℕ) → IfSome (write_of_node p node place) IsBootWrite
+unfolding write_of_node
+write_fits p node place = by (member_at p node)
+  where
+    by : (o : Option Member) → IfSome (option_and_then (λ (m : Member). slice_get (writes_of p m node) place) o) IsBootWrite
+    by None = tt
+    by (Some m) = all_at IsBootWrite (writes_of p m node) place (node_fits p m node)
+
+-- a node's defaults have, for each modelled entry of its shape, a value of its type's length
+defaults_hold : (p : Project) (node : ℕ) → HoldEach (shape_in (ShapeIs (shape_of_node p node))).entries (values_in (DefaultsAre (defaults_of_node p node)))
+unfolding shape_of_node defaults_of_node
+defaults_hold p node = by (member_at p node)
+  where
+    by : (o : Option Member) → HoldEach (shape_in (ShapeIs (option_map (λ (m : Member). shape_of m.sections node) o))).entries
+        (values_in (DefaultsAre (option_map (λ (m : Member). defaults_of m.sections node) o)))
+    by None = λ place entry there modelled. cc (sym (get-empty place_cmp place) ∙ there)
+    by (Some m) = values_have_lengths m.sections node
+
+pub coherent : (p : Project) → IsSound p → IsCoherent (image_of p)
+coherent p sound = record {
+  roster = is_roster p sound;
+  writes = write_fits p;
+  within = λ i. tt;
+  defaults = defaults_hold p;
+  steps = λ i. tt;
+}

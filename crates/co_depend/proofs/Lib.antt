@@ -1,0 +1,5 @@
+pub mod CoherentLemmas
+pub mod HeldLemmas
+pub mod PointerLemmas
+pub mod RosterLemmas
+pub mod SizeLemmas

@@ -1,0 +1,45 @@
+-- What the program holds of a node: the same for each, whichever part is asked for.
+use Rattle.std.specs.Prelude.{ℕ, List, Option, option_map, refl}
+use Rattle.std.specs.Coded.{Coded, code_by, coded×, coded_ℕ, coded_list}
+use Rattle.std.specs.FinMap.{FinMap, insert}
+use Rattle.std.specs.Option.{option_map_or}
+use Rattle.std.specs.Ordering.{nat_cmp}
+use Rattle.concise_dcf.specs.declared.write.Write.{Write}
+use Rattle.co_dict.specs.Shapes.{Shaped}
+use Rattle.co_dict.specs.Values.{Values}
+use Rattle.co_network.specs.Network.{with_sections, writes_of, Member}
+use Rattle.co_project.specs.declared.node.Node.{Node}
+use Rattle.co_project.specs.Project.{Content as Project}
+use Rattle.co_parts.specs.declared.identity.Identity.{Identity}
+use Rattle.eds_device.specs.Entries.{defaults_of, shape_of}
+use Rattle.eds_device.specs.Identity.{identity}
+
+-- a node's parts
+pub record Held : Type 0 where
+  pub defaults : Values
+  pub shape : Shaped
+  pub expect : Identity
+  pub writes : List Write
+
+-- they are stored one by one
+abbrev pub held_code : Coded Values → Coded Shaped → Coded Identity → Coded Write → Coded Held
+held_code values_code shape_code identity_code write_code =
+    code_by (Values × (Shaped × (Identity × List Write))) (coded× values_code (coded× shape_code (coded× identity_code (coded_list write_code))))
+    (λ h. (h.defaults, (h.shape, (h.expect, h.writes)))) (λ t. record { defaults = t.0; shape = t.1.0; expect = t.1.1.0; writes = t.1.1.1 }) (λ _. refl)
+
+-- nodes by number
+abbrev pub AllHeld : Type 0
+AllHeld = FinMap nat_cmp Held
+
+-- the parts of a node that is made of its EDS
+abbrev pub held_of : Project → ℕ → Member → Held
+held_of project node m = record {
+  defaults = defaults_of m.sections node;
+  shape = shape_of m.sections node;
+  expect = record { numbers = identity m.sections node };
+  writes = writes_of project m node;
+}
+
+-- a node with its parts, where its EDS is there
+abbrev pub with_held : Project → ℕ × Node → AllHeld → AllHeld
+with_held project e held = option_map_or (λ m. insert held e.0 (held_of project e.0 m)) (with_sections project e.1) held

@@ -1,0 +1,4 @@
+pub mod Image
+pub mod Held
+pub mod Pointers
+pub mod Supply

@@ -1,0 +1,27 @@
+//! Pointers to parts.
+ghost use Rattle.std.specs.Prelude.{◌≡◌, IfOk};
+ghost use Rattle.co_parts.specs.Shared.{shared};
+
+use std::alloc::AllocError;
+use std::rc::Rc;
+
+/// Another pointer to the same part, if there is one. Takes no memory.
+pub(crate) fn pointer<T: Drop>(part: &Option<Rc<T>>) -> Result<Option<Rc<T>>, AllocError>
+    ensures { IfOk result (λ copy. shared copy ≡ shared part.now) }
+{
+    match part {
+        None => Ok(None),
+        Some(part) => {
+            let copy = part.clone()?;
+            Ok(Some(copy))
+        }
+    }
+}
+
+/// Another pointer to a part. Takes no memory.
+pub(crate) fn some_pointer<T: Drop>(part: &Rc<T>) -> Result<Option<Rc<T>>, AllocError>
+    ensures { IfOk result (λ copy. shared copy ≡ shared (Some part.now)) }
+{
+    let copy = part.clone()?;
+    Ok(Some(copy))
+}

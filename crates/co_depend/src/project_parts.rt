@@ -1,0 +1,153 @@
+//! What hands out the parts of a project.
+ghost use Rattle.std.specs.Prelude.{◌≡◌, ◌+◌, ◌-◌, ◌^◌, [], min, IfOk, OnOk};
+ghost use Rattle.asking.specs.Asking.{handed};
+ghost use Rattle.co_parts.specs.Contents.{EventsAre, RosterIs};
+ghost use Rattle.co_parts.specs.Shared.{shared};
+ghost use Rattle.co_parts.specs.declared.part.Part.TheVariants as part;
+ghost use Rattle.co_depend.specs.Image.{image_of};
+ghost use Rattle.co_depend.specs.Supply.{seen_of};
+
+use crate::made::make_roster;
+use crate::node_table::NodeTable;
+use crate::pointer::{pointer, some_pointer};
+use crate::reading::read_nodes;
+use asking::Asked;
+use co_device::Shapes;
+use co_dict::{Dict, Shape};
+use co_parts::{Identity, Part, PartContent, Read, Roster, Window};
+use co_project::Project;
+use concise_dcf::Write;
+use nmt_boot::Boots;
+use std::alloc::{AllocError, Global};
+use std::marker::Model;
+use std::rc::Rc;
+
+/// Hands out the parts of a project, made once, and records what was asked.
+#[derive(Drop)]
+pub struct ProjectParts {
+    alloc: Global,
+    roster: Rc<Roster>,
+    nodes: NodeTable,
+    asked: Vec<Read>,
+    asks: u64,
+}
+
+impl Model for ProjectParts {
+    ghost use Rattle.co_parts.specs.contracts.read.Read as noted;
+    ghost use Rattle.co_parts.specs.contracts.roster.Roster as listed;
+    ghost use Rattle.co_depend.specs.contracts.node_table.NodeTable as table;
+    ghost use Rattle.co_depend.specs.Supply.{supply_code, Supply};
+
+    ghost Value = { Supply };
+
+    ghost coded = { supply_code listed.the_row.coded table.the_row.coded noted.the_row.coded };
+
+    ghost view = { λ parts. record { roster = parts.roster.value; nodes = parts.nodes; asked = parts.asked.items; asks = parts.asks } };
+}
+
+impl ProjectParts {
+    /// Makes the parts of a project.
+    ///
+    /// Reads the text of each EDS that a node has once, plans the messages once, and makes the parts of
+    /// each node once: takes time by the length of these texts and their logarithms, by the number of
+    /// nodes, messages, sources and sinks, and by the entries and the writes of each node.
+    pub fn new(alloc: Global, project: &Project) -> Result<ProjectParts, AllocError>
+        ensures seen { IfOk result (λ parts. seen_of parts ≡ record { image = image_of project.now; asked = [] }) }
+        ensures asks { IfOk result (λ parts. parts.asks ≡ 0) }
+    {
+        let roster = make_roster(alloc, project)?;
+        let roster = Rc::new(alloc, roster)?;
+        let nodes = read_nodes(alloc, project)?;
+        Ok(ProjectParts {
+            alloc,
+            roster,
+            nodes,
+            asked: Vec::new(alloc),
+            asks: 0,
+        })
+    }
+
+    /// Hands over the record of what was asked, in order, and begins an empty one.
+    pub fn take_asked(&mut self) -> Vec<Read>
+        ensures record_taken { result.items ≡ self.old.asked }
+        ensures state { self.new ≡ record self.old { asked = [] } }
+    {
+        std::mem::replace(&mut self.asked, Vec::new(self.alloc))
+    }
+
+    /// The roster of the network.
+    pub fn roster(&mut self) -> Result<Option<Rc<Roster>>, AllocError>
+        ensures value { IfOk result (λ r. (seen_of self.old).image part.Roster ≡ RosterIs (shared r)) }
+        ensures noted { OnOk result (seen_of self.new ≡ handed part.Roster (seen_of self.old)) }
+        ensures counted { self.new.asks ≡ min (self.old.asks + 1) (2 ^ 64 - 1) }
+        ensures kept { (seen_of self.new).image ≡ (seen_of self.old).image }
+    {
+        self.asks = self.asks.saturating_add(1);
+        let answer = some_pointer(&self.roster)?;
+        let noted = pointer(&answer)?;
+        self.asked
+            .push(Read::new(Part::Roster, PartContent::of_roster(noted)))?;
+        Ok(answer)
+    }
+
+    /// The events of a window, counted from 0.
+    pub fn events(&mut self, window: u32) -> Result<Option<Rc<Window>>, AllocError>
+        ensures value { IfOk result (λ r. (seen_of self.old).image (part.Events window) ≡ EventsAre (shared r)) }
+        ensures noted { OnOk result (seen_of self.new ≡ handed (part.Events window) (seen_of self.old)) }
+        ensures counted { self.new.asks ≡ min (self.old.asks + 1) (2 ^ 64 - 1) }
+        ensures kept { (seen_of self.new).image ≡ (seen_of self.old).image }
+    {
+        self.asks = self.asks.saturating_add(1);
+        self.asked
+            .push(Read::new(Part::Events(window), PartContent::of_events(None)))?;
+        Ok(None)
+    }
+}
+
+impl Asked<Part, PartContent> for ProjectParts {
+    ghost use Rattle.co_depend.specs.Supply.{seen_of};
+
+    ghost seen = { seen_of };
+
+    ghost asks = { λ parts. parts.asks };
+}
+
+impl Shapes for ProjectParts {
+    fn defaults(&mut self, node: u8) -> Result<Option<Rc<Dict>>, AllocError> {
+        self.asks = self.asks.saturating_add(1);
+        let answer = self.nodes.defaults(node)?;
+        let noted = pointer(&answer)?;
+        self.asked
+            .push(Read::new(Part::Defaults(node), PartContent::of_defaults(noted)))?;
+        Ok(answer)
+    }
+
+    fn shape(&mut self, node: u8) -> Result<Option<Rc<Shape>>, AllocError> {
+        self.asks = self.asks.saturating_add(1);
+        let answer = self.nodes.shape(node)?;
+        let noted = pointer(&answer)?;
+        self.asked
+            .push(Read::new(Part::Shape(node), PartContent::of_shape(noted)))?;
+        Ok(answer)
+    }
+}
+
+impl Boots for ProjectParts {
+    fn expect(&mut self, node: u8) -> Result<Option<Rc<Identity>>, AllocError> {
+        self.asks = self.asks.saturating_add(1);
+        let answer = self.nodes.expect(node)?;
+        let noted = pointer(&answer)?;
+        self.asked
+            .push(Read::new(Part::Expect(node), PartContent::of_expect(noted)))?;
+        Ok(answer)
+    }
+
+    fn boot(&mut self, node: u8, place: u32) -> Result<Option<Rc<Write>>, AllocError> {
+        self.asks = self.asks.saturating_add(1);
+        let answer = self.nodes.write(node, place)?;
+        let noted = pointer(&answer)?;
+        self.asked
+            .push(Read::new(Part::Boot(node, place), PartContent::of_boot(noted)))?;
+        Ok(answer)
+    }
+}
