@@ -1,0 +1,3 @@
+pub mod EachLemmas
+pub mod ArbitrationLemmas
+pub mod ManagerLemmas

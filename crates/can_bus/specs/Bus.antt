@@ -117,23 +117,38 @@ slot_of t bit sender frame = record { end = t + slot_bits frame * bit; sender = 
 abbrev pub device_at : List Device → ℕ → Device
 device_at ds i = slice_index_or ds i (device.without_power false 0)
 
--- the frame leaves the list of a device, or else that of the manager
-abbrev pub sent_by : ℕ → Contender → Option ℕ → Bus → Bus
-sent_by t c None s = record s {
-  manager = record s.manager { waiting = remove s.manager.waiting c.place };
-  wire = Some (slot_of t s.bit_time c.node (frame_at s.manager.waiting c.place));
-}
-sent_by t c (Some i) s = record s {
-  devices = slice_set s.devices i (record (device_at s.devices i) { waiting = remove (device_at s.devices i).waiting c.place });
-  wire = Some (slot_of t s.bit_time c.node (frame_at (device_at s.devices i).waiting c.place));
-}
+-- what is sent: the frame of a device, or else of the manager
+abbrev pub frame_sent : Contender → Option ℕ → List Device → Manager → BaseFrame
+frame_sent c None ds m = frame_at m.waiting c.place
+frame_sent c (Some i) ds m = frame_at (device_at ds i).waiting c.place
+
+-- it leaves its list
+abbrev pub devices_after : Contender → Option ℕ → List Device → List Device
+devices_after c None ds = ds
+devices_after c (Some i) ds = slice_set ds i (record (device_at ds i) { waiting = remove (device_at ds i).waiting c.place })
+
+abbrev pub manager_after : Contender → Option ℕ → Manager → Manager
+manager_after c None m = record m { waiting = remove m.waiting c.place }
+manager_after c (Some i) m = m
+
+-- the place of the first device that contends with the frame
+unfoldable pub sender_place : Contender → List Device → Option ℕ
+sender_place c ds = position (contends_with c) ds
 
 abbrev pub started : ℕ → Option Contender → Bus → Bus
 started t None s = s
-started t (Some c) s = sent_by t c (position (contends_with c) s.devices) s
+started t (Some c) s = record s {
+  devices = devices_after c (sender_place c s.devices) s.devices;
+  manager = manager_after c (sender_place c s.devices) s.manager;
+  wire = Some (slot_of t s.bit_time c.node (frame_sent c (sender_place c s.devices) s.devices s.manager));
+}
+
+-- the frame that wins
+unfoldable pub winner : List Device → Manager → Option Contender
+winner ds m = winner_of (contenders (lists ds m))
 
 abbrev pub start_on : ℕ → Option Slot → Bus → Bus
-start_on t None s = started t (winner_of (contenders (lists s.devices s.manager))) s
+start_on t None s = started t (winner s.devices s.manager) s
 start_on t (Some slot) s = s
 
 unfoldable pub slot_started : ℕ → Bus → Bus

@@ -1,11 +1,15 @@
 //! One instant of a CAN bus with its devices and its manager.
 #![tactic(auto)]
 
+mod arbitration;
 mod bus_state;
+mod devices;
 mod line;
 mod lines;
+mod managing;
 mod parts;
 mod slot;
+mod telling;
 
 pub use bus_state::BusState;
 pub use line::Line;
