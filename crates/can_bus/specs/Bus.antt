@@ -154,16 +154,21 @@ start_on t (Some slot) s = s
 unfoldable pub slot_started : ℕ → Bus → Bus
 slot_started t s = start_on t s.wire s
 
--- ---- ONE INSTANT: the frame that ends, its delivery, the timers of each device, the manager, and the next slot
+-- ---- what the nodes do in an instant: the delivery, the timers of each device, and the manager
 
-abbrev pub after_manager : ℕ → Bus → List Device → Manager × List Noted → Bus × List Line
-after_manager t s ds r = (
-  slot_started t (record { spent = s.spent; bit_time = s.bit_time; devices = ds; manager = r.0; wire = on_wire t s.wire }),
-  frame_lines t (ended t s.wire) ++ note_lines t r.1,
+unfoldable pub after_timers : ℕ → Option Slot → Manager → List Device → Asking Part Content (List Device × (Manager × List Noted))
+after_timers t slot m ds = bind (managed t slot m) (λ r. Answer (ds, r))
+
+unfoldable pub nodes_at : ℕ → Option Slot → List Device → Manager → Asking Part Content (List Device × (Manager × List Noted))
+nodes_at t slot ds m = bind (delivered t slot ds) (λ heard. after_timers t slot m (map (device.timers t) heard))
+
+-- ---- ONE INSTANT: the frame that ends, what the nodes do, and the slot that starts
+
+abbrev pub after_nodes : ℕ → Bus → List Device × (Manager × List Noted) → Bus × List Line
+after_nodes t s q = (
+  slot_started t (record { spent = s.spent; bit_time = s.bit_time; devices = q.0; manager = q.1.0; wire = on_wire t s.wire }),
+  frame_lines t (ended t s.wire) ++ note_lines t q.1.1,
 )
 
-unfoldable pub after_timers : ℕ → Bus → List Device → Asking Part Content (Bus × List Line)
-after_timers t s ds = bind (managed t (ended t s.wire) s.manager) (λ r. Answer (after_manager t s ds r))
-
 unfoldable pub instant : ℕ → Bus → Asking Part Content (Bus × List Line)
-instant t s = bind (delivered t (ended t s.wire) s.devices) (λ ds. after_timers t s (map (device.timers t) ds))
+instant t s = bind (nodes_at t (ended t s.wire) s.devices s.manager) (λ q. Answer (after_nodes t s q))

@@ -7,6 +7,7 @@ mod devices;
 mod line;
 mod lines;
 mod managing;
+mod nodes;
 mod parts;
 mod slot;
 mod telling;
