@@ -1,0 +1,174 @@
+-- The bus at a moment, and one instant of it. All moments are absolute, in microseconds from the power-on of the network.
+use Rattle.std.specs.Prelude.{ℕ, ◌+◌, ◌*◌, ◌==◌, ◌&&◌, Bool, false, true, List, [], ◌∷◌, ◌++◌, map, remove, slice_index_or, slice_set, Option, Some, None, if◌then◌else◌}
+use Rattle.std.specs.List.{position}
+use Rattle.asking.specs.Asking.{Asking, Answer, Ask, bind}
+use Rattle.can_frame.specs.Frames.{BaseFrame, bit_time, slot_bits}
+use Rattle.can_frame.specs.Winner.{contenders, contenders_of, winner_of}
+use Rattle.can_frame.specs.WaitingFrames.{waiting}
+use Rattle.can_frame.specs.declared.contender.Contender.{Contender}
+use Rattle.can_frame.specs.declared.purpose.Purpose.TheVariants.{Nmt}
+use Rattle.can_frame.specs.declared.waiting.Waiting.{Waiting}
+use Rattle.co_parts.specs.Contents.{Content, roster_of}
+use Rattle.co_parts.specs.declared.part.Part.{Part}
+use Rattle.co_parts.specs.declared.part.Part.TheVariants.{Roster}
+use Rattle.co_parts.specs.declared.roster.Roster.{Roster as Network}
+use Rattle.co_device.specs.Device as device
+use Rattle.co_device.specs.Device.{Device}
+use Rattle.nmt_boot.specs.Manager as manager
+use Rattle.nmt_boot.specs.Manager.{Manager}
+use Rattle.nmt_boot.specs.declared.note.Note.{Note as Noted}
+use Rattle.can_bus.specs.Each.{each}
+use Rattle.can_bus.specs.declared.line.Line.{Line}
+use Rattle.can_bus.specs.declared.line.Line.TheVariants.{Frame, Note}
+use Rattle.can_bus.specs.declared.slot.Slot.{Slot}
+
+-- the time of one bit in microseconds, the devices by number, the manager, and what is on the wire
+pub record Bus : Type 0 where
+  pub spent : Bool
+  pub bit_time : ℕ
+  pub devices : List Device
+  pub manager : Manager
+  pub wire : Option Slot
+
+-- ---- before and at the power-on of the network
+
+-- a bus without devices
+abbrev pub blank : Bus
+blank = record { spent = false; bit_time = 1; devices = []; manager = manager.blank; wire = None }
+
+-- the devices of a network before its power-on
+abbrev pub without_power : List ℕ → List Device
+without_power numbers = map (device.without_power false) numbers
+
+abbrev pub switched_on : Network → List Device → Bus
+switched_on roster devices = record { spent = false; bit_time = bit_time roster.bit_rate; devices = devices; manager = manager.powered_on roster; wire = None }
+
+-- each device gets power, by number, and the manager
+unfoldable pub power_on_of : Network → Asking Part Content Bus
+power_on_of roster = bind (each (device.powered true 0) (without_power roster.nodes)) (λ devices. Answer (switched_on roster devices))
+
+unfoldable pub power_on : Asking Part Content Bus
+power_on = Ask Roster (λ v. power_on_of (roster_of v))
+
+-- ---- the frame whose slot ends at t is off the wire, and its line is told
+
+abbrev pub ends_at : ℕ → Slot → Bool
+ends_at t slot = slot.end == t
+
+-- the slot that ends
+abbrev pub ended : ℕ → Option Slot → Option Slot
+ended t None = None
+ended t (Some slot) = if ends_at t slot then Some slot else None
+
+-- what is on the wire after it
+abbrev pub on_wire : ℕ → Option Slot → Option Slot
+on_wire t None = None
+on_wire t (Some slot) = if ends_at t slot then None else Some slot
+
+abbrev pub frame_lines : ℕ → Option Slot → List Line
+frame_lines t None = []
+frame_lines t (Some slot) = Frame t slot.frame ∷ []
+
+-- ---- it is delivered to each other device, by number
+
+unfoldable pub hears : ℕ → Slot → Device → Asking Part Content Device
+hears t slot d = if d.number == slot.sender then Answer d else device.received t slot.frame d
+
+unfoldable pub delivered : ℕ → Option Slot → List Device → Asking Part Content (List Device)
+delivered t None ds = Answer ds
+delivered t (Some slot) ds = each (hears t slot) ds
+
+-- ---- the manager: the delivered frame, and then its timers
+
+unfoldable pub manager_hears : ℕ → Option Slot → Manager → Asking Part Content (Manager × List Noted)
+manager_hears t None m = Answer (m, [])
+manager_hears t (Some slot) m = if m.number == slot.sender then Answer (m, []) else manager.received t slot.frame m
+
+abbrev pub manager_timers : ℕ → Manager × List Noted → Manager × List Noted
+manager_timers t r = ((manager.timers t r.0).0, r.1 ++ (manager.timers t r.0).1)
+
+unfoldable pub managed : ℕ → Option Slot → Manager → Asking Part Content (Manager × List Noted)
+managed t slot m = bind (manager_hears t slot m) (λ r. Answer (manager_timers t r))
+
+abbrev pub note_lines : ℕ → List Noted → List Line
+note_lines t notes = map (Note t) notes
+
+-- ---- where the wire is idle and a frame waits, the slot of the winner starts
+
+-- the lists of the devices and that of the manager
+abbrev pub lists : List Device → Manager → List (ℕ × List Waiting)
+lists ds m = map (λ d. (d.number, d.waiting)) ds ++ (m.number, m.waiting) ∷ []
+
+abbrev pub is_contender : Contender → Option Contender → Bool
+is_contender c None = false
+is_contender c (Some b) = (b.id == c.id) && ((b.node == c.node) && (b.place == c.place))
+
+-- it is this device that contends with the frame
+abbrev pub contends_with : Contender → Device → Bool
+contends_with c d = is_contender c (winner_of (contenders_of (d.number, d.waiting)))
+
+-- the frame that waits at a place
+abbrev pub frame_at : List Waiting → ℕ → BaseFrame
+frame_at frames place = (slice_index_or frames place (waiting Nmt (record { id = 0; bytes = [] }))).frame
+
+abbrev pub slot_of : ℕ → ℕ → ℕ → BaseFrame → Slot
+slot_of t bit sender frame = record { end = t + slot_bits frame * bit; sender = sender; frame = frame }
+
+abbrev pub device_at : List Device → ℕ → Device
+device_at ds i = slice_index_or ds i (device.without_power false 0)
+
+-- what is sent: the frame of a device, or else of the manager
+abbrev pub frame_sent : Contender → Option ℕ → List Device → Manager → BaseFrame
+frame_sent c None ds m = frame_at m.waiting c.place
+frame_sent c (Some i) ds m = frame_at (device_at ds i).waiting c.place
+
+-- it leaves its list
+abbrev pub devices_after : Contender → Option ℕ → List Device → List Device
+devices_after c None ds = ds
+devices_after c (Some i) ds = slice_set ds i (record (device_at ds i) { waiting = remove (device_at ds i).waiting c.place })
+
+abbrev pub manager_after : Contender → Option ℕ → Manager → Manager
+manager_after c None m = record m { waiting = remove m.waiting c.place }
+manager_after c (Some i) m = m
+
+-- the place of the first device that contends with the frame
+unfoldable pub sender_place : Contender → List Device → Option ℕ
+sender_place c ds = position (contends_with c) ds
+
+abbrev pub started : ℕ → Option Contender → Bus → Bus
+started t None s = s
+started t (Some c) s = record s {
+  devices = devices_after c (sender_place c s.devices) s.devices;
+  manager = manager_after c (sender_place c s.devices) s.manager;
+  wire = Some (slot_of t s.bit_time c.node (frame_sent c (sender_place c s.devices) s.devices s.manager));
+}
+
+-- the frame that wins
+unfoldable pub winner : List Device → Manager → Option Contender
+winner ds m = winner_of (contenders (lists ds m))
+
+abbrev pub start_on : ℕ → Option Slot → Bus → Bus
+start_on t None s = started t (winner s.devices s.manager) s
+start_on t (Some slot) s = s
+
+unfoldable pub slot_started : ℕ → Bus → Bus
+slot_started t s = start_on t s.wire s
+
+-- ---- what the nodes do in an instant: the delivery, the timers of each device, and the manager
+
+unfoldable pub after_timers : ℕ → Option Slot → Manager → List Device → Asking Part Content (List Device × (Manager × List Noted))
+after_timers t slot m ds = bind (managed t slot m) (λ r. Answer (ds, r))
+
+unfoldable pub nodes_at : ℕ → Option Slot → List Device → Manager → Asking Part Content (List Device × (Manager × List Noted))
+nodes_at t slot ds m = bind (delivered t slot ds) (λ heard. after_timers t slot m (map (device.timers t) heard))
+
+-- ---- ONE INSTANT: the frame that ends, what the nodes do, and the slot that starts
+
+abbrev pub after_nodes : ℕ → Bus → List Device × (Manager × List Noted) → Bus × List Line
+after_nodes t s q = (
+  slot_started t (record { spent = s.spent; bit_time = s.bit_time; devices = q.0; manager = q.1.0; wire = on_wire t s.wire }),
+  frame_lines t (ended t s.wire) ++ note_lines t q.1.1,
+)
+
+unfoldable pub instant : ℕ → Bus → Asking Part Content (Bus × List Line)
+instant t s = bind (nodes_at t (ended t s.wire) s.devices s.manager) (λ q. Answer (after_nodes t s q))

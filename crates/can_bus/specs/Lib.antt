@@ -1,0 +1,4 @@
+pub mod Each
+pub mod Bus
+pub mod Lines
+pub mod Runs

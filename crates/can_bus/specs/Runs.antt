@@ -1,0 +1,42 @@
+-- A run from power-on, its trace, and words of the laws of a bus.
+use Rattle.std.specs.Prelude.{◌≡◌, ℕ, ◌+◌, nat_le, Bool, List, [], ◌∷◌, All, filter, Option, Some, None}
+use Rattle.std.specs.List.{flat_map}
+use Rattle.asking.specs.Asking.{Asking, bind, outcome, turns}
+use Rattle.co_parts.specs.Contents.{Content, Image, roster_of}
+use Rattle.co_parts.specs.declared.part.Part.{Part}
+use Rattle.co_parts.specs.declared.part.Part.TheVariants.{Defaults, Roster, Shape}
+use Rattle.can_bus.specs.Bus.{Bus, instant, power_on}
+use Rattle.can_bus.specs.Lines.{line_time}
+use Rattle.can_bus.specs.declared.line.Line.{Line}
+use Rattle.can_bus.specs.declared.slot.Slot.{Slot}
+
+-- from power-on, an instant at each moment before the end
+unfoldable pub run : ℕ → Asking Part Content (Bus × List Line)
+run end = bind power_on (turns instant end 0)
+
+-- the line has a time up to the horizon
+abbrev pub is_shown : ℕ → Line → Bool
+is_shown horizon line = nat_le (line_time line) horizon
+
+-- THE TRACE: the lines of the run, an instant at each moment up to the horizon, whose time is at most the horizon
+unfoldable pub trace : Image → ℕ → List Line
+trace image horizon = filter (is_shown horizon) (outcome (run (horizon + 1)) image).1
+
+-- nothing is on the wire
+abbrev pub IsIdle : Option Slot → Type 0
+IsIdle None = Unit {0}
+IsIdle (Some slot) = ⊥
+
+-- no frame waits at a device or at the manager
+pub record NoneWaits (s : Bus) : Type 0 where
+  pub devices : All (λ d. d.waiting ≡ []) s.devices
+  pub manager : s.manager.waiting ≡ []
+
+-- no frame waits at an idle wire
+unfoldable pub IsSettled : Bus → Type 0
+IsSettled s = IsIdle s.wire → NoneWaits s
+
+-- what power-on reads: the roster, and of each node its values and its entries
+abbrev pub power_on_reads : Image → List (Part × Content)
+power_on_reads image =
+    (Roster, image Roster) ∷ flat_map (λ n. (Defaults n, image (Defaults n)) ∷ (Shape n, image (Shape n)) ∷ []) (roster_of (image Roster)).nodes

@@ -1,0 +1,229 @@
+//! The bus at a moment.
+
+ghost use Rattle.std.specs.Prelude.{◌≡◌, ◌<◌, ◌≤◌, ◌+◌, ◌*◌, ◌++◌, length, IfOk, OnOk, OnErr, IsErr, IsTrue};
+ghost use Rattle.asking.specs.Asking.{followed, outcome, reads};
+ghost use Rattle.can_bus.specs.Bus.{blank, ended, instant, on_wire, power_on, power_on_of, slot_started};
+ghost use Rattle.can_frame.specs.Frames.{slot_bits as bits_of};
+ghost use Rattle.co_parts.specs.Contents.{first_roster as roster_of_first};
+
+use crate::arbitration::{send, winner};
+use crate::devices::{new_devices, power_all};
+use crate::lines::Lines;
+use crate::nodes::run_nodes;
+use crate::parts::Parts;
+use crate::slot::Slot;
+use crate::telling::tell;
+use can_frame::{Frame, bit_time, slot_bits};
+use co_base::Octets;
+use co_device::DeviceState;
+use co_parts::{END, Roster};
+use nmt_boot::{Manager, Notes};
+use std::alloc::{AllocError, Global};
+use std::marker::Model;
+
+/// A CAN bus at a moment: its devices, its manager, and the frame on the wire.
+///
+/// A bus that found no memory in a call is spent: `spent` answers true, and each later call that can
+/// answer `AllocError` does. All moments are microseconds from the power-on of the network.
+#[derive(Drop)]
+pub struct BusState {
+    alloc: Global,
+    spent: bool,
+    bit_time: u32,
+    devices: Vec<DeviceState>,
+    manager: Manager,
+    wire: Option<Slot>,
+}
+
+impl Model for BusState {
+    ghost use Rattle.std.specs.Coded.{codes, coded_ℕ, coded_list, coded×};
+    ghost use Rattle.std.specs.FinMap as map;
+    ghost use Rattle.co_dict.specs.Places.{place_cmp};
+    ghost use Rattle.can_bus.specs.Bus.{Bus};
+
+    ghost Value = { Bus };
+
+    ghost coded = { Prim.hlevel (codes, map.code {R = place_cmp} (coded× coded_ℕ coded_ℕ) (coded_list coded_ℕ)) };
+
+    ghost view = { λ bus. record { spent = bus.spent; bit_time = bus.bit_time; devices = bus.devices.items; manager = bus.manager; wire = bus.wire } };
+}
+
+/// The network of the first project: its manager alone.
+fn first_roster(alloc: Global) -> Roster
+    ensures { result ≡ roster_of_first }
+{
+    Roster {
+        bit_rate: 1000,
+        manager: 127,
+        sync_us: 0,
+        heartbeat_ms: 0,
+        timeout_ms: 500,
+        nodes: Octets::from_vec(Vec::new(alloc)),
+    }
+}
+
+/// The bus of this network as the power comes on.
+#[tactic(auto, using(crate::proofs::PowerLemmas::power_on_laws))]
+fn power_on_of<P: Parts>(
+    alloc: Global,
+    roster: &Roster,
+    parts: &mut P,
+) -> Result<BusState, AllocError>
+    requires { 1 ≤ roster.now.bit_rate }
+    ensures state { IfOk result (λ bus. bus ≡ outcome (power_on_of roster.now) (P.seen parts.old).image) }
+    ensures noted { OnOk result (P.seen parts.new ≡ followed (power_on_of roster.now) (P.seen parts.old)) }
+    ensures counted { OnOk result (P.asks parts.new ≤ P.asks parts.old + length (reads (power_on_of roster.now) (P.seen parts.old).image)) }
+    ensures kept { (P.seen parts.new).image ≡ (P.seen parts.old).image }
+{
+    let mut devices = new_devices(alloc, roster.nodes.as_slice())?;
+    power_all(devices.as_mut_slice(), parts)?;
+    let manager = Manager::powered_on(alloc, roster)?;
+    Ok(BusState {
+        alloc,
+        spent: false,
+        bit_time: bit_time(roster.bit_rate),
+        devices,
+        manager,
+        wire: None,
+    })
+}
+
+/// Takes the slot that ends at the moment t off the wire.
+fn take_ended(wire: &mut Option<Slot>, t: u64) -> Option<Slot>
+    ensures ended { result ≡ ended t wire.old }
+    ensures wire { wire.new ≡ on_wire t wire.old }
+{
+    match *wire {
+        Some(slot) if slot.end == t => {
+            *wire = None;
+            Some(slot)
+        }
+        _ => None,
+    }
+}
+
+/// The end of a slot that starts at the moment t.
+fn slot_end(t: u64, bit_time: u32, frame: &Frame) -> u64
+    requires { t < END }
+    ensures { result ≡ t + bits_of frame.now * bit_time }
+{
+    t + u64::from(slot_bits(frame)) * u64::from(bit_time)
+}
+
+/// Starts the slot of the winner at the moment t, where the wire is idle and a frame waits.
+#[tactic(auto, unfolding(crate::specs::Bus::slot_started))]
+fn start_slot(bus: &mut BusState, t: u64)
+    requires { t < END }
+    ensures { bus.new ≡ slot_started t bus.old }
+{
+    if bus.wire.is_some() {
+        return;
+    }
+    let best = winner(&bus.devices, &bus.manager);
+    if let Some(contender) = best {
+        let frame = send(&contender, bus.devices.as_mut_slice(), &mut bus.manager);
+        bus.wire = Some(Slot {
+            end: slot_end(t, bus.bit_time, &frame),
+            sender: contender.node,
+            frame,
+        });
+    }
+}
+
+/// One instant.
+#[tactic(auto, using(crate::proofs::InstantLemmas::instant_laws))]
+fn run_instant<P: Parts>(
+    bus: &mut BusState,
+    t: u64,
+    parts: &mut P,
+    lines: &mut Lines,
+) -> Result<(), AllocError>
+    requires { t < END }
+    ensures state { OnOk result (bus.new ≡ (outcome (instant t bus.old) (P.seen parts.old).image).0) }
+    ensures told { OnOk result (lines.new ≡ lines.old ++ (outcome (instant t bus.old) (P.seen parts.old).image).1) }
+    ensures noted { OnOk result (P.seen parts.new ≡ followed (instant t bus.old) (P.seen parts.old)) }
+    ensures counted { OnOk result (P.asks parts.new ≤ P.asks parts.old + length (reads (instant t bus.old) (P.seen parts.old).image)) }
+    ensures kept { (P.seen parts.new).image ≡ (P.seen parts.old).image }
+{
+    let ended = take_ended(&mut bus.wire, t);
+    let mut notes = Notes::new(bus.alloc);
+    run_nodes(
+        bus.devices.as_mut_slice(),
+        &mut bus.manager,
+        t,
+        &ended,
+        parts,
+        &mut notes,
+    )?;
+    tell(lines, t as u32, &ended, notes.as_slice())?;
+    start_slot(bus, t);
+    Ok(())
+}
+
+impl BusState {
+    /// A bus without devices. Takes no memory.
+    pub fn new(alloc: Global) -> BusState
+        ensures { result ≡ blank }
+    {
+        BusState {
+            alloc,
+            spent: false,
+            bit_time: 1,
+            devices: Vec::new(alloc),
+            manager: Manager::new(alloc),
+            wire: None,
+        }
+    }
+
+    /// The bus of a network as the power comes on, at time 0.
+    #[tactic(auto, unfolding(crate::specs::Bus::power_on))]
+    pub fn power_on<P: Parts>(alloc: Global, parts: &mut P) -> Result<BusState, AllocError>
+        ensures state { IfOk result (λ bus. bus ≡ outcome power_on (P.seen parts.old).image) }
+        ensures noted { OnOk result (P.seen parts.new ≡ followed power_on (P.seen parts.old)) }
+        ensures counted { OnOk result (P.asks parts.new ≤ P.asks parts.old + length (reads power_on (P.seen parts.old).image)) }
+        ensures kept { (P.seen parts.new).image ≡ (P.seen parts.old).image }
+    {
+        let roster = parts.roster()?;
+        match roster {
+            None => {
+                let first = first_roster(alloc);
+                power_on_of(alloc, &first, parts)
+            }
+            Some(roster) => power_on_of(alloc, &roster, parts),
+        }
+    }
+
+    /// Whether a call before found no memory.
+    pub fn spent(&self) -> bool
+        ensures { result ≡ self.now.spent }
+    {
+        self.spent
+    }
+
+    /// The instant at the moment t: tells what it brings in lines. One in which nothing is due takes no
+    /// memory.
+    pub fn instant<P: Parts>(
+        &mut self,
+        t: u64,
+        parts: &mut P,
+        lines: &mut Lines,
+    ) -> Result<(), AllocError>
+        requires { t < END }
+        ensures state { OnOk result (self.new ≡ (outcome (instant t self.old) (P.seen parts.old).image).0) }
+        ensures told { OnOk result (lines.new ≡ lines.old ++ (outcome (instant t self.old) (P.seen parts.old).image).1) }
+        ensures noted { OnOk result (P.seen parts.new ≡ followed (instant t self.old) (P.seen parts.old)) }
+        ensures counted { OnOk result (P.asks parts.new ≤ P.asks parts.old + length (reads (instant t self.old) (P.seen parts.old).image)) }
+        ensures kept { (P.seen parts.new).image ≡ (P.seen parts.old).image }
+        ensures refused { IsTrue self.old.spent → IsErr result }
+        ensures spent { OnErr result (IsTrue self.new.spent) }
+    {
+        if self.spent {
+            return Err(AllocError);
+        }
+        let done = run_instant(self, t, parts, lines);
+        if done.is_err() {
+            self.spent = true;
+        }
+        done
+    }
+}

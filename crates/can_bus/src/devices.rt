@@ -1,0 +1,89 @@
+//! What all devices of a bus do, by number.
+
+ghost use Rattle.std.specs.Prelude.{◌≡◌, ◌<◌, ◌≤◌, ◌+◌, true, length, map, IfOk, OnOk};
+ghost use Rattle.asking.specs.Asking.{followed, outcome, reads};
+ghost use Rattle.can_bus.specs.Bus.{hears, without_power};
+ghost use Rattle.can_bus.specs.Each.{each};
+ghost use Rattle.co_device.specs.Device.{powered, timers};
+
+use crate::slot::Slot;
+use co_device::{DeviceState, Shapes};
+use co_parts::END;
+use std::alloc::{AllocError, Global};
+
+/// The devices of these numbers without power.
+pub(crate) fn new_devices(alloc: Global, numbers: &[u8]) -> Result<Vec<DeviceState>, AllocError>
+    ensures { IfOk result (λ devices. devices.items ≡ without_power numbers.now) }
+{
+    let mut devices = Vec::new(alloc);
+    for number in numbers {
+        devices.push(DeviceState::new(alloc, *number))?;
+    }
+    Ok(devices)
+}
+
+/// Switches the power of each on, at time 0.
+pub(crate) fn power_all<P: Shapes>(
+    devices: &mut [DeviceState],
+    shapes: &mut P,
+) -> Result<(), AllocError>
+    ensures state { OnOk result (devices.new ≡ outcome (each (powered true 0) devices.old) (P.seen shapes.old).image) }
+    ensures noted { OnOk result (P.seen shapes.new ≡ followed (each (powered true 0) devices.old) (P.seen shapes.old)) }
+    ensures counted { OnOk result (P.asks shapes.new ≤ P.asks shapes.old + length (reads (each (powered true 0) devices.old) (P.seen shapes.old).image)) }
+    ensures kept { (P.seen shapes.new).image ≡ (P.seen shapes.old).image }
+{
+    for device in devices.iter_mut() {
+        device.power(true, 0, shapes)?;
+    }
+    Ok(())
+}
+
+/// Gives a device the frame of a slot that ends at the moment t, if it isn't its sender.
+#[tactic(auto, unfolding(crate::specs::Bus::hears))]
+fn hear<P: Shapes>(
+    device: &mut DeviceState,
+    t: u64,
+    slot: &Slot,
+    shapes: &mut P,
+) -> Result<(), AllocError>
+    requires { t < END }
+    ensures state { OnOk result (device.new ≡ outcome (hears t slot.now device.old) (P.seen shapes.old).image) }
+    ensures noted { OnOk result (P.seen shapes.new ≡ followed (hears t slot.now device.old) (P.seen shapes.old)) }
+    ensures counted { OnOk result (P.asks shapes.new ≤ P.asks shapes.old + length (reads (hears t slot.now device.old) (P.seen shapes.old).image)) }
+    ensures kept { (P.seen shapes.new).image ≡ (P.seen shapes.old).image }
+{
+    if device.number() == slot.sender {
+        return Ok(());
+    }
+    device.on_frame(t, &slot.frame, shapes)
+}
+
+/// Gives each device but its sender the frame of a slot that ends at the moment t.
+pub(crate) fn hear_all<P: Shapes>(
+    devices: &mut [DeviceState],
+    t: u64,
+    slot: &Slot,
+    shapes: &mut P,
+) -> Result<(), AllocError>
+    requires { t < END }
+    ensures state { OnOk result (devices.new ≡ outcome (each (hears t slot.now) devices.old) (P.seen shapes.old).image) }
+    ensures noted { OnOk result (P.seen shapes.new ≡ followed (each (hears t slot.now) devices.old) (P.seen shapes.old)) }
+    ensures counted { OnOk result (P.asks shapes.new ≤ P.asks shapes.old + length (reads (each (hears t slot.now) devices.old) (P.seen shapes.old).image)) }
+    ensures kept { (P.seen shapes.new).image ≡ (P.seen shapes.old).image }
+{
+    for device in devices.iter_mut() {
+        hear(device, t, slot, shapes)?;
+    }
+    Ok(())
+}
+
+/// Runs what is due at the moment t, at each device.
+pub(crate) fn run_timers(devices: &mut [DeviceState], t: u64) -> Result<(), AllocError>
+    requires { t < END }
+    ensures { OnOk result (devices.new ≡ map (timers t) devices.old) }
+{
+    for device in devices.iter_mut() {
+        device.on_instant(t)?;
+    }
+    Ok(())
+}

@@ -1,0 +1,19 @@
+//! One instant of a CAN bus with its devices and its manager.
+#![tactic(auto)]
+
+mod arbitration;
+mod bus_state;
+mod devices;
+mod line;
+mod lines;
+mod managing;
+mod nodes;
+mod parts;
+mod slot;
+mod telling;
+
+pub use bus_state::BusState;
+pub use line::Line;
+pub use lines::Lines;
+pub use parts::Parts;
+pub use slot::Slot;

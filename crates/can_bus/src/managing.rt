@@ -1,0 +1,57 @@
+//! What the manager of a bus does in an instant.
+
+ghost use Rattle.std.specs.Prelude.{◌≡◌, ◌<◌, ◌≤◌, ◌+◌, ◌++◌, length, OnOk};
+ghost use Rattle.asking.specs.Asking.{followed, outcome, reads};
+ghost use Rattle.can_bus.specs.Bus.{managed, manager_hears};
+
+use crate::slot::Slot;
+use co_parts::END;
+use nmt_boot::{Boots, Manager, Notes};
+use std::alloc::AllocError;
+
+/// Gives the manager the frame of a slot that ends at the moment t, if it isn't its sender.
+#[tactic(auto, unfolding(crate::specs::Bus::manager_hears))]
+fn hear<P: Boots>(
+    manager: &mut Manager,
+    t: u64,
+    ended: &Option<Slot>,
+    boots: &mut P,
+    notes: &mut Notes,
+) -> Result<(), AllocError>
+    requires { t < END }
+    ensures state { OnOk result (manager.new ≡ (outcome (manager_hears t ended.now manager.old) (P.seen boots.old).image).0) }
+    ensures notes { OnOk result (notes.new ≡ notes.old ++ (outcome (manager_hears t ended.now manager.old) (P.seen boots.old).image).1) }
+    ensures noted { OnOk result (P.seen boots.new ≡ followed (manager_hears t ended.now manager.old) (P.seen boots.old)) }
+    ensures counted { OnOk result (P.asks boots.new ≤ P.asks boots.old + length (reads (manager_hears t ended.now manager.old) (P.seen boots.old).image)) }
+    ensures kept { (P.seen boots.new).image ≡ (P.seen boots.old).image }
+{
+    match ended {
+        None => Ok(()),
+        Some(slot) => {
+            if manager.number() == slot.sender {
+                return Ok(());
+            }
+            manager.on_frame(t, &slot.frame, boots, notes)
+        }
+    }
+}
+
+/// Gives the manager the frame of a slot that ends at the moment t, and runs what is due then.
+#[tactic(auto, using(crate::proofs::ManagerLemmas::managed_laws))]
+pub(crate) fn manage<P: Boots>(
+    manager: &mut Manager,
+    t: u64,
+    ended: &Option<Slot>,
+    boots: &mut P,
+    notes: &mut Notes,
+) -> Result<(), AllocError>
+    requires { t < END }
+    ensures state { OnOk result (manager.new ≡ (outcome (managed t ended.now manager.old) (P.seen boots.old).image).0) }
+    ensures notes { OnOk result (notes.new ≡ notes.old ++ (outcome (managed t ended.now manager.old) (P.seen boots.old).image).1) }
+    ensures noted { OnOk result (P.seen boots.new ≡ followed (managed t ended.now manager.old) (P.seen boots.old)) }
+    ensures counted { OnOk result (P.asks boots.new ≤ P.asks boots.old + length (reads (managed t ended.now manager.old) (P.seen boots.old).image)) }
+    ensures kept { (P.seen boots.new).image ≡ (P.seen boots.old).image }
+{
+    hear(manager, t, ended, boots, notes)?;
+    manager.on_instant(t, notes)
+}

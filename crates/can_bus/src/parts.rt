@@ -1,0 +1,44 @@
+//! The only way of a bus to an image.
+
+ghost use Rattle.std.specs.Prelude.{◌≡◌, ◌+◌, ◌-◌, ◌^◌, [], min, IfOk, IfSome, OnOk};
+ghost use Rattle.asking.specs.Asking.{handed};
+ghost use Rattle.co_parts.specs.Contents.{EventsAre, RosterIs};
+ghost use Rattle.co_parts.specs.Images.{IsRoster, IsWithin};
+ghost use Rattle.co_parts.specs.Shared.{shared};
+ghost use Rattle.std.specs.List.{AllByRecursion};
+
+use co_device::Shapes;
+use co_parts::{Part, Read, Roster, Window};
+use nmt_boot::Boots;
+use std::alloc::AllocError;
+use std::rc::Rc;
+
+/// Hands out the parts of an image, and records what was asked.
+pub trait Parts: Shapes + Boots {
+    /// Bit rate, manager and nodes of the network, or none: numbers within their limits.
+    fn roster(&mut self) -> Result<Option<Rc<Roster>>, AllocError>
+        ensures value { IfOk result (λ r. (Self.seen self.old).image Part.Roster ≡ RosterIs (shared r)) }
+        ensures fits { IfOk result (λ r. IfSome (shared r) IsRoster) }
+        ensures noted { OnOk result (Self.seen self.new ≡ handed Part.Roster (Self.seen self.old)) }
+        ensures counted { Self.asks self.new ≡ min (Self.asks self.old + 1) (2 ^ 64 - 1) }
+        ensures kept { (Self.seen self.new).image ≡ (Self.seen self.old).image };
+
+    /// The events of window i, or none: each has its time there.
+    fn events(&mut self, i: u32) -> Result<Option<Rc<Window>>, AllocError>
+        ensures value { IfOk result (λ r. (Self.seen self.old).image (Part.Events i) ≡ EventsAre (shared r)) }
+        ensures fits { IfOk result (λ r. IfSome (shared r) (AllByRecursion (IsWithin i))) }
+        ensures noted { OnOk result (Self.seen self.new ≡ handed (Part.Events i) (Self.seen self.old)) }
+        ensures counted { Self.asks self.new ≡ min (Self.asks self.old + 1) (2 ^ 64 - 1) }
+        ensures kept { (Self.seen self.new).image ≡ (Self.seen self.old).image };
+
+    /// Hands the record of what was asked over, and empties it.
+    fn take_asked(&mut self) -> Vec<Read>
+        ensures taken { result.items ≡ (Self.seen self.old).asked }
+        ensures emptied { (Self.seen self.new).asked ≡ [] }
+        ensures image { (Self.seen self.new).image ≡ (Self.seen self.old).image }
+        ensures asks { Self.asks self.new ≡ Self.asks self.old };
+
+    /// The number of calls that asked, as far as it can be counted.
+    fn asks(&self) -> u64
+        ensures { result ≡ Self.asks self.now };
+}
