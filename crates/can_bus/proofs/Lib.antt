@@ -4,3 +4,4 @@ pub mod ManagerLemmas
 pub mod NodeLemmas
 pub mod PowerLemmas
 pub mod InstantLemmas
+pub mod RunLemmas

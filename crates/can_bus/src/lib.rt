@@ -9,6 +9,7 @@ mod lines;
 mod managing;
 mod nodes;
 mod parts;
+mod running;
 mod slot;
 mod telling;
 
@@ -16,4 +17,5 @@ pub use bus_state::BusState;
 pub use line::Line;
 pub use lines::Lines;
 pub use parts::Parts;
+pub use running::trace;
 pub use slot::Slot;
