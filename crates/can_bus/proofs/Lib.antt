@@ -4,3 +4,6 @@ pub mod ManagerLemmas
 pub mod NodeLemmas
 pub mod PowerLemmas
 pub mod InstantLemmas
+pub mod ReadLemmas
+pub mod ToldLemmas
+pub mod SettledLemmas
