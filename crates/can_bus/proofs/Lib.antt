@@ -5,3 +5,6 @@ pub mod NodeLemmas
 pub mod PowerLemmas
 pub mod InstantLemmas
 pub mod RunLemmas
+pub mod ReadLemmas
+pub mod ToldLemmas
+pub mod SettledLemmas

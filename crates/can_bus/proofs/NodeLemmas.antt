@@ -7,7 +7,6 @@ use Rattle.co_parts.specs.Contents.{Content, Image}
 use Rattle.co_parts.specs.declared.part.Part.{Part}
 use Rattle.co_device.specs.Device.{Device, timers}
 use Rattle.nmt_boot.specs.Manager.{Manager}
-use Rattle.nmt_boot.specs.declared.note.Note.{Note}
 use Rattle.can_bus.specs.Bus.{after_timers, delivered, managed, nodes_at}
 use Rattle.can_bus.specs.declared.slot.Slot.{Slot}
 

@@ -4,10 +4,12 @@
 mod arbitration;
 mod bus_state;
 mod devices;
+pub mod laws;
 mod line;
 mod lines;
 mod managing;
 mod nodes;
+mod note_line;
 mod parts;
 mod running;
 mod slot;

@@ -3,7 +3,8 @@
 ghost use Rattle.std.specs.Prelude.{◌≡◌, IfOk};
 ghost use Rattle.can_bus.specs.Lines.{line_text, line_time};
 
-use can_frame::Frame;
+use crate::note_line::note_line;
+use can_frame::{Frame, line};
 use nmt_boot::Note;
 use std::alloc::{AllocError, Global};
 
@@ -38,9 +39,12 @@ impl Line {
     }
 
     /// Its text, without a line feed.
-    pub fn text(&self, _alloc: Global) -> Result<Vec<u8>, AllocError>
+    pub fn text(&self, alloc: Global) -> Result<Vec<u8>, AllocError>
         ensures { IfOk result (λ text. text.items ≡ line_text self.now) }
     {
-        Err(AllocError)
+        match self {
+            Line::Frame { time, frame } => line(alloc, *time, frame),
+            Line::Note { time, note } => note_line(alloc, *time, note),
+        }
     }
 }

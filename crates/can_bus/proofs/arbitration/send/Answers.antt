@@ -1,6 +1,6 @@
-use Rattle.std.proofs.Common.{arith, false, Fits, length, ◌<◌}
+use Rattle.std.proofs.Common.{arith, false, length, ◌<◌}
 use Rattle.co_device.specs.Device.{without_power}
-use Rattle.can_bus.proofs.ArbitrationLemmas.{device_left, device_sends, manager_sends, manager_sends_at, sends_at}
+use Rattle.can_bus.proofs.ArbitrationLemmas.{device_sends, manager_sends, manager_sends_at, sends_at}
 use Rattle.can_bus.proofs.arbitration.send.Goals as goal
 
 pub bounds-devices-i : goal.bounds-devices-i

@@ -1,4 +1,3 @@
-use Rattle.std.proofs.lemmas.List.{take_all}
 use Rattle.can_frame.proofs.WinnerLemmas.{winner_more}
 use Rattle.co_device.specs.Device.{Device}
 use Rattle.can_bus.proofs.arbitration.winner_of_devices.Goals as goal

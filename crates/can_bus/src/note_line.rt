@@ -1,0 +1,67 @@
+//! The line of a note in a trace.
+
+ghost use Rattle.std.specs.Prelude.{◌≡◌, ◌++◌, IfOk, OnOk};
+ghost use Rattle.can_bus.specs.Lines.{abort_digits, note_line as line_of_note, word_text};
+ghost use Rattle.can_frame.specs.TraceLines.{ten_digits};
+
+use co_dict::Abort;
+use co_text::index_digits;
+use nmt_boot::{Note, Word};
+use std::alloc::{AllocError, Global};
+
+/// The longest line has as many bytes.
+const LONGEST_LINE: usize = 37;
+
+/// A time has as many digits.
+const ZEROS: [u8; 10] = *b"0000000000";
+
+/// The line of a note at a time in microseconds: the time in ten digits, the node, and what is noted of it; it
+/// has no line feed.
+pub(crate) fn note_line(alloc: Global, time: u32, note: &Note) -> Result<Vec<u8>, AllocError>
+    ensures { IfOk result (λ line. line.items ≡ line_of_note time note.now) }
+{
+    let mut out = Vec::with_capacity(alloc, LONGEST_LINE)?;
+    write_time(&mut out, alloc, time)?;
+    out.extend_from_slice(b" note ")?;
+    let node = note.node.to_string(alloc)?;
+    out.extend_from_slice(node.as_bytes())?;
+    out.push(b' ')?;
+    write_word(&mut out, note.word)?;
+    Ok(out)
+}
+
+/// Writes a time in ten digits.
+fn write_time(out: &mut Vec<u8>, alloc: Global, time: u32) -> Result<(), AllocError>
+    ensures { OnOk result (out.new.items ≡ out.old.items ++ ten_digits time) }
+{
+    let digits = time.to_string(alloc)?;
+    out.extend_from_slice(&ZEROS[..ZEROS.len().saturating_sub(digits.len())])?;
+    out.extend_from_slice(digits.as_bytes())?;
+    Ok(())
+}
+
+/// Writes what is noted of a node.
+fn write_word(out: &mut Vec<u8>, word: Word) -> Result<(), AllocError>
+    ensures { OnOk result (out.new.items ≡ out.old.items ++ word_text word) }
+{
+    match word {
+        Word::Lost => out.extend_from_slice(b"lost"),
+        Word::Configured => out.extend_from_slice(b"configured"),
+        Word::Difference => out.extend_from_slice(b"failed difference"),
+        Word::Aborted(abort) => {
+            out.extend_from_slice(b"failed ")?;
+            write_abort(out, abort)
+        }
+        Word::TimedOut => out.extend_from_slice(b"failed timeout"),
+    }
+}
+
+/// Writes an abort in eight digits.
+fn write_abort(out: &mut Vec<u8>, abort: Abort) -> Result<(), AllocError>
+    ensures { OnOk result (out.new.items ≡ out.old.items ++ abort_digits abort.0) }
+{
+    let code = abort.code();
+    out.extend_from_slice(&index_digits((code / 65536) as u16))?;
+    out.extend_from_slice(&index_digits((code % 65536) as u16))?;
+    Ok(())
+}
