@@ -1,5 +1,5 @@
 -- The nodes that are put into a table one after the other, and the image that this table is.
-use Rattle.std.proofs.Common.{◌≡◌, ℕ, Bool, true, false, cond, T, List, [], ◌∷◌, Option, Some, None, option_map, option_and_then, refl, sym, ap, subst, ◌∙◌, slice_get}
+use Rattle.std.proofs.Common.{◌≡◌, ℕ, Bool, true, false, cond, T, List, [], ◌∷◌, Result, Ok, Err, OnOk, Option, Some, None, option_map, option_and_then, refl, sym, ap, subst, ◌∙◌, slice_get}
 use Rattle.std.specs.FinMap.{empty, entries, entries_sorted, find, get, get-empty, get-entries, get-insert, insert, is_sorted}
 use Rattle.std.specs.Option.{option_map_or, option_or}
 use Rattle.std.specs.Ordering.{eq_by_cmp, nat_cmp}
@@ -13,6 +13,8 @@ use Rattle.co_dict.specs.Values.{Values}
 use Rattle.concise_dcf.specs.declared.write.Write.{Write}
 use Rattle.eds_device.specs.Entries.{defaults_of, shape_of}
 use Rattle.eds_device.specs.Identity.{identity}
+use Rattle.co_params.specs.Params.{Texts}
+use Rattle.pdo_plan.specs.declared.planned_message.PlannedMessage.{PlannedMessage}
 use Rattle.pdo_links.specs.Writes.{node_writes}
 use Rattle.co_network.specs.Network.{member_at, project_plan, with_sections, writes_of, Member}
 use Rattle.co_project.specs.declared.node.Node.{Node}
@@ -27,18 +29,21 @@ use Rattle.co_depend.specs.Held.{held_of, with_held, AllHeld, Held}
 use Rattle.co_depend.specs.Image.{defaults_of_node, identity_of_node, image_of, roster_of_project, shape_of_node, write_of_node}
 use Rattle.co_depend.specs.Supply.{image_held}
 
+-- the parts of a node with a plan and a device
+abbrev pub parts_of : List PlannedMessage → Texts → Device → ℕ → Held
+parts_of plan params device id = record {
+  defaults = defaults_of device.sections id;
+  shape = shape_of device.sections id;
+  expect = record { numbers = identity device.sections id };
+  writes = node_writes plan params device.sections id;
+}
+
 -- a node with the device that was read of its EDS
-pub one_held : (p : Project) (id : ℕ) (node : Node) (device : Device) (held : AllHeld) (parts : Held)
-    → option_map content_of (text_at p.texts node.eds) ≡ Some device
-    → parts ≡ record {
-      defaults = defaults_of device.sections id;
-      shape = shape_of device.sections id;
-      expect = record { numbers = identity device.sections id };
-      writes = node_writes (project_plan p) node.params device.sections id;
-    }
+pub one_held : (p : Project) (plan : List PlannedMessage) (id : ℕ) (node : Node) (device : Device) (held : AllHeld) (parts : Held)
+    → plan ≡ project_plan p → option_map content_of (text_at p.texts node.eds) ≡ Some device → parts ≡ parts_of plan node.params device id
     → insert held id parts ≡ with_held p (id, node) held
 unfolding writes_of
-one_held p id node device held parts is made = by (text_at p.texts node.eds) refl is
+one_held p plan id node device held parts planned is made = by (text_at p.texts node.eds) refl is
   where
     with : List ℕ → Member
     with text = record { node = node; sections = (content_of text).sections }
@@ -48,12 +53,8 @@ one_held p id node device held parts is made = by (text_at p.texts node.eds) ref
     by None there h = cc
     by (Some text) there h =
         let same : content_of text ≡ device = cc in
-        ap (insert held id) (made ∙ ap (λ (d : Device). record {
-          defaults = defaults_of d.sections id;
-          shape = shape_of d.sections id;
-          expect = record { numbers = identity d.sections id };
-          writes = node_writes (project_plan p) node.params d.sections id;
-        }) (sym same))
+        ap (insert held id) (made ∙ ap (λ (ms : List PlannedMessage). parts_of ms node.params device id) planned
+        ∙ ap (λ (d : Device). parts_of (project_plan p) node.params d id) (sym same))
 
 module _ (p : Project) where
   -- nodes one after the other
@@ -144,3 +145,8 @@ same_image p roster held is all = λ i name. by name i
         ap (λ (o : Option Held). BootIs (option_and_then (λ (h : Held). slice_get h.writes place) o)) (all id)
         ∙ ap BootIs (mapped_then (held_of p id) (λ (h : Held). slice_get h.writes place) (member_at p id))
     by (part.Events window) = refl
+
+-- what follows of an answer that isn't an error
+pub ok_again : {X E : Type 0} (result : Result X E) {P Q : Type 0} → (P → Q) → OnOk result P → OnOk result Q
+ok_again (Ok x) follows is = follows is
+ok_again (Err e) follows is = tt

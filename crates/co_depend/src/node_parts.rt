@@ -54,10 +54,10 @@ impl NodeParts {
         node: u8,
     ) -> Result<NodeParts, AllocError>
         ensures { IfOk result (λ parts. parts ≡ record {
-            defaults = defaults_of device.now.sections node;
-            shape = shape_of device.now.sections node;
-            expect = record { numbers = identity device.now.sections node };
-            writes = node_writes plan.now params.now device.now.sections node;
+          defaults = defaults_of device.now.sections node;
+          shape = shape_of device.now.sections node;
+          expect = record { numbers = identity device.now.sections node };
+          writes = node_writes plan.now params.now device.now.sections node;
         }) }
     {
         Ok(NodeParts {

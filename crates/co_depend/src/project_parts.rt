@@ -98,8 +98,7 @@ impl ProjectParts {
         ensures kept { (seen_of self.new).image ≡ (seen_of self.old).image }
     {
         self.asks = self.asks.saturating_add(1);
-        self.asked
-            .push(Read::new(Part::Events(window), PartContent::of_events(None)))?;
+        self.asked.push(Read::new(Part::Events(window), PartContent::of_events(None)))?;
         Ok(None)
     }
 }
@@ -117,8 +116,7 @@ impl Shapes for ProjectParts {
         self.asks = self.asks.saturating_add(1);
         let answer = self.nodes.defaults(node)?;
         let noted = pointer(&answer)?;
-        self.asked
-            .push(Read::new(Part::Defaults(node), PartContent::of_defaults(noted)))?;
+        self.asked.push(Read::new(Part::Defaults(node), PartContent::of_defaults(noted)))?;
         Ok(answer)
     }
 
@@ -137,8 +135,7 @@ impl Boots for ProjectParts {
         self.asks = self.asks.saturating_add(1);
         let answer = self.nodes.expect(node)?;
         let noted = pointer(&answer)?;
-        self.asked
-            .push(Read::new(Part::Expect(node), PartContent::of_expect(noted)))?;
+        self.asked.push(Read::new(Part::Expect(node), PartContent::of_expect(noted)))?;
         Ok(answer)
     }
 
@@ -146,8 +143,7 @@ impl Boots for ProjectParts {
         self.asks = self.asks.saturating_add(1);
         let answer = self.nodes.write(node, place)?;
         let noted = pointer(&answer)?;
-        self.asked
-            .push(Read::new(Part::Boot(node, place), PartContent::of_boot(noted)))?;
+        self.asked.push(Read::new(Part::Boot(node, place), PartContent::of_boot(noted)))?;
         Ok(answer)
     }
 }
