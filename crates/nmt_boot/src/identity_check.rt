@@ -142,6 +142,5 @@ fn number_in(bytes: &[u8]) -> u64
 pub(crate) fn is_as_expected(expected: &Identity, place: u8, bytes: &[u8]) -> bool
     ensures { result ≡ rules.is_as_expected expected.now place bytes.now }
 {
-    bytes.len() <= 4
-        && number_in(bytes) == u64::from(expected_number(expected, usize::from(place)))
+    bytes.len() <= 4 && number_in(bytes) == u64::from(expected_number(expected, usize::from(place)))
 }

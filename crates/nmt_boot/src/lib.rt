@@ -7,6 +7,7 @@ mod booting;
 mod boots;
 mod download;
 mod identity_check;
+pub mod laws;
 mod manager;
 mod note;
 mod notes;
