@@ -12,8 +12,8 @@ use co_values::DataType;
 use std::marker::Model;
 use std::rc::Rc;
 
-/// The object producer heartbeat time (CiA 301).
-const PRODUCER_HEARTBEAT_TIME: u16 = 0x1017;
+/// The index of the producer heartbeat time (CiA 301), which has sub-index 0.
+pub(crate) const PRODUCER_HEARTBEAT_TIME: u16 = 0x1017;
 
 /// What a device learns of its entries at power-on and at each reset.
 #[derive(Debug, Drop)]

@@ -5,9 +5,10 @@ ghost use Rattle.asking.specs.Asking.{followed, outcome, reads};
 ghost use Rattle.co_parts.specs.Contents.{no_shape, or_else};
 ghost use Rattle.co_parts.specs.Shared.{shared};
 ghost use Rattle.co_sdo.specs.Server.{answered as is_answered};
-ghost use Rattle.co_device.specs.Device.{after_write, answer_frames, heartbeat_started, is_producer_time as is_of_producer, sdo_request};
+ghost use Rattle.co_device.specs.Device.{after_write, answer_frames, is_producer_time as is_of_producer, sdo_request};
 
 use crate::device_state::DeviceState;
+use crate::learnt::PRODUCER_HEARTBEAT_TIME;
 use crate::nmt_state::NmtState;
 use crate::shapes::Shapes;
 use can_frame::{Frame, Purpose, identifiers};
@@ -51,7 +52,7 @@ fn served(
 fn is_producer_time(place: (u16, u8)) -> bool
     ensures { result ≡ is_of_producer place }
 {
-    place.0 == 0x1017 && place.1 == 0
+    place.0 == PRODUCER_HEARTBEAT_TIME && place.1 == 0
 }
 
 impl DeviceState {
@@ -64,14 +65,6 @@ impl DeviceState {
             self.waiting.add(Purpose::Sdo(self.number), frame)?;
         }
         Ok(())
-    }
-
-    /// Starts the heartbeat anew.
-    pub(crate) fn start_heartbeat(&mut self, t: u64)
-        requires { t < END }
-        ensures { self.new ≡ heartbeat_started t self.old }
-    {
-        self.heartbeat = self.learnt.next_heartbeat(t, &self.values);
     }
 
     /// Does what the write of an entry brings about.
