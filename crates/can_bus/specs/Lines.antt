@@ -1,8 +1,10 @@
 -- The lines of a trace (this profile's own).
-use Rattle.std.specs.Prelude.{ℕ, ◌/◌, ◌%◌, List, ◌∷◌, ◌++◌, codes, decimal}
+use Rattle.std.specs.Prelude.{ℕ, ◌/◌, ◌%◌, List, [], ◌∷◌, ◌++◌, codes, decimal}
+use Rattle.std.specs.List.{flat_map}
 use Rattle.std.specs.Str.{byte}
 use Rattle.can_frame.specs.TraceLines.{frame_line, ten_digits}
 use Rattle.co_text.specs.Digits.{index_digits}
+use Rattle.co_text.specs.Lines.{line_feed}
 use Rattle.nmt_boot.specs.declared.word.Word.{Word}
 use Rattle.nmt_boot.specs.declared.word.Word.TheVariants.{Lost, Configured, Difference, Aborted, TimedOut}
 use Rattle.nmt_boot.specs.declared.note.Note.{Note as Noted}
@@ -32,3 +34,7 @@ line_text (Note time note) = note_line time note
 abbrev pub line_time : Line → ℕ
 line_time (Frame time frame) = time
 line_time (Note time note) = time
+
+-- all of them, each ended by LF
+unfoldable pub lines_text : List Line → List ℕ
+lines_text lines = flat_map (λ line. line_text line ++ line_feed ∷ []) lines

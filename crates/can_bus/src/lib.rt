@@ -6,6 +6,7 @@ mod bus_state;
 mod devices;
 pub mod laws;
 mod line;
+mod line_texts;
 mod lines;
 mod managing;
 mod nodes;
@@ -17,6 +18,7 @@ mod telling;
 
 pub use bus_state::BusState;
 pub use line::Line;
+pub use line_texts::text;
 pub use lines::Lines;
 pub use parts::Parts;
 pub use running::trace;
