@@ -2,6 +2,7 @@
 ghost use Rattle.std.specs.Prelude.{◌≡◌, ◌+◌, ◌-◌, ◌^◌, [], min, IfOk, OnOk};
 ghost use Rattle.asking.specs.Asking.{handed};
 ghost use Rattle.co_parts.specs.Contents.{EventsAre, RosterIs};
+ghost use Rattle.co_parts.specs.Images.{IsCoherent};
 ghost use Rattle.co_parts.specs.Shared.{shared};
 ghost use Rattle.co_parts.specs.declared.part.Part.TheVariants as part;
 ghost use Rattle.co_depend.specs.Image.{image_of};
@@ -23,6 +24,9 @@ use std::marker::Model;
 use std::rc::Rc;
 
 /// Hands out the parts of a project, made once, and records what was asked.
+///
+/// A call takes time by the logarithm of the number of nodes, and memory for the record alone; the parts
+/// that it hands out are shared.
 #[derive(Drop)]
 pub struct ProjectParts {
     alloc: Global,
@@ -46,7 +50,7 @@ impl Model for ProjectParts {
 }
 
 impl ProjectParts {
-    /// Makes the parts of a project.
+    /// Makes the parts of a project. Want of memory is the only error.
     ///
     /// Reads the text of each EDS that a node has once, plans the messages once, and makes the parts of
     /// each node once: takes time by the length of these texts and their logarithms, by the number of
@@ -54,7 +58,11 @@ impl ProjectParts {
     pub fn new(alloc: Global, project: &Project) -> Result<ProjectParts, AllocError>
         ensures seen { IfOk result (λ parts. seen_of parts ≡ record { image = image_of project.now; asked = [] }) }
         ensures asks { IfOk result (λ parts. parts.asks ≡ 0) }
+
+        // So it is coherent.
+        ensures coherent { IfOk result (λ parts. IsCoherent (seen_of parts).image) }
     {
+        project.keeps_to_rules();
         let roster = make_roster(alloc, project)?;
         let roster = Rc::new(alloc, roster)?;
         let nodes = read_nodes(alloc, project)?;
@@ -67,15 +75,15 @@ impl ProjectParts {
         })
     }
 
-    /// Hands over the record of what was asked, in order, and begins an empty one.
+    /// Hands over the record of what was asked, in order, and begins an empty one. Takes no memory.
     pub fn take_asked(&mut self) -> Vec<Read>
-        ensures record_taken { result.items ≡ self.old.asked }
+        ensures taken { result.items ≡ self.old.asked }
         ensures state { self.new ≡ record self.old { asked = [] } }
     {
         std::mem::replace(&mut self.asked, Vec::new(self.alloc))
     }
 
-    /// The roster of the network.
+    /// The roster of the network. The record alone takes memory, and want of it is the only error.
     pub fn roster(&mut self) -> Result<Option<Rc<Roster>>, AllocError>
         ensures value { IfOk result (λ r. (seen_of self.old).image part.Roster ≡ RosterIs (shared r)) }
         ensures noted { OnOk result (seen_of self.new ≡ handed part.Roster (seen_of self.old)) }
@@ -90,7 +98,8 @@ impl ProjectParts {
         Ok(answer)
     }
 
-    /// The events of a window, counted from 0.
+    /// The events of a window, counted from 0, or none. The record alone takes memory, and want of it is
+    /// the only error.
     pub fn events(&mut self, window: u32) -> Result<Option<Rc<Window>>, AllocError>
         ensures value { IfOk result (λ r. (seen_of self.old).image (part.Events window) ≡ EventsAre (shared r)) }
         ensures noted { OnOk result (seen_of self.new ≡ handed (part.Events window) (seen_of self.old)) }
