@@ -1,5 +1,6 @@
 pub mod CoherentLemmas
 pub mod HeldLemmas
+pub mod PartsLemmas
 pub mod PointerLemmas
 pub mod RosterLemmas
 pub mod SizeLemmas

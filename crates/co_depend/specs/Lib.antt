@@ -1,4 +1,5 @@
 pub mod Image
-pub mod Held
+pub mod Parts
 pub mod Pointers
+pub mod Held
 pub mod Supply

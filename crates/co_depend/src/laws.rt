@@ -1,10 +1,22 @@
 //! Laws of the image of a project.
+ghost use Rattle.std.specs.Prelude.{◌≡◌, ℕ, List, None, Some};
+ghost use Rattle.ini_text.specs.Content.{content_of};
+ghost use Rattle.co_project.specs.declared.node.Node.{Node as member};
 ghost use Rattle.co_project.specs.Project.{Content as Project};
 ghost use Rattle.co_project.specs.Sound.{IsSound};
+ghost use Rattle.co_project.specs.Tables.{node_at, text_at};
 ghost use Rattle.co_parts.specs.Images.{IsCoherent};
 ghost use Rattle.co_depend.specs.Image.{image_of};
+ghost use Rattle.co_depend.specs.Parts.{HasNoParts, HasParts};
 
 /// The image of each project is coherent.
 pub fn the_image_is_coherent()
     ensures { (project : Project) → IsSound project → IsCoherent (image_of project) }
+{}
+
+/// Each node has the parts of the device of its EDS, and no other number has any.
+pub fn each_node_has_the_parts_of_its_device()
+    ensures nodes { (project : Project) (id : ℕ) (node : member) → IsSound project → node_at project.nodes id ≡ Some node
+        → (text : List ℕ) × ((text_at project.texts node.eds ≡ Some text) × HasParts project id node (content_of text).sections) }
+    ensures others { (project : Project) (id : ℕ) → node_at project.nodes id ≡ None → HasNoParts project id }
 {}

@@ -27,7 +27,8 @@ fn node_numbers(alloc: Global, project: &Project) -> Result<Octets, AllocError>
     Ok(Octets::from_vec(numbers))
 }
 
-/// The roster of a project. Takes time by the number of nodes.
+/// The roster of a project. Takes time by the number of nodes. Want of memory is the only error, here
+/// and of each part.
 #[tactic(auto, unfolding(crate::specs::Image::roster_of_project))]
 pub fn make_roster(alloc: Global, project: &Project) -> Result<Roster, AllocError>
     ensures { IfOk result (λ roster. roster ≡ roster_of_project project.now) }

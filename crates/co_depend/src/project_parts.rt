@@ -1,9 +1,6 @@
 //! What hands out the parts of a project.
-ghost use Rattle.std.specs.Prelude.{◌≡◌, ◌+◌, ◌-◌, ◌^◌, [], min, IfOk, OnOk};
-ghost use Rattle.asking.specs.Asking.{handed};
-ghost use Rattle.co_parts.specs.Contents.{EventsAre, RosterIs};
-ghost use Rattle.co_parts.specs.Shared.{shared};
-ghost use Rattle.co_parts.specs.declared.part.Part.TheVariants as part;
+ghost use Rattle.std.specs.Prelude.{◌≡◌, [], IfOk};
+ghost use Rattle.co_parts.specs.Images.{IsCoherent};
 ghost use Rattle.co_depend.specs.Image.{image_of};
 ghost use Rattle.co_depend.specs.Supply.{seen_of};
 
@@ -12,6 +9,7 @@ use crate::node_table::NodeTable;
 use crate::pointer::{pointer, some_pointer};
 use crate::reading::read_nodes;
 use asking::Asked;
+use can_bus::Parts;
 use co_device::Shapes;
 use co_dict::{Dict, Shape};
 use co_parts::{Identity, Part, PartContent, Read, Roster, Window};
@@ -23,6 +21,9 @@ use std::marker::Model;
 use std::rc::Rc;
 
 /// Hands out the parts of a project, made once, and records what was asked.
+///
+/// A call takes time by the logarithm of the number of nodes, and memory for the record alone; the parts
+/// that it hands out are shared.
 #[derive(Drop)]
 pub struct ProjectParts {
     alloc: Global,
@@ -38,15 +39,19 @@ impl Model for ProjectParts {
     ghost use Rattle.co_depend.specs.contracts.node_table.NodeTable as table;
     ghost use Rattle.co_depend.specs.Supply.{supply_code, Supply};
 
+    ghost use Rattle.co_parts.specs.Images.{IsRoster};
+
     ghost Value = { Supply };
 
     ghost coded = { supply_code listed.the_row.coded table.the_row.coded noted.the_row.coded };
 
     ghost view = { λ parts. record { roster = parts.roster.value; nodes = parts.nodes; asked = parts.asked.items; asks = parts.asks } };
+
+    ghost invariant = { λ parts. IsRoster parts.roster.value };
 }
 
 impl ProjectParts {
-    /// Makes the parts of a project.
+    /// Makes the parts of a project. Want of memory is the only error.
     ///
     /// Reads the text of each EDS that a node has once, plans the messages once, and makes the parts of
     /// each node once: takes time by the length of these texts and their logarithms, by the number of
@@ -54,7 +59,11 @@ impl ProjectParts {
     pub fn new(alloc: Global, project: &Project) -> Result<ProjectParts, AllocError>
         ensures seen { IfOk result (λ parts. seen_of parts ≡ record { image = image_of project.now; asked = [] }) }
         ensures asks { IfOk result (λ parts. parts.asks ≡ 0) }
+
+        // So it is coherent.
+        ensures coherent { IfOk result (λ parts. IsCoherent (seen_of parts).image) }
     {
+        project.keeps_to_rules();
         let roster = make_roster(alloc, project)?;
         let roster = Rc::new(alloc, roster)?;
         let nodes = read_nodes(alloc, project)?;
@@ -65,41 +74,6 @@ impl ProjectParts {
             asked: Vec::new(alloc),
             asks: 0,
         })
-    }
-
-    /// Hands over the record of what was asked, in order, and begins an empty one.
-    pub fn take_asked(&mut self) -> Vec<Read>
-        ensures record_taken { result.items ≡ self.old.asked }
-        ensures state { self.new ≡ record self.old { asked = [] } }
-    {
-        std::mem::replace(&mut self.asked, Vec::new(self.alloc))
-    }
-
-    /// The roster of the network.
-    pub fn roster(&mut self) -> Result<Option<Rc<Roster>>, AllocError>
-        ensures value { IfOk result (λ r. (seen_of self.old).image part.Roster ≡ RosterIs (shared r)) }
-        ensures noted { OnOk result (seen_of self.new ≡ handed part.Roster (seen_of self.old)) }
-        ensures counted { self.new.asks ≡ min (self.old.asks + 1) (2 ^ 64 - 1) }
-        ensures kept { (seen_of self.new).image ≡ (seen_of self.old).image }
-    {
-        self.asks = self.asks.saturating_add(1);
-        let answer = some_pointer(&self.roster)?;
-        let noted = pointer(&answer)?;
-        self.asked
-            .push(Read::new(Part::Roster, PartContent::of_roster(noted)))?;
-        Ok(answer)
-    }
-
-    /// The events of a window, counted from 0.
-    pub fn events(&mut self, window: u32) -> Result<Option<Rc<Window>>, AllocError>
-        ensures value { IfOk result (λ r. (seen_of self.old).image (part.Events window) ≡ EventsAre (shared r)) }
-        ensures noted { OnOk result (seen_of self.new ≡ handed (part.Events window) (seen_of self.old)) }
-        ensures counted { self.new.asks ≡ min (self.old.asks + 1) (2 ^ 64 - 1) }
-        ensures kept { (seen_of self.new).image ≡ (seen_of self.old).image }
-    {
-        self.asks = self.asks.saturating_add(1);
-        self.asked.push(Read::new(Part::Events(window), PartContent::of_events(None)))?;
-        Ok(None)
     }
 }
 
@@ -145,5 +119,31 @@ impl Boots for ProjectParts {
         let noted = pointer(&answer)?;
         self.asked.push(Read::new(Part::Boot(node, place), PartContent::of_boot(noted)))?;
         Ok(answer)
+    }
+}
+
+impl Parts for ProjectParts {
+    fn roster(&mut self) -> Result<Option<Rc<Roster>>, AllocError> {
+        self.asks = self.asks.saturating_add(1);
+        let answer = some_pointer(&self.roster)?;
+        let noted = pointer(&answer)?;
+        self.asked
+            .push(Read::new(Part::Roster, PartContent::of_roster(noted)))?;
+        Ok(answer)
+    }
+
+    fn events(&mut self, i: u32) -> Result<Option<Rc<Window>>, AllocError> {
+        self.asks = self.asks.saturating_add(1);
+        self.asked
+            .push(Read::new(Part::Events(i), PartContent::of_events(None)))?;
+        Ok(None)
+    }
+
+    fn take_asked(&mut self) -> Vec<Read> {
+        std::mem::replace(&mut self.asked, Vec::new(self.alloc))
+    }
+
+    fn asks(&self) -> u64 {
+        self.asks
     }
 }

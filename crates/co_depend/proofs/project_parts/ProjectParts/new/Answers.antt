@@ -1,8 +1,10 @@
-use Rattle.std.proofs.Common.{◌≡◌, ◌∙◌, List, ap}
+use Rattle.std.proofs.Common.{◌≡◌, ◌∙◌, List, ap, sym, subst}
 use Rattle.asking.specs.Asking.{Seen}
 use Rattle.co_parts.specs.Contents.{Content, Image}
+use Rattle.co_parts.specs.Images.{IsCoherent}
 use Rattle.co_parts.specs.declared.part.Part.{Part}
 use Rattle.co_depend.specs.Image.{image_of, roster_of_project}
+use Rattle.co_depend.proofs.CoherentLemmas.{coherent}
 use Rattle.co_depend.proofs.HeldLemmas.{same_image}
 use Rattle.co_depend.proofs.project_parts.ProjectParts.new.Goals as goal
 
@@ -16,3 +18,9 @@ returns-clause-seen c =
     let roster : c.in_ok-roster-2.roster.value ≡ roster_of_project c.args.project.now = c.in_ok-roster-2.ensures.ok ∙ c.in_ok-roster.ensures in
     ap (λ (image : Image). seen image c.new-2.result.items) (same_image c.args.project.now c.in_ok-roster-2.roster.value c.in_ok-nodes.nodes roster c.in_ok-nodes.ensures)
     ∙ ap (seen (image_of c.args.project.now)) c.new-2.ensures.items
+
+pub returns-clause-coherent : goal.returns-clause-coherent
+returns-clause-coherent c =
+    let roster : c.in_ok-roster-2.roster.value ≡ roster_of_project c.args.project.now = c.in_ok-roster-2.ensures.ok ∙ c.in_ok-roster.ensures in
+    subst IsCoherent (sym (same_image c.args.project.now c.in_ok-roster-2.roster.value c.in_ok-nodes.nodes roster c.in_ok-nodes.ensures))
+    (coherent c.args.project.now c.keeps_to_rules.ensures)
