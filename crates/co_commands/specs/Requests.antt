@@ -12,7 +12,7 @@ use Rattle.co_scenario.specs.Commands.{command_of as nmt_command}
 use Rattle.co_commands.specs.declared.request.Request.{Request}
 use Rattle.co_commands.specs.declared.request.Request.TheVariants.{Edit as EditAsked, Query as QueryAsked, Block}
 use Rattle.co_commands.specs.declared.query.Query.{Query}
-use Rattle.co_commands.specs.declared.query.Query.TheVariants.{Dcf, Cdcf, Diag, Project}
+use Rattle.co_commands.specs.declared.query.Query.TheVariants.{Dcf, Cdcf, Diag, Trace, Project}
 use Rattle.co_text.specs.Blanks.{is_blank_line}
 use Rattle.co_text.specs.Words.{word, after}
 use Rattle.co_edits.specs.Eds.{most_lines}
@@ -219,6 +219,7 @@ query_of first rest =
     if bytes_eq first (codes "dcf") then (id_of rest >>= λ id. Ok (Dcf id))
     else if bytes_eq first (codes "cdcf") then (id_of rest >>= λ id. Ok (Cdcf id))
     else if bytes_eq first (codes "diag") && is_blank_line rest then Ok Diag
+    else if bytes_eq first (codes "trace") && is_blank_line rest then Ok Trace
     else if bytes_eq first (codes "project") && is_blank_line rest then Ok Project
     else Err Syntax
 

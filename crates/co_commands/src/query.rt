@@ -17,12 +17,14 @@ pub enum Query {
     Cdcf(u8),
     /// All that is wrong with the project.
     Diag,
+    /// The trace of the simulated network.
+    Trace,
     /// The commands that make the project.
     Project,
 }
 
 impl Query {
-    /// `dcf ID`, `cdcf ID`, `diag` or `project`
+    /// `dcf ID`, `cdcf ID`, `diag`, `trace` or `project`
     #[tactic(auto, unfolding(crate::specs::Requests::query_of))]
     pub(crate) fn read(first: &[u8], rest: &[u8]) -> Result<Query, EditFault>
         ensures { Gives is_memory (λ q. q) result (query_of first.now rest.now) }
@@ -33,6 +35,8 @@ impl Query {
             Ok(Query::Cdcf(id(rest)?))
         } else if first == b"diag".as_slice() && is_blank_line(rest) {
             Ok(Query::Diag)
+        } else if first == b"trace".as_slice() && is_blank_line(rest) {
+            Ok(Query::Trace)
         } else if first == b"project".as_slice() && is_blank_line(rest) {
             Ok(Query::Project)
         } else {

@@ -8,9 +8,13 @@ use Rattle.eds_dcf.specs.Dcf.{dcf_sections}
 use Rattle.co_edits.specs.declared.fault.EditFault.{EditFault}
 use Rattle.co_edits.specs.declared.fault.EditFault.TheVariants.{Unknown}
 use Rattle.co_commands.specs.declared.query.Query.{Query}
-use Rattle.co_commands.specs.declared.query.Query.TheVariants.{Dcf, Cdcf, Diag, Project}
+use Rattle.co_commands.specs.declared.query.Query.TheVariants.{Dcf, Cdcf, Diag, Trace, Project}
 use Rattle.co_project.specs.Project.{Content}
 use Rattle.co_project.specs.Script.{script}
+use Rattle.can_bus.specs.Lines.{lines_text}
+use Rattle.can_bus.specs.Runs.{trace}
+use Rattle.can_bus.specs.declared.line.Line.{Line}
+use Rattle.co_depend.specs.Image.{image_of}
 use Rattle.co_diag.specs.Found.{diagnostics_of}
 use Rattle.diag_lines.specs.Lines.{diag_text}
 use Rattle.co_network.specs.Network.{Member, member_at, writes_of}
@@ -38,11 +42,16 @@ dcf_of project id = option_map (λ (c : Configuration). text_of (dcf_sections c.
 unfoldable pub concise_of : Content → ℕ → Option (List ℕ)
 concise_of project id = option_map (λ (c : Configuration). concise_text c.writes) (configured_at project id)
 
--- THE ANSWER to a query: the lines of the DCF, the concise DCF in hexadecimal digits, the lines of all diagnostics, or the commands that make the project
+-- THE TRACE of the network of a project: the lines of the run of its image, from power-on an instant at each microsecond, up to the horizon
+unfoldable pub trace_of : Content → List Line
+trace_of project = trace (image_of project) project.horizon
+
+-- THE ANSWER to a query: the lines of the DCF, the concise DCF in hexadecimal digits, the lines of all diagnostics, those of the trace, or the commands that make the project
 abbrev pub answer : Content → Query → Result (List ℕ) EditFault
 answer project (Dcf id) = or_unknown (dcf_of project id)
 answer project (Cdcf id) = or_unknown (option_map hex_text (concise_of project id))
 answer project Diag = Ok (diag_text (diagnostics_of project))
+answer project Trace = Ok (lines_text (trace_of project))
 answer project Project = Ok (script project)
 
 -- how a reply shows lines, each ended by LF: `lines K`, and these K lines

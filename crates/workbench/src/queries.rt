@@ -26,6 +26,10 @@ pub fn answer(alloc: Global, workbench: &mut Workbench, query: Query) -> Result<
             let found = workbench.diagnostics()?;
             Ok(diag_lines::text(alloc, &found)?)
         }
+        Query::Trace => {
+            let lines = workbench.trace()?;
+            Ok(can_bus::text(alloc, &lines)?)
+        }
         Query::Project => Ok(workbench.script()?),
     }
 }

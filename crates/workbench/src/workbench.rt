@@ -9,10 +9,12 @@ ghost use Rattle.co_project.specs.Project.{accept, first};
 ghost use Rattle.co_project.specs.Script.{script};
 ghost use Rattle.co_project.specs.Sound.{IsSound};
 ghost use Rattle.co_project.specs.Tables.{node_at};
-ghost use Rattle.workbench.specs.Queries.{or_unknown, dcf_of, concise_of};
+ghost use Rattle.workbench.specs.Queries.{or_unknown, dcf_of, concise_of, trace_of};
 
 use crate::configured::configuration;
 use crate::member::fill_plan;
+use can_bus::Line;
+use co_depend::ProjectParts;
 use co_diag::diagnostics_by;
 use co_network::Library;
 use co_project::{Command, EditFault, Project};
@@ -120,6 +122,22 @@ impl Workbench {
             unreachable!()
         };
         diagnostics_by(self.alloc, &mut library, plan)
+    }
+
+    /// The trace of the network of the project as it is now: from the power-on, an instant at each
+    /// microsecond up to the horizon.
+    ///
+    /// Reads the EDS of each node once, and plans the messages. Then takes time by the horizon times the
+    /// number of nodes, and by the frames that are sent; memory by the number of lines, and the entries
+    /// and writes of all nodes.
+    #[tactic(auto, unfolding(crate::specs::Queries::trace_of))]
+    pub fn trace(&mut self) -> Result<Vec<Line>, AllocError>
+        ensures lines { IfOk result (λ lines. lines.items ≡ trace_of self.old.project) }
+        ensures same { self.new.project ≡ self.old.project }
+    {
+        let mut parts = ProjectParts::new(self.alloc, &self.project)?;
+        let lines = can_bus::trace(self.alloc, &mut parts, self.project.horizon())?;
+        Ok(lines.into_vec())
     }
 
     /// The commands that make this project of the first one, as text.
