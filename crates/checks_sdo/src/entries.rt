@@ -4,7 +4,7 @@ use co_dict::{Access, Dict, Entry, Shape};
 use co_values::{DataType, default_value};
 use std::alloc::{AllocError, Global};
 
-/// An entry without limits that no PDO carries.
+/// An entry without limits that no PDO can map.
 fn plain(kind: DataType, access: Access) -> Entry {
     Entry {
         kind,
@@ -16,12 +16,13 @@ fn plain(kind: DataType, access: Access) -> Entry {
 }
 
 /// The entries: each access, values of each length, limits, and a PDO with its mapping.
-const ENTRIES: [(u16, u8, DataType, Access); 16] = [
+const ENTRIES: [(u16, u8, DataType, Access); 19] = [
     (0x1018, 0, DataType::Unsigned8, Access::Constant),
     (0x1018, 1, DataType::Unsigned32, Access::ReadOnly),
     (0x1800, 1, DataType::Unsigned32, Access::ReadWrite),
     (0x1A00, 0, DataType::Unsigned8, Access::ReadWrite),
     (0x1A00, 1, DataType::Unsigned32, Access::ReadWrite),
+    (0x1A00, 2, DataType::Unsigned32, Access::ReadWrite),
     (0x2000, 0, DataType::Boolean, Access::ReadWrite),
     (0x2001, 0, DataType::Unsigned8, Access::ReadWrite),
     (0x2001, 1, DataType::Integer16, Access::ReadWrite),
@@ -32,10 +33,13 @@ const ENTRIES: [(u16, u8, DataType, Access); 16] = [
     (0x2001, 6, DataType::Domain, Access::WriteOnly),
     (0x2001, 7, DataType::VisibleString, Access::ReadOnly),
     (0x2001, 8, DataType::NotModelled, Access::ReadWrite),
+    (0x2002, 0, DataType::Unsigned16, Access::ReadOnly),
+    (0x2002, 1, DataType::Unsigned64, Access::ReadWrite),
     (0xFFFF, 255, DataType::OctetString, Access::ReadWriteOnInput),
 ];
 
-/// The shape of the device. Entry 2001h:01 has the limits -5 and 300.
+/// The shape of the device. Entry 2001h:01 has the limits -5 and 300, and a PDO can map the entries
+/// of 2002h.
 pub fn shape(alloc: Global) -> Result<Shape, AllocError> {
     let mut shape = Shape::new(alloc, [false; 7]);
     for row in &ENTRIES {
@@ -44,6 +48,7 @@ pub fn shape(alloc: Global) -> Result<Shape, AllocError> {
             entry.low = Some(-5);
             entry.high = Some(300);
         }
+        entry.mappable = row.0 == 0x2002;
         shape.insert(row.0, row.1, entry)?;
     }
     Ok(shape)
