@@ -51,11 +51,7 @@ fn run_turns<P: Parts>(
 /// Takes time by the horizon times the number of nodes, and memory by the number of lines, the devices'
 /// values, and what they have open and waiting.
 #[tactic(auto, using(crate::proofs::RunLemmas::run_tells))]
-pub fn trace<P: Parts>(
-    alloc: Global,
-    parts: &mut P,
-    horizon: u32,
-) -> Result<Lines, AllocError>
+pub fn trace<P: Parts>(alloc: Global, parts: &mut P, horizon: u32) -> Result<Lines, AllocError>
     requires { horizon < END }
     ensures lines { IfOk result (λ lines. lines ≡ trace_of (P.seen parts.old).image horizon) }
     ensures kept { (P.seen parts.new).image ≡ (P.seen parts.old).image }

@@ -38,7 +38,6 @@ impl Model for ProjectParts {
     ghost use Rattle.co_parts.specs.contracts.roster.Roster as listed;
     ghost use Rattle.co_depend.specs.contracts.node_table.NodeTable as table;
     ghost use Rattle.co_depend.specs.Supply.{supply_code, Supply};
-
     ghost use Rattle.co_parts.specs.Images.{IsRoster};
 
     ghost Value = { Supply };

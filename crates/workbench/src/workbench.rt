@@ -135,8 +135,10 @@ impl Workbench {
         ensures lines { IfOk result (λ lines. lines.items ≡ trace_of self.old.project) }
         ensures same { self.new.project ≡ self.old.project }
     {
+        self.project.keeps_to_rules();
+        let horizon = self.project.horizon();
         let mut parts = ProjectParts::new(self.alloc, &self.project)?;
-        let lines = can_bus::trace(self.alloc, &mut parts, self.project.horizon())?;
+        let lines = can_bus::trace(self.alloc, &mut parts, horizon)?;
         Ok(lines.into_vec())
     }
 
