@@ -2,3 +2,4 @@ pub mod MomentLemmas
 pub mod PartLemmas
 pub mod ResetLemmas
 pub mod StateLemmas
+pub mod PowerLemmas

@@ -1,11 +1,11 @@
 -- What holds of a device in an NMT state.
-use Rattle.std.specs.Prelude.{◌≡◌, ℕ, true, false, [], ◌∷◌, All}
+use Rattle.std.specs.Prelude.{◌≡◌, ℕ, true, false, [], ◌∷◌, All, None}
 use Rattle.can_frame.specs.Frames.{BaseFrame}
 use Rattle.can_frame.specs.Identifiers.{nmt_id}
 use Rattle.can_frame.specs.WaitingFrames.{is_unwanted}
 use Rattle.can_frame.specs.declared.unwanted.Unwanted.TheVariants.{Sdos}
 use Rattle.co_sdo.specs.declared.transfer.Transfer.TheVariants.{Idle}
-use Rattle.co_device.specs.Device.{Device, boot_up, is_in}
+use Rattle.co_device.specs.Device.{Device, boot_up, is_in, next_due}
 use Rattle.co_device.specs.declared.nmt_state.NmtState.TheVariants.{PreOperational, Stopped}
 
 -- the message of an NMT service: its command, and the number of a node or 0 for all
@@ -27,3 +27,13 @@ pub record SaysNothing (d : Device) : Type 0 where
 -- in Stopped the SDO server is silent
 abbrev pub IsSilent : Device → Type 0
 IsSilent d = is_in Stopped d ≡ true → SaysNothing d
+
+-- the number is as before, and so are power and whether it is spent
+pub record StaysItself (d e : Device) : Type 0 where
+  pub number : e.number ≡ d.number
+  pub has_power : e.has_power ≡ d.has_power
+  pub spent : e.spent ≡ d.spent
+
+-- without power nothing waits, and nothing is due
+abbrev pub IsDark : Device → Type 0
+IsDark d = d.has_power ≡ false → (d.waiting ≡ []) × (next_due d ≡ None)

@@ -11,7 +11,7 @@ ghost use Rattle.co_parts.specs.Contents.{Image, shape_of, values_of};
 ghost use Rattle.co_sdo.specs.Server.{answered};
 ghost use Rattle.co_device.specs.Ahead.{IsAhead, IsOwnPart};
 ghost use Rattle.co_device.specs.Device.{Device, is_in, next_due, next_heartbeat, powered, received, reset_communication, reset_node, sdo_request, stop_remote_node, timers, without_power};
-ghost use Rattle.co_device.specs.States.{HasBooted, IsSilent, SaysNothing, nmt_message};
+ghost use Rattle.co_device.specs.States.{HasBooted, IsDark, IsSilent, SaysNothing, StaysItself, nmt_message};
 
 use crate::nmt_state::NmtState;
 use co_parts::Part;
@@ -99,4 +99,22 @@ pub fn a_write_of_1017h_starts_the_heartbeat()
 pub fn a_stopped_server_takes_nothing()
     ensures same { (image : Image) (t : ℕ) (request : List ℕ) (d : Device) → is_in NmtState.Stopped d ≡ true → outcome (sdo_request t request d) image ≡ d }
     ensures unread { (image : Image) (t : ℕ) (request : List ℕ) (d : Device) → is_in NmtState.Stopped d ≡ true → reads (sdo_request t request d) image ≡ [] }
+{}
+
+/// Frames and timers leave a device's number and whether it has power; the switch leaves its number,
+/// and sets whether it has power.
+#[tactic(auto, using(crate::proofs::PowerLemmas::frame_stays, crate::proofs::PowerLemmas::timers_stay, crate::proofs::PowerLemmas::power_switches))]
+pub fn a_device_stays_itself()
+    ensures frame { (image : Image) (t : ℕ) (frame : BaseFrame) (d : Device) → StaysItself d (outcome (received t frame d) image) }
+    ensures instant { (t : ℕ) (d : Device) → StaysItself d (timers t d) }
+    ensures power { (image : Image) (t : ℕ) (on : Bool) (d : Device) → StaysItself (record d { has_power = on }) (outcome (powered on t d) image) }
+{}
+
+/// Without power a device takes nothing, nothing waits and nothing is due.
+#[tactic(auto, using(crate::proofs::PowerLemmas::frame_untaken, crate::proofs::PowerLemmas::frame_is_dark, crate::proofs::PowerLemmas::power_is_dark, crate::proofs::PowerLemmas::timers_are_dark))]
+pub fn without_power_nothing_happens()
+    ensures untaken { (image : Image) (t : ℕ) (frame : BaseFrame) (d : Device) → d.has_power ≡ false → outcome (received t frame d) image ≡ d }
+    ensures frame { (image : Image) (t : ℕ) (frame : BaseFrame) (d : Device) → IsDark d → IsDark (outcome (received t frame d) image) }
+    ensures power { (image : Image) (t : ℕ) (on : Bool) (d : Device) → IsDark d → IsDark (outcome (powered on t d) image) }
+    ensures instant { (t : ℕ) (d : Device) → IsDark d → IsDark (timers t d) }
 {}
