@@ -1,5 +1,5 @@
 -- A node is noted configured only where its writes end.
-use Rattle.std.proofs.Common.{◌≡◌, ℕ, zero, suc, ◌+◌, ◌<◌, Bool, true, false, List, [], ◌∷◌, ◌++◌, length, get_or, Option, Some, None, ◌⊎◌, inl, inr, refl, ap, subst, arith}
+use Rattle.std.proofs.Common.{◌≡◌, ℕ, zero, suc, ◌+◌, ◌<◌, Bool, true, false, List, [], ◌∷◌, ◌++◌, get_or, Option, Some, None, ◌⊎◌, inl, inr, refl, ap, subst, arith}
 use Rattle.std.specs.Prelude.{Contains, ◌==◌, if◌then◌else◌}
 use Rattle.std.proofs.lemmas.Bool.Decides.{nat_tests}
 use Rattle.std.proofs.lemmas.List.Elements.{Contains-append_cases}
@@ -15,7 +15,7 @@ use Rattle.co_parts.specs.declared.identity.Identity.{Identity}
 use Rattle.co_parts.specs.declared.part.Part.{Part}
 use Rattle.co_parts.specs.declared.part.Part.TheVariants.{Expect, Boot}
 use Rattle.nmt_boot.proofs.FrameLemmas.{picked, received_holds}
-use Rattle.nmt_boot.specs.Boot.{configured, failed, last_write, written, download_configuration, download_next, compared, check_identity, next_compared, boot_nmt_slave, is_as_expected, after_compare, after_write, sdo_answer, is_timed_out, sdo_time_out}
+use Rattle.nmt_boot.specs.Boot.{configured, failed, last_write, written, download_configuration, compared, check_identity, next_compared, boot_nmt_slave, is_as_expected, after_compare, after_write, sdo_answer, is_timed_out, sdo_time_out}
 use Rattle.nmt_boot.specs.Ends.{configured_note, IsAbsent, IsAtLast, WritesEnd}
 use Rattle.nmt_boot.specs.Manager.{Manager, node_at, lost, notes_after, notes_after_all, notes_of, received, time_outs, timers}
 use Rattle.nmt_boot.specs.declared.boot_stage.BootStage.{BootStage}
