@@ -7,3 +7,4 @@ pub mod InstantLemmas
 pub mod ReadLemmas
 pub mod ToldLemmas
 pub mod SettledLemmas
+pub mod StartLemmas
