@@ -1,16 +1,17 @@
 //! The device at a moment.
 
-ghost use Rattle.std.specs.Prelude.{◌≡◌, ◌<◌, ◌≤◌, ◌+◌, Some, false, length, remove, slice_get, OnOk, OnErr, IsErr, IsTrue};
+ghost use Rattle.std.specs.Prelude.{◌≡◌, ◌↔◌, ◌<◌, ◌≤◌, ◌+◌, Some, false, length, remove, slice_get, IfOk, OnOk, OnErr, IsErr, IsTrue};
 ghost use Rattle.asking.specs.Asking.{followed, outcome, reads};
 ghost use Rattle.can_frame.specs.Winner.{contenders_of, IsWinner};
-ghost use Rattle.co_device.specs.Device.{next_due, powered, received, timers, without_power};
+ghost use Rattle.co_device.specs.Device.{is_in as is_in_state, next_due, powered, received, timers, without_power};
 
+use crate::learnt::Learnt;
 use crate::nmt_state::NmtState;
 use crate::shapes::Shapes;
 use can_frame::{Contender, Frame, Pending, Waiting};
 use co_dict::Dict;
 use co_parts::END;
-use co_sdo::transfer::Transfer;
+use co_sdo::transfer::{self, Transfer};
 use std::alloc::{AllocError, Global};
 use std::marker::Model;
 
@@ -20,16 +21,16 @@ use std::marker::Model;
 /// answer `AllocError` does. All moments are microseconds from the power-on of the network.
 #[derive(Drop)]
 pub struct DeviceState {
-    alloc: Global,
-    spent: bool,
-    number: u8,
-    has_power: bool,
-    state: NmtState,
-    has_producer_time: bool,
-    values: Dict,
-    heartbeat: Option<u64>,
-    waiting: Pending,
-    transfer: Transfer,
+    pub(crate) alloc: Global,
+    pub(crate) spent: bool,
+    pub(crate) number: u8,
+    pub(crate) has_power: bool,
+    pub(crate) state: NmtState,
+    pub(crate) learnt: Learnt,
+    pub(crate) values: Dict,
+    pub(crate) heartbeat: Option<u64>,
+    pub(crate) waiting: Pending,
+    pub(crate) transfer: Transfer,
 }
 
 impl Model for DeviceState {
@@ -42,7 +43,7 @@ impl Model for DeviceState {
 
     ghost coded = { Prim.hlevel (codes, map.code {R = place_cmp} (coded× coded_ℕ coded_ℕ) (coded_list coded_ℕ)) };
 
-    ghost view = { λ d. record { spent = d.spent; number = d.number; has_power = d.has_power; state = d.state; learnt = record { has_producer_time = d.has_producer_time }; values = d.values; heartbeat = d.heartbeat; waiting = d.waiting; transfer = d.transfer } };
+    ghost view = { λ d. record { spent = d.spent; number = d.number; has_power = d.has_power; state = d.state; learnt = d.learnt; values = d.values; heartbeat = d.heartbeat; waiting = d.waiting; transfer = d.transfer } };
 }
 
 impl DeviceState {
@@ -56,12 +57,65 @@ impl DeviceState {
             number,
             has_power: false,
             state: NmtState::PreOperational,
-            has_producer_time: false,
+            learnt: Learnt::nothing(),
             values: Dict::new(alloc),
             heartbeat: None,
             waiting: Pending::new(alloc),
             transfer: Transfer::Idle,
         }
+    }
+
+    /// An equal device. A spent one has none.
+    pub fn copy(&self) -> Result<DeviceState, AllocError>
+        ensures same { IfOk result (λ device. device ≡ self.now) }
+        ensures refused { IsTrue self.now.spent → IsErr result }
+    {
+        if self.spent {
+            return Err(AllocError);
+        }
+        Ok(DeviceState {
+            alloc: self.alloc,
+            spent: false,
+            number: self.number,
+            has_power: self.has_power,
+            state: self.state,
+            learnt: self.learnt.copy(),
+            values: self.values.copy()?,
+            heartbeat: self.heartbeat,
+            waiting: self.waiting.copy()?,
+            transfer: transfer::copy(&self.transfer)?,
+        })
+    }
+
+    /// Whether the other device is the same.
+    pub fn same(&self, other: &DeviceState) -> bool
+        ensures { IsTrue result ↔ (self.now ≡ other.now) }
+    {
+        if self.spent != other.spent {
+            return false;
+        }
+        if self.number != other.number {
+            return false;
+        }
+        if self.has_power != other.has_power {
+            return false;
+        }
+        if self.state != other.state {
+            return false;
+        }
+        if !self.learnt.same(&other.learnt) {
+            return false;
+        }
+        if self.heartbeat != other.heartbeat {
+            return false;
+        }
+        if !transfer::same(&self.transfer, &other.transfer) {
+            return false;
+        }
+        if !self.values.same(&other.values) {
+            return false;
+        }
+        self.waiting.same(&other.waiting)
     }
 
     /// Whether a call before found no memory.
@@ -83,6 +137,13 @@ impl DeviceState {
         ensures { result.now ≡ self.now.values }
     {
         &self.values
+    }
+
+    /// Whether it is in an NMT state.
+    pub(crate) fn is_in(&self, state: NmtState) -> bool
+        ensures { result ≡ is_in_state state self.now }
+    {
+        self.state == state
     }
 
     /// The first moment at which it is due, if there is one. Takes constant time.
@@ -120,8 +181,14 @@ impl DeviceState {
         ensures refused { IsTrue self.old.spent → IsErr result }
         ensures spent { OnErr result (IsTrue self.new.spent) }
     {
-        self.spent = true;
-        Err(AllocError)
+        if self.spent {
+            return Err(AllocError);
+        }
+        let done = self.switch(on, t, shapes);
+        if done.is_err() {
+            self.spent = true;
+        }
+        done
     }
 
     /// Takes a frame of another node at the moment t.
@@ -139,8 +206,14 @@ impl DeviceState {
         ensures refused { IsTrue self.old.spent → IsErr result }
         ensures spent { OnErr result (IsTrue self.new.spent) }
     {
-        self.spent = true;
-        Err(AllocError)
+        if self.spent {
+            return Err(AllocError);
+        }
+        let done = self.receive(t, frame, shapes);
+        if done.is_err() {
+            self.spent = true;
+        }
+        done
     }
 
     /// Runs what is due at the moment t.
@@ -150,7 +223,13 @@ impl DeviceState {
         ensures refused { IsTrue self.old.spent → IsErr result }
         ensures spent { OnErr result (IsTrue self.new.spent) }
     {
-        self.spent = true;
-        Err(AllocError)
+        if self.spent {
+            return Err(AllocError);
+        }
+        let done = self.run_timers(t);
+        if done.is_err() {
+            self.spent = true;
+        }
+        done
     }
 }

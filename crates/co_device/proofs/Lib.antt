@@ -1,0 +1,4 @@
+pub mod MomentLemmas
+pub mod PartLemmas
+pub mod ResetLemmas
+pub mod StateLemmas
