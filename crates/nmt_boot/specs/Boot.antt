@@ -1,10 +1,8 @@
 -- The boot of one node by the manager (CiA 302, Boot NMT slave). All moments are absolute, in microseconds from the power-on of the network.
-use Rattle.std.specs.Prelude.{ℕ, ◌+◌, ◌*◌, ◌==◌, ◌&&◌, not, Bool, false, List, length, slice_index_or, nat_le, Option, Some, None, if◌then◌else◌}
+use Rattle.std.specs.Prelude.{ℕ, ◌+◌, ◌==◌, ◌&&◌, not, Bool, false, List, length, slice_index_or, nat_le, Option, Some, None, if◌then◌else◌}
 use Rattle.asking.specs.Asking.{Asking, Answer, Ask}
 use Rattle.byteorder.specs.Endian.{little_number}
-use Rattle.co_dict.specs.declared.abort.Abort.{Abort}
 use Rattle.co_sdo_client.specs.Client.{advanced, download_started, upload_started, timed_out_at}
-use Rattle.co_sdo_client.specs.declared.advance.Advance.{Advance}
 use Rattle.co_sdo_client.specs.declared.progress.Progress.{Progress}
 use Rattle.co_sdo_client.specs.declared.progress.Progress.TheVariants as progress
 use Rattle.co_sdo_client.specs.declared.stage.Stage.{Stage as Transfer}

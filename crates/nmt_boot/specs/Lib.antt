@@ -1,3 +1,6 @@
 pub mod Boot
 pub mod Manager
 pub mod Ahead
+pub mod Beats
+pub mod Ends
+pub mod Sending

@@ -1,7 +1,10 @@
 //! How far the boot of a node has come.
 
+ghost use Rattle.std.specs.Prelude.{◌≡◌, ◌↔◌, IfOk, IsTrue};
+
 use co_parts::Identity;
-use co_sdo_client::Stage;
+use co_sdo_client::{Stage, stage};
+use std::alloc::AllocError;
 
 /// How far the boot of a node has come (CiA 302). An ended boot keeps its outcome alone.
 #[derive(Drop)]
@@ -32,4 +35,83 @@ pub enum BootStage {
     Configured,
     /// The boot has failed.
     Failed,
+}
+
+impl BootStage {
+    /// An equal stage.
+    pub(crate) fn copy(&self) -> Result<BootStage, AllocError>
+        ensures { IfOk result (λ made. made ≡ self.now) }
+    {
+        match self {
+            BootStage::Unseen => Ok(BootStage::Unseen),
+            BootStage::Comparing {
+                place,
+                expected,
+                transfer,
+                deadline,
+            } => {
+                let transfer = stage::copy(transfer)?;
+                let (place, expected, deadline) = (*place, *expected, *deadline);
+                Ok(BootStage::Comparing {
+                    place,
+                    expected,
+                    transfer,
+                    deadline,
+                })
+            }
+            BootStage::Writing {
+                place,
+                transfer,
+                deadline,
+            } => {
+                let transfer = stage::copy(transfer)?;
+                let (place, deadline) = (*place, *deadline);
+                Ok(BootStage::Writing {
+                    place,
+                    transfer,
+                    deadline,
+                })
+            }
+            BootStage::Configured => Ok(BootStage::Configured),
+            BootStage::Failed => Ok(BootStage::Failed),
+        }
+    }
+
+    /// Whether two stages are the same.
+    pub(crate) fn same(&self, other: &BootStage) -> bool
+        ensures { IsTrue result ↔ (self.now ≡ other.now) }
+    {
+        match (self, other) {
+            (BootStage::Unseen, BootStage::Unseen) => true,
+            (
+                BootStage::Comparing {
+                    place,
+                    expected,
+                    transfer,
+                    deadline,
+                },
+                BootStage::Comparing {
+                    place: p,
+                    expected: e,
+                    transfer: t,
+                    deadline: d,
+                },
+            ) => place == p && expected == e && stage::same(transfer, t) && deadline == d,
+            (
+                BootStage::Writing {
+                    place,
+                    transfer,
+                    deadline,
+                },
+                BootStage::Writing {
+                    place: p,
+                    transfer: t,
+                    deadline: d,
+                },
+            ) => place == p && stage::same(transfer, t) && deadline == d,
+            (BootStage::Configured, BootStage::Configured) => true,
+            (BootStage::Failed, BootStage::Failed) => true,
+            _ => false,
+        }
+    }
 }

@@ -1,6 +1,22 @@
 //! A node and its boot.
 
+ghost use Rattle.std.specs.Prelude.{◌≡◌, ◌≤◌, ◌+◌, ◌++◌, ◌↔◌, length, IfOk, IsTrue, OnOk};
+ghost use Rattle.asking.specs.Asking.{followed, outcome, reads};
+ghost use Rattle.nmt_boot.specs.Boot as rules;
+ghost use Rattle.nmt_boot.specs.Manager.{lost as lost_by, node_after, notes_after, queue_after};
+
+use crate::answers::sdo_answer;
 use crate::boot_stage::BootStage;
+use crate::boots::Boots;
+use crate::identity_check::boot_nmt_slave;
+use crate::notes::Notes;
+use crate::sent::Sent;
+use crate::telling::tell;
+use crate::time_outs::{is_timed_out, sdo_time_out};
+use crate::word::Word;
+use can_frame::{Pending, Unwanted};
+use std::alloc::{AllocError, Global};
+use std::mem;
 
 /// A node and how far its boot has come.
 #[derive(Drop)]
@@ -9,4 +25,102 @@ pub struct Booting {
     pub number: u8,
     /// How far its boot has come.
     pub stage: BootStage,
+}
+
+impl Booting {
+    /// An equal node.
+    pub(crate) fn copy(&self) -> Result<Booting, AllocError>
+        ensures { IfOk result (λ booting. booting ≡ self.now) }
+    {
+        let stage = self.stage.copy()?;
+        Ok(Booting {
+            number: self.number,
+            stage,
+        })
+    }
+
+    /// Whether it is the same node at the same stage.
+    pub(crate) fn same(&self, other: &Booting) -> bool
+        ensures { IsTrue result ↔ (self.now ≡ other.now) }
+    {
+        self.number == other.number && self.stage.same(&other.stage)
+    }
+
+    /// What is noted where the node boots anew.
+    pub(crate) fn lost(&self) -> Option<Word>
+        ensures { result ≡ lost_by self.now.stage }
+    {
+        match self.stage {
+            BootStage::Configured => Some(Word::Lost),
+            _ => None,
+        }
+    }
+
+    /// The boot begins anew.
+    pub(crate) fn boot<P: Boots>(
+        &mut self,
+        alloc: Global,
+        deadline: u64,
+        boots: &mut P,
+    ) -> Result<Sent, AllocError>
+        ensures state { IfOk result (λ sent. outcome (rules.boot_nmt_slave deadline self.old.number) (P.seen boots.old).image ≡ record { stage = self.new.stage; request = sent.request; word = sent.word }) }
+        ensures number { OnOk result (self.new.number ≡ self.old.number) }
+        ensures noted { OnOk result (P.seen boots.new ≡ followed (rules.boot_nmt_slave deadline self.old.number) (P.seen boots.old)) }
+        ensures counted { OnOk result (P.asks boots.new ≤ P.asks boots.old + length (reads (rules.boot_nmt_slave deadline self.old.number) (P.seen boots.old).image)) }
+        ensures kept { (P.seen boots.new).image ≡ (P.seen boots.old).image }
+    {
+        let turn = boot_nmt_slave(alloc, deadline, self.number, boots)?;
+        self.stage = turn.stage;
+        Ok(Sent {
+            request: turn.request,
+            word: turn.word,
+        })
+    }
+
+    /// An SDO answer comes.
+    pub(crate) fn take_answer<P: Boots>(
+        &mut self,
+        alloc: Global,
+        deadline: u64,
+        answer: &[u8; 8],
+        boots: &mut P,
+    ) -> Result<Sent, AllocError>
+        ensures state { IfOk result (λ sent. outcome (rules.sdo_answer deadline self.old.number self.old.stage answer.now) (P.seen boots.old).image ≡ record { stage = self.new.stage; request = sent.request; word = sent.word }) }
+        ensures number { OnOk result (self.new.number ≡ self.old.number) }
+        ensures noted { OnOk result (P.seen boots.new ≡ followed (rules.sdo_answer deadline self.old.number self.old.stage answer.now) (P.seen boots.old)) }
+        ensures counted { OnOk result (P.asks boots.new ≤ P.asks boots.old + length (reads (rules.sdo_answer deadline self.old.number self.old.stage answer.now) (P.seen boots.old).image)) }
+        ensures kept { (P.seen boots.new).image ≡ (P.seen boots.old).image }
+    {
+        let stage = mem::replace(&mut self.stage, BootStage::Unseen);
+        let turn = sdo_answer(alloc, deadline, self.number, stage, answer, boots)?;
+        self.stage = turn.stage;
+        Ok(Sent {
+            request: turn.request,
+            word: turn.word,
+        })
+    }
+
+    /// A request of the node times out, where it does so at the moment t.
+    pub(crate) fn time_out(
+        &mut self,
+        t: u64,
+        waiting: &mut Pending,
+        notes: &mut Notes,
+    ) -> Result<(), AllocError>
+        ensures state { OnOk result (self.new ≡ node_after t self.old) }
+        ensures queued { OnOk result (waiting.new ≡ queue_after t self.old waiting.old) }
+        ensures notes { OnOk result (notes.new ≡ notes.old ++ notes_after t self.old) }
+    {
+        if !is_timed_out(t, &self.stage) {
+            return Ok(());
+        }
+        waiting.drop_of(Unwanted::SdoOf(self.number));
+        let turn = sdo_time_out(&self.stage);
+        self.stage = turn.stage;
+        let sent = Sent {
+            request: turn.request,
+            word: turn.word,
+        };
+        tell(waiting, notes, self.number, sent)
+    }
 }

@@ -1,14 +1,16 @@
 //! The manager at a moment.
 
-ghost use Rattle.std.specs.Prelude.{◌≡◌, ◌<◌, ◌≤◌, ◌+◌, ◌++◌, Some, length, remove, slice_get, IfOk, OnOk, OnErr, IsErr, IsTrue};
+ghost use Rattle.std.specs.Prelude.{◌≡◌, ◌<◌, ◌≤◌, ◌+◌, ◌*◌, ◌^◌, ◌++◌, ◌↔◌, Some, length, remove, slice_get, IfOk, IfSome, OnOk, OnErr, IsErr, IsTrue};
 ghost use Rattle.asking.specs.Asking.{followed, outcome, reads};
 ghost use Rattle.can_frame.specs.Winner.{contenders_of, IsWinner};
-ghost use Rattle.nmt_boot.specs.Manager.{blank, next_due, powered_on, received, timers};
+ghost use Rattle.nmt_boot.specs.Manager as rules;
 
 use crate::booting::Booting;
 use crate::boots::Boots;
 use crate::notes::Notes;
-use can_frame::{Contender, Frame, Pending, Waiting};
+use crate::table;
+use crate::telling::{note, tell};
+use can_frame::{Contender, Frame, Pending, Purpose, Unwanted, Waiting, identifiers};
 use co_parts::{END, Roster};
 use std::alloc::{AllocError, Global};
 use std::marker::Model;
@@ -41,10 +43,47 @@ impl Model for Manager {
     ghost invariant = { λ m. (m.timeout < 1000 * 2 ^ 16) × (m.period < 1000 * 2 ^ 16) };
 }
 
+/// Whether these are the bytes of a boot-up message.
+#[tactic(auto, unfolding(crate::specs::Manager::is_boot_up))]
+fn is_boot_up(bytes: &[u8]) -> bool
+    ensures { result ≡ rules.is_boot_up bytes.now }
+{
+    bytes.len() == 1 && bytes[0] == 0
+}
+
+/// The first whole multiple of a period after one of its multiples; none where the period is 0.
+fn period_from(t: u64, period: u64) -> Option<u64>
+    requires soon { t < END }
+    requires short { period < 1000 * 2 ^ 16 }
+    ensures { result ≡ rules.period_from t period }
+{
+    if period == 0 {
+        return None;
+    }
+    Some(t + period)
+}
+
+/// The frame of the manager's heartbeat: it is Operational.
+fn heartbeat_frame(number: u8) -> Frame
+    ensures { result ≡ rules.heartbeat_frame number }
+{
+    Frame::of(identifiers::error_control(number), &[5])
+}
+
+/// The eight bytes of an SDO frame.
+fn eight(bytes: &[u8]) -> [u8; 8]
+    requires { length bytes.now ≡ 8 }
+    ensures { result ≡ bytes.now }
+{
+    let mut out = [0; 8];
+    out.copy_from_slice(bytes);
+    out
+}
+
 impl Manager {
     /// A manager of no network. Takes no memory.
     pub fn new(alloc: Global) -> Manager
-        ensures { result ≡ blank }
+        ensures { result ≡ rules.blank }
     {
         Manager {
             alloc,
@@ -59,10 +98,68 @@ impl Manager {
     }
 
     /// The manager of a network as the power comes on, at time 0. Takes time by the number of nodes.
-    pub fn powered_on(_alloc: Global, _roster: &Roster) -> Result<Manager, AllocError>
-        ensures { IfOk result (λ manager. manager ≡ powered_on _roster.now) }
+    #[tactic(auto, unfolding(crate::specs::Manager::powered_on))]
+    pub fn powered_on(alloc: Global, roster: &Roster) -> Result<Manager, AllocError>
+        ensures { IfOk result (λ manager. manager ≡ rules.powered_on roster.now) }
     {
-        Err(AllocError)
+        let period = 1000 * u64::from(roster.heartbeat_ms);
+        let nodes = table::unseen_nodes(alloc, roster.nodes.as_slice())?;
+        let mut waiting = Pending::new(alloc);
+        let boot_up = Frame::of(identifiers::error_control(roster.manager), &[0]);
+        waiting.add(Purpose::BootUp, boot_up)?;
+        Ok(Manager {
+            alloc,
+            spent: false,
+            number: roster.manager,
+            timeout: 1000 * u64::from(roster.timeout_ms),
+            period,
+            heartbeat: period_from(0, period),
+            nodes,
+            waiting,
+        })
+    }
+
+    /// An equal manager. A spent one answers `AllocError`.
+    pub fn copy(&self) -> Result<Manager, AllocError>
+        ensures copied { IfOk result (λ manager. manager ≡ self.now) }
+        ensures refused { IsTrue self.now.spent → IsErr result }
+    {
+        if self.spent {
+            return Err(AllocError);
+        }
+        let nodes = table::copy_nodes(self.alloc, &self.nodes)?;
+        let waiting = self.waiting.copy()?;
+        Ok(Manager {
+            alloc: self.alloc,
+            spent: false,
+            number: self.number,
+            timeout: self.timeout,
+            period: self.period,
+            heartbeat: self.heartbeat,
+            nodes,
+            waiting,
+        })
+    }
+
+    /// Whether two managers are equal.
+    pub fn same(&self, other: &Manager) -> bool
+        ensures { IsTrue result ↔ (self.now ≡ other.now) }
+    {
+        self.spent == other.spent
+            && self.number == other.number
+            && self.timeout == other.timeout
+            && self.period == other.period
+            && self.heartbeat == other.heartbeat
+            && table::same_nodes(&self.nodes, &other.nodes)
+            && self.waiting.same(&other.waiting)
+    }
+
+    /// The first moment at which a request times out or a heartbeat is due. Takes time by the number of nodes.
+    #[tactic(auto, unfolding(crate::specs::Manager::next_due))]
+    pub fn next_due(&self) -> Option<u64>
+        ensures { result ≡ rules.next_due self.now }
+    {
+        table::first_deadline(self.heartbeat, &self.nodes)
     }
 
     /// Whether a call before found no memory.
@@ -96,6 +193,187 @@ impl Manager {
         self.waiting.take(place)
     }
 
+    /// The longest wait for an SDO answer, in microseconds.
+    fn timeout(&self) -> u64
+        ensures timeout { result ≡ self.now.timeout }
+        ensures short { result < 1000 * 2 ^ 16 }
+    {
+        self.timeout
+    }
+
+    /// The period of the heartbeat, in microseconds.
+    fn period(&self) -> u64
+        ensures period { result ≡ self.now.period }
+        ensures short { result < 1000 * 2 ^ 16 }
+    {
+        self.period
+    }
+
+    /// The boot of a node of the table begins anew.
+    #[tactic(auto, using(crate::proofs::EventLemmas::boots_outcome, crate::proofs::EventLemmas::boots_reads, crate::proofs::EventLemmas::boots_followed))]
+    fn boot_at<P: Boots>(
+        &mut self,
+        t: u64,
+        i: usize,
+        boots: &mut P,
+        notes: &mut Notes,
+    ) -> Result<(), AllocError>
+        requires soon { t < END }
+        requires within { i < length self.now.nodes }
+        ensures state { OnOk result (self.new ≡ (outcome (rules.boots_at t i self.old) (P.seen boots.old).image).0) }
+        ensures notes { OnOk result (notes.new ≡ notes.old ++ (outcome (rules.boots_at t i self.old) (P.seen boots.old).image).1) }
+        ensures noted { OnOk result (P.seen boots.new ≡ followed (rules.boots_at t i self.old) (P.seen boots.old)) }
+        ensures counted { OnOk result (P.asks boots.new ≤ P.asks boots.old + length (reads (rules.boots_at t i self.old) (P.seen boots.old).image)) }
+        ensures kept { (P.seen boots.new).image ≡ (P.seen boots.old).image }
+    {
+        let deadline = t + self.timeout();
+        let number = table::number_at(&self.nodes, i);
+        note(notes, number, table::lost_at(&self.nodes, i))?;
+        self.waiting.drop_of(Unwanted::SdoOf(number));
+        let nodes = self.nodes.as_mut_slice();
+        let sent = table::boot_at(self.alloc, nodes, i, deadline, boots)?;
+        tell(&mut self.waiting, notes, number, sent)?;
+        Ok(())
+    }
+
+    /// An SDO answer of a node of the table comes.
+    #[tactic(auto, using(crate::proofs::EventLemmas::answered_outcome, crate::proofs::EventLemmas::answered_reads, crate::proofs::EventLemmas::answered_followed))]
+    fn answer_at<P: Boots>(
+        &mut self,
+        t: u64,
+        answer: &[u8; 8],
+        i: usize,
+        boots: &mut P,
+        notes: &mut Notes,
+    ) -> Result<(), AllocError>
+        requires soon { t < END }
+        requires within { i < length self.now.nodes }
+        ensures state { OnOk result (self.new ≡ (outcome (rules.answered_at t answer.now i self.old) (P.seen boots.old).image).0) }
+        ensures notes { OnOk result (notes.new ≡ notes.old ++ (outcome (rules.answered_at t answer.now i self.old) (P.seen boots.old).image).1) }
+        ensures noted { OnOk result (P.seen boots.new ≡ followed (rules.answered_at t answer.now i self.old) (P.seen boots.old)) }
+        ensures counted { OnOk result (P.asks boots.new ≤ P.asks boots.old + length (reads (rules.answered_at t answer.now i self.old) (P.seen boots.old).image)) }
+        ensures kept { (P.seen boots.new).image ≡ (P.seen boots.old).image }
+    {
+        let deadline = t + self.timeout();
+        let number = table::number_at(&self.nodes, i);
+        let nodes = self.nodes.as_mut_slice();
+        let sent = table::answer_at(self.alloc, nodes, i, deadline, answer, boots)?;
+        tell(&mut self.waiting, notes, number, sent)?;
+        Ok(())
+    }
+
+    /// The boot-up of the node at a place of the table, if there is one.
+    #[tactic(auto, unfolding(crate::specs::Manager::boot_up_event))]
+    fn take_boot_up<P: Boots>(
+        &mut self,
+        t: u64,
+        place: Option<usize>,
+        boots: &mut P,
+        notes: &mut Notes,
+    ) -> Result<(), AllocError>
+        requires soon { t < END }
+        requires within { IfSome place (λ i. i < length self.now.nodes) }
+        ensures state { OnOk result (self.new ≡ (outcome (rules.boot_up_event t place self.old) (P.seen boots.old).image).0) }
+        ensures notes { OnOk result (notes.new ≡ notes.old ++ (outcome (rules.boot_up_event t place self.old) (P.seen boots.old).image).1) }
+        ensures noted { OnOk result (P.seen boots.new ≡ followed (rules.boot_up_event t place self.old) (P.seen boots.old)) }
+        ensures counted { OnOk result (P.asks boots.new ≤ P.asks boots.old + length (reads (rules.boot_up_event t place self.old) (P.seen boots.old).image)) }
+        ensures kept { (P.seen boots.new).image ≡ (P.seen boots.old).image }
+    {
+        match place {
+            None => Ok(()),
+            Some(i) => self.boot_at(t, i, boots, notes),
+        }
+    }
+
+    /// The SDO answer of the node at a place of the table, if there is one.
+    #[tactic(auto, unfolding(crate::specs::Manager::sdo_event))]
+    fn take_answer<P: Boots>(
+        &mut self,
+        t: u64,
+        answer: &[u8; 8],
+        place: Option<usize>,
+        boots: &mut P,
+        notes: &mut Notes,
+    ) -> Result<(), AllocError>
+        requires soon { t < END }
+        requires within { IfSome place (λ i. i < length self.now.nodes) }
+        ensures state { OnOk result (self.new ≡ (outcome (rules.sdo_event t answer.now place self.old) (P.seen boots.old).image).0) }
+        ensures notes { OnOk result (notes.new ≡ notes.old ++ (outcome (rules.sdo_event t answer.now place self.old) (P.seen boots.old).image).1) }
+        ensures noted { OnOk result (P.seen boots.new ≡ followed (rules.sdo_event t answer.now place self.old) (P.seen boots.old)) }
+        ensures counted { OnOk result (P.asks boots.new ≤ P.asks boots.old + length (reads (rules.sdo_event t answer.now place self.old) (P.seen boots.old).image)) }
+        ensures kept { (P.seen boots.new).image ≡ (P.seen boots.old).image }
+    {
+        match place {
+            None => Ok(()),
+            Some(i) => self.answer_at(t, answer, i, boots, notes),
+        }
+    }
+
+    /// A frame comes, where there was memory before.
+    #[tactic(auto, unfolding(crate::specs::Manager::received))]
+    fn receive<P: Boots>(
+        &mut self,
+        t: u64,
+        frame: &Frame,
+        boots: &mut P,
+        notes: &mut Notes,
+    ) -> Result<(), AllocError>
+        requires soon { t < END }
+        ensures state { OnOk result (self.new ≡ (outcome (rules.received t frame.now self.old) (P.seen boots.old).image).0) }
+        ensures notes { OnOk result (notes.new ≡ notes.old ++ (outcome (rules.received t frame.now self.old) (P.seen boots.old).image).1) }
+        ensures noted { OnOk result (P.seen boots.new ≡ followed (rules.received t frame.now self.old) (P.seen boots.old)) }
+        ensures counted { OnOk result (P.asks boots.new ≤ P.asks boots.old + length (reads (rules.received t frame.now self.old) (P.seen boots.old).image)) }
+        ensures kept { (P.seen boots.new).image ≡ (P.seen boots.old).image }
+    {
+        let bytes = frame.bytes();
+        if is_boot_up(bytes) {
+            let base = identifiers::error_control(0);
+            let place = table::place_of(&self.nodes, base, frame.id());
+            return self.take_boot_up(t, place, boots, notes);
+        }
+        if bytes.len() == 8 {
+            let base = identifiers::sdo_answer(0);
+            let place = table::place_of(&self.nodes, base, frame.id());
+            return self.take_answer(t, &eight(bytes), place, boots, notes);
+        }
+        Ok(())
+    }
+
+    /// The requests that time out at the moment t.
+    #[tactic(auto, unfolding(crate::specs::Manager::time_outs))]
+    fn time_out(&mut self, t: u64, notes: &mut Notes) -> Result<(), AllocError>
+        ensures state { OnOk result (self.new ≡ (rules.time_outs t self.old).0) }
+        ensures notes { OnOk result (notes.new ≡ notes.old ++ (rules.time_outs t self.old).1) }
+    {
+        let nodes = self.nodes.as_mut_slice();
+        table::time_outs(t, nodes, &mut self.waiting, notes)
+    }
+
+    /// The heartbeat, where it is due at the moment t.
+    #[tactic(auto, unfolding(crate::specs::Manager::heartbeats))]
+    fn beat(&mut self, t: u64) -> Result<(), AllocError>
+        requires { t < END }
+        ensures { OnOk result (self.new ≡ rules.heartbeats t self.old) }
+    {
+        if self.heartbeat != Some(t) {
+            return Ok(());
+        }
+        self.heartbeat = period_from(t, self.period());
+        let frame = heartbeat_frame(self.number);
+        self.waiting.replace(Purpose::Heartbeat, frame)
+    }
+
+    /// Runs what is due, where there was memory before.
+    #[tactic(auto, unfolding(crate::specs::Manager::timers))]
+    fn run_timers(&mut self, t: u64, notes: &mut Notes) -> Result<(), AllocError>
+        requires { t < END }
+        ensures state { OnOk result (self.new ≡ (rules.timers t self.old).0) }
+        ensures notes { OnOk result (notes.new ≡ notes.old ++ (rules.timers t self.old).1) }
+    {
+        self.time_out(t, notes)?;
+        self.beat(t)
+    }
+
     /// Takes a frame of a node at the moment t, and notes what that brings about. Takes time by the number
     /// of nodes.
     pub fn on_frame<P: Boots>(
@@ -106,27 +384,39 @@ impl Manager {
         notes: &mut Notes,
     ) -> Result<(), AllocError>
         requires { t < END }
-        ensures state { OnOk result (self.new ≡ (outcome (received t frame.now self.old) (P.seen boots.old).image).0) }
-        ensures notes { OnOk result (notes.new ≡ notes.old ++ (outcome (received t frame.now self.old) (P.seen boots.old).image).1) }
-        ensures noted { OnOk result (P.seen boots.new ≡ followed (received t frame.now self.old) (P.seen boots.old)) }
-        ensures counted { OnOk result (P.asks boots.new ≤ P.asks boots.old + length (reads (received t frame.now self.old) (P.seen boots.old).image)) }
+        ensures state { OnOk result (self.new ≡ (outcome (rules.received t frame.now self.old) (P.seen boots.old).image).0) }
+        ensures notes { OnOk result (notes.new ≡ notes.old ++ (outcome (rules.received t frame.now self.old) (P.seen boots.old).image).1) }
+        ensures noted { OnOk result (P.seen boots.new ≡ followed (rules.received t frame.now self.old) (P.seen boots.old)) }
+        ensures counted { OnOk result (P.asks boots.new ≤ P.asks boots.old + length (reads (rules.received t frame.now self.old) (P.seen boots.old).image)) }
         ensures kept { (P.seen boots.new).image ≡ (P.seen boots.old).image }
         ensures refused { IsTrue self.old.spent → IsErr result }
         ensures spent { OnErr result (IsTrue self.new.spent) }
     {
-        self.spent = true;
-        Err(AllocError)
+        if self.spent {
+            return Err(AllocError);
+        }
+        let done = self.receive(t, frame, boots, notes);
+        if done.is_err() {
+            self.spent = true;
+        }
+        done
     }
 
     /// Runs what is due at the moment t, and notes it. Takes time by the number of nodes.
     pub fn on_instant(&mut self, t: u64, notes: &mut Notes) -> Result<(), AllocError>
         requires { t < END }
-        ensures state { OnOk result (self.new ≡ (timers t self.old).0) }
-        ensures notes { OnOk result (notes.new ≡ notes.old ++ (timers t self.old).1) }
+        ensures state { OnOk result (self.new ≡ (rules.timers t self.old).0) }
+        ensures notes { OnOk result (notes.new ≡ notes.old ++ (rules.timers t self.old).1) }
         ensures refused { IsTrue self.old.spent → IsErr result }
         ensures spent { OnErr result (IsTrue self.new.spent) }
     {
-        self.spent = true;
-        Err(AllocError)
+        if self.spent {
+            return Err(AllocError);
+        }
+        let done = self.run_timers(t, notes);
+        if done.is_err() {
+            self.spent = true;
+        }
+        done
     }
 }

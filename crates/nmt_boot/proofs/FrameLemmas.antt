@@ -1,0 +1,41 @@
+-- What a received frame does: nothing, the boot-up of a node, or an SDO answer of a node.
+use Rattle.std.proofs.Common.{◌≡◌, ℕ, ◌+◌, Bool, true, false, List, [], Option, Some, None, refl}
+use Rattle.std.specs.Prelude.{if◌then◌else◌, ◌==◌, length}
+use Rattle.asking.specs.Asking.{Asking, outcome, reads}
+use Rattle.can_frame.specs.Frames.{BaseFrame}
+use Rattle.can_frame.specs.Identifiers.{error_control_id, sdo_answer_id}
+use Rattle.co_parts.specs.Contents.{Content, Image}
+use Rattle.co_parts.specs.declared.part.Part.{Part}
+use Rattle.nmt_boot.proofs.EventLemmas.{boots_outcome, boots_reads, answered_outcome, answered_reads}
+use Rattle.nmt_boot.specs.Boot.{boot_nmt_slave, sdo_answer}
+use Rattle.nmt_boot.specs.Manager.{Manager, node_at, begun, turned, boot_up_event, sdo_event, is_boot_up, place_of, received}
+use Rattle.nmt_boot.specs.declared.note.Note.{Note}
+
+pub picked : {A : Type 0} (P : Asking Part Content A → Type 0) (b : Bool) (m n : Asking Part Content A) → P m → P n → P (if b then m else n)
+picked P true m n p q = p
+picked P false m n p q = q
+
+module _ (image : Image) (t : ℕ) (frame : BaseFrame) (m : Manager) (P : Manager × List Note → List (Part × Content) → Type 0)
+    (nothing : P (m, []) [])
+    (boots : (i : ℕ) → place_of (error_control_id 0) frame.id m.nodes ≡ Some i
+    → P (begun i m (outcome (boot_nmt_slave (t + m.timeout) (node_at m.nodes i).number) image)) (reads (boot_nmt_slave (t + m.timeout) (node_at m.nodes i).number) image))
+    (answers : (i : ℕ) → place_of (sdo_answer_id 0) frame.id m.nodes ≡ Some i
+    → P (turned i (outcome (sdo_answer (t + m.timeout) (node_at m.nodes i).number (node_at m.nodes i).stage frame.bytes) image) m) (reads (sdo_answer (t + m.timeout) (node_at m.nodes i).number (node_at m.nodes i).stage frame.bytes) image)) where
+  abbrev Holds : Asking Part Content (Manager × List Note) → Type 0
+  Holds a = P (outcome a image) (reads a image)
+
+  boot_up_holds : (place : Option ℕ) → place_of (error_control_id 0) frame.id m.nodes ≡ place → Holds (boot_up_event t place m)
+  unfolding boot_up_event
+  boot_up_holds None e = nothing
+  boot_up_holds (Some i) e = rw (boots_outcome t i m image, boots_reads t i m image) (boots i e)
+
+  answer_holds : (place : Option ℕ) → place_of (sdo_answer_id 0) frame.id m.nodes ≡ place → Holds (sdo_event t frame.bytes place m)
+  unfolding sdo_event
+  answer_holds None e = nothing
+  answer_holds (Some i) e = rw (answered_outcome t frame.bytes i m image, answered_reads t frame.bytes i m image) (answers i e)
+
+  pub received_holds : Holds (received t frame m)
+  unfolding received
+  received_holds =
+      picked Holds (is_boot_up frame.bytes) _ _ (boot_up_holds (place_of (error_control_id 0) frame.id m.nodes) refl)
+      (picked Holds (length frame.bytes == 8) _ _ (answer_holds (place_of (sdo_answer_id 0) frame.id m.nodes) refl) nothing)

@@ -1,0 +1,159 @@
+//! What an SDO answer of a node does to its boot.
+
+ghost use Rattle.std.specs.Prelude.{◌≡◌, ◌≤◌, ◌+◌, length, IfOk, OnOk};
+ghost use Rattle.asking.specs.Asking.{followed, outcome, reads};
+ghost use Rattle.nmt_boot.specs.Boot as rules;
+ghost use Rattle.nmt_boot.specs.declared.boot_stage.BootStage.TheVariants.{Comparing, Writing};
+
+use crate::boot_stage::BootStage;
+use crate::boots::Boots;
+use crate::download::download_next;
+use crate::identity_check::{check_identity, is_as_expected};
+use crate::turn::Turn;
+use crate::word::Word;
+use co_parts::Identity;
+use co_sdo_client::{Progress, Stage, advanced};
+use std::alloc::{AllocError, Global};
+
+/// How the check of device type and identity goes on; `old` is the deadline of the request that is answered.
+fn after_compare<P: Boots>(
+    alloc: Global,
+    deadline: u64,
+    old: u64,
+    node: u8,
+    place: u8,
+    expected: Identity,
+    transfer: Stage,
+    progress: Option<Progress>,
+    boots: &mut P,
+) -> Result<Turn, AllocError>
+    ensures state { IfOk result (λ turn. turn ≡ outcome (rules.after_compare deadline old node place expected transfer progress) (P.seen boots.old).image) }
+    ensures noted { OnOk result (P.seen boots.new ≡ followed (rules.after_compare deadline old node place expected transfer progress) (P.seen boots.old)) }
+    ensures counted { OnOk result (P.asks boots.new ≤ P.asks boots.old + length (reads (rules.after_compare deadline old node place expected transfer progress) (P.seen boots.old).image)) }
+    ensures kept { (P.seen boots.new).image ≡ (P.seen boots.old).image }
+{
+    match progress {
+        Some(Progress::Ask(request)) => {
+            let stage = comparing(place, expected, transfer, deadline);
+            Ok(Turn::asked(stage, request))
+        }
+        Some(Progress::Read(bytes)) => {
+            if is_as_expected(&expected, place, bytes.as_slice()) {
+                let next = u16::from(place) + 1;
+                return check_identity(alloc, deadline, node, expected, next, boots);
+            }
+            Ok(Turn::failed(Word::Difference, None))
+        }
+        Some(Progress::Failed { abort, frame }) => Ok(Turn::failed(Word::Aborted(abort), frame)),
+        Some(Progress::Written) => Ok(Turn::stays(comparing(place, expected, transfer, old))),
+        None => Ok(Turn::stays(comparing(place, expected, transfer, old))),
+    }
+}
+
+/// The stage in which a number is read.
+fn comparing(place: u8, expected: Identity, transfer: Stage, deadline: u64) -> BootStage
+    ensures { result ≡ Comparing place expected transfer deadline }
+{
+    BootStage::Comparing {
+        place,
+        expected,
+        transfer,
+        deadline,
+    }
+}
+
+/// The stage in which a write is under way.
+fn writing(place: u32, transfer: Stage, deadline: u64) -> BootStage
+    ensures { result ≡ Writing place transfer deadline }
+{
+    BootStage::Writing {
+        place,
+        transfer,
+        deadline,
+    }
+}
+
+/// How the writes go on; `old` is the deadline of the request that is answered.
+fn after_write<P: Boots>(
+    alloc: Global,
+    deadline: u64,
+    old: u64,
+    node: u8,
+    place: u32,
+    transfer: Stage,
+    progress: Option<Progress>,
+    boots: &mut P,
+) -> Result<Turn, AllocError>
+    ensures state { IfOk result (λ turn. turn ≡ outcome (rules.after_write deadline old node place transfer progress) (P.seen boots.old).image) }
+    ensures noted { OnOk result (P.seen boots.new ≡ followed (rules.after_write deadline old node place transfer progress) (P.seen boots.old)) }
+    ensures counted { OnOk result (P.asks boots.new ≤ P.asks boots.old + length (reads (rules.after_write deadline old node place transfer progress) (P.seen boots.old).image)) }
+    ensures kept { (P.seen boots.new).image ≡ (P.seen boots.old).image }
+{
+    match progress {
+        Some(Progress::Ask(request)) => {
+            Ok(Turn::asked(writing(place, transfer, deadline), request))
+        }
+        Some(Progress::Written) => download_next(alloc, deadline, node, place, boots),
+        Some(Progress::Failed { abort, frame }) => Ok(Turn::failed(Word::Aborted(abort), frame)),
+        Some(Progress::Read(_bytes)) => Ok(Turn::stays(writing(place, transfer, old))),
+        None => Ok(Turn::stays(writing(place, transfer, old))),
+    }
+}
+
+/// What an SDO answer does to the boot of a node, by its stage; what is asked then has the new deadline.
+#[tactic(auto, unfolding(crate::specs::Boot::sdo_answer))]
+pub(crate) fn sdo_answer<P: Boots>(
+    alloc: Global,
+    deadline: u64,
+    node: u8,
+    stage: BootStage,
+    answer: &[u8; 8],
+    boots: &mut P,
+) -> Result<Turn, AllocError>
+    ensures state { IfOk result (λ turn. turn ≡ outcome (rules.sdo_answer deadline node stage answer.now) (P.seen boots.old).image) }
+    ensures noted { OnOk result (P.seen boots.new ≡ followed (rules.sdo_answer deadline node stage answer.now) (P.seen boots.old)) }
+    ensures counted { OnOk result (P.asks boots.new ≤ P.asks boots.old + length (reads (rules.sdo_answer deadline node stage answer.now) (P.seen boots.old).image)) }
+    ensures kept { (P.seen boots.new).image ≡ (P.seen boots.old).image }
+{
+    match stage {
+        BootStage::Comparing {
+            place,
+            expected,
+            transfer,
+            deadline: old,
+        } => {
+            let advance = advanced(alloc, transfer, answer)?;
+            after_compare(
+                alloc,
+                deadline,
+                old,
+                node,
+                place,
+                expected,
+                advance.stage,
+                advance.progress,
+                boots,
+            )
+        }
+        BootStage::Writing {
+            place,
+            transfer,
+            deadline: old,
+        } => {
+            let advance = advanced(alloc, transfer, answer)?;
+            after_write(
+                alloc,
+                deadline,
+                old,
+                node,
+                place,
+                advance.stage,
+                advance.progress,
+                boots,
+            )
+        }
+        BootStage::Unseen => Ok(Turn::stays(BootStage::Unseen)),
+        BootStage::Configured => Ok(Turn::stays(BootStage::Configured)),
+        BootStage::Failed => Ok(Turn::stays(BootStage::Failed)),
+    }
+}

@@ -1,0 +1,146 @@
+//! The check of device type and identity (CiA 302): numbers that a node is asked for, and that are expected.
+
+ghost use Rattle.std.specs.Prelude.{◌≡◌, ◌≤◌, ◌+◌, length, IfOk, OnOk};
+ghost use Rattle.asking.specs.Asking.{followed, outcome, reads};
+ghost use Rattle.byteorder.specs.Endian.{little_number};
+ghost use Rattle.co_parts.specs.Contents.{no_identity, or_else};
+ghost use Rattle.co_parts.specs.Shared.{shared};
+ghost use Rattle.nmt_boot.specs.Boot as rules;
+
+use crate::boot_stage::BootStage;
+use crate::boots::Boots;
+use crate::download::download_configuration;
+use crate::turn::Turn;
+use byteorder::{ByteOrder, LittleEndian};
+use co_parts::Identity;
+use co_sdo_client::upload_started;
+use std::alloc::{AllocError, Global};
+use std::rc::Rc;
+
+/// The number that is expected in a place of the five.
+fn expected_number(expected: &Identity, place: usize) -> u32
+    ensures { result ≡ rules.expected_number expected.now place }
+{
+    expected.numbers.get(place).copied().unwrap_or(0)
+}
+
+/// Whether a number is expected in a place of the five.
+fn is_expected(expected: &Identity, place: usize) -> bool
+    ensures { result ≡ rules.is_expected expected.now place }
+{
+    expected_number(expected, place) != 0
+}
+
+/// The first place from this one on at which a number is expected, or 5.
+#[tactic(auto, unfolding(crate::specs::Boot::next_compared))]
+fn next_compared(expected: &Identity, place: u16) -> u8
+    ensures place { result ≡ rules.next_compared expected.now place }
+    ensures few { result ≤ 5 }
+{
+    if place == 0 && is_expected(expected, 0) {
+        0
+    } else if place <= 1 && is_expected(expected, 1) {
+        1
+    } else if place <= 2 && is_expected(expected, 2) {
+        2
+    } else if place <= 3 && is_expected(expected, 3) {
+        3
+    } else if place <= 4 && is_expected(expected, 4) {
+        4
+    } else {
+        5
+    }
+}
+
+/// The entry that is compared in a place of the five.
+fn identity_entry(place: u8) -> (u16, u8)
+    ensures { result ≡ rules.identity_entry place }
+{
+    let index = if place == 0 { 0x1000 } else { 0x1018 };
+    (index, place)
+}
+
+/// A number is asked for.
+#[tactic(auto, unfolding(crate::specs::Boot::compared))]
+fn compare(deadline: u64, expected: Identity, place: u8) -> Turn
+    ensures { result ≡ rules.compared deadline expected place }
+{
+    let (request, transfer) = upload_started(identity_entry(place));
+    let stage = BootStage::Comparing {
+        place,
+        expected,
+        transfer,
+        deadline,
+    };
+    Turn::asked(stage, request)
+}
+
+/// The check goes on from a place of the five, and then come the writes.
+#[tactic(auto, unfolding(crate::specs::Boot::check_identity))]
+pub(crate) fn check_identity<P: Boots>(
+    alloc: Global,
+    deadline: u64,
+    node: u8,
+    expected: Identity,
+    place: u16,
+    boots: &mut P,
+) -> Result<Turn, AllocError>
+    ensures state { IfOk result (λ turn. turn ≡ outcome (rules.check_identity deadline node expected place) (P.seen boots.old).image) }
+    ensures noted { OnOk result (P.seen boots.new ≡ followed (rules.check_identity deadline node expected place) (P.seen boots.old)) }
+    ensures counted { OnOk result (P.asks boots.new ≤ P.asks boots.old + length (reads (rules.check_identity deadline node expected place) (P.seen boots.old).image)) }
+    ensures kept { (P.seen boots.new).image ≡ (P.seen boots.old).image }
+{
+    let next = next_compared(&expected, place);
+    if next == 5 {
+        return download_configuration(alloc, deadline, node, 0, boots);
+    }
+    Ok(compare(deadline, expected, next))
+}
+
+/// The expected numbers; any will do where none are handed out.
+fn identity_of(identity: &Option<Rc<Identity>>) -> Identity
+    ensures { result ≡ or_else no_identity (shared identity.now) }
+{
+    match identity {
+        None => Identity { numbers: [0; 5] },
+        Some(identity) => Identity {
+            numbers: identity.numbers,
+        },
+    }
+}
+
+/// The boot of a node begins.
+#[tactic(auto, unfolding(crate::specs::Boot::boot_nmt_slave))]
+pub(crate) fn boot_nmt_slave<P: Boots>(
+    alloc: Global,
+    deadline: u64,
+    node: u8,
+    boots: &mut P,
+) -> Result<Turn, AllocError>
+    ensures state { IfOk result (λ turn. turn ≡ outcome (rules.boot_nmt_slave deadline node) (P.seen boots.old).image) }
+    ensures noted { OnOk result (P.seen boots.new ≡ followed (rules.boot_nmt_slave deadline node) (P.seen boots.old)) }
+    ensures counted { OnOk result (P.asks boots.new ≤ P.asks boots.old + length (reads (rules.boot_nmt_slave deadline node) (P.seen boots.old).image)) }
+    ensures kept { (P.seen boots.new).image ≡ (P.seen boots.old).image }
+{
+    let identity = boots.expect(node)?;
+    check_identity(alloc, deadline, node, identity_of(&identity), 0, boots)
+}
+
+/// The number in at most four bytes, the lowest first.
+fn number_in(bytes: &[u8]) -> u64
+    requires { length bytes.now ≤ 4 }
+    ensures { result ≡ little_number (length bytes.now) bytes.now }
+{
+    if bytes.is_empty() {
+        return 0;
+    }
+    LittleEndian::read_uint(bytes, bytes.len())
+}
+
+/// Whether a value is the expected number, of at most four bytes.
+#[tactic(auto, unfolding(crate::specs::Boot::is_as_expected))]
+pub(crate) fn is_as_expected(expected: &Identity, place: u8, bytes: &[u8]) -> bool
+    ensures { result ≡ rules.is_as_expected expected.now place bytes.now }
+{
+    bytes.len() <= 4 && number_in(bytes) == u64::from(expected_number(expected, usize::from(place)))
+}

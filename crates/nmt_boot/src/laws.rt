@@ -1,0 +1,65 @@
+//! Laws of managers, each a function whose contract is the law.
+
+ghost use Rattle.std.specs.Prelude.{◌≡◌, ◌≢◌, ◌+◌, ◌↔◌, ℕ, Contains, true, []};
+ghost use Rattle.asking.specs.Alike.{AreAlike};
+ghost use Rattle.asking.specs.Asking.{Agrees, outcome, reads};
+ghost use Rattle.can_frame.specs.Frames.{BaseFrame};
+ghost use Rattle.can_frame.specs.Identifiers.{error_control_id, sdo_answer_id};
+ghost use Rattle.co_parts.specs.Contents.{Image};
+ghost use Rattle.co_parts.specs.declared.roster.Roster.{Roster as Network};
+ghost use Rattle.nmt_boot.specs.Ahead.{IsAhead};
+ghost use Rattle.nmt_boot.specs.Beats.{IsMultiple, IsOnTime};
+ghost use Rattle.nmt_boot.specs.Boot.{is_at};
+ghost use Rattle.nmt_boot.specs.Ends.{configured_note, WritesEnd};
+ghost use Rattle.nmt_boot.specs.Manager.{Manager as State, node_at, powered_on, received, timers};
+
+/// Before its next due moment nothing happens to the manager, and nothing is noted.
+#[tactic(auto, using(crate::proofs::MomentLemmas::quiet))]
+pub fn quiet_before_due()
+    ensures { (t : ℕ) (m : State) → IsAhead (t + 1) m → timers t m ≡ (m, []) }
+{}
+
+/// The timers of a moment leave no due moment up to it, where none lay before it: whatever period and
+/// time-out are.
+#[tactic(auto, using(crate::proofs::MomentLemmas::due_later))]
+pub fn due_after()
+    ensures { (t : ℕ) (m : State) → IsAhead t m → IsAhead (t + 1) (timers t m).0 }
+{}
+
+/// A frame that comes at a moment sets no due moment before it.
+#[tactic(auto, using(crate::proofs::AheadLemmas::frame_ahead))]
+pub fn a_frame_sets_no_earlier_moment()
+    ensures { (image : Image) (t : ℕ) (frame : BaseFrame) (m : State) → IsAhead t m → IsAhead t (outcome (received t frame m) image).0 }
+{}
+
+/// Under two images that agree on what is read under the first, a frame does the same.
+#[tactic(auto, using(asking::proofs::QuestionLemmas::two_images))]
+pub fn two_images()
+    ensures { (first second : Image) (t : ℕ) (frame : BaseFrame) (m : State) → Agrees second (reads (received t frame m) first) → AreAlike (received t frame m) first second }
+{}
+
+/// A frame changes the boot of no node but that whose boot-up or SDO answer it is.
+#[tactic(auto, using(crate::proofs::TableLemmas::its_node_alone))]
+pub fn a_frame_changes_its_node_alone()
+    ensures { (image : Image) (t : ℕ) (frame : BaseFrame) (m : State) (j : ℕ)
+        → error_control_id (node_at m.nodes j).number ≢ frame.id → sdo_answer_id (node_at m.nodes j).number ≢ frame.id
+        → node_at (outcome (received t frame m) image).0.nodes j ≡ node_at m.nodes j }
+{}
+
+/// Heartbeats come at the whole multiples of the period above 0, and at no other moment: the next one is
+/// due at the first of them at power-on, after each frame, and after the timers of each moment.
+#[tactic(auto, using(crate::proofs::BeatLemmas::on_time_first, crate::proofs::BeatLemmas::frame_on_time, crate::proofs::BeatLemmas::timers_on_time, crate::proofs::BeatLemmas::due_at_multiples))]
+pub fn heartbeats_come_at_whole_multiples()
+    ensures first { (network : Network) → IsOnTime 0 (powered_on network) }
+    ensures frames { (image : Image) (t : ℕ) (frame : BaseFrame) (m : State) → IsOnTime t m → IsOnTime t (outcome (received t frame m) image).0 }
+    ensures timers { (t : ℕ) (m : State) → IsOnTime t m → IsOnTime (t + 1) (timers t m).0 }
+    ensures due { (t : ℕ) (m : State) → IsOnTime t m → (is_at t m.heartbeat ≡ true) ↔ IsMultiple t m.period }
+{}
+
+/// A node is noted configured only at a frame at which the write after its last one was asked for and is
+/// absent, or which confirms the write with the greatest number; never by timers.
+pub fn a_boot_ends_with_its_writes()
+    ensures frames { (image : Image) (t : ℕ) (frame : BaseFrame) (m : State) (node : ℕ)
+        → Contains (outcome (received t frame m) image).1 (configured_note node) → WritesEnd image m node (reads (received t frame m) image) }
+    ensures timers { (t : ℕ) (m : State) (node : ℕ) → Contains (timers t m).1 (configured_note node) → ⊥ }
+{}

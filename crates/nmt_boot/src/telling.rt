@@ -1,0 +1,61 @@
+//! What a rule of a boot queues at the manager, and notes.
+
+ghost use Rattle.std.specs.Prelude.{◌≡◌, ◌++◌, OnOk};
+ghost use Rattle.nmt_boot.specs.Manager.{notes_of, sdo_frames, start_frames};
+
+use crate::note::Note;
+use crate::notes::Notes;
+use crate::sent::Sent;
+use crate::word::Word;
+use can_frame::{Frame, Pending, Purpose, identifiers};
+use std::alloc::AllocError;
+
+/// Queues an SDO frame to a node, if there is one.
+fn send_request(waiting: &mut Pending, node: u8, request: Option<[u8; 8]>) -> Result<(), AllocError>
+    ensures { OnOk result (waiting.new ≡ waiting.old ++ sdo_frames node request) }
+{
+    if let Some(bytes) = request {
+        let frame = Frame::of(identifiers::sdo_request(node), &bytes);
+        waiting.add(Purpose::Sdo(node), frame)?;
+    }
+    Ok(())
+}
+
+/// Queues the start of a node that is configured.
+fn start(waiting: &mut Pending, node: u8, word: Option<Word>) -> Result<(), AllocError>
+    ensures { OnOk result (waiting.new ≡ waiting.old ++ start_frames node word) }
+{
+    match word {
+        Some(Word::Configured) => {
+            let frame = Frame::of(identifiers::nmt(), &[1, node]);
+            waiting.add(Purpose::Nmt, frame)?;
+            Ok(())
+        }
+        _ => Ok(()),
+    }
+}
+
+/// Notes a word of a node, if there is one.
+pub(crate) fn note(notes: &mut Notes, node: u8, word: Option<Word>) -> Result<(), AllocError>
+    ensures { OnOk result (notes.new ≡ notes.old ++ notes_of node word) }
+{
+    if let Some(word) = word {
+        notes.add(Note { node, word })?;
+    }
+    Ok(())
+}
+
+/// Queues what a rule queues, and notes what it notes.
+pub(crate) fn tell(
+    waiting: &mut Pending,
+    notes: &mut Notes,
+    node: u8,
+    sent: Sent,
+) -> Result<(), AllocError>
+    ensures queued { OnOk result (waiting.new ≡ (waiting.old ++ sdo_frames node sent.request) ++ start_frames node sent.word) }
+    ensures notes { OnOk result (notes.new ≡ notes.old ++ notes_of node sent.word) }
+{
+    send_request(waiting, node, sent.request)?;
+    start(waiting, node, sent.word)?;
+    note(notes, node, sent.word)
+}

@@ -1,0 +1,52 @@
+//! What the time-out of a request does to the boot of a node.
+
+ghost use Rattle.std.specs.Prelude.{◌≡◌};
+ghost use Rattle.co_sdo_client.specs.Client.{timed_out_at};
+ghost use Rattle.nmt_boot.specs.Boot as rules;
+
+use crate::boot_stage::BootStage;
+use crate::turn::Turn;
+use crate::word::Word;
+use co_sdo_client::{Progress, Stage, timed_out};
+
+/// The moment at which a request of the boot times out.
+pub(crate) fn deadline_of(stage: &BootStage) -> Option<u64>
+    ensures { result ≡ rules.deadline_of stage.now }
+{
+    match stage {
+        BootStage::Comparing { deadline, .. } => Some(*deadline),
+        BootStage::Writing { deadline, .. } => Some(*deadline),
+        _ => None,
+    }
+}
+
+/// Whether a request of the boot times out at the moment t.
+pub(crate) fn is_timed_out(t: u64, stage: &BootStage) -> bool
+    ensures { result ≡ rules.is_timed_out t stage.now }
+{
+    deadline_of(stage) == Some(t)
+}
+
+/// The frame of the abort of a transfer whose answer didn't come.
+fn abort_of(transfer: &Stage) -> Option<[u8; 8]>
+    ensures { result ≡ rules.abort_sent (timed_out_at transfer.now).progress }
+{
+    let advance = timed_out(transfer);
+    match advance.progress {
+        Some(Progress::Failed { frame, .. }) => frame,
+        _ => None,
+    }
+}
+
+/// What the time-out of a request does to a boot.
+#[tactic(auto, unfolding(crate::specs::Boot::sdo_time_out))]
+pub(crate) fn sdo_time_out(stage: &BootStage) -> Turn
+    ensures { result ≡ rules.sdo_time_out stage.now }
+{
+    let frame = match stage {
+        BootStage::Comparing { transfer, .. } => abort_of(transfer),
+        BootStage::Writing { transfer, .. } => abort_of(transfer),
+        _ => None,
+    };
+    Turn::failed(Word::TimedOut, frame)
+}
