@@ -8,3 +8,4 @@ pub mod RunLemmas
 pub mod ReadLemmas
 pub mod ToldLemmas
 pub mod SettledLemmas
+pub mod StartLemmas

@@ -2,10 +2,13 @@
 use Rattle.std.specs.Prelude.{◌≡◌, ℕ, ◌+◌, nat_le, Bool, List, [], ◌∷◌, All, filter, Option, Some, None}
 use Rattle.std.specs.List.{flat_map}
 use Rattle.asking.specs.Asking.{Asking, bind, outcome, turns}
+use Rattle.can_frame.specs.Winner.{contenders, IsWinner, WaitsAt}
+use Rattle.can_frame.specs.declared.contender.Contender.{Contender}
+use Rattle.can_frame.specs.declared.waiting.Waiting.{Waiting}
 use Rattle.co_parts.specs.Contents.{Content, Image, roster_of}
 use Rattle.co_parts.specs.declared.part.Part.{Part}
 use Rattle.co_parts.specs.declared.part.Part.TheVariants.{Defaults, Roster, Shape}
-use Rattle.can_bus.specs.Bus.{Bus, instant, power_on}
+use Rattle.can_bus.specs.Bus.{Bus, instant, lists, power_on, slot_of}
 use Rattle.can_bus.specs.Lines.{line_time}
 use Rattle.can_bus.specs.declared.line.Line.{Line}
 use Rattle.can_bus.specs.declared.slot.Slot.{Slot}
@@ -35,6 +38,12 @@ pub record NoneWaits (s : Bus) : Type 0 where
 -- no frame waits at an idle wire
 unfoldable pub IsSettled : Bus → Type 0
 IsSettled s = IsIdle s.wire → NoneWaits s
+
+-- the slot is that of the frame w, which waits and wins with c at the moment t
+pub record StartsWith (t : ℕ) (s : Bus) (slot : Slot) (c : Contender) (w : Waiting) : Type 0 where
+  pub wins : IsWinner (contenders (lists s.devices s.manager)) (Some c)
+  pub waits : WaitsAt (lists s.devices s.manager) c.node c.place w
+  pub is : slot ≡ slot_of t s.bit_time c.node w.frame
 
 -- what power-on reads: the roster, and of each node its values and its entries
 abbrev pub power_on_reads : Image → List (Part × Content)

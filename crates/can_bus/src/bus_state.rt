@@ -175,7 +175,7 @@ impl BusState {
         }
     }
 
-    /// The bus of a network as the power comes on, at time 0.
+    /// The bus of a network as the power comes on, at time 0. Takes time by the number of nodes.
     #[tactic(auto, unfolding(crate::specs::Bus::power_on))]
     pub fn power_on<P: Parts>(alloc: Global, parts: &mut P) -> Result<BusState, AllocError>
         ensures state { IfOk result (λ bus. bus ≡ outcome power_on (P.seen parts.old).image) }
@@ -200,8 +200,9 @@ impl BusState {
         self.spent
     }
 
-    /// The instant at the moment t: tells what it brings in lines. One in which nothing is due takes no
-    /// memory.
+    /// The instant at the moment t, which is below `END`: adds what it tells to the lines. One in which
+    /// nothing is due takes no memory. Takes time by the number of nodes. Want of memory may leave lines
+    /// added.
     pub fn instant<P: Parts>(
         &mut self,
         t: u64,

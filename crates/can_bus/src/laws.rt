@@ -5,9 +5,11 @@ ghost use Rattle.asking.specs.Alike.{AreAlike};
 ghost use Rattle.asking.specs.Asking.{Agrees, Answer, outcome, reads};
 ghost use Rattle.can_bus.specs.Bus.{hears, instant, power_on, slot_started, Bus};
 ghost use Rattle.can_bus.specs.Lines.{line_time};
-ghost use Rattle.can_bus.specs.Runs.{is_shown, power_on_reads, run, trace, IsSettled};
+ghost use Rattle.can_bus.specs.Runs.{is_shown, power_on_reads, run, trace, IsSettled, StartsWith};
 ghost use Rattle.can_bus.specs.declared.line.Line.{Line as Told};
 ghost use Rattle.can_bus.specs.declared.slot.Slot.{Slot as Sent};
+ghost use Rattle.can_frame.specs.declared.contender.Contender.{Contender as Bid};
+ghost use Rattle.can_frame.specs.declared.waiting.Waiting.{Waiting as Queued};
 ghost use Rattle.co_device.specs.Device.{Device};
 ghost use Rattle.co_parts.specs.Contents.{Image};
 
@@ -41,6 +43,12 @@ pub fn trace_of_a_longer_run()
 #[tactic(auto, using(crate::proofs::SettledLemmas::instant_settles))]
 pub fn each_instant_leaves_a_settled_bus()
     ensures { (image : Image) (t : ℕ) (s : Bus) → IsSettled (outcome (instant t s) image).0 }
+{}
+
+/// A slot that starts at an idle wire is that of a waiting frame that no other is below.
+#[tactic(auto, using(crate::proofs::StartLemmas::slot_is_winners))]
+pub fn the_winner_starts()
+    ensures { (t : ℕ) (s : Bus) (slot : Sent) → s.wire ≡ None → (slot_started t s).wire ≡ Some slot → (c : Bid) × ((w : Queued) × StartsWith t s slot c w) }
 {}
 
 /// A frame isn't delivered to the node that sends it.
