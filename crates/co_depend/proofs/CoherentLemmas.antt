@@ -1,11 +1,8 @@
 -- The image of each project is coherent.
-use Rattle.std.proofs.Common.{◌≡◌, ℕ, true, List, Option, Some, None, IfSome, option_map, option_and_then, refl, sym, ◌∙◌, slice_get}
-use Rattle.std.specs.FinMap.{get, get-empty}
-use Rattle.co_values.specs.Types.{is_modelled}
+use Rattle.std.proofs.Common.{ℕ, Option, Some, None, IfSome, option_map, option_and_then, sym, ◌∙◌, slice_get}
+use Rattle.std.specs.FinMap.{get-empty}
 use Rattle.co_dict.specs.Places.{place_cmp}
-use Rattle.co_dict.specs.declared.entry.Entry.{Entry}
-use Rattle.co_dict.specs.Values.{HasLength, HoldEach}
-use Rattle.concise_dcf.specs.declared.write.Write.{Write}
+use Rattle.co_dict.specs.Values.{HoldEach}
 use Rattle.eds_device.specs.Entries.{defaults_of, shape_of}
 use Rattle.eds_device.proofs.LawLemmas.{values_have_lengths}
 use Rattle.co_network.specs.Network.{member_at, writes_of, Member}

@@ -1,5 +1,5 @@
 -- The nodes that are put into a table one after the other, and the image that this table is.
-use Rattle.std.proofs.Common.{◌≡◌, ℕ, Bool, true, false, cond, T, List, [], ◌∷◌, Result, Ok, Err, OnOk, Option, Some, None, option_map, option_and_then, refl, sym, ap, subst, ◌∙◌, slice_get}
+use Rattle.std.proofs.Common.{◌≡◌, ℕ, Bool, true, false, cond, T, List, [], ◌∷◌, Result, Ok, Err, OnOk, Option, Some, None, option_map, option_and_then, refl, sym, ap, ◌∙◌, slice_get}
 use Rattle.std.specs.FinMap.{empty, entries, entries_sorted, find, get, get-empty, get-entries, get-insert, insert, is_sorted}
 use Rattle.std.specs.Option.{option_map_or, option_or}
 use Rattle.std.specs.Ordering.{eq_by_cmp, nat_cmp}
@@ -8,9 +8,6 @@ use Rattle.std.proofs.lemmas.Map.Lookups.{exact_unsigned}
 use Rattle.ini_text.specs.Content.{Content as Device, content_of}
 use Rattle.co_base.proofs.EachLemmas.{find_below, first_part, second_part}
 use Rattle.co_base.proofs.TableLemmas.{alike}
-use Rattle.co_dict.specs.Shapes.{Shaped}
-use Rattle.co_dict.specs.Values.{Values}
-use Rattle.concise_dcf.specs.declared.write.Write.{Write}
 use Rattle.eds_device.specs.Entries.{defaults_of, shape_of}
 use Rattle.eds_device.specs.Identity.{identity}
 use Rattle.co_params.specs.Params.{Texts}
@@ -19,9 +16,8 @@ use Rattle.pdo_links.specs.Writes.{node_writes}
 use Rattle.co_network.specs.Network.{member_at, project_plan, with_sections, writes_of, Member}
 use Rattle.co_project.specs.declared.node.Node.{Node}
 use Rattle.co_project.specs.Project.{Content as Project}
-use Rattle.co_project.specs.Tables.{node_at, text_at}
-use Rattle.co_parts.specs.Contents.{BootIs, DefaultsAre, EventsAre, ExpectIs, RosterIs, ShapeIs}
-use Rattle.co_parts.specs.declared.identity.Identity.{Identity}
+use Rattle.co_project.specs.Tables.{text_at}
+use Rattle.co_parts.specs.Contents.{BootIs, DefaultsAre, ExpectIs, RosterIs, ShapeIs}
 use Rattle.co_parts.specs.declared.part.Part.{Part}
 use Rattle.co_parts.specs.declared.part.Part.TheVariants as part
 use Rattle.co_parts.specs.declared.roster.Roster.{Roster}

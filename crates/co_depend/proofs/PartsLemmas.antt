@@ -1,6 +1,6 @@
 -- Which numbers have parts.
-use Rattle.std.proofs.Common.{◌≡◌, ◌∙◌, ℕ, List, Bool, true, Option, Some, None, IfSome, is_some, option_map, option_and_then, refl, ap, subst, slice_get}
-use Rattle.std.specs.FinMap.{contains_key, get}
+use Rattle.std.proofs.Common.{◌≡◌, ◌∙◌, ℕ, List, true, Option, Some, None, IfSome, option_map, option_and_then, refl, ap, subst, slice_get}
+use Rattle.std.specs.FinMap.{contains_key}
 use Rattle.ini_text.specs.Content.{content_of}
 use Rattle.eds_device.specs.Entries.{defaults_of, shape_of}
 use Rattle.eds_device.specs.Identity.{identity}

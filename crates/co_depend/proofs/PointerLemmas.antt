@@ -1,5 +1,5 @@
 -- Lists of pointers, and what lies behind them.
-use Rattle.std.proofs.Common.{◌≡◌, ℕ, zero, suc, ◌<◌, ◌≤◌, false, length, arith, List, [], ◌∷◌, Result, Ok, Err, Option, Some, None, IfOk, IfSome, All, option_map, refl, sym, ap, subst, ◌∙◌, slice_get}
+use Rattle.std.proofs.Common.{◌≡◌, ℕ, zero, suc, ◌<◌, ◌≤◌, false, length, arith, List, [], ◌∷◌, Result, Ok, Err, Option, Some, None, IfOk, IfSome, All, option_map, sym, ap, subst, ◌∙◌, slice_get}
 use Rattle.std.proofs.lemmas.List.Elements.{All-head, All-tail}
 use Rattle.std.proofs.lemmas.Option.{slice_get-get_or, slice_get-map, slice_get_past}
 use Rattle.std.specs.Prelude.{get_or, nat_lt}

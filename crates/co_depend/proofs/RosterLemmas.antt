@@ -1,11 +1,9 @@
 -- The roster of a project is one.
-use Rattle.std.proofs.Common.{◌≡◌, ◌≢◌, ℕ, ◌+◌, ◌<◌, ◌≤◌, ◌==◌, ◌||◌, ◌&&◌, ◌^◌, ◌⊎◌, Bool, true, false, T, List, [], ◌∷◌, All, refl, sym, ap, arith, inl, inr}
-use Rattle.std.specs.Prelude.{map, nat_eq, Contains}
-use Rattle.std.specs.List.{list_any, AllByRecursion}
+use Rattle.std.proofs.Common.{◌≡◌, ℕ, ◌<◌, ◌≤◌, ◌==◌, ◌||◌, ◌⊎◌, Bool, true, false, T, List, [], ◌∷◌, All, refl, arith, inl, inr}
+use Rattle.std.specs.Prelude.{map, nat_eq}
+use Rattle.std.specs.List.{AllByRecursion}
 use Rattle.std.specs.Ordering.{nat_cmp, is_lt}
-use Rattle.std.specs.declared.cmp.Ordering.{Ordering}
-use Rattle.std.specs.declared.cmp.Ordering.TheVariants.{Less}
-use Rattle.std.specs.FinMap.{entries, entries_sorted, is_sorted, keys}
+use Rattle.std.specs.FinMap.{entries, entries_sorted, is_sorted}
 use Rattle.std.proofs.lemmas.Bool.{eq-eqb, eqb-true}
 use Rattle.std.proofs.lemmas.Bool.Decides.{nat_tests}
 use Rattle.std.proofs.lemmas.Cmp.{nat_cmp_total}

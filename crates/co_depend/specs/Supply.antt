@@ -1,5 +1,5 @@
 -- What hands out the parts of a project, and the image that it hands out.
-use Rattle.std.specs.Prelude.{ℕ, List, Option, Some, None, option_map, option_and_then, slice_get, refl}
+use Rattle.std.specs.Prelude.{ℕ, List, Some, None, option_map, option_and_then, slice_get, refl}
 use Rattle.std.specs.Coded.{Coded, code_by, coded×, coded_ℕ, coded_list}
 use Rattle.std.specs.FinMap.{get}
 use Rattle.asking.specs.Asking.{Seen}

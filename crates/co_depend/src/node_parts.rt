@@ -1,5 +1,5 @@
 //! The parts of a node.
-ghost use Rattle.std.specs.Prelude.{◌≡◌, All, IfOk, IfSome, slice_get};
+ghost use Rattle.std.specs.Prelude.{◌≡◌, IfOk, IfSome, slice_get};
 ghost use Rattle.eds_device.specs.Entries.{defaults_of, shape_of};
 ghost use Rattle.eds_device.specs.Identity.{identity};
 ghost use Rattle.pdo_links.specs.Writes.{node_writes};

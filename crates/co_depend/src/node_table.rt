@@ -1,5 +1,5 @@
 //! The parts of nodes by number.
-ghost use Rattle.std.specs.Prelude.{◌≡◌, IfOk, IfSome, OnOk, OnErr, option_copied, option_map, option_and_then, slice_get};
+ghost use Rattle.std.specs.Prelude.{◌≡◌, IfOk, IfSome, OnOk, option_copied, option_map, option_and_then, slice_get};
 ghost use Rattle.std.specs.FinMap as map;
 ghost use Rattle.co_depend.specs.Held.{Held};
 ghost use Rattle.co_parts.specs.Images.{IsBootWrite};

@@ -1,10 +1,8 @@
-use Rattle.std.proofs.Common.{◌≡◌, ◌∙◌, ℕ, List, [], ◌∷◌, refl, sym, ap, rules}
-use Rattle.std.specs.FinMap.{empty}
-use Rattle.co_network.specs.Library.{Read}
+use Rattle.std.proofs.Common.{◌≡◌, ◌∙◌, ℕ, List, [], ◌∷◌, sym, ap, rules}
 use Rattle.co_network.specs.Network.{project_plan}
 use Rattle.co_project.specs.declared.node.Node.{Node}
 use Rattle.co_project.specs.Project.{Content as Project}
-use Rattle.co_depend.specs.Held.{with_held, AllHeld}
+use Rattle.co_depend.specs.Held.{with_held}
 use Rattle.co_depend.proofs.HeldLemmas.{all_held, all_put}
 use Rattle.co_depend.proofs.reading.read_nodes.Goals as goal
 

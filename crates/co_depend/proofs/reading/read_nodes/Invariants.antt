@@ -1,6 +1,5 @@
 use Rattle.std.proofs.Common.{◌≡◌}
 use Rattle.std.specs.FinMap.{empty, entries}
-use Rattle.co_network.specs.Network.{project_plan}
 use Rattle.co_depend.proofs.HeldLemmas.{all_put}
 use Rattle.co_depend.proofs.reading.read_nodes.Given as goal
 

@@ -1,5 +1,4 @@
-use Rattle.std.proofs.Common.{◌≡◌, ◌<◌, length, false, refl, rules}
-use Rattle.std.specs.Prelude.{get_or, nat_lt}
+use Rattle.std.proofs.Common.{◌<◌, length, refl}
 use Rattle.co_parts.specs.Images.{IsBootWrite}
 use Rattle.co_depend.specs.Pointers.{behind}
 use Rattle.co_depend.proofs.PointerLemmas.{behind_at, copied_fits, none_behind, there_fits}
