@@ -5,7 +5,7 @@ Takes the path of the built program, and runs it over scripts on its standard in
 to a horizon of 1,000,000 microseconds:
 
     quiet   126 nodes without writes: each boots, is started, and then nothing is due
-    busy    126 nodes of 100 parameters each, and a heartbeat each 100 ms
+    busy    126 nodes of 30 parameters each, and a heartbeat each 100 ms
 
 Each is run without a query, and then with `trace`. Prints the seconds of the processor for both and
 their difference, and the peak memory. Asserts a difference under 60 seconds and at most 64 MiB, and of
@@ -19,7 +19,7 @@ import sys
 import tempfile
 
 NODES = 126
-ENTRIES = 100
+ENTRIES = 30
 SECONDS = 60
 MEMORY = 64 << 20
 
