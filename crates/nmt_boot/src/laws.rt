@@ -56,8 +56,8 @@ pub fn heartbeats_come_at_whole_multiples()
     ensures due { (t : ℕ) (m : State) → IsOnTime t m → (is_at t m.heartbeat ≡ true) ↔ IsMultiple t m.period }
 {}
 
-/// A node is noted configured only at a frame at which the write after its last one was asked for and is
-/// absent, or which confirms the write with the greatest number; never by timers.
+/// A node is noted configured only at a frame at which a write of it was asked for and is absent, or where
+/// the write with the greatest number was under way; never by timers.
 pub fn a_boot_ends_with_its_writes()
     ensures frames { (image : Image) (t : ℕ) (frame : BaseFrame) (m : State) (node : ℕ)
         → Contains (outcome (received t frame m) image).1 (configured_note node) → WritesEnd image m node (reads (received t frame m) image) }
