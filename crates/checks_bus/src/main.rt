@@ -1,0 +1,25 @@
+//! Plays one device and one manager without a bus, by the lines of its input. It prints each line and
+//! what it leaves: the device's NMT state and the manager's notes, the next due moment, the frames that
+//! wait, and whether all is the same as before.
+#![tactic(auto)]
+
+mod bench;
+mod entries;
+mod one_node;
+mod shown;
+mod taken;
+
+use anyhow::Result;
+use bench::Bench;
+use std::io::Write;
+
+fn main(rt: HostRuntime) -> Result<()> {
+    let alloc = rt.alloc();
+    let mut bench = Bench::new(alloc)?;
+    for line in rt.lines(alloc) {
+        let line = line?;
+        println!(rt; "{}", line.as_str())?;
+        bench.play(&mut rt.stdout(), line.as_str())?;
+    }
+    Ok(())
+}

@@ -1,0 +1,94 @@
+//! The parts of nodes that are all alike.
+
+ghost use Rattle.std.specs.Prelude.{◌≡◌, IfOk, IfSome, option_and_then, slice_get};
+ghost use Rattle.co_parts.specs.Images.{IsBootWrite};
+ghost use Rattle.co_parts.specs.Shared.{shared};
+ghost use Rattle.checks_bus.specs.Alike.{fitting};
+
+use asking::Asked;
+use co_device::Shapes;
+use co_dict::{Dict, Shape};
+use co_parts::{Identity, Part, PartContent, Read};
+use concise_dcf::Write;
+use nmt_boot::Boots;
+use std::alloc::{AllocError, Global};
+use std::rc::Rc;
+
+/// Hands out the same parts for each node, and records what was asked.
+#[derive(Drop)]
+pub struct OneNode {
+    pub alloc: Global,
+    pub defaults: Rc<Dict>,
+    pub shape: Rc<Shape>,
+    pub expect: Identity,
+    pub writes: Vec<Write>,
+    pub asked: Vec<Read>,
+    pub asks: u64,
+}
+
+/// Another pointer to a part.
+fn pointer<T: Drop>(part: &Rc<T>) -> Result<Option<Rc<T>>, AllocError>
+    ensures { IfOk result (λ copy. shared copy ≡ shared (Some part.now)) }
+{
+    let copy = part.clone()?;
+    Ok(Some(copy))
+}
+
+/// The write at a place, if it is there and has 1 to 512 bytes.
+fn write_at(alloc: Global, writes: &[Write], place: u32) -> Result<Option<Rc<Write>>, AllocError>
+    ensures write { IfOk result (λ write. shared write ≡ option_and_then fitting (slice_get writes.now place)) }
+    ensures fits { IfOk result (λ write. IfSome (shared write) IsBootWrite) }
+{
+    match writes.get(place as usize) {
+        Some(write) if write.bytes.len() >= 1 && write.bytes.len() <= 512 => {
+            let copy = write.clone()?;
+            Ok(Some(Rc::new(alloc, copy)?))
+        }
+        _ => Ok(None),
+    }
+}
+
+impl Asked<Part, PartContent> for OneNode {
+    ghost use Rattle.checks_bus.specs.Alike.{seen_of};
+
+    ghost seen = { seen_of };
+
+    ghost asks = { λ node. node.asks };
+}
+
+impl Shapes for OneNode {
+    fn defaults(&mut self, node: u8) -> Result<Option<Rc<Dict>>, AllocError> {
+        self.asks = self.asks.saturating_add(1);
+        let answer = pointer(&self.defaults)?;
+        let noted = pointer(&self.defaults)?;
+        self.asked.push(Read::new(Part::Defaults(node), PartContent::of_defaults(noted)))?;
+        Ok(answer)
+    }
+
+    fn shape(&mut self, node: u8) -> Result<Option<Rc<Shape>>, AllocError> {
+        self.asks = self.asks.saturating_add(1);
+        let answer = pointer(&self.shape)?;
+        let noted = pointer(&self.shape)?;
+        self.asked
+            .push(Read::new(Part::Shape(node), PartContent::of_shape(noted)))?;
+        Ok(answer)
+    }
+}
+
+impl Boots for OneNode {
+    fn expect(&mut self, node: u8) -> Result<Option<Rc<Identity>>, AllocError> {
+        self.asks = self.asks.saturating_add(1);
+        let answer = Some(Rc::new(self.alloc, self.expect)?);
+        let noted = Some(Rc::new(self.alloc, self.expect)?);
+        self.asked.push(Read::new(Part::Expect(node), PartContent::of_expect(noted)))?;
+        Ok(answer)
+    }
+
+    fn boot(&mut self, node: u8, place: u32) -> Result<Option<Rc<Write>>, AllocError> {
+        self.asks = self.asks.saturating_add(1);
+        let answer = write_at(self.alloc, &self.writes, place)?;
+        let noted = write_at(self.alloc, &self.writes, place)?;
+        self.asked.push(Read::new(Part::Boot(node, place), PartContent::of_boot(noted)))?;
+        Ok(answer)
+    }
+}

@@ -1,0 +1,128 @@
+//! How frames, states and notes are shown.
+
+use crate::one_node::OneNode;
+use crate::taken::{take_of_device, take_of_manager};
+use anyhow::Result;
+use can_frame::{Frame, Purpose, Waiting};
+use co_device::DeviceState;
+use nmt_boot::{Manager, Note, Word};
+use std::io::Write;
+
+/// The word for what a frame is for.
+fn purpose_word(purpose: Purpose) -> &'static str {
+    match purpose {
+        Purpose::BootUp => "boot-up",
+        Purpose::Heartbeat => "heartbeat",
+        Purpose::Sdo(_) => "sdo",
+        Purpose::Nmt => "nmt",
+        _ => "other",
+    }
+}
+
+/// Shows bytes, two digits each.
+pub fn show_bytes<W: Write>(out: &mut W, bytes: &[u8]) -> Result<()> {
+    for byte in bytes {
+        write!(out, " {byte:02X}")?;
+    }
+    Ok(())
+}
+
+/// Shows what a frame is for, and the frame.
+pub fn show_frame<W: Write>(out: &mut W, waiting: &Waiting) -> Result<()> {
+    let word = purpose_word(waiting.purpose);
+    let id = waiting.frame.id();
+    write!(out, " | {word} {id:03X}")?;
+    show_bytes(out, waiting.frame.bytes())
+}
+
+/// Shows a moment, if there is one.
+fn show_due<W: Write>(out: &mut W, due: Option<u64>) -> Result<()> {
+    match due {
+        Some(t) => write!(out, " due {t}")?,
+        None => write!(out, " due never")?,
+    }
+    Ok(())
+}
+
+/// The word for what a step changed.
+fn change(same: bool, spent: bool) -> &'static str {
+    match (same, spent) {
+        (_, true) => "spent",
+        (true, false) => "same",
+        (false, false) => "new",
+    }
+}
+
+/// Whether an NMT service for all nodes changes nothing of a device.
+fn obeys_unchanged(device: &DeviceState, service: u8, node: &mut OneNode) -> Result<bool> {
+    let mut other = device.copy()?;
+    if let Some(frame) = Frame::new(0, &[service, 0]) {
+        other.on_frame(0, &frame, node)?;
+    }
+    Ok(other.same(device))
+}
+
+/// The byte of a device's state: that whose NMT service changes nothing. 0 where it has no power.
+fn state_byte(device: &DeviceState, node: &mut OneNode) -> Result<u8> {
+    let starts = obeys_unchanged(device, 1, node)?;
+    let stops = obeys_unchanged(device, 2, node)?;
+    let enters = obeys_unchanged(device, 128, node)?;
+    Ok(match (starts, stops, enters) {
+        (true, true, true) => 0,
+        (true, false, false) => 5,
+        (false, true, false) => 4,
+        (false, false, true) => 127,
+        _ => 255,
+    })
+}
+
+/// Shows a device, and whether it is the same as before.
+pub fn show_device<W: Write>(
+    out: &mut W,
+    device: &DeviceState,
+    before: &DeviceState,
+    node: &mut OneNode,
+) -> Result<()> {
+    let byte = state_byte(device, node)?;
+    let same = change(device.same(before), device.spent());
+    write!(out, "  {same} {byte}")?;
+    show_due(out, device.next_due())?;
+    let mut left = device.copy()?;
+    for _ in 0..100 {
+        if let Some(waiting) = take_of_device(&mut left, false) {
+            show_frame(out, &waiting)?;
+        }
+    }
+    writeln!(out, "")?;
+    Ok(())
+}
+
+/// Shows a manager, and whether it is the same as before.
+pub fn show_manager<W: Write>(out: &mut W, manager: &Manager, before: &Manager) -> Result<()> {
+    let same = change(manager.same(before), manager.spent());
+    write!(out, "  {same}")?;
+    show_due(out, manager.next_due())?;
+    let mut left = manager.copy()?;
+    for _ in 0..100 {
+        if let Some(waiting) = take_of_manager(&mut left, false) {
+            show_frame(out, &waiting)?;
+        }
+    }
+    writeln!(out, "")?;
+    Ok(())
+}
+
+/// Shows notes in their order, a line each.
+pub fn show_notes<W: Write>(out: &mut W, notes: &[Note]) -> Result<()> {
+    for note in notes {
+        let node = note.node;
+        match note.word {
+            Word::Lost => writeln!(out, "  note {node} lost")?,
+            Word::Configured => writeln!(out, "  note {node} configured")?,
+            Word::Difference => writeln!(out, "  note {node} failed difference")?,
+            Word::Aborted(abort) => writeln!(out, "  note {node} failed {:08X}", abort.code())?,
+            Word::TimedOut => writeln!(out, "  note {node} failed timeout")?,
+        }
+    }
+    Ok(())
+}
