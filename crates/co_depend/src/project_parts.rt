@@ -1,8 +1,9 @@
 //! What hands out the parts of a project.
-ghost use Rattle.std.specs.Prelude.{◌≡◌, ◌+◌, ◌-◌, ◌^◌, [], min, IfOk, OnOk};
+ghost use Rattle.std.specs.Prelude.{◌≡◌, ◌+◌, ◌-◌, ◌^◌, [], min, IfOk, IfSome, OnOk};
+ghost use Rattle.std.specs.List.{AllByRecursion};
 ghost use Rattle.asking.specs.Asking.{handed};
 ghost use Rattle.co_parts.specs.Contents.{EventsAre, RosterIs};
-ghost use Rattle.co_parts.specs.Images.{IsCoherent};
+ghost use Rattle.co_parts.specs.Images.{IsCoherent, IsRoster, IsWithin};
 ghost use Rattle.co_parts.specs.Shared.{shared};
 ghost use Rattle.co_parts.specs.declared.part.Part.TheVariants as part;
 ghost use Rattle.co_depend.specs.Image.{image_of};
@@ -39,6 +40,7 @@ pub struct ProjectParts {
 impl Model for ProjectParts {
     ghost use Rattle.co_parts.specs.contracts.read.Read as noted;
     ghost use Rattle.co_parts.specs.contracts.roster.Roster as listed;
+    ghost use Rattle.co_parts.specs.Images.{IsRoster};
     ghost use Rattle.co_depend.specs.contracts.node_table.NodeTable as table;
     ghost use Rattle.co_depend.specs.Supply.{supply_code, Supply};
 
@@ -47,6 +49,8 @@ impl Model for ProjectParts {
     ghost coded = { supply_code listed.the_row.coded table.the_row.coded noted.the_row.coded };
 
     ghost view = { λ parts. record { roster = parts.roster.value; nodes = parts.nodes; asked = parts.asked.items; asks = parts.asks } };
+
+    ghost invariant = { λ parts. IsRoster parts.roster.value };
 }
 
 impl ProjectParts {
@@ -83,9 +87,17 @@ impl ProjectParts {
         std::mem::replace(&mut self.asked, Vec::new(self.alloc))
     }
 
-    /// The roster of the network. The record alone takes memory, and want of it is the only error.
+    /// The number of calls that asked, as far as it can be counted.
+    pub fn asks(&self) -> u64
+        ensures { result ≡ self.now.asks }
+    {
+        self.asks
+    }
+
+    /// The roster of the network: its numbers are within their limits. The record alone takes memory, and want of it is the only error.
     pub fn roster(&mut self) -> Result<Option<Rc<Roster>>, AllocError>
         ensures value { IfOk result (λ r. (seen_of self.old).image part.Roster ≡ RosterIs (shared r)) }
+        ensures fits { IfOk result (λ r. IfSome (shared r) IsRoster) }
         ensures noted { OnOk result (seen_of self.new ≡ handed part.Roster (seen_of self.old)) }
         ensures counted { self.new.asks ≡ min (self.old.asks + 1) (2 ^ 64 - 1) }
         ensures kept { (seen_of self.new).image ≡ (seen_of self.old).image }
@@ -98,10 +110,11 @@ impl ProjectParts {
         Ok(answer)
     }
 
-    /// The events of a window, counted from 0, or none. The record alone takes memory, and want of it is
+    /// The events of a window, counted from 0, or none: each has its time there. The record alone takes memory, and want of it is
     /// the only error.
     pub fn events(&mut self, window: u32) -> Result<Option<Rc<Window>>, AllocError>
         ensures value { IfOk result (λ r. (seen_of self.old).image (part.Events window) ≡ EventsAre (shared r)) }
+        ensures fits { IfOk result (λ r. IfSome (shared r) (AllByRecursion (IsWithin window))) }
         ensures noted { OnOk result (seen_of self.new ≡ handed (part.Events window) (seen_of self.old)) }
         ensures counted { self.new.asks ≡ min (self.old.asks + 1) (2 ^ 64 - 1) }
         ensures kept { (seen_of self.new).image ≡ (seen_of self.old).image }

@@ -1,16 +1,20 @@
 use Rattle.std.proofs.Common.{◌≡◌, ◌∙◌, List, ap, sym, subst}
 use Rattle.asking.specs.Asking.{Seen}
 use Rattle.co_parts.specs.Contents.{Content, Image}
-use Rattle.co_parts.specs.Images.{IsCoherent}
+use Rattle.co_parts.specs.Images.{IsCoherent, IsRoster}
 use Rattle.co_parts.specs.declared.part.Part.{Part}
 use Rattle.co_depend.specs.Image.{image_of, roster_of_project}
 use Rattle.co_depend.proofs.CoherentLemmas.{coherent}
 use Rattle.co_depend.proofs.HeldLemmas.{same_image}
+use Rattle.co_depend.proofs.RosterLemmas.{is_roster}
 use Rattle.co_depend.proofs.project_parts.ProjectParts.new.Goals as goal
 
 -- an image, and what was handed out of it
 seen : Image → List (Part × Content) → Seen Part Content
 seen image asked = record { image = image; asked = asked }
+
+pub invariant_of-result : goal.invariant_of-result
+invariant_of-result c = subst IsRoster (sym (c.in_ok-roster-2.ensures.ok ∙ c.in_ok-roster.ensures)) (is_roster c.args.project.now c.keeps_to_rules.ensures)
 
 pub returns-clause-seen : goal.returns-clause-seen
 unfolding seen
