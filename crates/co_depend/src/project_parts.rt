@@ -36,9 +36,9 @@ pub struct ProjectParts {
 impl Model for ProjectParts {
     ghost use Rattle.co_parts.specs.contracts.read.Read as noted;
     ghost use Rattle.co_parts.specs.contracts.roster.Roster as listed;
+    ghost use Rattle.co_parts.specs.Images.{IsRoster};
     ghost use Rattle.co_depend.specs.contracts.node_table.NodeTable as table;
     ghost use Rattle.co_depend.specs.Supply.{supply_code, Supply};
-    ghost use Rattle.co_parts.specs.Images.{IsRoster};
 
     ghost Value = { Supply };
 

@@ -13,6 +13,9 @@ use Rattle.co_depend.proofs.project_parts.ProjectParts.new.Goals as goal
 seen : Image → List (Part × Content) → Seen Part Content
 seen image asked = record { image = image; asked = asked }
 
+pub invariant_of-result : goal.invariant_of-result
+invariant_of-result c = subst IsRoster (sym (c.in_ok-roster-2.ensures.ok ∙ c.in_ok-roster.ensures)) (is_roster c.args.project.now c.keeps_to_rules.ensures)
+
 pub returns-clause-seen : goal.returns-clause-seen
 unfolding seen
 returns-clause-seen c =
@@ -25,8 +28,3 @@ returns-clause-coherent c =
     let roster : c.in_ok-roster-2.roster.value ≡ roster_of_project c.args.project.now = c.in_ok-roster-2.ensures.ok ∙ c.in_ok-roster.ensures in
     subst IsCoherent (sym (same_image c.args.project.now c.in_ok-roster-2.roster.value c.in_ok-nodes.nodes roster c.in_ok-nodes.ensures))
     (coherent c.args.project.now c.keeps_to_rules.ensures)
-
-pub invariant_of-result : goal.invariant_of-result
-invariant_of-result c =
-    let roster : c.in_ok-roster-2.roster.value ≡ roster_of_project c.args.project.now = c.in_ok-roster-2.ensures.ok ∙ c.in_ok-roster.ensures in
-    subst IsRoster (sym roster) (is_roster c.args.project.now c.keeps_to_rules.ensures)
