@@ -1,13 +1,13 @@
 //! The bus at a moment.
 
-ghost use Rattle.std.specs.Prelude.{◌≡◌, ◌<◌, ◌≤◌, ◌+◌, ◌*◌, ◌++◌, length, IfOk, OnOk, OnErr, IsErr, IsTrue};
+ghost use Rattle.std.specs.Prelude.{◌≡◌, ◌<◌, ◌≤◌, ◌+◌, ◌*◌, ◌++◌, ◌↔◌, length, IfOk, OnOk, OnErr, IsErr, IsTrue};
 ghost use Rattle.asking.specs.Asking.{followed, outcome, reads};
 ghost use Rattle.can_bus.specs.Bus.{blank, ended, instant, on_wire, power_on, power_on_of, slot_started};
 ghost use Rattle.can_frame.specs.Frames.{slot_bits as bits_of};
 ghost use Rattle.co_parts.specs.Contents.{first_roster as roster_of_first};
 
 use crate::arbitration::{send, winner};
-use crate::devices::{new_devices, power_all};
+use crate::devices::{copy_all, new_devices, power_all, same_all};
 use crate::lines::Lines;
 use crate::nodes::run_nodes;
 use crate::parts::Parts;
@@ -102,6 +102,17 @@ fn take_ended(wire: &mut Option<Slot>, t: u64) -> Option<Slot>
     }
 }
 
+/// Whether the same is on two wires.
+fn same_wire(wire: &Option<Slot>, other: &Option<Slot>) -> bool
+    ensures { IsTrue result ↔ (wire.now ≡ other.now) }
+{
+    match (wire, other) {
+        (None, None) => true,
+        (Some(slot), Some(other)) => slot.same(other),
+        _ => false,
+    }
+}
+
 /// The end of a slot that starts at the moment t.
 fn slot_end(t: u64, bit_time: u32, frame: &Frame) -> u64
     requires { t < END }
@@ -191,6 +202,45 @@ impl BusState {
             }
             Some(roster) => power_on_of(alloc, &roster, parts),
         }
+    }
+
+    /// An equal bus. A spent one has none.
+    pub fn copy(&self) -> Result<BusState, AllocError>
+        ensures same { IfOk result (λ bus. bus ≡ self.now) }
+        ensures refused { IsTrue self.now.spent → IsErr result }
+    {
+        if self.spent {
+            return Err(AllocError);
+        }
+        let devices = copy_all(self.alloc, &self.devices)?;
+        let manager = self.manager.copy()?;
+        Ok(BusState {
+            alloc: self.alloc,
+            spent: false,
+            bit_time: self.bit_time,
+            devices,
+            manager,
+            wire: self.wire,
+        })
+    }
+
+    /// Whether the other bus is the same.
+    pub fn same(&self, other: &BusState) -> bool
+        ensures { IsTrue result ↔ (self.now ≡ other.now) }
+    {
+        if self.spent != other.spent {
+            return false;
+        }
+        if self.bit_time != other.bit_time {
+            return false;
+        }
+        if !same_wire(&self.wire, &other.wire) {
+            return false;
+        }
+        if !self.manager.same(&other.manager) {
+            return false;
+        }
+        same_all(&self.devices, &other.devices)
     }
 
     /// Whether a call before found no memory.

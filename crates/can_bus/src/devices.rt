@@ -1,6 +1,6 @@
 //! What all devices of a bus do, by number.
 
-ghost use Rattle.std.specs.Prelude.{◌≡◌, ◌<◌, ◌≤◌, ◌+◌, true, length, map, IfOk, OnOk};
+ghost use Rattle.std.specs.Prelude.{◌≡◌, ◌<◌, ◌≤◌, ◌+◌, ◌↔◌, true, length, map, IfOk, IsTrue, OnOk};
 ghost use Rattle.asking.specs.Asking.{followed, outcome, reads};
 ghost use Rattle.can_bus.specs.Bus.{hears, without_power};
 ghost use Rattle.can_bus.specs.Each.{each};
@@ -20,6 +20,36 @@ pub(crate) fn new_devices(alloc: Global, numbers: &[u8]) -> Result<Vec<DeviceSta
         devices.push(DeviceState::new(alloc, *number))?;
     }
     Ok(devices)
+}
+
+/// Devices that are equal to these.
+pub(crate) fn copy_all(
+    alloc: Global,
+    devices: &[DeviceState],
+) -> Result<Vec<DeviceState>, AllocError>
+    ensures { IfOk result (λ copies. copies.items ≡ devices.now) }
+{
+    let mut copies = Vec::new(alloc);
+    for device in devices {
+        let copy = device.copy()?;
+        copies.push(copy)?;
+    }
+    Ok(copies)
+}
+
+/// Whether the devices of two lists are the same.
+pub(crate) fn same_all(devices: &[DeviceState], others: &[DeviceState]) -> bool
+    ensures { IsTrue result ↔ (devices.now ≡ others.now) }
+{
+    if devices.len() != others.len() {
+        return false;
+    }
+    for i in 0..devices.len() {
+        if !devices[i].same(&others[i]) {
+            return false;
+        }
+    }
+    true
 }
 
 /// Switches the power of each on, at time 0.

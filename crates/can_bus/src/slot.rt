@@ -1,5 +1,7 @@
 //! A frame on the wire.
 
+ghost use Rattle.std.specs.Prelude.{◌≡◌, ◌↔◌, IsTrue};
+
 use can_frame::Frame;
 
 /// A frame on the wire.
@@ -11,4 +13,13 @@ pub struct Slot {
     pub sender: u8,
     /// The frame.
     pub frame: Frame,
+}
+
+impl Slot {
+    /// Whether two slots are the same.
+    pub fn same(&self, other: &Slot) -> bool
+        ensures { IsTrue result ↔ (self.now ≡ other.now) }
+    {
+        self.end == other.end && self.sender == other.sender && self.frame.same(&other.frame)
+    }
 }
