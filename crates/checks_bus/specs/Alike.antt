@@ -1,5 +1,5 @@
 -- The image of nodes that are all alike, and what was handed out of it.
-use Rattle.std.specs.Prelude.{ℕ, ◌&&◌, nat_le, length, List, Option, Some, None, if◌then◌else◌, option_and_then, slice_get}
+use Rattle.std.specs.Prelude.{◌&&◌, nat_le, length, List, Option, Some, None, if◌then◌else◌, option_and_then, slice_get}
 use Rattle.asking.specs.Asking.{Seen}
 use Rattle.concise_dcf.specs.declared.write.Write.{Write}
 use Rattle.co_dict.specs.Shapes.{Shaped}
