@@ -12,7 +12,7 @@ use crate::identity_check::{check_identity, is_as_expected};
 use crate::turn::Turn;
 use crate::word::Word;
 use co_parts::Identity;
-use co_sdo_client::{Progress, Stage, advanced};
+use co_sdo_client::{Advance, Progress, Stage, advanced};
 use std::alloc::{AllocError, Global};
 
 /// How the check of device type and identity goes on; `old` is the deadline of the request that is answered.
@@ -23,16 +23,16 @@ fn after_compare<P: Boots>(
     node: u8,
     place: u8,
     expected: Identity,
-    transfer: Stage,
-    progress: Option<Progress>,
+    advance: Advance,
     boots: &mut P,
 ) -> Result<Turn, AllocError>
-    ensures state { IfOk result (λ turn. turn ≡ outcome (rules.after_compare deadline old node place expected transfer progress) (P.seen boots.old).image) }
-    ensures noted { OnOk result (P.seen boots.new ≡ followed (rules.after_compare deadline old node place expected transfer progress) (P.seen boots.old)) }
-    ensures counted { OnOk result (P.asks boots.new ≤ P.asks boots.old + length (reads (rules.after_compare deadline old node place expected transfer progress) (P.seen boots.old).image)) }
+    ensures state { IfOk result (λ turn. turn ≡ outcome (rules.after_compare deadline old node place expected advance.stage advance.progress) (P.seen boots.old).image) }
+    ensures noted { OnOk result (P.seen boots.new ≡ followed (rules.after_compare deadline old node place expected advance.stage advance.progress) (P.seen boots.old)) }
+    ensures counted { OnOk result (P.asks boots.new ≤ P.asks boots.old + length (reads (rules.after_compare deadline old node place expected advance.stage advance.progress) (P.seen boots.old).image)) }
     ensures kept { (P.seen boots.new).image ≡ (P.seen boots.old).image }
 {
-    match progress {
+    let transfer = advance.stage;
+    match advance.progress {
         Some(Progress::Ask(request)) => {
             let stage = comparing(place, expected, transfer, deadline);
             Ok(Turn::asked(stage, request))
@@ -80,16 +80,16 @@ fn after_write<P: Boots>(
     old: u64,
     node: u8,
     place: u32,
-    transfer: Stage,
-    progress: Option<Progress>,
+    advance: Advance,
     boots: &mut P,
 ) -> Result<Turn, AllocError>
-    ensures state { IfOk result (λ turn. turn ≡ outcome (rules.after_write deadline old node place transfer progress) (P.seen boots.old).image) }
-    ensures noted { OnOk result (P.seen boots.new ≡ followed (rules.after_write deadline old node place transfer progress) (P.seen boots.old)) }
-    ensures counted { OnOk result (P.asks boots.new ≤ P.asks boots.old + length (reads (rules.after_write deadline old node place transfer progress) (P.seen boots.old).image)) }
+    ensures state { IfOk result (λ turn. turn ≡ outcome (rules.after_write deadline old node place advance.stage advance.progress) (P.seen boots.old).image) }
+    ensures noted { OnOk result (P.seen boots.new ≡ followed (rules.after_write deadline old node place advance.stage advance.progress) (P.seen boots.old)) }
+    ensures counted { OnOk result (P.asks boots.new ≤ P.asks boots.old + length (reads (rules.after_write deadline old node place advance.stage advance.progress) (P.seen boots.old).image)) }
     ensures kept { (P.seen boots.new).image ≡ (P.seen boots.old).image }
 {
-    match progress {
+    let transfer = advance.stage;
+    match advance.progress {
         Some(Progress::Ask(request)) => {
             Ok(Turn::asked(writing(place, transfer, deadline), request))
         }
@@ -123,17 +123,7 @@ pub(crate) fn sdo_answer<P: Boots>(
             deadline: old,
         } => {
             let advance = advanced(alloc, transfer, answer)?;
-            after_compare(
-                alloc,
-                deadline,
-                old,
-                node,
-                place,
-                expected,
-                advance.stage,
-                advance.progress,
-                boots,
-            )
+            after_compare(alloc, deadline, old, node, place, expected, advance, boots)
         }
         BootStage::Writing {
             place,
@@ -141,16 +131,7 @@ pub(crate) fn sdo_answer<P: Boots>(
             deadline: old,
         } => {
             let advance = advanced(alloc, transfer, answer)?;
-            after_write(
-                alloc,
-                deadline,
-                old,
-                node,
-                place,
-                advance.stage,
-                advance.progress,
-                boots,
-            )
+            after_write(alloc, deadline, old, node, place, advance, boots)
         }
         BootStage::Unseen => Ok(Turn::stays(BootStage::Unseen)),
         BootStage::Configured => Ok(Turn::stays(BootStage::Configured)),
