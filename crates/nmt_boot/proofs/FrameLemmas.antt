@@ -1,6 +1,6 @@
 -- What a received frame does: nothing, the boot-up of a node, or an SDO answer of a node.
-use Rattle.std.proofs.Common.{◌≡◌, ℕ, ◌+◌, Bool, true, false, List, [], Option, Some, None, refl}
-use Rattle.std.specs.Prelude.{if◌then◌else◌, ◌==◌, length}
+use Rattle.std.proofs.Common.{◌≡◌, ℕ, ◌+◌, List, [], Option, Some, None, refl}
+use Rattle.std.specs.Prelude.{◌==◌, length}
 use Rattle.asking.specs.Asking.{Asking, outcome, reads}
 use Rattle.can_frame.specs.Frames.{BaseFrame}
 use Rattle.can_frame.specs.Identifiers.{error_control_id, sdo_answer_id}
