@@ -5,8 +5,8 @@ use Rattle.std.specs.Str.{byte}
 use Rattle.can_frame.specs.TraceLines.{frame_line, ten_digits}
 use Rattle.co_text.specs.Digits.{index_digits}
 use Rattle.co_text.specs.Lines.{line_feed}
-use Rattle.nmt_boot.specs.declared.word.Word.{Word}
-use Rattle.nmt_boot.specs.declared.word.Word.TheVariants.{Lost, Configured, Difference, Aborted, TimedOut}
+use Rattle.node_boot.specs.declared.word.Word.{Word}
+use Rattle.node_boot.specs.declared.word.Word.TheVariants.{Lost, Configured, Difference, Aborted, TimedOut}
 use Rattle.nmt_boot.specs.declared.note.Note.{Note as Noted}
 use Rattle.can_bus.specs.declared.line.Line.{Line}
 use Rattle.can_bus.specs.declared.line.Line.TheVariants.{Frame, Note}

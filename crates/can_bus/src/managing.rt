@@ -6,7 +6,8 @@ ghost use Rattle.can_bus.specs.Bus.{managed, manager_hears};
 
 use crate::slot::Slot;
 use co_parts::END;
-use nmt_boot::{Boots, Manager, Notes};
+use nmt_boot::{Manager, Notes};
+use node_boot::Boots;
 use std::alloc::AllocError;
 
 /// Gives the manager the frame of a slot that ends at the moment t, if it isn't its sender.

@@ -9,7 +9,7 @@ ghost use Rattle.std.specs.List.{AllByRecursion};
 
 use co_device::Shapes;
 use co_parts::{Part, Read, Roster, Window};
-use nmt_boot::Boots;
+use node_boot::Boots;
 use std::alloc::AllocError;
 use std::rc::Rc;
 

@@ -10,7 +10,7 @@ use co_device::Shapes;
 use co_dict::{Dict, Shape};
 use co_parts::{Identity, Part, PartContent, Read};
 use concise_dcf::Write;
-use nmt_boot::Boots;
+use node_boot::Boots;
 use std::alloc::{AllocError, Global};
 use std::rc::Rc;
 

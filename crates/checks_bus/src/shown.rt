@@ -5,7 +5,8 @@ use crate::taken::{take_of_device, take_of_manager};
 use anyhow::Result;
 use can_frame::{Frame, Purpose, Waiting};
 use co_device::DeviceState;
-use nmt_boot::{Manager, Note, Word};
+use nmt_boot::{Manager, Note};
+use node_boot::Word;
 use std::io::Write;
 
 /// The word for what a frame is for.

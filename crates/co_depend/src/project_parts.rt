@@ -15,7 +15,7 @@ use co_dict::{Dict, Shape};
 use co_parts::{Identity, Part, PartContent, Read, Roster, Window};
 use co_project::Project;
 use concise_dcf::Write;
-use nmt_boot::Boots;
+use node_boot::Boots;
 use std::alloc::{AllocError, Global};
 use std::marker::Model;
 use std::rc::Rc;

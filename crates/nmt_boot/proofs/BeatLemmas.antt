@@ -11,7 +11,7 @@ use Rattle.co_parts.specs.Contents.{Image}
 use Rattle.co_parts.specs.declared.roster.Roster.{Roster}
 use Rattle.nmt_boot.proofs.FrameLemmas.{received_holds}
 use Rattle.nmt_boot.specs.Beats.{IsFirstMultiple, IsMultiple, IsNextBeat, IsOnTime}
-use Rattle.nmt_boot.specs.Boot.{is_at}
+use Rattle.node_boot.specs.Boot.{is_at}
 use Rattle.nmt_boot.specs.Manager.{Manager, heartbeat_frame, heartbeats, period_from, powered_on, received, time_outs, timers}
 
 -- one number is below another, or not

@@ -5,7 +5,7 @@ use Rattle.asking.specs.Asking.{Asking, Answer, Seen, outcome, reads, followed, 
 use Rattle.asking.proofs.QuestionLemmas.{outcome_bind, reads_bind, followed_last}
 use Rattle.co_parts.specs.Contents.{Content, Image}
 use Rattle.co_parts.specs.declared.part.Part.{Part}
-use Rattle.nmt_boot.specs.Boot.{boot_nmt_slave, sdo_answer}
+use Rattle.node_boot.specs.Boot.{boot_nmt_slave, sdo_answer}
 use Rattle.nmt_boot.specs.Manager.{Manager, node_at, turned, begun, boots_at, answered_at, with_stage, sdo_frames, start_frames, notes_of, lost}
 use Rattle.can_frame.specs.WaitingFrames.{without}
 use Rattle.can_frame.specs.declared.unwanted.Unwanted.TheVariants.{SdoOf}

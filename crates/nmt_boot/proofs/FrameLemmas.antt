@@ -1,19 +1,16 @@
 -- What a received frame does: nothing, the boot-up of a node, or an SDO answer of a node.
-use Rattle.std.proofs.Common.{◌≡◌, ℕ, ◌+◌, Bool, true, false, List, [], Option, Some, None, refl}
-use Rattle.std.specs.Prelude.{if◌then◌else◌, ◌==◌, length}
+use Rattle.std.proofs.Common.{◌≡◌, ℕ, ◌+◌, List, [], Option, Some, None, refl}
+use Rattle.std.specs.Prelude.{◌==◌, length}
 use Rattle.asking.specs.Asking.{Asking, outcome, reads}
 use Rattle.can_frame.specs.Frames.{BaseFrame}
 use Rattle.can_frame.specs.Identifiers.{error_control_id, sdo_answer_id}
 use Rattle.co_parts.specs.Contents.{Content, Image}
 use Rattle.co_parts.specs.declared.part.Part.{Part}
 use Rattle.nmt_boot.proofs.EventLemmas.{boots_outcome, boots_reads, answered_outcome, answered_reads}
-use Rattle.nmt_boot.specs.Boot.{boot_nmt_slave, sdo_answer}
+use Rattle.node_boot.proofs.ChoiceLemmas.{picked}
+use Rattle.node_boot.specs.Boot.{boot_nmt_slave, sdo_answer}
 use Rattle.nmt_boot.specs.Manager.{Manager, node_at, begun, turned, boot_up_event, sdo_event, is_boot_up, place_of, received}
 use Rattle.nmt_boot.specs.declared.note.Note.{Note}
-
-pub picked : {A : Type 0} (P : Asking Part Content A → Type 0) (b : Bool) (m n : Asking Part Content A) → P m → P n → P (if b then m else n)
-picked P true m n p q = p
-picked P false m n p q = q
 
 module _ (image : Image) (t : ℕ) (frame : BaseFrame) (m : Manager) (P : Manager × List Note → List (Part × Content) → Type 0)
     (nothing : P (m, []) [])

@@ -6,9 +6,9 @@ use Rattle.can_frame.specs.WaitingFrames.{replaced}
 use Rattle.can_frame.specs.declared.purpose.Purpose.TheVariants.{Heartbeat}
 use Rattle.can_frame.specs.declared.waiting.Waiting.{Waiting}
 use Rattle.nmt_boot.specs.Ahead.{IsAhead}
-use Rattle.nmt_boot.specs.Boot.{deadline_of, is_at, is_timed_out, sdo_time_out}
+use Rattle.node_boot.specs.Boot.{deadline_of, is_at, is_timed_out, sdo_time_out}
 use Rattle.nmt_boot.specs.Manager.{Manager, earlier, first_deadline, heartbeat_frame, heartbeats, next_due, node_after, notes_after_all, period_from, queue_after_all, time_outs, timers}
-use Rattle.nmt_boot.specs.declared.boot_stage.BootStage.{BootStage}
+use Rattle.node_boot.specs.declared.boot_stage.BootStage.{BootStage}
 use Rattle.nmt_boot.specs.declared.booting.Booting.{Booting}
 use Rattle.nmt_boot.specs.declared.note.Note.{Note}
 

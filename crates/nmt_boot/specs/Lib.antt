@@ -1,4 +1,3 @@
-pub mod Boot
 pub mod Manager
 pub mod Ahead
 pub mod Beats

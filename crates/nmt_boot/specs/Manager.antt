@@ -11,14 +11,14 @@ use Rattle.can_frame.specs.declared.waiting.Waiting.{Waiting}
 use Rattle.co_parts.specs.Contents.{Content}
 use Rattle.co_parts.specs.declared.part.Part.{Part}
 use Rattle.co_parts.specs.declared.roster.Roster.{Roster}
-use Rattle.nmt_boot.specs.Boot.{boot_nmt_slave, sdo_answer, sdo_time_out, deadline_of, is_at, is_timed_out}
-use Rattle.nmt_boot.specs.declared.boot_stage.BootStage.{BootStage}
-use Rattle.nmt_boot.specs.declared.boot_stage.BootStage.TheVariants.{Unseen, Comparing, Writing, Configured, Failed}
+use Rattle.node_boot.specs.Boot.{boot_nmt_slave, sdo_answer, sdo_time_out, deadline_of, is_at, is_timed_out}
+use Rattle.node_boot.specs.declared.boot_stage.BootStage.{BootStage}
+use Rattle.node_boot.specs.declared.boot_stage.BootStage.TheVariants.{Unseen, Comparing, Writing, Configured, Failed}
 use Rattle.nmt_boot.specs.declared.booting.Booting.{Booting}
 use Rattle.nmt_boot.specs.declared.note.Note.{Note}
-use Rattle.nmt_boot.specs.declared.turn.Turn.{Turn}
-use Rattle.nmt_boot.specs.declared.word.Word.{Word}
-use Rattle.nmt_boot.specs.declared.word.Word.TheVariants as word
+use Rattle.node_boot.specs.declared.turn.Turn.{Turn}
+use Rattle.node_boot.specs.declared.word.Word.{Word}
+use Rattle.node_boot.specs.declared.word.Word.TheVariants as word
 
 -- its number, the time-out and the heartbeat's period in microseconds (0 for none), the next heartbeat, the nodes by number with their boots, and the waiting frames
 pub record Manager : Type 0 where

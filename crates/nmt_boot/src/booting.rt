@@ -2,19 +2,14 @@
 
 ghost use Rattle.std.specs.Prelude.{◌≡◌, ◌≤◌, ◌+◌, ◌++◌, ◌↔◌, length, IfOk, IsTrue, OnOk};
 ghost use Rattle.asking.specs.Asking.{followed, outcome, reads};
-ghost use Rattle.nmt_boot.specs.Boot as rules;
+ghost use Rattle.node_boot.specs.Boot as rules;
 ghost use Rattle.nmt_boot.specs.Manager.{lost as lost_by, node_after, notes_after, queue_after};
 
-use crate::answers::sdo_answer;
-use crate::boot_stage::BootStage;
-use crate::boots::Boots;
-use crate::identity_check::boot_nmt_slave;
 use crate::notes::Notes;
 use crate::sent::Sent;
 use crate::telling::tell;
-use crate::time_outs::{is_timed_out, sdo_time_out};
-use crate::word::Word;
 use can_frame::{Pending, Unwanted};
+use node_boot::{BootStage, Boots, Word, boot_nmt_slave, is_timed_out, sdo_answer, sdo_time_out};
 use std::alloc::{AllocError, Global};
 use std::mem;
 

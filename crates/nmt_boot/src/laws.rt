@@ -9,7 +9,7 @@ ghost use Rattle.co_parts.specs.Contents.{Image};
 ghost use Rattle.co_parts.specs.declared.roster.Roster.{Roster as Network};
 ghost use Rattle.nmt_boot.specs.Ahead.{IsAhead};
 ghost use Rattle.nmt_boot.specs.Beats.{IsMultiple, IsOnTime};
-ghost use Rattle.nmt_boot.specs.Boot.{is_at};
+ghost use Rattle.node_boot.specs.Boot.{is_at};
 ghost use Rattle.nmt_boot.specs.Ends.{configured_note, WritesEnd};
 ghost use Rattle.nmt_boot.specs.Manager.{Manager as State, node_at, powered_on, received, timers};
 

@@ -6,12 +6,12 @@ ghost use Rattle.can_frame.specs.Winner.{contenders_of, IsWinner};
 ghost use Rattle.nmt_boot.specs.Manager as rules;
 
 use crate::booting::Booting;
-use crate::boots::Boots;
 use crate::notes::Notes;
 use crate::table;
 use crate::telling::{note, tell};
 use can_frame::{Contender, Frame, Pending, Purpose, Unwanted, Waiting, identifiers};
 use co_parts::{END, Roster};
+use node_boot::Boots;
 use std::alloc::{AllocError, Global};
 use std::marker::Model;
 

@@ -1,6 +1,6 @@
 //! A note of a node.
 
-use crate::word::Word;
+use node_boot::Word;
 
 /// What the manager notes of a node.
 #[derive(Clone, Copy, Debug, PartialEq, Eq)]

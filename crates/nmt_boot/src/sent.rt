@@ -1,6 +1,6 @@
 //! What a rule of a boot queues and notes.
 
-use crate::word::Word;
+use node_boot::Word;
 
 /// What a rule queues and notes, without the stage after it.
 #[derive(Clone, Copy, Debug)]

@@ -2,18 +2,15 @@
 
 ghost use Rattle.std.specs.Prelude.{◌≡◌, ◌≤◌, ◌<◌, ◌+◌, ◌++◌, ◌↔◌, length, map, IfOk, IfSome, IsTrue, OnOk};
 ghost use Rattle.asking.specs.Asking.{followed, outcome, reads};
-ghost use Rattle.nmt_boot.specs.Boot.{boot_nmt_slave, sdo_answer};
+ghost use Rattle.node_boot.specs.Boot.{boot_nmt_slave, sdo_answer};
 ghost use Rattle.nmt_boot.specs.Manager.{earlier as earlier_of, first_deadline as is_first_deadline, lost, node_after, node_at, notes_after_all, place_of as is_place_of, queue_after_all, unseen, with_stage};
 ghost use Rattle.nmt_boot.specs.Sending.{sent_by};
 
-use crate::boot_stage::BootStage;
 use crate::booting::Booting;
-use crate::boots::Boots;
 use crate::notes::Notes;
 use crate::sent::Sent;
-use crate::time_outs::deadline_of;
-use crate::word::Word;
 use can_frame::Pending;
+use node_boot::{BootStage, Boots, Word, deadline_of};
 use std::alloc::{AllocError, Global};
 
 /// Nodes of which no boot-up came yet.

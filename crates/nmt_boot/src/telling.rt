@@ -6,8 +6,8 @@ ghost use Rattle.nmt_boot.specs.Manager.{notes_of, sdo_frames, start_frames};
 use crate::note::Note;
 use crate::notes::Notes;
 use crate::sent::Sent;
-use crate::word::Word;
 use can_frame::{Frame, Pending, Purpose, identifiers};
+use node_boot::Word;
 use std::alloc::AllocError;
 
 /// Queues an SDO frame to a node, if there is one.

@@ -4,7 +4,7 @@ ghost use Rattle.std.specs.Prelude.{◌≡◌, ◌≤◌, ◌+◌, length, IfOk,
 ghost use Rattle.asking.specs.Asking.{followed, outcome, reads};
 ghost use Rattle.co_parts.specs.Images.{IsBootWrite};
 ghost use Rattle.co_parts.specs.Shared.{shared};
-ghost use Rattle.nmt_boot.specs.Boot as rules;
+ghost use Rattle.node_boot.specs.Boot as rules;
 
 use crate::boot_stage::BootStage;
 use crate::boots::Boots;

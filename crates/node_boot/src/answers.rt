@@ -2,8 +2,8 @@
 
 ghost use Rattle.std.specs.Prelude.{◌≡◌, ◌≤◌, ◌+◌, length, IfOk, OnOk};
 ghost use Rattle.asking.specs.Asking.{followed, outcome, reads};
-ghost use Rattle.nmt_boot.specs.Boot as rules;
-ghost use Rattle.nmt_boot.specs.declared.boot_stage.BootStage.TheVariants.{Comparing, Writing};
+ghost use Rattle.node_boot.specs.Boot as rules;
+ghost use Rattle.node_boot.specs.declared.boot_stage.BootStage.TheVariants.{Comparing, Writing};
 
 use crate::boot_stage::BootStage;
 use crate::boots::Boots;
@@ -100,9 +100,10 @@ fn after_write<P: Boots>(
     }
 }
 
-/// What an SDO answer does to the boot of a node, by its stage; what is asked then has the new deadline.
+/// What an SDO answer does to the boot of a node, by its stage; what is asked then has the new deadline, in
+/// microseconds. It fails where memory runs out.
 #[tactic(auto, unfolding(crate::specs::Boot::sdo_answer))]
-pub(crate) fn sdo_answer<P: Boots>(
+pub fn sdo_answer<P: Boots>(
     alloc: Global,
     deadline: u64,
     node: u8,

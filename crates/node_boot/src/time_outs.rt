@@ -2,15 +2,16 @@
 
 ghost use Rattle.std.specs.Prelude.{◌≡◌};
 ghost use Rattle.co_sdo_client.specs.Client.{timed_out_at};
-ghost use Rattle.nmt_boot.specs.Boot as rules;
+ghost use Rattle.node_boot.specs.Boot as rules;
 
 use crate::boot_stage::BootStage;
 use crate::turn::Turn;
 use crate::word::Word;
 use co_sdo_client::{Progress, Stage, timed_out};
 
-/// The moment at which a request of the boot times out.
-pub(crate) fn deadline_of(stage: &BootStage) -> Option<u64>
+/// The moment at which a request of the boot times out, in microseconds from the power-on of the network; none
+/// where no request is under way.
+pub fn deadline_of(stage: &BootStage) -> Option<u64>
     ensures { result ≡ rules.deadline_of stage.now }
 {
     match stage {
@@ -20,8 +21,8 @@ pub(crate) fn deadline_of(stage: &BootStage) -> Option<u64>
     }
 }
 
-/// Whether a request of the boot times out at the moment t.
-pub(crate) fn is_timed_out(t: u64, stage: &BootStage) -> bool
+/// Whether a request of the boot times out at the moment t, in microseconds.
+pub fn is_timed_out(t: u64, stage: &BootStage) -> bool
     ensures { result ≡ rules.is_timed_out t stage.now }
 {
     deadline_of(stage) == Some(t)
@@ -38,9 +39,9 @@ fn abort_of(transfer: &Stage) -> Option<[u8; 8]>
     }
 }
 
-/// What the time-out of a request does to a boot.
+/// What the time-out of a request does to a boot: it has failed, and the abort of its open transfer is queued.
 #[tactic(auto, unfolding(crate::specs::Boot::sdo_time_out))]
-pub(crate) fn sdo_time_out(stage: &BootStage) -> Turn
+pub fn sdo_time_out(stage: &BootStage) -> Turn
     ensures { result ≡ rules.sdo_time_out stage.now }
 {
     let frame = match stage {

@@ -1,7 +1,7 @@
 //! What a rule of a boot gives.
 
 ghost use Rattle.std.specs.Prelude.{◌≡◌};
-ghost use Rattle.nmt_boot.specs.Boot.{asked as is_asked, configured as is_configured, failed as is_failed, stays as is_stay};
+ghost use Rattle.node_boot.specs.Boot.{asked as is_asked, configured as is_configured, failed as is_failed, stays as is_stay};
 
 use crate::boot_stage::BootStage;
 use crate::word::Word;

@@ -11,11 +11,11 @@ use Rattle.co_parts.specs.Contents.{Content, identity_of, write_of}
 use Rattle.co_parts.specs.declared.identity.Identity.{Identity}
 use Rattle.co_parts.specs.declared.part.Part.{Part}
 use Rattle.co_parts.specs.declared.part.Part.TheVariants.{Expect, Boot}
-use Rattle.nmt_boot.specs.declared.boot_stage.BootStage.{BootStage}
-use Rattle.nmt_boot.specs.declared.boot_stage.BootStage.TheVariants.{Unseen, Comparing, Writing, Configured, Failed}
-use Rattle.nmt_boot.specs.declared.turn.Turn.{Turn}
-use Rattle.nmt_boot.specs.declared.word.Word.{Word}
-use Rattle.nmt_boot.specs.declared.word.Word.TheVariants as word
+use Rattle.node_boot.specs.declared.boot_stage.BootStage.{BootStage}
+use Rattle.node_boot.specs.declared.boot_stage.BootStage.TheVariants.{Unseen, Comparing, Writing, Configured, Failed}
+use Rattle.node_boot.specs.declared.turn.Turn.{Turn}
+use Rattle.node_boot.specs.declared.word.Word.{Word}
+use Rattle.node_boot.specs.declared.word.Word.TheVariants as word
 
 -- the stage stays, and nothing is queued or noted
 abbrev pub stays : BootStage → Turn

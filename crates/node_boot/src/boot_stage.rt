@@ -38,8 +38,8 @@ pub enum BootStage {
 }
 
 impl BootStage {
-    /// An equal stage.
-    pub(crate) fn copy(&self) -> Result<BootStage, AllocError>
+    /// An equal stage. It fails where memory runs out.
+    pub fn copy(&self) -> Result<BootStage, AllocError>
         ensures { IfOk result (λ made. made ≡ self.now) }
     {
         match self {
@@ -78,7 +78,7 @@ impl BootStage {
     }
 
     /// Whether two stages are the same.
-    pub(crate) fn same(&self, other: &BootStage) -> bool
+    pub fn same(&self, other: &BootStage) -> bool
         ensures { IsTrue result ↔ (self.now ≡ other.now) }
     {
         match (self, other) {

@@ -5,7 +5,7 @@ ghost use Rattle.asking.specs.Asking.{followed, outcome, reads};
 ghost use Rattle.byteorder.specs.Endian.{little_number};
 ghost use Rattle.co_parts.specs.Contents.{no_identity, or_else};
 ghost use Rattle.co_parts.specs.Shared.{shared};
-ghost use Rattle.nmt_boot.specs.Boot as rules;
+ghost use Rattle.node_boot.specs.Boot as rules;
 
 use crate::boot_stage::BootStage;
 use crate::boots::Boots;
@@ -109,9 +109,9 @@ fn identity_of(identity: &Option<Rc<Identity>>) -> Identity
     }
 }
 
-/// The boot of a node begins.
+/// The boot of a node begins; what is asked has the deadline, in microseconds. It fails where memory runs out.
 #[tactic(auto, unfolding(crate::specs::Boot::boot_nmt_slave))]
-pub(crate) fn boot_nmt_slave<P: Boots>(
+pub fn boot_nmt_slave<P: Boots>(
     alloc: Global,
     deadline: u64,
     node: u8,

@@ -1,0 +1,3 @@
+pub mod ChoiceLemmas
+pub mod DeadlineLemmas
+pub mod EndLemmas
