@@ -3,6 +3,7 @@
 #![tactic(auto)]
 
 mod communication;
+pub mod laws;
 mod payload;
 mod receipt;
 mod tpdo;

@@ -76,6 +76,17 @@ fn event_moment(t: u64, communication: Communication) -> Option<u64>
     }
 }
 
+/// Whether two have the same bytes, or neither has any.
+fn same_payload(one: &Option<Payload>, other: &Option<Payload>) -> bool
+    ensures { IsTrue result ↔ (one.now ≡ other.now) }
+{
+    match (one, other) {
+        (Some(one), Some(other)) => one.same(other),
+        (None, None) => true,
+        _ => false,
+    }
+}
+
 impl Tpdo {
     /// One that remembers nothing.
     pub fn forgotten() -> Tpdo
@@ -87,6 +98,16 @@ impl Tpdo {
             event: None,
             syncs: 0,
         }
+    }
+
+    /// Whether the other one remembers the same.
+    pub fn same(&self, other: &Tpdo) -> bool
+        ensures { IsTrue result ↔ (self.now ≡ other.now) }
+    {
+        same_payload(&self.last, &other.last)
+            && self.inhibit == other.inhibit
+            && self.event == other.event
+            && self.syncs == other.syncs
     }
 
     /// The inhibit moment, in microseconds, if one is set.
