@@ -1,0 +1,3 @@
+pub mod PayloadLemmas
+pub mod TpdoLemmas
+pub mod WorkingLemmas

@@ -1,0 +1,4 @@
+pub mod Payloads
+pub mod Rpdo
+pub mod Tpdo
+pub mod Working

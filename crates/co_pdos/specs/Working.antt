@@ -1,0 +1,80 @@
+-- The PDOs of a device (CiA 301): their objects, which of them work, and their communication parameters. All times are in microseconds.
+use Rattle.std.specs.Prelude.{ℕ, ◌+◌, ◌*◌, ◌/◌, ◌%◌, ◌==◌, not, ◌&&◌, nat_lt, Bool, true, false, Option, Some, None, is_ok, if◌then◌else◌}
+use Rattle.co_values.specs.declared.form.Form.{Form}
+use Rattle.co_values.specs.declared.form.Form.TheVariants.{Unsigned}
+use Rattle.co_values.specs.declared.form.Width.TheVariants.{Bits16}
+use Rattle.co_dict.specs.PdoChecks.{has_type, is_unsigned8, is_unsigned32, mapping_check}
+use Rattle.co_dict.specs.Pdos.{identifier, is_restricted, is_valid}
+use Rattle.co_dict.specs.Shapes.{Shaped}
+use Rattle.co_dict.specs.Values.{Values, number_at}
+
+-- ---- the objects of a PDO
+
+-- the communication object of a TPDO: 1800h for TPDO 1
+abbrev pub tpdo_object : ℕ → ℕ
+tpdo_object number = 0x17FF + number
+
+-- that of an RPDO: 1400h for RPDO 1
+abbrev pub rpdo_object : ℕ → ℕ
+rpdo_object number = 0x13FF + number
+
+-- the mapping object of a PDO, 200h above its communication object
+abbrev pub mapping_object : ℕ → ℕ
+mapping_object object = object + 0x200
+
+-- a communication object is that of a PDO: its COB-ID is an UNSIGNED32, and the count of its mapping an UNSIGNED8
+unfoldable pub is_pdo : Shaped → ℕ → Bool
+is_pdo shape object = has_type is_unsigned32 shape (object, 1) && has_type is_unsigned8 shape (mapping_object object, 0)
+
+-- ---- which of them work
+
+-- sub-index 1 of the communication object
+abbrev pub cob_id_of : Values → ℕ → ℕ
+cob_id_of values object = number_at 4 values (object, 1)
+
+-- the identifier of the PDO's frames
+abbrev pub identifier_of : Values → ℕ → ℕ
+identifier_of values object = identifier (cob_id_of values object)
+
+-- bit 29 of a COB-ID: clear for an identifier of 11 bits
+abbrev pub is_of_base_frames : ℕ → Bool
+is_of_base_frames cob_id = cob_id / 0x20000000 % 2 == 0
+
+-- the PDO exists, with base frames of an identifier that a PDO may have
+unfoldable pub has_frames : ℕ → Bool
+has_frames cob_id = is_valid cob_id && is_of_base_frames cob_id && not (is_restricted (identifier cob_id))
+
+-- the number of mapped entries: sub-index 0 of the mapping object
+abbrev pub count_of : Values → ℕ → ℕ
+count_of values object = number_at 1 values (mapping_object object, 0)
+
+-- something is mapped, and a PDO can carry it
+unfoldable pub has_mapping : Shaped → Values → ℕ → Bool
+has_mapping shape values object =
+    nat_lt 0 (count_of values object) && is_ok (mapping_check shape values (mapping_object object) (count_of values object))
+
+-- THE PDO WORKS
+unfoldable pub works : Shaped → Values → ℕ → Bool
+works shape values object = is_pdo shape object && has_frames (cob_id_of values object) && has_mapping shape values object
+
+-- ---- its communication parameters
+
+abbrev pub is_unsigned16 : Form → Bool
+is_unsigned16 (Unsigned Bits16) = true
+is_unsigned16 other = false
+
+-- the transmission type: sub-index 2; none where that isn't an UNSIGNED8
+unfoldable pub transmission_type : Shaped → Values → ℕ → Option ℕ
+transmission_type shape values object = if has_type is_unsigned8 shape (object, 2) then Some (number_at 1 values (object, 2)) else None
+
+-- the number of an UNSIGNED16; 0 where the entry isn't one
+abbrev pub number_of_unsigned16 : Shaped → Values → ℕ × ℕ → ℕ
+number_of_unsigned16 shape values place = if has_type is_unsigned16 shape place then number_at 2 values place else 0
+
+-- the inhibit time: sub-index 3, in multiples of 100 microseconds; 0 is none
+unfoldable pub inhibit_time : Shaped → Values → ℕ → ℕ
+inhibit_time shape values object = 100 * number_of_unsigned16 shape values (object, 3)
+
+-- the event time: sub-index 5, in milliseconds; 0 is none
+unfoldable pub event_time : Shaped → Values → ℕ → ℕ
+event_time shape values object = 1000 * number_of_unsigned16 shape values (object, 5)

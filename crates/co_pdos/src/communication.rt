@@ -1,0 +1,72 @@
+//! The communication parameters of a PDO.
+
+ghost use Rattle.std.specs.Prelude.{◌≡◌, ◌≤◌};
+ghost use Rattle.co_dict.specs.PdoChecks.{has_type};
+ghost use Rattle.co_pdos.specs.Working.{event_time, inhibit_time, is_unsigned16, number_of_unsigned16, transmission_type as type_of};
+
+use crate::working::has_unsigned_8;
+use co_dict::{Dict, Shape};
+use co_values::DataType;
+
+/// The communication parameters of a PDO (CiA 301) that say when it is sent or taken.
+#[derive(Clone, Copy, Debug, PartialEq, Eq)]
+pub struct Communication {
+    /// The transmission type; none where the device has none as UNSIGNED8.
+    pub kind: Option<u8>,
+    /// The inhibit time in microseconds; 0 is none.
+    pub inhibit_time: u32,
+    /// The event time in microseconds; 0 is none.
+    pub event_time: u32,
+}
+
+/// Whether there is such an entry, an UNSIGNED16.
+fn has_unsigned_16(shape: &Shape, index: u16, sub: u8) -> bool
+    ensures { result ≡ has_type is_unsigned16 shape.now (index, sub) }
+{
+    match shape.entry(index, sub) {
+        Some(entry) => matches!(entry.kind, DataType::Unsigned16),
+        None => false,
+    }
+}
+
+/// The number of an UNSIGNED16; 0 where the entry isn't one.
+fn unsigned_16(shape: &Shape, dict: &Dict, index: u16, sub: u8) -> u16
+    ensures { result ≡ number_of_unsigned16 shape.now dict.now (index, sub) }
+{
+    if has_unsigned_16(shape, index, sub) {
+        dict.number_16(index, sub)
+    } else {
+        0
+    }
+}
+
+/// The transmission type of the PDO with a communication object: sub-index 2. `None` where that isn't
+/// an UNSIGNED8.
+#[tactic(auto, unfolding(crate::specs::Working::transmission_type))]
+pub fn transmission_type(shape: &Shape, dict: &Dict, object: u16) -> Option<u8>
+    ensures { result ≡ type_of shape.now dict.now object }
+{
+    if has_unsigned_8(shape, object, 2) {
+        Some(dict.number_8(object, 2))
+    } else {
+        None
+    }
+}
+
+impl Communication {
+    /// Those of the PDO with a communication object: the transmission type is sub-index 2, the inhibit
+    /// time sub-index 3 in multiples of 100 microseconds, and the event time sub-index 5 in
+    /// milliseconds; a time that isn't an UNSIGNED16 is 0.
+    #[tactic(auto, unfolding(crate::specs::Working::inhibit_time, crate::specs::Working::event_time))]
+    pub fn of(shape: &Shape, dict: &Dict, object: u16) -> Communication
+        ensures kind { result.kind ≡ type_of shape.now dict.now object }
+        ensures inhibit { result.inhibit_time ≡ inhibit_time shape.now dict.now object }
+        ensures event { result.event_time ≡ event_time shape.now dict.now object }
+    {
+        Communication {
+            kind: transmission_type(shape, dict, object),
+            inhibit_time: 100 * u32::from(unsigned_16(shape, dict, object, 3)),
+            event_time: 1000 * u32::from(unsigned_16(shape, dict, object, 5)),
+        }
+    }
+}

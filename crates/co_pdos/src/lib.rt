@@ -1,0 +1,15 @@
+//! PDOs of a device (CiA 301): which of them work, when a TPDO is sent, and what becomes of a frame
+//! that an RPDO receives.
+#![tactic(auto)]
+
+mod communication;
+pub mod laws;
+mod payload;
+mod receipt;
+mod tpdo;
+mod working;
+
+pub use communication::{Communication, transmission_type};
+pub use receipt::{Receipt, received};
+pub use tpdo::Tpdo;
+pub use working::{identifier, is_pdo, rpdo_object, tpdo_object, works};

@@ -1,0 +1,34 @@
+//! What becomes of a frame that an RPDO receives.
+
+ghost use Rattle.std.specs.Prelude.{◌≡◌};
+ghost use Rattle.co_pdos.specs.Rpdo.{received as receipt_of_frame};
+
+/// What becomes of a frame that a working RPDO receives (CiA 301).
+#[derive(Clone, Copy, Debug, PartialEq, Eq)]
+pub enum Receipt {
+    /// It has fewer bytes than the mapping begins: it is dropped, and an emergency object tells so.
+    Short,
+    /// It is kept until the next SYNC.
+    Kept,
+    /// Its values are taken at once.
+    AtOnce,
+    /// Nothing.
+    Ignored,
+}
+
+/// What becomes of a frame of so many bytes at a working RPDO of a transmission type, where its
+/// mapping begins `mapped` bytes. `Short` where the frame has fewer, whatever the type is; else `Kept`
+/// for the types 0 to 240, `AtOnce` for 254 and 255, and `Ignored` for others and none.
+#[tactic(auto, unfolding(crate::specs::Rpdo::received))]
+pub fn received(kind: Option<u8>, mapped: usize, count: usize) -> Receipt
+    ensures { result ≡ receipt_of_frame kind mapped count }
+{
+    if count < mapped {
+        return Receipt::Short;
+    }
+    match kind {
+        Some(0..=240) => Receipt::Kept,
+        Some(254..=255) => Receipt::AtOnce,
+        _ => Receipt::Ignored,
+    }
+}

@@ -1,0 +1,227 @@
+//! What a TPDO remembers, and when it is sent.
+
+ghost use Rattle.std.specs.Prelude.{◌≡◌, ◌↔◌, ◌≤◌, ◌<◌, ◌^◌, length, IsTrue};
+ghost use Rattle.co_pdos.specs.Tpdo.{after_change, after_event, after_nth, differs, event_moment, forgotten as nothing_remembered, has_come, inhibit_over, is_ahead, is_sent, is_sent_at_change, is_sent_at_event, is_sent_at_nth, looked_at, moment_from};
+
+use crate::communication::Communication;
+use crate::payload::Payload;
+use std::marker::Model;
+
+/// What a TPDO remembers (CiA 301): the bytes that were last queued, its inhibit and event moments in
+/// microseconds, and the SYNCs since it was last sent at one.
+#[derive(Clone, Copy, Debug)]
+pub struct Tpdo {
+    last: Option<Payload>,
+    inhibit: Option<u64>,
+    event: Option<u64>,
+    syncs: u8,
+}
+
+impl Model for Tpdo {
+    ghost use Rattle.co_pdos.specs.Tpdo.{Remembered};
+
+    ghost Value = { Remembered };
+
+    ghost view = { λ t. record { last = t.last; inhibit = t.inhibit; event = t.event; syncs = t.syncs } };
+
+    ghost inverse = { λ r. record { last = r.last; inhibit = r.inhibit; event = r.event; syncs = r.syncs } };
+}
+
+/// Whether a moment is there that has come at t.
+fn has_come(t: u64, moment: Option<u64>) -> bool
+    ensures { result ≡ has_come t moment }
+{
+    match moment {
+        Some(moment) => moment <= t,
+        None => false,
+    }
+}
+
+/// Whether a moment is there that lies ahead of t.
+fn is_ahead(t: u64, moment: Option<u64>) -> bool
+    ensures { result ≡ is_ahead t moment }
+{
+    match moment {
+        Some(moment) => t < moment,
+        None => false,
+    }
+}
+
+/// The moment a time from t; none where the time is 0.
+fn moment_from(t: u64, time: u32) -> Option<u64>
+    requires { t < 2 ^ 63 }
+    ensures { result ≡ moment_from t time }
+{
+    if time == 0 {
+        None
+    } else {
+        Some(t + u64::from(time))
+    }
+}
+
+/// The event moment of a TPDO that is sent at t, which isn't before its inhibit moment.
+fn event_moment(t: u64, communication: Communication) -> Option<u64>
+    requires { t < 2 ^ 63 }
+    ensures { result ≡ event_moment t communication }
+{
+    if communication.event_time == 0 {
+        return None;
+    }
+    let event = t + u64::from(communication.event_time);
+    let inhibit = t + u64::from(communication.inhibit_time);
+    if event <= inhibit {
+        Some(inhibit)
+    } else {
+        Some(event)
+    }
+}
+
+/// Whether two have the same bytes, or neither has any.
+fn same_payload(one: &Option<Payload>, other: &Option<Payload>) -> bool
+    ensures { IsTrue result ↔ (one.now ≡ other.now) }
+{
+    match (one, other) {
+        (Some(one), Some(other)) => one.same(other),
+        (None, None) => true,
+        _ => false,
+    }
+}
+
+impl Tpdo {
+    /// One that remembers nothing.
+    pub fn forgotten() -> Tpdo
+        ensures { result ≡ nothing_remembered }
+    {
+        Tpdo {
+            last: None,
+            inhibit: None,
+            event: None,
+            syncs: 0,
+        }
+    }
+
+    /// Whether the other one remembers the same.
+    pub fn same(&self, other: &Tpdo) -> bool
+        ensures { IsTrue result ↔ (self.now ≡ other.now) }
+    {
+        same_payload(&self.last, &other.last)
+            && self.inhibit == other.inhibit
+            && self.event == other.event
+            && self.syncs == other.syncs
+    }
+
+    /// The inhibit moment, in microseconds, if one is set.
+    pub fn inhibit(&self) -> Option<u64>
+        ensures { result ≡ self.now.inhibit }
+    {
+        self.inhibit
+    }
+
+    /// The event moment, in microseconds, if one is set.
+    pub fn event(&self) -> Option<u64>
+        ensures { result ≡ self.now.event }
+    {
+        self.event
+    }
+
+    /// Forgets the inhibit moment if it has come at the moment t, in microseconds.
+    #[tactic(auto, unfolding(crate::specs::Tpdo::inhibit_over))]
+    pub fn end_inhibit(&mut self, t: u64)
+        ensures { self.new ≡ inhibit_over t self.old }
+    {
+        if has_come(t, self.inhibit) {
+            self.inhibit = None;
+        }
+    }
+
+    /// Whether bytes differ from those last queued; where none were, any do.
+    #[tactic(auto, unfolding(crate::specs::Tpdo::differs))]
+    fn differs(&self, bytes: &[u8]) -> bool
+        ensures { result ≡ differs bytes.now self.now }
+    {
+        match &self.last {
+            Some(last) => last.bytes() != bytes,
+            None => true,
+        }
+    }
+
+    /// Looks at one of type 0, and answers whether it is sent.
+    #[tactic(auto, unfolding(crate::specs::Tpdo::is_sent_at_change, crate::specs::Tpdo::after_change))]
+    fn at_change(&mut self, at_sync: bool, bytes: &[u8]) -> bool
+        requires { length bytes.now ≤ 8 }
+        ensures sent { result ≡ is_sent_at_change at_sync bytes.now self.old }
+        ensures remembered { self.new ≡ after_change at_sync bytes.now self.old }
+    {
+        if at_sync && self.differs(bytes) {
+            self.last = Some(Payload::of(bytes));
+            return true;
+        }
+        false
+    }
+
+    /// Looks at one of the types n from 1 to 240, and answers whether it is sent.
+    #[tactic(auto, unfolding(crate::specs::Tpdo::is_sent_at_nth, crate::specs::Tpdo::after_nth))]
+    fn at_nth(&mut self, n: u8, at_sync: bool, bytes: &[u8]) -> bool
+        requires { length bytes.now ≤ 8 }
+        ensures sent { result ≡ is_sent_at_nth n at_sync self.old }
+        ensures remembered { self.new ≡ after_nth n at_sync bytes.now self.old }
+    {
+        if !at_sync {
+            return false;
+        }
+        let syncs = u16::from(self.syncs) + 1;
+        if syncs < u16::from(n) {
+            self.syncs = syncs as u8;
+            return false;
+        }
+        self.syncs = 0;
+        self.last = Some(Payload::of(bytes));
+        true
+    }
+
+    /// Looks at one of the types 254 and 255, and answers whether it is sent.
+    #[tactic(auto, unfolding(crate::specs::Tpdo::is_sent_at_event, crate::specs::Tpdo::after_event))]
+    fn at_event(&mut self, communication: Communication, t: u64, bytes: &[u8]) -> bool
+        requires moment { t < 2 ^ 63 }
+        requires short { length bytes.now ≤ 8 }
+        ensures sent { result ≡ is_sent_at_event t bytes.now self.old }
+        ensures remembered { self.new ≡ after_event communication t bytes.now self.old }
+    {
+        if is_ahead(t, self.inhibit) || !(self.differs(bytes) || has_come(t, self.event)) {
+            return false;
+        }
+        self.last = Some(Payload::of(bytes));
+        self.inhibit = moment_from(t, communication.inhibit_time);
+        self.event = event_moment(t, communication);
+        true
+    }
+
+    /// Looks at a TPDO that works, at the moment t in microseconds and with the bytes that it has then,
+    /// at most 8, and answers whether it is sent; where it is, the bytes are remembered. `at_sync` says
+    /// whether a SYNC came that counts for it.
+    ///
+    /// Type 0 is sent at a SYNC where the bytes differ from those last queued; the types n from 1 to 240
+    /// at each n-th SYNC; 254 and 255 where the bytes differ or the event moment has come, unless the
+    /// inhibit moment is ahead, and both moments are then set from now; other types never. Needs no
+    /// memory.
+    #[tactic(auto, unfolding(crate::specs::Tpdo::is_sent_by_type, crate::specs::Tpdo::looked_at_by_type))]
+    pub fn look(
+        &mut self,
+        communication: Communication,
+        at_sync: bool,
+        t: u64,
+        bytes: &[u8],
+    ) -> bool
+        requires moment { t < 2 ^ 63 }
+        requires short { length bytes.now ≤ 8 }
+        ensures sent { result ≡ is_sent communication at_sync t bytes.now self.old }
+        ensures remembered { self.new ≡ looked_at communication at_sync t bytes.now self.old }
+    {
+        match communication.kind {
+            Some(0) => self.at_change(at_sync, bytes),
+            Some(n) if n <= 240 => self.at_nth(n, at_sync, bytes),
+            Some(n) if n >= 254 => self.at_event(communication, t, bytes),
+            _ => false,
+        }
+    }
+}
