@@ -1,10 +1,9 @@
 -- When a TPDO is sent, and what it remembers then.
-use Rattle.std.proofs.Common.{◌≡◌, ℕ, zero, suc, ◌+◌, ◌<◌, ◌≤◌, ◌==◌, Bool, true, false, not, ◌&&◌, ◌||◌, List, Option, Some, None, IfSome, refl, ap, sym, ◌∙◌, arith}
+use Rattle.std.proofs.Common.{◌≡◌, ℕ, zero, suc, ◌+◌, ◌<◌, ◌≤◌, ◌==◌, Bool, true, false, List, Option, Some, None, IfSome, refl, ap, sym, ◌∙◌, arith}
 use Rattle.std.specs.Prelude.{if◌then◌else◌, nat_le, nat_lt}
-use Rattle.std.specs.Str.{bytes_eq}
 use Rattle.std.proofs.lemmas.Bool.Decides.{nat_tests}
 use Rattle.co_pdos.specs.declared.communication.Communication.{Communication}
-use Rattle.co_pdos.specs.Tpdo.{Remembered, after_event, event_moment, has_come, inhibit_over, is_ahead, is_sent, is_sent_at_event, is_sent_by_type, later, looked_at, looked_at_by_type, moment_from}
+use Rattle.co_pdos.specs.Tpdo.{Remembered, after_change, after_event, after_nth, event_moment, inhibit_over, is_sent, is_sent_at_change, is_sent_at_event, is_sent_at_nth, is_sent_by_type, later, looked_at, looked_at_by_type, moment_from}
 
 pub test_zero : (kind : ℕ) → 254 ≤ kind → (kind == 0) ≡ false
 test_zero kind h = grind (arith, nat_tests)
@@ -117,3 +116,83 @@ module _ (c : Communication) (kind : ℕ) (at_sync : Bool) (t : ℕ) (bytes : Li
 
   pub event_behind_inhibit : IfSome (looked_at c at_sync t bytes r).event (λ m. t + c.inhibit_time ≤ m)
   event_behind_inhibit = rw event_is (not_before t c.event_time c.inhibit_time (c.event_time == 0))
+
+-- ---- the bytes that were last queued
+
+-- where the same test decides both
+last_of : (test : Bool) (a b : Remembered) (bytes : Option (List ℕ)) (last : Option (List ℕ)) → a.last ≡ bytes → b.last ≡ last
+    → (if test then a else b).last ≡ (if test then bytes else last)
+last_of true a b bytes last e f = e
+last_of false a b bytes last e f = f
+
+change_last : (at_sync : Bool) (bytes : List ℕ) (r : Remembered) → (after_change at_sync bytes r).last ≡ (if is_sent_at_change at_sync bytes r then Some bytes else r.last)
+unfolding after_change
+change_last at_sync bytes r = last_of (is_sent_at_change at_sync bytes r) _ r (Some bytes) r.last refl refl
+
+nth_last : (n : ℕ) (at_sync : Bool) (bytes : List ℕ) (r : Remembered) → (after_nth n at_sync bytes r).last ≡ (if is_sent_at_nth n at_sync r then Some bytes else r.last)
+unfolding after_nth is_sent_at_nth
+nth_last n false bytes r = refl
+nth_last n true bytes r = last_of (nat_le n (r.syncs + 1)) _ _ (Some bytes) r.last refl refl
+
+event_last : (c : Communication) (t : ℕ) (bytes : List ℕ) (r : Remembered) → (after_event c t bytes r).last ≡ (if is_sent_at_event t bytes r then Some bytes else r.last)
+unfolding after_event
+event_last c t bytes r = last_of (is_sent_at_event t bytes r) _ r (Some bytes) r.last refl refl
+
+-- one of two, each with its own test
+chosen : (test : Bool) (a b : Remembered) (p q : Bool) (bytes : Option (List ℕ)) (last : Option (List ℕ))
+    → a.last ≡ (if p then bytes else last) → b.last ≡ (if q then bytes else last)
+    → (if test then a else b).last ≡ (if (if test then p else q) then bytes else last)
+chosen true a b p q bytes last e f = e
+chosen false a b p q bytes last e f = f
+
+last_by_type : (kind : Option ℕ) (c : Communication) (at_sync : Bool) (t : ℕ) (bytes : List ℕ) (r : Remembered)
+    → (looked_at_by_type kind c at_sync t bytes r).last ≡ (if is_sent_by_type kind at_sync t bytes r then Some bytes else r.last)
+unfolding looked_at_by_type is_sent_by_type
+last_by_type None c at_sync t bytes r = refl
+last_by_type (Some kind) c at_sync t bytes r =
+    chosen (kind == 0) _ _ (is_sent_at_change at_sync bytes r) _ (Some bytes) r.last (change_last at_sync bytes r)
+    (chosen (nat_le kind 240) _ _ (is_sent_at_nth kind at_sync r) _ (Some bytes) r.last (nth_last kind at_sync bytes r)
+    (chosen (nat_le 254 kind) _ r (is_sent_at_event t bytes r) false (Some bytes) r.last (event_last c t bytes r) refl))
+
+pub last_is : (c : Communication) (at_sync : Bool) (t : ℕ) (bytes : List ℕ) (r : Remembered)
+    → (looked_at c at_sync t bytes r).last ≡ (if is_sent c at_sync t bytes r then Some bytes else r.last)
+last_is c at_sync t bytes r = last_by_type c.kind c at_sync t bytes r
+
+-- ---- each n-th SYNC
+
+not_zero : (n : ℕ) → 0 < n → (n == 0) ≡ false
+not_zero n h = grind (arith, nat_tests)
+
+is_cyclic : (n : ℕ) → n ≤ 240 → nat_le n 240 ≡ true
+is_cyclic n h = grind (arith, nat_tests)
+
+reached_by : (syncs n : ℕ) (a b : Bool) → syncs < n → nat_le n (syncs + 1) ≡ a → (syncs + 1 == n) ≡ b → a ≡ b
+reached_by syncs n true true h e f = refl
+reached_by syncs n false false h e f = refl
+reached_by syncs n true false h e f = absurd (grind (arith, nat_tests))
+reached_by syncs n false true h e f = absurd (grind (arith, nat_tests))
+
+syncs_of : (test : Bool) (a b : Remembered) → (if test then a else b).syncs ≡ (if test then a.syncs else b.syncs)
+syncs_of true a b = refl
+syncs_of false a b = refl
+
+reached : (syncs n : ℕ) → syncs < n → nat_le n (syncs + 1) ≡ (syncs + 1 == n)
+reached syncs n h = reached_by syncs n (nat_le n (syncs + 1)) (syncs + 1 == n) h refl refl
+
+module _ (c : Communication) (n : ℕ) (is : c.kind ≡ Some n) (some : 0 < n) (cyclic : n ≤ 240) where
+  pub nth_sent : (t : ℕ) (bytes : List ℕ) (r : Remembered) → r.syncs < n → is_sent c true t bytes r ≡ (r.syncs + 1 == n)
+  unfolding is_sent_by_type is_sent_at_nth
+  nth_sent t bytes r h = rw (is, not_zero n some, is_cyclic n cyclic) (reached r.syncs n h)
+
+  pub nth_counted : (t : ℕ) (bytes : List ℕ) (r : Remembered) → r.syncs < n
+      → (looked_at c true t bytes r).syncs ≡ (if r.syncs + 1 == n then 0 else r.syncs + 1)
+  unfolding looked_at_by_type after_nth
+  nth_counted t bytes r h = rw (is, not_zero n some, is_cyclic n cyclic, reached r.syncs n h) (syncs_of (r.syncs + 1 == n) _ _)
+
+  pub nth_unsent : (t : ℕ) (bytes : List ℕ) (r : Remembered) → is_sent c false t bytes r ≡ false
+  unfolding is_sent_by_type is_sent_at_nth
+  nth_unsent t bytes r = rw (is, not_zero n some, is_cyclic n cyclic) refl
+
+  pub nth_stays : (t : ℕ) (bytes : List ℕ) (r : Remembered) → looked_at c false t bytes r ≡ r
+  unfolding looked_at_by_type after_nth
+  nth_stays t bytes r = rw (is, not_zero n some, is_cyclic n cyclic) refl

@@ -1,5 +1,5 @@
 -- What becomes of a frame that an RPDO receives (CiA 301).
-use Rattle.std.specs.Prelude.{ℕ, nat_le, nat_lt, ◌||◌, ◌==◌, List, length, Option, Some, None, if◌then◌else◌}
+use Rattle.std.specs.Prelude.{ℕ, nat_le, nat_lt, Option, Some, None, if◌then◌else◌}
 use Rattle.co_base.specs.Ranges.{is_between}
 use Rattle.co_pdos.specs.declared.receipt.Receipt.{Receipt}
 use Rattle.co_pdos.specs.declared.receipt.Receipt.TheVariants.{Short, Kept, AtOnce, Ignored}

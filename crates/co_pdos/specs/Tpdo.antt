@@ -2,7 +2,6 @@
 use Rattle.std.specs.Prelude.{ℕ, ◌+◌, nat_le, nat_lt, ◌==◌, not, ◌&&◌, ◌||◌, Bool, true, false, List, Option, Some, None, if◌then◌else◌}
 use Rattle.std.specs.Option.{option_map_or}
 use Rattle.std.specs.Str.{bytes_eq}
-use Rattle.co_base.specs.Ranges.{is_between}
 use Rattle.co_pdos.specs.declared.communication.Communication.{Communication}
 
 -- what a TPDO remembers: the bytes that were last queued, its inhibit and event moments, and the SYNCs since it was last sent at one

@@ -1,6 +1,6 @@
 //! Laws of PDOs, each a function whose contract is the law.
 
-ghost use Rattle.std.specs.Prelude.{◌≡◌, ◌<◌, ◌≤◌, ◌+◌, ℕ, Bool, true, false, List, Some, IfSome};
+ghost use Rattle.std.specs.Prelude.{◌≡◌, ◌==◌, ◌<◌, ◌≤◌, ◌+◌, if◌then◌else◌, ℕ, Bool, true, false, List, Some, IfSome};
 ghost use Rattle.co_dict.specs.Mappings.{mapping_bits, mapping_of};
 ghost use Rattle.co_dict.specs.Pdos.{is_restricted};
 ghost use Rattle.co_dict.specs.Shapes.{Shaped};
@@ -42,4 +42,23 @@ pub fn moments_are_set_ahead()
         → is_sent c at_sync t bytes r ≡ true → IfSome (looked_at c at_sync t bytes r).event (λ m. t < m) }
     ensures order { (c : Parameters) (kind : ℕ) (at_sync : Bool) (t : ℕ) (bytes : List ℕ) (r : Remembered) → c.kind ≡ Some kind → 254 ≤ kind
         → is_sent c at_sync t bytes r ≡ true → IfSome (looked_at c at_sync t bytes r).event (λ m. t + c.inhibit_time ≤ m) }
+{}
+
+/// The bytes that a TPDO was last sent with are remembered, whatever its type is.
+pub fn what_was_sent_is_remembered()
+    ensures { (c : Parameters) (at_sync : Bool) (t : ℕ) (bytes : List ℕ) (r : Remembered)
+        → (looked_at c at_sync t bytes r).last ≡ (if is_sent c at_sync t bytes r then Some bytes else r.last) }
+{}
+
+/// A TPDO of type n from 1 to 240 that has counted fewer SYNCs than n is sent at a SYNC exactly where
+/// that is the n-th, and then counts anew; without a SYNC nothing happens.
+pub fn a_cyclic_tpdo_is_sent_at_each_nth_sync()
+    ensures sent { (c : Parameters) (n : ℕ) → c.kind ≡ Some n → 0 < n → n ≤ 240 → (t : ℕ) (bytes : List ℕ) (r : Remembered) → r.syncs < n
+        → is_sent c true t bytes r ≡ (r.syncs + 1 == n) }
+    ensures counted { (c : Parameters) (n : ℕ) → c.kind ≡ Some n → 0 < n → n ≤ 240 → (t : ℕ) (bytes : List ℕ) (r : Remembered) → r.syncs < n
+        → (looked_at c true t bytes r).syncs ≡ (if r.syncs + 1 == n then 0 else r.syncs + 1) }
+    ensures unsent { (c : Parameters) (n : ℕ) → c.kind ≡ Some n → 0 < n → n ≤ 240 → (t : ℕ) (bytes : List ℕ) (r : Remembered)
+        → is_sent c false t bytes r ≡ false }
+    ensures kept { (c : Parameters) (n : ℕ) → c.kind ≡ Some n → 0 < n → n ≤ 240 → (t : ℕ) (bytes : List ℕ) (r : Remembered)
+        → looked_at c false t bytes r ≡ r }
 {}
