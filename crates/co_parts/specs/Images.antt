@@ -56,6 +56,12 @@ IsFree (Nmt node command) = Unit {0}
 abbrev pub IsWithin : ℕ → TimedStep → Type 0
 IsWithin i step = (10000 * i ≤ step.time) × (step.time < 10000 * i + 10000) × IsFree step.step
 
+-- steps are in order of time
+abbrev pub AreInOrder : List TimedStep → Type 0
+AreInOrder [] = Unit {0}
+AreInOrder (a ∷ []) = Unit {0}
+AreInOrder (a ∷ b ∷ rest) = (a.time ≤ b.time) × AreInOrder (b ∷ rest)
+
 -- ---- coherent images
 
 -- what a step sets has the length of its entry's type
@@ -72,5 +78,6 @@ pub record IsCoherent (image : Image) : Type 0 where
   pub roster : IsRoster (roster_of (image part.Roster))
   pub writes : (node place : ℕ) → IfSome (write_of (image (part.Boot node place))) IsBootWrite
   pub within : (i : ℕ) → AllByRecursion (IsWithin i) (steps_of (image (part.Events i)))
+  pub ordered : (i : ℕ) → AreInOrder (steps_of (image (part.Events i)))
   pub defaults : (node : ℕ) → HoldEach (shape_of (image (part.Shape node))).entries (values_of (image (part.Defaults node)))
   pub steps : (i : ℕ) → AllByRecursion (FitsShape image) (steps_of (image (part.Events i)))

@@ -2,3 +2,4 @@ pub mod Shared
 pub mod Contents
 pub mod ContentView
 pub mod Images
+pub mod Moments
