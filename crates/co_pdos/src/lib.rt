@@ -3,13 +3,17 @@
 #![tactic(auto)]
 
 mod communication;
+mod configuration;
 pub mod laws;
+mod mapping;
 mod payload;
 mod receipt;
 mod tpdo;
 mod working;
 
 pub use communication::{Communication, transmission_type};
+pub use configuration::Configuration;
+pub use mapping::Mapping;
 pub use receipt::{Receipt, received};
 pub use tpdo::Tpdo;
 pub use working::{identifier, is_pdo, rpdo_object, tpdo_object, works};
