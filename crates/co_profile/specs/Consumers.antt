@@ -1,0 +1,76 @@
+-- The heartbeat consumers of a device (CiA 301, object 1016h), by sub-index.
+use Rattle.std.specs.Prelude.{ℕ, ◌+◌, ◌*◌, ◌/◌, ◌%◌, ◌==◌, not, ◌&&◌, nat_lt, Bool, true, false, List, filter, flat_map, length, map, Option, Some, None, if◌then◌else◌}
+use Rattle.std.specs.List.{list_any, range_with_len}
+use Rattle.co_dict.specs.PdoChecks.{has_type, is_unsigned32}
+use Rattle.co_dict.specs.Shapes.{Shaped}
+use Rattle.co_dict.specs.Values.{Values, number_at}
+use Rattle.co_parts.specs.Moments.{is_due, moments_of}
+use Rattle.co_profile.specs.declared.consumer.Consumer.{Consumer}
+
+-- one that hasn't started
+abbrev pub waiting_for_start : ℕ → Consumer
+waiting_for_start sub = record { sub = sub; moment = None; failed = false }
+
+-- those of a device: the sub-indices of 1016h from 1 on that are there as UNSIGNED32
+unfoldable pub consumers_of : Shaped → List Consumer
+consumers_of shape = map waiting_for_start (filter (λ sub. has_type is_unsigned32 shape (0x1016, sub)) (range_with_len 1 255))
+
+-- ---- the consumer heartbeat time of a sub-index
+
+abbrev pub consumer_entry : Values → ℕ → ℕ
+consumer_entry values sub = number_at 4 values (0x1016, sub)
+
+-- bits 16 to 23: the node whose heartbeat is expected
+abbrev pub producer_of : ℕ → ℕ
+producer_of entry = entry / 0x10000 % 0x100
+
+-- bits 0 to 15: the time in milliseconds; 0 is off
+abbrev pub consumer_time : ℕ → ℕ
+consumer_time entry = entry % 0x10000
+
+-- it expects the heartbeat of this node
+abbrev pub expects : ℕ → ℕ → Bool
+expects producer entry = (producer_of entry == producer) && nat_lt 0 (consumer_time entry)
+
+-- ---- an error control frame of a node comes at t: it starts the consumer or renews it, and ends its failure
+
+abbrev pub heard : ℕ → ℕ → Values → Consumer → Consumer
+heard t producer values c =
+    if expects producer (consumer_entry values c.sub) then record c { moment = Some (t + 1000 * consumer_time (consumer_entry values c.sub)); failed = false } else c
+
+unfoldable pub all_heard : ℕ → ℕ → Values → List Consumer → List Consumer
+all_heard t producer values consumers = map (heard t producer values) consumers
+
+-- ---- failures
+
+abbrev pub any_failed : List Consumer → Bool
+any_failed consumers = list_any (λ c. c.failed) consumers
+
+-- some had failed, and none has any more
+unfoldable pub is_over : List Consumer → List Consumer → Bool
+is_over before after = any_failed before && not (any_failed after)
+
+-- ---- at its moment a consumer fails
+
+abbrev pub expired : ℕ → Consumer → Consumer
+expired t c = if is_due t c.moment then record c { moment = None; failed = true } else c
+
+unfoldable pub all_expired : ℕ → List Consumer → List Consumer
+all_expired t consumers = map (expired t) consumers
+
+-- so many fail at t
+unfoldable pub failures : ℕ → List Consumer → ℕ
+failures t consumers = length (filter (λ c. is_due t c.moment) consumers)
+
+-- ---- a write of a sub-index: its consumer hasn't started any more
+
+abbrev pub rewritten : ℕ → Consumer → Consumer
+rewritten sub c = if c.sub == sub then waiting_for_start sub else c
+
+unfoldable pub consumers_written : ℕ → List Consumer → List Consumer
+consumers_written sub consumers = map (rewritten sub) consumers
+
+-- ---- the moments of those that run
+
+abbrev pub moments : List Consumer → List ℕ
+moments consumers = flat_map (λ c. moments_of c.moment) consumers

@@ -1,0 +1,2 @@
+pub mod Consumers
+pub mod Profile
