@@ -1,33 +1,41 @@
 -- One device at a moment, and what it does (CiA 301). All moments are absolute, in microseconds from the power-on of the network.
-use Rattle.std.specs.Prelude.{ℕ, ◌+◌, ◌*◌, ◌==◌, ◌&&◌, ◌||◌, not, Bool, true, false, List, [], ◌∷◌, ◌++◌, length, slice_index_or, Option, Some, None, if◌then◌else◌}
+use Rattle.std.specs.Prelude.{ℕ, ◌+◌, ◌-◌, ◌==◌, ◌&&◌, ◌||◌, not, nat_lt, Bool, true, false, List, [], ◌∷◌, ◌++◌, length, replicate, slice_index_or, Option, Some, None, if◌then◌else◌}
 use Rattle.std.specs.FinMap as map
 use Rattle.asking.specs.Asking.{Asking, Answer, Ask}
 use Rattle.can_frame.specs.Frames.{BaseFrame}
 use Rattle.can_frame.specs.Identifiers.{error_control_id, nmt_id, sdo_answer_id, sdo_request_id}
 use Rattle.can_frame.specs.WaitingFrames.{replaced, waiting, without}
-use Rattle.can_frame.specs.declared.purpose.Purpose.TheVariants.{BootUp, Heartbeat, Sdo}
-use Rattle.can_frame.specs.declared.unwanted.Unwanted.TheVariants.{Sdos}
+use Rattle.can_frame.specs.declared.purpose.Purpose.TheVariants.{BootUp, Emergency, Heartbeat, Sdo}
+use Rattle.can_frame.specs.declared.unwanted.Unwanted.TheVariants.{Emergencies, Sdos, Tpdos}
 use Rattle.can_frame.specs.declared.waiting.Waiting.{Waiting}
-use Rattle.co_values.specs.declared.form.Form.{Form}
-use Rattle.co_values.specs.declared.form.Form.TheVariants.{Unsigned}
-use Rattle.co_values.specs.declared.form.Width.TheVariants.{Bits16}
-use Rattle.co_dict.specs.PdoChecks.{has_type}
+use Rattle.co_base.specs.Ranges.{is_between}
 use Rattle.co_dict.specs.Restored.{restored}
 use Rattle.co_dict.specs.Shapes.{Shaped}
-use Rattle.co_dict.specs.Values.{Values, number_at}
+use Rattle.co_dict.specs.Values.{Values}
 use Rattle.co_parts.specs.Contents.{Content, shape_of, values_of}
+use Rattle.co_parts.specs.Moments.{earliest, is_due, moments_of}
 use Rattle.co_parts.specs.declared.part.Part.{Part}
 use Rattle.co_parts.specs.declared.part.Part.TheVariants.{Defaults, Shape}
+use Rattle.co_profile.specs.Consumers as consumers
+use Rattle.co_profile.specs.Profile.{emergency_frame, error_cleared, error_register, error_set, learnt_of, next_heartbeat}
+use Rattle.co_profile.specs.declared.consumer.Consumer.{Consumer}
+use Rattle.co_profile.specs.declared.learnt.Learnt.{Learnt}
+use Rattle.co_scenario.specs.Commands.{command_of}
+use Rattle.co_scenario.specs.declared.nmt_command.NmtCommand.{NmtCommand}
+use Rattle.co_scenario.specs.declared.nmt_command.NmtCommand.TheVariants.{Start, Stop, EnterPreOperational, ResetNode, ResetCommunication}
 use Rattle.co_sdo.specs.Server.{Answered, answered}
 use Rattle.co_sdo.specs.declared.transfer.Transfer.{Transfer}
 use Rattle.co_sdo.specs.declared.transfer.Transfer.TheVariants.{Idle}
+use Rattle.device_pdos.specs.Objects.{is_of_rpdos, is_of_tpdos}
+use Rattle.device_pdos.specs.Rpdos.{rpdos_emptied, rpdos_of, rpdos_written}
+use Rattle.device_pdos.specs.Tpdos as tpdos
+use Rattle.device_pdos.specs.Tpdos.{tpdos_forgotten, tpdos_freed, tpdos_looked, tpdos_of, tpdos_written, with_tpdos}
+use Rattle.device_pdos.specs.declared.rpdo_state.RpdoState.{RpdoState}
+use Rattle.device_pdos.specs.declared.tpdo_state.TpdoState.{TpdoState}
 use Rattle.co_device.specs.declared.nmt_state.NmtState.{NmtState}
 use Rattle.co_device.specs.declared.nmt_state.NmtState.TheVariants.{PreOperational, Operational, Stopped}
 
--- what a device learns of its entries at power-on and at each reset: whether 1017h:00 is there as UNSIGNED16
-pub record Learnt : Type 0 where
-  pub has_producer_time : Bool
-
+-- its values by entry, its heartbeat consumers by sub-index, its PDOs by number; whether a SYNC came in this instant; the moment of its next heartbeat; the frames that wait; the open transfer of its SDO server
 pub record Device : Type 0 where
   pub spent : Bool
   pub number : ℕ
@@ -35,6 +43,10 @@ pub record Device : Type 0 where
   pub state : NmtState
   pub learnt : Learnt
   pub values : Values
+  pub consumers : List Consumer
+  pub rpdos : List RpdoState
+  pub tpdos : List TpdoState
+  pub synced : Bool
   pub heartbeat : Option ℕ
   pub waiting : List Waiting
   pub transfer : Transfer
@@ -48,41 +60,20 @@ state_byte PreOperational = 127
 abbrev pub is_in : NmtState → Device → Bool
 is_in state d = state_byte d.state == state_byte state
 
+-- a device of no entries learns that it has none
+abbrev pub nothing_learnt : Learnt
+nothing_learnt = record { has_error_register = false; has_sync_cob_id = false; has_producer_time = false }
+
 -- a device without power: nothing waits, nothing is due, nothing is open
 abbrev pub without_power : Bool → ℕ → Device
-without_power spent number = record { spent = spent; number = number; has_power = false; state = PreOperational; learnt = record { has_producer_time = false }; values = map.empty; heartbeat = None; waiting = []; transfer = Idle }
-
--- ---- what it learns
-
-abbrev pub is_unsigned16 : Form → Bool
-is_unsigned16 (Unsigned Bits16) = true
-is_unsigned16 other = false
-
-unfoldable pub learnt_of : Shaped → Learnt
-learnt_of shape = record { has_producer_time = has_type is_unsigned16 shape (0x1017, 0) }
-
--- ---- object 1017h: producer heartbeat time
-
--- in milliseconds; 0 is off
-abbrev pub producer_heartbeat_time : Learnt → Values → ℕ
-producer_heartbeat_time learnt values = if learnt.has_producer_time then number_at 2 values (0x1017, 0) else 0
-
--- a period from now
-abbrev pub period_from : ℕ → ℕ → Option ℕ
-period_from t period = if period == 0 then None else Some (t + 1000 * period)
-
-unfoldable pub next_heartbeat : ℕ → Learnt → Values → Option ℕ
-next_heartbeat t learnt values = period_from t (producer_heartbeat_time learnt values)
-
-abbrev pub heartbeat_started : ℕ → Device → Device
-heartbeat_started t d = record d { heartbeat = next_heartbeat t d.learnt d.values }
+without_power spent number = record { spent = spent; number = number; has_power = false; state = PreOperational; learnt = nothing_learnt; values = map.empty; consumers = []; rpdos = []; tpdos = []; synced = false; heartbeat = None; waiting = []; transfer = Idle }
 
 -- ---- NMT state Initialisation, which ends with the boot-up message in Pre-operational
 
 abbrev pub boot_up : ℕ → Waiting
 boot_up number = waiting BootUp (record { id = error_control_id number; bytes = 0 ∷ [] })
 
--- with these values; frames that waited, the open transfer and all moments are dropped
+-- with these values; frames that waited, the open transfer, all moments, failures, and what PDOs remember and keep are dropped
 unfoldable pub initialised : ℕ → Shaped → Values → Device → Device
 initialised t shape values d = record {
   spent = d.spent;
@@ -91,6 +82,10 @@ initialised t shape values d = record {
   state = PreOperational;
   learnt = learnt_of shape;
   values = values;
+  consumers = consumers.consumers_of shape;
+  rpdos = rpdos_of shape values;
+  tpdos = tpdos_of shape values;
+  synced = false;
   heartbeat = next_heartbeat t (learnt_of shape) values;
   waiting = boot_up d.number ∷ [];
   transfer = Idle;
@@ -117,80 +112,161 @@ powered on t d =
 
 -- ---- the other NMT services
 
+-- leaving Operational drops the TPDOs that wait, and what PDOs remember and keep
+unfoldable pub out_of_operational : Device → Device
+out_of_operational d =
+    if is_in Operational d then record d { waiting = without Tpdos d.waiting; rpdos = rpdos_emptied d.rpdos; tpdos = tpdos_forgotten d.tpdos }
+    else d
+
 abbrev pub start_remote_node : Device → Device
 start_remote_node d = record d { state = Operational }
 
--- entering Stopped drops the SDO answers that wait and the open transfer
-abbrev pub stop_remote_node : Device → Device
-stop_remote_node d =
-    if is_in Stopped d then d
-    else record d { state = Stopped; waiting = without Sdos d.waiting; transfer = Idle }
-
 abbrev pub enter_pre_operational : Device → Device
-enter_pre_operational d = record d { state = PreOperational }
+enter_pre_operational d = record (out_of_operational d) { state = PreOperational }
+
+-- SDO answers and emergency objects that wait, and the open transfer, are dropped
+abbrev pub silenced : Device → Device
+silenced d = record d { waiting = without Emergencies (without Sdos d.waiting); transfer = Idle }
+
+-- entering Stopped leaves Operational too
+abbrev pub stop_remote_node : Device → Device
+stop_remote_node d = if is_in Stopped d then d else record (silenced (out_of_operational d)) { state = Stopped }
 
 -- a message of two bytes, the second this node's number or 0 for all
 abbrev pub is_addressed : ℕ → List ℕ → Bool
 is_addressed number bytes = (length bytes == 2) && ((slice_index_or bytes 1 0 == 0) || (slice_index_or bytes 1 0 == number))
 
-unfoldable pub nmt_service : ℕ → ℕ → Device → Asking Part Content Device
-nmt_service command t d =
-    if command == 1 then Answer (start_remote_node d)
-    else if command == 2 then Answer (stop_remote_node d)
-    else if command == 128 then Answer (enter_pre_operational d)
-    else if command == 129 then reset_node t d
-    else if command == 130 then reset_communication t d
-    else Answer d
+unfoldable pub nmt_service : Option NmtCommand → ℕ → Device → Asking Part Content Device
+nmt_service None t d = Answer d
+nmt_service (Some Start) t d = Answer (start_remote_node d)
+nmt_service (Some Stop) t d = Answer (stop_remote_node d)
+nmt_service (Some EnterPreOperational) t d = Answer (enter_pre_operational d)
+nmt_service (Some ResetNode) t d = reset_node t d
+nmt_service (Some ResetCommunication) t d = reset_communication t d
 
--- ---- the SDO server, which is silent in Stopped
+-- ---- emergency objects
 
--- the heartbeat starts anew with each write of 1017h, also of an equal value
+-- one of an error code waits; in Stopped none is sent
+unfoldable pub with_emergency : ℕ → Device → Device
+with_emergency code d =
+    if is_in Stopped d then d
+    else record d { waiting = d.waiting ++ waiting Emergency (emergency_frame d.number code (error_register d.learnt d.values)) ∷ [] }
+
+-- ---- what the write of an entry brings about
+
+-- 1017h:00: the heartbeat starts anew, also with an equal value
 abbrev pub is_producer_time : ℕ × ℕ → Bool
 is_producer_time place = (place.0 == 0x1017) && (place.1 == 0)
 
--- what the write of an entry brings about
-abbrev pub after_write : ℕ → Option (ℕ × ℕ) → Device → Device
-after_write t None d = d
-after_write t (Some place) d = if is_producer_time place then heartbeat_started t d else d
+abbrev pub heartbeat_started : ℕ → Device → Device
+heartbeat_started t d = record d { heartbeat = next_heartbeat t d.learnt d.values }
+
+-- the error bits of the register are cleared where the last failure has ended
+abbrev pub without_error : Bool → Device → Device
+without_error is_over d = if is_over then record d { values = error_cleared d.learnt d.values } else d
+
+-- 1016h: the consumer's moment and failure are forgotten, without an emergency object
+unfoldable pub consumer_written : ℕ → Device → Device
+consumer_written sub d =
+    without_error (consumers.is_over d.consumers (consumers.consumers_written sub d.consumers)) (record d { consumers = consumers.consumers_written sub d.consumers })
+
+-- of an entry that is none of a PDO's objects
+unfoldable pub after_own_write : ℕ → ℕ × ℕ → Device → Device
+after_own_write t place d =
+    if is_producer_time place then heartbeat_started t d
+    else if place.0 == 0x1016 then consumer_written place.1 d
+    else d
+
+-- of any entry: the PDO that it is of is judged anew, keeps no frame and remembers nothing
+unfoldable pub after_write : ℕ → Shaped → ℕ × ℕ → Device → Device
+after_write t shape place d =
+    if is_of_rpdos place.0 then record d { rpdos = rpdos_written shape d.values place.0 d.rpdos }
+    else if is_of_tpdos place.0 then record d { tpdos = tpdos_written shape d.values place.0 d.tpdos }
+    else after_own_write t place d
+
+-- ---- the application of a device with power sets an entry, whatever its access and limits
+
+unfoldable pub was_set : ℕ → ℕ × ℕ → List ℕ → Device → Device
+was_set t place bytes d = if d.has_power then after_own_write t place (record d { values = map.insert d.values place bytes }) else d
+
+-- ---- the SDO server, which is silent in Stopped
+
+abbrev pub after_wrote : ℕ → Shaped → Option (ℕ × ℕ) → Device → Device
+after_wrote t shape None d = d
+after_wrote t shape (Some place) d = after_write t shape place d
 
 abbrev pub answer_frames : ℕ → Option (List ℕ) → List Waiting
 answer_frames number None = []
 answer_frames number (Some bytes) = waiting (Sdo number) (record { id = sdo_answer_id number; bytes = bytes }) ∷ []
 
 -- what the server did stands in the device, and its answer waits
-abbrev pub after_request : ℕ → Answered → Device → Device
-after_request t s d = after_write t s.wrote (record d { values = s.values; transfer = s.transfer; waiting = d.waiting ++ answer_frames d.number s.answer })
+abbrev pub after_request : ℕ → Shaped → Answered → Device → Device
+after_request t shape s d = after_wrote t shape s.wrote (record d { values = s.values; transfer = s.transfer; waiting = d.waiting ++ answer_frames d.number s.answer })
 
 unfoldable pub sdo_request : ℕ → List ℕ → Device → Asking Part Content Device
 sdo_request t request d =
     if is_in Stopped d then Answer d
-    else Ask (Shape d.number) (λ w. Answer (after_request t (answered (shape_of w) d.values d.transfer request) d))
+    else Ask (Shape d.number) (λ w. Answer (after_request t (shape_of w) (answered (shape_of w) d.values d.transfer request) d))
 
--- ---- received frames: each is taken by the first that fits
+-- ---- error control: heartbeat and boot-up of other nodes
 
-unfoldable pub received : ℕ → BaseFrame → Device → Asking Part Content Device
-received t frame d =
-    if not d.has_power then Answer d
-    else if frame.id == nmt_id then (if is_addressed d.number frame.bytes then nmt_service (slice_index_or frame.bytes 0 0) t d else Answer d)
-    else if (frame.id == sdo_request_id d.number) && (length frame.bytes == 8) then sdo_request t frame.bytes d
-    else Answer d
+-- consumers that expect the node start or go on; with the end of the last failure the error bits are cleared, and an emergency object tells it
+unfoldable pub error_control : ℕ → ℕ → Device → Device
+error_control t producer d =
+    let after = consumers.all_heard t producer d.values d.consumers in
+    if consumers.is_over d.consumers after then with_emergency 0x0000 (without_error true (record d { consumers = after }))
+    else record d { consumers = after }
 
--- ---- heartbeat producer
+-- one byte of a node's error control identifier, 701h to 77Fh
+abbrev pub is_error_control : BaseFrame → Bool
+is_error_control frame = is_between 0x701 0x77F frame.id && (length frame.bytes == 1)
 
-abbrev pub is_due : ℕ → Option ℕ → Bool
-is_due t None = false
-is_due t (Some moment) = moment == t
+-- ---- the timers of a moment: consumers by sub-index, and then the heartbeat
+
+-- so many emergency objects of an error code wait
+abbrev pub with_emergencies : ℕ → ℕ → Device → Device
+with_emergencies count code d =
+    if is_in Stopped d then d
+    else record d { waiting = d.waiting ++ replicate count (waiting Emergency (emergency_frame d.number code (error_register d.learnt d.values))) }
+
+-- each that fails sets the error bits and has an emergency object sent; the device falls to Pre-operational if it is Operational
+abbrev pub after_failures : ℕ → ℕ → Device → Device
+after_failures t count d =
+    let told = with_emergencies count 0x8130 (record d { consumers = consumers.all_expired t d.consumers; values = error_set d.learnt d.values }) in
+    if is_in Operational told then enter_pre_operational told else told
+
+unfoldable pub consumers_run : ℕ → Device → Device
+consumers_run t d = if nat_lt 0 (consumers.failures t d.consumers) then after_failures t (consumers.failures t d.consumers) d else d
 
 abbrev pub heartbeat_frame : ℕ → NmtState → BaseFrame
 heartbeat_frame number state = record { id = error_control_id number; bytes = state_byte state ∷ [] }
 
 -- a heartbeat takes the place of one that still waits, and the next is due a period later
-unfoldable pub timers : ℕ → Device → Device
-timers t d =
+unfoldable pub heartbeat_run : ℕ → Device → Device
+heartbeat_run t d =
     if is_due t d.heartbeat then record (heartbeat_started t d) { waiting = replaced Heartbeat (heartbeat_frame d.number d.state) d.waiting }
     else d
 
--- ---- the first moment at which the device is due
+unfoldable pub timers : ℕ → Device → Device
+timers t d = heartbeat_run t (consumers_run t d)
 
+-- ---- the TPDOs of a moment: in Operational each is looked at, by number; an inhibit moment that has come is forgotten in any state, and so is the SYNC of the instant
+
+unfoldable pub tpdos_run : ℕ → Device → Device
+tpdos_run t d =
+    if is_in Operational d
+    then record d { synced = false; tpdos = tpdos_looked t d.synced d.values d.tpdos; waiting = with_tpdos t d.synced d.values d.tpdos d.waiting }
+    else record d { synced = false; tpdos = tpdos_freed t d.tpdos }
+
+-- WHAT A DEVICE DOES OF ITSELF AT A MOMENT: its timers, and then its TPDOs
+unfoldable pub ran : ℕ → Device → Device
+ran t d = tpdos_run t (timers t d)
+
+-- ---- the moments at which the device is due
+
+abbrev pub moments : Device → List ℕ
+moments d = moments_of d.heartbeat ++ consumers.moments d.consumers ++ tpdos.moments d.tpdos
+
+-- the first of them
 unfoldable pub next_due : Device → Option ℕ
-next_due d = d.heartbeat
+next_due d = earliest (moments d)

@@ -1,3 +1,4 @@
 pub mod Device
+pub mod Receiving
 pub mod Ahead
 pub mod States

@@ -3,15 +3,19 @@
 ghost use Rattle.std.specs.Prelude.{◌≡◌, ◌↔◌, ◌<◌, ◌≤◌, ◌+◌, Some, false, length, remove, slice_get, IfOk, OnOk, OnErr, IsErr, IsTrue};
 ghost use Rattle.asking.specs.Asking.{followed, outcome, reads};
 ghost use Rattle.can_frame.specs.Winner.{contenders_of, IsWinner};
-ghost use Rattle.co_device.specs.Device.{is_in as is_in_state, next_due, powered, received, timers, without_power};
+ghost use Rattle.co_base.specs.Ranges.{is_between};
+ghost use Rattle.co_values.specs.Values.{longest_value};
+ghost use Rattle.co_device.specs.Device.{is_in as is_in_state, next_due, powered, ran, was_set, without_power};
+ghost use Rattle.co_device.specs.Receiving.{received};
 
-use crate::learnt::Learnt;
 use crate::nmt_state::NmtState;
 use crate::shapes::Shapes;
 use can_frame::{Contender, Frame, Pending, Waiting};
 use co_dict::Dict;
 use co_parts::END;
+use co_profile::{Consumer, Learnt};
 use co_sdo::transfer::{self, Transfer};
+use device_pdos::{RpdoState, TpdoState};
 use std::alloc::{AllocError, Global};
 use std::marker::Model;
 
@@ -28,6 +32,10 @@ pub struct DeviceState {
     pub(crate) state: NmtState,
     pub(crate) learnt: Learnt,
     pub(crate) values: Dict,
+    pub(crate) consumers: Vec<Consumer>,
+    pub(crate) rpdos: Vec<RpdoState>,
+    pub(crate) tpdos: Vec<TpdoState>,
+    pub(crate) synced: bool,
     pub(crate) heartbeat: Option<u64>,
     pub(crate) waiting: Pending,
     pub(crate) transfer: Transfer,
@@ -43,7 +51,7 @@ impl Model for DeviceState {
 
     ghost coded = { Prim.hlevel (codes, map.code {R = place_cmp} (coded× coded_ℕ coded_ℕ) (coded_list coded_ℕ)) };
 
-    ghost view = { λ d. record { spent = d.spent; number = d.number; has_power = d.has_power; state = d.state; learnt = d.learnt; values = d.values; heartbeat = d.heartbeat; waiting = d.waiting; transfer = d.transfer } };
+    ghost view = { λ d. record { spent = d.spent; number = d.number; has_power = d.has_power; state = d.state; learnt = d.learnt; values = d.values; consumers = d.consumers.items; rpdos = d.rpdos.items; tpdos = d.tpdos.items; synced = d.synced; heartbeat = d.heartbeat; waiting = d.waiting; transfer = d.transfer } };
 }
 
 impl DeviceState {
@@ -59,6 +67,10 @@ impl DeviceState {
             state: NmtState::PreOperational,
             learnt: Learnt::nothing(),
             values: Dict::new(alloc),
+            consumers: Vec::new(alloc),
+            rpdos: Vec::new(alloc),
+            tpdos: Vec::new(alloc),
+            synced: false,
             heartbeat: None,
             waiting: Pending::new(alloc),
             transfer: Transfer::Idle,
@@ -79,8 +91,12 @@ impl DeviceState {
             number: self.number,
             has_power: self.has_power,
             state: self.state,
-            learnt: self.learnt.copy(),
+            learnt: self.learnt,
             values: self.values.copy()?,
+            consumers: Vec::from_slice(self.alloc, &self.consumers)?,
+            rpdos: Vec::from_slice(self.alloc, &self.rpdos)?,
+            tpdos: Vec::from_slice(self.alloc, &self.tpdos)?,
+            synced: self.synced,
             heartbeat: self.heartbeat,
             waiting: self.waiting.copy()?,
             transfer: transfer::copy(&self.transfer)?,
@@ -103,7 +119,10 @@ impl DeviceState {
         if self.state != other.state {
             return false;
         }
-        if !self.learnt.same(&other.learnt) {
+        if self.learnt != other.learnt {
+            return false;
+        }
+        if self.synced != other.synced {
             return false;
         }
         if self.heartbeat != other.heartbeat {
@@ -216,17 +235,38 @@ impl DeviceState {
         done
     }
 
-    /// Runs what is due at the moment t.
-    pub fn on_instant(&mut self, t: u64) -> Result<(), AllocError>
-        requires { t < END }
-        ensures state { OnOk result (self.new ≡ timers t self.old) }
+    /// The application of the device sets an entry at the moment t, whatever its access and limits; without
+    /// power nothing happens. The index isn't one of 1400h to 1BFFh, and the value has at most 512 bytes.
+    pub fn set(&mut self, t: u64, index: u16, sub: u8, bytes: &[u8]) -> Result<(), AllocError>
+        requires soon { t < END }
+        requires own { is_between 0x1400 0x1BFF index ≡ false }
+        requires short { length bytes.now ≤ longest_value }
+        ensures state { OnOk result (self.new ≡ was_set t (index, sub) bytes.now self.old) }
         ensures refused { IsTrue self.old.spent → IsErr result }
         ensures spent { OnErr result (IsTrue self.new.spent) }
     {
         if self.spent {
             return Err(AllocError);
         }
-        let done = self.run_timers(t);
+        let done = self.write_own(t, index, sub, bytes);
+        if done.is_err() {
+            self.spent = true;
+        }
+        done
+    }
+
+    /// Runs what is due at the moment t: heartbeat consumers by sub-index, the heartbeat, and then the
+    /// TPDOs by number.
+    pub fn on_instant(&mut self, t: u64) -> Result<(), AllocError>
+        requires { t < END }
+        ensures state { OnOk result (self.new ≡ ran t self.old) }
+        ensures refused { IsTrue self.old.spent → IsErr result }
+        ensures spent { OnErr result (IsTrue self.new.spent) }
+    {
+        if self.spent {
+            return Err(AllocError);
+        }
+        let done = self.run(t);
         if done.is_err() {
             self.spent = true;
         }
