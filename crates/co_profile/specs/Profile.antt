@@ -1,7 +1,6 @@
 -- The objects of the communication profile area that a device goes by (CiA 301): 1001h error register, 1005h COB-ID SYNC, 1017h producer heartbeat time.
-use Rattle.std.specs.Prelude.{ℕ, ◌+◌, ◌*◌, ◌/◌, ◌%◌, ◌-◌, List, [], ◌∷◌, Option, if◌then◌else◌}
+use Rattle.std.specs.Prelude.{ℕ, ◌*◌, ◌/◌, ◌%◌, ◌-◌, bit_and, bit_or, List, [], ◌∷◌, Option, if◌then◌else◌}
 use Rattle.std.specs.FinMap.{insert}
-use Rattle.std.specs.Int.{bit_and, bit_or}
 use Rattle.co_values.specs.declared.form.Form.{Form}
 use Rattle.co_values.specs.declared.form.Form.TheVariants.{Unsigned}
 use Rattle.co_values.specs.declared.form.Width.TheVariants.{Bits16}

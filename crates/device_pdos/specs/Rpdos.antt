@@ -32,8 +32,11 @@ unfoldable pub rpdos_written : Shaped → Values → ℕ → List RpdoState → 
 rpdos_written shape values index rpdos = map (rpdo_written shape values index) rpdos
 
 -- the frames that they keep are dropped
+abbrev pub emptied : RpdoState → RpdoState
+emptied p = record p { kept = None }
+
 unfoldable pub rpdos_emptied : List RpdoState → List RpdoState
-rpdos_emptied rpdos = map (λ p. record p { kept = None }) rpdos
+rpdos_emptied rpdos = map emptied rpdos
 
 -- ---- one of them
 

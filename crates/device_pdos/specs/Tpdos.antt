@@ -33,8 +33,11 @@ unfoldable pub tpdos_written : Shaped → Values → ℕ → List TpdoState → 
 tpdos_written shape values index tpdos = map (tpdo_written shape values index) tpdos
 
 -- all that they remember is forgotten
+abbrev pub reminded_of_nothing : TpdoState → TpdoState
+reminded_of_nothing p = record p { remembered = forgotten }
+
 unfoldable pub tpdos_forgotten : List TpdoState → List TpdoState
-tpdos_forgotten tpdos = map (λ p. record p { remembered = forgotten }) tpdos
+tpdos_forgotten tpdos = map reminded_of_nothing tpdos
 
 -- ---- at a moment
 
