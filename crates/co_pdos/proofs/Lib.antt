@@ -1,3 +1,4 @@
+pub mod MappingLemmas
 pub mod PayloadLemmas
 pub mod TpdoLemmas
 pub mod WorkingLemmas

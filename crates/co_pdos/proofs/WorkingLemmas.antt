@@ -3,11 +3,12 @@ use Rattle.std.proofs.Common.{◌≡◌, ℕ, ◌≤◌, ◌&&◌, Bool, true, f
 use Rattle.std.specs.Prelude.{is_ok, nat_lt}
 use Rattle.co_dict.specs.declared.abort.Abort.{Abort}
 use Rattle.co_dict.specs.Mappings.{mapping_bits, mapping_of}
-use Rattle.co_dict.specs.PdoChecks.{mapping_check}
+use Rattle.co_dict.specs.PdoChecks.{count_lines, mapping_check}
 use Rattle.co_dict.specs.Pdos.{identifier, is_restricted, is_valid}
 use Rattle.co_dict.specs.Shapes.{Shaped}
 use Rattle.co_dict.specs.Values.{Values}
 use Rattle.co_dict.proofs.CheckLaws.{mapping_fits}
+use Rattle.co_dict.proofs.CheckLemmas.{no_more, none_holds}
 use Rattle.co_pdos.specs.Working.{cob_id_of, count_of, has_frames, has_mapping, identifier_of, is_of_base_frames, is_pdo, mapping_object, works}
 
 left_of : (a b : Bool) → (a && b) ≡ true → a ≡ true
@@ -51,3 +52,9 @@ module _ (shape : Shaped) (values : Values) (object : ℕ) (e : works shape valu
       let count = count_of values object in
       mapping_fits shape values (mapping_object object) count
       (passes (mapping_check shape values (mapping_object object) count) (right_of (nat_lt 0 count) _ mapped))
+
+  pub few : count_of values object ≤ 64
+  unfolding has_mapping mapping_check
+  few =
+      let count = count_of values object in
+      no_more 64 count (none_holds (count_lines shape values (mapping_object object) count) (right_of (nat_lt 0 count) _ mapped)).0

@@ -1,11 +1,12 @@
 //! What a PDO goes by.
 
-ghost use Rattle.std.specs.Prelude.{◌≡◌, ◌≤◌, take};
-ghost use Rattle.co_dict.specs.Mappings.{mapping_of};
+ghost use Rattle.std.specs.Prelude.{◌≡◌, ◌≤◌, ◌↔◌, IsTrue};
+ghost use Rattle.co_dict.specs.Mappings.{mapping_bits};
 ghost use Rattle.co_pdos.specs.Configured.{configuration_of, mapping_now};
-ghost use Rattle.co_pdos.specs.Working.{works as works_now};
+ghost use Rattle.co_pdos.specs.Working.{count_of, works as works_now};
 
 use crate::communication::Communication;
+use crate::frame_identifier::FrameIdentifier;
 use crate::mapping::Mapping;
 use crate::working::{identifier, works};
 use co_dict::{Dict, Shape};
@@ -16,8 +17,8 @@ const COUNT: u8 = 0;
 /// What a PDO that works goes by (CiA 301), until one of its entries is written.
 #[derive(Clone, Copy, Debug)]
 pub struct Configuration {
-    /// The identifier of its frames, 0 to 7FFh.
-    pub identifier: u16,
+    /// The identifier of its frames.
+    pub identifier: FrameIdentifier,
     /// When it is sent or taken.
     pub communication: Communication,
     /// What it carries.
@@ -26,7 +27,9 @@ pub struct Configuration {
 
 /// The entries of the mapping of a PDO that works.
 fn mapping_of_pdo(dict: &Dict, object: u16) -> Mapping
-    requires { object ≤ 0xFDFF }
+    requires object { object ≤ 0xFDFF }
+    requires short { count_of dict.now object ≤ 64 }
+    requires fits { mapping_bits (mapping_now dict.now object) ≤ 64 }
     ensures { result ≡ mapping_now dict.now object }
 {
     let mapping = object + 0x200;
@@ -41,7 +44,7 @@ fn mapping_of_pdo(dict: &Dict, object: u16) -> Mapping
 impl Configuration {
     /// That of the PDO with a communication object, at most FDFFh; `None` where it doesn't work. Needs no
     /// memory, and takes time by the length of the mapping and the logarithm of the number of entries.
-    #[tactic(auto, unfolding(crate::specs::Configured::configuration_of))]
+    #[tactic(auto, using(crate::proofs::WorkingLemmas::few, crate::proofs::WorkingLemmas::fits), unfolding(crate::specs::Configured::configuration_of))]
     pub fn of(shape: &Shape, dict: &Dict, object: u16) -> Option<Configuration>
         requires { object ≤ 0xFDFF }
         ensures { result ≡ configuration_of shape.now dict.now object }
@@ -50,9 +53,29 @@ impl Configuration {
             return None;
         }
         Some(Configuration {
-            identifier: identifier(dict, object),
+            identifier: FrameIdentifier::of(identifier(dict, object)),
             communication: Communication::of(shape, dict, object),
             mapping: mapping_of_pdo(dict, object),
         })
+    }
+
+    /// Whether the other one is the same.
+    pub fn same(&self, other: &Configuration) -> bool
+        ensures { IsTrue result ↔ (self.now ≡ other.now) }
+    {
+        self.identifier.number() == other.identifier.number()
+            && self.communication == other.communication
+            && self.mapping.same(&other.mapping)
+    }
+
+    /// Whether two PDOs go by the same, or neither works.
+    pub fn are_same(one: &Option<Configuration>, other: &Option<Configuration>) -> bool
+        ensures { IsTrue result ↔ (one.now ≡ other.now) }
+    {
+        match (one, other) {
+            (Some(one), Some(other)) => one.same(other),
+            (None, None) => true,
+            _ => false,
+        }
     }
 }

@@ -4,6 +4,7 @@
 
 mod communication;
 mod configuration;
+mod frame_identifier;
 pub mod laws;
 mod mapping;
 mod payload;
@@ -13,6 +14,7 @@ mod working;
 
 pub use communication::{Communication, transmission_type};
 pub use configuration::Configuration;
+pub use frame_identifier::FrameIdentifier;
 pub use mapping::Mapping;
 pub use receipt::{Receipt, received};
 pub use tpdo::Tpdo;

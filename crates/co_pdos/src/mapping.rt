@@ -1,6 +1,6 @@
 //! The mapping of a PDO.
 
-ghost use Rattle.std.specs.Prelude.{◌≡◌, ◌≤◌, length};
+ghost use Rattle.std.specs.Prelude.{◌≡◌, ◌≤◌, ◌↔◌, length, IsTrue};
 ghost use Rattle.co_dict.specs.Mappings.{mapping_bits};
 
 use std::marker::Model;
@@ -50,5 +50,12 @@ impl Mapping {
         ensures fits { mapping_bits result.now ≤ 64 }
     {
         &self.entries[..usize::from(self.count)]
+    }
+
+    /// Whether the other one has the same entries.
+    pub fn same(&self, other: &Mapping) -> bool
+        ensures { IsTrue result ↔ (self.now ≡ other.now) }
+    {
+        self.entries() == other.entries()
     }
 }

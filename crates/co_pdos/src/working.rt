@@ -1,6 +1,6 @@
 //! Which PDOs of a device work.
 
-ghost use Rattle.std.specs.Prelude.{◌≡◌, ◌≤◌};
+ghost use Rattle.std.specs.Prelude.{◌≡◌, ◌<◌, ◌≤◌};
 ghost use Rattle.co_dict.specs.PdoChecks.{has_type, is_unsigned8, is_unsigned32};
 ghost use Rattle.co_pdos.specs.Working.{has_frames, has_mapping, identifier_of, is_pdo as is_object_of_pdo, mapping_object, rpdo_object as object_of_rpdo, tpdo_object as object_of_tpdo, works as works_now};
 
@@ -73,7 +73,8 @@ pub fn is_pdo(shape: &Shape, object: u16) -> bool
 /// The identifier of a PDO's frames, 0 to 7FFh, by its communication object: bits 0 to 10 of its
 /// COB-ID.
 pub fn identifier(dict: &Dict, object: u16) -> u16
-    ensures { result ≡ identifier_of dict.now object }
+    ensures identifier { result ≡ identifier_of dict.now object }
+    ensures bound { result < 0x800 }
 {
     (dict.number_32(object, 1) & IDENTIFIER_BITS) as u16
 }
