@@ -12,7 +12,6 @@ use Rattle.co_scenario.specs.declared.step.Step.TheVariants.{Set, Power, Nmt}
 use Rattle.co_scenario.specs.declared.timed_step.TimedStep.{TimedStep}
 use Rattle.concise_dcf.specs.declared.write.Write.{Write}
 use Rattle.co_parts.specs.Contents.{Image, roster_of, shape_of, steps_of, values_of, write_of}
-use Rattle.co_parts.specs.declared.part.Part.{Part}
 use Rattle.co_parts.specs.declared.part.Part.TheVariants as part
 use Rattle.co_parts.specs.declared.roster.Roster.{Roster}
 
