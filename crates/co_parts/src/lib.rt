@@ -3,6 +3,7 @@
 
 mod content;
 mod identity;
+pub mod laws;
 mod moments;
 mod part;
 mod read;
@@ -11,7 +12,7 @@ mod window;
 
 pub use content::PartContent;
 pub use identity::Identity;
-pub use moments::END;
+pub use moments::{END, is_due, moment_after};
 pub use part::Part;
 pub use read::Read;
 pub use roster::Roster;
