@@ -1,5 +1,5 @@
 -- When heartbeat consumers fail.
-use Rattle.std.proofs.Common.{◌≡◌, ◌≢◌, ℕ, ◌+◌, ◌*◌, ◌==◌, ◌++◌, Bool, true, false, List, [], ◌∷◌, Option, Some, None, filter, length, map, refl, ap, sym, ◌∙◌, arith}
+use Rattle.std.proofs.Common.{◌≡◌, ◌≢◌, ℕ, ◌+◌, ◌*◌, ◌==◌, ◌++◌, Bool, true, false, List, [], ◌∷◌, Option, Some, None, map, refl, ap, arith}
 use Rattle.std.specs.Prelude.{if◌then◌else◌}
 use Rattle.std.specs.List.{AllByRecursion}
 use Rattle.std.proofs.lemmas.Bool.Decides.{nat_tests}
@@ -45,6 +45,7 @@ one_heard t producer values c = by (expects producer (consumer_entry values c.su
   where
     after : Bool → Consumer
     after test = if test then record c { moment = Some (t + 1000 * consumer_time (consumer_entry values c.sub)); failed = false } else c
+
     by : (test : Bool) → expects producer (consumer_entry values c.sub) ≡ test → expects producer (consumer_entry values (after test).sub) ≡ true → (after test).failed ≡ false
     by true e h = refl
     by false e h = absurd cc
