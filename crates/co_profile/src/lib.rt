@@ -9,7 +9,7 @@ mod learnt;
 mod profile;
 
 pub use consumer::Consumer;
-pub use consumers::{consumers_of, expire, failures, forget, hear, is_over};
+pub use consumers::{any_failed, consumers_of, expire, failures, forget, hear};
 pub use emergencies::emergency_frame;
 pub use learnt::Learnt;
 pub use profile::{clear_error, error_register, next_heartbeat, set_error, sync_identifier};

@@ -7,8 +7,8 @@ mod rpdos;
 mod tpdo_state;
 mod tpdos;
 
-pub use rpdo_state::RpdoState;
 pub use numbers::{is_rpdo_object, is_tpdo_object};
+pub use rpdo_state::RpdoState;
 pub use rpdos::{empty_rpdos, keep, rpdos_of, write_rpdos};
 pub use tpdo_state::TpdoState;
 pub use tpdos::{forget_tpdos, free_tpdos, look_at_tpdos, tpdos_of, write_tpdos};

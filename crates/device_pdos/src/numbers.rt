@@ -1,7 +1,10 @@
 //! The objects of a device's PDOs.
 
-ghost use Rattle.std.specs.Prelude.{◌≡◌};
+ghost use Rattle.std.specs.Prelude.{◌≡◌, ◌≤◌};
 ghost use Rattle.device_pdos.specs.Objects.{is_of_rpdos, is_of_tpdos, number_of_object as number_by};
+
+/// The number of the last PDO.
+pub(crate) const LAST_PDO: u16 = 512;
 
 /// Whether an index is one of 1400h to 17FFh, the objects of RPDOs (CiA 301).
 pub fn is_rpdo_object(index: u16) -> bool
@@ -19,7 +22,8 @@ pub fn is_tpdo_object(index: u16) -> bool
 
 /// The number of the PDO, 1 to 512, that an object of PDOs is of.
 pub(crate) fn number_of_object(index: u16) -> u16
-    ensures { result ≡ number_by index }
+    ensures number { result ≡ number_by index }
+    ensures bound { result ≤ 512 }
 {
     index % 0x200 + 1
 }
