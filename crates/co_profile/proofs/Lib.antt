@@ -1,1 +1,2 @@
+pub mod ConsumerLemmas
 pub mod SubLemmas

@@ -123,8 +123,7 @@ pub fn forget(consumers: &mut [Consumer], sub: u8)
 {
     for consumer in consumers.iter_mut() {
         if consumer.sub == sub {
-            consumer.moment = None;
-            consumer.failed = false;
+            *consumer = Consumer::waiting_for_start(sub);
         }
     }
 }

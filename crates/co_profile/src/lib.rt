@@ -5,6 +5,7 @@
 mod consumer;
 mod consumers;
 mod emergencies;
+pub mod laws;
 mod learnt;
 mod profile;
 

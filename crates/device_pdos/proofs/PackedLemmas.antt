@@ -1,6 +1,5 @@
 -- A PDO has at most 8 bytes.
-use Rattle.std.proofs.Common.{◌≡◌, ℕ, ◌<◌, ◌≤◌, List, length, take, arith}
-use Rattle.std.proofs.lemmas.List.{length-take}
+use Rattle.std.proofs.Common.{ℕ, ◌≤◌, List, arith}
 use Rattle.co_dict.specs.Mappings.{mapping_bits}
 use Rattle.co_dict.specs.Values.{Values}
 use Rattle.co_mapping.specs.Packing.{packed}

@@ -1,6 +1,7 @@
 //! The PDOs of a device at a moment (CiA 301).
 #![tactic(auto)]
 
+pub mod laws;
 mod numbers;
 mod rpdo_state;
 mod rpdos;

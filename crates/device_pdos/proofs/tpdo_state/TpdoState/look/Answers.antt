@@ -1,4 +1,4 @@
-use Rattle.std.proofs.Common.{◌≡◌, ℕ, ◌≤◌, List, length, sym, subst, arith}
+use Rattle.std.proofs.Common.{ℕ, ◌≤◌, List, sym, subst, arith}
 use Rattle.std.proofs.lemmas.List.{length-take-le}
 use Rattle.device_pdos.proofs.PackedLemmas.{few}
 use Rattle.device_pdos.proofs.tpdo_state.TpdoState.look.Goals as goal
