@@ -1,5 +1,2 @@
-pub mod MomentLemmas
-pub mod PartLemmas
-pub mod ResetLemmas
-pub mod StateLemmas
-pub mod PowerLemmas
+pub mod RpdoLemmas
+pub mod WalkLemmas

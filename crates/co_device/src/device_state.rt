@@ -5,10 +5,11 @@ ghost use Rattle.asking.specs.Asking.{followed, outcome, reads};
 ghost use Rattle.can_frame.specs.Winner.{contenders_of, IsWinner};
 ghost use Rattle.co_base.specs.Ranges.{is_between};
 ghost use Rattle.co_values.specs.Values.{longest_value};
-ghost use Rattle.co_device.specs.Device.{is_in as is_in_state, next_due, powered, ran, was_set, without_power};
+ghost use Rattle.co_device.specs.Device.{is_in as is_in_state, powered, ran, was_set, without_power};
 ghost use Rattle.co_device.specs.Receiving.{received};
 
 use crate::nmt_state::NmtState;
+use crate::sameness::{same_consumers, same_learnt, same_rpdos, same_tpdos};
 use crate::shapes::Shapes;
 use can_frame::{Contender, Frame, Pending, Waiting};
 use co_dict::Dict;
@@ -103,9 +104,9 @@ impl DeviceState {
         })
     }
 
-    /// Whether the other device is the same.
-    pub fn same(&self, other: &DeviceState) -> bool
-        ensures { IsTrue result ↔ (self.now ≡ other.now) }
+    /// Whether the other device is the same, but for values, lists and transfer.
+    fn is_like(&self, other: &DeviceState) -> bool
+        ensures { IsTrue result ↔ (record self.now { values = other.now.values; consumers = other.now.consumers; rpdos = other.now.rpdos; tpdos = other.now.tpdos; waiting = other.now.waiting; transfer = other.now.transfer } ≡ other.now) }
     {
         if self.spent != other.spent {
             return false;
@@ -119,16 +120,32 @@ impl DeviceState {
         if self.state != other.state {
             return false;
         }
-        if self.learnt != other.learnt {
+        if !same_learnt(self.learnt, other.learnt) {
             return false;
         }
         if self.synced != other.synced {
             return false;
         }
-        if self.heartbeat != other.heartbeat {
+        self.heartbeat == other.heartbeat
+    }
+
+    /// Whether the other device is the same.
+    pub fn same(&self, other: &DeviceState) -> bool
+        ensures { IsTrue result ↔ (self.now ≡ other.now) }
+    {
+        if !self.is_like(other) {
             return false;
         }
         if !transfer::same(&self.transfer, &other.transfer) {
+            return false;
+        }
+        if !same_consumers(&self.consumers, &other.consumers) {
+            return false;
+        }
+        if !same_rpdos(&self.rpdos, &other.rpdos) {
+            return false;
+        }
+        if !same_tpdos(&self.tpdos, &other.tpdos) {
             return false;
         }
         if !self.values.same(&other.values) {
@@ -163,14 +180,6 @@ impl DeviceState {
         ensures { result ≡ is_in_state state self.now }
     {
         self.state == state
-    }
-
-    /// The first moment at which it is due, if there is one. Takes constant time.
-    #[tactic(auto, unfolding(crate::specs::Device::next_due))]
-    pub fn next_due(&self) -> Option<u64>
-        ensures { result ≡ next_due self.now }
-    {
-        self.heartbeat
     }
 
     /// The frame with which it contends for the bus: the first of those waiting that have the least

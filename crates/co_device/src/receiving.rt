@@ -1,15 +1,16 @@
 //! The frames that a device receives.
 
-ghost use Rattle.std.specs.Prelude.{◌≡◌, ◌<◌, ◌≤◌, ◌+◌, length, slice_index_or, OnOk};
+ghost use Rattle.std.specs.Prelude.{◌≡◌, ◌<◌, ◌≤◌, ◌+◌, ◌-◌, length, slice_index_or, OnOk, Some, None, if◌then◌else◌};
 ghost use Rattle.asking.specs.Asking.{followed, outcome, reads};
-ghost use Rattle.co_device.specs.Device.{is_addressed as is_to, nmt_service, received, stop_remote_node};
+ghost use Rattle.co_device.specs.Device.{is_addressed as is_to, is_error_control};
+ghost use Rattle.co_device.specs.Receiving.{received};
 
 use crate::device_state::DeviceState;
-use crate::nmt_state::NmtState;
 use crate::shapes::Shapes;
-use can_frame::{Frame, Unwanted, identifiers};
+use can_frame::{Frame, identifiers};
 use co_parts::END;
-use co_sdo::transfer::Transfer;
+use co_profile::sync_identifier;
+use co_scenario::NmtCommand;
 use std::alloc::AllocError;
 
 /// Whether the message of an NMT service is to a node, or to all.
@@ -36,48 +37,19 @@ fn eight(bytes: &[u8]) -> [u8; 8]
     copy
 }
 
+/// The node whose boot-up message or heartbeat a frame is, if it is one.
+fn producer_of(frame: &Frame) -> Option<u8>
+    ensures { result ≡ (if is_error_control frame.now then Some (frame.now.id - 0x700) else None) }
+{
+    match frame.id() {
+        id @ 0x701..=0x77F if frame.bytes().len() == 1 => Some((id - 0x700) as u8),
+        _ => None,
+    }
+}
+
 impl DeviceState {
-    /// Runs NMT service Stop remote node.
-    fn stop(&mut self)
-        ensures { self.new ≡ stop_remote_node self.old }
-    {
-        if !self.is_in(NmtState::Stopped) {
-            self.state = NmtState::Stopped;
-            self.waiting.drop_of(Unwanted::Sdos);
-            self.transfer = Transfer::Idle;
-        }
-    }
-
-    /// Runs the NMT service of a command, if there is one.
-    #[tactic(auto, unfolding(crate::specs::Device::nmt_service))]
-    fn obey<P: Shapes>(&mut self, command: u8, t: u64, shapes: &mut P) -> Result<(), AllocError>
-        requires { t < END }
-        ensures state { OnOk result (self.new ≡ outcome (nmt_service command t self.old) (P.seen shapes.old).image) }
-        ensures noted { OnOk result (P.seen shapes.new ≡ followed (nmt_service command t self.old) (P.seen shapes.old)) }
-        ensures counted { OnOk result (P.asks shapes.new ≤ P.asks shapes.old + length (reads (nmt_service command t self.old) (P.seen shapes.old).image)) }
-        ensures kept { (P.seen shapes.new).image ≡ (P.seen shapes.old).image }
-    {
-        match command {
-            1 => {
-                self.state = NmtState::Operational;
-                Ok(())
-            }
-            2 => {
-                self.stop();
-                Ok(())
-            }
-            128 => {
-                self.state = NmtState::PreOperational;
-                Ok(())
-            }
-            129 => self.reset_node(t, shapes),
-            130 => self.reset_communication(t, shapes),
-            _ => Ok(()),
-        }
-    }
-
     /// Takes a frame.
-    #[tactic(auto, unfolding(crate::specs::Device::received))]
+    #[tactic(auto, unfolding(crate::specs::Receiving::received))]
     pub(crate) fn receive<P: Shapes>(
         &mut self,
         t: u64,
@@ -96,13 +68,20 @@ impl DeviceState {
         let bytes = frame.bytes();
         if frame.id() == identifiers::nmt() {
             if is_addressed(self.number, bytes) {
-                return self.obey(command(bytes), t, shapes);
+                let command = NmtCommand::from_number(u64::from(command(bytes)));
+                return self.obey(command, t, shapes);
             }
             return Ok(());
+        }
+        if frame.id() == sync_identifier(self.learnt, &self.values) {
+            return self.take_sync(t, shapes);
         }
         if frame.id() == identifiers::sdo_request(self.number) && bytes.len() == 8 {
             return self.take_request(t, &eight(bytes), shapes);
         }
-        Ok(())
+        if let Some(producer) = producer_of(frame) {
+            return self.take_error_control(t, producer);
+        }
+        self.take_pdo(t, frame, shapes)
     }
 }

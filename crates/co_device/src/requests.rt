@@ -1,59 +1,19 @@
 //! The requests to a device's SDO server.
 
-ghost use Rattle.std.specs.Prelude.{◌≡◌, ◌<◌, ◌≤◌, ◌+◌, ◌++◌, length, IfOk, OnOk};
+ghost use Rattle.std.specs.Prelude.{◌≡◌, ◌<◌, ◌≤◌, ◌+◌, ◌++◌, length, OnOk};
 ghost use Rattle.asking.specs.Asking.{followed, outcome, reads};
-ghost use Rattle.co_parts.specs.Contents.{no_shape, or_else};
-ghost use Rattle.co_parts.specs.Shared.{shared};
-ghost use Rattle.co_sdo.specs.Server.{answered as is_answered};
-ghost use Rattle.co_device.specs.Device.{after_write, answer_frames, is_producer_time as is_of_producer, sdo_request};
+ghost use Rattle.co_device.specs.Device.{after_request, answer_frames, sdo_request};
 
 use crate::device_state::DeviceState;
-use crate::learnt::PRODUCER_HEARTBEAT_TIME;
 use crate::nmt_state::NmtState;
-use crate::shapes::Shapes;
+use crate::shapes::{Shapes, shape_or, without_entries};
 use can_frame::{Frame, Purpose, identifiers};
-use co_dict::{Dict, Shape};
+use co_dict::Shape;
 use co_parts::END;
 use co_sdo::transfer::Transfer;
 use co_sdo::{Step, answered};
-use std::alloc::{AllocError, Global};
+use std::alloc::AllocError;
 use std::mem::replace;
-use std::rc::Rc;
-
-/// What a request makes a server do, over values of these entries, or of none.
-fn served(
-    alloc: Global,
-    transfer: Transfer,
-    request: &[u8; 8],
-    shape: &Option<Rc<Shape>>,
-    values: &mut Dict,
-) -> Result<Step, AllocError>
-    ensures { IfOk result (λ step. is_answered (or_else no_shape (shared shape.now)) values.old transfer request.now ≡ record { answer = step.answer; values = values.new; transfer = step.transfer; wrote = step.wrote }) }
-{
-    match shape {
-        None => {
-            let step = answered(
-                alloc,
-                transfer,
-                request,
-                &Shape::new(alloc, [false; 7]),
-                values,
-            )?;
-            Ok(step)
-        }
-        Some(shape) => {
-            let step = answered(alloc, transfer, request, shape, values)?;
-            Ok(step)
-        }
-    }
-}
-
-/// Whether an entry is the producer heartbeat time.
-fn is_producer_time(place: (u16, u8)) -> bool
-    ensures { result ≡ is_of_producer place }
-{
-    place.0 == PRODUCER_HEARTBEAT_TIME && place.1 == 0
-}
 
 impl DeviceState {
     /// Lets the answer of the server wait, if there is one.
@@ -67,15 +27,16 @@ impl DeviceState {
         Ok(())
     }
 
-    /// Does what the write of an entry brings about.
-    fn after_write(&mut self, t: u64, wrote: Option<(u16, u8)>)
+    /// Does what the server did, an answer and a write, once its values stand.
+    fn finish_request(&mut self, t: u64, shape: &Shape, step: Step) -> Result<(), AllocError>
         requires { t < END }
-        ensures { self.new ≡ after_write t wrote self.old }
+        ensures { OnOk result (self.new ≡ after_request t shape.now (record { answer = step.answer; values = self.old.values; transfer = step.transfer; wrote = step.wrote }) self.old) }
     {
-        if let Some(place) = wrote {
-            if is_producer_time(place) {
-                self.start_heartbeat(t);
-            }
+        self.transfer = step.transfer;
+        self.answer(step.answer)?;
+        match step.wrote {
+            None => Ok(()),
+            Some(place) => self.after_write(t, shape, place),
         }
     }
 
@@ -97,11 +58,10 @@ impl DeviceState {
             return Ok(());
         }
         let shape = shapes.shape(self.number)?;
+        let none = without_entries(self.alloc);
+        let shape = shape_or(&shape, &none);
         let transfer = replace(&mut self.transfer, Transfer::Idle);
-        let step = served(self.alloc, transfer, request, &shape, &mut self.values)?;
-        self.transfer = step.transfer;
-        self.answer(step.answer)?;
-        self.after_write(t, step.wrote);
-        Ok(())
+        let step = answered(self.alloc, transfer, request, shape, &mut self.values)?;
+        self.finish_request(t, shape, step)
     }
 }

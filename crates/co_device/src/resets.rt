@@ -2,21 +2,19 @@
 
 ghost use Rattle.std.specs.Prelude.{◌≡◌, ◌<◌, ◌≤◌, ◌+◌, length, OnOk};
 ghost use Rattle.asking.specs.Asking.{followed, outcome, reads};
-ghost use Rattle.co_parts.specs.Contents.{no_shape, or_else};
-ghost use Rattle.co_parts.specs.Shared.{shared};
 ghost use Rattle.co_device.specs.Device.{initialised, powered, reset_communication, reset_node, without_power};
 
 use crate::defaults::{communication_restored, values_of};
 use crate::device_state::DeviceState;
-use crate::learnt::Learnt;
 use crate::nmt_state::NmtState;
-use crate::shapes::Shapes;
+use crate::shapes::{Shapes, shape_or, without_entries};
 use can_frame::{Frame, Pending, Purpose, identifiers};
 use co_dict::{Dict, Shape};
 use co_parts::END;
+use co_profile::{Learnt, consumers_of, next_heartbeat};
 use co_sdo::transfer::Transfer;
+use device_pdos::{rpdos_of, tpdos_of};
 use std::alloc::AllocError;
-use std::rc::Rc;
 
 /// The byte of a boot-up message.
 const BOOT_UP: u8 = 0;
@@ -30,6 +28,10 @@ impl DeviceState {
         self.state = NmtState::PreOperational;
         self.learnt = Learnt::nothing();
         self.values = Dict::new(self.alloc);
+        self.consumers = Vec::new(self.alloc);
+        self.rpdos = Vec::new(self.alloc);
+        self.tpdos = Vec::new(self.alloc);
+        self.synced = false;
         self.heartbeat = None;
         self.waiting = Pending::new(self.alloc);
         self.transfer = Transfer::Idle;
@@ -37,22 +39,21 @@ impl DeviceState {
 
     /// Goes through NMT state Initialisation with these entries and these values.
     #[tactic(auto, unfolding(crate::specs::Device::initialised))]
-    fn initialise(
-        &mut self,
-        t: u64,
-        shape: &Option<Rc<Shape>>,
-        values: Dict,
-    ) -> Result<(), AllocError>
+    fn initialise(&mut self, t: u64, shape: &Shape, values: Dict) -> Result<(), AllocError>
         requires { t < END }
-        ensures { OnOk result (self.new ≡ initialised t (or_else no_shape (shared shape.now)) values self.old) }
+        ensures { OnOk result (self.new ≡ initialised t shape.now values self.old) }
     {
         let mut waiting = Pending::new(self.alloc);
         let frame = Frame::of(identifiers::error_control(self.number), &[BOOT_UP]);
         waiting.add(Purpose::BootUp, frame)?;
+        self.consumers = consumers_of(self.alloc, shape)?;
+        self.rpdos = rpdos_of(self.alloc, shape, &values)?;
+        self.tpdos = tpdos_of(self.alloc, shape, &values)?;
         self.has_power = true;
         self.state = NmtState::PreOperational;
         self.learnt = Learnt::of(shape);
-        self.heartbeat = self.learnt.next_heartbeat(t, &values);
+        self.synced = false;
+        self.heartbeat = next_heartbeat(t, self.learnt, &values);
         self.values = values;
         self.waiting = waiting;
         self.transfer = Transfer::Idle;
@@ -71,7 +72,8 @@ impl DeviceState {
         let defaults = shapes.defaults(self.number)?;
         let shape = shapes.shape(self.number)?;
         let values = values_of(self.alloc, &defaults)?;
-        self.initialise(t, &shape, values)
+        let none = without_entries(self.alloc);
+        self.initialise(t, shape_or(&shape, &none), values)
     }
 
     /// Runs NMT service Reset communication.
@@ -90,7 +92,8 @@ impl DeviceState {
         let defaults = shapes.defaults(self.number)?;
         let shape = shapes.shape(self.number)?;
         let values = communication_restored(self.alloc, &self.values, &defaults)?;
-        self.initialise(t, &shape, values)
+        let none = without_entries(self.alloc);
+        self.initialise(t, shape_or(&shape, &none), values)
     }
 
     /// Switches the power.
