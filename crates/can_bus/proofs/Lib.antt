@@ -1,4 +1,3 @@
-pub mod EachLemmas
 pub mod ArbitrationLemmas
 pub mod ManagerLemmas
 pub mod NodeLemmas

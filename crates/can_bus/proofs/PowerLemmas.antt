@@ -12,7 +12,7 @@ use Rattle.can_frame.specs.Frames.{bit_time}
 use Rattle.co_device.specs.Device.{Device, powered}
 use Rattle.nmt_boot.specs.Manager.{Manager, powered_on}
 use Rattle.can_bus.specs.Bus.{Bus, power_on_of, switched_on, without_power}
-use Rattle.can_bus.specs.Each.{each}
+use Rattle.bus_events.specs.Each.{each}
 
 -- no bit rate is 0
 not_zero : (xs : List ℕ) (x k : ℕ) → AllByRecursion (λ b. 1 ≤ b) xs → k < length xs → get_or xs k x ≡ x → 1 ≤ x

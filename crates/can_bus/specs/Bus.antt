@@ -17,7 +17,7 @@ use Rattle.co_device.specs.Device.{Device}
 use Rattle.nmt_boot.specs.Manager as manager
 use Rattle.nmt_boot.specs.Manager.{Manager}
 use Rattle.nmt_boot.specs.declared.note.Note.{Note as Noted}
-use Rattle.can_bus.specs.Each.{each}
+use Rattle.bus_events.specs.Each.{each}
 use Rattle.can_bus.specs.declared.line.Line.{Line}
 use Rattle.can_bus.specs.declared.line.Line.TheVariants.{Frame, Note}
 use Rattle.can_bus.specs.declared.slot.Slot.{Slot}

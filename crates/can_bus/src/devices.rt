@@ -3,7 +3,7 @@
 ghost use Rattle.std.specs.Prelude.{◌≡◌, ◌<◌, ◌≤◌, ◌+◌, ◌↔◌, true, length, map, IfOk, IsTrue, OnOk};
 ghost use Rattle.asking.specs.Asking.{followed, outcome, reads};
 ghost use Rattle.can_bus.specs.Bus.{hears, without_power};
-ghost use Rattle.can_bus.specs.Each.{each};
+ghost use Rattle.bus_events.specs.Each.{each};
 ghost use Rattle.co_device.specs.Device.{powered, timers};
 
 use crate::slot::Slot;
