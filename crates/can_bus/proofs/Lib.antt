@@ -1,3 +1,4 @@
+pub mod WindowLemmas
 pub mod ArbitrationLemmas
 pub mod ManagerLemmas
 pub mod NodeLemmas
