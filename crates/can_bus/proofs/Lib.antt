@@ -1,4 +1,4 @@
-pub mod EachLemmas
+pub mod WindowLemmas
 pub mod ArbitrationLemmas
 pub mod ManagerLemmas
 pub mod NodeLemmas
