@@ -1,6 +1,6 @@
 //! The device at a moment.
 
-ghost use Rattle.std.specs.Prelude.{◌≡◌, ◌<◌, ◌≤◌, ◌+◌, Some, false, length, remove, slice_get, IfOk, OnOk, OnErr, IsErr, IsTrue};
+ghost use Rattle.std.specs.Prelude.{◌≡◌, ◌↔◌, ◌<◌, ◌≤◌, ◌+◌, Some, false, length, remove, slice_get, IfOk, OnOk, OnErr, IsErr, IsTrue};
 ghost use Rattle.asking.specs.Asking.{followed, outcome, reads};
 ghost use Rattle.can_frame.specs.Winner.{contenders_of, IsWinner};
 ghost use Rattle.co_base.specs.Ranges.{is_between};
@@ -9,12 +9,13 @@ ghost use Rattle.co_device.specs.Device.{is_in as is_in_state, powered, ran, was
 ghost use Rattle.co_device.specs.Receiving.{received};
 
 use crate::nmt_state::NmtState;
+use crate::sameness::{same_consumers, same_learnt, same_rpdos, same_tpdos};
 use crate::shapes::Shapes;
 use can_frame::{Contender, Frame, Pending, Waiting};
 use co_dict::Dict;
 use co_parts::END;
 use co_profile::{Consumer, Learnt};
-use co_sdo::transfer::Transfer;
+use co_sdo::transfer::{self, Transfer};
 use device_pdos::{RpdoState, TpdoState};
 use std::alloc::{AllocError, Global};
 use std::marker::Model;
@@ -82,7 +83,75 @@ impl DeviceState {
         ensures same { IfOk result (λ device. device ≡ self.now) }
         ensures refused { IsTrue self.now.spent → IsErr result }
     {
-        Err(AllocError)
+        if self.spent {
+            return Err(AllocError);
+        }
+        Ok(DeviceState {
+            alloc: self.alloc,
+            spent: false,
+            number: self.number,
+            has_power: self.has_power,
+            state: self.state,
+            learnt: self.learnt,
+            values: self.values.copy()?,
+            consumers: Vec::from_slice(self.alloc, &self.consumers)?,
+            rpdos: Vec::from_slice(self.alloc, &self.rpdos)?,
+            tpdos: Vec::from_slice(self.alloc, &self.tpdos)?,
+            synced: self.synced,
+            heartbeat: self.heartbeat,
+            waiting: self.waiting.copy()?,
+            transfer: transfer::copy(&self.transfer)?,
+        })
+    }
+
+    /// Whether the other device is the same, but for values, lists and transfer.
+    fn is_like(&self, other: &DeviceState) -> bool
+        ensures { IsTrue result ↔ (record self.now { values = other.now.values; consumers = other.now.consumers; rpdos = other.now.rpdos; tpdos = other.now.tpdos; waiting = other.now.waiting; transfer = other.now.transfer } ≡ other.now) }
+    {
+        if self.spent != other.spent {
+            return false;
+        }
+        if self.number != other.number {
+            return false;
+        }
+        if self.has_power != other.has_power {
+            return false;
+        }
+        if self.state != other.state {
+            return false;
+        }
+        if !same_learnt(self.learnt, other.learnt) {
+            return false;
+        }
+        if self.synced != other.synced {
+            return false;
+        }
+        self.heartbeat == other.heartbeat
+    }
+
+    /// Whether the other device is the same.
+    pub fn same(&self, other: &DeviceState) -> bool
+        ensures { IsTrue result ↔ (self.now ≡ other.now) }
+    {
+        if !self.is_like(other) {
+            return false;
+        }
+        if !transfer::same(&self.transfer, &other.transfer) {
+            return false;
+        }
+        if !same_consumers(&self.consumers, &other.consumers) {
+            return false;
+        }
+        if !same_rpdos(&self.rpdos, &other.rpdos) {
+            return false;
+        }
+        if !same_tpdos(&self.tpdos, &other.tpdos) {
+            return false;
+        }
+        if !self.values.same(&other.values) {
+            return false;
+        }
+        self.waiting.same(&other.waiting)
     }
 
     /// Whether a call before found no memory.
@@ -143,8 +212,11 @@ impl DeviceState {
         if self.spent {
             return Err(AllocError);
         }
-        self.spent = true;
-        Err(AllocError)
+        let done = self.switch(on, t, shapes);
+        if done.is_err() {
+            self.spent = true;
+        }
+        done
     }
 
     /// Takes a frame of another node at the moment t.
@@ -165,8 +237,11 @@ impl DeviceState {
         if self.spent {
             return Err(AllocError);
         }
-        self.spent = true;
-        Err(AllocError)
+        let done = self.receive(t, frame, shapes);
+        if done.is_err() {
+            self.spent = true;
+        }
+        done
     }
 
     /// The application of the device sets an entry at the moment t, whatever its access and limits; without
@@ -182,8 +257,11 @@ impl DeviceState {
         if self.spent {
             return Err(AllocError);
         }
-        self.spent = true;
-        Err(AllocError)
+        let done = self.write_own(t, index, sub, bytes);
+        if done.is_err() {
+            self.spent = true;
+        }
+        done
     }
 
     /// Runs what is due at the moment t: heartbeat consumers by sub-index, the heartbeat, and then the
@@ -197,7 +275,10 @@ impl DeviceState {
         if self.spent {
             return Err(AllocError);
         }
-        self.spent = true;
-        Err(AllocError)
+        let done = self.run(t);
+        if done.is_err() {
+            self.spent = true;
+        }
+        done
     }
 }

@@ -1,9 +1,21 @@
 //! A device of the bus.
 #![tactic(auto)]
 
+mod defaults;
 mod device_state;
+mod emergencies;
+mod error_control;
+mod nmt_services;
 mod nmt_state;
+mod receiving;
+mod requests;
+mod resets;
+mod rpdos;
+mod sameness;
 mod shapes;
+mod syncs;
+mod timers;
+mod writes;
 
 pub use device_state::DeviceState;
 pub use nmt_state::NmtState;

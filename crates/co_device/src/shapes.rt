@@ -2,13 +2,13 @@
 
 ghost use Rattle.std.specs.Prelude.{◌≡◌, ◌+◌, ◌-◌, ◌^◌, min, IfOk, OnOk};
 ghost use Rattle.asking.specs.Asking.{handed};
-ghost use Rattle.co_parts.specs.Contents.{DefaultsAre, ShapeIs};
+ghost use Rattle.co_parts.specs.Contents.{DefaultsAre, ShapeIs, no_shape, or_else};
 ghost use Rattle.co_parts.specs.Shared.{shared};
 
 use asking::Asked;
 use co_dict::{Dict, Shape};
 use co_parts::{Part, PartContent};
-use std::alloc::AllocError;
+use std::alloc::{AllocError, Global};
 use std::rc::Rc;
 
 /// Hands out the parts that devices ask for, and records what was asked.
@@ -26,4 +26,22 @@ pub trait Shapes: Asked<Part, PartContent> {
         ensures noted { OnOk result (Self.seen self.new ≡ handed (Part.Shape node) (Self.seen self.old)) }
         ensures counted { Self.asks self.new ≡ min (Self.asks self.old + 1) (2 ^ 64 - 1) }
         ensures kept { (Self.seen self.new).image ≡ (Self.seen self.old).image };
+}
+
+/// The entries of a device; where there are none, these of a device without entries.
+pub(crate) fn shape_or<'a>(shape: &'a Option<Rc<Shape>>, none: &'a Shape) -> &'a Shape
+    requires { none.now ≡ no_shape }
+    ensures { result.now ≡ or_else no_shape (shared shape.now) }
+{
+    match shape {
+        None => none,
+        Some(shape) => shape,
+    }
+}
+
+/// The entries of a device without entries.
+pub(crate) fn without_entries(alloc: Global) -> Shape
+    ensures { result ≡ no_shape }
+{
+    Shape::new(alloc, [false; 7])
 }

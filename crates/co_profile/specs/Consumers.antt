@@ -1,5 +1,5 @@
 -- The heartbeat consumers of a device (CiA 301, object 1016h), by sub-index.
-use Rattle.std.specs.Prelude.{ℕ, ◌+◌, ◌*◌, ◌/◌, ◌%◌, ◌==◌, not, ◌&&◌, nat_lt, Bool, true, false, List, filter, flat_map, length, map, Option, Some, None, if◌then◌else◌}
+use Rattle.std.specs.Prelude.{ℕ, ◌+◌, ◌*◌, ◌/◌, ◌%◌, ◌==◌, not, ◌&&◌, nat_lt, Bool, true, false, List, filter, flat_map, length, map, Some, None, if◌then◌else◌}
 use Rattle.std.specs.List.{list_any, range_with_len}
 use Rattle.co_dict.specs.PdoChecks.{has_type, is_unsigned32}
 use Rattle.co_dict.specs.Shapes.{Shaped}

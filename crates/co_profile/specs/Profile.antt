@@ -1,9 +1,6 @@
 -- The objects of the communication profile area that a device goes by (CiA 301): 1001h error register, 1005h COB-ID SYNC, 1017h producer heartbeat time.
-use Rattle.std.specs.Prelude.{ℕ, ◌*◌, ◌/◌, ◌%◌, ◌-◌, bit_and, bit_or, List, [], ◌∷◌, Option, if◌then◌else◌}
+use Rattle.std.specs.Prelude.{ℕ, ◌*◌, ◌/◌, ◌%◌, ◌-◌, bit_and, bit_or, [], ◌∷◌, Option, if◌then◌else◌}
 use Rattle.std.specs.FinMap.{insert}
-use Rattle.co_values.specs.declared.form.Form.{Form}
-use Rattle.co_values.specs.declared.form.Form.TheVariants.{Unsigned}
-use Rattle.co_values.specs.declared.form.Width.TheVariants.{Bits16}
 use Rattle.can_frame.specs.Frames.{BaseFrame}
 use Rattle.can_frame.specs.Identifiers.{emergency_id, sync_id}
 use Rattle.co_dict.specs.PdoChecks.{has_type, is_unsigned8, is_unsigned32}

@@ -1,8 +1,16 @@
-//! The objects of the communication profile area that a device goes by (CiA 301).
+//! The objects of the communication profile area that a device goes by (CiA 301): error register, COB-ID
+//! SYNC, consumer and producer heartbeat time.
 #![tactic(auto)]
 
 mod consumer;
+mod consumers;
+mod emergencies;
+pub mod laws;
 mod learnt;
+mod profile;
 
 pub use consumer::Consumer;
+pub use consumers::{any_failed, consumers_of, expire, failures, forget, hear};
+pub use emergencies::emergency_frame;
 pub use learnt::Learnt;
+pub use profile::{clear_error, error_register, next_heartbeat, set_error, sync_identifier};

@@ -1,8 +1,15 @@
 //! The PDOs of a device at a moment (CiA 301).
 #![tactic(auto)]
 
+pub mod laws;
+mod numbers;
 mod rpdo_state;
+mod rpdos;
 mod tpdo_state;
+mod tpdos;
 
+pub use numbers::{is_rpdo_object, is_tpdo_object};
 pub use rpdo_state::RpdoState;
+pub use rpdos::{empty_rpdos, keep, rpdos_of, write_rpdos};
 pub use tpdo_state::TpdoState;
+pub use tpdos::{forget_tpdos, free_tpdos, look_at_tpdos, tpdos_of, write_tpdos};

@@ -1,8 +1,13 @@
 //! An RPDO of a device.
 
+ghost use Rattle.std.specs.Prelude.{◌≡◌, ◌↔◌, IsTrue};
+ghost use Rattle.co_dict.specs.Mappings.{mapping_bits};
+ghost use Rattle.co_mapping.specs.Packing.{bytes_begun};
+ghost use Rattle.device_pdos.specs.Rpdos.{receipt_of};
 
 use can_frame::Frame;
-use co_pdos::Configuration;
+use co_dict::mapped_length;
+use co_pdos::{Configuration, Mapping, Receipt, received};
 
 /// An RPDO of a device at a moment (CiA 301).
 #[derive(Clone, Copy, Debug)]
@@ -15,3 +20,50 @@ pub struct RpdoState {
     pub kept: Option<Frame>,
 }
 
+/// Whether two frames are the same, or neither is there.
+fn same_frame(one: &Option<Frame>, other: &Option<Frame>) -> bool
+    ensures { IsTrue result ↔ (one.now ≡ other.now) }
+{
+    match (one, other) {
+        (Some(one), Some(other)) => one.same(other),
+        (None, None) => true,
+        _ => false,
+    }
+}
+
+/// The bytes that a mapping begins.
+fn mapped_bytes(mapping: &Mapping) -> usize
+    ensures { result ≡ bytes_begun (mapping_bits mapping.now) }
+{
+    let mut bits = 0;
+    for entry in mapping.entries() {
+        bits += mapped_length(*entry);
+    }
+    (bits as usize + 7) / 8
+}
+
+impl RpdoState {
+    /// Whether the other one is the same.
+    pub fn same(&self, other: &RpdoState) -> bool
+        ensures { IsTrue result ↔ (self.now ≡ other.now) }
+    {
+        self.number == other.number
+            && Configuration::are_same(&self.configuration, &other.configuration)
+            && same_frame(&self.kept, &other.kept)
+    }
+
+    /// What becomes of a frame at it.
+    #[tactic(auto, unfolding(crate::specs::Rpdos::receipt_of))]
+    pub fn receive(&self, frame: &Frame) -> Receipt
+        ensures { result ≡ receipt_of frame.now self.now.configuration }
+    {
+        match &self.configuration {
+            Some(configuration) if configuration.identifier.number() == frame.id() => received(
+                configuration.communication.kind,
+                mapped_bytes(&configuration.mapping),
+                frame.bytes().len(),
+            ),
+            _ => Receipt::Ignored,
+        }
+    }
+}

@@ -1,7 +1,14 @@
 //! A TPDO of a device.
 
+ghost use Rattle.std.specs.Prelude.{◌≡◌, ◌↔◌, ◌<◌, ◌^◌, IsTrue, OnOk};
+ghost use Rattle.co_pdos.specs.Tpdo.{forgotten};
+ghost use Rattle.device_pdos.specs.Tpdos.{frame_sent, looked, with_frame};
 
+use can_frame::{Frame, Pending, Purpose};
+use co_dict::Dict;
+use co_mapping::pack;
 use co_pdos::{Configuration, Tpdo};
+use std::alloc::AllocError;
 
 /// A TPDO of a device at a moment (CiA 301).
 #[derive(Clone, Copy, Debug)]
@@ -14,3 +21,68 @@ pub struct TpdoState {
     pub remembered: Tpdo,
 }
 
+impl TpdoState {
+    /// A TPDO that goes by this, and remembers nothing.
+    pub(crate) fn of(number: u16, configuration: Option<Configuration>) -> TpdoState
+        ensures { result ≡ record { number = number; configuration = configuration; remembered = forgotten } }
+    {
+        TpdoState {
+            number,
+            configuration,
+            remembered: Tpdo::forgotten(),
+        }
+    }
+
+    /// Whether the other one is the same.
+    pub fn same(&self, other: &TpdoState) -> bool
+        ensures { IsTrue result ↔ (self.now ≡ other.now) }
+    {
+        if self.number != other.number {
+            return false;
+        }
+        if !self.remembered.same(&other.remembered) {
+            return false;
+        }
+        Configuration::are_same(&self.configuration, &other.configuration)
+    }
+
+    /// Looks at it at the moment t, and answers its frame where it is sent.
+    #[tactic(auto, using(crate::proofs::PackedLemmas::few), unfolding(crate::specs::Tpdos::bytes_now, crate::specs::Tpdos::sent_by))]
+    fn look(&mut self, t: u64, at_sync: bool, dict: &Dict) -> Option<Frame>
+        requires { t < 2 ^ 63 }
+        ensures state { self.new ≡ looked t at_sync dict.now self.old }
+        ensures frame { result ≡ frame_sent t at_sync dict.now self.old }
+    {
+        self.remembered.end_inhibit(t);
+        let configuration = self.configuration?;
+        let (frame, count) = pack(dict, configuration.mapping.entries());
+        let bytes = &frame[..count];
+        if self
+            .remembered
+            .look(configuration.communication, at_sync, t, bytes)
+        {
+            Some(Frame::of(configuration.identifier.number(), bytes))
+        } else {
+            None
+        }
+    }
+
+    /// Looks at it in its turn at the moment t: where it is sent, its frame waits in the place of one of
+    /// its own that still waits.
+    pub(crate) fn take_turn(
+        &mut self,
+        t: u64,
+        at_sync: bool,
+        dict: &Dict,
+        waiting: &mut Pending,
+    ) -> Result<(), AllocError>
+        requires { t < 2 ^ 63 }
+        ensures state { OnOk result (self.new ≡ looked t at_sync dict.now self.old) }
+        ensures waiting { OnOk result (waiting.new ≡ with_frame self.old.number (frame_sent t at_sync dict.now self.old) waiting.old) }
+    {
+        match self.look(t, at_sync, dict) {
+            Some(frame) => waiting.replace(Purpose::Tpdo(self.number), frame),
+            None => Ok(()),
+        }
+    }
+}

@@ -1,0 +1,2 @@
+pub mod RpdoLemmas
+pub mod WalkLemmas

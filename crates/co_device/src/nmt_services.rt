@@ -1,0 +1,83 @@
+//! The NMT services that change a device's state.
+
+ghost use Rattle.std.specs.Prelude.{◌≡◌, ◌<◌, ◌≤◌, ◌+◌, length, OnOk};
+ghost use Rattle.asking.specs.Asking.{followed, outcome, reads};
+ghost use Rattle.co_device.specs.Device.{enter_pre_operational, nmt_service, out_of_operational, stop_remote_node};
+
+use crate::device_state::DeviceState;
+use crate::nmt_state::NmtState;
+use crate::shapes::Shapes;
+use can_frame::Unwanted;
+use co_parts::END;
+use co_scenario::NmtCommand;
+use co_sdo::transfer::Transfer;
+use device_pdos::{empty_rpdos, forget_tpdos};
+use std::alloc::AllocError;
+
+impl DeviceState {
+    /// Where it is in Operational, drops the TPDOs that wait, and what PDOs remember and keep.
+    #[tactic(auto, unfolding(crate::specs::Device::out_of_operational))]
+    fn leave_operational(&mut self)
+        ensures { self.new ≡ out_of_operational self.old }
+    {
+        if self.is_in(NmtState::Operational) {
+            self.waiting.drop_of(Unwanted::Tpdos);
+            empty_rpdos(&mut self.rpdos);
+            forget_tpdos(&mut self.tpdos);
+        }
+    }
+
+    /// Runs NMT service Enter pre-operational.
+    pub(crate) fn enter_pre_operational(&mut self)
+        ensures { self.new ≡ enter_pre_operational self.old }
+    {
+        self.leave_operational();
+        self.state = NmtState::PreOperational;
+    }
+
+    /// Runs NMT service Stop remote node.
+    fn stop(&mut self)
+        ensures { self.new ≡ stop_remote_node self.old }
+    {
+        if !self.is_in(NmtState::Stopped) {
+            self.leave_operational();
+            self.waiting.drop_of(Unwanted::Sdos);
+            self.waiting.drop_of(Unwanted::Emergencies);
+            self.transfer = Transfer::Idle;
+            self.state = NmtState::Stopped;
+        }
+    }
+
+    /// Runs the NMT service of a command, if there is one.
+    #[tactic(auto, unfolding(crate::specs::Device::nmt_service))]
+    pub(crate) fn obey<P: Shapes>(
+        &mut self,
+        command: Option<NmtCommand>,
+        t: u64,
+        shapes: &mut P,
+    ) -> Result<(), AllocError>
+        requires { t < END }
+        ensures state { OnOk result (self.new ≡ outcome (nmt_service command t self.old) (P.seen shapes.old).image) }
+        ensures noted { OnOk result (P.seen shapes.new ≡ followed (nmt_service command t self.old) (P.seen shapes.old)) }
+        ensures counted { OnOk result (P.asks shapes.new ≤ P.asks shapes.old + length (reads (nmt_service command t self.old) (P.seen shapes.old).image)) }
+        ensures kept { (P.seen shapes.new).image ≡ (P.seen shapes.old).image }
+    {
+        match command {
+            None => Ok(()),
+            Some(NmtCommand::Start) => {
+                self.state = NmtState::Operational;
+                Ok(())
+            }
+            Some(NmtCommand::Stop) => {
+                self.stop();
+                Ok(())
+            }
+            Some(NmtCommand::EnterPreOperational) => {
+                self.enter_pre_operational();
+                Ok(())
+            }
+            Some(NmtCommand::ResetNode) => self.reset_node(t, shapes),
+            Some(NmtCommand::ResetCommunication) => self.reset_communication(t, shapes),
+        }
+    }
+}

@@ -1,0 +1,67 @@
+//! The requests to a device's SDO server.
+
+ghost use Rattle.std.specs.Prelude.{◌≡◌, ◌<◌, ◌≤◌, ◌+◌, ◌++◌, length, OnOk};
+ghost use Rattle.asking.specs.Asking.{followed, outcome, reads};
+ghost use Rattle.co_device.specs.Device.{after_request, answer_frames, sdo_request};
+
+use crate::device_state::DeviceState;
+use crate::nmt_state::NmtState;
+use crate::shapes::{Shapes, shape_or, without_entries};
+use can_frame::{Frame, Purpose, identifiers};
+use co_dict::Shape;
+use co_parts::END;
+use co_sdo::transfer::Transfer;
+use co_sdo::{Step, answered};
+use std::alloc::AllocError;
+use std::mem::replace;
+
+impl DeviceState {
+    /// Lets the answer of the server wait, if there is one.
+    fn answer(&mut self, bytes: Option<[u8; 8]>) -> Result<(), AllocError>
+        ensures { OnOk result (self.new ≡ record self.old { waiting = self.old.waiting ++ answer_frames self.old.number bytes }) }
+    {
+        if let Some(bytes) = bytes {
+            let frame = Frame::of(identifiers::sdo_answer(self.number), &bytes);
+            self.waiting.add(Purpose::Sdo(self.number), frame)?;
+        }
+        Ok(())
+    }
+
+    /// Does what the server did, an answer and a write, once its values stand.
+    fn finish_request(&mut self, t: u64, shape: &Shape, step: Step) -> Result<(), AllocError>
+        requires { t < END }
+        ensures { OnOk result (self.new ≡ after_request t shape.now (record { answer = step.answer; values = self.old.values; transfer = step.transfer; wrote = step.wrote }) self.old) }
+    {
+        self.transfer = step.transfer;
+        self.answer(step.answer)?;
+        match step.wrote {
+            None => Ok(()),
+            Some(place) => self.after_write(t, shape, place),
+        }
+    }
+
+    /// Takes a request to the SDO server.
+    #[tactic(auto, unfolding(crate::specs::Device::sdo_request))]
+    pub(crate) fn take_request<P: Shapes>(
+        &mut self,
+        t: u64,
+        request: &[u8; 8],
+        shapes: &mut P,
+    ) -> Result<(), AllocError>
+        requires { t < END }
+        ensures state { OnOk result (self.new ≡ outcome (sdo_request t request.now self.old) (P.seen shapes.old).image) }
+        ensures noted { OnOk result (P.seen shapes.new ≡ followed (sdo_request t request.now self.old) (P.seen shapes.old)) }
+        ensures counted { OnOk result (P.asks shapes.new ≤ P.asks shapes.old + length (reads (sdo_request t request.now self.old) (P.seen shapes.old).image)) }
+        ensures kept { (P.seen shapes.new).image ≡ (P.seen shapes.old).image }
+    {
+        if self.is_in(NmtState::Stopped) {
+            return Ok(());
+        }
+        let shape = shapes.shape(self.number)?;
+        let none = without_entries(self.alloc);
+        let shape = shape_or(&shape, &none);
+        let transfer = replace(&mut self.transfer, Transfer::Idle);
+        let step = answered(self.alloc, transfer, request, shape, &mut self.values)?;
+        self.finish_request(t, shape, step)
+    }
+}

@@ -1,0 +1,122 @@
+//! Power, and the NMT services that reset a device.
+
+ghost use Rattle.std.specs.Prelude.{◌≡◌, ◌<◌, ◌≤◌, ◌+◌, length, OnOk};
+ghost use Rattle.asking.specs.Asking.{followed, outcome, reads};
+ghost use Rattle.co_device.specs.Device.{initialised, powered, reset_communication, reset_node, without_power};
+
+use crate::defaults::{communication_restored, values_of};
+use crate::device_state::DeviceState;
+use crate::nmt_state::NmtState;
+use crate::shapes::{Shapes, shape_or, without_entries};
+use can_frame::{Frame, Pending, Purpose, identifiers};
+use co_dict::{Dict, Shape};
+use co_parts::END;
+use co_profile::{Learnt, consumers_of, next_heartbeat};
+use co_sdo::transfer::Transfer;
+use device_pdos::{rpdos_of, tpdos_of};
+use std::alloc::AllocError;
+
+/// The byte of a boot-up message.
+const BOOT_UP: u8 = 0;
+
+impl DeviceState {
+    /// Drops all but the number.
+    fn drop_power(&mut self)
+        ensures { self.new ≡ without_power self.old.spent self.old.number }
+    {
+        self.has_power = false;
+        self.state = NmtState::PreOperational;
+        self.learnt = Learnt::nothing();
+        self.values = Dict::new(self.alloc);
+        self.consumers = Vec::new(self.alloc);
+        self.rpdos = Vec::new(self.alloc);
+        self.tpdos = Vec::new(self.alloc);
+        self.synced = false;
+        self.heartbeat = None;
+        self.waiting = Pending::new(self.alloc);
+        self.transfer = Transfer::Idle;
+    }
+
+    /// Goes through NMT state Initialisation with these entries and these values.
+    #[tactic(auto, unfolding(crate::specs::Device::initialised))]
+    fn initialise(&mut self, t: u64, shape: &Shape, values: Dict) -> Result<(), AllocError>
+        requires { t < END }
+        ensures { OnOk result (self.new ≡ initialised t shape.now values self.old) }
+    {
+        let mut waiting = Pending::new(self.alloc);
+        let frame = Frame::of(identifiers::error_control(self.number), &[BOOT_UP]);
+        waiting.add(Purpose::BootUp, frame)?;
+        self.consumers = consumers_of(self.alloc, shape)?;
+        self.rpdos = rpdos_of(self.alloc, shape, &values)?;
+        self.tpdos = tpdos_of(self.alloc, shape, &values)?;
+        self.has_power = true;
+        self.state = NmtState::PreOperational;
+        self.learnt = Learnt::of(shape);
+        self.synced = false;
+        self.heartbeat = next_heartbeat(t, self.learnt, &values);
+        self.values = values;
+        self.waiting = waiting;
+        self.transfer = Transfer::Idle;
+        Ok(())
+    }
+
+    /// Runs NMT service Reset node.
+    #[tactic(auto, unfolding(crate::specs::Device::reset_node))]
+    pub(crate) fn reset_node<P: Shapes>(&mut self, t: u64, shapes: &mut P) -> Result<(), AllocError>
+        requires { t < END }
+        ensures state { OnOk result (self.new ≡ outcome (reset_node t self.old) (P.seen shapes.old).image) }
+        ensures noted { OnOk result (P.seen shapes.new ≡ followed (reset_node t self.old) (P.seen shapes.old)) }
+        ensures counted { OnOk result (P.asks shapes.new ≤ P.asks shapes.old + length (reads (reset_node t self.old) (P.seen shapes.old).image)) }
+        ensures kept { (P.seen shapes.new).image ≡ (P.seen shapes.old).image }
+    {
+        let defaults = shapes.defaults(self.number)?;
+        let shape = shapes.shape(self.number)?;
+        let values = values_of(self.alloc, &defaults)?;
+        let none = without_entries(self.alloc);
+        self.initialise(t, shape_or(&shape, &none), values)
+    }
+
+    /// Runs NMT service Reset communication.
+    #[tactic(auto, unfolding(crate::specs::Device::reset_communication))]
+    pub(crate) fn reset_communication<P: Shapes>(
+        &mut self,
+        t: u64,
+        shapes: &mut P,
+    ) -> Result<(), AllocError>
+        requires { t < END }
+        ensures state { OnOk result (self.new ≡ outcome (reset_communication t self.old) (P.seen shapes.old).image) }
+        ensures noted { OnOk result (P.seen shapes.new ≡ followed (reset_communication t self.old) (P.seen shapes.old)) }
+        ensures counted { OnOk result (P.asks shapes.new ≤ P.asks shapes.old + length (reads (reset_communication t self.old) (P.seen shapes.old).image)) }
+        ensures kept { (P.seen shapes.new).image ≡ (P.seen shapes.old).image }
+    {
+        let defaults = shapes.defaults(self.number)?;
+        let shape = shapes.shape(self.number)?;
+        let values = communication_restored(self.alloc, &self.values, &defaults)?;
+        let none = without_entries(self.alloc);
+        self.initialise(t, shape_or(&shape, &none), values)
+    }
+
+    /// Switches the power.
+    #[tactic(auto, unfolding(crate::specs::Device::powered))]
+    pub(crate) fn switch<P: Shapes>(
+        &mut self,
+        on: bool,
+        t: u64,
+        shapes: &mut P,
+    ) -> Result<(), AllocError>
+        requires { t < END }
+        ensures state { OnOk result (self.new ≡ outcome (powered on t self.old) (P.seen shapes.old).image) }
+        ensures noted { OnOk result (P.seen shapes.new ≡ followed (powered on t self.old) (P.seen shapes.old)) }
+        ensures counted { OnOk result (P.asks shapes.new ≤ P.asks shapes.old + length (reads (powered on t self.old) (P.seen shapes.old).image)) }
+        ensures kept { (P.seen shapes.new).image ≡ (P.seen shapes.old).image }
+    {
+        if on == self.has_power {
+            return Ok(());
+        }
+        if on {
+            return self.reset_node(t, shapes);
+        }
+        self.drop_power();
+        Ok(())
+    }
+}

@@ -1,0 +1,163 @@
+//! The RPDOs that a device receives.
+
+ghost use Rattle.std.specs.Prelude.{◌≡◌, ◌<◌, ◌≤◌, ◌+◌, length, OnOk};
+ghost use Rattle.asking.specs.Asking.{followed, outcome, reads};
+ghost use Rattle.co_dict.specs.Mappings.{mapped_length as length_mapped, mapping_bits};
+ghost use Rattle.co_mapping.specs.Packing.{bits_for, frame_bits};
+ghost use Rattle.device_pdos.specs.Rpdos.{mapping_of_rpdo};
+ghost use Rattle.co_device.specs.Receiving.{applied, entries_taken, entry_taken, pdo_received, places, rpdo_received, walk};
+
+use crate::device_state::DeviceState;
+use crate::nmt_state::NmtState;
+use crate::shapes::{Shapes, shape_or, without_entries};
+use can_frame::Frame;
+use co_dict::{Shape, mapped_length, mapped_place};
+use co_mapping::unpack_entry;
+use co_parts::END;
+use co_pdos::{Configuration, Receipt};
+use device_pdos::keep;
+use std::alloc::AllocError;
+
+/// The error code of a PDO that is too short (CiA 301).
+const PDO_TOO_SHORT: u16 = 0x8210;
+
+/// The mapping entries of an RPDO; none where it doesn't work.
+fn mapping_of(configuration: &Option<Configuration>) -> &[u32]
+    ensures mapping { result.now ≡ mapping_of_rpdo configuration.now }
+    ensures fits { mapping_bits result.now ≤ 64 }
+{
+    match configuration {
+        None => &[],
+        Some(configuration) => configuration.mapping.entries(),
+    }
+}
+
+impl DeviceState {
+    /// Gives one mapped entry its bits out of a frame, with what that brings about.
+    #[tactic(auto, unfolding(crate::specs::Receiving::entry_taken, co_mapping::specs::Packing::with_bits))]
+    fn take_entry(
+        &mut self,
+        t: u64,
+        shape: &Shape,
+        entry: u32,
+        position: u32,
+        frame: &Frame,
+    ) -> Result<(), AllocError>
+        requires soon { t < END }
+        requires inside { position + length_mapped entry ≤ 64 }
+        ensures { OnOk result (self.new ≡ entry_taken t shape.now entry (bits_for entry position (frame_bits frame.now.bytes)) self.old) }
+    {
+        if unpack_entry(shape, &mut self.values, entry, position, frame.bytes())? {
+            return self.after_write(t, shape, mapped_place(entry));
+        }
+        Ok(())
+    }
+
+    /// Gives the mapped entries their bits out of a frame, one after the other.
+    fn take_entries(
+        &mut self,
+        t: u64,
+        shape: &Shape,
+        mapping: &[u32],
+        frame: &Frame,
+    ) -> Result<(), AllocError>
+        requires soon { t < END }
+        requires fits { mapping_bits mapping.now ≤ 64 }
+        ensures { OnOk result (self.new ≡ entries_taken t shape.now 0 mapping.now (frame_bits frame.now.bytes) self.old) }
+    {
+        let mut position = 0;
+        for entry in mapping {
+            self.take_entry(t, shape, *entry, position, frame)?;
+            position += mapped_length(*entry);
+        }
+        Ok(())
+    }
+
+    /// Applies a frame by the mapping of an RPDO.
+    #[tactic(auto, unfolding(crate::specs::Receiving::applied))]
+    pub(crate) fn apply<P: Shapes>(
+        &mut self,
+        t: u64,
+        configuration: &Option<Configuration>,
+        frame: &Frame,
+        shapes: &mut P,
+    ) -> Result<(), AllocError>
+        requires { t < END }
+        ensures state { OnOk result (self.new ≡ outcome (applied t (mapping_of_rpdo configuration.now) frame.now self.old) (P.seen shapes.old).image) }
+        ensures noted { OnOk result (P.seen shapes.new ≡ followed (applied t (mapping_of_rpdo configuration.now) frame.now self.old) (P.seen shapes.old)) }
+        ensures counted { OnOk result (P.asks shapes.new ≤ P.asks shapes.old + length (reads (applied t (mapping_of_rpdo configuration.now) frame.now self.old) (P.seen shapes.old).image)) }
+        ensures kept { (P.seen shapes.new).image ≡ (P.seen shapes.old).image }
+    {
+        let shape = shapes.shape(self.number)?;
+        let none = without_entries(self.alloc);
+        let mapping = mapping_of(configuration);
+        self.take_entries(t, shape_or(&shape, &none), mapping, frame)
+    }
+
+    /// Takes a frame by the RPDO at a place, judged by what stands now.
+    #[tactic(auto, unfolding(crate::specs::Receiving::rpdo_received, crate::specs::Receiving::taken_by))]
+    fn take_by_rpdo<P: Shapes>(
+        &mut self,
+        t: u64,
+        frame: &Frame,
+        i: usize,
+        shapes: &mut P,
+    ) -> Result<(), AllocError>
+        requires soon { t < END }
+        requires inside { i < length self.old.rpdos }
+        ensures state { OnOk result (self.new ≡ outcome (rpdo_received t frame.now i self.old) (P.seen shapes.old).image) }
+        ensures noted { OnOk result (P.seen shapes.new ≡ followed (rpdo_received t frame.now i self.old) (P.seen shapes.old)) }
+        ensures counted { OnOk result (P.asks shapes.new ≤ P.asks shapes.old + length (reads (rpdo_received t frame.now i self.old) (P.seen shapes.old).image)) }
+        ensures kept { (P.seen shapes.new).image ≡ (P.seen shapes.old).image }
+    {
+        let rpdo = self.rpdos[i];
+        match rpdo.receive(frame) {
+            Receipt::Short => self.tell(PDO_TOO_SHORT),
+            Receipt::Kept => {
+                keep(&mut self.rpdos, i, Some(*frame));
+                Ok(())
+            }
+            Receipt::AtOnce => self.apply(t, &rpdo.configuration, frame, shapes),
+            Receipt::Ignored => Ok(()),
+        }
+    }
+
+    /// Takes a frame by each RPDO in its turn.
+    fn take_by_rpdos<P: Shapes>(
+        &mut self,
+        t: u64,
+        frame: &Frame,
+        shapes: &mut P,
+    ) -> Result<(), AllocError>
+        requires soon { t < END }
+        ensures state { OnOk result (self.new ≡ outcome (walk (rpdo_received t frame.now) (places self.old) self.old) (P.seen shapes.old).image) }
+        ensures noted { OnOk result (P.seen shapes.new ≡ followed (walk (rpdo_received t frame.now) (places self.old) self.old) (P.seen shapes.old)) }
+        ensures counted { OnOk result (P.asks shapes.new ≤ P.asks shapes.old + length (reads (walk (rpdo_received t frame.now) (places self.old) self.old) (P.seen shapes.old).image)) }
+        ensures kept { (P.seen shapes.new).image ≡ (P.seen shapes.old).image }
+    {
+        for i in 0..self.rpdos.len() {
+            self.take_by_rpdo(t, frame, i, shapes)?;
+        }
+        Ok(())
+    }
+
+    /// Takes the frame of a PDO.
+    #[tactic(auto, unfolding(crate::specs::Receiving::pdo_received))]
+    pub(crate) fn take_pdo<P: Shapes>(
+        &mut self,
+        t: u64,
+        frame: &Frame,
+        shapes: &mut P,
+    ) -> Result<(), AllocError>
+        requires { t < END }
+        ensures state { OnOk result (self.new ≡ outcome (pdo_received t frame.now self.old) (P.seen shapes.old).image) }
+        ensures noted { OnOk result (P.seen shapes.new ≡ followed (pdo_received t frame.now self.old) (P.seen shapes.old)) }
+        ensures counted { OnOk result (P.asks shapes.new ≤ P.asks shapes.old + length (reads (pdo_received t frame.now self.old) (P.seen shapes.old).image)) }
+        ensures kept { (P.seen shapes.new).image ≡ (P.seen shapes.old).image }
+    {
+        if self.is_in(NmtState::Operational) {
+            return self.take_by_rpdos(t, frame, shapes);
+        }
+        Ok(())
+    }
+}

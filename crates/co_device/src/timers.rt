@@ -1,0 +1,88 @@
+//! What a device does of itself at a moment.
+
+ghost use Rattle.std.specs.Prelude.{◌≡◌, ◌<◌, OnOk};
+ghost use Rattle.co_device.specs.Device.{consumers_run, heartbeat_run, ran, timers, tpdos_run};
+
+use crate::device_state::DeviceState;
+use crate::nmt_state::NmtState;
+use can_frame::{Frame, Purpose, identifiers};
+use co_parts::END;
+use co_profile::{expire, failures, set_error};
+use device_pdos::{free_tpdos, look_at_tpdos};
+use std::alloc::AllocError;
+
+/// The error code of a heartbeat that didn't come in time (CiA 301).
+const HEARTBEAT_ERROR: u16 = 0x8130;
+
+impl DeviceState {
+    /// Lets the heartbeat consumers fail whose moment has come.
+    #[tactic(auto, unfolding(crate::specs::Device::consumers_run))]
+    fn run_consumers(&mut self, t: u64) -> Result<(), AllocError>
+        ensures { OnOk result (self.new ≡ consumers_run t self.old) }
+    {
+        let count = failures(&self.consumers, t);
+        if count == 0 {
+            return Ok(());
+        }
+        expire(&mut self.consumers, t);
+        set_error(self.learnt, &mut self.values)?;
+        self.tell_often(count, HEARTBEAT_ERROR)?;
+        if self.is_in(NmtState::Operational) {
+            self.enter_pre_operational();
+        }
+        Ok(())
+    }
+
+    /// Lets the heartbeat wait if it is due.
+    #[tactic(auto, unfolding(crate::specs::Device::heartbeat_run))]
+    fn run_heartbeat(&mut self, t: u64) -> Result<(), AllocError>
+        requires { t < END }
+        ensures { OnOk result (self.new ≡ heartbeat_run t self.old) }
+    {
+        if self.heartbeat != Some(t) {
+            return Ok(());
+        }
+        let frame = Frame::of(
+            identifiers::error_control(self.number),
+            &[self.state.byte()],
+        );
+        self.waiting.replace(Purpose::Heartbeat, frame)?;
+        self.start_heartbeat(t);
+        Ok(())
+    }
+
+    /// Runs the timers.
+    #[tactic(auto, unfolding(crate::specs::Device::timers))]
+    fn run_timers(&mut self, t: u64) -> Result<(), AllocError>
+        requires { t < END }
+        ensures { OnOk result (self.new ≡ timers t self.old) }
+    {
+        self.run_consumers(t)?;
+        self.run_heartbeat(t)
+    }
+
+    /// Looks at the TPDOs.
+    #[tactic(auto, unfolding(crate::specs::Device::tpdos_run))]
+    fn run_tpdos(&mut self, t: u64) -> Result<(), AllocError>
+        requires { t < END }
+        ensures { OnOk result (self.new ≡ tpdos_run t self.old) }
+    {
+        let synced = self.synced;
+        self.synced = false;
+        if self.is_in(NmtState::Operational) {
+            return look_at_tpdos(&mut self.tpdos, t, synced, &self.values, &mut self.waiting);
+        }
+        free_tpdos(&mut self.tpdos, t);
+        Ok(())
+    }
+
+    /// Runs what is due.
+    #[tactic(auto, unfolding(crate::specs::Device::ran))]
+    pub(crate) fn run(&mut self, t: u64) -> Result<(), AllocError>
+        requires { t < END }
+        ensures { OnOk result (self.new ≡ ran t self.old) }
+    {
+        self.run_timers(t)?;
+        self.run_tpdos(t)
+    }
+}

@@ -1,0 +1,2 @@
+pub mod ConsumerLemmas
+pub mod SubLemmas

@@ -1,0 +1,136 @@
+//! The heartbeat consumers of a device, by sub-index.
+
+ghost use Rattle.std.specs.Prelude.{◌≡◌, ◌<◌, IfOk};
+ghost use Rattle.co_dict.specs.PdoChecks.{has_type, is_unsigned32};
+ghost use Rattle.co_parts.specs.Moments.{is_due};
+ghost use Rattle.co_profile.specs.Consumers.{all_expired, all_heard, any_failed as some_failed, consumer_entry, consumer_time, consumers_of as consumers_now, consumers_written, expects, failures as failures_now, heard};
+
+use crate::consumer::Consumer;
+use co_dict::{Dict, Shape};
+use co_parts::END;
+use co_values::DataType;
+use std::alloc::{AllocError, Global};
+
+/// The index of the consumer heartbeat times (CiA 301).
+const CONSUMER_HEARTBEAT_TIME: u16 = 0x1016;
+
+/// The last sub-index of an object.
+const LAST_SUB: u8 = 255;
+
+/// Whether there is such an entry, an UNSIGNED32.
+fn has_unsigned_32(shape: &Shape, index: u16, sub: u8) -> bool
+    ensures { result ≡ has_type is_unsigned32 shape.now (index, sub) }
+{
+    match shape.entry(index, sub) {
+        Some(entry) => matches!(entry.kind, DataType::Unsigned32),
+        None => false,
+    }
+}
+
+/// The heartbeat consumers of a device (CiA 301): the sub-indices of 1016h from 1 on that are there as
+/// UNSIGNED32. None has started.
+#[tactic(auto, using(crate::proofs::SubLemmas::none_at_first, crate::proofs::SubLemmas::one_more, crate::proofs::SubLemmas::skipped, crate::proofs::SubLemmas::all), unfolding(crate::specs::Consumers::consumers_of))]
+pub fn consumers_of(alloc: Global, shape: &Shape) -> Result<Vec<Consumer>, AllocError>
+    ensures { IfOk result (λ consumers. consumers.items ≡ consumers_now shape.now) }
+{
+    let mut consumers = Vec::new(alloc);
+    for i in 0..LAST_SUB {
+        let sub = i + 1;
+        if has_unsigned_32(shape, CONSUMER_HEARTBEAT_TIME, sub) {
+            consumers.push(Consumer {
+                sub,
+                moment: None,
+                failed: false,
+            })?;
+        }
+    }
+    Ok(consumers)
+}
+
+/// Whether a consumer heartbeat time expects the heartbeat of a node: bits 16 to 23 are its number, and
+/// the time isn't 0.
+fn expects(producer: u8, entry: u32) -> bool
+    ensures { result ≡ expects producer entry }
+{
+    entry / 0x1_0000 % 0x100 == u32::from(producer) && entry % 0x1_0000 > 0
+}
+
+/// A consumer at an error control frame of a node that comes at the moment t.
+fn hear_one(consumer: &mut Consumer, t: u64, producer: u8, values: &Dict)
+    requires { t < END }
+    ensures { consumer.new ≡ heard t producer values.now consumer.old }
+{
+    let entry = values.number_32(CONSUMER_HEARTBEAT_TIME, consumer.sub);
+    if expects(producer, entry) {
+        consumer.moment = Some(t + 1000 * u64::from(entry % 0x1_0000));
+        consumer.failed = false;
+    }
+}
+
+/// An error control frame of a node, 1 to 127, comes at the moment t, in microseconds: it starts or
+/// renews the consumers that expect the node's heartbeat, and ends their failures. Needs no memory.
+#[tactic(auto, unfolding(crate::specs::Consumers::all_heard))]
+pub fn hear(consumers: &mut [Consumer], t: u64, producer: u8, values: &Dict)
+    requires { t < END }
+    ensures { consumers.new ≡ all_heard t producer values.now consumers.old }
+{
+    for consumer in consumers.iter_mut() {
+        hear_one(consumer, t, producer, values);
+    }
+}
+
+/// Whether a moment is there, and is t.
+fn is_due(t: u64, moment: Option<u64>) -> bool
+    ensures { result ≡ is_due t moment }
+{
+    match moment {
+        Some(moment) => moment == t,
+        None => false,
+    }
+}
+
+/// The consumers whose moment is t, in microseconds, fail.
+#[tactic(auto, unfolding(crate::specs::Consumers::all_expired))]
+pub fn expire(consumers: &mut [Consumer], t: u64)
+    ensures { consumers.new ≡ all_expired t consumers.old }
+{
+    for consumer in consumers.iter_mut() {
+        if is_due(t, consumer.moment) {
+            consumer.moment = None;
+            consumer.failed = true;
+        }
+    }
+}
+
+/// The number of consumers that fail at the moment t, in microseconds.
+#[tactic(auto, unfolding(crate::specs::Consumers::failures))]
+pub fn failures(consumers: &[Consumer], t: u64) -> usize
+    ensures { result ≡ failures_now t consumers.now }
+{
+    let mut count = 0;
+    for consumer in consumers {
+        if is_due(t, consumer.moment) {
+            count += 1;
+        }
+    }
+    count
+}
+
+/// A consumer heartbeat time is written: its consumer hasn't started any more, and hasn't failed.
+#[tactic(auto, unfolding(crate::specs::Consumers::consumers_written))]
+pub fn forget(consumers: &mut [Consumer], sub: u8)
+    ensures { consumers.new ≡ consumers_written sub consumers.old }
+{
+    for consumer in consumers.iter_mut() {
+        if consumer.sub == sub {
+            *consumer = Consumer::waiting_for_start(sub);
+        }
+    }
+}
+
+/// Whether a consumer has failed.
+pub fn any_failed(consumers: &[Consumer]) -> bool
+    ensures { result ≡ some_failed consumers.now }
+{
+    consumers.iter().any(|consumer| consumer.failed)
+}

@@ -1,0 +1,38 @@
+//! Laws of heartbeat consumers, each a function whose contract is the law.
+
+ghost use Rattle.std.specs.Prelude.{◌≡◌, ◌≢◌, ℕ, false, true, List, None, Some};
+ghost use Rattle.std.specs.List.{AllByRecursion};
+ghost use Rattle.co_dict.specs.Shapes.{Shaped};
+ghost use Rattle.co_dict.specs.Values.{Values};
+ghost use Rattle.co_profile.specs.Consumers.{all_expired, all_heard, consumer_entry, consumers_of, expects, expired, failures, moments};
+ghost use Rattle.co_profile.specs.declared.consumer.Consumer.{Consumer as One};
+
+/// A consumer that hasn't failed fails at its moment, and at no other.
+#[tactic(auto, using(crate::proofs::ConsumerLemmas::fails_then, crate::proofs::ConsumerLemmas::fails_only_then))]
+pub fn a_consumer_fails_at_its_moment()
+    ensures then { (t : ℕ) (c : One) → c.moment ≡ Some t → (expired t c).failed ≡ true }
+    ensures only { (t : ℕ) (c : One) → c.failed ≡ false → (expired t c).failed ≡ true → c.moment ≡ Some t }
+{}
+
+/// Once an error control frame of a node has come, no consumer that expects it has failed.
+#[tactic(auto, using(crate::proofs::ConsumerLemmas::none_failed))]
+pub fn who_was_heard_has_not_failed()
+    ensures { (t producer : ℕ) (values : Values) (consumers : List One)
+        → AllByRecursion (λ c. expects producer (consumer_entry values c.sub) ≡ true → c.failed ≡ false) (all_heard t producer values consumers) }
+{}
+
+/// A consumer doesn't start before an error control frame of its node comes, and one that hasn't started
+/// doesn't fail: without a frame there is no failure.
+#[tactic(auto, using(crate::proofs::ConsumerLemmas::none_started, crate::proofs::ConsumerLemmas::none_fail, crate::proofs::ConsumerLemmas::none_change))]
+pub fn a_consumer_that_has_not_started_does_not_fail()
+    ensures started { (shape : Shaped) → AllByRecursion (λ c. c.moment ≡ None) (consumers_of shape) }
+    ensures count { (t : ℕ) (consumers : List One) → AllByRecursion (λ c. c.moment ≡ None) consumers → failures t consumers ≡ 0 }
+    ensures kept { (t : ℕ) (consumers : List One) → AllByRecursion (λ c. c.moment ≡ None) consumers → all_expired t consumers ≡ consumers }
+{}
+
+/// Where no consumer has its moment at t, none fails, and nothing changes.
+#[tactic(auto, using(crate::proofs::ConsumerLemmas::quiet_count, crate::proofs::ConsumerLemmas::quiet_kept))]
+pub fn quiet_between_moments()
+    ensures count { (t : ℕ) (consumers : List One) → AllByRecursion (λ m. m ≢ t) (moments consumers) → failures t consumers ≡ 0 }
+    ensures kept { (t : ℕ) (consumers : List One) → AllByRecursion (λ m. m ≢ t) (moments consumers) → all_expired t consumers ≡ consumers }
+{}

@@ -1,0 +1,4 @@
+pub mod LookLemmas
+pub mod NumberLemmas
+pub mod PackedLemmas
+pub mod WriteLemmas

@@ -1,0 +1,59 @@
+//! Laws of a device's PDOs, each a function whose contract is the law.
+
+ghost use Rattle.std.specs.Prelude.{◌≡◌, ◌≢◌, ◌<◌, ◌≤◌, ℕ, Bool, false, List, None, Some};
+ghost use Rattle.std.specs.List.{AllByRecursion};
+ghost use Rattle.can_frame.specs.declared.waiting.Waiting.{Waiting as WaitingFrame};
+ghost use Rattle.co_dict.specs.Shapes.{Shaped};
+ghost use Rattle.co_dict.specs.Values.{Values};
+ghost use Rattle.co_pdos.specs.declared.configuration.Configuration.{Configuration as Settings};
+ghost use Rattle.device_pdos.specs.Objects.{number_of_object};
+ghost use Rattle.device_pdos.specs.Rpdos.{rpdo, rpdo_written, rpdos_written};
+ghost use Rattle.device_pdos.specs.Tpdos.{frame_sent, freed, looked, moments, tpdo, tpdo_written, tpdos_looked, tpdos_written, with_tpdos};
+ghost use Rattle.device_pdos.specs.declared.rpdo_state.RpdoState.{RpdoState as Rpdo};
+ghost use Rattle.device_pdos.specs.declared.tpdo_state.TpdoState.{TpdoState as State};
+
+/// The write of an object of a PDO that the device doesn't have changes nothing.
+#[tactic(auto, using(crate::proofs::WriteLemmas::other_tpdos, crate::proofs::WriteLemmas::other_rpdos))]
+pub fn a_write_of_no_such_pdo_changes_nothing()
+    ensures tpdos { (shape : Shaped) (values : Values) (index : ℕ) (tpdos : List State)
+        → AllByRecursion (λ p. p.number ≢ number_of_object index) tpdos → tpdos_written shape values index tpdos ≡ tpdos }
+    ensures rpdos { (shape : Shaped) (values : Values) (index : ℕ) (rpdos : List Rpdo)
+        → AllByRecursion (λ p. p.number ≢ number_of_object index) rpdos → rpdos_written shape values index rpdos ≡ rpdos }
+{}
+
+/// The write of an object of a PDO judges that PDO anew, which then remembers nothing and keeps no frame;
+/// all others stay.
+#[tactic(auto, using(crate::proofs::WriteLemmas::own_tpdo, crate::proofs::WriteLemmas::other_tpdo, crate::proofs::WriteLemmas::own_rpdo, crate::proofs::WriteLemmas::other_rpdo))]
+pub fn a_write_judges_its_pdo_anew()
+    ensures tpdo { (shape : Shaped) (values : Values) (index : ℕ) (p : State) → p.number ≡ number_of_object index → tpdo_written shape values index p ≡ tpdo shape values p.number }
+    ensures other_tpdo { (shape : Shaped) (values : Values) (index : ℕ) (p : State) → p.number ≢ number_of_object index → tpdo_written shape values index p ≡ p }
+    ensures rpdo { (shape : Shaped) (values : Values) (index : ℕ) (p : Rpdo) → p.number ≡ number_of_object index → rpdo_written shape values index p ≡ rpdo shape values p.number }
+    ensures other_rpdo { (shape : Shaped) (values : Values) (index : ℕ) (p : Rpdo) → p.number ≢ number_of_object index → rpdo_written shape values index p ≡ p }
+{}
+
+/// Without a SYNC a TPDO of the types 0 to 240 isn't sent, and remembers what it did but for an inhibit
+/// moment that has come.
+pub fn without_a_sync_no_synchronous_tpdo_is_sent()
+    ensures sent { (t kind : ℕ) (values : Values) (p : State) (c : Settings) → p.configuration ≡ Some c → c.communication.kind ≡ Some kind → kind ≤ 240
+        → frame_sent t false values p ≡ None }
+    ensures kept { (t kind : ℕ) (values : Values) (p : State) (c : Settings) → p.configuration ≡ Some c → c.communication.kind ≡ Some kind → kind ≤ 240
+        → looked t false values p ≡ freed t p }
+{}
+
+/// A TPDO of type 254 or 255 whose inhibit moment is ahead isn't sent, and stays.
+pub fn an_inhibited_tpdo_is_not_sent()
+    ensures sent { (t m kind : ℕ) (at_sync : Bool) (values : Values) (p : State) (c : Settings) → p.configuration ≡ Some c → c.communication.kind ≡ Some kind → 254 ≤ kind
+        → p.remembered.inhibit ≡ Some m → t < m → frame_sent t at_sync values p ≡ None }
+    ensures kept { (t m kind : ℕ) (at_sync : Bool) (values : Values) (p : State) (c : Settings) → p.configuration ≡ Some c → c.communication.kind ≡ Some kind → 254 ≤ kind
+        → p.remembered.inhibit ≡ Some m → t < m → looked t at_sync values p ≡ p }
+{}
+
+/// Where no TPDO is sent at t without a SYNC, and all moments lie ahead, a look at the TPDOs changes
+/// neither what they remember nor what waits.
+#[tactic(auto, using(crate::proofs::LookLemmas::quiet_tpdos, crate::proofs::LookLemmas::quiet_waiting))]
+pub fn quiet_between_moments()
+    ensures tpdos { (t : ℕ) (values : Values) (tpdos : List State) → AllByRecursion (λ p. frame_sent t false values p ≡ None) tpdos
+        → AllByRecursion (λ m. t < m) (moments tpdos) → tpdos_looked t false values tpdos ≡ tpdos }
+    ensures waiting { (t : ℕ) (values : Values) (tpdos : List State) (frames : List WaitingFrame) → AllByRecursion (λ p. frame_sent t false values p ≡ None) tpdos
+        → with_tpdos t false values tpdos frames ≡ frames }
+{}

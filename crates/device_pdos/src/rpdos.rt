@@ -1,0 +1,68 @@
+//! The RPDOs of a device, by number.
+
+ghost use Rattle.std.specs.Prelude.{◌≡◌, ◌<◌, length, IfOk};
+ghost use Rattle.device_pdos.specs.Rpdos.{rpdos_emptied, rpdos_of as rpdos_now, rpdos_written, with_kept};
+
+use crate::numbers::{LAST_PDO, number_of_object};
+use crate::rpdo_state::RpdoState;
+use can_frame::Frame;
+use co_dict::{Dict, Shape};
+use co_pdos::{Configuration, is_pdo, rpdo_object};
+use std::alloc::{AllocError, Global};
+
+/// The RPDOs of a device as its entries say, by number; they keep no frames.
+#[tactic(auto, using(crate::proofs::NumberLemmas::none_at_first, crate::proofs::NumberLemmas::one_more, crate::proofs::NumberLemmas::skipped, crate::proofs::NumberLemmas::all), unfolding(crate::specs::Rpdos::rpdos_of))]
+pub fn rpdos_of(alloc: Global, shape: &Shape, dict: &Dict) -> Result<Vec<RpdoState>, AllocError>
+    ensures { IfOk result (λ rpdos. rpdos.items ≡ rpdos_now shape.now dict.now) }
+{
+    let mut rpdos = Vec::new(alloc);
+    for number in 1..=LAST_PDO {
+        if is_pdo(shape, rpdo_object(number)) {
+            let configuration = Configuration::of(shape, dict, rpdo_object(number));
+            rpdos.push(RpdoState {
+                number,
+                configuration,
+                kept: None,
+            })?;
+        }
+    }
+    Ok(rpdos)
+}
+
+/// What the write of an entry of an object of RPDOs brings about: its RPDO is judged anew, and keeps no
+/// frame. Walks the RPDOs.
+#[tactic(auto, unfolding(crate::specs::Rpdos::rpdos_written))]
+pub fn write_rpdos(rpdos: &mut [RpdoState], shape: &Shape, dict: &Dict, index: u16)
+    ensures { rpdos.new ≡ rpdos_written shape.now dict.now index rpdos.old }
+{
+    let number = number_of_object(index);
+    for rpdo in rpdos.iter_mut() {
+        if rpdo.number == number {
+            let configuration = Configuration::of(shape, dict, rpdo_object(number));
+            *rpdo = RpdoState {
+                number,
+                configuration,
+                kept: None,
+            };
+        }
+    }
+}
+
+/// The frames that RPDOs keep are dropped.
+#[tactic(auto, unfolding(crate::specs::Rpdos::rpdos_emptied))]
+pub fn empty_rpdos(rpdos: &mut [RpdoState])
+    ensures { rpdos.new ≡ rpdos_emptied rpdos.old }
+{
+    for rpdo in rpdos.iter_mut() {
+        rpdo.kept = None;
+    }
+}
+
+/// The RPDO at a place keeps this frame, or none.
+#[tactic(auto, unfolding(crate::specs::Rpdos::with_kept))]
+pub fn keep(rpdos: &mut [RpdoState], i: usize, frame: Option<Frame>)
+    requires { i < length rpdos.old }
+    ensures { rpdos.new ≡ with_kept rpdos.old i frame }
+{
+    rpdos[i].kept = frame;
+}

@@ -1,0 +1,83 @@
+//! The TPDOs of a device, by number.
+
+ghost use Rattle.std.specs.Prelude.{◌≡◌, ◌<◌, ◌^◌, IfOk, OnOk};
+ghost use Rattle.device_pdos.specs.Tpdos.{tpdos_forgotten, tpdos_freed, tpdos_looked, tpdos_of as tpdos_now, tpdos_written, with_tpdos};
+
+use crate::numbers::{LAST_PDO, number_of_object};
+use crate::tpdo_state::TpdoState;
+use can_frame::Pending;
+use co_dict::{Dict, Shape};
+use co_pdos::{Configuration, Tpdo, is_pdo, tpdo_object};
+use std::alloc::{AllocError, Global};
+
+/// The TPDOs of a device as its entries say, by number; they remember nothing. Takes time by the
+/// logarithm of the number of entries, and by the TPDOs that there are.
+#[tactic(auto, using(crate::proofs::NumberLemmas::none_at_first, crate::proofs::NumberLemmas::one_more, crate::proofs::NumberLemmas::skipped, crate::proofs::NumberLemmas::all), unfolding(crate::specs::Tpdos::tpdos_of))]
+pub fn tpdos_of(alloc: Global, shape: &Shape, dict: &Dict) -> Result<Vec<TpdoState>, AllocError>
+    ensures { IfOk result (λ tpdos. tpdos.items ≡ tpdos_now shape.now dict.now) }
+{
+    let mut tpdos = Vec::new(alloc);
+    for number in 1..=LAST_PDO {
+        if is_pdo(shape, tpdo_object(number)) {
+            let configuration = Configuration::of(shape, dict, tpdo_object(number));
+            tpdos.push(TpdoState::of(number, configuration))?;
+        }
+    }
+    Ok(tpdos)
+}
+
+/// What the write of an entry of an object of TPDOs brings about: its TPDO is judged anew, and remembers
+/// nothing. Walks the TPDOs.
+#[tactic(auto, unfolding(crate::specs::Tpdos::tpdos_written))]
+pub fn write_tpdos(tpdos: &mut [TpdoState], shape: &Shape, dict: &Dict, index: u16)
+    ensures { tpdos.new ≡ tpdos_written shape.now dict.now index tpdos.old }
+{
+    let number = number_of_object(index);
+    for tpdo in tpdos.iter_mut() {
+        if tpdo.number == number {
+            let configuration = Configuration::of(shape, dict, tpdo_object(number));
+            *tpdo = TpdoState::of(number, configuration);
+        }
+    }
+}
+
+/// All TPDOs forget what they remember.
+#[tactic(auto, unfolding(crate::specs::Tpdos::tpdos_forgotten))]
+pub fn forget_tpdos(tpdos: &mut [TpdoState])
+    ensures { tpdos.new ≡ tpdos_forgotten tpdos.old }
+{
+    for tpdo in tpdos.iter_mut() {
+        tpdo.remembered = Tpdo::forgotten();
+    }
+}
+
+/// The inhibit moments that have come at t are forgotten.
+#[tactic(auto, unfolding(crate::specs::Tpdos::tpdos_freed))]
+pub fn free_tpdos(tpdos: &mut [TpdoState], t: u64)
+    ensures { tpdos.new ≡ tpdos_freed t tpdos.old }
+{
+    for tpdo in tpdos.iter_mut() {
+        tpdo.remembered.end_inhibit(t);
+    }
+}
+
+/// Looks at each TPDO in its turn, at the moment t in microseconds, at a SYNC or not: one that is sent
+/// gets a frame that waits, in the place of one of its own that still waits. Takes time by the TPDOs
+/// that work, their mapping, and the logarithm of the number of entries.
+#[tactic(auto, unfolding(crate::specs::Tpdos::tpdos_looked, crate::specs::Tpdos::with_tpdos))]
+pub fn look_at_tpdos(
+    tpdos: &mut [TpdoState],
+    t: u64,
+    at_sync: bool,
+    dict: &Dict,
+    waiting: &mut Pending,
+) -> Result<(), AllocError>
+    requires { t < 2 ^ 63 }
+    ensures tpdos { OnOk result (tpdos.new ≡ tpdos_looked t at_sync dict.now tpdos.old) }
+    ensures waiting { OnOk result (waiting.new ≡ with_tpdos t at_sync dict.now tpdos.old waiting.old) }
+{
+    for tpdo in tpdos.iter_mut() {
+        tpdo.take_turn(t, at_sync, dict, waiting)?;
+    }
+    Ok(())
+}
