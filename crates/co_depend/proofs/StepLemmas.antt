@@ -1,6 +1,6 @@
 -- The steps of windows: within their window, in order of time, and of the lengths of their entries' types.
-use Rattle.std.proofs.Common.{◌≡◌, ℕ, ◌+◌, ◌*◌, ◌≤◌, not, Bool, true, false, List, [], ◌∷◌, Option, Some, None, Result, Ok, Err, IfOk, Contains, option_map, option_and_then, filter_map, refl, sym, ap, subst, ◌∙◌, arith}
-use Rattle.std.specs.Prelude.{if◌then◌else◌}
+use Rattle.std.proofs.Common.{◌≡◌, ℕ, ◌+◌, ◌*◌, ◌≤◌, not, Bool, true, false, List, [], ◌∷◌, Option, Some, None, Result, Ok, Err, IfOk, Contains, length, option_map, option_and_then, filter_map, refl, sym, ap, subst, ◌∙◌, arith}
+use Rattle.std.specs.Prelude.{if◌then◌else◌, MatchOption}
 use Rattle.std.specs.FinMap.{get}
 use Rattle.std.specs.List.{AllByRecursion, cons_option}
 use Rattle.std.specs.List.Sorted.{IsStrictlySortedBy}
@@ -12,10 +12,12 @@ use Rattle.std.proofs.lemmas.List.Elements.{All-contains_itself, recursion_from_
 use Rattle.co_base.proofs.EachLemmas.{each_found}
 use Rattle.co_base.specs.Ranges.{is_between}
 use Rattle.pdo_plan.proofs.LimitLemmas.{between}
-use Rattle.co_values.specs.Types.{form, is_modelled_form}
+use Rattle.co_values.specs.Types.{form, is_modelled_form, len_of_form, octets}
 use Rattle.co_values.specs.declared.form.Form.{Form}
+use Rattle.co_values.specs.declared.form.Width.{Width}
+use Rattle.co_values.specs.declared.form.Width.TheVariants.{Bits8, Bits16, Bits32, Bits64}
 use Rattle.co_values.specs.declared.form.Form.TheVariants.{Flag, Signed, Unsigned, Characters, HexPairs, Unmodelled}
-use Rattle.co_values.specs.Values.{value, value_in, zero_value}
+use Rattle.co_values.specs.Values.{longest_value, value, value_in, zero_value}
 use Rattle.co_dict.specs.Pdos.{is_of_pdos}
 use Rattle.co_dict.specs.Shapes.{Shaped}
 use Rattle.co_dict.specs.Values.{HasLength}
@@ -144,7 +146,58 @@ module _ (shapes : Shapes) (events : Events) where
           holds s moment.1 has.0 has.1.0 (ap (λ (e : TimedEvent). step_of shapes e.event) (sym same) ∙ step.does) (step.time ∙ sym has.1.1)
           (ap (is_between (10000 * i) (10000 * i + 9999)) has.1.1 ∙ has.1.2)
 
--- ---- no PDO object is set
+-- ---- the value that is set
+
+-- it is what the text spells
+set_value : (entry : Entry) (text : List ℕ) (node : ℕ) → result_ok (set_at entry text node) ≡ value entry.kind text node
+unfolding value
+set_value entry text node = by (form entry.kind) (value_in (form entry.kind) text node) refl
+  where
+    by : (f : Form) (o : Option (List ℕ)) → value_in f text node ≡ o → result_ok (if not (is_modelled_form f) then Err NotModelled else option_map_or Ok o (Err Unreadable)) ≡ o
+    by Unmodelled None is = refl
+    by Unmodelled (Some bytes) is = cc
+    by Flag None is = refl
+    by Flag (Some bytes) is = refl
+    by (Signed width) None is = refl
+    by (Signed width) (Some bytes) is = refl
+    by (Unsigned width) None is = refl
+    by (Unsigned width) (Some bytes) is = refl
+    by Characters None is = refl
+    by Characters (Some bytes) is = refl
+    by HexPairs None is = refl
+    by HexPairs (Some bytes) is = refl
+
+spelled : (text : List ℕ) (node : ℕ) (bytes : List ℕ) (entry : Entry) → result_ok (set_at entry text node) ≡ Some bytes → HasLength entry.kind bytes
+spelled text node bytes entry given =
+    let is : value entry.kind text node ≡ Some bytes = sym (set_value entry text node) ∙ given in
+    subst (HasLength entry.kind) (ap (λ o. unwrap_or o (zero_value entry.kind)) is) (written_length entry.kind text node)
+
+-- no value is longer than 512 bytes
+short_of_width : (width : Width) (bytes : List ℕ) → length bytes ≡ octets width → length bytes ≤ longest_value
+short_of_width Bits8 bytes e = omega (arith, e)
+short_of_width Bits16 bytes e = omega (arith, e)
+short_of_width Bits32 bytes e = omega (arith, e)
+short_of_width Bits64 bytes e = omega (arith, e)
+
+short_of_form : (f : Form) (bytes : List ℕ) → MatchOption (len_of_form f) (length bytes ≤ longest_value) (λ n. length bytes ≡ n) → length bytes ≤ longest_value
+short_of_form Unmodelled bytes h = h
+short_of_form Flag bytes h = omega (arith, h)
+short_of_form (Signed width) bytes h = short_of_width width bytes h
+short_of_form (Unsigned width) bytes h = short_of_width width bytes h
+short_of_form Characters bytes h = h
+short_of_form HexPairs bytes h = h
+
+set_short : (text : List ℕ) (node : ℕ) (bytes : List ℕ) (place : ℕ × ℕ) (o : Option Shaped)
+    → option_and_then (λ (shape : Shaped). result_ok (judged_set (get shape.entries place) text node)) o ≡ Some bytes → length bytes ≤ longest_value
+unfolding judged_set
+set_short text node bytes place None given = cc
+set_short text node bytes place (Some shape) given = by (get shape.entries place) given
+  where
+    by : (e : Option Entry) → result_ok (judged_set e text node) ≡ Some bytes → length bytes ≤ longest_value
+    by None given = cc
+    by (Some entry) given = short_of_form (form entry.kind) bytes (spelled text node bytes entry given)
+
+-- ---- no PDO object is set, and no value is too long
 
 negated : (b : Bool) → not b ≡ true → b ≡ false
 negated true h = sym h
@@ -152,13 +205,13 @@ negated false h = refl
 
 free : (shapes : Shapes) (e : Event) (t : Step) → IsEvent e → step_of shapes e ≡ Some t → IsFree t
 unfolding IsEvent IsSetting
-free shapes (event.Set node index sub text) t is does = by (bytes_set shapes node index sub text) does
+free shapes (event.Set node index sub text) t is does = by (bytes_set shapes node index sub text) refl does
   where
-    by : (o : Option (List ℕ)) → option_map (set_step node index sub) o ≡ Some t → IsFree t
-    by None does = cc
-    by (Some bytes) does =
+    by : (o : Option (List ℕ)) → bytes_set shapes node index sub text ≡ o → option_map (set_step node index sub) o ≡ Some t → IsFree t
+    by None given does = cc
+    by (Some bytes) given does =
         let same : set_step node index sub bytes ≡ t = cc in
-        subst IsFree same (negated (is_of_pdos index) is.1.1)
+        subst IsFree same (negated (is_of_pdos index) is.1.1, set_short text node bytes (index, sub) (shapes node) given)
 free shapes (event.Power node on) t is does =
     let same : step.Power node on ≡ t = cc in
     subst IsFree same tt
@@ -196,27 +249,6 @@ none_behind shapes p sound i late = empty (steps_in shapes p.events i) (each_ste
         let early = between 0 10000000 e.time is.1 in
         omega (arith, range.0, early.1, late)
 
--- ---- the value that is set
-
--- it is what the text spells
-set_value : (entry : Entry) (text : List ℕ) (node : ℕ) → result_ok (set_at entry text node) ≡ value entry.kind text node
-unfolding value
-set_value entry text node = by (form entry.kind) (value_in (form entry.kind) text node) refl
-  where
-    by : (f : Form) (o : Option (List ℕ)) → value_in f text node ≡ o → result_ok (if not (is_modelled_form f) then Err NotModelled else option_map_or Ok o (Err Unreadable)) ≡ o
-    by Unmodelled None is = refl
-    by Unmodelled (Some bytes) is = cc
-    by Flag None is = refl
-    by Flag (Some bytes) is = refl
-    by (Signed width) None is = refl
-    by (Signed width) (Some bytes) is = refl
-    by (Unsigned width) None is = refl
-    by (Unsigned width) (Some bytes) is = refl
-    by Characters None is = refl
-    by Characters (Some bytes) is = refl
-    by HexPairs None is = refl
-    by HexPairs (Some bytes) is = refl
-
 module _ (nodes : AllHeld) (node index sub : ℕ) (text : List ℕ) where
   abbrev at_entry : Option Held → Option Entry
   at_entry o = option_and_then (λ (h : Held). get h.shape.entries (index, sub)) o
@@ -249,17 +281,12 @@ module _ (nodes : AllHeld) (node index sub : ℕ) (text : List ℕ) where
 -- ---- a value has the length of its entry's type
 
 module _ (text : List ℕ) (node : ℕ) (bytes : List ℕ) where
-  spelled : (entry : Entry) → result_ok (set_at entry text node) ≡ Some bytes → HasLength entry.kind bytes
-  spelled entry given =
-      let is : value entry.kind text node ≡ Some bytes = sym (set_value entry text node) ∙ given in
-      subst (HasLength entry.kind) (ap (λ o. unwrap_or o (zero_value entry.kind)) is) (written_length entry.kind text node)
-
   set_fits : (place : ℕ × ℕ) (o : Option Shaped) → option_and_then (λ (shape : Shaped). result_ok (judged_set (get shape.entries place) text node)) o ≡ Some bytes
       → (entry : Entry) → get (or_else no_shape o).entries place ≡ Some entry → HasLength entry.kind bytes
   unfolding judged_set
   set_fits place None given entry there = cc
   set_fits place (Some shape) given entry there =
-      spelled entry (sym (ap (λ (o : Option Entry). result_ok (judged_set o text node)) there) ∙ given)
+      spelled text node bytes entry (sym (ap (λ (o : Option Entry). result_ok (judged_set o text node)) there) ∙ given)
 
 step_fits : (p : Project) (e : Event) (s : TimedStep) → step_of (shape_of_node p) e ≡ Some s.step → FitsShape (image_of p) s
 step_fits p (event.Set node index sub text) s does = by (bytes_set (shape_of_node p) node index sub text) refl does
