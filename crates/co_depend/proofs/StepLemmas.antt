@@ -1,6 +1,6 @@
 -- The steps of windows: within their window, in order of time, and of the lengths of their entries' types.
 use Rattle.std.proofs.Common.{◌≡◌, ℕ, ◌+◌, ◌*◌, ◌≤◌, not, Bool, true, false, List, [], ◌∷◌, Option, Some, None, Result, Ok, Err, IfOk, Contains, length, option_map, option_and_then, filter_map, refl, sym, ap, subst, ◌∙◌, arith}
-use Rattle.std.specs.Prelude.{if◌then◌else◌, MatchOption}
+use Rattle.std.specs.Prelude.{if◌then◌else◌, MatchOption, ◌↔◌}
 use Rattle.std.specs.FinMap.{get}
 use Rattle.std.specs.List.{AllByRecursion, cons_option}
 use Rattle.std.specs.List.Sorted.{IsStrictlySortedBy}
@@ -26,6 +26,7 @@ use Rattle.eds_device.proofs.LengthLemmas.{written_length}
 use Rattle.co_params.specs.declared.parameter_fault.ParameterFault.TheVariants.{NotModelled, Unreadable}
 use Rattle.co_params.specs.Judgement.{judged_set, set_at}
 use Rattle.co_edits.specs.Edits.{IsEvent, IsSetting}
+use Rattle.co_params.proofs.WrittenLemmas.{Contains-filter_map, from_filter_map}
 use Rattle.co_project.specs.Project.{Content as Project}
 use Rattle.co_project.specs.Sound.{IsEventOf, IsSound}
 use Rattle.co_scenario.proofs.BetweenLemmas.{has_exactly, rise}
@@ -40,7 +41,7 @@ use Rattle.co_parts.specs.Contents.{no_shape, or_else}
 use Rattle.co_parts.specs.Images.{AreInOrder, FitsShape, IsFree, IsWithin}
 use Rattle.co_depend.specs.Held.{shapes_held, AllHeld, Held, IsWindow}
 use Rattle.co_depend.specs.Image.{image_of, shape_of_node, window_steps}
-use Rattle.co_depend.specs.Steps.{at_moment, bytes_set, set_step, step_of, steps_in, timed_step_of, unless_none, Shapes}
+use Rattle.co_depend.specs.Steps.{IsStepIn, at_moment, bytes_set, set_step, step_of, steps_in, timed_step_of, unless_none, Shapes}
 
 -- what holds of each that is picked
 picked : {X Y : Type 0} (f : X → Option Y) (P : X → Type 0) (Q : Y → Type 0) → ((x : X) (y : Y) → P x → f x ≡ Some y → Q y)
@@ -71,6 +72,7 @@ steps_said P none (s ∷ steps) are = are
 module _ (shapes : Shapes) (events : Events) where
   -- a step does what the event of its moment does
   record IsStepOf (moment : ℕ × ℕ) (s : TimedStep) : Type 0 where
+    number : s.number ≡ moment.1
     time : s.time ≡ moment.0
     event : TimedEvent
     found : get events moment.1 ≡ Some event
@@ -84,7 +86,7 @@ module _ (shapes : Shapes) (events : Events) where
       with_event e found None does is = cc
       with_event e found (Some t) does is =
           let same : at_moment moment t ≡ s = cc in
-          record { time = sym (ap (λ (x : TimedStep). x.time) same); event = e; found = found; does = does ∙ ap Some (ap (λ (x : TimedStep). x.step) same) }
+          record { number = sym (ap (λ (x : TimedStep). x.number) same); time = sym (ap (λ (x : TimedStep). x.time) same); event = e; found = found; does = does ∙ ap Some (ap (λ (x : TimedStep). x.step) same) }
 
       by : (o : Option TimedEvent) → get events moment.1 ≡ o
           → option_map (at_moment moment) (option_and_then (λ (e : TimedEvent). step_of shapes e.event) o) ≡ Some s → IsStepOf moment s
@@ -145,6 +147,34 @@ module _ (shapes : Shapes) (events : Events) where
           let same : step.event ≡ has.0 = ap (λ o. unwrap_or o has.0) one in
           holds s moment.1 has.0 has.1.0 (ap (λ (e : TimedEvent). step_of shapes e.event) (sym same) ∙ step.does) (step.time ∙ sym has.1.1)
           (ap (is_between (10000 * i) (10000 * i + 9999)) has.1.1 ∙ has.1.2)
+
+  -- ---- these, and no others
+
+  its_event : (i : ℕ) (s : TimedStep) → Contains (steps_in shapes events i) s → IsStepIn shapes events i s
+  unfolding steps_in
+  its_event i s there =
+      let first : ℕ = 10000 * i in
+      let last : ℕ = 10000 * i + 9999 in
+      let from = from_filter_map (timed_step_of shapes events) (events_between first last events) s there in
+      let has = (has_exactly first last from.0 events).0 from.1 in
+      let step = made from.0 s from.2 in
+      (step.event, (ap (get events) step.number ∙ step.found, event_time from.0 has step.event (sym has.1.0 ∙ step.found) ∙ sym step.time, step.does, ap (is_between first last) step.time ∙ has.1.2))
+    where
+      event_time : (moment : ℕ × ℕ) (has : HasEventBetween (10000 * i) (10000 * i + 9999) events moment) (e : TimedEvent) → Some has.0 ≡ Some e → e.time ≡ moment.0
+      event_time moment has e same = ap (λ (x : TimedEvent). x.time) (sym (ap (λ o. unwrap_or o e) same)) ∙ has.1.1
+
+  listed : (i : ℕ) (s : TimedStep) → IsStepIn shapes events i s → Contains (steps_in shapes events i) s
+  unfolding steps_in timed_step_of
+  listed i s is =
+      let moment : ℕ × ℕ = (s.time, s.number) in
+      let first : ℕ = 10000 * i in
+      let last : ℕ = 10000 * i + 9999 in
+      Contains-filter_map (timed_step_of shapes events) (events_between first last events) moment s
+      ((has_exactly first last moment events).1 (is.0, (is.1.0, is.1.1, is.1.3)))
+      (ap (λ (o : Option TimedEvent). option_map (at_moment moment) (option_and_then (λ (e : TimedEvent). step_of shapes e.event) o)) is.1.0 ∙ ap (option_map (at_moment moment)) is.1.2)
+
+  pub exactly_these : (i : ℕ) (s : TimedStep) → Contains (steps_in shapes events i) s ↔ IsStepIn shapes events i s
+  exactly_these i s = (its_event i s, listed i s)
 
 -- ---- the value that is set
 

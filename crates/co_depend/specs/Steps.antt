@@ -1,7 +1,8 @@
 -- What the events of a scenario do, by windows of ten milliseconds (this profile's own).
-use Rattle.std.specs.Prelude.{ℕ, ◌+◌, ◌*◌, List, [], ◌∷◌, Option, Some, None, option_map, option_and_then, filter_map}
+use Rattle.std.specs.Prelude.{◌≡◌, ℕ, true, ◌+◌, ◌*◌, List, [], ◌∷◌, Option, Some, None, option_map, option_and_then, filter_map}
 use Rattle.std.specs.FinMap.{get}
 use Rattle.std.specs.Result.{result_ok}
+use Rattle.co_base.specs.Ranges.{is_between}
 use Rattle.co_dict.specs.Shapes.{Shaped}
 use Rattle.co_params.specs.Judgement.{judged_set}
 use Rattle.co_scenario.specs.Scenario.{events_between, Events}
@@ -44,3 +45,8 @@ steps_in shapes events i = filter_map (timed_step_of shapes events) (events_betw
 abbrev pub unless_none : List TimedStep → Option (List TimedStep)
 unless_none [] = None
 unless_none (s ∷ steps) = Some (s ∷ steps)
+
+-- a step does what the event of its number does, at the time of that event, which lies in window i
+abbrev pub IsStepIn : Shapes → Events → ℕ → TimedStep → Type 0
+IsStepIn shapes events i s =
+    (e : TimedEvent) × ((get events s.number ≡ Some e) × (e.time ≡ s.time) × (step_of shapes e.event ≡ Some s.step) × (is_between (10000 * i) (10000 * i + 9999) s.time ≡ true))
