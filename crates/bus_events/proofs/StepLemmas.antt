@@ -1,13 +1,13 @@
 -- Events in order of time.
-use Rattle.std.proofs.Common.{◌≡◌, ℕ, zero, suc, ◌+◌, ◌<◌, ◌≤◌, Bool, true, false, List, [], ◌∷◌, ◌++◌, length, get_or, take, drop, refl, ap, arith}
-use Rattle.std.specs.Prelude.{◌==◌, All}
+use Rattle.std.proofs.Common.{◌≡◌, ℕ, zero, suc, ◌+◌, ◌<◌, ◌≤◌, Bool, true, false, List, [], ◌∷◌, ◌++◌, length, get_or, take, drop, refl, ap, arith, sym, ◌∙◌}
+use Rattle.std.specs.Prelude.{◌==◌, All, filter, nat_le}
 use Rattle.std.specs.List.{AllByRecursion, prefix_len}
 use Rattle.std.proofs.lemmas.Bool.Decides.{nat_tests}
 use Rattle.std.proofs.lemmas.List.{take-append-drop}
 use Rattle.std.proofs.lemmas.List.Elements.{All-cons, All-head, All-nil, All-tail}
 use Rattle.co_parts.specs.Images.{AreInOrder, IsFree, IsWithin}
 use Rattle.co_scenario.specs.declared.timed_step.TimedStep.{TimedStep}
-use Rattle.bus_events.specs.Steps.{AreFree, LieFrom, has_time, steps_due, steps_left}
+use Rattle.bus_events.specs.Steps.{AreFree, LieFrom, has_time, steps_due, steps_from, steps_left}
 
 pub free_at : (steps : List TimedStep) (i : ℕ) (d : TimedStep) → i < length steps → AreFree steps → IsFree (get_or steps i d).step
 free_at [] i d within free = absurd (omega (arith, within))
@@ -100,3 +100,81 @@ left_in_order t (s ∷ steps) order = by (left_in_order t steps (rest_in_order s
     by : AreInOrder (steps_left t steps) → (b : Bool) → has_time t s ≡ b → AreInOrder (steps_left t (s ∷ steps))
     by rest true e = rw (left_after t s steps e) rest
     by rest false e = rw (left_all t s steps e) order
+
+-- ---- of all events of a window, those that are due and those that are left
+
+is_from : (t time : ℕ) → t ≤ time → nat_le t time ≡ true
+is_from t time h = grind (arith, nat_tests)
+
+from_is : (t time : ℕ) → nat_le t time ≡ true → t ≤ time
+from_is t time e = grind (arith, nat_tests)
+
+is_before : (t time : ℕ) → nat_le t time ≡ false → (time == t) ≡ false
+is_before t time e = grind (arith, nat_tests)
+
+is_before_next : (t time : ℕ) → nat_le t time ≡ false → nat_le (t + 1) time ≡ false
+is_before_next t time e = grind (arith, nat_tests)
+
+is_over : (t time : ℕ) → (time == t) ≡ true → nat_le (t + 1) time ≡ false
+is_over t time e = grind (arith, nat_tests)
+
+is_not_at : (t time : ℕ) → t + 1 ≤ time → (time == t) ≡ false
+is_not_at t time h = grind (arith, nat_tests)
+
+pub all_stay : (t : ℕ) (steps : List TimedStep) → LieFrom t steps → steps_from t steps ≡ steps
+all_stay t [] h = refl
+all_stay t (s ∷ steps) h =
+    rw (is_from t s.time (All-head (λ (step : TimedStep). t ≤ step.time) s steps h))
+    (ap (λ (rest : List TimedStep). s ∷ rest) (all_stay t steps (All-tail (λ (step : TimedStep). t ≤ step.time) s steps h)))
+
+none_at : (t : ℕ) (steps : List TimedStep) → LieFrom (t + 1) steps → filter (has_time t) steps ≡ []
+none_at t [] h = refl
+none_at t (s ∷ steps) h =
+    rw (is_not_at t s.time (All-head (λ (step : TimedStep). t + 1 ≤ step.time) s steps h))
+    (none_at t steps (All-tail (λ (step : TimedStep). t + 1 ≤ step.time) s steps h))
+
+-- all from the next moment on, where the first isn't of this one
+later_ones : (t : ℕ) (s : TimedStep) (steps : List TimedStep) → AreInOrder (s ∷ steps) → t ≤ s.time → has_time t s ≡ false → LieFrom (t + 1) (s ∷ steps)
+later_ones t s steps order from e = in_order_from (t + 1) s steps order (it_is_later t s.time e from)
+
+due_of_these : (t : ℕ) (steps : List TimedStep) → AreInOrder steps → LieFrom t steps → steps_due t steps ≡ filter (has_time t) steps
+unfolding steps_due
+due_of_these t [] order from = refl
+due_of_these t (s ∷ steps) order from =
+    by (All-head (λ (step : TimedStep). t ≤ step.time) s steps from) (due_of_these t steps (rest_in_order s steps order) (All-tail (λ (step : TimedStep). t ≤ step.time) s steps from)) (has_time t s) refl
+  where
+    by : t ≤ s.time → steps_due t steps ≡ filter (has_time t) steps → (b : Bool) → has_time t s ≡ b → steps_due t (s ∷ steps) ≡ filter (has_time t) (s ∷ steps)
+    by h rest true e = due_first t s steps e ∙ ap (λ (xs : List TimedStep). s ∷ xs) rest ∙ sym (rw e refl)
+    by h rest false e = due_none t s steps e ∙ sym (none_at t (s ∷ steps) (later_ones t s steps order h e))
+
+left_of_these : (t : ℕ) (steps : List TimedStep) → AreInOrder steps → LieFrom t steps → steps_left t steps ≡ steps_from (t + 1) steps
+unfolding steps_left
+left_of_these t [] order from = refl
+left_of_these t (s ∷ steps) order from =
+    by (All-head (λ (step : TimedStep). t ≤ step.time) s steps from) (left_of_these t steps (rest_in_order s steps order) (All-tail (λ (step : TimedStep). t ≤ step.time) s steps from)) (has_time t s) refl
+  where
+    by : t ≤ s.time → steps_left t steps ≡ steps_from (t + 1) steps → (b : Bool) → has_time t s ≡ b → steps_left t (s ∷ steps) ≡ steps_from (t + 1) (s ∷ steps)
+    by h rest true e = left_after t s steps e ∙ rest ∙ sym (rw (is_over t s.time e) refl)
+    by h rest false e = left_all t s steps e ∙ sym (all_stay (t + 1) (s ∷ steps) (later_ones t s steps order h e))
+
+pub due_of_all : (t : ℕ) (steps : List TimedStep) → AreInOrder steps → steps_due t (steps_from t steps) ≡ filter (has_time t) steps
+unfolding steps_due
+due_of_all t [] order = refl
+due_of_all t (s ∷ steps) order = by (due_of_all t steps (rest_in_order s steps order)) (nat_le t s.time) refl
+  where
+    by : steps_due t (steps_from t steps) ≡ filter (has_time t) steps → (b : Bool) → nat_le t s.time ≡ b → steps_due t (steps_from t (s ∷ steps)) ≡ filter (has_time t) (s ∷ steps)
+    by rest true e =
+        let from = in_order_from t s steps order (from_is t s.time e) in
+        ap (steps_due t) (all_stay t (s ∷ steps) from) ∙ due_of_these t (s ∷ steps) order from
+    by rest false e = rw (e, is_before t s.time e) rest
+
+pub left_of_all : (t : ℕ) (steps : List TimedStep) → AreInOrder steps → steps_left t (steps_from t steps) ≡ steps_from (t + 1) steps
+unfolding steps_left
+left_of_all t [] order = refl
+left_of_all t (s ∷ steps) order = by (left_of_all t steps (rest_in_order s steps order)) (nat_le t s.time) refl
+  where
+    by : steps_left t (steps_from t steps) ≡ steps_from (t + 1) steps → (b : Bool) → nat_le t s.time ≡ b → steps_left t (steps_from t (s ∷ steps)) ≡ steps_from (t + 1) (s ∷ steps)
+    by rest true e =
+        let from = in_order_from t s steps order (from_is t s.time e) in
+        ap (steps_left t) (all_stay t (s ∷ steps) from) ∙ left_of_these t (s ∷ steps) order from
+    by rest false e = rw (e, is_before_next t s.time e) rest

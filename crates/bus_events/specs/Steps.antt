@@ -1,5 +1,5 @@
 -- The events of a window, in order of time and then of number.
-use Rattle.std.specs.Prelude.{◌≤◌, ◌==◌, ℕ, Bool, All, List, [], take, drop, Option}
+use Rattle.std.specs.Prelude.{◌≤◌, ◌==◌, ℕ, Bool, All, List, [], take, drop, Option, filter, nat_le}
 use Rattle.std.specs.List.{AllByRecursion, prefix_len}
 use Rattle.std.specs.declared.rc.Rc.{Rc}
 use Rattle.co_parts.specs.Contents.{or_else}
@@ -29,3 +29,7 @@ steps_left t steps = drop (prefix_len (has_time t) steps) steps
 -- no event has a time before t
 abbrev pub LieFrom : ℕ → List TimedStep → Type 0
 LieFrom t steps = All (λ step. t ≤ step.time) steps
+
+-- those with a time from t on
+abbrev pub steps_from : ℕ → List TimedStep → List TimedStep
+steps_from t steps = filter (λ step. nat_le t step.time) steps

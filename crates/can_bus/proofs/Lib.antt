@@ -9,3 +9,4 @@ pub mod ReadLemmas
 pub mod ToldLemmas
 pub mod SettledLemmas
 pub mod StartLemmas
+pub mod TimeLemmas
