@@ -174,12 +174,11 @@ impl DeviceState {
         ensures counted { OnOk result (P.asks shapes.new ≤ P.asks shapes.old + length (reads (sync_received t self.old) (P.seen shapes.old).image)) }
         ensures kept { (P.seen shapes.new).image ≡ (P.seen shapes.old).image }
     {
-        if !self.is_in(NmtState::Operational) {
-            return Ok(());
-        }
-        self.synced = true;
-        for i in 0..self.rpdos.len() {
-            self.sync_rpdo(t, i, shapes)?;
+        if self.is_in(NmtState::Operational) {
+            self.synced = true;
+            for i in 0..self.rpdos.len() {
+                self.sync_rpdo(t, i, shapes)?;
+            }
         }
         Ok(())
     }
