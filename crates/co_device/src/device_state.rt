@@ -9,14 +9,13 @@ ghost use Rattle.co_device.specs.Device.{is_in as is_in_state, powered, ran, was
 ghost use Rattle.co_device.specs.Receiving.{received};
 
 use crate::nmt_state::NmtState;
-use crate::sameness::{same_consumers, same_learnt, same_rpdos, same_tpdos};
 use crate::shapes::Shapes;
 use can_frame::{Contender, Frame, Pending, Waiting};
 use co_dict::Dict;
 use co_parts::END;
-use co_profile::{Consumer, Learnt};
+use co_profile::{Consumer, Learnt, same_consumers};
 use co_sdo::transfer::{self, Transfer};
-use device_pdos::{RpdoState, TpdoState};
+use device_pdos::{RpdoState, TpdoState, same_rpdos, same_tpdos};
 use std::alloc::{AllocError, Global};
 use std::marker::Model;
 
@@ -108,50 +107,26 @@ impl DeviceState {
     fn is_like(&self, other: &DeviceState) -> bool
         ensures { IsTrue result ↔ (record self.now { values = other.now.values; consumers = other.now.consumers; rpdos = other.now.rpdos; tpdos = other.now.tpdos; waiting = other.now.waiting; transfer = other.now.transfer } ≡ other.now) }
     {
-        if self.spent != other.spent {
-            return false;
-        }
-        if self.number != other.number {
-            return false;
-        }
-        if self.has_power != other.has_power {
-            return false;
-        }
-        if self.state != other.state {
-            return false;
-        }
-        if !same_learnt(self.learnt, other.learnt) {
-            return false;
-        }
-        if self.synced != other.synced {
-            return false;
-        }
-        self.heartbeat == other.heartbeat
+        self.spent == other.spent
+            && self.number == other.number
+            && self.has_power == other.has_power
+            && self.state == other.state
+            && self.learnt.same(&other.learnt)
+            && self.synced == other.synced
+            && self.heartbeat == other.heartbeat
     }
 
     /// Whether the other device is the same.
     pub fn same(&self, other: &DeviceState) -> bool
         ensures { IsTrue result ↔ (self.now ≡ other.now) }
     {
-        if !self.is_like(other) {
-            return false;
-        }
-        if !transfer::same(&self.transfer, &other.transfer) {
-            return false;
-        }
-        if !same_consumers(&self.consumers, &other.consumers) {
-            return false;
-        }
-        if !same_rpdos(&self.rpdos, &other.rpdos) {
-            return false;
-        }
-        if !same_tpdos(&self.tpdos, &other.tpdos) {
-            return false;
-        }
-        if !self.values.same(&other.values) {
-            return false;
-        }
-        self.waiting.same(&other.waiting)
+        self.is_like(other)
+            && transfer::same(&self.transfer, &other.transfer)
+            && same_consumers(&self.consumers, &other.consumers)
+            && same_rpdos(&self.rpdos, &other.rpdos)
+            && same_tpdos(&self.tpdos, &other.tpdos)
+            && self.values.same(&other.values)
+            && self.waiting.same(&other.waiting)
     }
 
     /// Whether a call before found no memory.

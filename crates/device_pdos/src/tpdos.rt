@@ -1,6 +1,6 @@
 //! The TPDOs of a device, by number.
 
-ghost use Rattle.std.specs.Prelude.{◌≡◌, ◌<◌, ◌^◌, IfOk, OnOk};
+ghost use Rattle.std.specs.Prelude.{◌≡◌, ◌<◌, ◌^◌, IfOk, OnOk, ◌↔◌, IsTrue};
 ghost use Rattle.device_pdos.specs.Tpdos.{tpdos_forgotten, tpdos_freed, tpdos_looked, tpdos_of as tpdos_now, tpdos_written, with_tpdos};
 
 use crate::numbers::{LAST_PDO, number_of_object};
@@ -80,4 +80,19 @@ pub fn look_at_tpdos(
         tpdo.take_turn(t, at_sync, dict, waiting)?;
     }
     Ok(())
+}
+
+/// Whether two lists of TPDOs are the same.
+pub fn same_tpdos(tpdos: &[TpdoState], others: &[TpdoState]) -> bool
+    ensures { IsTrue result ↔ (tpdos.now ≡ others.now) }
+{
+    if tpdos.len() != others.len() {
+        return false;
+    }
+    for place in 0..tpdos.len() {
+        if !tpdos[place].same(&others[place]) {
+            return false;
+        }
+    }
+    true
 }

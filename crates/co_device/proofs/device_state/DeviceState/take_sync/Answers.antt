@@ -3,7 +3,7 @@ use Rattle.co_device.specs.Device.{Device}
 use Rattle.co_device.specs.Receiving.{rpdo_synced}
 use Rattle.co_device.proofs.RpdoLemmas.{synced_many}
 use Rattle.co_device.proofs.WalkLemmas.{walked_state, walked_noted, walked_counted}
-use Rattle.co_device.proofs.device_state.DeviceState.sync_rpdos.Goals as goal
+use Rattle.co_device.proofs.device_state.DeviceState.take_sync.Goals as goal
 
 pub loop-i-preserved : goal.loop-i-preserved
 loop-i-preserved g c =

@@ -18,7 +18,7 @@ const FIRST_OF_COMMUNICATION: u16 = 0x1000;
 const LAST_OF_COMMUNICATION: u16 = 0x1FFF;
 
 /// A copy of the default values; none where there are none.
-pub(crate) fn values_of(alloc: Global, defaults: &Option<Rc<Dict>>) -> Result<Dict, AllocError>
+pub fn values_of(alloc: Global, defaults: &Option<Rc<Dict>>) -> Result<Dict, AllocError>
     ensures { IfOk result (λ dict. dict ≡ or_else map.empty (shared defaults.now)) }
 {
     match defaults {
@@ -31,7 +31,7 @@ pub(crate) fn values_of(alloc: Global, defaults: &Option<Rc<Dict>>) -> Result<Di
 }
 
 /// A copy of the values, where those of the communication profile area are as in the defaults.
-pub(crate) fn communication_restored(
+pub fn communication_restored(
     alloc: Global,
     values: &Dict,
     defaults: &Option<Rc<Dict>>,
