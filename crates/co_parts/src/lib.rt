@@ -2,6 +2,7 @@
 #![tactic(auto)]
 
 mod content;
+mod earliest;
 mod identity;
 mod moments;
 mod part;
@@ -10,6 +11,7 @@ mod roster;
 mod window;
 
 pub use content::PartContent;
+pub use earliest::earlier;
 pub use identity::Identity;
 pub use moments::END;
 pub use part::Part;
