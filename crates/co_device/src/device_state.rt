@@ -5,14 +5,14 @@ ghost use Rattle.asking.specs.Asking.{followed, outcome, reads};
 ghost use Rattle.can_frame.specs.Winner.{contenders_of, IsWinner};
 ghost use Rattle.co_base.specs.Ranges.{is_between};
 ghost use Rattle.co_values.specs.Values.{longest_value};
-ghost use Rattle.co_device.specs.Device.{is_in as is_in_state, powered, ran, was_set, without_power};
+ghost use Rattle.co_device.specs.Device.{is_in as is_in_state, next_due, powered, ran, was_set, without_power};
 ghost use Rattle.co_device.specs.Receiving.{received};
 
 use crate::nmt_state::NmtState;
 use crate::shapes::Shapes;
 use can_frame::{Contender, Frame, Pending, Waiting};
 use co_dict::Dict;
-use co_parts::END;
+use co_parts::{END, earlier};
 use co_profile::{Consumer, Learnt, same_consumers};
 use co_sdo::transfer::{self, Transfer};
 use device_pdos::{RpdoState, TpdoState, same_rpdos, same_tpdos};
@@ -155,6 +155,15 @@ impl DeviceState {
         ensures { result ≡ is_in_state state self.now }
     {
         self.state == state
+    }
+
+    /// The first moment at which it is due, if there is one. Walks its consumers and its TPDOs.
+    #[tactic(auto, using(co_parts::proofs::EarliestLemmas::earliest_append, co_parts::proofs::EarliestLemmas::earliest_of), unfolding(crate::specs::Device::next_due))]
+    pub fn next_due(&self) -> Option<u64>
+        ensures { result ≡ next_due self.now }
+    {
+        let next = earlier(self.heartbeat, co_profile::next_moment(&self.consumers));
+        earlier(next, device_pdos::next_moment(&self.tpdos))
     }
 
     /// The frame with which it contends for the bus: the first of those waiting that have the least

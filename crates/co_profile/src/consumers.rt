@@ -2,11 +2,12 @@
 
 ghost use Rattle.std.specs.Prelude.{◌≡◌, ◌<◌, IfOk, ◌↔◌, IsTrue};
 ghost use Rattle.co_dict.specs.PdoChecks.{has_type, is_unsigned32};
-ghost use Rattle.co_profile.specs.Consumers.{all_expired, all_heard, any_failed as some_failed, consumer_entry, consumer_time, consumers_of as consumers_now, consumers_written, expects, failures as failures_now, heard};
+ghost use Rattle.co_parts.specs.Moments.{earliest};
+ghost use Rattle.co_profile.specs.Consumers.{all_expired, all_heard, any_failed as some_failed, consumer_entry, consumer_time, consumers_of as consumers_now, consumers_written, expects, failures as failures_now, heard, moments};
 
 use crate::consumer::Consumer;
 use co_dict::{Dict, Shape};
-use co_parts::{END, is_due};
+use co_parts::{END, earlier, is_due};
 use co_values::DataType;
 use std::alloc::{AllocError, Global};
 
@@ -137,4 +138,16 @@ pub fn same_consumers(consumers: &[Consumer], others: &[Consumer]) -> bool
         }
     }
     true
+}
+
+/// The first moment at which one of the consumers fails, in microseconds, if one has started. Walks the
+/// consumers.
+pub fn next_moment(consumers: &[Consumer]) -> Option<u64>
+    ensures { result ≡ earliest (moments consumers.now) }
+{
+    let mut next = None;
+    for consumer in consumers {
+        next = earlier(next, consumer.moment);
+    }
+    next
 }

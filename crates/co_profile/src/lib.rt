@@ -11,7 +11,9 @@ mod learnt;
 mod profile;
 
 pub use consumer::Consumer;
-pub use consumers::{any_failed, consumers_of, expire, failures, forget, hear, same_consumers};
+pub use consumers::{
+    any_failed, consumers_of, expire, failures, forget, hear, next_moment, same_consumers,
+};
 pub use defaults::{communication_restored, values_of};
 pub use emergencies::emergency_frame;
 pub use learnt::Learnt;

@@ -7,10 +7,10 @@ ghost use Rattle.nmt_boot.specs.Manager as rules;
 
 use crate::booting::Booting;
 use crate::notes::Notes;
-use crate::table::{self, earlier, first_deadline};
+use crate::table::{self, first_deadline};
 use crate::telling::{note, send_command, tell};
 use can_frame::{Contender, Frame, Pending, Purpose, Unwanted, Waiting, identifiers};
-use co_parts::{END, Roster, is_due, moment_after};
+use co_parts::{END, Roster, earlier, is_due, moment_after};
 use co_scenario::NmtCommand;
 use node_boot::Boots;
 use std::alloc::{AllocError, Global};
