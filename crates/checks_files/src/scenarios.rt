@@ -73,7 +73,7 @@ fn events_come_by_time_and_number(alloc: Global) -> Result<bool, AllocError> {
     script.put(8, start_of(1, 201))?;
     script.put(4, start_of(1, 49))?;
     let moments = script.events_between(alloc, 50, 200)?;
-    Ok(moments.as_slice() == [(50, 9), (100, 2), (100, 3), (200, 1)])
+    Ok(moments.as_slice() == [(50, 9), (100, 2), (100, 3), (200, 1)].as_slice())
 }
 
 #[test]
