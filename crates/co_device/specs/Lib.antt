@@ -1,4 +1,2 @@
 pub mod Device
 pub mod Receiving
-pub mod Ahead
-pub mod States

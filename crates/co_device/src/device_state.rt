@@ -5,18 +5,17 @@ ghost use Rattle.asking.specs.Asking.{followed, outcome, reads};
 ghost use Rattle.can_frame.specs.Winner.{contenders_of, IsWinner};
 ghost use Rattle.co_base.specs.Ranges.{is_between};
 ghost use Rattle.co_values.specs.Values.{longest_value};
-ghost use Rattle.co_device.specs.Device.{is_in as is_in_state, powered, ran, was_set, without_power};
+ghost use Rattle.co_device.specs.Device.{is_in as is_in_state, next_due, powered, ran, was_set, without_power};
 ghost use Rattle.co_device.specs.Receiving.{received};
 
 use crate::nmt_state::NmtState;
-use crate::sameness::{same_consumers, same_learnt, same_rpdos, same_tpdos};
 use crate::shapes::Shapes;
 use can_frame::{Contender, Frame, Pending, Waiting};
 use co_dict::Dict;
-use co_parts::END;
-use co_profile::{Consumer, Learnt};
+use co_parts::{END, earlier};
+use co_profile::{Consumer, Learnt, same_consumers};
 use co_sdo::transfer::{self, Transfer};
-use device_pdos::{RpdoState, TpdoState};
+use device_pdos::{RpdoState, TpdoState, same_rpdos, same_tpdos};
 use std::alloc::{AllocError, Global};
 use std::marker::Model;
 
@@ -108,50 +107,26 @@ impl DeviceState {
     fn is_like(&self, other: &DeviceState) -> bool
         ensures { IsTrue result ↔ (record self.now { values = other.now.values; consumers = other.now.consumers; rpdos = other.now.rpdos; tpdos = other.now.tpdos; waiting = other.now.waiting; transfer = other.now.transfer } ≡ other.now) }
     {
-        if self.spent != other.spent {
-            return false;
-        }
-        if self.number != other.number {
-            return false;
-        }
-        if self.has_power != other.has_power {
-            return false;
-        }
-        if self.state != other.state {
-            return false;
-        }
-        if !same_learnt(self.learnt, other.learnt) {
-            return false;
-        }
-        if self.synced != other.synced {
-            return false;
-        }
-        self.heartbeat == other.heartbeat
+        self.spent == other.spent
+            && self.number == other.number
+            && self.has_power == other.has_power
+            && self.state == other.state
+            && self.learnt.same(&other.learnt)
+            && self.synced == other.synced
+            && self.heartbeat == other.heartbeat
     }
 
     /// Whether the other device is the same.
     pub fn same(&self, other: &DeviceState) -> bool
         ensures { IsTrue result ↔ (self.now ≡ other.now) }
     {
-        if !self.is_like(other) {
-            return false;
-        }
-        if !transfer::same(&self.transfer, &other.transfer) {
-            return false;
-        }
-        if !same_consumers(&self.consumers, &other.consumers) {
-            return false;
-        }
-        if !same_rpdos(&self.rpdos, &other.rpdos) {
-            return false;
-        }
-        if !same_tpdos(&self.tpdos, &other.tpdos) {
-            return false;
-        }
-        if !self.values.same(&other.values) {
-            return false;
-        }
-        self.waiting.same(&other.waiting)
+        self.is_like(other)
+            && transfer::same(&self.transfer, &other.transfer)
+            && same_consumers(&self.consumers, &other.consumers)
+            && same_rpdos(&self.rpdos, &other.rpdos)
+            && same_tpdos(&self.tpdos, &other.tpdos)
+            && self.values.same(&other.values)
+            && self.waiting.same(&other.waiting)
     }
 
     /// Whether a call before found no memory.
@@ -180,6 +155,15 @@ impl DeviceState {
         ensures { result ≡ is_in_state state self.now }
     {
         self.state == state
+    }
+
+    /// The first moment at which it is due, if there is one. Walks its consumers and its TPDOs.
+    #[tactic(auto, using(co_parts::proofs::MomentLemmas::earliest_append, co_parts::proofs::MomentLemmas::earliest_of), unfolding(crate::specs::Device::next_due))]
+    pub fn next_due(&self) -> Option<u64>
+        ensures { result ≡ next_due self.now }
+    {
+        let next = earlier(self.heartbeat, co_profile::next_moment(&self.consumers));
+        earlier(next, device_pdos::next_moment(&self.tpdos))
     }
 
     /// The frame with which it contends for the bus: the first of those waiting that have the least

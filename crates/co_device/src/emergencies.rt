@@ -45,10 +45,10 @@ impl DeviceState {
     pub(crate) fn tell_often(&mut self, count: usize, code: u16) -> Result<(), AllocError>
         ensures { OnOk result (self.new ≡ with_emergencies count code self.old) }
     {
-        if self.is_in(NmtState::Stopped) {
-            return Ok(());
+        if !self.is_in(NmtState::Stopped) {
+            let frame = self.emergency(code);
+            add_emergencies(&mut self.waiting, count, frame)?;
         }
-        let frame = self.emergency(code);
-        add_emergencies(&mut self.waiting, count, frame)
+        Ok(())
     }
 }

@@ -1,7 +1,6 @@
 //! A device of the bus.
 #![tactic(auto)]
 
-mod defaults;
 mod device_state;
 mod emergencies;
 mod error_control;
@@ -11,9 +10,7 @@ mod receiving;
 mod requests;
 mod resets;
 mod rpdos;
-mod sameness;
 mod shapes;
-mod syncs;
 mod timers;
 mod writes;
 

@@ -4,14 +4,13 @@ ghost use Rattle.std.specs.Prelude.{◌≡◌, ◌<◌, ◌≤◌, ◌+◌, leng
 ghost use Rattle.asking.specs.Asking.{followed, outcome, reads};
 ghost use Rattle.co_device.specs.Device.{initialised, powered, reset_communication, reset_node, without_power};
 
-use crate::defaults::{communication_restored, values_of};
 use crate::device_state::DeviceState;
 use crate::nmt_state::NmtState;
 use crate::shapes::{Shapes, shape_or, without_entries};
 use can_frame::{Frame, Pending, Purpose, identifiers};
 use co_dict::{Dict, Shape};
 use co_parts::END;
-use co_profile::{Learnt, consumers_of, next_heartbeat};
+use co_profile::{Learnt, communication_restored, consumers_of, next_heartbeat, values_of};
 use co_sdo::transfer::Transfer;
 use device_pdos::{rpdos_of, tpdos_of};
 use std::alloc::AllocError;

@@ -1,11 +1,11 @@
-//! The RPDOs that a device receives.
+//! The frames of PDOs, and SYNC messages.
 
 ghost use Rattle.std.specs.Prelude.{◌≡◌, ◌<◌, ◌≤◌, ◌+◌, length, OnOk};
 ghost use Rattle.asking.specs.Asking.{followed, outcome, reads};
 ghost use Rattle.co_dict.specs.Mappings.{mapped_length as length_mapped, mapping_bits};
 ghost use Rattle.co_mapping.specs.Packing.{bits_for, frame_bits};
 ghost use Rattle.device_pdos.specs.Rpdos.{mapping_of_rpdo};
-ghost use Rattle.co_device.specs.Receiving.{applied, entries_taken, entry_taken, pdo_received, places, rpdo_received, walk};
+ghost use Rattle.co_device.specs.Receiving.{applied, entries_taken, entry_taken, pdo_received, rpdo_received, rpdo_synced, sync_received};
 
 use crate::device_state::DeviceState;
 use crate::nmt_state::NmtState;
@@ -75,7 +75,7 @@ impl DeviceState {
 
     /// Applies a frame by the mapping of an RPDO.
     #[tactic(auto, unfolding(crate::specs::Receiving::applied))]
-    pub(crate) fn apply<P: Shapes>(
+    fn apply<P: Shapes>(
         &mut self,
         t: u64,
         configuration: &Option<Configuration>,
@@ -122,26 +122,7 @@ impl DeviceState {
         }
     }
 
-    /// Takes a frame by each RPDO in its turn.
-    fn take_by_rpdos<P: Shapes>(
-        &mut self,
-        t: u64,
-        frame: &Frame,
-        shapes: &mut P,
-    ) -> Result<(), AllocError>
-        requires soon { t < END }
-        ensures state { OnOk result (self.new ≡ outcome (walk (rpdo_received t frame.now) (places self.old) self.old) (P.seen shapes.old).image) }
-        ensures noted { OnOk result (P.seen shapes.new ≡ followed (walk (rpdo_received t frame.now) (places self.old) self.old) (P.seen shapes.old)) }
-        ensures counted { OnOk result (P.asks shapes.new ≤ P.asks shapes.old + length (reads (walk (rpdo_received t frame.now) (places self.old) self.old) (P.seen shapes.old).image)) }
-        ensures kept { (P.seen shapes.new).image ≡ (P.seen shapes.old).image }
-    {
-        for i in 0..self.rpdos.len() {
-            self.take_by_rpdo(t, frame, i, shapes)?;
-        }
-        Ok(())
-    }
-
-    /// Takes the frame of a PDO.
+    /// Takes the frame of a PDO by each RPDO in its turn, in Operational alone.
     #[tactic(auto, unfolding(crate::specs::Receiving::pdo_received))]
     pub(crate) fn take_pdo<P: Shapes>(
         &mut self,
@@ -155,8 +136,49 @@ impl DeviceState {
         ensures counted { OnOk result (P.asks shapes.new ≤ P.asks shapes.old + length (reads (pdo_received t frame.now self.old) (P.seen shapes.old).image)) }
         ensures kept { (P.seen shapes.new).image ≡ (P.seen shapes.old).image }
     {
+        if !self.is_in(NmtState::Operational) {
+            return Ok(());
+        }
+        for i in 0..self.rpdos.len() {
+            self.take_by_rpdo(t, frame, i, shapes)?;
+        }
+        Ok(())
+    }
+    /// Applies the frame that the RPDO at a place keeps, if it keeps one.
+    #[tactic(auto, unfolding(crate::specs::Receiving::rpdo_synced, crate::specs::Receiving::kept_applied))]
+    fn sync_rpdo<P: Shapes>(&mut self, t: u64, i: usize, shapes: &mut P) -> Result<(), AllocError>
+        requires soon { t < END }
+        requires inside { i < length self.old.rpdos }
+        ensures state { OnOk result (self.new ≡ outcome (rpdo_synced t i self.old) (P.seen shapes.old).image) }
+        ensures noted { OnOk result (P.seen shapes.new ≡ followed (rpdo_synced t i self.old) (P.seen shapes.old)) }
+        ensures counted { OnOk result (P.asks shapes.new ≤ P.asks shapes.old + length (reads (rpdo_synced t i self.old) (P.seen shapes.old).image)) }
+        ensures kept { (P.seen shapes.new).image ≡ (P.seen shapes.old).image }
+    {
+        let rpdo = self.rpdos[i];
+        match rpdo.kept {
+            None => Ok(()),
+            Some(frame) => {
+                keep(&mut self.rpdos, i, None);
+                self.apply(t, &rpdo.configuration, &frame, shapes)
+            }
+        }
+    }
+
+    /// Takes a SYNC message, in Operational alone: the frames that RPDOs keep are applied, each in its turn;
+    /// the TPDOs come later in the instant.
+    #[tactic(auto, unfolding(crate::specs::Receiving::sync_received))]
+    pub(crate) fn take_sync<P: Shapes>(&mut self, t: u64, shapes: &mut P) -> Result<(), AllocError>
+        requires { t < END }
+        ensures state { OnOk result (self.new ≡ outcome (sync_received t self.old) (P.seen shapes.old).image) }
+        ensures noted { OnOk result (P.seen shapes.new ≡ followed (sync_received t self.old) (P.seen shapes.old)) }
+        ensures counted { OnOk result (P.asks shapes.new ≤ P.asks shapes.old + length (reads (sync_received t self.old) (P.seen shapes.old).image)) }
+        ensures kept { (P.seen shapes.new).image ≡ (P.seen shapes.old).image }
+    {
         if self.is_in(NmtState::Operational) {
-            return self.take_by_rpdos(t, frame, shapes);
+            self.synced = true;
+            for i in 0..self.rpdos.len() {
+                self.sync_rpdo(t, i, shapes)?;
+            }
         }
         Ok(())
     }

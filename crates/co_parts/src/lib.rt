@@ -2,6 +2,7 @@
 #![tactic(auto)]
 
 mod content;
+mod earliest;
 mod identity;
 pub mod laws;
 mod moments;
@@ -11,6 +12,7 @@ mod roster;
 mod window;
 
 pub use content::PartContent;
+pub use earliest::earlier;
 pub use identity::Identity;
 pub use moments::{END, is_due, moment_after};
 pub use part::Part;

@@ -1,13 +1,13 @@
 //! The heartbeat consumers of a device, by sub-index.
 
-ghost use Rattle.std.specs.Prelude.{◌≡◌, ◌<◌, IfOk};
+ghost use Rattle.std.specs.Prelude.{◌≡◌, ◌<◌, IfOk, ◌↔◌, IsTrue};
 ghost use Rattle.co_dict.specs.PdoChecks.{has_type, is_unsigned32};
-ghost use Rattle.co_parts.specs.Moments.{is_due};
-ghost use Rattle.co_profile.specs.Consumers.{all_expired, all_heard, any_failed as some_failed, consumer_entry, consumer_time, consumers_of as consumers_now, consumers_written, expects, failures as failures_now, heard};
+ghost use Rattle.co_parts.specs.Moments.{earliest, is_due};
+ghost use Rattle.co_profile.specs.Consumers.{all_expired, all_heard, any_failed as some_failed, consumer_entry, consumer_time, consumers_of as consumers_now, consumers_written, expects, failures as failures_now, heard, moments};
 
 use crate::consumer::Consumer;
 use co_dict::{Dict, Shape};
-use co_parts::END;
+use co_parts::{END, earlier};
 use co_values::DataType;
 use std::alloc::{AllocError, Global};
 
@@ -133,4 +133,31 @@ pub fn any_failed(consumers: &[Consumer]) -> bool
     ensures { result ≡ some_failed consumers.now }
 {
     consumers.iter().any(|consumer| consumer.failed)
+}
+
+/// Whether two lists of consumers are the same.
+pub fn same_consumers(consumers: &[Consumer], others: &[Consumer]) -> bool
+    ensures { IsTrue result ↔ (consumers.now ≡ others.now) }
+{
+    if consumers.len() != others.len() {
+        return false;
+    }
+    for place in 0..consumers.len() {
+        if consumers[place] != others[place] {
+            return false;
+        }
+    }
+    true
+}
+
+/// The first moment at which one of the consumers fails, in microseconds, if one has started. Walks the
+/// consumers.
+pub fn next_moment(consumers: &[Consumer]) -> Option<u64>
+    ensures { result ≡ earliest (moments consumers.now) }
+{
+    let mut next = None;
+    for consumer in consumers {
+        next = earlier(next, consumer.moment);
+    }
+    next
 }

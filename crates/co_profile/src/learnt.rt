@@ -1,6 +1,6 @@
 //! What a device learns of its entries.
 
-ghost use Rattle.std.specs.Prelude.{◌≡◌, false};
+ghost use Rattle.std.specs.Prelude.{◌≡◌, false, ◌↔◌, IsTrue};
 ghost use Rattle.co_dict.specs.PdoChecks.{has_type, is_unsigned8, is_unsigned32};
 ghost use Rattle.co_pdos.specs.Working.{is_unsigned16};
 ghost use Rattle.co_profile.specs.Profile.{learnt_of};
@@ -72,5 +72,11 @@ impl Learnt {
             has_sync_cob_id: has_sync_cob_id(shape),
             has_producer_time: has_producer_time(shape),
         }
+    }
+    /// Whether the other one is the same.
+    pub fn same(&self, other: &Learnt) -> bool
+        ensures { IsTrue result ↔ (self.now ≡ other.now) }
+    {
+        self == other
     }
 }

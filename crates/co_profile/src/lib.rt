@@ -4,13 +4,17 @@
 
 mod consumer;
 mod consumers;
+mod defaults;
 mod emergencies;
 pub mod laws;
 mod learnt;
 mod profile;
 
 pub use consumer::Consumer;
-pub use consumers::{any_failed, consumers_of, expire, failures, forget, hear};
+pub use consumers::{
+    any_failed, consumers_of, expire, failures, forget, hear, next_moment, same_consumers,
+};
+pub use defaults::{communication_restored, values_of};
 pub use emergencies::emergency_frame;
 pub use learnt::Learnt;
 pub use profile::{clear_error, error_register, next_heartbeat, set_error, sync_identifier};

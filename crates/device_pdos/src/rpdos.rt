@@ -1,6 +1,6 @@
 //! The RPDOs of a device, by number.
 
-ghost use Rattle.std.specs.Prelude.{◌≡◌, ◌<◌, length, IfOk};
+ghost use Rattle.std.specs.Prelude.{◌≡◌, ◌<◌, length, IfOk, ◌↔◌, IsTrue};
 ghost use Rattle.device_pdos.specs.Rpdos.{rpdos_emptied, rpdos_of as rpdos_now, rpdos_written, with_kept};
 
 use crate::numbers::{LAST_PDO, number_of_object};
@@ -65,4 +65,19 @@ pub fn keep(rpdos: &mut [RpdoState], i: usize, frame: Option<Frame>)
     ensures { rpdos.new ≡ with_kept rpdos.old i frame }
 {
     rpdos[i].kept = frame;
+}
+
+/// Whether two lists of RPDOs are the same.
+pub fn same_rpdos(rpdos: &[RpdoState], others: &[RpdoState]) -> bool
+    ensures { IsTrue result ↔ (rpdos.now ≡ others.now) }
+{
+    if rpdos.len() != others.len() {
+        return false;
+    }
+    for place in 0..rpdos.len() {
+        if !rpdos[place].same(&others[place]) {
+            return false;
+        }
+    }
+    true
 }

@@ -1,12 +1,14 @@
 //! The TPDOs of a device, by number.
 
-ghost use Rattle.std.specs.Prelude.{◌≡◌, ◌<◌, ◌^◌, IfOk, OnOk};
-ghost use Rattle.device_pdos.specs.Tpdos.{tpdos_forgotten, tpdos_freed, tpdos_looked, tpdos_of as tpdos_now, tpdos_written, with_tpdos};
+ghost use Rattle.std.specs.Prelude.{◌≡◌, ◌<◌, ◌^◌, IfOk, OnOk, ◌↔◌, IsTrue};
+ghost use Rattle.co_parts.specs.Moments.{earliest};
+ghost use Rattle.device_pdos.specs.Tpdos.{moments, tpdos_forgotten, tpdos_freed, tpdos_looked, tpdos_of as tpdos_now, tpdos_written, with_tpdos};
 
 use crate::numbers::{LAST_PDO, number_of_object};
 use crate::tpdo_state::TpdoState;
 use can_frame::Pending;
 use co_dict::{Dict, Shape};
+use co_parts::earlier;
 use co_pdos::{Configuration, Tpdo, is_pdo, tpdo_object};
 use std::alloc::{AllocError, Global};
 
@@ -80,4 +82,33 @@ pub fn look_at_tpdos(
         tpdo.take_turn(t, at_sync, dict, waiting)?;
     }
     Ok(())
+}
+
+/// Whether two lists of TPDOs are the same.
+pub fn same_tpdos(tpdos: &[TpdoState], others: &[TpdoState]) -> bool
+    ensures { IsTrue result ↔ (tpdos.now ≡ others.now) }
+{
+    if tpdos.len() != others.len() {
+        return false;
+    }
+    for place in 0..tpdos.len() {
+        if !tpdos[place].same(&others[place]) {
+            return false;
+        }
+    }
+    true
+}
+
+/// The first moment that one of the TPDOs remembers, in microseconds, if there is one. Walks the TPDOs.
+pub fn next_moment(tpdos: &[TpdoState]) -> Option<u64>
+    ensures { result ≡ earliest (moments tpdos.now) }
+{
+    let mut next = None;
+    for tpdo in tpdos {
+        next = earlier(
+            next,
+            earlier(tpdo.remembered.inhibit(), tpdo.remembered.event()),
+        );
+    }
+    next
 }

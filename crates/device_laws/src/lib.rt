@@ -1,0 +1,4 @@
+//! Laws of devices.
+#![tactic(auto)]
+
+pub mod laws;

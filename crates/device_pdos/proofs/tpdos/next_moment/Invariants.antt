@@ -1,0 +1,8 @@
+use Rattle.std.proofs.Common.{◌≡◌, drop}
+use Rattle.co_parts.specs.Moments.{earlier, earliest}
+use Rattle.device_pdos.specs.Tpdos.{moments}
+use Rattle.device_pdos.proofs.tpdos.next_moment.Given as goal
+
+-- the earliest so far, and what is left, give the earliest of all
+abbrev pub invariant-loop-tpdo : goal.invariant-loop-tpdo
+invariant-loop-tpdo l = earlier l.next (earliest (moments (drop l.tpdo-index l.tpdos))) ≡ earliest (moments l.tpdos)
