@@ -1,5 +1,5 @@
 -- The entries that a frame gives values to, and the number of RPDOs.
-use Rattle.std.proofs.Common.{◌≡◌, ℕ, suc, ◌+◌, ◌==◌, ◌<◌, ◌≤◌, Bool, true, false, List, [], ◌∷◌, Option, Some, None, refl, sym, ap, ◌∙◌, length, get_or, drop, arith}
+use Rattle.std.proofs.Common.{◌≡◌, ℕ, suc, ◌+◌, ◌==◌, ◌<◌, ◌≤◌, Bool, true, false, List, [], ◌∷◌, Option, Some, None, refl, ap, ◌∙◌, length, get_or, drop, arith}
 use Rattle.std.specs.Prelude.{if◌then◌else◌}
 use Rattle.std.proofs.Math.Seq.{drop-cons}
 use Rattle.std.proofs.lemmas.List.{drop_all, length-map, length-set}
@@ -8,12 +8,12 @@ use Rattle.can_frame.specs.Frames.{BaseFrame}
 use Rattle.co_dict.specs.Mappings.{mapped_length, mapped_place}
 use Rattle.co_dict.specs.Shapes.{Shaped}
 use Rattle.co_mapping.specs.Packing.{bits_for, frame_bits, takes, with_bits}
-use Rattle.co_parts.specs.Contents.{Content, Image, shape_of}
+use Rattle.co_parts.specs.Contents.{Image, shape_of}
 use Rattle.co_parts.specs.declared.part.Part.TheVariants.{Shape}
 use Rattle.co_pdos.specs.declared.receipt.Receipt.{Receipt}
 use Rattle.co_pdos.specs.declared.receipt.Receipt.TheVariants.{Short, Kept, AtOnce, Ignored}
 use Rattle.device_pdos.specs.Objects.{is_of_rpdos, is_of_tpdos}
-use Rattle.device_pdos.specs.Rpdos.{mapping_of_rpdo, receipt_of, rpdo_at, rpdos_written, with_kept}
+use Rattle.device_pdos.specs.Rpdos.{receipt_of, rpdo_at, rpdos_written, with_kept}
 use Rattle.co_device.specs.Device.{Device, after_own_write, after_write, consumer_written, is_in, is_producer_time, with_emergency, without_error}
 use Rattle.co_device.specs.Receiving.{applied, entries_taken, entry_taken, kept_applied, rpdo_received, rpdo_synced, taken_by}
 use Rattle.co_device.specs.declared.nmt_state.NmtState.TheVariants.{Stopped}

@@ -1,5 +1,5 @@
 -- A loop over numbers that threads one device.
-use Rattle.std.proofs.Common.{◌≡◌, ℕ, suc, ◌+◌, ◌-◌, ◌<◌, ◌≤◌, List, [], ◌∷◌, ◌++◌, refl, sym, ap, ◌∙◌, length, arith, length-append}
+use Rattle.std.proofs.Common.{◌≡◌, ℕ, suc, ◌+◌, ◌-◌, ◌<◌, ◌≤◌, List, [], ◌∷◌, ◌++◌, sym, ap, ◌∙◌, length, arith, length-append}
 use Rattle.std.specs.List.{range_with_len}
 use Rattle.asking.specs.Asking.{Asking, Seen, outcome, reads, followed, bind}
 use Rattle.asking.proofs.QuestionLemmas.{outcome_bind, reads_bind, followed_bind}

@@ -1,9 +1,9 @@
 -- One device at a moment, and what it does (CiA 301). All moments are absolute, in microseconds from the power-on of the network.
-use Rattle.std.specs.Prelude.{ℕ, ◌+◌, ◌-◌, ◌==◌, ◌&&◌, ◌||◌, not, nat_lt, Bool, true, false, List, [], ◌∷◌, ◌++◌, length, replicate, slice_index_or, Option, Some, None, if◌then◌else◌}
+use Rattle.std.specs.Prelude.{ℕ, ◌==◌, ◌&&◌, ◌||◌, nat_lt, Bool, true, false, List, [], ◌∷◌, ◌++◌, length, replicate, slice_index_or, Option, Some, None, if◌then◌else◌}
 use Rattle.std.specs.FinMap as map
 use Rattle.asking.specs.Asking.{Asking, Answer, Ask}
 use Rattle.can_frame.specs.Frames.{BaseFrame}
-use Rattle.can_frame.specs.Identifiers.{error_control_id, nmt_id, sdo_answer_id, sdo_request_id}
+use Rattle.can_frame.specs.Identifiers.{error_control_id, sdo_answer_id}
 use Rattle.can_frame.specs.WaitingFrames.{replaced, waiting, without}
 use Rattle.can_frame.specs.declared.purpose.Purpose.TheVariants.{BootUp, Emergency, Heartbeat, Sdo}
 use Rattle.can_frame.specs.declared.unwanted.Unwanted.TheVariants.{Emergencies, Sdos, Tpdos}
@@ -20,7 +20,6 @@ use Rattle.co_profile.specs.Consumers as consumers
 use Rattle.co_profile.specs.Profile.{emergency_frame, error_cleared, error_register, error_set, learnt_of, next_heartbeat}
 use Rattle.co_profile.specs.declared.consumer.Consumer.{Consumer}
 use Rattle.co_profile.specs.declared.learnt.Learnt.{Learnt}
-use Rattle.co_scenario.specs.Commands.{command_of}
 use Rattle.co_scenario.specs.declared.nmt_command.NmtCommand.{NmtCommand}
 use Rattle.co_scenario.specs.declared.nmt_command.NmtCommand.TheVariants.{Start, Stop, EnterPreOperational, ResetNode, ResetCommunication}
 use Rattle.co_sdo.specs.Server.{Answered, answered}

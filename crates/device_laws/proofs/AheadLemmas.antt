@@ -1,7 +1,6 @@
 -- When the timers of a device are due.
-use Rattle.std.proofs.Common.{◌≡◌, ℕ, zero, suc, ◌+◌, ◌*◌, ◌<◌, ◌≤◌, ◌==◌, Bool, true, false, ◌&&◌, List, [], ◌∷◌, Option, Some, None, IfSome, refl, ap, ◌∙◌, arith}
+use Rattle.std.proofs.Common.{◌≡◌, ℕ, zero, suc, ◌+◌, ◌*◌, ◌<◌, ◌≤◌, ◌==◌, Bool, true, false, ◌&&◌, List, [], ◌∷◌, Option, Some, None, refl, ◌∙◌, arith}
 use Rattle.std.specs.Prelude.{if◌then◌else◌, filter, length, nat_lt, map}
-use Rattle.std.specs.List.{AllByRecursion, range_with_len}
 use Rattle.std.proofs.lemmas.Bool.Decides.{nat_tests}
 use Rattle.asking.specs.Asking.{outcome}
 use Rattle.can_frame.specs.Frames.{BaseFrame}
@@ -15,7 +14,7 @@ use Rattle.co_profile.specs.declared.consumer.Consumer.{Consumer}
 use Rattle.co_profile.specs.declared.learnt.Learnt.{Learnt}
 use Rattle.co_scenario.specs.declared.nmt_command.NmtCommand.{NmtCommand}
 use Rattle.co_scenario.specs.declared.nmt_command.NmtCommand.TheVariants.{Start, Stop, EnterPreOperational, ResetNode, ResetCommunication}
-use Rattle.co_device.specs.Device.{Device, after_failures, consumers_run, enter_pre_operational, heartbeat_run, heartbeat_started, initialised, is_in, nmt_service, out_of_operational, powered, reset_communication, reset_node, start_remote_node, stop_remote_node, timers, was_set, with_emergencies, without_power}
+use Rattle.co_device.specs.Device.{Device, after_failures, consumers_run, enter_pre_operational, heartbeat_run, initialised, is_in, nmt_service, out_of_operational, powered, reset_communication, reset_node, stop_remote_node, timers, was_set, with_emergencies, without_power}
 use Rattle.co_device.specs.Receiving.{received}
 use Rattle.co_device.specs.declared.nmt_state.NmtState.TheVariants.{Operational, Stopped}
 use Rattle.device_laws.specs.Ahead.{AreAhead, IsAhead, NotBefore}

@@ -1,7 +1,7 @@
 -- Cases of devices, and of what is asked.
-use Rattle.std.proofs.Common.{◌≡◌, ℕ, Bool, true, false, not, List, [], ◌∷◌, refl, ap, ◌∙◌}
+use Rattle.std.proofs.Common.{◌≡◌, Bool, true, false, not, List, [], ◌∷◌, refl}
 use Rattle.std.specs.Prelude.{if◌then◌else◌}
-use Rattle.asking.specs.Asking.{Asking, bind, outcome}
+use Rattle.asking.specs.Asking.{Asking, outcome}
 use Rattle.asking.proofs.QuestionLemmas.{outcome_bind}
 use Rattle.co_parts.specs.Contents.{Content, Image}
 use Rattle.co_parts.specs.declared.part.Part.{Part}

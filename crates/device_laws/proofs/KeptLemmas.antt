@@ -1,5 +1,5 @@
 -- What frames and writes keep, but for the NMT services.
-use Rattle.std.proofs.Common.{◌≡◌, ℕ, ◌+◌, ◌-◌, ◌==◌, Bool, true, false, not, ◌&&◌, List, [], ◌∷◌, ◌++◌, Option, Some, None, refl}
+use Rattle.std.proofs.Common.{◌≡◌, ℕ, ◌+◌, ◌-◌, ◌==◌, Bool, true, false, not, ◌&&◌, List, [], ◌∷◌, ◌++◌, Option, Some, None}
 use Rattle.std.specs.Prelude.{length, slice_index_or}
 use Rattle.asking.specs.Asking.{outcome}
 use Rattle.can_frame.specs.Frames.{BaseFrame}
@@ -24,7 +24,7 @@ use Rattle.device_pdos.specs.Rpdos.{mapping_of_rpdo, receipt_of, rpdo_at, with_k
 use Rattle.device_pdos.specs.declared.rpdo_state.RpdoState.{RpdoState}
 use Rattle.device_pdos.specs.declared.tpdo_state.TpdoState.{TpdoState}
 use Rattle.co_device.specs.Device.{Device, after_own_write, after_write, after_wrote, answer_frames, consumer_written, error_control, heartbeat_started, is_addressed, is_error_control, is_in, is_producer_time, nmt_service, sdo_request, was_set, with_emergency, without_error}
-use Rattle.co_device.specs.Receiving.{applied, entries_taken, entry_taken, kept_applied, nmt_received, pdo_received, places, received, rpdo_received, rpdo_synced, sync_received, taken_by, walk}
+use Rattle.co_device.specs.Receiving.{applied, entries_taken, entry_taken, kept_applied, pdo_received, places, received, rpdo_received, rpdo_synced, sync_received, taken_by}
 use Rattle.co_device.specs.declared.nmt_state.NmtState.TheVariants.{Operational, Stopped}
 use Rattle.device_laws.proofs.CaseLemmas.{one_of, picked, turned, walk_keeps}
 

@@ -5,3 +5,4 @@ pub mod SelfLemmas
 pub mod PartLemmas
 pub mod ResetLemmas
 pub mod StateLemmas
+pub mod QuietLemmas

@@ -1,5 +1,5 @@
 -- The values after a reset, and the heartbeat after a write.
-use Rattle.std.proofs.Common.{◌≡◌, ◌≢◌, ℕ, ◌==◌, Bool, true, false, ◌&&◌, List, [], ◌++◌, Option, Some, None, refl, ap, ◌∙◌, arith}
+use Rattle.std.proofs.Common.{◌≡◌, ◌≢◌, ℕ, ◌==◌, Bool, true, false, ◌&&◌, List, ◌++◌, Option, Some, None, refl, ap, arith}
 use Rattle.std.specs.Prelude.{if◌then◌else◌}
 use Rattle.std.specs.FinMap as map
 use Rattle.std.proofs.lemmas.Bool.Decides.{nat_tests}
@@ -12,7 +12,7 @@ use Rattle.co_parts.specs.declared.part.Part.TheVariants.{Defaults, Shape}
 use Rattle.co_profile.specs.Profile.{next_heartbeat}
 use Rattle.co_sdo.specs.Server.{Answered, answered}
 use Rattle.device_pdos.specs.Objects.{is_of_rpdos, is_of_tpdos}
-use Rattle.co_device.specs.Device.{Device, after_own_write, after_write, after_wrote, answer_frames, consumer_written, heartbeat_started, initialised, is_in, is_producer_time, reset_communication, reset_node, sdo_request, was_set, without_error}
+use Rattle.co_device.specs.Device.{Device, after_own_write, after_write, after_wrote, answer_frames, consumer_written, initialised, is_in, is_producer_time, reset_communication, reset_node, sdo_request, was_set, without_error}
 use Rattle.co_device.specs.declared.nmt_state.NmtState.TheVariants.{Stopped}
 use Rattle.device_laws.proofs.CaseLemmas.{either, not_both, one_of, picked}
 

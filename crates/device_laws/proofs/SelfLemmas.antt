@@ -1,5 +1,5 @@
 -- What leaves a device's number, its power and its NMT state.
-use Rattle.std.proofs.Common.{◌≡◌, ℕ, ◌<◌, ◌==◌, Bool, true, false, List, Option, Some, None, refl, sym, ap, ◌∙◌}
+use Rattle.std.proofs.Common.{◌≡◌, ℕ, Bool, true, false, List, Option, Some, None, refl, sym, ap, ◌∙◌}
 use Rattle.std.specs.Prelude.{nat_lt}
 use Rattle.asking.specs.Asking.{outcome}
 use Rattle.can_frame.specs.Frames.{BaseFrame}
@@ -10,7 +10,7 @@ use Rattle.co_profile.specs.Profile.{error_set}
 use Rattle.co_scenario.specs.declared.nmt_command.NmtCommand.{NmtCommand}
 use Rattle.co_scenario.specs.declared.nmt_command.NmtCommand.TheVariants.{Start, Stop, EnterPreOperational, ResetNode, ResetCommunication}
 use Rattle.device_pdos.specs.Tpdos.{tpdos_freed}
-use Rattle.co_device.specs.Device.{Device, after_failures, consumers_run, enter_pre_operational, heartbeat_run, initialised, is_in, nmt_service, out_of_operational, powered, ran, reset_communication, reset_node, stop_remote_node, timers, tpdos_run, was_set, with_emergencies, without_power}
+use Rattle.co_device.specs.Device.{Device, after_failures, consumers_run, enter_pre_operational, heartbeat_run, initialised, is_in, next_due, nmt_service, out_of_operational, powered, ran, reset_communication, reset_node, timers, tpdos_run, was_set, with_emergencies, without_power}
 use Rattle.co_device.specs.Receiving.{received}
 use Rattle.co_device.specs.declared.nmt_state.NmtState.TheVariants.{Operational, Stopped}
 use Rattle.device_laws.specs.States.{IsDark, StaysItself}
@@ -152,3 +152,7 @@ nothing_runs t spent number = refl
 
 pub instant_is_dark : (t : ℕ) (d : Device) → IsDark d → IsDark (ran t d)
 instant_is_dark t d h = dark_still d (ran t d) (instant_stays t d) (λ off. ap (ran t) (h off) ∙ nothing_runs t d.spent d.number ∙ sym (h off)) h
+
+pub nothing_due : (spent : Bool) (number : ℕ) → next_due (without_power spent number) ≡ None
+unfolding next_due
+nothing_due spent number = refl

@@ -1,6 +1,6 @@
 -- What holds of a device in an NMT state.
-use Rattle.std.proofs.Common.{◌≡◌, ℕ, suc, ◌-◌, ◌<◌, ◌==◌, inl, inr, ◌⊎◌, Bool, true, false, not, ◌&&◌, List, [], ◌∷◌, ◌++◌, Option, Some, None, All, refl, sym, ap, ◌∙◌, arith}
-use Rattle.std.specs.Prelude.{if◌then◌else◌, filter, length, nat_lt, remove, slice_index_or, take, drop, ◌||◌, map}
+use Rattle.std.proofs.Common.{◌≡◌, ℕ, suc, ◌-◌, ◌==◌, inl, inr, ◌⊎◌, Bool, true, false, not, ◌&&◌, List, [], ◌∷◌, Option, Some, None, All, refl, ◌∙◌, arith}
+use Rattle.std.specs.Prelude.{if◌then◌else◌, length, nat_lt, remove, slice_index_or, take, drop, ◌||◌, map}
 use Rattle.std.specs.FinMap.{insert}
 use Rattle.std.specs.List.{AllByRecursion}
 use Rattle.std.proofs.lemmas.Bool.Decides.{nat_tests}
@@ -29,11 +29,11 @@ use Rattle.device_pdos.specs.Rpdos.{emptied, receipt_of, rpdo_at, rpdos_emptied}
 use Rattle.device_pdos.specs.Tpdos.{reminded_of_nothing, tpdos_forgotten}
 use Rattle.device_pdos.specs.declared.rpdo_state.RpdoState.{RpdoState}
 use Rattle.device_pdos.specs.declared.tpdo_state.TpdoState.{TpdoState}
-use Rattle.co_device.specs.Device.{Device, after_failures, after_own_write, consumer_written, consumers_run, enter_pre_operational, error_control, heartbeat_run, initialised, is_addressed, is_error_control, is_in, is_producer_time, nmt_service, out_of_operational, powered, ran, reset_communication, reset_node, sdo_request, state_byte, stop_remote_node, timers, tpdos_run, was_set, with_emergencies, with_emergency, without_error, without_power}
+use Rattle.co_device.specs.Device.{Device, after_failures, after_own_write, consumer_written, consumers_run, enter_pre_operational, error_control, heartbeat_run, initialised, is_addressed, is_error_control, is_in, is_producer_time, nmt_service, out_of_operational, powered, ran, reset_communication, reset_node, sdo_request, state_byte, stop_remote_node, timers, tpdos_run, was_set, with_emergencies, with_emergency, without_error}
 use Rattle.co_device.specs.Receiving.{applied, pdo_received, received, rpdo_received, sync_received, taken_by}
 use Rattle.co_device.specs.declared.nmt_state.NmtState.{NmtState}
 use Rattle.co_device.specs.declared.nmt_state.NmtState.TheVariants.{Operational, PreOperational, Stopped}
-use Rattle.device_laws.specs.States.{HasBooted, HasNoPdo, IsSilent, NoneWaits, SaysNothing, nmt_message}
+use Rattle.device_laws.specs.States.{HasBooted, HasNoPdo, IsSilent, SaysNothing, nmt_message}
 use Rattle.device_laws.proofs.CaseLemmas.{either, not_both, one_of, picked}
 use Rattle.device_laws.proofs.KeptLemmas.{IsKept, pdo_kept, request_kept, sync_kept}
 

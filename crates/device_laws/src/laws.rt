@@ -1,7 +1,8 @@
 //! Laws of devices, each a function whose contract is the law.
 
-ghost use Rattle.std.specs.Prelude.{◌≡◌, ◌≢◌, ◌<◌, ◌≤◌, ◌+◌, ◌⊎◌, ℕ, Bool, true, false, if◌then◌else◌, List, [], ◌∷◌, All, nat_lt, Some, IfSome, remove};
+ghost use Rattle.std.specs.Prelude.{◌≡◌, ◌≢◌, ◌<◌, ◌≤◌, ◌+◌, ◌⊎◌, ℕ, Bool, true, false, if◌then◌else◌, List, [], ◌∷◌, All, nat_lt, None, Some, IfSome, remove};
 ghost use Rattle.std.specs.FinMap as map;
+ghost use Rattle.std.specs.List.{AllByRecursion};
 ghost use Rattle.asking.specs.Alike.{AreAlike};
 ghost use Rattle.asking.specs.Asking.{Agrees, outcome, reads};
 ghost use Rattle.can_frame.specs.Frames.{BaseFrame};
@@ -12,7 +13,8 @@ ghost use Rattle.co_profile.specs.Consumers.{failures};
 ghost use Rattle.co_profile.specs.Profile.{error_set, next_heartbeat};
 ghost use Rattle.co_sdo.specs.Server.{answered};
 ghost use Rattle.device_pdos.specs.Rpdos.{receipt_of, rpdo_at};
-ghost use Rattle.co_device.specs.Device.{Device, consumers_run, enter_pre_operational, is_in, moments, powered, ran, reset_communication, reset_node, sdo_request, stop_remote_node, timers, was_set, without_power};
+ghost use Rattle.device_pdos.specs.Tpdos.{frame_sent};
+ghost use Rattle.co_device.specs.Device.{Device, consumers_run, enter_pre_operational, is_in, next_due, powered, ran, reset_communication, reset_node, sdo_request, stop_remote_node, timers, was_set, without_power};
 ghost use Rattle.co_device.specs.Receiving.{pdo_received, received, rpdo_received, sync_received};
 ghost use Rattle.device_laws.specs.Ahead.{IsAhead, IsOwnPart};
 ghost use Rattle.device_laws.specs.States.{HasBooted, HasNoPdo, IsDark, IsSilent, SaysNothing, StaysItself, nmt_message};
@@ -21,10 +23,13 @@ use co_device::NmtState;
 use co_parts::Part;
 use co_pdos::Receipt;
 
-/// Before the next moment of its timers nothing happens to a device of itself by them.
-#[tactic(auto, using(crate::proofs::AheadLemmas::quiet))]
+/// Before its next due moment nothing happens to a device of itself, where no SYNC came and no TPDO is
+/// to be sent; before the next moment of its timers nothing happens by them.
+#[tactic(auto, using(crate::proofs::QuietLemmas::idle, crate::proofs::AheadLemmas::quiet))]
 pub fn nothing_happens_before_it_is_due()
-    ensures { (t : ℕ) (d : Device) → IsAhead (t + 1) d → timers t d ≡ d }
+    ensures instant { (t : ℕ) (d : Device) → IfSome (next_due d) (λ moment. t < moment) → d.synced ≡ false
+        → (is_in NmtState.Operational d ≡ true → AllByRecursion (λ p. frame_sent t false d.values p ≡ None) d.tpdos) → ran t d ≡ d }
+    ensures timers { (t : ℕ) (d : Device) → IsAhead (t + 1) d → timers t d ≡ d }
 {}
 
 /// After the timers of a moment no moment of theirs lies up to it, where none lay before it.
@@ -66,14 +71,14 @@ pub fn a_device_stays_itself()
 {}
 
 /// Without power a device takes nothing, nothing waits and nothing is due.
-#[tactic(auto, using(crate::proofs::SelfLemmas::frame_untaken, crate::proofs::SelfLemmas::set_untaken, crate::proofs::SelfLemmas::frame_is_dark, crate::proofs::SelfLemmas::power_is_dark, crate::proofs::SelfLemmas::instant_is_dark))]
+#[tactic(auto, using(crate::proofs::SelfLemmas::frame_untaken, crate::proofs::SelfLemmas::set_untaken, crate::proofs::SelfLemmas::frame_is_dark, crate::proofs::SelfLemmas::power_is_dark, crate::proofs::SelfLemmas::instant_is_dark, crate::proofs::SelfLemmas::nothing_due))]
 pub fn without_power_nothing_happens()
     ensures untaken { (image : Image) (t : ℕ) (frame : BaseFrame) (d : Device) → d.has_power ≡ false → outcome (received t frame d) image ≡ d }
     ensures unset { (t : ℕ) (place : ℕ × ℕ) (bytes : List ℕ) (d : Device) → d.has_power ≡ false → was_set t place bytes d ≡ d }
     ensures frame { (image : Image) (t : ℕ) (frame : BaseFrame) (d : Device) → IsDark d → IsDark (outcome (received t frame d) image) }
     ensures power { (image : Image) (t : ℕ) (on : Bool) (d : Device) → IsDark d → IsDark (outcome (powered on t d) image) }
     ensures instant { (t : ℕ) (d : Device) → IsDark d → IsDark (ran t d) }
-    ensures nothing { (spent : Bool) (number : ℕ) → moments (without_power spent number) ≡ [] }
+    ensures nothing { (spent : Bool) (number : ℕ) → next_due (without_power spent number) ≡ None }
 {}
 
 /// Power-on and both resets end with the boot-up message, which waits alone.
