@@ -119,6 +119,7 @@ pub fn show_device<W: Write>(
     let byte = state_byte(device, node)?;
     let same = change(device.same(before), device.spent());
     write!(out, "  {same} {byte}")?;
+    show_due(out, device.next_due())?;
     let mut left = device.copy()?;
     show_left(out, &mut left)?;
     writeln!(out, "")?;
