@@ -1,4 +1,4 @@
-pub mod EachLemmas
+pub mod WindowLemmas
 pub mod ArbitrationLemmas
 pub mod ManagerLemmas
 pub mod NodeLemmas
@@ -9,3 +9,4 @@ pub mod ReadLemmas
 pub mod ToldLemmas
 pub mod SettledLemmas
 pub mod StartLemmas
+pub mod TimeLemmas

@@ -12,7 +12,7 @@ use Rattle.can_frame.specs.Frames.{bit_time}
 use Rattle.co_device.specs.Device.{Device, powered}
 use Rattle.nmt_boot.specs.Manager.{Manager, powered_on}
 use Rattle.can_bus.specs.Bus.{Bus, power_on_of, switched_on, without_power}
-use Rattle.can_bus.specs.Each.{each}
+use Rattle.bus_events.specs.Each.{each}
 
 -- no bit rate is 0
 not_zero : (xs : List ℕ) (x k : ℕ) → AllByRecursion (λ b. 1 ≤ b) xs → k < length xs → get_or xs k x ≡ x → 1 ≤ x
@@ -38,7 +38,7 @@ module _ (roster : Roster) where
   followed_power_on_of seen = followed_last (each (powered true 0) (without_power roster.nodes)) (switched_on roster) seen
 
   pub switched_on_is : (image : Image) (bit : ℕ) (before after : List Device) (m : Manager) → bit ≡ bit_time roster.bit_rate → before ≡ without_power roster.nodes → after ≡ outcome (each (powered true 0) before) image → m ≡ powered_on roster
-      → ◌≡◌ {A = Bus} (record { spent = false; bit_time = bit; devices = after; manager = m; wire = None }) (outcome (power_on_of roster) image)
+      → ◌≡◌ {A = Bus} (record { spent = false; bit_time = bit; devices = after; manager = m; wire = None; window = 0; steps = [] }) (outcome (power_on_of roster) image)
   switched_on_is image bit before after m b f d e = rw (outcome_power_on_of, b, d, f, e)
 
 pub ruleset power_on_laws = (outcome_power_on_of, reads_power_on_of, followed_power_on_of)

@@ -9,10 +9,10 @@ use Rattle.co_parts.specs.declared.part.Part.TheVariants.{Defaults, Roster, Shap
 use Rattle.co_device.specs.Device as device
 use Rattle.co_device.specs.Device.{Device, powered, reset_node}
 use Rattle.can_bus.specs.Bus.{hears, power_on, without_power}
-use Rattle.can_bus.specs.Each.{each}
+use Rattle.bus_events.specs.Each.{each}
 use Rattle.can_bus.specs.Runs.{power_on_reads}
 use Rattle.can_bus.specs.declared.slot.Slot.{Slot}
-use Rattle.can_bus.proofs.EachLemmas.{reads_each}
+use Rattle.bus_events.proofs.EachLemmas.{reads_each}
 use Rattle.can_bus.proofs.PowerLemmas.{reads_power_on_of}
 
 parts_of : Image → ℕ → List (Part × Content)

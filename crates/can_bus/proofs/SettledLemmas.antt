@@ -10,10 +10,10 @@ use Rattle.can_frame.proofs.WinnerLemmas.{length-contenders_of, winner_of-wins}
 use Rattle.co_device.specs.Device.{Device}
 use Rattle.co_parts.specs.Contents.{Image}
 use Rattle.nmt_boot.specs.Manager.{Manager}
-use Rattle.can_bus.specs.Bus.{Bus, ended, instant, lists, nodes_at, on_wire, slot_started, start_on, started, winner}
+use Rattle.can_bus.specs.Bus.{Bus, ended, from_delivery_on, instant, lists, nodes_at, on_wire, slot_started, start_on, started, winner}
 use Rattle.can_bus.specs.Runs.{IsIdle, IsSettled, NoneWaits}
 use Rattle.can_bus.specs.declared.slot.Slot.{Slot}
-use Rattle.can_bus.proofs.InstantLemmas.{outcome_instant}
+use Rattle.can_bus.proofs.InstantLemmas.{outcome_delivery, outcome_instant, run_by_events}
 
 empty : {X : Type 0} (xs : List X) → length xs ≡ 0 → xs ≡ []
 empty [] e = refl
@@ -62,7 +62,10 @@ slot_settles : (t : ℕ) (s : Bus) → IsSettled (slot_started t s)
 unfolding IsSettled slot_started
 slot_settles t s = λ idle. start_settles t s s.wire refl idle
 
-pub instant_settles : (image : Image) (t : ℕ) (s : Bus) → IsSettled (outcome (instant t s) image).0
-instant_settles image t s =
+delivery_settles : (image : Image) (t : ℕ) (s : Bus) → IsSettled (outcome (from_delivery_on t s) image).0
+delivery_settles image t s =
     let q = outcome (nodes_at t (ended t s.wire) s.devices s.manager) image in
-    rw outcome_instant (slot_settles t (record { spent = s.spent; bit_time = s.bit_time; devices = q.0; manager = q.1.0; wire = on_wire t s.wire }))
+    rw outcome_delivery (slot_settles t (record { spent = s.spent; bit_time = s.bit_time; devices = q.0; manager = q.1.0; wire = on_wire t s.wire; window = s.window; steps = s.steps }))
+
+pub instant_settles : (image : Image) (t : ℕ) (s : Bus) → IsSettled (outcome (instant t s) image).0
+instant_settles image t s = rw (outcome_instant t s image) (delivery_settles image t (run_by_events t s image))

@@ -8,13 +8,13 @@ use Rattle.asking.proofs.QuestionLemmas.{outcome_bind}
 use Rattle.asking.proofs.ToldLemmas.{told_to}
 use Rattle.co_parts.specs.Contents.{Image}
 use Rattle.nmt_boot.specs.declared.note.Note.{Note as Noted}
-use Rattle.can_bus.specs.Bus.{Bus, ended, frame_lines, instant, nodes_at, note_lines, power_on}
+use Rattle.can_bus.specs.Bus.{Bus, ended, frame_lines, from_delivery_on, instant, nodes_at, note_lines, power_on}
 use Rattle.can_bus.specs.Lines.{line_time}
 use Rattle.can_bus.specs.Runs.{is_shown, run, trace}
 use Rattle.can_bus.specs.declared.line.Line.{Line}
 use Rattle.can_bus.specs.declared.line.Line.TheVariants.{Frame, Note}
 use Rattle.can_bus.specs.declared.slot.Slot.{Slot}
-use Rattle.can_bus.proofs.InstantLemmas.{outcome_instant}
+use Rattle.can_bus.proofs.InstantLemmas.{outcome_delivery, outcome_instant, run_by_events}
 
 AreAt : ℕ → List Line → Type 0
 AreAt t ls = All (λ (line : Line). line_time line ≡ t) ls
@@ -27,10 +27,13 @@ notes_at : (t : ℕ) (notes : List Noted) → All (λ (line : Line). line_time l
 notes_at t [] = All-nil (λ (line : Line). line_time line ≡ t)
 notes_at t (note ∷ notes) = All-cons (λ (line : Line). line_time line ≡ t) (Note t note) (note_lines t notes) refl (notes_at t notes)
 
-pub lines_at : (image : Image) (t : ℕ) (s : Bus) → All (λ (line : Line). line_time line ≡ t) (outcome (instant t s) image).1
-lines_at image t s =
+delivery_lines : (image : Image) (t : ℕ) (s : Bus) → All (λ (line : Line). line_time line ≡ t) (outcome (from_delivery_on t s) image).1
+delivery_lines image t s =
     let notes = (outcome (nodes_at t (ended t s.wire) s.devices s.manager) image).1.1 in
-    rw outcome_instant (All-append (λ (line : Line). line_time line ≡ t) (frame_lines t (ended t s.wire)) (note_lines t notes) (frame_at t (ended t s.wire)) (notes_at t notes))
+    rw outcome_delivery (All-append (λ (line : Line). line_time line ≡ t) (frame_lines t (ended t s.wire)) (note_lines t notes) (frame_at t (ended t s.wire)) (notes_at t notes))
+
+pub lines_at : (image : Image) (t : ℕ) (s : Bus) → All (λ (line : Line). line_time line ≡ t) (outcome (instant t s) image).1
+lines_at image t s = rw (outcome_instant t s image) (delivery_lines image t (run_by_events t s image))
 
 -- ---- what is shown
 

@@ -1,5 +1,5 @@
 -- The bus at a moment, and one instant of it. All moments are absolute, in microseconds from the power-on of the network.
-use Rattle.std.specs.Prelude.{ℕ, ◌+◌, ◌*◌, ◌==◌, ◌&&◌, Bool, false, true, List, [], ◌∷◌, ◌++◌, map, remove, slice_index_or, slice_set, Option, Some, None, if◌then◌else◌}
+use Rattle.std.specs.Prelude.{ℕ, ◌+◌, ◌*◌, ◌/◌, ◌==◌, ◌&&◌, Bool, false, true, List, [], ◌∷◌, ◌++◌, map, remove, slice_index_or, slice_set, Option, Some, None, if◌then◌else◌}
 use Rattle.std.specs.List.{position}
 use Rattle.asking.specs.Asking.{Asking, Answer, Ask, bind}
 use Rattle.can_frame.specs.Frames.{BaseFrame, bit_time, slot_bits}
@@ -8,40 +8,46 @@ use Rattle.can_frame.specs.WaitingFrames.{waiting}
 use Rattle.can_frame.specs.declared.contender.Contender.{Contender}
 use Rattle.can_frame.specs.declared.purpose.Purpose.TheVariants.{Nmt}
 use Rattle.can_frame.specs.declared.waiting.Waiting.{Waiting}
-use Rattle.co_parts.specs.Contents.{Content, roster_of}
+use Rattle.co_parts.specs.Contents.{Content, roster_of, steps_of}
 use Rattle.co_parts.specs.declared.part.Part.{Part}
-use Rattle.co_parts.specs.declared.part.Part.TheVariants.{Roster}
+use Rattle.co_parts.specs.declared.part.Part.TheVariants.{Events, Roster}
 use Rattle.co_parts.specs.declared.roster.Roster.{Roster as Network}
 use Rattle.co_device.specs.Device as device
 use Rattle.co_device.specs.Device.{Device}
+use Rattle.co_device.specs.Receiving.{received}
+use Rattle.co_scenario.specs.declared.timed_step.TimedStep.{TimedStep}
 use Rattle.nmt_boot.specs.Manager as manager
 use Rattle.nmt_boot.specs.Manager.{Manager}
 use Rattle.nmt_boot.specs.declared.note.Note.{Note as Noted}
-use Rattle.can_bus.specs.Each.{each}
+use Rattle.bus_events.specs.Each.{each}
+use Rattle.bus_events.specs.Events.{events_at}
+use Rattle.bus_events.specs.Steps.{steps_due, steps_left}
 use Rattle.can_bus.specs.declared.line.Line.{Line}
 use Rattle.can_bus.specs.declared.line.Line.TheVariants.{Frame, Note}
 use Rattle.can_bus.specs.declared.slot.Slot.{Slot}
 
--- the time of one bit in microseconds, the devices by number, the manager, and what is on the wire
+-- the time of one bit in microseconds, the devices by number, the manager, what is on the wire, the moment at which the next window starts, and the events of this window that have not run
 pub record Bus : Type 0 where
   pub spent : Bool
   pub bit_time : ℕ
   pub devices : List Device
   pub manager : Manager
   pub wire : Option Slot
+  pub window : ℕ
+  pub steps : List TimedStep
 
 -- ---- before and at the power-on of the network
 
 -- a bus without devices
 abbrev pub blank : Bus
-blank = record { spent = false; bit_time = 1; devices = []; manager = manager.blank; wire = None }
+blank = record { spent = false; bit_time = 1; devices = []; manager = manager.blank; wire = None; window = 0; steps = [] }
 
 -- the devices of a network before its power-on
 abbrev pub without_power : List ℕ → List Device
 without_power numbers = map (device.without_power false) numbers
 
 abbrev pub switched_on : Network → List Device → Bus
-switched_on roster devices = record { spent = false; bit_time = bit_time roster.bit_rate; devices = devices; manager = manager.powered_on roster; wire = None }
+switched_on roster devices = record { spent = false; bit_time = bit_time roster.bit_rate; devices = devices; manager = manager.powered_on roster; wire = None; window = 0; steps = [] }
 
 -- each device gets power, by number, and the manager
 unfoldable pub power_on_of : Network → Asking Part Content Bus
@@ -49,6 +55,22 @@ power_on_of roster = bind (each (device.powered true 0) (without_power roster.no
 
 unfoldable pub power_on : Asking Part Content Bus
 power_on = Ask Roster (λ v. power_on_of (roster_of v))
+
+-- ---- at the start of a window its events are asked for
+
+abbrev pub in_new_window : ℕ → List TimedStep → Bus → Bus
+in_new_window t steps s = record s { window = t + 10000; steps = steps }
+
+unfoldable pub window_begun : ℕ → Bus → Asking Part Content Bus
+window_begun t s = if t == s.window then Ask (Events (t / 10000)) (λ v. Answer (in_new_window t (steps_of v) s)) else Answer s
+
+-- ---- the events of t, by number; those that have run are forgotten
+
+abbrev pub after_events : ℕ → Bus → List Device × Manager → Bus
+after_events t s nodes = record s { devices = nodes.0; manager = nodes.1; steps = steps_left t s.steps }
+
+unfoldable pub events_run : ℕ → Bus → Asking Part Content Bus
+events_run t s = bind (events_at t (steps_due t s.steps) (s.devices, s.manager)) (λ nodes. Answer (after_events t s nodes))
 
 -- ---- the frame whose slot ends at t is off the wire, and its line is told
 
@@ -72,7 +94,7 @@ frame_lines t (Some slot) = Frame t slot.frame ∷ []
 -- ---- it is delivered to each other device, by number
 
 unfoldable pub hears : ℕ → Slot → Device → Asking Part Content Device
-hears t slot d = if d.number == slot.sender then Answer d else device.received t slot.frame d
+hears t slot d = if d.number == slot.sender then Answer d else received t slot.frame d
 
 unfoldable pub delivered : ℕ → Option Slot → List Device → Asking Part Content (List Device)
 delivered t None ds = Answer ds
@@ -154,21 +176,29 @@ start_on t (Some slot) s = s
 unfoldable pub slot_started : ℕ → Bus → Bus
 slot_started t s = start_on t s.wire s
 
--- ---- what the nodes do in an instant: the delivery, the timers of each device, and the manager
+-- ---- what the nodes do in an instant: the delivery, the timers and TPDOs of each device, and the manager
 
-unfoldable pub after_timers : ℕ → Option Slot → Manager → List Device → Asking Part Content (List Device × (Manager × List Noted))
-after_timers t slot m ds = bind (managed t slot m) (λ r. Answer (ds, r))
+unfoldable pub after_devices : ℕ → Option Slot → Manager → List Device → Asking Part Content (List Device × (Manager × List Noted))
+after_devices t slot m ds = bind (managed t slot m) (λ r. Answer (ds, r))
 
 unfoldable pub nodes_at : ℕ → Option Slot → List Device → Manager → Asking Part Content (List Device × (Manager × List Noted))
-nodes_at t slot ds m = bind (delivered t slot ds) (λ heard. after_timers t slot m (map (device.timers t) heard))
+nodes_at t slot ds m = bind (delivered t slot ds) (λ heard. after_devices t slot m (map (device.ran t) heard))
 
--- ---- ONE INSTANT: the frame that ends, what the nodes do, and the slot that starts
+-- ---- the instant from the delivery on: the frame that ends, what the nodes do, and the slot that starts
 
 abbrev pub after_nodes : ℕ → Bus → List Device × (Manager × List Noted) → Bus × List Line
 after_nodes t s q = (
-  slot_started t (record { spent = s.spent; bit_time = s.bit_time; devices = q.0; manager = q.1.0; wire = on_wire t s.wire }),
+  slot_started t (record { spent = s.spent; bit_time = s.bit_time; devices = q.0; manager = q.1.0; wire = on_wire t s.wire; window = s.window; steps = s.steps }),
   frame_lines t (ended t s.wire) ++ note_lines t q.1.1,
 )
 
+unfoldable pub from_delivery_on : ℕ → Bus → Asking Part Content (Bus × List Line)
+from_delivery_on t s = bind (nodes_at t (ended t s.wire) s.devices s.manager) (λ q. Answer (after_nodes t s q))
+
+-- ---- ONE INSTANT: the window that starts, the events, and all from the delivery on
+
+unfoldable pub after_window : ℕ → Bus → Asking Part Content (Bus × List Line)
+after_window t s = bind (events_run t s) (λ ran. from_delivery_on t ran)
+
 unfoldable pub instant : ℕ → Bus → Asking Part Content (Bus × List Line)
-instant t s = bind (nodes_at t (ended t s.wire) s.devices s.manager) (λ q. Answer (after_nodes t s q))
+instant t s = bind (window_begun t s) (λ begun. after_window t begun)

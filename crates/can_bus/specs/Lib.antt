@@ -1,4 +1,3 @@
-pub mod Each
 pub mod Bus
 pub mod Lines
 pub mod Runs

@@ -1,14 +1,17 @@
 -- A run from power-on, its trace, and words of the laws of a bus.
-use Rattle.std.specs.Prelude.{◌≡◌, ℕ, ◌+◌, nat_le, Bool, List, [], ◌∷◌, All, filter, Option, Some, None}
+use Rattle.std.specs.Prelude.{◌≡◌, ℕ, ◌+◌, ◌*◌, ◌/◌, ◌<◌, ◌≤◌, nat_le, Bool, List, [], ◌∷◌, All, filter, Option, Some, None}
 use Rattle.std.specs.List.{flat_map}
 use Rattle.asking.specs.Asking.{Asking, bind, outcome, turns}
 use Rattle.can_frame.specs.Winner.{contenders, IsWinner, WaitsAt}
 use Rattle.can_frame.specs.declared.contender.Contender.{Contender}
 use Rattle.can_frame.specs.declared.waiting.Waiting.{Waiting}
-use Rattle.co_parts.specs.Contents.{Content, Image, roster_of}
+use Rattle.co_parts.specs.Contents.{Content, Image, roster_of, steps_of}
+use Rattle.co_parts.specs.Images.{AreInOrder}
 use Rattle.co_parts.specs.declared.part.Part.{Part}
-use Rattle.co_parts.specs.declared.part.Part.TheVariants.{Defaults, Roster, Shape}
+use Rattle.co_parts.specs.declared.part.Part.TheVariants.{Defaults, Events, Roster, Shape}
+use Rattle.bus_events.specs.Steps.{LieFrom, steps_from}
 use Rattle.can_bus.specs.Bus.{Bus, instant, lists, power_on, slot_of}
+use Rattle.co_scenario.specs.declared.timed_step.TimedStep.{TimedStep}
 use Rattle.can_bus.specs.Lines.{line_time}
 use Rattle.can_bus.specs.declared.line.Line.{Line}
 use Rattle.can_bus.specs.declared.slot.Slot.{Slot}
@@ -49,3 +52,24 @@ pub record StartsWith (t : ℕ) (s : Bus) (slot : Slot) (c : Contender) (w : Wai
 abbrev pub power_on_reads : Image → List (Part × Content)
 power_on_reads image =
     (Roster, image Roster) ∷ flat_map (λ n. (Defaults n, image (Defaults n)) ∷ (Shape n, image (Shape n)) ∷ []) (roster_of (image Roster)).nodes
+
+-- the first of the moments at which windows start, from the moment t on: of the whole multiples of 10,000
+pub record IsNextWindow (t moment : ℕ) : Type 0 where
+  pub multiple : (i : ℕ) × (moment ≡ 10000 * i)
+  pub from : t ≤ moment
+  pub first : moment < t + 10000
+
+-- just before the moment t: the next window starts at its moment, and the events that have not run are in order and lie from t on
+pub record IsInTime (t : ℕ) (s : Bus) : Type 0 where
+  pub window : IsNextWindow t s.window
+  pub order : AreInOrder s.steps
+  pub from : LieFrom t s.steps
+
+-- the events of the window in which the moment t lies
+abbrev pub window_of : Image → ℕ → List TimedStep
+window_of image t = steps_of (image (Events (t / 10000)))
+
+-- just before the moment t, within a window: its events from t on have not run
+pub record HasItsEvents (image : Image) (t : ℕ) (s : Bus) : Type 0 where
+  pub window : IsNextWindow t s.window
+  pub steps : t < s.window → s.steps ≡ steps_from t (window_of image t)

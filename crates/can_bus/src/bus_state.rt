@@ -2,7 +2,7 @@
 
 ghost use Rattle.std.specs.Prelude.{◌≡◌, ◌<◌, ◌≤◌, ◌+◌, ◌*◌, ◌++◌, ◌↔◌, length, IfOk, OnOk, OnErr, IsErr, IsTrue};
 ghost use Rattle.asking.specs.Asking.{followed, outcome, reads};
-ghost use Rattle.can_bus.specs.Bus.{blank, ended, instant, on_wire, power_on, power_on_of, slot_started};
+ghost use Rattle.can_bus.specs.Bus.{blank, ended, from_delivery_on, instant, on_wire, power_on, power_on_of, slot_started};
 ghost use Rattle.can_frame.specs.Frames.{slot_bits as bits_of};
 ghost use Rattle.co_parts.specs.Contents.{first_roster as roster_of_first};
 
@@ -13,6 +13,8 @@ use crate::nodes::run_nodes;
 use crate::parts::Parts;
 use crate::slot::Slot;
 use crate::telling::tell;
+use crate::windows::{begin_window, run_due};
+use bus_events::StepsLeft;
 use can_frame::{Frame, bit_time, slot_bits};
 use co_base::Octets;
 use co_device::DeviceState;
@@ -21,18 +23,21 @@ use nmt_boot::{Manager, Notes};
 use std::alloc::{AllocError, Global};
 use std::marker::Model;
 
-/// A CAN bus at a moment: its devices, its manager, and the frame on the wire.
+/// A CAN bus at a moment: its devices, its manager, the frame on the wire, and the events of the window that
+/// have not run.
 ///
 /// A bus that found no memory in a call is spent: `spent` answers true, and each later call that can
 /// answer `AllocError` does. All moments are microseconds from the power-on of the network.
 #[derive(Drop)]
 pub struct BusState {
-    alloc: Global,
-    spent: bool,
-    bit_time: u32,
-    devices: Vec<DeviceState>,
-    manager: Manager,
-    wire: Option<Slot>,
+    pub(crate) alloc: Global,
+    pub(crate) spent: bool,
+    pub(crate) bit_time: u32,
+    pub(crate) devices: Vec<DeviceState>,
+    pub(crate) manager: Manager,
+    pub(crate) wire: Option<Slot>,
+    pub(crate) window: u64,
+    pub(crate) steps: StepsLeft,
 }
 
 impl Model for BusState {
@@ -45,7 +50,7 @@ impl Model for BusState {
 
     ghost coded = { Prim.hlevel (codes, map.code {R = place_cmp} (coded× coded_ℕ coded_ℕ) (coded_list coded_ℕ)) };
 
-    ghost view = { λ bus. record { spent = bus.spent; bit_time = bus.bit_time; devices = bus.devices.items; manager = bus.manager; wire = bus.wire } };
+    ghost view = { λ bus. record { spent = bus.spent; bit_time = bus.bit_time; devices = bus.devices.items; manager = bus.manager; wire = bus.wire; window = bus.window; steps = bus.steps } };
 }
 
 /// The network of the first project: its manager alone.
@@ -85,6 +90,8 @@ fn power_on_of<P: Parts>(
         devices,
         manager,
         wire: None,
+        window: 0,
+        steps: StepsLeft::none(),
     })
 }
 
@@ -141,19 +148,19 @@ fn start_slot(bus: &mut BusState, t: u64)
     }
 }
 
-/// One instant.
-#[tactic(auto, using(crate::proofs::InstantLemmas::instant_laws))]
-fn run_instant<P: Parts>(
+/// The instant from the delivery on.
+#[tactic(auto, using(crate::proofs::InstantLemmas::delivery_laws))]
+fn run_from_delivery<P: Parts>(
     bus: &mut BusState,
     t: u64,
     parts: &mut P,
     lines: &mut Lines,
 ) -> Result<(), AllocError>
     requires { t < END }
-    ensures state { OnOk result (bus.new ≡ (outcome (instant t bus.old) (P.seen parts.old).image).0) }
-    ensures told { OnOk result (lines.new ≡ lines.old ++ (outcome (instant t bus.old) (P.seen parts.old).image).1) }
-    ensures noted { OnOk result (P.seen parts.new ≡ followed (instant t bus.old) (P.seen parts.old)) }
-    ensures counted { OnOk result (P.asks parts.new ≤ P.asks parts.old + length (reads (instant t bus.old) (P.seen parts.old).image)) }
+    ensures state { OnOk result (bus.new ≡ (outcome (from_delivery_on t bus.old) (P.seen parts.old).image).0) }
+    ensures told { OnOk result (lines.new ≡ lines.old ++ (outcome (from_delivery_on t bus.old) (P.seen parts.old).image).1) }
+    ensures noted { OnOk result (P.seen parts.new ≡ followed (from_delivery_on t bus.old) (P.seen parts.old)) }
+    ensures counted { OnOk result (P.asks parts.new ≤ P.asks parts.old + length (reads (from_delivery_on t bus.old) (P.seen parts.old).image)) }
     ensures kept { (P.seen parts.new).image ≡ (P.seen parts.old).image }
 {
     let ended = take_ended(&mut bus.wire, t);
@@ -171,6 +178,26 @@ fn run_instant<P: Parts>(
     Ok(())
 }
 
+/// One instant.
+#[tactic(auto, using(crate::proofs::InstantLemmas::instant_laws))]
+fn run_instant<P: Parts>(
+    bus: &mut BusState,
+    t: u64,
+    parts: &mut P,
+    lines: &mut Lines,
+) -> Result<(), AllocError>
+    requires { t < END }
+    ensures state { OnOk result (bus.new ≡ (outcome (instant t bus.old) (P.seen parts.old).image).0) }
+    ensures told { OnOk result (lines.new ≡ lines.old ++ (outcome (instant t bus.old) (P.seen parts.old).image).1) }
+    ensures noted { OnOk result (P.seen parts.new ≡ followed (instant t bus.old) (P.seen parts.old)) }
+    ensures counted { OnOk result (P.asks parts.new ≤ P.asks parts.old + length (reads (instant t bus.old) (P.seen parts.old).image)) }
+    ensures kept { (P.seen parts.new).image ≡ (P.seen parts.old).image }
+{
+    begin_window(bus, t, parts)?;
+    run_due(bus, t, parts)?;
+    run_from_delivery(bus, t, parts, lines)
+}
+
 impl BusState {
     /// A bus without devices. Takes no memory.
     pub fn new(alloc: Global) -> BusState
@@ -183,6 +210,8 @@ impl BusState {
             devices: Vec::new(alloc),
             manager: Manager::new(alloc),
             wire: None,
+            window: 0,
+            steps: StepsLeft::none(),
         }
     }
 
@@ -214,6 +243,7 @@ impl BusState {
         }
         let devices = copy_all(self.alloc, &self.devices)?;
         let manager = self.manager.copy()?;
+        let steps = self.steps.copy()?;
         Ok(BusState {
             alloc: self.alloc,
             spent: false,
@@ -221,6 +251,8 @@ impl BusState {
             devices,
             manager,
             wire: self.wire,
+            window: self.window,
+            steps,
         })
     }
 
@@ -235,6 +267,12 @@ impl BusState {
             return false;
         }
         if !same_wire(&self.wire, &other.wire) {
+            return false;
+        }
+        if self.window != other.window {
+            return false;
+        }
+        if !self.steps.same(&other.steps) {
             return false;
         }
         if !self.manager.same(&other.manager) {

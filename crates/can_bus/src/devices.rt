@@ -3,8 +3,8 @@
 ghost use Rattle.std.specs.Prelude.{◌≡◌, ◌<◌, ◌≤◌, ◌+◌, ◌↔◌, true, length, map, IfOk, IsTrue, OnOk};
 ghost use Rattle.asking.specs.Asking.{followed, outcome, reads};
 ghost use Rattle.can_bus.specs.Bus.{hears, without_power};
-ghost use Rattle.can_bus.specs.Each.{each};
-ghost use Rattle.co_device.specs.Device.{powered, timers};
+ghost use Rattle.bus_events.specs.Each.{each};
+ghost use Rattle.co_device.specs.Device.{powered, ran};
 
 use crate::slot::Slot;
 use co_device::{DeviceState, Shapes};
@@ -107,10 +107,10 @@ pub(crate) fn hear_all<P: Shapes>(
     Ok(())
 }
 
-/// Runs what is due at the moment t, at each device.
-pub(crate) fn run_timers(devices: &mut [DeviceState], t: u64) -> Result<(), AllocError>
+/// Runs the timers and then the TPDOs of each device at the moment t.
+pub(crate) fn run_all(devices: &mut [DeviceState], t: u64) -> Result<(), AllocError>
     requires { t < END }
-    ensures { OnOk result (devices.new ≡ map (timers t) devices.old) }
+    ensures { OnOk result (devices.new ≡ map (ran t) devices.old) }
 {
     for device in devices.iter_mut() {
         device.on_instant(t)?;

@@ -1,17 +1,20 @@
 //! Laws of a bus, each a function whose contract is the law.
 
-ghost use Rattle.std.specs.Prelude.{◌≡◌, ◌<◌, ◌+◌, ℕ, All, Some, None, filter};
+ghost use Rattle.std.specs.Prelude.{◌≡◌, ◌≢◌, ◌<◌, ◌+◌, ◌*◌, ◌∷◌, [], ℕ, All, Some, None, filter};
 ghost use Rattle.asking.specs.Alike.{AreAlike};
 ghost use Rattle.asking.specs.Asking.{Agrees, Answer, outcome, reads};
-ghost use Rattle.can_bus.specs.Bus.{hears, instant, power_on, slot_started, Bus};
+ghost use Rattle.bus_events.specs.Steps.{has_time, steps_due, steps_left};
+ghost use Rattle.can_bus.specs.Bus.{hears, instant, power_on, slot_started, window_begun, Bus};
 ghost use Rattle.can_bus.specs.Lines.{line_time};
-ghost use Rattle.can_bus.specs.Runs.{is_shown, power_on_reads, run, trace, IsSettled, StartsWith};
+ghost use Rattle.can_bus.specs.Runs.{is_shown, power_on_reads, run, trace, window_of, HasItsEvents, IsInTime, IsNextWindow, IsSettled, StartsWith};
 ghost use Rattle.can_bus.specs.declared.line.Line.{Line as Told};
 ghost use Rattle.can_bus.specs.declared.slot.Slot.{Slot as Sent};
 ghost use Rattle.can_frame.specs.declared.contender.Contender.{Contender as Bid};
 ghost use Rattle.can_frame.specs.declared.waiting.Waiting.{Waiting as Queued};
 ghost use Rattle.co_device.specs.Device.{Device};
 ghost use Rattle.co_parts.specs.Contents.{Image};
+ghost use Rattle.co_parts.specs.Images.{IsCoherent};
+ghost use Rattle.co_parts.specs.declared.part.Part.TheVariants as part;
 
 /// Under two images that agree on what an instant or a run reads under the one, it is the same.
 #[tactic(auto, using(asking::proofs::QuestionLemmas::two_images))]
@@ -55,4 +58,32 @@ pub fn the_winner_starts()
 #[tactic(auto, using(crate::proofs::ReadLemmas::own_frame_unheard))]
 pub fn no_device_hears_its_own_frame()
     ensures { (t : ℕ) (slot : Sent) (d : Device) → d.number ≡ slot.sender → hears t slot d ≡ Answer d }
+{}
+
+/// Windows start at the whole multiples of 10,000 microseconds, and at no other moment. Where one starts, its
+/// events are asked for, and nothing else before they run.
+#[tactic(auto, using(crate::proofs::TimeLemmas::each_window, crate::proofs::TimeLemmas::window_reads, crate::proofs::TimeLemmas::no_window_starts))]
+pub fn windows_start_at_whole_multiples()
+    ensures next { (image : Image) (t : ℕ) (s : Bus) → IsNextWindow t s.window → IsNextWindow (t + 1) (outcome (instant t s) image).0.window }
+    ensures asked { (image : Image) (i : ℕ) (s : Bus) → s.window ≡ 10000 * i → reads (window_begun (10000 * i) s) image ≡ (part.Events i, image (part.Events i)) ∷ [] }
+    ensures quiet { (t : ℕ) (s : Bus) → t ≢ s.window → window_begun t s ≡ Answer s }
+{}
+
+/// Under a coherent image the next window starts at its moment, and the events that have not run are in order
+/// of time and lie ahead: at power-on, and after each instant. An event that has run isn't among them.
+#[tactic(auto, using(crate::proofs::TimeLemmas::in_time_first, crate::proofs::TimeLemmas::in_time_after, crate::proofs::TimeLemmas::instant_steps))]
+pub fn events_that_are_left_lie_ahead()
+    ensures first { (image : Image) → IsInTime 0 (outcome power_on image) }
+    ensures each { (image : Image) (t : ℕ) (s : Bus) → IsCoherent image → IsInTime t s → IsInTime (t + 1) (outcome (instant t s) image).0 }
+    ensures left { (image : Image) (t : ℕ) (s : Bus) → (outcome (instant t s) image).0.steps ≡ steps_left t (outcome (window_begun t s) image).steps }
+{}
+
+/// Under a coherent image the events that run in the instant at the moment t are those with this time in the
+/// window in which t lies, all of them, by number.
+#[tactic(auto, using(crate::proofs::TimeLemmas::has_events_first, crate::proofs::TimeLemmas::has_events_after, crate::proofs::TimeLemmas::due_are_its_events))]
+pub fn each_event_runs_at_its_time()
+    ensures first { (image : Image) → HasItsEvents image 0 (outcome power_on image) }
+    ensures each { (image : Image) (t : ℕ) (s : Bus) → IsCoherent image → HasItsEvents image t s → HasItsEvents image (t + 1) (outcome (instant t s) image).0 }
+    ensures due { (image : Image) (t : ℕ) (s : Bus) → IsCoherent image → HasItsEvents image t s
+        → steps_due t (outcome (window_begun t s) image).steps ≡ filter (has_time t) (window_of image t) }
 {}

@@ -15,6 +15,7 @@ mod parts;
 mod running;
 mod slot;
 mod telling;
+mod windows;
 
 pub use bus_state::BusState;
 pub use line::Line;

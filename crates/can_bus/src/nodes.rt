@@ -4,7 +4,7 @@ ghost use Rattle.std.specs.Prelude.{◌≡◌, ◌<◌, ◌≤◌, ◌+◌, ◌+
 ghost use Rattle.asking.specs.Asking.{followed, outcome, reads};
 ghost use Rattle.can_bus.specs.Bus.{delivered, nodes_at};
 
-use crate::devices::{hear_all, run_timers};
+use crate::devices::{hear_all, run_all};
 use crate::managing::manage;
 use crate::parts::Parts;
 use crate::slot::Slot;
@@ -33,7 +33,7 @@ fn deliver<P: Shapes>(
     }
 }
 
-/// The delivery, the timers of each device, and the manager.
+/// The delivery, the timers and TPDOs of each device, and the manager.
 #[tactic(auto, using(crate::proofs::NodeLemmas::nodes_laws))]
 pub(crate) fn run_nodes<P: Parts>(
     devices: &mut [DeviceState],
@@ -52,6 +52,6 @@ pub(crate) fn run_nodes<P: Parts>(
     ensures kept { (P.seen parts.new).image ≡ (P.seen parts.old).image }
 {
     deliver(devices, t, ended, parts)?;
-    run_timers(devices, t)?;
+    run_all(devices, t)?;
     manage(manager, t, ended, parts, notes)
 }

@@ -1,17 +1,20 @@
 //! A device and a manager, and the lines that play them.
 
-use crate::entries::{defaults, shape};
+use crate::entries::Entries;
 use crate::one_node::OneNode;
-use crate::shown::{show_bytes, show_device, show_frame, show_manager, show_notes};
+use crate::shown::{show_device, show_frame, show_left, show_manager, show_notes, show_value};
+use crate::step::Step;
 use crate::taken::{take_of_device, take_of_manager};
 use anyhow::Result;
 use can_frame::{Frame, Waiting};
 use co_base::Octets;
 use co_device::DeviceState;
+use co_dict::Access;
 use co_parts::{END, Identity, Roster};
+use co_scenario::NmtCommand;
 use concise_dcf::Write as Written;
 use nmt_boot::{Manager, Notes};
-use std::alloc::Global;
+use std::alloc::{AllocError, Global};
 use std::io::Write;
 use std::rc::Rc;
 
@@ -19,51 +22,39 @@ use std::rc::Rc;
 #[derive(Drop)]
 pub struct Bench {
     alloc: Global,
+    entries: Entries,
     node: OneNode,
     device: DeviceState,
+    last: u64,
     manager: Manager,
     notes: Notes,
 }
 
-/// What a line says after its word: a number, and two rows of bytes.
-#[derive(Drop)]
-struct Step {
-    time: u64,
-    head: Vec<u8>,
-    data: Vec<u8>,
-}
-
-/// Reads what stands after the word: a number, and hexadecimal digits twice.
-fn read_step(alloc: Global, text: &str) -> Result<Step> {
-    let (time, digits) = text.split_once(' ').unwrap_or((text, ""));
-    let (head, data) = digits.split_once(' ').unwrap_or((digits, ""));
-    Ok(Step {
-        time: time.parse::<u64>().unwrap_or(0),
-        head: hex::decode(alloc, head.as_bytes())?,
-        data: hex::decode(alloc, data.as_bytes())?,
-    })
-}
-
-/// The number of the first two bytes, the highest first.
-fn number(bytes: &[u8]) -> u16 {
-    match bytes {
-        [high, low, ..] => u16::from(*high) * 256 + u16::from(*low),
-        _ => 0,
-    }
-}
-
-/// The manager 127 of the nodes 5 and 9. The number is the time-out, the bytes are the producer
-/// heartbeat time, both in milliseconds.
+/// The manager 127 of the nodes 5 and 9. The number is the time-out and the first bytes are the producer
+/// heartbeat time, both in milliseconds; the second bytes are the time of SYNC in microseconds.
 fn powered_on(alloc: Global, step: &Step) -> Result<Manager> {
     let roster = Roster {
         bit_rate: 1000,
         manager: 127,
-        sync_us: 0,
-        heartbeat_ms: number(&step.head),
+        sync_us: step.long_number(),
+        heartbeat_ms: step.number(),
         timeout_ms: (step.time % 1000) as u16,
         nodes: Octets::from_slice(alloc, &[5, 9])?,
     };
     Ok(Manager::powered_on(alloc, &roster)?)
+}
+
+/// The access that a word gives.
+fn access_of(word: &str) -> Option<Access> {
+    match word {
+        "ro" => Some(Access::ReadOnly),
+        "wo" => Some(Access::WriteOnly),
+        "rw" => Some(Access::ReadWrite),
+        "rwr" => Some(Access::ReadWriteOnInput),
+        "rww" => Some(Access::ReadWriteOnOutput),
+        "const" => Some(Access::Constant),
+        _ => None,
+    }
 }
 
 /// Shows a frame that was taken, if there is one.
@@ -76,13 +67,43 @@ fn show_taken<W: Write>(out: &mut W, taken: Option<Waiting>) -> Result<()> {
     Ok(())
 }
 
+/// The application sets an entry. Those of PDOs aren't its own.
+fn set(device: &mut DeviceState, step: &Step) -> Result<(), AllocError> {
+    if let Some((index, sub)) = step.place() {
+        let is_own = index < 0x1400 || index > 0x1BFF;
+        if is_own && step.time < END && step.data.len() <= 512 {
+            device.set(step.time, index, sub, &step.data)?;
+        }
+    }
+    Ok(())
+}
+
+/// The device runs what is due.
+fn run(device: &mut DeviceState, t: u64) -> Result<(), AllocError> {
+    if t < END {
+        device.on_instant(t)?;
+    }
+    Ok(())
+}
+
+/// Shows the frames that wait at a moment, and takes them.
+fn show_moment<W: Write>(out: &mut W, device: &mut DeviceState, t: u64) -> Result<()> {
+    if device.contender().is_some() {
+        write!(out, "  {t}")?;
+        show_left(out, device)?;
+        writeln!(out, "")?;
+    }
+    Ok(())
+}
+
 impl Bench {
     /// A device without power and a manager of no network.
     pub fn new(alloc: Global) -> Result<Bench> {
+        let entries = Entries::new(alloc)?;
         let node = OneNode {
             alloc,
-            defaults: Rc::new(alloc, defaults(alloc)?)?,
-            shape: Rc::new(alloc, shape(alloc, true)?)?,
+            defaults: Rc::new(alloc, entries.defaults()?)?,
+            shape: Rc::new(alloc, entries.shape()?)?,
             expect: Identity { numbers: [0; 5] },
             writes: Vec::new(alloc),
             asked: Vec::new(alloc),
@@ -90,8 +111,10 @@ impl Bench {
         };
         Ok(Bench {
             alloc,
+            entries,
             node,
             device: DeviceState::new(alloc, 5),
+            last: 0,
             manager: Manager::new(alloc),
             notes: Notes::new(alloc),
         })
@@ -99,82 +122,152 @@ impl Bench {
 
     /// Plays a line, and shows what it leaves. A line has a word, a moment in microseconds, an
     /// identifier and bytes, these two as hexadecimal digits; those that it doesn't use may be missing.
-    /// Of a device speak `on` and `off` (its power), `device` (it takes a frame), `beat` (it runs what is
-    /// due), `sends` (its winner starts) and `value` (of an index and sub); of a manager `network`,
-    /// `manager`, `clock` and `orders`; of the parts `shape`, `expect`, `write` and `forget`.
+    /// Of a device speak `on` and `off` (its power), `anew` (both, and its boot-up is taken), `device` (it
+    /// takes a frame), `beat` (the same, and then it runs what is due), `run` (the same at each moment from
+    /// that of the line before), `set` (its application sets an entry), `sends` (its winner starts) and
+    /// `value` (of one or two entries); of a manager `network`, `manager`, `clock`, `command` and `orders`;
+    /// all others speak of the parts.
     pub fn play<W: Write>(&mut self, out: &mut W, line: &str) -> Result<()> {
         let (word, text) = line.split_once(' ').unwrap_or((line, ""));
         if word == "#" {
             return Ok(());
         }
-        let step = read_step(self.alloc, text)?;
+        let step = Step::read(self.alloc, text)?;
         match word {
-            "on" | "off" | "device" | "beat" | "sends" => self.play_device(out, word, &step),
-            "network" | "manager" | "clock" | "orders" => self.play_manager(out, word, &step),
-            "value" => self.show_value(out, &step),
-            _ => self.change_node(word, &step),
+            "on" | "off" | "anew" | "device" | "beat" | "run" | "set" | "sends" => {
+                self.play_device(out, word, &step)
+            }
+            "network" | "manager" | "clock" | "command" | "orders" => {
+                self.play_manager(out, word, &step)
+            }
+            "value" => self.show_values(out, &step),
+            "expect" | "write" | "forget" => self.change_boot(word, &step),
+            _ => self.change_entries(word, &step),
         }
     }
 
-    /// Switches the device, gives it a frame, runs what is due, or takes its winner for the bus.
+    /// Plays a line that speaks of the device.
     fn play_device<W: Write>(&mut self, out: &mut W, word: &str, step: &Step) -> Result<()> {
         let before = self.device.copy()?;
-        if step.time < END {
-            match word {
-                "on" => self.device.power(true, step.time, &mut self.node)?,
-                "off" => self.device.power(false, step.time, &mut self.node)?,
-                "beat" => self.device.on_instant(step.time)?,
-                "sends" => show_taken(out, take_of_device(&mut self.device, true))?,
-                _ => {
-                    if let Some(frame) = Frame::new(number(&step.head), &step.data) {
-                        self.device.on_frame(step.time, &frame, &mut self.node)?;
-                    }
-                }
-            }
+        match word {
+            "on" => self.switch(true, step.time)?,
+            "off" => self.switch(false, step.time)?,
+            "anew" => self.begin_anew(step.time)?,
+            "set" => set(&mut self.device, step)?,
+            "sends" => show_taken(out, take_of_device(&mut self.device, true))?,
+            _ => self.play_frame(out, word, step)?,
+        }
+        if word != "sends" {
+            self.last = step.time;
         }
         show_device(out, &self.device, &before, &mut self.node)
     }
 
-    /// Makes the manager of a network, gives it a frame, runs what is due, or takes its winner.
+    /// Switches the power of the device.
+    fn switch(&mut self, on: bool, t: u64) -> Result<(), AllocError> {
+        if t < END {
+            self.device.power(on, t, &mut self.node)?;
+        }
+        Ok(())
+    }
+
+    /// Switches the device off and on, and takes its boot-up.
+    fn begin_anew(&mut self, t: u64) -> Result<(), AllocError> {
+        self.switch(false, t)?;
+        self.switch(true, t)?;
+        let _boot_up = take_of_device(&mut self.device, true);
+        Ok(())
+    }
+
+    /// Gives the device a frame, and lets it run what is due.
+    fn play_frame<W: Write>(&mut self, out: &mut W, word: &str, step: &Step) -> Result<()> {
+        match word {
+            "run" => self.run_until(out, step)?,
+            "beat" => {
+                self.receive(step.time, step)?;
+                run(&mut self.device, step.time)?;
+            }
+            _ => self.receive(step.time, step)?,
+        }
+        Ok(())
+    }
+
+    /// The device takes the frame of a step, if that has one.
+    fn receive(&mut self, t: u64, step: &Step) -> Result<(), AllocError> {
+        if t >= END || step.head.is_empty() {
+            return Ok(());
+        }
+        if let Some(frame) = Frame::new(step.number(), &step.data) {
+            self.device.on_frame(t, &frame, &mut self.node)?;
+        }
+        Ok(())
+    }
+
+    /// The device takes the frame of a step and runs what is due, at each moment from that of the line
+    /// before to the step's. Shows the frames that come of it, and takes them.
+    fn run_until<W: Write>(&mut self, out: &mut W, step: &Step) -> Result<()> {
+        for t in self.last..=step.time {
+            self.receive(t, step)?;
+            run(&mut self.device, t)?;
+            show_moment(out, &mut self.device, t)?;
+        }
+        Ok(())
+    }
+
+    /// Makes the manager of a network, gives it a frame or a command, runs what is due, or takes its winner.
     fn play_manager<W: Write>(&mut self, out: &mut W, word: &str, step: &Step) -> Result<()> {
         let before = self.manager.copy()?;
-        if step.time < END {
-            match word {
-                "network" => self.manager = powered_on(self.alloc, step)?,
-                "clock" => self.manager.on_instant(step.time, &mut self.notes)?,
-                "orders" => show_taken(out, take_of_manager(&mut self.manager, true))?,
-                _ => {
-                    if let Some(frame) = Frame::new(number(&step.head), &step.data) {
-                        self.manager
-                            .on_frame(step.time, &frame, &mut self.node, &mut self.notes)?;
-                    }
-                }
-            }
+        match word {
+            "network" => self.manager = powered_on(self.alloc, step)?,
+            "orders" => show_taken(out, take_of_manager(&mut self.manager, true))?,
+            "command" => self.command(step)?,
+            _ => self.tell_manager(word, step)?,
         }
         show_notes(out, self.notes.as_slice())?;
         self.notes.clear();
         show_manager(out, &self.manager, &before)
     }
 
-    /// Shows the value of an entry of the device.
-    fn show_value<W: Write>(&self, out: &mut W, step: &Step) -> Result<()> {
-        if let [_, _, sub] = step.head.as_slice() {
-            match self.device.values().read(number(&step.head), *sub) {
-                Some(bytes) => show_bytes(out, bytes)?,
-                None => out.write_all(b" none")?,
+    /// Gives the manager a command for a node, by their numbers.
+    fn command(&mut self, step: &Step) -> Result<()> {
+        if let [command, node] = step.head.as_slice() {
+            if let Some(command) = NmtCommand::from_number(u64::from(*command)) {
+                self.manager.command(command, *node)?;
             }
+        }
+        Ok(())
+    }
+
+    /// Gives the manager a frame, or runs what is due.
+    fn tell_manager(&mut self, word: &str, step: &Step) -> Result<()> {
+        if step.time >= END {
+            return Ok(());
+        }
+        if word == "clock" {
+            self.manager.on_instant(step.time, &mut self.notes)?;
+        } else if let Some(frame) = Frame::new(step.number(), &step.data) {
+            self.manager
+                .on_frame(step.time, &frame, &mut self.node, &mut self.notes)?;
+        }
+        Ok(())
+    }
+
+    /// Shows the values of one or two entries of the device.
+    fn show_values<W: Write>(&self, out: &mut W, step: &Step) -> Result<()> {
+        if let Some(place) = step.place() {
+            show_value(out, self.device.values(), place)?;
+        }
+        if let Some(place) = step.other_place() {
+            out.write_all(b" |")?;
+            show_value(out, self.device.values(), place)?;
         }
         writeln!(out, "")?;
         Ok(())
     }
 
-    /// Changes the parts: the bits of 1017h:00, an expected number by its place, one more write, none.
-    fn change_node(&mut self, word: &str, step: &Step) -> Result<()> {
+    /// Changes what a boot asks for: an expected number by its place, one more write, or none.
+    fn change_boot(&mut self, word: &str, step: &Step) -> Result<()> {
         match (word, step.head.as_slice()) {
-            ("shape", _) => {
-                let shape = shape(self.alloc, step.time == 16)?;
-                self.node.shape = Rc::new(self.alloc, shape)?;
-            }
             ("expect", [a, b, c, d]) => {
                 if step.time < 5 {
                     self.node.expect.numbers[step.time as usize] = u32::from_be_bytes([
@@ -184,7 +277,7 @@ impl Bench {
             }
             ("write", [_, _, sub]) => {
                 let bytes = Octets::from_slice(self.alloc, &step.data)?;
-                let index = number(&step.head);
+                let index = step.number();
                 self.node.writes.push(Written {
                     index,
                     sub: *sub,
@@ -194,5 +287,32 @@ impl Bench {
             _ => self.node.writes.clear(),
         }
         Ok(())
+    }
+
+    /// Changes the entries of the node: a word of an access adds one, of a data type's number, with its
+    /// default; `maps`, `low` and `high` change the last; `dummy` lets RPDOs map that of a data type's
+    /// number; `entries` has them be those of the first line again.
+    fn change_entries(&mut self, word: &str, step: &Step) -> Result<()> {
+        match (access_of(word), step.place()) {
+            (Some(access), Some(place)) => {
+                self.entries.add(access, step.time, place, &step.data)?;
+            }
+            _ => self.change_last(word, step)?,
+        }
+        self.node.shape = Rc::new(self.alloc, self.entries.shape()?)?;
+        self.node.defaults = Rc::new(self.alloc, self.entries.defaults()?)?;
+        Ok(())
+    }
+
+    /// Changes the last entry, the dummies, or all.
+    fn change_last(&mut self, word: &str, step: &Step) -> Result<(), AllocError> {
+        match word {
+            "maps" | "low" | "high" => self.entries.change(word, step.time),
+            "dummy" => {
+                self.entries.allow(step.time);
+                Ok(())
+            }
+            _ => self.entries.begin(),
+        }
     }
 }

@@ -5,6 +5,7 @@ use crate::taken::{take_of_device, take_of_manager};
 use anyhow::Result;
 use can_frame::{Frame, Purpose, Waiting};
 use co_device::DeviceState;
+use co_dict::Dict;
 use nmt_boot::{Manager, Note};
 use node_boot::Word;
 use std::io::Write;
@@ -14,26 +15,57 @@ fn purpose_word(purpose: Purpose) -> &'static str {
     match purpose {
         Purpose::BootUp => "boot-up",
         Purpose::Heartbeat => "heartbeat",
+        Purpose::Tpdo(_) => "tpdo",
         Purpose::Sdo(_) => "sdo",
+        Purpose::Emergency => "emergency",
+        Purpose::Sync => "sync",
         Purpose::Nmt => "nmt",
-        _ => "other",
     }
 }
 
 /// Shows bytes, two digits each.
-pub fn show_bytes<W: Write>(out: &mut W, bytes: &[u8]) -> Result<()> {
+fn show_bytes<W: Write>(out: &mut W, bytes: &[u8]) -> Result<()> {
     for byte in bytes {
         write!(out, " {byte:02X}")?;
     }
     Ok(())
 }
 
+/// Shows the value of an entry, if it has one.
+pub fn show_value<W: Write>(out: &mut W, values: &Dict, place: (u16, u8)) -> Result<()> {
+    match values.read(place.0, place.1) {
+        Some(bytes) => show_bytes(out, bytes)?,
+        None => out.write_all(b" none")?,
+    }
+    Ok(())
+}
+
+/// Shows what a frame is for: of a TPDO with its number.
+fn show_purpose<W: Write>(out: &mut W, purpose: Purpose) -> Result<()> {
+    let word = purpose_word(purpose);
+    write!(out, " | {word}")?;
+    if let Purpose::Tpdo(number) = purpose {
+        write!(out, " {number}")?;
+    }
+    Ok(())
+}
+
 /// Shows what a frame is for, and the frame.
 pub fn show_frame<W: Write>(out: &mut W, waiting: &Waiting) -> Result<()> {
-    let word = purpose_word(waiting.purpose);
+    show_purpose(out, waiting.purpose)?;
     let id = waiting.frame.id();
-    write!(out, " | {word} {id:03X}")?;
+    write!(out, " {id:03X}")?;
     show_bytes(out, waiting.frame.bytes())
+}
+
+/// Takes the frames of a device, in order of place, and shows them.
+pub fn show_left<W: Write>(out: &mut W, device: &mut DeviceState) -> Result<()> {
+    for _ in 0..100 {
+        if let Some(waiting) = take_of_device(device, false) {
+            show_frame(out, &waiting)?;
+        }
+    }
+    Ok(())
 }
 
 /// Shows a moment, if there is one.
@@ -87,13 +119,8 @@ pub fn show_device<W: Write>(
     let byte = state_byte(device, node)?;
     let same = change(device.same(before), device.spent());
     write!(out, "  {same} {byte}")?;
-    show_due(out, device.next_due())?;
     let mut left = device.copy()?;
-    for _ in 0..100 {
-        if let Some(waiting) = take_of_device(&mut left, false) {
-            show_frame(out, &waiting)?;
-        }
-    }
+    show_left(out, &mut left)?;
     writeln!(out, "")?;
     Ok(())
 }

@@ -64,6 +64,18 @@ fn one_event_is_taken_away(alloc: Global) -> Result<bool, AllocError> {
     )
 }
 
+fn events_come_by_time_and_number(alloc: Global) -> Result<bool, AllocError> {
+    let mut script = Script::new(alloc);
+    script.put(3, start_of(1, 100))?;
+    script.put(2, start_of(1, 100))?;
+    script.put(1, start_of(1, 200))?;
+    script.put(9, start_of(1, 50))?;
+    script.put(8, start_of(1, 201))?;
+    script.put(4, start_of(1, 49))?;
+    let moments = script.events_between(alloc, 50, 200)?;
+    Ok(moments.as_slice() == [(50, 9), (100, 2), (100, 3), (200, 1)].as_slice())
+}
+
 #[test]
 fn commands_have_numbers(rt: HostRuntime) {
     for (command, number) in &COMMANDS {
@@ -80,5 +92,6 @@ fn scenarios_keep_events(rt: HostRuntime) -> Result<(), AllocError> {
     assert!(rt; Script::new(rt.alloc()).is_empty());
     assert!(rt; events_stand_by_number(rt.alloc())?);
     assert!(rt; one_event_is_taken_away(rt.alloc())?);
+    assert!(rt; events_come_by_time_and_number(rt.alloc())?);
     Ok(())
 }

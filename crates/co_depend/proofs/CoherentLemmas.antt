@@ -1,6 +1,7 @@
 -- The image of each project is coherent.
 use Rattle.std.proofs.Common.{ℕ, Option, Some, None, IfSome, option_map, option_and_then, sym, ◌∙◌, slice_get}
 use Rattle.std.specs.FinMap.{get-empty}
+use Rattle.std.specs.List.{AllByRecursion}
 use Rattle.co_dict.specs.Places.{place_cmp}
 use Rattle.co_dict.specs.Values.{HoldEach}
 use Rattle.eds_device.specs.Entries.{defaults_of, shape_of}
@@ -9,11 +10,12 @@ use Rattle.co_network.specs.Network.{member_at, writes_of, Member}
 use Rattle.co_project.specs.Project.{Content as Project}
 use Rattle.co_project.specs.Sound.{IsSound}
 use Rattle.co_parts.specs.Contents.{DefaultsAre, ShapeIs, shape_of as shape_in, values_of as values_in}
-use Rattle.co_parts.specs.Images.{IsBootWrite, IsCoherent}
-use Rattle.co_depend.specs.Image.{defaults_of_node, image_of, shape_of_node, write_of_node}
+use Rattle.co_parts.specs.Images.{AreInOrder, FitsShape, IsBootWrite, IsCoherent, IsWithin}
+use Rattle.co_depend.specs.Image.{defaults_of_node, image_of, shape_of_node, window_steps, write_of_node}
 use Rattle.co_depend.proofs.PointerLemmas.{all_at}
 use Rattle.co_depend.proofs.RosterLemmas.{is_roster}
 use Rattle.co_depend.proofs.SizeLemmas.{node_fits}
+use Rattle.co_depend.proofs.StepLemmas.{steps_fit, steps_in_order, steps_said, steps_within}
 
 -- each write has data of 1 to 512 bytes
 write_fits : (p : Project) → (node place : ℕ) → IfSome (write_of_node p node place) IsBootWrite
@@ -35,10 +37,12 @@ defaults_hold p node = by (member_at p node)
     by (Some m) = values_have_lengths m.sections node
 
 pub coherent : (p : Project) → IsSound p → IsCoherent (image_of p)
+unfolding window_steps
 coherent p sound = record {
   roster = is_roster p sound;
   writes = write_fits p;
-  within = λ i. tt;
+  within = λ i. steps_said (AllByRecursion (IsWithin i)) tt (window_steps p i) (steps_within (shape_of_node p) p sound i);
+  ordered = λ i. steps_said AreInOrder tt (window_steps p i) (steps_in_order (shape_of_node p) p.events i);
   defaults = defaults_hold p;
-  steps = λ i. tt;
+  steps = λ i. steps_said (AllByRecursion (FitsShape (image_of p))) tt (window_steps p i) (steps_fit p i);
 }

@@ -17,12 +17,13 @@ use Rattle.co_network.specs.Network.{member_at, project_plan, with_sections, wri
 use Rattle.co_project.specs.declared.node.Node.{Node}
 use Rattle.co_project.specs.Project.{Content as Project}
 use Rattle.co_project.specs.Tables.{text_at}
-use Rattle.co_parts.specs.Contents.{BootIs, DefaultsAre, ExpectIs, RosterIs, ShapeIs}
+use Rattle.co_parts.specs.Contents.{BootIs, DefaultsAre, EventsAre, ExpectIs, RosterIs, ShapeIs}
 use Rattle.co_parts.specs.declared.part.Part.{Part}
 use Rattle.co_parts.specs.declared.part.Part.TheVariants as part
 use Rattle.co_parts.specs.declared.roster.Roster.{Roster}
-use Rattle.co_depend.specs.Held.{held_of, with_held, AllHeld, Held}
-use Rattle.co_depend.specs.Image.{defaults_of_node, identity_of_node, image_of, roster_of_project, shape_of_node, write_of_node}
+use Rattle.co_depend.specs.Held.{held_of, shapes_held, with_held, AllHeld, Held, Windows}
+use Rattle.co_depend.specs.Image.{defaults_of_node, identity_of_node, image_of, roster_of_project, shape_of_node, window_steps, write_of_node}
+use Rattle.co_depend.specs.Steps.{steps_in, unless_none, Shapes}
 use Rattle.co_depend.specs.Supply.{image_held}
 
 -- the parts of a node with a plan and a device
@@ -120,13 +121,23 @@ mapped_then : {A B C : Type 0} (f : A → B) (g : B → Option C) (o : Option A)
 mapped_then f g None = refl
 mapped_then f g (Some a) = refl
 
--- the table's image is that of the project
-pub same_image : (p : Project) (roster : Roster) (held : AllHeld) → roster ≡ roster_of_project p → ((id : ℕ) → get held id ≡ option_map (held_of p id) (member_at p id))
-    → image_held roster held ≡ image_of p
-unfolding defaults_of_node shape_of_node identity_of_node write_of_node
-same_image p roster held is all = λ i name. by name i
+-- the shapes of the table's nodes are those of the project's
+pub same_shapes : (p : Project) (held : AllHeld) → ((id : ℕ) → get held id ≡ option_map (held_of p id) (member_at p id)) → shapes_held held ≡ shape_of_node p
+unfolding shape_of_node
+same_shapes p held all = λ i id. by id i
   where
-    by : (name : Part) → image_held roster held name ≡ image_of p name
+    by : (id : ℕ) → shapes_held held id ≡ shape_of_node p id
+    by id = ap (option_map (λ (h : Held). h.shape)) (all id) ∙ mapped_twice (held_of p id) (λ (h : Held). h.shape) (member_at p id)
+
+-- the table's image is that of the project
+pub same_image : (p : Project) (roster : Roster) (held : AllHeld) (windows : Windows) → roster ≡ roster_of_project p
+    → ((id : ℕ) → get held id ≡ option_map (held_of p id) (member_at p id))
+    → ((i : ℕ) → get windows i ≡ unless_none (steps_in (shapes_held held) p.events i))
+    → image_held roster held windows ≡ image_of p
+unfolding defaults_of_node shape_of_node identity_of_node write_of_node window_steps
+same_image p roster held windows is all timed = λ i name. by name i
+  where
+    by : (name : Part) → image_held roster held windows name ≡ image_of p name
     by part.Roster = ap (λ (r : Roster). RosterIs (Some r)) is
     by (part.Defaults id) =
         ap (λ (o : Option Held). DefaultsAre (option_map (λ (h : Held). h.defaults) o)) (all id)
@@ -140,7 +151,7 @@ same_image p roster held is all = λ i name. by name i
     by (part.Boot id place) =
         ap (λ (o : Option Held). BootIs (option_and_then (λ (h : Held). slice_get h.writes place) o)) (all id)
         ∙ ap BootIs (mapped_then (held_of p id) (λ (h : Held). slice_get h.writes place) (member_at p id))
-    by (part.Events window) = refl
+    by (part.Events window) = ap EventsAre (timed window ∙ ap (λ (shapes : Shapes). unless_none (steps_in shapes p.events window)) (same_shapes p held all))
 
 -- what follows of an answer that isn't an error
 pub ok_again : {X E : Type 0} (result : Result X E) {P Q : Type 0} → (P → Q) → OnOk result P → OnOk result Q

@@ -4,3 +4,5 @@ pub mod PartsLemmas
 pub mod PointerLemmas
 pub mod RosterLemmas
 pub mod SizeLemmas
+pub mod StepLemmas
+pub mod WindowLemmas

@@ -1,7 +1,7 @@
 -- What the program holds of a node: the same for each, whichever part is asked for.
-use Rattle.std.specs.Prelude.{ℕ, List, refl}
+use Rattle.std.specs.Prelude.{ℕ, List, [], ◌∷◌, option_map, refl}
 use Rattle.std.specs.Coded.{Coded, code_by, coded×, coded_list}
-use Rattle.std.specs.FinMap.{FinMap, insert}
+use Rattle.std.specs.FinMap.{FinMap, get, insert}
 use Rattle.std.specs.Option.{option_map_or}
 use Rattle.std.specs.Ordering.{nat_cmp}
 use Rattle.concise_dcf.specs.declared.write.Write.{Write}
@@ -10,7 +10,11 @@ use Rattle.co_dict.specs.Values.{Values}
 use Rattle.co_network.specs.Network.{with_sections, writes_of, Member}
 use Rattle.co_project.specs.declared.node.Node.{Node}
 use Rattle.co_project.specs.Project.{Content as Project}
+use Rattle.std.specs.List.{AllByRecursion}
+use Rattle.co_parts.specs.Images.{AreInOrder, IsWithin}
 use Rattle.co_parts.specs.declared.identity.Identity.{Identity}
+use Rattle.co_scenario.specs.declared.timed_step.TimedStep.{TimedStep}
+use Rattle.co_depend.specs.Steps.{Shapes}
 use Rattle.eds_device.specs.Entries.{defaults_of, shape_of}
 use Rattle.eds_device.specs.Identity.{identity}
 
@@ -30,6 +34,23 @@ held_code values_code shape_code identity_code write_code =
 -- nodes by number
 abbrev pub AllHeld : Type 0
 AllHeld = FinMap nat_cmp Held
+
+-- their entries
+abbrev pub shapes_held : AllHeld → Shapes
+shapes_held nodes node = option_map (λ (h : Held). h.shape) (get nodes node)
+
+-- the steps of the windows that have any
+abbrev pub Windows : Type 0
+Windows = FinMap nat_cmp (List TimedStep)
+
+-- each step of a window has its time there and sets no PDO object, and they are in order of time
+abbrev pub IsWindow : ℕ → List TimedStep → Type 0
+IsWindow i steps = AllByRecursion (IsWithin i) steps × AreInOrder steps
+
+-- a window with its steps, where it has any
+abbrev pub with_window : ℕ → List TimedStep → Windows → Windows
+with_window i [] windows = windows
+with_window i (s ∷ steps) windows = insert windows i (s ∷ steps)
 
 -- the parts of a node that is made of its EDS
 abbrev pub held_of : Project → ℕ → Member → Held

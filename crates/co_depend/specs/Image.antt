@@ -1,5 +1,5 @@
 -- THE IMAGE of a project: what each part of a simulation is, by its name (this profile's own).
-use Rattle.std.specs.Prelude.{ℕ, Option, Some, None, option_map, option_and_then, slice_get}
+use Rattle.std.specs.Prelude.{ℕ, List, Option, Some, option_map, option_and_then, slice_get}
 use Rattle.std.specs.FinMap.{keys}
 use Rattle.concise_dcf.specs.declared.write.Write.{Write}
 use Rattle.co_dict.specs.Shapes.{Shaped}
@@ -8,10 +8,12 @@ use Rattle.eds_device.specs.Entries.{defaults_of, shape_of}
 use Rattle.eds_device.specs.Identity.{identity}
 use Rattle.co_network.specs.Network.{member_at, writes_of, Member}
 use Rattle.co_project.specs.Project.{Content as Project}
+use Rattle.co_scenario.specs.declared.timed_step.TimedStep.{TimedStep}
 use Rattle.co_parts.specs.Contents.{Image, RosterIs, DefaultsAre, ShapeIs, ExpectIs, BootIs, EventsAre}
 use Rattle.co_parts.specs.declared.identity.Identity.{Identity}
 use Rattle.co_parts.specs.declared.part.Part.TheVariants as part
 use Rattle.co_parts.specs.declared.roster.Roster.{Roster}
+use Rattle.co_depend.specs.Steps.{steps_in, unless_none}
 
 -- the bit rate, the manager and the numbers of the nodes
 unfoldable pub roster_of_project : Project → Roster
@@ -40,11 +42,15 @@ identity_of_node project node = option_map (λ (m : Member). record { numbers = 
 unfoldable pub write_of_node : Project → ℕ → ℕ → Option Write
 write_of_node project node place = option_and_then (λ (m : Member). slice_get (writes_of project m node) place) (member_at project node)
 
--- THE IMAGE: the parts of a number that isn't a node's are none. No window has events: what a step sets isn't resolved until events act.
+-- the steps of a window, with the shapes of the project's nodes
+unfoldable pub window_steps : Project → ℕ → List TimedStep
+window_steps project i = steps_in (shape_of_node project) project.events i
+
+-- THE IMAGE: the parts of a number that isn't a node's are none, and so is a window without steps
 abbrev pub image_of : Project → Image
 image_of project part.Roster = RosterIs (Some (roster_of_project project))
 image_of project (part.Defaults node) = DefaultsAre (defaults_of_node project node)
 image_of project (part.Shape node) = ShapeIs (shape_of_node project node)
 image_of project (part.Expect node) = ExpectIs (identity_of_node project node)
 image_of project (part.Boot node place) = BootIs (write_of_node project node place)
-image_of project (part.Events window) = EventsAre None
+image_of project (part.Events window) = EventsAre (unless_none (window_steps project window))

@@ -3,3 +3,4 @@ pub mod Parts
 pub mod Pointers
 pub mod Held
 pub mod Supply
+pub mod Steps

@@ -1,17 +1,25 @@
 //! Laws of the image of a project.
-ghost use Rattle.std.specs.Prelude.{◌≡◌, ℕ, List, None, Some};
+ghost use Rattle.std.specs.Prelude.{◌≡◌, ◌↔◌, ℕ, Contains, List, None, Some};
 ghost use Rattle.ini_text.specs.Content.{content_of};
 ghost use Rattle.co_project.specs.declared.node.Node.{Node as member};
 ghost use Rattle.co_project.specs.Project.{Content as Project};
 ghost use Rattle.co_project.specs.Sound.{IsSound};
 ghost use Rattle.co_project.specs.Tables.{node_at, text_at};
 ghost use Rattle.co_parts.specs.Images.{IsCoherent};
-ghost use Rattle.co_depend.specs.Image.{image_of};
+ghost use Rattle.co_depend.specs.Image.{image_of, shape_of_node, window_steps};
+ghost use Rattle.co_scenario.specs.declared.timed_step.TimedStep.{TimedStep};
+ghost use Rattle.co_depend.specs.Steps.{IsStepIn};
 ghost use Rattle.co_depend.specs.Parts.{HasNoParts, HasParts};
 
 /// The image of each project is coherent.
 pub fn the_image_is_coherent()
     ensures { (project : Project) → IsSound project → IsCoherent (image_of project) }
+{}
+
+/// The steps of a window are what the events of its 10,000 microseconds do, each with the time and the
+/// number of its event: these, and no others.
+pub fn each_window_has_the_steps_of_its_events()
+    ensures { (project : Project) (i : ℕ) (step : TimedStep) → Contains (window_steps project i) step ↔ IsStepIn (shape_of_node project) project.events i step }
 {}
 
 /// Each node has the parts of the device of its EDS, and no other number has any.

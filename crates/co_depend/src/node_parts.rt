@@ -1,5 +1,6 @@
 //! The parts of a node.
-ghost use Rattle.std.specs.Prelude.{◌≡◌, IfOk, IfSome, slice_get};
+ghost use Rattle.std.specs.Prelude.{◌≡◌, IfOk, IfSome, option_copied, slice_get};
+ghost use Rattle.std.specs.FinMap as map;
 ghost use Rattle.eds_device.specs.Entries.{defaults_of, shape_of};
 ghost use Rattle.eds_device.specs.Identity.{identity};
 ghost use Rattle.pdo_links.specs.Writes.{node_writes};
@@ -9,7 +10,7 @@ ghost use Rattle.co_parts.specs.Shared.{shared};
 use crate::made::{make_defaults, make_expect, make_shape, make_writes};
 use crate::node_writes::NodeWrites;
 use crate::pointer::some_pointer;
-use co_dict::{Dict, Shape};
+use co_dict::{Dict, Entry, Shape};
 use co_parts::Identity;
 use co_project::Params;
 use concise_dcf::Write;
@@ -78,6 +79,13 @@ impl NodeParts {
         ensures { IfOk result (λ shape. shared shape ≡ Some self.now.shape) }
     {
         some_pointer(&self.shape)
+    }
+
+    /// The entry at an index and sub, if there is one.
+    pub fn entry(&self, index: u16, sub: u8) -> Option<&Entry>
+        ensures { option_copied result ≡ map.get self.now.shape.entries (index, sub) }
+    {
+        self.shape.entry(index, sub)
     }
 
     pub fn expect(&self) -> Result<Option<Rc<Identity>>, AllocError>

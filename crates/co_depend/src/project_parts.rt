@@ -8,6 +8,8 @@ use crate::made::make_roster;
 use crate::node_table::NodeTable;
 use crate::pointer::{pointer, some_pointer};
 use crate::reading::read_nodes;
+use crate::window_table::WindowTable;
+use crate::windows::make_windows;
 use asking::Asked;
 use can_bus::Parts;
 use co_device::Shapes;
@@ -22,13 +24,14 @@ use std::rc::Rc;
 
 /// Hands out the parts of a project, made once, and records what was asked.
 ///
-/// A call takes time by the logarithm of the number of nodes, and memory for the record alone; the parts
+/// A call takes time by the logarithm of the number of nodes or of windows, and memory for the record alone; the parts
 /// that it hands out are shared.
 #[derive(Drop)]
 pub struct ProjectParts {
     alloc: Global,
     roster: Rc<Roster>,
     nodes: NodeTable,
+    windows: WindowTable,
     asked: Vec<Read>,
     asks: u64,
 }
@@ -38,13 +41,14 @@ impl Model for ProjectParts {
     ghost use Rattle.co_parts.specs.contracts.roster.Roster as listed;
     ghost use Rattle.co_parts.specs.Images.{IsRoster};
     ghost use Rattle.co_depend.specs.contracts.node_table.NodeTable as table;
+    ghost use Rattle.co_depend.specs.contracts.window_table.WindowTable as timed;
     ghost use Rattle.co_depend.specs.Supply.{supply_code, Supply};
 
     ghost Value = { Supply };
 
-    ghost coded = { supply_code listed.the_row.coded table.the_row.coded noted.the_row.coded };
+    ghost coded = { supply_code listed.the_row.coded table.the_row.coded timed.the_row.coded noted.the_row.coded };
 
-    ghost view = { λ parts. record { roster = parts.roster.value; nodes = parts.nodes; asked = parts.asked.items; asks = parts.asks } };
+    ghost view = { λ parts. record { roster = parts.roster.value; nodes = parts.nodes; windows = parts.windows; asked = parts.asked.items; asks = parts.asks } };
 
     ghost invariant = { λ parts. IsRoster parts.roster.value };
 }
@@ -54,7 +58,8 @@ impl ProjectParts {
     ///
     /// Reads the text of each EDS that a node has once, plans the messages once, and makes the parts of
     /// each node once: takes time by the length of these texts and their logarithms, by the number of
-    /// nodes, messages, sources and sinks, and by the entries and the writes of each node.
+    /// nodes, messages, sources and sinks, and by the entries and the writes of each node. Walks the
+    /// events once for each of the 1,001 windows in which they can lie, and reads the text of each once.
     pub fn new(alloc: Global, project: &Project) -> Result<ProjectParts, AllocError>
         ensures seen { IfOk result (λ parts. seen_of parts ≡ record { image = image_of project.now; asked = [] }) }
         ensures asks { IfOk result (λ parts. parts.asks ≡ 0) }
@@ -66,10 +71,12 @@ impl ProjectParts {
         let roster = make_roster(alloc, project)?;
         let roster = Rc::new(alloc, roster)?;
         let nodes = read_nodes(alloc, project)?;
+        let windows = make_windows(alloc, &nodes, project)?;
         Ok(ProjectParts {
             alloc,
             roster,
             nodes,
+            windows,
             asked: Vec::new(alloc),
             asks: 0,
         })
@@ -133,9 +140,11 @@ impl Parts for ProjectParts {
 
     fn events(&mut self, i: u32) -> Result<Option<Rc<Window>>, AllocError> {
         self.asks = self.asks.saturating_add(1);
+        let answer = self.windows.window(i)?;
+        let noted = pointer(&answer)?;
         self.asked
-            .push(Read::new(Part::Events(i), PartContent::of_events(None)))?;
-        Ok(None)
+            .push(Read::new(Part::Events(i), PartContent::of_events(noted)))?;
+        Ok(answer)
     }
 
     fn take_asked(&mut self) -> Vec<Read> {

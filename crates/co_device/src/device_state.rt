@@ -158,7 +158,7 @@ impl DeviceState {
     }
 
     /// The first moment at which it is due, if there is one. Walks its consumers and its TPDOs.
-    #[tactic(auto, using(co_parts::proofs::MomentLemmas::earliest_append, co_parts::proofs::MomentLemmas::earliest_of), unfolding(crate::specs::Device::next_due))]
+    #[tactic(auto, using(co_parts::proofs::EarliestLemmas::earliest_append, co_parts::proofs::EarliestLemmas::earliest_of), unfolding(crate::specs::Device::next_due))]
     pub fn next_due(&self) -> Option<u64>
         ensures { result ≡ next_due self.now }
     {

@@ -1,1 +1,2 @@
+pub mod EarliestLemmas
 pub mod MomentLemmas

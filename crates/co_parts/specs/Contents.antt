@@ -1,5 +1,5 @@
 -- What the parts of an image are, and what stands in for a part that is absent.
-use Rattle.std.specs.Prelude.{ℕ, false, List, [], ◌∷◌, Option, Some, None, replicate}
+use Rattle.std.specs.Prelude.{false, List, [], ◌∷◌, Option, Some, None, replicate}
 use Rattle.std.specs.FinMap as map
 use Rattle.co_dict.specs.Shapes.{Shaped}
 use Rattle.co_dict.specs.Values.{Values}

@@ -12,7 +12,6 @@ use Rattle.co_scenario.specs.declared.step.Step.TheVariants.{Set, Power, Nmt}
 use Rattle.co_scenario.specs.declared.timed_step.TimedStep.{TimedStep}
 use Rattle.concise_dcf.specs.declared.write.Write.{Write}
 use Rattle.co_parts.specs.Contents.{Image, roster_of, shape_of, steps_of, values_of, write_of}
-use Rattle.co_parts.specs.declared.part.Part.{Part}
 use Rattle.co_parts.specs.declared.part.Part.TheVariants as part
 use Rattle.co_parts.specs.declared.roster.Roster.{Roster}
 
@@ -46,9 +45,9 @@ pub record IsRoster (roster : Roster) : Type 0 where
 abbrev pub IsBootWrite : Write → Type 0
 IsBootWrite write = (1 ≤ length write.bytes) × (length write.bytes ≤ longest_value)
 
--- PDO objects belong to the plan of messages: no event sets one
+-- PDO objects belong to the plan of messages: no event sets one; and a value has at most 512 bytes
 abbrev pub IsFree : Step → Type 0
-IsFree (Set node index sub bytes) = is_between 0x1400 0x1BFF index ≡ false
+IsFree (Set node index sub bytes) = (is_between 0x1400 0x1BFF index ≡ false) × (length bytes ≤ longest_value)
 IsFree (Power node on) = Unit {0}
 IsFree (Nmt node command) = Unit {0}
 

@@ -1,5 +1,5 @@
 -- Moments, in microseconds from the power-on of the network.
-use Rattle.std.specs.Prelude.{ℕ, ◌+◌, ◌==◌, Bool, true, false, List, [], ◌∷◌, min, Option, Some, None, if◌then◌else◌}
+use Rattle.std.specs.Prelude.{ℕ, ◌+◌, ◌==◌, Bool, false, List, [], ◌∷◌, min, Option, Some, None, if◌then◌else◌}
 
 -- a moment is there, and has come
 abbrev pub is_due : ℕ → Option ℕ → Bool

@@ -4,6 +4,7 @@
 mod content;
 mod earliest;
 mod identity;
+pub mod laws;
 mod moments;
 mod part;
 mod read;
@@ -13,7 +14,7 @@ mod window;
 pub use content::PartContent;
 pub use earliest::earlier;
 pub use identity::Identity;
-pub use moments::END;
+pub use moments::{END, is_due, moment_after};
 pub use part::Part;
 pub use read::Read;
 pub use roster::Roster;

@@ -2,12 +2,12 @@
 
 ghost use Rattle.std.specs.Prelude.{◌≡◌, ◌<◌, IfOk, ◌↔◌, IsTrue};
 ghost use Rattle.co_dict.specs.PdoChecks.{has_type, is_unsigned32};
-ghost use Rattle.co_parts.specs.Moments.{earliest, is_due};
+ghost use Rattle.co_parts.specs.Moments.{earliest};
 ghost use Rattle.co_profile.specs.Consumers.{all_expired, all_heard, any_failed as some_failed, consumer_entry, consumer_time, consumers_of as consumers_now, consumers_written, expects, failures as failures_now, heard, moments};
 
 use crate::consumer::Consumer;
 use co_dict::{Dict, Shape};
-use co_parts::{END, earlier};
+use co_parts::{END, earlier, is_due};
 use co_values::DataType;
 use std::alloc::{AllocError, Global};
 
@@ -76,16 +76,6 @@ pub fn hear(consumers: &mut [Consumer], t: u64, producer: u8, values: &Dict)
 {
     for consumer in consumers.iter_mut() {
         hear_one(consumer, t, producer, values);
-    }
-}
-
-/// Whether a moment is there, and is t.
-fn is_due(t: u64, moment: Option<u64>) -> bool
-    ensures { result ≡ is_due t moment }
-{
-    match moment {
-        Some(moment) => moment == t,
-        None => false,
     }
 }
 

@@ -1,13 +1,12 @@
 //! The error register, the identifier of SYNC messages, and the producer heartbeat time.
 
 ghost use Rattle.std.specs.Prelude.{◌≡◌, ◌<◌, OnErr, OnOk};
-ghost use Rattle.co_parts.specs.Moments.{moment_after};
 ghost use Rattle.co_profile.specs.Profile.{error_cleared, error_register as register_of, error_set, next_heartbeat as next_of, producer_heartbeat_time, sync_identifier as identifier_of_sync, with_register};
 
 use crate::learnt::Learnt;
 use can_frame::identifiers;
 use co_dict::Dict;
-use co_parts::END;
+use co_parts::{END, moment_after};
 use std::alloc::AllocError;
 
 /// The index of the error register (CiA 301), which has sub-index 0.
@@ -38,18 +37,6 @@ pub fn sync_identifier(learnt: Learnt, values: &Dict) -> u16
     }
 }
 
-/// The moment a time from t, both in microseconds; none where the time is 0.
-fn moment_after(t: u64, time: u32) -> Option<u64>
-    requires { t < END }
-    ensures { result ≡ moment_after t time }
-{
-    if time == 0 {
-        None
-    } else {
-        Some(t + u64::from(time))
-    }
-}
-
 /// The producer heartbeat time in milliseconds; 0 is off.
 fn producer_heartbeat_time(learnt: Learnt, values: &Dict) -> u16
     ensures { result ≡ producer_heartbeat_time learnt values.now }
@@ -68,7 +55,7 @@ pub fn next_heartbeat(t: u64, learnt: Learnt, values: &Dict) -> Option<u64>
     requires { t < END }
     ensures { result ≡ next_of t learnt values.now }
 {
-    moment_after(t, 1000 * u32::from(producer_heartbeat_time(learnt, values)))
+    moment_after(t, 1000 * u64::from(producer_heartbeat_time(learnt, values)))
 }
 
 /// The error register (CiA 301); 0 where the device has none.

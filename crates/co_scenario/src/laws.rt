@@ -1,8 +1,9 @@
 //! Laws of scenarios.
 
-ghost use Rattle.std.specs.Prelude.{◌≡◌, ◌≢◌, ℕ, Some, None};
+ghost use Rattle.std.specs.Prelude.{◌≡◌, ◌≢◌, ◌↔◌, ℕ, Contains, Some, None};
 ghost use Rattle.std.specs.FinMap as map;
-ghost use Rattle.co_scenario.specs.Scenario.{Events};
+ghost use Rattle.std.specs.List.Sorted.{IsStrictlySortedBy};
+ghost use Rattle.co_scenario.specs.Scenario.{events_between, moment_cmp, Events, HasEventBetween};
 ghost use Rattle.co_scenario.specs.declared.timed_event.TimedEvent.{TimedEvent};
 
 /// A number that is given an event has this event, and every other number keeps its own.
@@ -29,4 +30,16 @@ pub fn last_put_counts()
 pub fn puts_come_in_any_order()
     ensures { (events : Events) (one other : ℕ) (event another : TimedEvent) → one ≢ other
         → map.insert (map.insert events one event) other another ≡ map.insert (map.insert events other another) one event }
+{}
+
+/// A moment is among the events between two times exactly if its number has an event with its time, and
+/// that time lies there.
+pub fn events_between_are_those_of_the_times()
+    ensures { (events : Events) (first last : ℕ) (moment : ℕ × ℕ)
+        → Contains (events_between first last events) moment ↔ HasEventBetween first last events moment }
+{}
+
+/// The events between two times rise by time, and those of one time by number.
+pub fn events_between_rise()
+    ensures { (events : Events) (first last : ℕ) → IsStrictlySortedBy moment_cmp (events_between first last events) }
 {}

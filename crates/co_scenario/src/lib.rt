@@ -1,6 +1,7 @@
 //! The scenario of a simulation: what happens to the nodes from outside, and when.
 #![tactic(auto)]
 
+mod between;
 mod event;
 pub mod laws;
 mod nmt_command;

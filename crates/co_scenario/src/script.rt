@@ -1,7 +1,9 @@
 //! The events of a scenario.
-ghost use Rattle.std.specs.Prelude.{◌≡◌, ◌==◌, None, OnOk, OnErr, option_copied};
+ghost use Rattle.std.specs.Prelude.{◌≡◌, ◌==◌, None, IfOk, OnOk, OnErr, option_copied};
 ghost use Rattle.std.specs.FinMap as map;
+ghost use Rattle.co_scenario.specs.Scenario.{events_between};
 
+use crate::between::in_order;
 use crate::timed_event::TimedEvent;
 use std::alloc::{AllocError, Global};
 use std::collections::BTreeMap;
@@ -10,7 +12,7 @@ use std::marker::Model;
 
 /// The events of a scenario by number.
 ///
-/// A call takes time by the logarithm of the number of events.
+/// A call takes time by the logarithm of the number of events, where it does not say otherwise.
 #[derive(Drop)]
 pub struct Script {
     events: BTreeMap<u16, TimedEvent>,
@@ -65,6 +67,21 @@ impl Script {
         ensures { result ≡ map.entries self.now }
     {
         self.events.iter()
+    }
+
+    /// The times in microseconds and the numbers of the events with a time from `first` to `last`, both
+    /// included: by time, and events of one time by number. Want of memory is the only error.
+    ///
+    /// Takes time by the number of all events, and for each that it gives the logarithm of their number.
+    pub fn events_between(
+        &self,
+        alloc: Global,
+        first: u32,
+        last: u32,
+    ) -> Result<Vec<(u32, u16)>, AllocError>
+        ensures { IfOk result (λ moments. moments.items ≡ events_between first last self.now) }
+    {
+        in_order(alloc, self, first, last)
     }
 
     /// Gives a number an event, in place of any that it has. Want of memory changes nothing, and can

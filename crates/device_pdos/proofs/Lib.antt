@@ -1,4 +1,5 @@
 pub mod LookLemmas
 pub mod NumberLemmas
 pub mod PackedLemmas
+pub mod RestLemmas
 pub mod WriteLemmas

@@ -15,11 +15,11 @@ use Rattle.device_pdos.specs.declared.tpdo_state.TpdoState.{TpdoState}
 
 -- ---- one that isn't sent without a SYNC
 
-unchanged : (bytes : List ℕ) (r : Remembered) → after_change false bytes r ≡ r
+pub unchanged : (bytes : List ℕ) (r : Remembered) → after_change false bytes r ≡ r
 unfolding after_change is_sent_at_change
 unchanged bytes r = refl
 
-uncounted : (n : ℕ) (bytes : List ℕ) (r : Remembered) → after_nth n false bytes r ≡ r
+pub uncounted : (n : ℕ) (bytes : List ℕ) (r : Remembered) → after_nth n false bytes r ≡ r
 unfolding after_nth
 uncounted n bytes r = refl
 
@@ -105,7 +105,7 @@ no_moment : (t : ℕ) (r : Remembered) → r.inhibit ≡ None → inhibit_over t
 unfolding inhibit_over
 no_moment t r e = rw e refl
 
-inhibit_ahead : (t : ℕ) (r : Remembered) (moment : Option ℕ) (rest : List ℕ) → r.inhibit ≡ moment → AllByRecursion (λ m. t < m) (moments_of moment ++ rest)
+pub inhibit_ahead : (t : ℕ) (r : Remembered) (moment : Option ℕ) (rest : List ℕ) → r.inhibit ≡ moment → AllByRecursion (λ m. t < m) (moments_of moment ++ rest)
     → (inhibit_over t r ≡ r) × AllByRecursion (λ m. t < m) rest
 inhibit_ahead t r None rest e ahead = (no_moment t r e, ahead)
 inhibit_ahead t r (Some m) rest e ahead = (still_held t m r e ahead.0, ahead.1)

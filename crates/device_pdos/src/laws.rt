@@ -57,3 +57,13 @@ pub fn quiet_between_moments()
     ensures waiting { (t : ℕ) (values : Values) (tpdos : List State) (frames : List WaitingFrame) → AllByRecursion (λ p. frame_sent t false values p ≡ None) tpdos
         → with_tpdos t false values tpdos frames ≡ frames }
 {}
+
+/// TPDOs that were looked at rest: as long as their moments lie ahead, no later look without a SYNC changes
+/// what they remember, or what waits.
+#[tactic(auto, using(crate::proofs::RestLemmas::tpdos_rest, crate::proofs::RestLemmas::nothing_sent))]
+pub fn tpdos_that_were_looked_at_rest()
+    ensures tpdos { (t u : ℕ) (at_sync : Bool) (values : Values) (tpdos : List State) → AllByRecursion (λ m. u < m) (moments (tpdos_looked t at_sync values tpdos))
+        → tpdos_looked u false values (tpdos_looked t at_sync values tpdos) ≡ tpdos_looked t at_sync values tpdos }
+    ensures waiting { (t u : ℕ) (at_sync : Bool) (values : Values) (tpdos : List State) (frames : List WaitingFrame) → AllByRecursion (λ m. u < m) (moments (tpdos_looked t at_sync values tpdos))
+        → with_tpdos u false values (tpdos_looked t at_sync values tpdos) frames ≡ frames }
+{}

@@ -24,7 +24,7 @@ at_from t (suc i) (x ∷ xs) h = at_from t i xs h.1
 pub frame_ahead : (image : Image) (t : ℕ) (frame : BaseFrame) (m : Manager) → IsAhead t m → IsAhead t (outcome (received t frame m) image).0
 frame_ahead image t frame m h =
     let from = from_ahead t m h in
-    ahead_from t _
+    ahead_from t (outcome (received t frame m) image).0
     (received_holds image t frame m (λ r read. IsFrom t r.0) from
-    (λ i e. (from.0, set_from t i m.nodes _ from.1 (boot_from image t (t + m.timeout) (node_at m.nodes i).number (omega arith))))
-    (λ i e. (from.0, set_from t i m.nodes _ from.1 (answer_from image t (t + m.timeout) (node_at m.nodes i).number (omega arith) (node_at m.nodes i).stage frame.bytes (at_from t i m.nodes from.1)))))
+    (λ i e. record { heartbeat = from.heartbeat; sync = from.sync; nodes = set_from t i m.nodes _ from.nodes (boot_from image t (t + m.timeout) (node_at m.nodes i).number (omega arith)) })
+    (λ i e. record { heartbeat = from.heartbeat; sync = from.sync; nodes = set_from t i m.nodes _ from.nodes (answer_from image t (t + m.timeout) (node_at m.nodes i).number (omega arith) (node_at m.nodes i).stage frame.bytes (at_from t i m.nodes from.nodes)) }))

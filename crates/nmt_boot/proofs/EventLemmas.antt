@@ -54,7 +54,7 @@ module _ (t i : ℕ) (m : Manager) (image : Image) (sent : Sent) (nodes : List B
       nodes ≡ with_stage m.nodes i (outcome (boot_nmt_slave (t + m.timeout) (node_at m.nodes i).number) image).stage →
       sent ≡ sent_by (outcome (boot_nmt_slave (t + m.timeout) (node_at m.nodes i).number) image) →
       waiting ≡ (without (SdoOf (node_at m.nodes i).number) m.waiting ++ sdo_frames (node_at m.nodes i).number sent.request) ++ start_frames (node_at m.nodes i).number sent.word →
-      record { spent = m.spent; number = m.number; timeout = m.timeout; period = m.period; heartbeat = m.heartbeat; nodes = nodes; waiting = waiting } ≡ (outcome (boots_at t i m) image).0
+      record { spent = m.spent; number = m.number; timeout = m.timeout; period = m.period; heartbeat = m.heartbeat; sync_period = m.sync_period; sync = m.sync; nodes = nodes; waiting = waiting } ≡ (outcome (boots_at t i m) image).0
   boots_state e f h = rw (boots_outcome t i m image, e, h, f) refl
 
   pub boots_notes : (before after between : List Note) →
@@ -69,5 +69,5 @@ module _ (t : ℕ) (answer : List ℕ) (i : ℕ) (m : Manager) (image : Image) (
       nodes ≡ with_stage m.nodes i (outcome (sdo_answer (t + m.timeout) (node_at m.nodes i).number (node_at m.nodes i).stage answer) image).stage →
       sent ≡ sent_by (outcome (sdo_answer (t + m.timeout) (node_at m.nodes i).number (node_at m.nodes i).stage answer) image) →
       waiting ≡ (m.waiting ++ sdo_frames (node_at m.nodes i).number sent.request) ++ start_frames (node_at m.nodes i).number sent.word →
-      record { spent = m.spent; number = m.number; timeout = m.timeout; period = m.period; heartbeat = m.heartbeat; nodes = nodes; waiting = waiting } ≡ (outcome (answered_at t answer i m) image).0
+      record { spent = m.spent; number = m.number; timeout = m.timeout; period = m.period; heartbeat = m.heartbeat; sync_period = m.sync_period; sync = m.sync; nodes = nodes; waiting = waiting } ≡ (outcome (answered_at t answer i m) image).0
   answered_state e f h = rw (answered_outcome t answer i m image, e, h, f) refl

@@ -1,3 +1,4 @@
+pub mod EarliestLemmas
 pub mod EventLemmas
 pub mod FrameLemmas
 pub mod MomentLemmas

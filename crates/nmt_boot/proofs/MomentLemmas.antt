@@ -1,13 +1,16 @@
 -- When the manager is due.
-use Rattle.std.proofs.Common.{◌≡◌, ℕ, ◌+◌, ◌≤◌, Bool, true, false, List, [], ◌∷◌, map, Option, Some, None, IfSome, refl, ap, ◌∙◌, arith}
-use Rattle.std.specs.Prelude.{if◌then◌else◌, ◌==◌}
+use Rattle.std.proofs.Common.{◌≡◌, ℕ, ◌+◌, ◌≤◌, Bool, true, false, List, [], ◌∷◌, ◌++◌, map, Option, Some, None, IfSome, refl, ap, ◌∙◌, arith}
+use Rattle.std.specs.Prelude.{All, if◌then◌else◌, ◌==◌}
 use Rattle.std.proofs.lemmas.Bool.Decides.{nat_tests}
+use Rattle.std.proofs.lemmas.List.Elements.{All-append, All-cons, All-head, All-nil, All-tail}
 use Rattle.can_frame.specs.WaitingFrames.{replaced}
-use Rattle.can_frame.specs.declared.purpose.Purpose.TheVariants.{Heartbeat}
+use Rattle.can_frame.specs.declared.purpose.Purpose.TheVariants.{Heartbeat, Sync}
 use Rattle.can_frame.specs.declared.waiting.Waiting.{Waiting}
+use Rattle.co_scenario.specs.declared.nmt_command.NmtCommand.{NmtCommand}
+use Rattle.co_parts.specs.Moments.{is_due, moment_after, moments_of}
 use Rattle.nmt_boot.specs.Ahead.{IsAhead}
 use Rattle.node_boot.specs.Boot.{deadline_of, is_at, is_timed_out, sdo_time_out}
-use Rattle.nmt_boot.specs.Manager.{Manager, earlier, first_deadline, heartbeat_frame, heartbeats, next_due, node_after, notes_after_all, period_from, queue_after_all, time_outs, timers}
+use Rattle.nmt_boot.specs.Manager.{Manager, commanded, deadlines, heartbeat_frame, heartbeats, moments, node_after, notes_after_all, queue_after_all, sync_frame, syncs, time_outs, timers}
 use Rattle.node_boot.specs.declared.boot_stage.BootStage.{BootStage}
 use Rattle.nmt_boot.specs.declared.booting.Booting.{Booting}
 use Rattle.nmt_boot.specs.declared.note.Note.{Note}
@@ -17,30 +20,70 @@ abbrev pub AreFrom : ℕ → List Booting → Type 0
 AreFrom t [] = Unit {0}
 AreFrom t (n ∷ ns) = IfSome (deadline_of n.stage) (λ d. t ≤ d) × AreFrom t ns
 
-earlier_splits : (t : ℕ) (a b : Option ℕ) → IfSome (earlier a b) (λ d. t ≤ d) → IfSome a (λ d. t ≤ d) × IfSome b (λ d. t ≤ d)
-earlier_splits t None b h = (tt, h)
-earlier_splits t (Some a) None h = (h, tt)
-earlier_splits t (Some a) (Some b) h = (omega (arith, h), omega (arith, h))
+-- no moment of the manager lies before t
+pub record IsFrom (t : ℕ) (m : Manager) : Type 0 where
+  pub heartbeat : IfSome m.heartbeat (λ d. t ≤ d)
+  pub sync : IfSome m.sync (λ d. t ≤ d)
+  pub nodes : AreFrom t m.nodes
 
-earlier_joins : (t : ℕ) (a b : Option ℕ) → IfSome a (λ d. t ≤ d) → IfSome b (λ d. t ≤ d) → IfSome (earlier a b) (λ d. t ≤ d)
-earlier_joins t None b h k = k
-earlier_joins t (Some a) None h k = h
-earlier_joins t (Some a) (Some b) h k = omega (arith, h, k)
+-- ---- the list of moments
 
-pub first_splits : (t : ℕ) (first : Option ℕ) (ns : List Booting) → IfSome (first_deadline first ns) (λ d. t ≤ d) → IfSome first (λ d. t ≤ d) × AreFrom t ns
-first_splits t first [] h = (h, tt)
-first_splits t first (n ∷ ns) h =
-    let rest = first_splits t (earlier first (deadline_of n.stage)) ns h in
-    let both = earlier_splits t first (deadline_of n.stage) rest.0 in
-    (both.0, (both.1, rest.1))
+module _ (t : ℕ) where
+  abbrev AllFrom : List ℕ → Type 0
+  AllFrom ms = All (λ d. t ≤ d) ms
 
-pub first_joins : (t : ℕ) (first : Option ℕ) (ns : List Booting) → IfSome first (λ d. t ≤ d) → AreFrom t ns → IfSome (first_deadline first ns) (λ d. t ≤ d)
-first_joins t first [] h k = h
-first_joins t first (n ∷ ns) h k = first_joins t (earlier first (deadline_of n.stage)) ns (earlier_joins t first (deadline_of n.stage) h k.0) k.1
+  splits : (xs ys : List ℕ) → AllFrom (xs ++ ys) → AllFrom xs × AllFrom ys
+  splits [] ys h = (All-nil (λ d. t ≤ d), h)
+  splits (x ∷ xs) ys h =
+      let rest = splits xs ys (All-tail (λ d. t ≤ d) x (xs ++ ys) h) in
+      (All-cons (λ d. t ≤ d) x xs (All-head (λ d. t ≤ d) x (xs ++ ys) h) rest.0, rest.1)
+
+  some_from : (o : Option ℕ) → AllFrom (moments_of o) → IfSome o (λ d. t ≤ d)
+  some_from None h = tt
+  some_from (Some moment) h = All-head (λ d. t ≤ d) moment [] h
+
+  from_some : (o : Option ℕ) → IfSome o (λ d. t ≤ d) → AllFrom (moments_of o)
+  from_some None h = All-nil (λ d. t ≤ d)
+  from_some (Some moment) h = All-cons (λ d. t ≤ d) moment [] h (All-nil (λ d. t ≤ d))
+
+  nodes_from : (ns : List Booting) → AllFrom (deadlines ns) → AreFrom t ns
+  unfolding deadlines
+  nodes_from [] h = tt
+  nodes_from (n ∷ ns) h =
+      let both = splits (moments_of (deadline_of n.stage)) (deadlines ns) h in
+      (some_from (deadline_of n.stage) both.0, nodes_from ns both.1)
+
+  from_nodes : (ns : List Booting) → AreFrom t ns → AllFrom (deadlines ns)
+  unfolding deadlines
+  from_nodes [] h = All-nil (λ d. t ≤ d)
+  from_nodes (n ∷ ns) h = All-append (λ d. t ≤ d) (moments_of (deadline_of n.stage)) (deadlines ns) (from_some (deadline_of n.stage) h.0) (from_nodes ns h.1)
+
+  pub from_ahead : (m : Manager) → IsAhead t m → IsFrom t m
+  unfolding moments
+  from_ahead m h =
+      let first = splits (moments_of m.heartbeat) (moments_of m.sync ++ deadlines m.nodes) h in
+      let second = splits (moments_of m.sync) (deadlines m.nodes) first.1 in
+      record {
+        heartbeat = some_from m.heartbeat first.0;
+        sync = some_from m.sync second.0;
+        nodes = nodes_from m.nodes second.1;
+      }
+
+  pub ahead_from : (m : Manager) → IsFrom t m → IsAhead t m
+  unfolding moments
+  ahead_from m h =
+      All-append (λ d. t ≤ d) (moments_of m.heartbeat) (moments_of m.sync ++ deadlines m.nodes) (from_some m.heartbeat h.heartbeat)
+      (All-append (λ d. t ≤ d) (moments_of m.sync) (deadlines m.nodes) (from_some m.sync h.sync) (from_nodes m.nodes h.nodes))
+
+-- ---- nothing happens before the first moment
 
 not_at : (t : ℕ) (o : Option ℕ) → IfSome o (λ d. t + 1 ≤ d) → is_at t o ≡ false
 not_at t None h = refl
 not_at t (Some d) h = grind (arith, nat_tests)
+
+not_due : (t : ℕ) (o : Option ℕ) → IfSome o (λ d. t + 1 ≤ d) → is_due t o ≡ false
+not_due t None h = refl
+not_due t (Some d) h = grind (arith, nat_tests)
 
 quiet_nodes : (t : ℕ) (ns : List Booting) → AreFrom (t + 1) ns → map (node_after t) ns ≡ ns
 quiet_nodes t [] h = refl
@@ -60,17 +103,29 @@ quiet_time_outs t m from = rw (quiet_nodes t m.nodes from, quiet_queue t m.nodes
 
 quiet_beats : (t : ℕ) (m : Manager) → IfSome m.heartbeat (λ d. t + 1 ≤ d) → heartbeats t m ≡ m
 unfolding heartbeats
-quiet_beats t m h = rw (not_at t m.heartbeat h) refl
+quiet_beats t m h = rw (not_due t m.heartbeat h) refl
+
+quiet_syncs : (t : ℕ) (m : Manager) → IfSome m.sync (λ d. t + 1 ≤ d) → syncs t m ≡ m
+unfolding syncs
+quiet_syncs t m h = rw (not_due t m.sync h) refl
 
 pub quiet : (t : ℕ) (m : Manager) → IsAhead (t + 1) m → timers t m ≡ (m, [])
-unfolding next_due timers
+unfolding timers
 quiet t m h =
-    let split = first_splits (t + 1) m.heartbeat m.nodes h in
-    ap (λ (r : Manager × List Note). (heartbeats t r.0, r.1)) (quiet_time_outs t m split.1) ∙ ap (λ (n : Manager). (n, [])) (quiet_beats t m split.0)
+    let from = from_ahead (t + 1) m h in
+    ap (λ (r : Manager × List Note). (syncs t (heartbeats t r.0), r.1)) (quiet_time_outs t m from.nodes)
+    ∙ ap (λ (n : Manager). (syncs t n, [])) (quiet_beats t m from.heartbeat)
+    ∙ ap (λ (n : Manager). (n, [])) (quiet_syncs t m from.sync)
+
+-- ---- timers leave no moment up to theirs
 
 waits_later : (t : ℕ) (o : Option ℕ) → is_at t o ≡ false → IfSome o (λ d. t ≤ d) → IfSome o (λ d. t + 1 ≤ d)
 waits_later t None e h = tt
 waits_later t (Some d) e h = grind (arith, nat_tests)
+
+stays_later : (t : ℕ) (o : Option ℕ) → is_due t o ≡ false → IfSome o (λ d. t ≤ d) → IfSome o (λ d. t + 1 ≤ d)
+stays_later t None e h = tt
+stays_later t (Some d) e h = grind (arith, nat_tests)
 
 later_of : (t : ℕ) (b : Bool) (n : Booting) (s : BootStage) → is_at t (deadline_of n.stage) ≡ b → deadline_of s ≡ None → IfSome (deadline_of n.stage) (λ d. t ≤ d) → IfSome (deadline_of (if b then record n { stage = s } else n).stage) (λ d. t + 1 ≤ d)
 later_of t true n s e f h = rw f tt
@@ -91,36 +146,44 @@ period_by : (t period : ℕ) (b : Bool) → (period == 0) ≡ b → IfSome (if b
 period_by t period true e = tt
 period_by t period false e = let h = above_zero period e in omega (arith, h)
 
-period_later : (t period : ℕ) → IfSome (period_from t period) (λ d. t + 1 ≤ d)
+period_later : (t period : ℕ) → IfSome (moment_after t period) (λ d. t + 1 ≤ d)
 period_later t period = period_by t period (period == 0) refl
 
--- no due moment of the manager lies before t
-abbrev pub IsFrom : ℕ → Manager → Type 0
-IsFrom t m = IfSome m.heartbeat (λ d. t ≤ d) × AreFrom t m.nodes
+-- time-outs and heartbeat have run, and SYNC has not
+record IsBetween (t : ℕ) (m : Manager) : Type 0 where
+  heartbeat : IfSome m.heartbeat (λ d. t + 1 ≤ d)
+  sync : IfSome m.sync (λ d. t ≤ d)
+  nodes : AreFrom (t + 1) m.nodes
 
-beats_by : (t : ℕ) (m : Manager) (b : Bool) → is_at t m.heartbeat ≡ b → IfSome m.heartbeat (λ d. t ≤ d) → AreFrom (t + 1) m.nodes
-    → IsFrom (t + 1) (if b then record m { heartbeat = period_from t m.period; waiting = replaced Heartbeat (heartbeat_frame m.number) m.waiting } else m)
-beats_by t m true e h from = (period_later t m.period, from)
-beats_by t m false e h from = (waits_later t m.heartbeat e h, from)
+beats_by : (t : ℕ) (m : Manager) (b : Bool) → is_due t m.heartbeat ≡ b → IfSome m.heartbeat (λ d. t ≤ d) → IfSome m.sync (λ d. t ≤ d) → AreFrom (t + 1) m.nodes
+    → IsBetween t (if b then record m { heartbeat = moment_after t m.period; waiting = replaced Heartbeat (heartbeat_frame m.number) m.waiting } else m)
+beats_by t m true e h sync nodes = record { heartbeat = period_later t m.period; sync = sync; nodes = nodes }
+beats_by t m false e h sync nodes = record { heartbeat = stays_later t m.heartbeat e h; sync = sync; nodes = nodes }
 
-beats_later : (t : ℕ) (m : Manager) → IfSome m.heartbeat (λ d. t ≤ d) → AreFrom (t + 1) m.nodes → IsFrom (t + 1) (heartbeats t m)
+beats_later : (t : ℕ) (m : Manager) → IfSome m.heartbeat (λ d. t ≤ d) → IfSome m.sync (λ d. t ≤ d) → AreFrom (t + 1) m.nodes → IsBetween t (heartbeats t m)
 unfolding heartbeats
-beats_later t m h from = beats_by t m (is_at t m.heartbeat) refl h from
+beats_later t m h sync nodes = beats_by t m (is_due t m.heartbeat) refl h sync nodes
 
-time_outs_later : (t : ℕ) (m : Manager) → IsFrom t m → IfSome (time_outs t m).0.heartbeat (λ d. t ≤ d) × AreFrom (t + 1) (time_outs t m).0.nodes
+syncs_by : (t : ℕ) (m : Manager) (b : Bool) → is_due t m.sync ≡ b → IsBetween t m
+    → IsFrom (t + 1) (if b then record m { sync = moment_after t m.sync_period; waiting = replaced Sync sync_frame m.waiting } else m)
+syncs_by t m true e h = record { heartbeat = h.heartbeat; sync = period_later t m.sync_period; nodes = h.nodes }
+syncs_by t m false e h = record { heartbeat = h.heartbeat; sync = stays_later t m.sync e h.sync; nodes = h.nodes }
+
+syncs_later : (t : ℕ) (m : Manager) → IsBetween t m → IsFrom (t + 1) (syncs t m)
+unfolding syncs
+syncs_later t m h = syncs_by t m (is_due t m.sync) refl h
+
+time_outs_between : (t : ℕ) (m : Manager) → IsFrom t m → IsBetween t (heartbeats t (time_outs t m).0)
 unfolding time_outs
-time_outs_later t m h = (h.0, nodes_later t m.nodes h.1)
-
-pub from_ahead : (t : ℕ) (m : Manager) → IsAhead t m → IsFrom t m
-unfolding next_due
-from_ahead t m h = first_splits t m.heartbeat m.nodes h
-
-pub ahead_from : (t : ℕ) (m : Manager) → IsFrom t m → IsAhead t m
-unfolding next_due
-ahead_from t m h = first_joins t m.heartbeat m.nodes h.0 h.1
+time_outs_between t m h = beats_later t (time_outs t m).0 h.heartbeat h.sync (nodes_later t m.nodes h.nodes)
 
 pub due_later : (t : ℕ) (m : Manager) → IsAhead t m → IsAhead (t + 1) (timers t m).0
 unfolding timers
 due_later t m h =
-    let later = time_outs_later t m (from_ahead t m h) in
-    ahead_from (t + 1) (heartbeats t (time_outs t m).0) (beats_later t (time_outs t m).0 later.0 later.1)
+    let between = time_outs_between t m (from_ahead t m h) in
+    ahead_from (t + 1) (timers t m).0 (syncs_later t (heartbeats t (time_outs t m).0) between)
+
+-- a command sets no moment
+pub command_ahead : (t : ℕ) (command : NmtCommand) (node : ℕ) (m : Manager) → IsAhead t m → IsAhead t (commanded command node m)
+unfolding moments
+command_ahead t command node m h = h

@@ -1,4 +1,4 @@
--- When heartbeats come.
+-- When heartbeats and SYNC come.
 use Rattle.std.specs.Prelude.{◌≡◌, ℕ, ◌*◌, ◌≤◌, Option, Some, None}
 use Rattle.nmt_boot.specs.Manager.{Manager}
 
@@ -12,10 +12,12 @@ pub record IsFirstMultiple (t period moment : ℕ) : Type 0 where
   pub from : t ≤ moment
   pub first : (other : ℕ) → IsMultiple other period → t ≤ other → moment ≤ other
 
-abbrev pub IsNextBeat : ℕ → ℕ → Option ℕ → Type 0
-IsNextBeat t period None = period ≡ 0
-IsNextBeat t period (Some moment) = IsFirstMultiple t period moment
+-- the moment that is set for what comes with a period
+abbrev pub IsNextOf : ℕ → ℕ → Option ℕ → Type 0
+IsNextOf t period None = period ≡ 0
+IsNextOf t period (Some moment) = IsFirstMultiple t period moment
 
--- the heartbeat that is due next is the first from the moment t on; there is none without a period
-abbrev pub IsOnTime : ℕ → Manager → Type 0
-IsOnTime t m = IsNextBeat t m.period m.heartbeat
+-- heartbeat and SYNC are due next at the first multiple from the moment t on; there is none without a period
+pub record IsOnTime (t : ℕ) (m : Manager) : Type 0 where
+  pub heartbeat : IsNextOf t m.period m.heartbeat
+  pub sync : IsNextOf t m.sync_period m.sync

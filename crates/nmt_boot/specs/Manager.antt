@@ -1,17 +1,21 @@
--- The NMT manager (CiA 302): the boots of its nodes, its own heartbeat, and the frames that it has waiting. All nodes boot side by side.
-use Rattle.std.specs.Prelude.{ℕ, ◌+◌, ◌*◌, ◌==◌, Bool, false, List, [], ◌∷◌, ◌++◌, length, map, min, slice_index_or, slice_set, Option, Some, None, if◌then◌else◌}
-use Rattle.std.specs.List.{position}
+-- The NMT manager (CiA 302): the boots of its nodes, its own heartbeat, its SYNC (CiA 301), and the frames that it has waiting. All nodes boot side by side.
+use Rattle.std.specs.Prelude.{ℕ, ◌+◌, ◌*◌, ◌==◌, Bool, false, List, [], ◌∷◌, ◌++◌, length, map, slice_index_or, slice_set, Option, Some, None, if◌then◌else◌}
+use Rattle.std.specs.List.{flat_map, position}
 use Rattle.asking.specs.Asking.{Asking, Answer, bind}
 use Rattle.can_frame.specs.Frames.{BaseFrame}
-use Rattle.can_frame.specs.Identifiers.{error_control_id, nmt_id, sdo_answer_id, sdo_request_id}
+use Rattle.can_frame.specs.Identifiers.{error_control_id, nmt_id, sdo_answer_id, sdo_request_id, sync_id}
 use Rattle.can_frame.specs.WaitingFrames.{replaced, waiting, without}
-use Rattle.can_frame.specs.declared.purpose.Purpose.TheVariants.{BootUp, Heartbeat, Nmt, Sdo}
+use Rattle.can_frame.specs.declared.purpose.Purpose.TheVariants.{BootUp, Heartbeat, Nmt, Sdo, Sync}
 use Rattle.can_frame.specs.declared.unwanted.Unwanted.TheVariants.{SdoOf}
 use Rattle.can_frame.specs.declared.waiting.Waiting.{Waiting}
 use Rattle.co_parts.specs.Contents.{Content}
+use Rattle.co_parts.specs.Moments.{earliest, is_due, moment_after, moments_of}
 use Rattle.co_parts.specs.declared.part.Part.{Part}
 use Rattle.co_parts.specs.declared.roster.Roster.{Roster}
-use Rattle.node_boot.specs.Boot.{boot_nmt_slave, sdo_answer, sdo_time_out, deadline_of, is_at, is_timed_out}
+use Rattle.co_scenario.specs.Commands.{number_of}
+use Rattle.co_scenario.specs.declared.nmt_command.NmtCommand.{NmtCommand}
+use Rattle.co_scenario.specs.declared.nmt_command.NmtCommand.TheVariants.{Start}
+use Rattle.node_boot.specs.Boot.{boot_nmt_slave, sdo_answer, sdo_time_out, deadline_of, is_timed_out}
 use Rattle.node_boot.specs.declared.boot_stage.BootStage.{BootStage}
 use Rattle.node_boot.specs.declared.boot_stage.BootStage.TheVariants.{Unseen, Comparing, Writing, Configured, Failed}
 use Rattle.nmt_boot.specs.declared.booting.Booting.{Booting}
@@ -20,39 +24,49 @@ use Rattle.node_boot.specs.declared.turn.Turn.{Turn}
 use Rattle.node_boot.specs.declared.word.Word.{Word}
 use Rattle.node_boot.specs.declared.word.Word.TheVariants as word
 
--- its number, the time-out and the heartbeat's period in microseconds (0 for none), the next heartbeat, the nodes by number with their boots, and the waiting frames
+-- its number, the time-out and the periods of heartbeat and SYNC in microseconds (0 for none), the next heartbeat and the next SYNC, the nodes by number with their boots, and the waiting frames
 pub record Manager : Type 0 where
   pub spent : Bool
   pub number : ℕ
   pub timeout : ℕ
   pub period : ℕ
   pub heartbeat : Option ℕ
+  pub sync_period : ℕ
+  pub sync : Option ℕ
   pub nodes : List Booting
   pub waiting : List Waiting
 
 -- ---- before and at the power-on of the network
 
 abbrev pub blank : Manager
-blank = record { spent = false; number = 0; timeout = 0; period = 0; heartbeat = None; nodes = []; waiting = [] }
+blank = record { spent = false; number = 0; timeout = 0; period = 0; heartbeat = None; sync_period = 0; sync = None; nodes = []; waiting = [] }
 
 abbrev pub unseen : ℕ → Booting
 unseen number = record { number = number; stage = Unseen }
 
--- heartbeats come at the whole multiples of the period above 0
-abbrev pub period_from : ℕ → ℕ → Option ℕ
-period_from t period = if period == 0 then None else Some (t + period)
-
--- at time 0 no node was seen, and the manager's own boot-up waits
+-- at time 0 no node was seen, and the manager's own boot-up waits; heartbeats and SYNC come at the whole multiples of their periods above 0
 unfoldable pub powered_on : Roster → Manager
 powered_on roster = record {
   spent = false;
   number = roster.manager;
   timeout = 1000 * roster.timeout_ms;
   period = 1000 * roster.heartbeat_ms;
-  heartbeat = period_from 0 (1000 * roster.heartbeat_ms);
+  heartbeat = moment_after 0 (1000 * roster.heartbeat_ms);
+  sync_period = roster.sync_us;
+  sync = moment_after 0 roster.sync_us;
   nodes = map unseen roster.nodes;
   waiting = waiting BootUp (record { id = error_control_id roster.manager; bytes = 0 ∷ [] }) ∷ [];
 }
+
+-- ---- commands of the network management
+
+-- a command to a node; 0 stands for all nodes
+abbrev pub nmt_frame : NmtCommand → ℕ → BaseFrame
+nmt_frame command node = record { id = nmt_id; bytes = number_of command ∷ node ∷ [] }
+
+-- a command is queued behind what waits
+abbrev pub commanded : NmtCommand → ℕ → Manager → Manager
+commanded command node m = record m { waiting = m.waiting ++ waiting Nmt (nmt_frame command node) ∷ [] }
 
 -- ---- what a turn of a node's boot queues and notes
 
@@ -65,7 +79,7 @@ sdo_frames node (Some bytes) = waiting (Sdo node) (record { id = sdo_request_id 
 abbrev pub start_frames : ℕ → Option Word → List Waiting
 start_frames node None = []
 start_frames node (Some word.Lost) = []
-start_frames node (Some word.Configured) = waiting Nmt (record { id = nmt_id; bytes = 1 ∷ node ∷ [] }) ∷ []
+start_frames node (Some word.Configured) = waiting Nmt (nmt_frame Start node) ∷ []
 start_frames node (Some word.Difference) = []
 start_frames node (Some (word.Aborted abort)) = []
 start_frames node (Some word.TimedOut) = []
@@ -144,7 +158,7 @@ received t frame m =
     else if length frame.bytes == 8 then sdo_event t frame.bytes (place_of (sdo_answer_id 0) frame.id m.nodes) m
     else Answer (m, [])
 
--- ---- timers: time-outs by node, and then the heartbeat
+-- ---- timers: time-outs by node, the heartbeat, and then SYNC
 
 -- a request that still waits is dropped, and an abort is queued
 abbrev pub node_after : ℕ → Booting → Booting
@@ -173,22 +187,30 @@ heartbeat_frame number = record { id = error_control_id number; bytes = 5 ∷ []
 
 unfoldable pub heartbeats : ℕ → Manager → Manager
 heartbeats t m =
-    if is_at t m.heartbeat then record m { heartbeat = period_from t m.period; waiting = replaced Heartbeat (heartbeat_frame m.number) m.waiting }
+    if is_due t m.heartbeat then record m { heartbeat = moment_after t m.period; waiting = replaced Heartbeat (heartbeat_frame m.number) m.waiting }
+    else m
+
+-- a SYNC takes the place of one that still waits
+abbrev pub sync_frame : BaseFrame
+sync_frame = record { id = sync_id; bytes = [] }
+
+unfoldable pub syncs : ℕ → Manager → Manager
+syncs t m =
+    if is_due t m.sync then record m { sync = moment_after t m.sync_period; waiting = replaced Sync sync_frame m.waiting }
     else m
 
 unfoldable pub timers : ℕ → Manager → Manager × List Note
-timers t m = (heartbeats t (time_outs t m).0, (time_outs t m).1)
+timers t m = (syncs t (heartbeats t (time_outs t m).0), (time_outs t m).1)
 
 -- ---- the first moment at which the manager is due
 
-abbrev pub earlier : Option ℕ → Option ℕ → Option ℕ
-earlier None b = b
-earlier (Some a) None = Some a
-earlier (Some a) (Some b) = Some (min a b)
+-- the deadlines of the nodes that boot
+unfoldable pub deadlines : List Booting → List ℕ
+deadlines nodes = flat_map (λ node. moments_of (deadline_of node.stage)) nodes
 
-abbrev pub first_deadline : Option ℕ → List Booting → Option ℕ
-first_deadline first [] = first
-first_deadline first (node ∷ nodes) = first_deadline (earlier first (deadline_of node.stage)) nodes
+-- all moments that are set
+unfoldable pub moments : Manager → List ℕ
+moments m = moments_of m.heartbeat ++ (moments_of m.sync ++ deadlines m.nodes)
 
 unfoldable pub next_due : Manager → Option ℕ
-next_due m = first_deadline m.heartbeat m.nodes
+next_due m = earliest (moments m)

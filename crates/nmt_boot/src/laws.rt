@@ -6,30 +6,32 @@ ghost use Rattle.asking.specs.Asking.{Agrees, outcome, reads};
 ghost use Rattle.can_frame.specs.Frames.{BaseFrame};
 ghost use Rattle.can_frame.specs.Identifiers.{error_control_id, sdo_answer_id};
 ghost use Rattle.co_parts.specs.Contents.{Image};
+ghost use Rattle.co_parts.specs.Moments.{is_due};
 ghost use Rattle.co_parts.specs.declared.roster.Roster.{Roster as Network};
+ghost use Rattle.co_scenario.specs.declared.nmt_command.NmtCommand.{NmtCommand};
 ghost use Rattle.nmt_boot.specs.Ahead.{IsAhead};
 ghost use Rattle.nmt_boot.specs.Beats.{IsMultiple, IsOnTime};
-ghost use Rattle.node_boot.specs.Boot.{is_at};
 ghost use Rattle.nmt_boot.specs.Ends.{configured_note, WritesEnd};
-ghost use Rattle.nmt_boot.specs.Manager.{Manager as State, node_at, powered_on, received, timers};
+ghost use Rattle.nmt_boot.specs.Manager.{Manager as State, commanded, node_at, powered_on, received, timers};
 
-/// Before its next due moment nothing happens to the manager, and nothing is noted.
+/// Before the first of its moments nothing happens to the manager, and nothing is noted.
 #[tactic(auto, using(crate::proofs::MomentLemmas::quiet))]
 pub fn quiet_before_due()
     ensures { (t : ℕ) (m : State) → IsAhead (t + 1) m → timers t m ≡ (m, []) }
 {}
 
-/// The timers of a moment leave no due moment up to it, where none lay before it: whatever period and
+/// The timers of a moment leave no moment up to it, where none lay before it: whatever periods and
 /// time-out are.
 #[tactic(auto, using(crate::proofs::MomentLemmas::due_later))]
 pub fn due_after()
     ensures { (t : ℕ) (m : State) → IsAhead t m → IsAhead (t + 1) (timers t m).0 }
 {}
 
-/// A frame that comes at a moment sets no due moment before it.
-#[tactic(auto, using(crate::proofs::AheadLemmas::frame_ahead))]
+/// A frame that comes at a moment sets no moment before it, and nor does a command.
+#[tactic(auto, using(crate::proofs::AheadLemmas::frame_ahead, crate::proofs::MomentLemmas::command_ahead))]
 pub fn a_frame_sets_no_earlier_moment()
-    ensures { (image : Image) (t : ℕ) (frame : BaseFrame) (m : State) → IsAhead t m → IsAhead t (outcome (received t frame m) image).0 }
+    ensures frames { (image : Image) (t : ℕ) (frame : BaseFrame) (m : State) → IsAhead t m → IsAhead t (outcome (received t frame m) image).0 }
+    ensures commands { (t : ℕ) (command : NmtCommand) (node : ℕ) (m : State) → IsAhead t m → IsAhead t (commanded command node m) }
 {}
 
 /// Under two images that agree on what is read under the first, a frame does the same.
@@ -46,14 +48,17 @@ pub fn a_frame_changes_its_node_alone()
         → node_at (outcome (received t frame m) image).0.nodes j ≡ node_at m.nodes j }
 {}
 
-/// Heartbeats come at the whole multiples of the period above 0, and at no other moment: the next one is
-/// due at the first of them at power-on, after each frame, and after the timers of each moment.
-#[tactic(auto, using(crate::proofs::BeatLemmas::on_time_first, crate::proofs::BeatLemmas::frame_on_time, crate::proofs::BeatLemmas::timers_on_time, crate::proofs::BeatLemmas::due_at_multiples))]
-pub fn heartbeats_come_at_whole_multiples()
+/// Heartbeats come at the whole multiples of their period above 0, and at no other moment, and so does SYNC:
+/// the next one is due at the first of them at power-on, after each frame, after each command, and after the
+/// timers of each moment.
+#[tactic(auto, using(crate::proofs::BeatLemmas::on_time_first, crate::proofs::BeatLemmas::frame_on_time, crate::proofs::BeatLemmas::command_on_time, crate::proofs::BeatLemmas::timers_on_time, crate::proofs::BeatLemmas::beat_at_multiples, crate::proofs::BeatLemmas::sync_at_multiples))]
+pub fn heartbeats_and_sync_come_at_whole_multiples()
     ensures first { (network : Network) → IsOnTime 0 (powered_on network) }
     ensures frames { (image : Image) (t : ℕ) (frame : BaseFrame) (m : State) → IsOnTime t m → IsOnTime t (outcome (received t frame m) image).0 }
+    ensures commands { (t : ℕ) (command : NmtCommand) (node : ℕ) (m : State) → IsOnTime t m → IsOnTime t (commanded command node m) }
     ensures timers { (t : ℕ) (m : State) → IsOnTime t m → IsOnTime (t + 1) (timers t m).0 }
-    ensures due { (t : ℕ) (m : State) → IsOnTime t m → (is_at t m.heartbeat ≡ true) ↔ IsMultiple t m.period }
+    ensures heartbeat { (t : ℕ) (m : State) → IsOnTime t m → (is_due t m.heartbeat ≡ true) ↔ IsMultiple t m.period }
+    ensures sync { (t : ℕ) (m : State) → IsOnTime t m → (is_due t m.sync ≡ true) ↔ IsMultiple t m.sync_period }
 {}
 
 /// A node is noted configured only at a frame at which a write of it was asked for and is absent, or where

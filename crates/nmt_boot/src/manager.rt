@@ -7,16 +7,17 @@ ghost use Rattle.nmt_boot.specs.Manager as rules;
 
 use crate::booting::Booting;
 use crate::notes::Notes;
-use crate::table;
-use crate::telling::{note, tell};
+use crate::table::{self, first_deadline};
+use crate::telling::{note, send_command, tell};
 use can_frame::{Contender, Frame, Pending, Purpose, Unwanted, Waiting, identifiers};
-use co_parts::{END, Roster};
+use co_parts::{END, Roster, earlier, is_due, moment_after};
+use co_scenario::NmtCommand;
 use node_boot::Boots;
 use std::alloc::{AllocError, Global};
 use std::marker::Model;
 
-/// The NMT manager of a network at a moment (CiA 302): the boots of its nodes, its heartbeat, and what it has
-/// waiting.
+/// The NMT manager of a network at a moment (CiA 302): the boots of its nodes, its heartbeat, its SYNC
+/// (CiA 301), and what it has waiting.
 ///
 /// A manager that found no memory in a call is spent: `spent` answers true, and each later call that can
 /// answer `AllocError` does. All moments are microseconds from the power-on of the network.
@@ -28,6 +29,8 @@ pub struct Manager {
     timeout: u64,
     period: u64,
     heartbeat: Option<u64>,
+    sync_period: u64,
+    sync: Option<u64>,
     nodes: Vec<Booting>,
     waiting: Pending,
 }
@@ -38,9 +41,9 @@ impl Model for Manager {
 
     ghost Value = { State };
 
-    ghost view = { λ m. record { spent = m.spent; number = m.number; timeout = m.timeout; period = m.period; heartbeat = m.heartbeat; nodes = m.nodes.items; waiting = m.waiting } };
+    ghost view = { λ m. record { spent = m.spent; number = m.number; timeout = m.timeout; period = m.period; heartbeat = m.heartbeat; sync_period = m.sync_period; sync = m.sync; nodes = m.nodes.items; waiting = m.waiting } };
 
-    ghost invariant = { λ m. (m.timeout < 1000 * 2 ^ 16) × (m.period < 1000 * 2 ^ 16) };
+    ghost invariant = { λ m. (m.timeout < 1000 * 2 ^ 16) × (m.period < 1000 * 2 ^ 16) × (m.sync_period < 2 ^ 32) };
 }
 
 /// Whether these are the bytes of a boot-up message.
@@ -51,16 +54,20 @@ fn is_boot_up(bytes: &[u8]) -> bool
     bytes.len() == 1 && bytes[0] == 0
 }
 
-/// The first whole multiple of a period after one of its multiples; none where the period is 0.
-fn period_from(t: u64, period: u64) -> Option<u64>
-    requires soon { t < END }
-    requires short { period < 1000 * 2 ^ 16 }
-    ensures { result ≡ rules.period_from t period }
+/// A time in microseconds, from one in milliseconds.
+fn microseconds(milliseconds: u16) -> u64
+    ensures time { result ≡ 1000 * milliseconds }
+    ensures short { result < 1000 * 2 ^ 16 }
 {
-    if period == 0 {
-        return None;
-    }
-    Some(t + period)
+    1000 * u64::from(milliseconds)
+}
+
+/// The time between two SYNC messages of a network, in microseconds.
+fn sync_time(roster: &Roster) -> u64
+    ensures time { result ≡ roster.now.sync_us }
+    ensures short { result < 2 ^ 32 }
+{
+    u64::from(roster.sync_us)
 }
 
 /// The frame of the manager's heartbeat: it is Operational.
@@ -68,6 +75,13 @@ fn heartbeat_frame(number: u8) -> Frame
     ensures { result ≡ rules.heartbeat_frame number }
 {
     Frame::of(identifiers::error_control(number), &[5])
+}
+
+/// The frame of SYNC: it has no bytes.
+fn sync_frame() -> Frame
+    ensures { result ≡ rules.sync_frame }
+{
+    Frame::of(identifiers::sync(), &[])
 }
 
 /// The eight bytes of an SDO frame.
@@ -92,6 +106,8 @@ impl Manager {
             timeout: 0,
             period: 0,
             heartbeat: None,
+            sync_period: 0,
+            sync: None,
             nodes: Vec::new(alloc),
             waiting: Pending::new(alloc),
         }
@@ -102,7 +118,8 @@ impl Manager {
     pub fn powered_on(alloc: Global, roster: &Roster) -> Result<Manager, AllocError>
         ensures { IfOk result (λ manager. manager ≡ rules.powered_on roster.now) }
     {
-        let period = 1000 * u64::from(roster.heartbeat_ms);
+        let period = microseconds(roster.heartbeat_ms);
+        let sync_period = sync_time(roster);
         let nodes = table::unseen_nodes(alloc, roster.nodes.as_slice())?;
         let mut waiting = Pending::new(alloc);
         let boot_up = Frame::of(identifiers::error_control(roster.manager), &[0]);
@@ -111,9 +128,11 @@ impl Manager {
             alloc,
             spent: false,
             number: roster.manager,
-            timeout: 1000 * u64::from(roster.timeout_ms),
+            timeout: microseconds(roster.timeout_ms),
             period,
-            heartbeat: period_from(0, period),
+            heartbeat: moment_after(0, period),
+            sync_period,
+            sync: moment_after(0, sync_period),
             nodes,
             waiting,
         })
@@ -136,9 +155,21 @@ impl Manager {
             timeout: self.timeout,
             period: self.period,
             heartbeat: self.heartbeat,
+            sync_period: self.sync_period,
+            sync: self.sync,
             nodes,
             waiting,
         })
+    }
+
+    /// Whether heartbeat and SYNC of two managers come at the same moments.
+    fn has_times_of(&self, other: &Manager) -> bool
+        ensures { IsTrue result ↔ ((self.now.period ≡ other.now.period) × (self.now.heartbeat ≡ other.now.heartbeat) × (self.now.sync_period ≡ other.now.sync_period) × (self.now.sync ≡ other.now.sync)) }
+    {
+        self.period == other.period
+            && self.heartbeat == other.heartbeat
+            && self.sync_period == other.sync_period
+            && self.sync == other.sync
     }
 
     /// Whether two managers are equal.
@@ -148,18 +179,19 @@ impl Manager {
         self.spent == other.spent
             && self.number == other.number
             && self.timeout == other.timeout
-            && self.period == other.period
-            && self.heartbeat == other.heartbeat
+            && self.has_times_of(other)
             && table::same_nodes(&self.nodes, &other.nodes)
             && self.waiting.same(&other.waiting)
     }
 
-    /// The first moment at which a request times out or a heartbeat is due. Takes time by the number of nodes.
-    #[tactic(auto, unfolding(crate::specs::Manager::next_due))]
+    /// The first moment at which a request times out, or a heartbeat or SYNC is due. Takes time by the number
+    /// of nodes.
+    #[tactic(auto, using(crate::proofs::EarliestLemmas::next_due_is))]
     pub fn next_due(&self) -> Option<u64>
         ensures { result ≡ rules.next_due self.now }
     {
-        table::first_deadline(self.heartbeat, &self.nodes)
+        let timed = earlier(self.sync, first_deadline(&self.nodes));
+        earlier(self.heartbeat, timed)
     }
 
     /// Whether a call before found no memory.
@@ -207,6 +239,14 @@ impl Manager {
         ensures short { result < 1000 * 2 ^ 16 }
     {
         self.period
+    }
+
+    /// The period of SYNC, in microseconds.
+    fn sync_period(&self) -> u64
+        ensures period { result ≡ self.now.sync_period }
+        ensures short { result < 2 ^ 32 }
+    {
+        self.sync_period
     }
 
     /// The boot of a node of the table begins anew.
@@ -355,12 +395,25 @@ impl Manager {
         requires { t < END }
         ensures { OnOk result (self.new ≡ rules.heartbeats t self.old) }
     {
-        if self.heartbeat != Some(t) {
+        if !is_due(t, self.heartbeat) {
             return Ok(());
         }
-        self.heartbeat = period_from(t, self.period());
+        self.heartbeat = moment_after(t, self.period());
         let frame = heartbeat_frame(self.number);
         self.waiting.replace(Purpose::Heartbeat, frame)
+    }
+
+    /// SYNC, where it is due at the moment t.
+    #[tactic(auto, unfolding(crate::specs::Manager::syncs))]
+    fn synchronize(&mut self, t: u64) -> Result<(), AllocError>
+        requires { t < END }
+        ensures { OnOk result (self.new ≡ rules.syncs t self.old) }
+    {
+        if !is_due(t, self.sync) {
+            return Ok(());
+        }
+        self.sync = moment_after(t, self.sync_period());
+        self.waiting.replace(Purpose::Sync, sync_frame())
     }
 
     /// Runs what is due, where there was memory before.
@@ -371,7 +424,8 @@ impl Manager {
         ensures notes { OnOk result (notes.new ≡ notes.old ++ (rules.timers t self.old).1) }
     {
         self.time_out(t, notes)?;
-        self.beat(t)
+        self.beat(t)?;
+        self.synchronize(t)
     }
 
     /// Takes a frame of a node at the moment t, and notes what that brings about. Takes time by the number
@@ -414,6 +468,23 @@ impl Manager {
             return Err(AllocError);
         }
         let done = self.run_timers(t, notes);
+        if done.is_err() {
+            self.spent = true;
+        }
+        done
+    }
+
+    /// Queues a command of the network management (CiA 301) to a node, 0 for all nodes, behind the frames
+    /// that wait.
+    pub fn command(&mut self, command: NmtCommand, node: u8) -> Result<(), AllocError>
+        ensures state { OnOk result (self.new ≡ rules.commanded command node self.old) }
+        ensures refused { IsTrue self.old.spent → IsErr result }
+        ensures spent { OnErr result (IsTrue self.new.spent) }
+    {
+        if self.spent {
+            return Err(AllocError);
+        }
+        let done = send_command(&mut self.waiting, command, node);
         if done.is_err() {
             self.spent = true;
         }

@@ -2,14 +2,16 @@
 
 ghost use Rattle.std.specs.Prelude.{◌≡◌, ◌≤◌, ◌<◌, ◌+◌, ◌++◌, ◌↔◌, length, map, IfOk, IfSome, IsTrue, OnOk};
 ghost use Rattle.asking.specs.Asking.{followed, outcome, reads};
+ghost use Rattle.co_parts.specs.Moments.{earliest};
 ghost use Rattle.node_boot.specs.Boot.{boot_nmt_slave, sdo_answer};
-ghost use Rattle.nmt_boot.specs.Manager.{earlier as earlier_of, first_deadline as is_first_deadline, lost, node_after, node_at, notes_after_all, place_of as is_place_of, queue_after_all, unseen, with_stage};
+ghost use Rattle.nmt_boot.specs.Manager.{deadlines, lost, node_after, node_at, notes_after_all, place_of as is_place_of, queue_after_all, unseen, with_stage};
 ghost use Rattle.nmt_boot.specs.Sending.{sent_by};
 
 use crate::booting::Booting;
 use crate::notes::Notes;
 use crate::sent::Sent;
 use can_frame::Pending;
+use co_parts::earlier;
 use node_boot::{BootStage, Boots, Word, deadline_of};
 use std::alloc::{AllocError, Global};
 
@@ -135,22 +137,11 @@ pub(crate) fn time_outs(
     Ok(())
 }
 
-/// The earlier of two moments, where there are two.
-fn earlier(first: Option<u64>, second: Option<u64>) -> Option<u64>
-    ensures { result ≡ earlier_of first second }
+/// The first of the deadlines of the nodes.
+pub(crate) fn first_deadline(nodes: &[Booting]) -> Option<u64>
+    ensures { result ≡ earliest (deadlines nodes.now) }
 {
-    match (first, second) {
-        (None, second) => second,
-        (Some(first), None) => Some(first),
-        (Some(first), Some(second)) => Some(first.min(second)),
-    }
-}
-
-/// The first of a moment and the deadlines of the nodes.
-pub(crate) fn first_deadline(moment: Option<u64>, nodes: &[Booting]) -> Option<u64>
-    ensures { result ≡ is_first_deadline moment nodes.now }
-{
-    let mut first = moment;
+    let mut first = None;
     for node in nodes {
         first = earlier(first, deadline_of(&node.stage));
     }

@@ -1,12 +1,15 @@
 //! What a rule of a boot queues at the manager, and notes.
 
-ghost use Rattle.std.specs.Prelude.{◌≡◌, ◌++◌, OnOk};
-ghost use Rattle.nmt_boot.specs.Manager.{notes_of, sdo_frames, start_frames};
+ghost use Rattle.std.specs.Prelude.{◌≡◌, ◌++◌, ◌∷◌, [], OnOk};
+ghost use Rattle.can_frame.specs.WaitingFrames.{waiting as queued};
+ghost use Rattle.can_frame.specs.declared.purpose.Purpose.TheVariants as purposes;
+ghost use Rattle.nmt_boot.specs.Manager.{nmt_frame as frame_of_command, notes_of, sdo_frames, start_frames};
 
 use crate::note::Note;
 use crate::notes::Notes;
 use crate::sent::Sent;
 use can_frame::{Frame, Pending, Purpose, identifiers};
+use co_scenario::NmtCommand;
 use node_boot::Word;
 use std::alloc::AllocError;
 
@@ -21,16 +24,30 @@ fn send_request(waiting: &mut Pending, node: u8, request: Option<[u8; 8]>) -> Re
     Ok(())
 }
 
+/// The frame of a command to a node, 0 for all nodes.
+fn nmt_frame(command: NmtCommand, node: u8) -> Frame
+    ensures { result ≡ frame_of_command command node }
+{
+    Frame::of(identifiers::nmt(), &[command.number(), node])
+}
+
+/// Queues a command to a node, 0 for all nodes.
+pub(crate) fn send_command(
+    waiting: &mut Pending,
+    command: NmtCommand,
+    node: u8,
+) -> Result<(), AllocError>
+    ensures { OnOk result (waiting.new ≡ waiting.old ++ queued purposes.Nmt (frame_of_command command node) ∷ []) }
+{
+    waiting.add(Purpose::Nmt, nmt_frame(command, node))
+}
+
 /// Queues the start of a node that is configured.
 fn start(waiting: &mut Pending, node: u8, word: Option<Word>) -> Result<(), AllocError>
     ensures { OnOk result (waiting.new ≡ waiting.old ++ start_frames node word) }
 {
     match word {
-        Some(Word::Configured) => {
-            let frame = Frame::of(identifiers::nmt(), &[1, node]);
-            waiting.add(Purpose::Nmt, frame)?;
-            Ok(())
-        }
+        Some(Word::Configured) => send_command(waiting, NmtCommand::Start, node),
         _ => Ok(()),
     }
 }

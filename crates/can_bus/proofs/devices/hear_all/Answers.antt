@@ -1,6 +1,6 @@
 use Rattle.std.proofs.Common.{◌<◌, ◌∙◌, length, arith}
 use Rattle.can_bus.specs.Bus.{hears}
-use Rattle.can_bus.proofs.EachLemmas.{each_state, each_noted, each_counted}
+use Rattle.bus_events.proofs.EachLemmas.{each_state, each_noted, each_counted}
 use Rattle.can_bus.proofs.devices.hear_all.Goals as goal
 
 pub loop-device-preserved : goal.loop-device-preserved

@@ -1,7 +1,7 @@
 use Rattle.std.proofs.Common.{◌≡◌, ◌++◌, ◌≤◌, ◌+◌, length, take, drop}
 use Rattle.can_bus.specs.Bus.{hears}
 use Rattle.asking.specs.Asking.{outcome, followed, reads}
-use Rattle.can_bus.specs.Each.{each}
+use Rattle.bus_events.specs.Each.{each}
 use Rattle.can_bus.proofs.devices.hear_all.Given as goal
 
 -- what is done and what is left give what all give

@@ -1,7 +1,7 @@
 use Rattle.std.proofs.Common.{◌<◌, ◌∙◌, length, arith}
 use Rattle.std.specs.Prelude.{true}
 use Rattle.co_device.specs.Device.{powered}
-use Rattle.can_bus.proofs.EachLemmas.{each_state, each_noted, each_counted}
+use Rattle.bus_events.proofs.EachLemmas.{each_state, each_noted, each_counted}
 use Rattle.can_bus.proofs.devices.power_all.Goals as goal
 
 pub loop-device-preserved : goal.loop-device-preserved

@@ -2,7 +2,7 @@ use Rattle.std.proofs.Common.{◌≡◌, ◌++◌, ◌≤◌, ◌+◌, length, t
 use Rattle.std.specs.Prelude.{true}
 use Rattle.co_device.specs.Device.{powered}
 use Rattle.asking.specs.Asking.{outcome, followed, reads}
-use Rattle.can_bus.specs.Each.{each}
+use Rattle.bus_events.specs.Each.{each}
 use Rattle.can_bus.proofs.devices.power_all.Given as goal
 
 -- what is done and what is left give what all give

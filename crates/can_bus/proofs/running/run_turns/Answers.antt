@@ -1,6 +1,5 @@
-use Rattle.std.proofs.Common.{◌≡◌, ◌<◌, ◌≤◌, ◌-◌, ◌++◌, ◌∙◌, ℕ, zero, arith, ap, refl, sym}
+use Rattle.std.proofs.Common.{◌<◌, ◌≤◌, ◌++◌, ◌∙◌, arith, ap, sym}
 use Rattle.std.proofs.lemmas.List.{append-nil}
-use Rattle.asking.specs.Asking.{outcome, turns}
 use Rattle.asking.proofs.LoopLemmas.{turned_told}
 use Rattle.can_bus.proofs.RunLemmas.{no_turns_left}
 use Rattle.can_bus.specs.Bus.{instant}

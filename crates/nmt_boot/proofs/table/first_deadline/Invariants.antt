@@ -1,6 +1,7 @@
 use Rattle.std.proofs.Common.{◌≡◌, drop}
-use Rattle.nmt_boot.specs.Manager.{first_deadline}
+use Rattle.co_parts.specs.Moments.{earlier, earliest}
+use Rattle.nmt_boot.specs.Manager.{deadlines}
 use Rattle.nmt_boot.proofs.table.first_deadline.Given as goal
 
 abbrev pub invariant-loop-node : goal.invariant-loop-node
-invariant-loop-node l = first_deadline l.first (drop l.node-index l.nodes) ≡ first_deadline l.fn.moment l.fn.nodes
+invariant-loop-node l = earlier l.first (earliest (deadlines (drop l.node-index l.nodes))) ≡ earliest (deadlines l.fn.nodes)

@@ -20,11 +20,11 @@ pub returns-clause-seen : goal.returns-clause-seen
 unfolding seen
 returns-clause-seen c =
     let roster : c.in_ok-roster-2.roster.value ≡ roster_of_project c.args.project.now = c.in_ok-roster-2.ensures.ok ∙ c.in_ok-roster.ensures in
-    ap (λ (image : Image). seen image c.new-2.result.items) (same_image c.args.project.now c.in_ok-roster-2.roster.value c.in_ok-nodes.nodes roster c.in_ok-nodes.ensures)
+    ap (λ (image : Image). seen image c.new-2.result.items) (same_image c.args.project.now c.in_ok-roster-2.roster.value c.in_ok-nodes.nodes c.in_ok-windows.windows roster c.in_ok-nodes.ensures c.in_ok-windows.ensures)
     ∙ ap (seen (image_of c.args.project.now)) c.new-2.ensures.items
 
 pub returns-clause-coherent : goal.returns-clause-coherent
 returns-clause-coherent c =
     let roster : c.in_ok-roster-2.roster.value ≡ roster_of_project c.args.project.now = c.in_ok-roster-2.ensures.ok ∙ c.in_ok-roster.ensures in
-    subst IsCoherent (sym (same_image c.args.project.now c.in_ok-roster-2.roster.value c.in_ok-nodes.nodes roster c.in_ok-nodes.ensures))
+    subst IsCoherent (sym (same_image c.args.project.now c.in_ok-roster-2.roster.value c.in_ok-nodes.nodes c.in_ok-windows.windows roster c.in_ok-nodes.ensures c.in_ok-windows.ensures))
     (coherent c.args.project.now c.keeps_to_rules.ensures)

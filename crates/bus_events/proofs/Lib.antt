@@ -1,0 +1,4 @@
+pub mod EachLemmas
+pub mod EventLemmas
+pub mod OtherLemmas
+pub mod StepLemmas

@@ -1,0 +1,4 @@
+pub mod Each
+pub mod Steps
+pub mod Events
+pub mod Others

@@ -1,0 +1,146 @@
+//! What the events of a scenario do to the nodes of a bus.
+
+ghost use Rattle.std.specs.Prelude.{◌≡◌, ◌<◌, ◌≤◌, ◌+◌, false, length, map, OnOk};
+ghost use Rattle.asking.specs.Asking.{followed, outcome, reads};
+ghost use Rattle.bus_events.specs.Each.{each};
+ghost use Rattle.bus_events.specs.Events.{events_at, happens, power_at, set_at};
+ghost use Rattle.bus_events.specs.Steps.{AreFree};
+ghost use Rattle.co_base.specs.Ranges.{is_between};
+ghost use Rattle.co_parts.specs.Images.{IsFree};
+
+use co_device::{DeviceState, Shapes};
+use co_parts::END;
+use co_scenario::{Step, TimedStep};
+use nmt_boot::Manager;
+use std::alloc::AllocError;
+
+/// A device sets an entry of its own at the moment t, if it has this number.
+#[tactic(auto, unfolding(crate::specs::Events::set_at))]
+fn set_one(
+    device: &mut DeviceState,
+    t: u64,
+    node: u8,
+    place: (u16, u8),
+    bytes: &[u8],
+) -> Result<(), AllocError>
+    requires soon { t < END }
+    requires short { length bytes.now ≤ 512 }
+    requires free { is_between 0x1400 0x1BFF place.0 ≡ false }
+    ensures { OnOk result (device.new ≡ set_at t node place bytes.now device.old) }
+{
+    if device.number() != node {
+        return Ok(());
+    }
+    device.set(t, place.0, place.1, bytes)
+}
+
+/// The devices of this number set an entry of their own at the moment t.
+fn set_each(
+    devices: &mut [DeviceState],
+    t: u64,
+    node: u8,
+    place: (u16, u8),
+    bytes: &[u8],
+) -> Result<(), AllocError>
+    requires soon { t < END }
+    requires short { length bytes.now ≤ 512 }
+    requires free { is_between 0x1400 0x1BFF place.0 ≡ false }
+    ensures { OnOk result (devices.new ≡ map (set_at t node place bytes.now) devices.old) }
+{
+    for device in devices.iter_mut() {
+        set_one(device, t, node, place, bytes)?;
+    }
+    Ok(())
+}
+
+/// Switches the power of a device at the moment t, if it has this number.
+#[tactic(auto, unfolding(crate::specs::Events::power_at))]
+fn power_one<P: Shapes>(
+    device: &mut DeviceState,
+    t: u64,
+    node: u8,
+    on: bool,
+    shapes: &mut P,
+) -> Result<(), AllocError>
+    requires { t < END }
+    ensures state { OnOk result (device.new ≡ outcome (power_at t node on device.old) (P.seen shapes.old).image) }
+    ensures noted { OnOk result (P.seen shapes.new ≡ followed (power_at t node on device.old) (P.seen shapes.old)) }
+    ensures counted { OnOk result (P.asks shapes.new ≤ P.asks shapes.old + length (reads (power_at t node on device.old) (P.seen shapes.old).image)) }
+    ensures kept { (P.seen shapes.new).image ≡ (P.seen shapes.old).image }
+{
+    if device.number() != node {
+        return Ok(());
+    }
+    device.power(on, t, shapes)
+}
+
+/// Switches the power of the devices of this number at the moment t.
+fn power_each<P: Shapes>(
+    devices: &mut [DeviceState],
+    t: u64,
+    node: u8,
+    on: bool,
+    shapes: &mut P,
+) -> Result<(), AllocError>
+    requires { t < END }
+    ensures state { OnOk result (devices.new ≡ outcome (each (power_at t node on) devices.old) (P.seen shapes.old).image) }
+    ensures noted { OnOk result (P.seen shapes.new ≡ followed (each (power_at t node on) devices.old) (P.seen shapes.old)) }
+    ensures counted { OnOk result (P.asks shapes.new ≤ P.asks shapes.old + length (reads (each (power_at t node on) devices.old) (P.seen shapes.old).image)) }
+    ensures kept { (P.seen shapes.new).image ≡ (P.seen shapes.old).image }
+{
+    for device in devices.iter_mut() {
+        power_one(device, t, node, on, shapes)?;
+    }
+    Ok(())
+}
+
+/// An event happens at the moment t.
+#[tactic(auto, using(crate::proofs::EventLemmas::happens_laws))]
+fn happen<P: Shapes>(
+    devices: &mut [DeviceState],
+    manager: &mut Manager,
+    t: u64,
+    step: &Step,
+    shapes: &mut P,
+) -> Result<(), AllocError>
+    requires soon { t < END }
+    requires free { IsFree step.now }
+    ensures devices { OnOk result (devices.new ≡ (outcome (happens t step.now (devices.old, manager.old)) (P.seen shapes.old).image).0) }
+    ensures manager { OnOk result (manager.new ≡ (outcome (happens t step.now (devices.old, manager.old)) (P.seen shapes.old).image).1) }
+    ensures noted { OnOk result (P.seen shapes.new ≡ followed (happens t step.now (devices.old, manager.old)) (P.seen shapes.old)) }
+    ensures counted { OnOk result (P.asks shapes.new ≤ P.asks shapes.old + length (reads (happens t step.now (devices.old, manager.old)) (P.seen shapes.old).image)) }
+    ensures kept { (P.seen shapes.new).image ≡ (P.seen shapes.old).image }
+{
+    match step {
+        Step::Set {
+            node,
+            index,
+            sub,
+            bytes,
+        } => set_each(devices, t, *node, (*index, *sub), bytes.as_slice()),
+        Step::Power { node, on } => power_each(devices, t, *node, *on, shapes),
+        Step::Nmt { node, command } => manager.command(*command, *node),
+    }
+}
+
+/// Runs events at the moment t, one after another. Takes time by their number times that of the devices.
+pub fn run_events<P: Shapes>(
+    devices: &mut [DeviceState],
+    manager: &mut Manager,
+    t: u64,
+    steps: &[TimedStep],
+    shapes: &mut P,
+) -> Result<(), AllocError>
+    requires soon { t < END }
+    requires free { AreFree steps.now }
+    ensures devices { OnOk result (devices.new ≡ (outcome (events_at t steps.now (devices.old, manager.old)) (P.seen shapes.old).image).0) }
+    ensures manager { OnOk result (manager.new ≡ (outcome (events_at t steps.now (devices.old, manager.old)) (P.seen shapes.old).image).1) }
+    ensures noted { OnOk result (P.seen shapes.new ≡ followed (events_at t steps.now (devices.old, manager.old)) (P.seen shapes.old)) }
+    ensures counted { OnOk result (P.asks shapes.new ≤ P.asks shapes.old + length (reads (events_at t steps.now (devices.old, manager.old)) (P.seen shapes.old).image)) }
+    ensures kept { (P.seen shapes.new).image ≡ (P.seen shapes.old).image }
+{
+    for step in steps {
+        happen(devices, manager, t, &step.step, shapes)?;
+    }
+    Ok(())
+}

@@ -1,0 +1,10 @@
+//! The events of a scenario on a CAN bus.
+#![tactic(auto)]
+
+mod events;
+pub mod laws;
+mod same_steps;
+mod steps_left;
+
+pub use events::run_events;
+pub use steps_left::StepsLeft;

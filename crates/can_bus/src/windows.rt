@@ -1,0 +1,51 @@
+//! The windows of a bus, and their events.
+
+ghost use Rattle.std.specs.Prelude.{◌≡◌, ◌<◌, ◌≤◌, ◌+◌, length, OnOk};
+ghost use Rattle.asking.specs.Asking.{followed, outcome, reads};
+ghost use Rattle.can_bus.specs.Bus.{events_run, window_begun};
+
+use crate::bus_state::BusState;
+use crate::parts::Parts;
+use bus_events::{StepsLeft, run_events};
+use co_parts::END;
+use std::alloc::AllocError;
+
+/// The time that a window takes, in microseconds.
+const WINDOW: u64 = 10_000;
+
+/// Asks for the events of the window that starts at the moment t, if one does.
+#[tactic(auto, using(crate::proofs::WindowLemmas::free_window), unfolding(crate::specs::Bus::window_begun))]
+pub(crate) fn begin_window<P: Parts>(
+    bus: &mut BusState,
+    t: u64,
+    parts: &mut P,
+) -> Result<(), AllocError>
+    requires { t < END }
+    ensures state { OnOk result (bus.new ≡ outcome (window_begun t bus.old) (P.seen parts.old).image) }
+    ensures noted { OnOk result (P.seen parts.new ≡ followed (window_begun t bus.old) (P.seen parts.old)) }
+    ensures counted { OnOk result (P.asks parts.new ≤ P.asks parts.old + length (reads (window_begun t bus.old) (P.seen parts.old).image)) }
+    ensures kept { (P.seen parts.new).image ≡ (P.seen parts.old).image }
+{
+    if t != bus.window {
+        return Ok(());
+    }
+    let window = parts.events((t / WINDOW) as u32)?;
+    bus.steps = StepsLeft::of_window(window);
+    bus.window = t + WINDOW;
+    Ok(())
+}
+
+/// Runs the events of the moment t, and forgets them.
+#[tactic(auto, using(crate::proofs::WindowLemmas::events_laws))]
+pub(crate) fn run_due<P: Parts>(bus: &mut BusState, t: u64, parts: &mut P) -> Result<(), AllocError>
+    requires { t < END }
+    ensures state { OnOk result (bus.new ≡ outcome (events_run t bus.old) (P.seen parts.old).image) }
+    ensures noted { OnOk result (P.seen parts.new ≡ followed (events_run t bus.old) (P.seen parts.old)) }
+    ensures counted { OnOk result (P.asks parts.new ≤ P.asks parts.old + length (reads (events_run t bus.old) (P.seen parts.old).image)) }
+    ensures kept { (P.seen parts.new).image ≡ (P.seen parts.old).image }
+{
+    let devices = bus.devices.as_mut_slice();
+    run_events(devices, &mut bus.manager, t, bus.steps.due(t), parts)?;
+    bus.steps.forget(t);
+    Ok(())
+}

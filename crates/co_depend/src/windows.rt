@@ -1,0 +1,30 @@
+//! The windows of a project's scenario.
+ghost use Rattle.std.specs.Prelude.{◌≡◌, ℕ, IfOk};
+ghost use Rattle.std.specs.FinMap as map;
+ghost use Rattle.co_depend.specs.Held.{shapes_held};
+ghost use Rattle.co_depend.specs.Steps.{steps_in, unless_none};
+
+use crate::node_table::NodeTable;
+use crate::steps::{LAST_WINDOW, steps_in};
+use crate::window_table::WindowTable;
+use co_project::Project;
+use std::alloc::{AllocError, Global};
+
+/// The windows of a project's scenario that have steps. Takes time by the number of events for each of
+/// the 1,001 windows in which events can lie.
+pub(crate) fn make_windows(
+    alloc: Global,
+    nodes: &NodeTable,
+    project: &Project,
+) -> Result<WindowTable, AllocError>
+    ensures { IfOk result (λ windows. (i : ℕ) → map.get windows i ≡ unless_none (steps_in (shapes_held nodes.now) project.now.events i)) }
+{
+    project.keeps_to_rules();
+    let script = project.events();
+    let mut windows = WindowTable::new(alloc);
+    for i in 0..LAST_WINDOW + 1 {
+        let steps = steps_in(alloc, nodes, script, i)?;
+        windows.add(alloc, i, steps)?;
+    }
+    Ok(windows)
+}
