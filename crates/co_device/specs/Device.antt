@@ -264,7 +264,7 @@ ran t d = tpdos_run t (timers t d)
 -- ---- the moments at which the device is due
 
 abbrev pub moments : Device → List ℕ
-moments d = moments_of d.heartbeat ++ consumers.moments d.consumers ++ tpdos.moments d.tpdos
+moments d = moments_of d.heartbeat ++ consumers.moments d.consumers ++ tpdos.moments (is_in Operational d) d.tpdos
 
 -- the first of them
 unfoldable pub next_due : Device → Option ℕ

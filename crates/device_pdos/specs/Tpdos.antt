@@ -1,5 +1,5 @@
 -- The TPDOs of a device at a moment (CiA 301), by number.
-use Rattle.std.specs.Prelude.{ℕ, ◌==◌, Bool, List, [], ◌∷◌, ◌++◌, map, flat_map, take, Option, Some, None, if◌then◌else◌}
+use Rattle.std.specs.Prelude.{ℕ, ◌==◌, ◌&&◌, nat_le, true, false, Bool, List, [], ◌∷◌, map, flat_map, take, Option, Some, None, if◌then◌else◌}
 use Rattle.can_frame.specs.Frames.{BaseFrame}
 use Rattle.can_frame.specs.WaitingFrames.{replaced}
 use Rattle.can_frame.specs.declared.purpose.Purpose.TheVariants as purpose
@@ -84,10 +84,26 @@ unfoldable pub with_tpdos : ℕ → Bool → Values → List TpdoState → List 
 with_tpdos t at_sync values [] frames = frames
 with_tpdos t at_sync values (p ∷ tpdos) frames = with_tpdos t at_sync values tpdos (with_frame p.number (frame_sent t at_sync values p) frames)
 
--- ---- the moments that they remember
+-- ---- the moment at which a TPDO is due
 
-abbrev pub tpdo_moments : TpdoState → List ℕ
-tpdo_moments p = moments_of p.remembered.inhibit ++ moments_of p.remembered.event
+-- types 254 and 255
+abbrev pub is_event_driven : Option ℕ → Bool
+is_event_driven None = false
+is_event_driven (Some kind) = nat_le 254 kind
 
-abbrev pub moments : List TpdoState → List ℕ
-moments tpdos = flat_map tpdo_moments tpdos
+abbrev pub waits_for_event : Option Configuration → Bool
+waits_for_event None = false
+waits_for_event (Some c) = is_event_driven c.communication.kind
+
+-- while it is inhibited, the end of that; else its event moment, where it counts
+abbrev pub due_of : Bool → Option ℕ → Option ℕ → Option ℕ
+due_of counts (Some inhibit) event = Some inhibit
+due_of true None event = event
+due_of false None event = None
+
+-- event moments count of event-driven TPDOs, in Operational
+abbrev pub tpdo_moment : Bool → TpdoState → Option ℕ
+tpdo_moment operational p = due_of (operational && waits_for_event p.configuration) p.remembered.inhibit p.remembered.event
+
+abbrev pub moments : Bool → List TpdoState → List ℕ
+moments operational tpdos = flat_map (λ p. moments_of (tpdo_moment operational p)) tpdos
