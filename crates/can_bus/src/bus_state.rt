@@ -289,8 +289,8 @@ impl BusState {
     }
 
     /// The instant at the moment t, which is below `END`: adds what it tells to the lines. One in which
-    /// nothing is due takes no memory. Takes time by the number of nodes. Want of memory may leave lines
-    /// added.
+    /// nothing is due and no window starts takes no memory. Takes time by the number of nodes, as often as
+    /// events run. Want of memory may leave lines added.
     pub fn instant<P: Parts>(
         &mut self,
         t: u64,

@@ -23,7 +23,8 @@ pub trait Parts: Shapes + Boots {
         ensures counted { Self.asks self.new ≡ min (Self.asks self.old + 1) (2 ^ 64 - 1) }
         ensures kept { (Self.seen self.new).image ≡ (Self.seen self.old).image };
 
-    /// The events of window i, or none: each has its time there.
+    /// The events of window i, or none: each has its time there, and sets no object of a PDO and no value of
+    /// more than 512 bytes.
     fn events(&mut self, i: u32) -> Result<Option<Rc<Window>>, AllocError>
         ensures value { IfOk result (λ r. (Self.seen self.old).image (Part.Events i) ≡ EventsAre (shared r)) }
         ensures fits { IfOk result (λ r. IfSome (shared r) (AllByRecursion (IsWithin i))) }
