@@ -12,11 +12,12 @@ use Rattle.co_parts.specs.declared.part.Part.{Part}
 use Rattle.co_parts.specs.declared.part.Part.TheVariants.{Shape}
 use Rattle.co_pdos.specs.declared.receipt.Receipt.{Receipt}
 use Rattle.co_pdos.specs.declared.receipt.Receipt.TheVariants.{Short, Kept, AtOnce, Ignored}
+use Rattle.co_profile.specs.Consumers.{any_expects}
 use Rattle.co_profile.specs.Profile.{sync_identifier}
 use Rattle.co_scenario.specs.Commands.{command_of}
-use Rattle.device_pdos.specs.Rpdos.{mapping_of_rpdo, receipt_of, rpdo_at, with_kept}
+use Rattle.device_pdos.specs.Rpdos.{any_has_identifier, mapping_of_rpdo, receipt_of, rpdo_at, with_kept}
 use Rattle.co_device.specs.Device.{Device, after_write, error_control, is_addressed, is_error_control, is_in, nmt_service, sdo_request, with_emergency}
-use Rattle.co_device.specs.declared.nmt_state.NmtState.TheVariants.{Operational}
+use Rattle.co_device.specs.declared.nmt_state.NmtState.TheVariants.{Operational, Stopped}
 
 -- ---- a list of steps over one device, each on what the last one left
 
@@ -86,3 +87,14 @@ received t frame d =
     else if (frame.id == sdo_request_id d.number) && (length frame.bytes == 8) then sdo_request t frame.bytes d
     else if is_error_control frame then Answer (error_control t (frame.id - error_control_id 0) d)
     else pdo_received t frame d
+
+-- ---- FRAMES OF WHICH THE DEVICE TAKES NOTHING: without power all; else those that are not to it, that its NMT state doesn't let it take, or that no consumer and no RPDO expects
+
+unfoldable pub ignored : BaseFrame → Device → Bool
+ignored frame d =
+    if not d.has_power then true
+    else if frame.id == nmt_id then not (is_addressed d.number frame.bytes)
+    else if frame.id == sync_identifier d.learnt d.values then not (is_in Operational d)
+    else if (frame.id == sdo_request_id d.number) && (length frame.bytes == 8) then is_in Stopped d
+    else if is_error_control frame then not (any_expects (frame.id - error_control_id 0) d.values d.consumers)
+    else not (is_in Operational d && any_has_identifier frame.id d.rpdos)

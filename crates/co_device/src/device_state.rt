@@ -163,7 +163,8 @@ impl DeviceState {
         ensures { result ≡ next_due self.now }
     {
         let next = earlier(self.heartbeat, co_profile::next_moment(&self.consumers));
-        earlier(next, device_pdos::next_moment(&self.tpdos))
+        let operational = self.is_in(NmtState::Operational);
+        earlier(next, device_pdos::next_moment(&self.tpdos, operational))
     }
 
     /// The frame with which it contends for the bus: the first of those waiting that have the least

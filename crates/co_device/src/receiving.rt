@@ -1,51 +1,18 @@
 //! The frames that a device receives.
 
-ghost use Rattle.std.specs.Prelude.{◌≡◌, ◌<◌, ◌≤◌, ◌+◌, ◌-◌, length, slice_index_or, OnOk, Some, None, if◌then◌else◌};
+ghost use Rattle.std.specs.Prelude.{◌≡◌, ◌<◌, ◌≤◌, ◌+◌, length, OnOk};
 ghost use Rattle.asking.specs.Asking.{followed, outcome, reads};
-ghost use Rattle.co_device.specs.Device.{is_addressed as is_to, is_error_control};
-ghost use Rattle.co_device.specs.Receiving.{received};
+ghost use Rattle.co_device.specs.Receiving.{ignored, received};
 
 use crate::device_state::DeviceState;
+use crate::nmt_state::NmtState;
 use crate::shapes::Shapes;
 use can_frame::{Frame, identifiers};
 use co_parts::END;
-use co_profile::sync_identifier;
+use co_profile::{any_expects, command, eight, is_addressed, producer_of, sync_identifier};
 use co_scenario::NmtCommand;
+use device_pdos::any_has_identifier;
 use std::alloc::AllocError;
-
-/// Whether the message of an NMT service is to a node, or to all.
-fn is_addressed(number: u8, bytes: &[u8]) -> bool
-    ensures { result ≡ is_to number bytes.now }
-{
-    bytes.len() == 2 && (bytes[1] == 0 || bytes[1] == number)
-}
-
-/// The first byte, by which the message of an NMT service tells the service; 0 where there is none.
-fn command(bytes: &[u8]) -> u8
-    ensures { result ≡ slice_index_or bytes.now 0 0 }
-{
-    bytes.get(0).copied().unwrap_or(0)
-}
-
-/// The bytes of a frame that has eight.
-fn eight(bytes: &[u8]) -> [u8; 8]
-    requires { length bytes.now ≡ 8 }
-    ensures { result ≡ bytes.now }
-{
-    let mut copy = [0; 8];
-    copy.copy_from_slice(bytes);
-    copy
-}
-
-/// The node whose boot-up message or heartbeat a frame is, if it is one.
-fn producer_of(frame: &Frame) -> Option<u8>
-    ensures { result ≡ (if is_error_control frame.now then Some (frame.now.id - 0x700) else None) }
-{
-    match frame.id() {
-        id @ 0x701..=0x77F if frame.bytes().len() == 1 => Some((id - 0x700) as u8),
-        _ => None,
-    }
-}
 
 impl DeviceState {
     /// Takes a frame.
@@ -83,5 +50,30 @@ impl DeviceState {
             return self.take_error_control(t, producer);
         }
         self.take_pdo(t, frame, shapes)
+    }
+
+    /// Whether it takes nothing of a frame: none of its services expects it in its NMT state. Takes time by
+    /// its consumers or its RPDOs, and by the logarithm of the number of entries.
+    #[tactic(auto, unfolding(crate::specs::Receiving::ignored))]
+    pub fn ignores(&self, frame: &Frame) -> bool
+        ensures { result ≡ ignored frame.now self.now }
+    {
+        if !self.has_power {
+            return true;
+        }
+        let bytes = frame.bytes();
+        if frame.id() == identifiers::nmt() {
+            return !is_addressed(self.number, bytes);
+        }
+        if frame.id() == sync_identifier(self.learnt, &self.values) {
+            return !self.is_in(NmtState::Operational);
+        }
+        if frame.id() == identifiers::sdo_request(self.number) && bytes.len() == 8 {
+            return self.is_in(NmtState::Stopped);
+        }
+        if let Some(producer) = producer_of(frame) {
+            return !any_expects(&self.consumers, producer, &self.values);
+        }
+        !(self.is_in(NmtState::Operational) && any_has_identifier(&self.rpdos, frame.id()))
     }
 }

@@ -41,6 +41,10 @@ heard t producer values c =
 unfoldable pub all_heard : ℕ → ℕ → Values → List Consumer → List Consumer
 all_heard t producer values consumers = map (heard t producer values) consumers
 
+-- one of them expects the heartbeat of this node
+unfoldable pub any_expects : ℕ → Values → List Consumer → Bool
+any_expects producer values consumers = list_any (λ c. expects producer (consumer_entry values c.sub)) consumers
+
 -- ---- failures
 
 abbrev pub any_failed : List Consumer → Bool

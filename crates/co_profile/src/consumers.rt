@@ -3,7 +3,7 @@
 ghost use Rattle.std.specs.Prelude.{◌≡◌, ◌<◌, IfOk, ◌↔◌, IsTrue};
 ghost use Rattle.co_dict.specs.PdoChecks.{has_type, is_unsigned32};
 ghost use Rattle.co_parts.specs.Moments.{earliest};
-ghost use Rattle.co_profile.specs.Consumers.{all_expired, all_heard, any_failed as some_failed, consumer_entry, consumer_time, consumers_of as consumers_now, consumers_written, expects, failures as failures_now, heard, moments};
+ghost use Rattle.co_profile.specs.Consumers.{all_expired, all_heard, any_expects, any_failed as some_failed, consumer_entry, consumer_time, consumers_of as consumers_now, consumers_written, expects, failures as failures_now, heard, moments};
 
 use crate::consumer::Consumer;
 use co_dict::{Dict, Shape};
@@ -77,6 +77,27 @@ pub fn hear(consumers: &mut [Consumer], t: u64, producer: u8, values: &Dict)
     for consumer in consumers.iter_mut() {
         hear_one(consumer, t, producer, values);
     }
+}
+
+/// Whether a consumer expects the heartbeat of a node.
+fn is_expecting(consumer: &Consumer, producer: u8, values: &Dict) -> bool
+    ensures { result ≡ expects producer (consumer_entry values.now consumer.now.sub) }
+{
+    expects(
+        producer,
+        values.number_32(CONSUMER_HEARTBEAT_TIME, consumer.sub),
+    )
+}
+
+/// Whether one of the consumers expects the heartbeat of a node. Takes time by their number and the
+/// logarithm of the number of entries.
+#[tactic(auto, unfolding(crate::specs::Consumers::any_expects))]
+pub fn any_expects(consumers: &[Consumer], producer: u8, values: &Dict) -> bool
+    ensures { result ≡ any_expects producer values.now consumers.now }
+{
+    consumers
+        .iter()
+        .any(|consumer| is_expecting(consumer, producer, values))
 }
 
 /// The consumers whose moment is t, in microseconds, fail.

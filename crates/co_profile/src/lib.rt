@@ -8,13 +8,16 @@ mod defaults;
 mod emergencies;
 pub mod laws;
 mod learnt;
+mod messages;
 mod profile;
 
 pub use consumer::Consumer;
 pub use consumers::{
-    any_failed, consumers_of, expire, failures, forget, hear, next_moment, same_consumers,
+    any_expects, any_failed, consumers_of, expire, failures, forget, hear, next_moment,
+    same_consumers,
 };
 pub use defaults::{communication_restored, values_of};
 pub use emergencies::emergency_frame;
 pub use learnt::Learnt;
+pub use messages::{command, eight, is_addressed, producer_of};
 pub use profile::{clear_error, error_register, next_heartbeat, set_error, sync_identifier};

@@ -2,6 +2,8 @@ pub mod CaseLemmas
 pub mod KeptLemmas
 pub mod AheadLemmas
 pub mod SelfLemmas
+pub mod IgnoredLemmas
 pub mod PartLemmas
 pub mod ResetLemmas
+pub mod RestLemmas
 pub mod StateLemmas

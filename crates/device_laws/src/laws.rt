@@ -2,9 +2,11 @@
 
 ghost use Rattle.std.specs.Prelude.{◌≡◌, ◌≢◌, ◌<◌, ◌≤◌, ◌+◌, ◌⊎◌, ℕ, Bool, true, false, if◌then◌else◌, List, [], ◌∷◌, All, nat_lt, Some, IfSome, remove};
 ghost use Rattle.std.specs.FinMap as map;
+ghost use Rattle.std.specs.List.{AllByRecursion};
 ghost use Rattle.asking.specs.Alike.{AreAlike};
-ghost use Rattle.asking.specs.Asking.{Agrees, outcome, reads};
+ghost use Rattle.asking.specs.Asking.{Agrees, Answer, outcome, reads};
 ghost use Rattle.can_frame.specs.Frames.{BaseFrame};
+ghost use Rattle.can_frame.specs.declared.waiting.Waiting.{Waiting};
 ghost use Rattle.co_base.specs.Ranges.{is_between};
 ghost use Rattle.co_dict.specs.Places.{place_cmp};
 ghost use Rattle.co_parts.specs.Contents.{Image, shape_of, values_of};
@@ -13,8 +15,9 @@ ghost use Rattle.co_profile.specs.Profile.{error_set, next_heartbeat};
 ghost use Rattle.co_sdo.specs.Server.{answered};
 ghost use Rattle.device_pdos.specs.Rpdos.{receipt_of, rpdo_at};
 ghost use Rattle.co_device.specs.Device.{Device, consumers_run, enter_pre_operational, is_in, moments, powered, ran, reset_communication, reset_node, sdo_request, stop_remote_node, timers, was_set, without_power};
-ghost use Rattle.co_device.specs.Receiving.{pdo_received, received, rpdo_received, sync_received};
+ghost use Rattle.co_device.specs.Receiving.{ignored, pdo_received, received, rpdo_received, sync_received};
 ghost use Rattle.device_laws.specs.Ahead.{IsAhead, IsOwnPart};
+ghost use Rattle.device_laws.specs.Rest.{Rests};
 ghost use Rattle.device_laws.specs.States.{HasBooted, HasNoPdo, IsDark, IsSilent, SaysNothing, StaysItself, nmt_message};
 
 use co_device::NmtState;
@@ -27,9 +30,25 @@ pub fn nothing_happens_before_it_is_due()
     ensures { (t : ℕ) (d : Device) → IsAhead (t + 1) d → timers t d ≡ d }
 {}
 
-/// After the timers of a moment no moment of theirs lies up to it, where none lay before it.
+/// After the timers of a moment no moment of theirs lies up to it, where none lay before it; after all that
+/// the device does at a moment, every moment at which it is due lies later.
 pub fn what_was_due_has_run()
-    ensures { (t : ℕ) (d : Device) → IsAhead t d → IsAhead (t + 1) (timers t d) }
+    ensures timers { (t : ℕ) (d : Device) → IsAhead t d → IsAhead (t + 1) (timers t d) }
+    ensures all { (t : ℕ) (d : Device) → IsAhead t d → AllByRecursion (λ m. t < m) (moments (ran t d)) }
+{}
+
+/// A device that ran what was due at a moment rests, and sending its frames leaves it at rest.
+#[tactic(auto, using(crate::proofs::RestLemmas::ran_rests, crate::proofs::RestLemmas::sent_rests, crate::proofs::RestLemmas::sent_moments))]
+pub fn a_device_that_ran_rests()
+    ensures ran { (t : ℕ) (d : Device) → Rests (ran t d) }
+    ensures sent { (frames : List Waiting) (d : Device) → Rests d → Rests (record d { waiting = frames }) }
+    ensures moments { (frames : List Waiting) (d : Device) → moments (record d { waiting = frames }) ≡ moments d }
+{}
+
+/// As long as all its moments lie ahead, a device at rest does nothing of itself.
+#[tactic(auto, using(crate::proofs::RestLemmas::quiet_at_rest))]
+pub fn a_device_at_rest_does_nothing_before_it_is_due()
+    ensures { (u : ℕ) (d : Device) → Rests d → AllByRecursion (λ m. u < m) (moments d) → ran u d ≡ d }
 {}
 
 /// What comes at a moment sets no moment of a timer up to it.
@@ -63,6 +82,12 @@ pub fn a_device_stays_itself()
     ensures set { (t : ℕ) (place : ℕ × ℕ) (bytes : List ℕ) (d : Device) → StaysItself d (was_set t place bytes d) }
     ensures instant { (t : ℕ) (d : Device) → StaysItself d (ran t d) }
     ensures power { (image : Image) (t : ℕ) (on : Bool) (d : Device) → StaysItself (record d { has_power = on }) (outcome (powered on t d) image) }
+{}
+
+/// A frame that a device ignores changes nothing, and nothing is read for it.
+#[tactic(auto, using(crate::proofs::IgnoredLemmas::ignored_changes_nothing))]
+pub fn an_ignored_frame_changes_nothing()
+    ensures { (t : ℕ) (frame : BaseFrame) (d : Device) → ignored frame d ≡ true → received t frame d ≡ Answer d }
 {}
 
 /// Without power a device takes nothing, nothing waits and nothing is due.

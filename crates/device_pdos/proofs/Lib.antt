@@ -1,3 +1,4 @@
+pub mod LaterLemmas
 pub mod LookLemmas
 pub mod NumberLemmas
 pub mod PackedLemmas

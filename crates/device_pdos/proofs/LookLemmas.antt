@@ -1,5 +1,5 @@
 -- What a look at a TPDO leaves as it is.
-use Rattle.std.proofs.Common.{◌≡◌, ℕ, ◌==◌, ◌<◌, ◌≤◌, Bool, true, false, List, [], ◌∷◌, ◌++◌, Option, Some, None, refl, ap, ◌∙◌, append_assoc, arith}
+use Rattle.std.proofs.Common.{◌≡◌, ℕ, ◌==◌, ◌<◌, ◌≤◌, Bool, true, false, List, [], ◌∷◌, ◌++◌, Option, Some, None, refl, ap, ◌∙◌, arith}
 use Rattle.std.specs.Prelude.{if◌then◌else◌, nat_le}
 use Rattle.std.specs.List.{AllByRecursion}
 use Rattle.std.proofs.lemmas.Bool.Decides.{nat_tests}
@@ -10,7 +10,7 @@ use Rattle.co_pdos.specs.declared.communication.Communication.{Communication}
 use Rattle.co_pdos.specs.declared.configuration.Configuration.{Configuration}
 use Rattle.co_pdos.specs.Tpdo.{Remembered, after_change, after_event, after_nth, inhibit_over, is_sent, is_sent_at_change, is_sent_at_event, is_sent_at_nth, is_sent_by_type, looked_at_by_type}
 use Rattle.co_pdos.proofs.TpdoLemmas.{not_sent, stays}
-use Rattle.device_pdos.specs.Tpdos.{bytes_now, frame_if, frame_sent, freed, looked, looked_by, moments, sent_by, tpdos_looked, with_frame, with_tpdos}
+use Rattle.device_pdos.specs.Tpdos.{bytes_now, due_of, frame_if, frame_sent, freed, looked, looked_by, moments, sent_by, tpdo_moment, tpdos_freed, tpdos_looked, waits_for_event, with_frame, with_tpdos}
 use Rattle.device_pdos.specs.declared.tpdo_state.TpdoState.{TpdoState}
 
 -- ---- one that isn't sent without a SYNC
@@ -105,25 +105,44 @@ no_moment : (t : ℕ) (r : Remembered) → r.inhibit ≡ None → inhibit_over t
 unfolding inhibit_over
 no_moment t r e = rw e refl
 
-pub inhibit_ahead : (t : ℕ) (r : Remembered) (moment : Option ℕ) (rest : List ℕ) → r.inhibit ≡ moment → AllByRecursion (λ m. t < m) (moments_of moment ++ rest)
-    → (inhibit_over t r ≡ r) × AllByRecursion (λ m. t < m) rest
-inhibit_ahead t r None rest e ahead = (no_moment t r e, ahead)
-inhibit_ahead t r (Some m) rest e ahead = (still_held t m r e ahead.0, ahead.1)
+pub all_parts : {X : Type 0} (P : X → Type 0) (xs ys : List X) → AllByRecursion P (xs ++ ys) → AllByRecursion P xs × AllByRecursion P ys
+all_parts P [] ys all = (tt, all)
+all_parts P (x ∷ xs) ys all = let rest = all_parts P xs ys all.1 in ((all.0, rest.0), rest.1)
 
-others_ahead : (t : ℕ) (moment : Option ℕ) (rest : List ℕ) → AllByRecursion (λ m. t < m) (moments_of moment ++ rest) → AllByRecursion (λ m. t < m) rest
-others_ahead t None rest ahead = ahead
-others_ahead t (Some m) rest ahead = ahead.1
+pub all_both : {X : Type 0} (P : X → Type 0) (xs ys : List X) → AllByRecursion P xs → AllByRecursion P ys → AllByRecursion P (xs ++ ys)
+all_both P [] ys firsts rest = rest
+all_both P (x ∷ xs) ys firsts rest = (firsts.0, all_both P xs ys firsts.1 rest)
 
-pub quiet_tpdos : (t : ℕ) (values : Values) (tpdos : List TpdoState) → AllByRecursion (λ p. frame_sent t false values p ≡ None) tpdos → AllByRecursion (λ m. t < m) (moments tpdos)
+-- the moment at which one is due lies after t, where its event moment counts or not
+abbrev pub Ahead : ℕ → Bool → Remembered → Type 0
+Ahead t counts r = AllByRecursion (λ m. t < m) (moments_of (due_of counts r.inhibit r.event))
+
+pub held_ahead : (t : ℕ) (counts : Bool) (r : Remembered) → Ahead t counts r → inhibit_over t r ≡ r
+held_ahead t counts r ahead = by r.inhibit refl ahead
+  where
+    by : (inhibit : Option ℕ) → r.inhibit ≡ inhibit → AllByRecursion (λ m. t < m) (moments_of (due_of counts inhibit r.event)) → inhibit_over t r ≡ r
+    by None e h = no_moment t r e
+    by (Some m) e h = still_held t m r e h.0
+
+pub quiet_tpdos : (t : ℕ) (values : Values) (tpdos : List TpdoState) → AllByRecursion (λ p. frame_sent t false values p ≡ None) tpdos → AllByRecursion (λ m. t < m) (moments true tpdos)
     → tpdos_looked t false values tpdos ≡ tpdos
 unfolding tpdos_looked
 quiet_tpdos t values [] unsent ahead = refl
 quiet_tpdos t values (p ∷ tpdos) unsent ahead =
-    let both = rw append_assoc at ahead in
-    let first = inhibit_ahead t p.remembered p.remembered.inhibit (moments_of p.remembered.event ++ moments tpdos) refl both in
-    let one : looked t false values p ≡ p = unsent_kept t values p unsent.0 ∙ ap (λ (r : Remembered). record p { remembered = r }) first.0 in
-    let others = quiet_tpdos t values tpdos unsent.1 (others_ahead t p.remembered.event (moments tpdos) first.1) in
+    let split = all_parts (λ m. t < m) (moments_of (tpdo_moment true p)) (moments true tpdos) ahead in
+    let held = held_ahead t (waits_for_event p.configuration) p.remembered split.0 in
+    let one : looked t false values p ≡ p = unsent_kept t values p unsent.0 ∙ ap (λ (r : Remembered). record p { remembered = r }) held in
+    let others = quiet_tpdos t values tpdos unsent.1 split.1 in
     ap (λ (q : TpdoState). q ∷ tpdos_looked t false values tpdos) one ∙ ap (λ ps. p ∷ ps) others
+
+-- outside Operational
+pub quiet_freed : (t : ℕ) (tpdos : List TpdoState) → AllByRecursion (λ m. t < m) (moments false tpdos) → tpdos_freed t tpdos ≡ tpdos
+unfolding tpdos_freed
+quiet_freed t [] ahead = refl
+quiet_freed t (p ∷ tpdos) ahead =
+    let split = all_parts (λ m. t < m) (moments_of (tpdo_moment false p)) (moments false tpdos) ahead in
+    let one : freed t p ≡ p = ap (λ (r : Remembered). record p { remembered = r }) (held_ahead t false p.remembered split.0) in
+    ap (λ (q : TpdoState). q ∷ tpdos_freed t tpdos) one ∙ ap (λ ps. p ∷ ps) (quiet_freed t tpdos split.1)
 
 pub quiet_waiting : (t : ℕ) (values : Values) (tpdos : List TpdoState) (frames : List Waiting) → AllByRecursion (λ p. frame_sent t false values p ≡ None) tpdos
     → with_tpdos t false values tpdos frames ≡ frames

@@ -1,5 +1,6 @@
 -- The RPDOs of a device at a moment (CiA 301), by number.
-use Rattle.std.specs.Prelude.{ℕ, ◌==◌, List, [], length, map, slice_index_or, slice_set, Option, Some, None, if◌then◌else◌}
+use Rattle.std.specs.Prelude.{ℕ, ◌==◌, Bool, false, List, [], length, map, slice_index_or, slice_set, Option, Some, None, if◌then◌else◌}
+use Rattle.std.specs.List.{list_any}
 use Rattle.can_frame.specs.Frames.{BaseFrame}
 use Rattle.co_dict.specs.Mappings.{mapping_bits}
 use Rattle.co_dict.specs.Shapes.{Shaped}
@@ -55,6 +56,15 @@ unfoldable pub receipt_of : BaseFrame → Option Configuration → Receipt
 receipt_of frame None = receipt.Ignored
 receipt_of frame (Some c) =
     if c.identifier == frame.id then received c.communication.kind (bytes_begun (mapping_bits c.mapping)) (length frame.bytes) else receipt.Ignored
+
+-- it works, and its frames have this identifier
+abbrev pub has_identifier : ℕ → Option Configuration → Bool
+has_identifier id None = false
+has_identifier id (Some c) = c.identifier == id
+
+-- one of them
+unfoldable pub any_has_identifier : ℕ → List RpdoState → Bool
+any_has_identifier id rpdos = list_any (λ p. has_identifier id p.configuration) rpdos
 
 -- its mapping entries; none where it doesn't work
 abbrev pub mapping_of_rpdo : Option Configuration → List ℕ

@@ -1,5 +1,5 @@
 -- The TPDOs of a device at a moment (CiA 301), by number.
-use Rattle.std.specs.Prelude.{ℕ, ◌==◌, ◌&&◌, nat_le, true, false, Bool, List, [], ◌∷◌, ◌++◌, map, flat_map, take, Option, Some, None, if◌then◌else◌}
+use Rattle.std.specs.Prelude.{ℕ, ◌==◌, ◌&&◌, nat_le, true, false, Bool, List, [], ◌∷◌, map, flat_map, take, Option, Some, None, if◌then◌else◌}
 use Rattle.can_frame.specs.Frames.{BaseFrame}
 use Rattle.can_frame.specs.WaitingFrames.{replaced}
 use Rattle.can_frame.specs.declared.purpose.Purpose.TheVariants as purpose

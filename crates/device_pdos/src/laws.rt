@@ -1,6 +1,6 @@
 //! Laws of a device's PDOs, each a function whose contract is the law.
 
-ghost use Rattle.std.specs.Prelude.{◌≡◌, ◌≢◌, ◌<◌, ◌≤◌, ℕ, Bool, false, List, None, Some};
+ghost use Rattle.std.specs.Prelude.{◌≡◌, ◌≢◌, ◌<◌, ◌≤◌, ℕ, Bool, true, false, List, None, Some};
 ghost use Rattle.std.specs.List.{AllByRecursion};
 ghost use Rattle.can_frame.specs.declared.waiting.Waiting.{Waiting as WaitingFrame};
 ghost use Rattle.co_dict.specs.Shapes.{Shaped};
@@ -8,7 +8,7 @@ ghost use Rattle.co_dict.specs.Values.{Values};
 ghost use Rattle.co_pdos.specs.declared.configuration.Configuration.{Configuration as Settings};
 ghost use Rattle.device_pdos.specs.Objects.{number_of_object};
 ghost use Rattle.device_pdos.specs.Rpdos.{rpdo, rpdo_written, rpdos_written};
-ghost use Rattle.device_pdos.specs.Tpdos.{frame_sent, freed, looked, moments, tpdo, tpdo_written, tpdos_looked, tpdos_written, with_tpdos};
+ghost use Rattle.device_pdos.specs.Tpdos.{frame_sent, freed, looked, moments, tpdo, tpdo_written, tpdos_freed, tpdos_looked, tpdos_written, with_tpdos};
 ghost use Rattle.device_pdos.specs.declared.rpdo_state.RpdoState.{RpdoState as Rpdo};
 ghost use Rattle.device_pdos.specs.declared.tpdo_state.TpdoState.{TpdoState as State};
 
@@ -49,21 +49,32 @@ pub fn an_inhibited_tpdo_is_not_sent()
 {}
 
 /// Where no TPDO is sent at t without a SYNC, and all moments lie ahead, a look at the TPDOs changes
-/// neither what they remember nor what waits.
-#[tactic(auto, using(crate::proofs::LookLemmas::quiet_tpdos, crate::proofs::LookLemmas::quiet_waiting))]
+/// neither what they remember nor what waits; outside Operational no inhibit moment is forgotten.
+#[tactic(auto, using(crate::proofs::LookLemmas::quiet_tpdos, crate::proofs::LookLemmas::quiet_waiting, crate::proofs::LookLemmas::quiet_freed))]
 pub fn quiet_between_moments()
     ensures tpdos { (t : ℕ) (values : Values) (tpdos : List State) → AllByRecursion (λ p. frame_sent t false values p ≡ None) tpdos
-        → AllByRecursion (λ m. t < m) (moments tpdos) → tpdos_looked t false values tpdos ≡ tpdos }
+        → AllByRecursion (λ m. t < m) (moments true tpdos) → tpdos_looked t false values tpdos ≡ tpdos }
     ensures waiting { (t : ℕ) (values : Values) (tpdos : List State) (frames : List WaitingFrame) → AllByRecursion (λ p. frame_sent t false values p ≡ None) tpdos
         → with_tpdos t false values tpdos frames ≡ frames }
+    ensures freed { (t : ℕ) (tpdos : List State) → AllByRecursion (λ m. t < m) (moments false tpdos) → tpdos_freed t tpdos ≡ tpdos }
 {}
 
-/// TPDOs that were looked at rest: as long as their moments lie ahead, no later look without a SYNC changes
-/// what they remember, or what waits.
-#[tactic(auto, using(crate::proofs::RestLemmas::tpdos_rest, crate::proofs::RestLemmas::nothing_sent))]
+/// TPDOs that were looked at rest: as long as their moments lie ahead, none is sent without a SYNC, and no
+/// later look without one changes what they remember, or what waits.
+#[tactic(auto, using(crate::proofs::RestLemmas::all_rest, crate::proofs::RestLemmas::tpdos_rest, crate::proofs::RestLemmas::nothing_sent))]
 pub fn tpdos_that_were_looked_at_rest()
-    ensures tpdos { (t u : ℕ) (at_sync : Bool) (values : Values) (tpdos : List State) → AllByRecursion (λ m. u < m) (moments (tpdos_looked t at_sync values tpdos))
+    ensures unsent { (t u : ℕ) (at_sync : Bool) (values : Values) (tpdos : List State) → AllByRecursion (λ m. u < m) (moments true (tpdos_looked t at_sync values tpdos))
+        → AllByRecursion (λ p. frame_sent u false values p ≡ None) (tpdos_looked t at_sync values tpdos) }
+    ensures tpdos { (t u : ℕ) (at_sync : Bool) (values : Values) (tpdos : List State) → AllByRecursion (λ m. u < m) (moments true (tpdos_looked t at_sync values tpdos))
         → tpdos_looked u false values (tpdos_looked t at_sync values tpdos) ≡ tpdos_looked t at_sync values tpdos }
-    ensures waiting { (t u : ℕ) (at_sync : Bool) (values : Values) (tpdos : List State) (frames : List WaitingFrame) → AllByRecursion (λ m. u < m) (moments (tpdos_looked t at_sync values tpdos))
+    ensures waiting { (t u : ℕ) (at_sync : Bool) (values : Values) (tpdos : List State) (frames : List WaitingFrame) → AllByRecursion (λ m. u < m) (moments true (tpdos_looked t at_sync values tpdos))
         → with_tpdos u false values (tpdos_looked t at_sync values tpdos) frames ≡ frames }
+{}
+
+/// After a look at the TPDOs every moment at which one is due lies later; so it does outside Operational
+/// where the inhibit moments that had come are forgotten.
+#[tactic(auto, using(crate::proofs::LaterLemmas::looked_later, crate::proofs::LaterLemmas::all_freed_later))]
+pub fn moments_lie_later()
+    ensures looked { (t : ℕ) (at_sync : Bool) (values : Values) (tpdos : List State) → AllByRecursion (λ m. t < m) (moments true (tpdos_looked t at_sync values tpdos)) }
+    ensures freed { (t : ℕ) (tpdos : List State) → AllByRecursion (λ m. t < m) (moments false (tpdos_freed t tpdos)) }
 {}

@@ -3,7 +3,7 @@
 ghost use Rattle.std.specs.Prelude.{◌≡◌, ◌↔◌, IsTrue};
 ghost use Rattle.co_dict.specs.Mappings.{mapping_bits};
 ghost use Rattle.co_mapping.specs.Packing.{bytes_begun};
-ghost use Rattle.device_pdos.specs.Rpdos.{receipt_of};
+ghost use Rattle.device_pdos.specs.Rpdos.{has_identifier, receipt_of};
 
 use can_frame::Frame;
 use co_dict::mapped_length;
@@ -50,6 +50,16 @@ impl RpdoState {
         self.number == other.number
             && Configuration::are_same(&self.configuration, &other.configuration)
             && same_frame(&self.kept, &other.kept)
+    }
+
+    /// Whether it works, and its frames have this identifier.
+    pub(crate) fn has_identifier(&self, identifier: u16) -> bool
+        ensures { result ≡ has_identifier identifier self.now.configuration }
+    {
+        match &self.configuration {
+            Some(configuration) => configuration.identifier.number() == identifier,
+            None => false,
+        }
     }
 
     /// What becomes of a frame at it.

@@ -1,7 +1,7 @@
 //! The RPDOs of a device, by number.
 
 ghost use Rattle.std.specs.Prelude.{◌≡◌, ◌<◌, length, IfOk, ◌↔◌, IsTrue};
-ghost use Rattle.device_pdos.specs.Rpdos.{rpdos_emptied, rpdos_of as rpdos_now, rpdos_written, with_kept};
+ghost use Rattle.device_pdos.specs.Rpdos.{any_has_identifier, rpdos_emptied, rpdos_of as rpdos_now, rpdos_written, with_kept};
 
 use crate::numbers::{LAST_PDO, number_of_object};
 use crate::rpdo_state::RpdoState;
@@ -80,4 +80,12 @@ pub fn same_rpdos(rpdos: &[RpdoState], others: &[RpdoState]) -> bool
         }
     }
     true
+}
+
+/// Whether one of the RPDOs works and takes frames of this identifier. Walks the RPDOs.
+#[tactic(auto, unfolding(crate::specs::Rpdos::any_has_identifier))]
+pub fn any_has_identifier(rpdos: &[RpdoState], identifier: u16) -> bool
+    ensures { result ≡ any_has_identifier identifier rpdos.now }
+{
+    rpdos.iter().any(|rpdo| rpdo.has_identifier(identifier))
 }

@@ -2,7 +2,7 @@
 
 ghost use Rattle.std.specs.Prelude.{◌≡◌, ◌↔◌, ◌<◌, ◌^◌, IsTrue, OnOk};
 ghost use Rattle.co_pdos.specs.Tpdo.{forgotten};
-ghost use Rattle.device_pdos.specs.Tpdos.{frame_sent, looked, with_frame};
+ghost use Rattle.device_pdos.specs.Tpdos.{frame_sent, looked, tpdo_moment, waits_for_event, with_frame};
 
 use can_frame::{Frame, Pending, Purpose};
 use co_dict::Dict;
@@ -44,6 +44,34 @@ impl TpdoState {
             return false;
         }
         Configuration::are_same(&self.configuration, &other.configuration)
+    }
+
+    /// Whether it works and is event-driven: of type 254 or 255.
+    fn waits_for_event(&self) -> bool
+        ensures { result ≡ waits_for_event self.now.configuration }
+    {
+        match &self.configuration {
+            Some(configuration) => match configuration.communication.kind {
+                Some(kind) => kind >= 254,
+                None => false,
+            },
+            None => false,
+        }
+    }
+
+    /// The moment in microseconds at which it is due, if there is one: the end of its inhibit time while
+    /// that runs; else its event moment where it is event-driven, in Operational.
+    pub(crate) fn moment(&self, operational: bool) -> Option<u64>
+        ensures { result ≡ tpdo_moment operational self.now }
+    {
+        let inhibit = self.remembered.inhibit();
+        if inhibit.is_some() {
+            inhibit
+        } else if operational && self.waits_for_event() {
+            self.remembered.event()
+        } else {
+            None
+        }
     }
 
     /// Looks at it at the moment t, and answers its frame where it is sent.

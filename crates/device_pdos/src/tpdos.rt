@@ -99,16 +99,14 @@ pub fn same_tpdos(tpdos: &[TpdoState], others: &[TpdoState]) -> bool
     true
 }
 
-/// The first moment that one of the TPDOs remembers, in microseconds, if there is one. Walks the TPDOs.
-pub fn next_moment(tpdos: &[TpdoState]) -> Option<u64>
-    ensures { result ≡ earliest (moments tpdos.now) }
+/// The first moment, in microseconds, at which one of the TPDOs is due in Operational or outside it, if
+/// there is one. Walks the TPDOs.
+pub fn next_moment(tpdos: &[TpdoState], operational: bool) -> Option<u64>
+    ensures { result ≡ earliest (moments operational tpdos.now) }
 {
     let mut next = None;
     for tpdo in tpdos {
-        next = earlier(
-            next,
-            earlier(tpdo.remembered.inhibit(), tpdo.remembered.event()),
-        );
+        next = earlier(next, tpdo.moment(operational));
     }
     next
 }
