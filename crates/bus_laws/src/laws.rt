@@ -1,10 +1,12 @@
 //! Laws of a bus, each a function whose contract is the law.
 
-ghost use Rattle.std.specs.Prelude.{◌≡◌, ◌≢◌, ◌<◌, ◌+◌, ◌*◌, ◌∷◌, [], ℕ, All, Some, None, filter};
+ghost use Rattle.std.specs.Prelude.{◌≡◌, ◌≢◌, ◌↔◌, ◌<◌, ◌+◌, ◌*◌, ◌∷◌, [], ℕ, All, Some, None, filter};
+ghost use Rattle.asking.specs.Agenda.{IsSameUnder};
 ghost use Rattle.asking.specs.Alike.{AreAlike};
-ghost use Rattle.asking.specs.Asking.{Agrees, Answer, outcome, reads};
+ghost use Rattle.asking.specs.Asking.{Agrees, Answer, outcome, reads, turns};
 ghost use Rattle.bus_events.specs.Steps.{has_time, steps_due, steps_left};
 ghost use Rattle.can_bus.specs.Bus.{hears, instant, power_on, slot_started, window_begun, Bus};
+ghost use Rattle.can_bus.specs.Dues.{IsAtRest, IsJustBefore, due_run, moments, next_due};
 ghost use Rattle.can_bus.specs.Lines.{line_time};
 ghost use Rattle.can_bus.specs.Runs.{is_shown, power_on_reads, run, trace, window_of, HasItsEvents, IsInTime, IsNextWindow, IsSettled, StartsWith};
 ghost use Rattle.can_bus.specs.declared.line.Line.{Line as Told};
@@ -16,11 +18,39 @@ ghost use Rattle.co_parts.specs.Contents.{Image};
 ghost use Rattle.co_parts.specs.Images.{IsCoherent};
 ghost use Rattle.co_parts.specs.declared.part.Part.TheVariants as part;
 
-/// Under two images that agree on what an instant or a run reads under the one, it is the same.
+/// Under two images that agree on what an instant, a run or the instants of a window read under the one, it
+/// is the same: the same end, the same lines and the same reads. The first window's instants and the power-on
+/// are the run to 10,000.
 #[tactic(auto, using(asking::proofs::QuestionLemmas::two_images))]
 pub fn two_images()
     ensures instants { (first second : Image) (t : ℕ) (s : Bus) → Agrees second (reads (instant t s) first) → AreAlike (instant t s) first second }
     ensures runs { (first second : Image) (end : ℕ) → Agrees second (reads (run end) first) → AreAlike (run end) first second }
+    ensures spans { (first second : Image) (i : ℕ) (s : Bus) → Agrees second (reads (turns instant 10000 (10000 * i) s) first) → AreAlike (turns instant 10000 (10000 * i) s) first second }
+{}
+
+/// A bus at rest does nothing before its next due moment: an instant changes nothing, tells nothing and reads
+/// nothing. That moment is the least of its due moments and the start of its next window.
+#[tactic(auto, using(can_bus::proofs::DueLemmas::due_later, can_bus::proofs::QuietLemmas::quiet))]
+pub fn before_a_due_moment_nothing_happens()
+    ensures least { (t : ℕ) (s : Bus) → (t < next_due s) ↔ ((t < s.window) × All (λ m. t < m) (moments s)) }
+    ensures quiet { (t : ℕ) (s : Bus) → IsAtRest s → t < next_due s → instant t s ≡ Answer (s, []) }
+{}
+
+/// Under a coherent image each instant from the power-on on leaves a bus at rest, whose due moments all lie
+/// ahead.
+#[tactic(auto, using(can_bus::proofs::DueRunLemmas::before_first, can_bus::proofs::DueRunLemmas::before_next, can_bus::proofs::DueRunLemmas::at_rest_after, can_bus::proofs::DueRunLemmas::due_past))]
+pub fn each_instant_leaves_a_bus_at_rest()
+    ensures first { (image : Image) → IsCoherent image → IsJustBefore 0 (outcome power_on image) }
+    ensures each { (image : Image) → IsCoherent image → (t : ℕ) (s : Bus) → IsJustBefore t s → IsJustBefore (t + 1) (outcome (instant t s) image).0 }
+    ensures rest { (image : Image) (t : ℕ) (s : Bus) → IsJustBefore t s → IsAtRest (outcome (instant t s) image).0 }
+    ensures later { (image : Image) → IsCoherent image → (t : ℕ) (s : Bus) → IsJustBefore t s → t < next_due (outcome (instant t s) image).0 }
+{}
+
+/// Under a coherent image the run over due moments is the run over all moments: the same lines, the same end
+/// and the same reads.
+#[tactic(auto, using(can_bus::proofs::DueRunLemmas::due_run_is_run))]
+pub fn the_run_over_due_moments_is_the_run()
+    ensures { (image : Image) (end : ℕ) → IsCoherent image → IsSameUnder image (due_run end) (run end) }
 {}
 
 /// Power-on reads the roster, and then the values and the entries of each node.

@@ -28,6 +28,7 @@ use Rattle.device_laws.specs.Ahead.{AreAhead, IsAhead, NotBefore}
 use Rattle.device_laws.specs.Rest.{Rests}
 use Rattle.device_laws.proofs.AheadLemmas.{frame_ahead, power_ahead, set_ahead}
 use Rattle.device_laws.proofs.CaseLemmas.{one_of}
+use Rattle.device_laws.proofs.RestLemmas.{ran_after, ran_rests}
 use Rattle.nmt_boot.proofs.AheadLemmas.{frame_ahead as manager_frame_ahead}
 use Rattle.nmt_boot.proofs.MomentLemmas.{command_ahead, due_later as timers_later}
 use Rattle.nmt_boot.specs.Ahead.{IsAhead as IsManagerAhead}
@@ -219,31 +220,30 @@ later_by : (t : ℕ) (ms : List ℕ) → AllByRecursion (λ m. t < m) ms → All
 later_by t [] h = All-nil (λ m. t + 1 ≤ m)
 later_by t (m ∷ ms) h = let first : t < m = h.0 in All-cons (λ m. t + 1 ≤ m) m ms (omega (arith, first)) (later_by t ms h.1)
 
-module _ (rests : (t : ℕ) (d : Device) → Rests (ran t d)) (ran_later : (t : ℕ) (d : Device) → IsAhead t d → AllByRecursion (λ m. t < m) (device.moments (ran t d))) where
-  all_ran : (t : ℕ) (ds : List Device) → DevicesAhead t ds → DevicesFrom (t + 1) (map (ran t) ds)
-  all_ran t [] h = tt
-  all_ran t (d ∷ ds) h = (later_by t (device.moments (ran t d)) (ran_later t d h.0), all_ran t ds h.1)
+all_ran : (t : ℕ) (ds : List Device) → DevicesAhead t ds → DevicesFrom (t + 1) (map (ran t) ds)
+all_ran t [] h = tt
+all_ran t (d ∷ ds) h = (later_by t (device.moments (ran t d)) (ran_after t d h.0), all_ran t ds h.1)
 
-  all_rest : (t : ℕ) (ds : List Device) → AllByRecursion Rests (map (ran t) ds)
-  all_rest t [] = tt
-  all_rest t (d ∷ ds) = (rests t d, all_rest t ds)
+all_rest : (t : ℕ) (ds : List Device) → AllByRecursion Rests (map (ran t) ds)
+all_rest t [] = tt
+all_rest t (d ∷ ds) = (ran_rests t d, all_rest t ds)
 
-  delivery_past : (image : Image) (t : ℕ) (s : Bus) → IsAheadOf t s → IsPast t (outcome (from_delivery_on t s) image).0
-  delivery_past image t s h =
-      let slot = ended t s.wire in
-      let heard = outcome (delivered t slot s.devices) image in
-      let r = outcome (managed t slot s.manager) image in
-      let quick : Bus = record { spent = s.spent; bit_time = s.bit_time; devices = map (ran t) heard; manager = r.0; wire = on_wire t s.wire; window = s.window; steps = s.steps } in
-      let past : IsPast t quick = record {
-        bit_time = h.bit_time;
-        devices = all_ran t heard (all_hear image t slot s.devices h.devices);
-        rest = all_rest t heard;
-        manager = manager_later image t slot s.manager h.manager;
-        slot = wire_later t s.wire h.slot;
-      } in
-      rw (outcome_delivery t s image, outcome_nodes t slot s.manager s.devices image) (slot_past t quick past)
+delivery_past : (image : Image) (t : ℕ) (s : Bus) → IsAheadOf t s → IsPast t (outcome (from_delivery_on t s) image).0
+delivery_past image t s h =
+    let slot = ended t s.wire in
+    let heard = outcome (delivered t slot s.devices) image in
+    let r = outcome (managed t slot s.manager) image in
+    let quick : Bus = record { spent = s.spent; bit_time = s.bit_time; devices = map (ran t) heard; manager = r.0; wire = on_wire t s.wire; window = s.window; steps = s.steps } in
+    let past : IsPast t quick = record {
+      bit_time = h.bit_time;
+      devices = all_ran t heard (all_hear image t slot s.devices h.devices);
+      rest = all_rest t heard;
+      manager = manager_later image t slot s.manager h.manager;
+      slot = wire_later t s.wire h.slot;
+    } in
+    rw (outcome_delivery t s image, outcome_nodes t slot s.manager s.devices image) (slot_past t quick past)
 
-  -- AFTER AN INSTANT, where no moment lay before it, all lie after it, and the devices rest
-  pub instant_past : (image : Image) (t : ℕ) (s : Bus) → 1 ≤ s.bit_time → AreFrom t s → IsPast t (outcome (instant t s) image).0
-  instant_past image t s bit from =
-      rw (outcome_instant t s image) (delivery_past image t (run_by_events t s image) (run_ahead image t (begun t s image) (begun_ahead image t s (ahead_of t s bit from))))
+-- AFTER AN INSTANT, where no moment lay before it, all lie after it, and the devices rest
+pub instant_past : (image : Image) (t : ℕ) (s : Bus) → 1 ≤ s.bit_time → AreFrom t s → IsPast t (outcome (instant t s) image).0
+instant_past image t s bit from =
+    rw (outcome_instant t s image) (delivery_past image t (run_by_events t s image) (run_ahead image t (begun t s image) (begun_ahead image t s (ahead_of t s bit from))))

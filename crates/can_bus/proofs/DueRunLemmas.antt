@@ -78,41 +78,44 @@ before_first image coherent = record {
 
 -- ---- each instant
 
-module _ (rests : (t : ℕ) (d : Device) → Rests (ran t d)) (ran_later : (t : ℕ) (d : Device) → IsAhead t d → AllByRecursion (λ m. t < m) (device.moments (ran t d))) where
-  pub at_rest_after : (image : Image) (t : ℕ) (s : Bus) → IsJustBefore t s → IsAtRest (outcome (instant t s) image).0
-  at_rest_after image t s h =
-      let past = instant_past rests ran_later image t s h.bit_time (parts_from t s h.from) in
-      record {
-        settled = instant_settles image t s;
-        devices = All-from_recursion Rests (outcome (instant t s) image).0.devices past.rest;
-      }
+pub at_rest_after : (image : Image) (t : ℕ) (s : Bus) → IsJustBefore t s → IsAtRest (outcome (instant t s) image).0
+at_rest_after image t s h =
+    let past = instant_past image t s h.bit_time (parts_from t s h.from) in
+    record {
+      settled = instant_settles image t s;
+      devices = All-from_recursion Rests (outcome (instant t s) image).0.devices past.rest;
+    }
 
-  pub before_next : (image : Image) → IsCoherent image → (t : ℕ) (s : Bus) → IsJustBefore t s → IsJustBefore (t + 1) (outcome (instant t s) image).0
-  before_next image coherent t s h =
-      let past = instant_past rests ran_later image t s h.bit_time (parts_from t s h.from) in
-      let next = in_time_after image t s coherent h.in_time in
-      record {
-        bit_time = past.bit_time;
-        in_time = next;
-        from = from_parts (t + 1) (outcome (instant t s) image).0 (record { devices = past.devices; manager = past.manager; slot = past.slot; steps = next.from });
-        rests = λ soon. at_rest_after image t s h;
-      }
+pub before_next : (image : Image) → IsCoherent image → (t : ℕ) (s : Bus) → IsJustBefore t s → IsJustBefore (t + 1) (outcome (instant t s) image).0
+before_next image coherent t s h =
+    let past = instant_past image t s h.bit_time (parts_from t s h.from) in
+    let next = in_time_after image t s coherent h.in_time in
+    record {
+      bit_time = past.bit_time;
+      in_time = next;
+      from = from_parts (t + 1) (outcome (instant t s) image).0 (record { devices = past.devices; manager = past.manager; slot = past.slot; steps = next.from });
+      rests = λ soon. at_rest_after image t s h;
+    }
 
-  module _ (sleeps : (u : ℕ) (d : Device) → Rests d → AllByRecursion (λ m. u < m) (device.moments d) → ran u d ≡ d) where
-    due_ahead : (t : ℕ) (s : Bus) → IsJustBefore t s → t ≤ next_due s
-    due_ahead t s h = due_from t s h.in_time.window.from h.from
+due_ahead : (t : ℕ) (s : Bus) → IsJustBefore t s → t ≤ next_due s
+due_ahead t s h = due_from t s h.in_time.window.from h.from
 
-    pub dues_are_turns : (image : Image) (end k t : ℕ) (s : Bus) → IsCoherent image → IsJustBefore t s → t + k ≡ end → IsSameUnder image (dues instant next_due end k s) (turns instant k t s)
-    dues_are_turns image end k t s coherent h ends =
-        dues_same instant next_due image end IsJustBefore due_ahead (λ t s h soon. quiet sleeps t s (h.rests soon) soon) (before_next image coherent) k t s k h ends (omega arith)
+pub due_past : (image : Image) → IsCoherent image → (t : ℕ) (s : Bus) → IsJustBefore t s → t < next_due (outcome (instant t s) image).0
+due_past image coherent t s h =
+    let ahead = due_ahead (t + 1) (outcome (instant t s) image).0 (before_next image coherent t s h) in
+    omega (arith, ahead)
 
-    -- THE RUN OVER DUE MOMENTS IS THE RUN: the same end, the same lines and the same reads
-    pub due_run_is_run : (image : Image) (end : ℕ) → IsCoherent image → IsSameUnder image (due_run end) (run end)
-    unfolding due_run run
-    due_run_is_run image end coherent =
-        let s = outcome power_on image in
-        let same = dues_are_turns image end end 0 s coherent (before_first image coherent) (omega arith) in
-        record {
-          outcomes = outcome_bind power_on (dues instant next_due end end) image ∙ same.outcomes ∙ sym (outcome_bind power_on (turns instant end 0) image);
-          reads_same = reads_bind power_on (dues instant next_due end end) image ∙ ap (λ rs. reads power_on image ++ rs) same.reads_same ∙ sym (reads_bind power_on (turns instant end 0) image);
-        }
+pub dues_are_turns : (image : Image) (end k t : ℕ) (s : Bus) → IsCoherent image → IsJustBefore t s → t + k ≡ end → IsSameUnder image (dues instant next_due end k s) (turns instant k t s)
+dues_are_turns image end k t s coherent h ends =
+    dues_same instant next_due image end IsJustBefore due_ahead (λ t s h soon. quiet t s (h.rests soon) soon) (before_next image coherent) k t s k h ends (omega arith)
+
+-- THE RUN OVER DUE MOMENTS IS THE RUN: the same end, the same lines and the same reads
+pub due_run_is_run : (image : Image) (end : ℕ) → IsCoherent image → IsSameUnder image (due_run end) (run end)
+unfolding due_run run
+due_run_is_run image end coherent =
+    let s = outcome power_on image in
+    let same = dues_are_turns image end end 0 s coherent (before_first image coherent) (omega arith) in
+    record {
+      outcomes = outcome_bind power_on (dues instant next_due end end) image ∙ same.outcomes ∙ sym (outcome_bind power_on (turns instant end 0) image);
+      reads_same = reads_bind power_on (dues instant next_due end end) image ∙ ap (λ rs. reads power_on image ++ rs) same.reads_same ∙ sym (reads_bind power_on (turns instant end 0) image);
+    }

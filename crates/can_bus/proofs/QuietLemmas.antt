@@ -13,6 +13,7 @@ use Rattle.can_frame.specs.declared.waiting.Waiting.{Waiting}
 use Rattle.co_device.specs.Device as device
 use Rattle.co_device.specs.Device.{Device, ran}
 use Rattle.co_scenario.specs.declared.timed_step.TimedStep.{TimedStep}
+use Rattle.device_laws.proofs.RestLemmas.{quiet_at_rest}
 use Rattle.device_laws.specs.Rest.{Rests}
 use Rattle.nmt_boot.proofs.MomentLemmas.{quiet as quiet_timers}
 use Rattle.nmt_boot.specs.Ahead.{IsAhead}
@@ -91,7 +92,7 @@ none_starts : (t : ℕ) (s : Bus) → IsSettled s → slot_started t s ≡ s
 unfolding slot_started IsSettled
 none_starts t s settled = none_starts_on t s s.wire refl settled
 
--- ---- no node does anything; a device at rest does nothing before it is due
+-- ---- no node does anything
 
 by_recursion : (t : ℕ) (ms : List ℕ) → All (λ m. t + 1 ≤ m) ms → AllByRecursion (λ m. t < m) ms
 by_recursion t [] h = tt
@@ -103,21 +104,20 @@ no_node : (t : ℕ) (ds : List Device) (m : Manager) → IsAhead (t + 1) m → m
 unfolding nodes_at delivered after_devices managed manager_hears
 no_node t ds m h e = rw (e, quiet_timers t m h) refl
 
-module _ (sleeps : (u : ℕ) (d : Device) → Rests d → AllByRecursion (λ m. u < m) (device.moments d) → ran u d ≡ d) where
-  no_device : (t : ℕ) (ds : List Device) → All Rests ds → DevicesFrom (t + 1) ds → map (ran t) ds ≡ ds
-  no_device t [] rests from = refl
-  no_device t (d ∷ ds) rests from =
-      rw (sleeps t d (All-head Rests d ds rests) (by_recursion t (device.moments d) from.0), no_device t ds (All-tail Rests d ds rests) from.1) refl
+no_device : (t : ℕ) (ds : List Device) → All Rests ds → DevicesFrom (t + 1) ds → map (ran t) ds ≡ ds
+no_device t [] rests from = refl
+no_device t (d ∷ ds) rests from =
+    rw (quiet_at_rest t d (All-head Rests d ds rests) (by_recursion t (device.moments d) from.0), no_device t ds (All-tail Rests d ds rests) from.1) refl
 
-  no_delivery : (t : ℕ) (s : Bus) → IsAtRest s → AreFrom (t + 1) s → from_delivery_on t s ≡ Answer (s, [])
-  unfolding from_delivery_on
-  no_delivery t s rest from =
-      rw (none_ends t s.wire from.slot, same_wire t s.wire from.slot, no_node t s.devices s.manager from.manager (no_device t s.devices rest.devices from.devices), none_starts t s rest.settled) refl
+no_delivery : (t : ℕ) (s : Bus) → IsAtRest s → AreFrom (t + 1) s → from_delivery_on t s ≡ Answer (s, [])
+unfolding from_delivery_on
+no_delivery t s rest from =
+    rw (none_ends t s.wire from.slot, same_wire t s.wire from.slot, no_node t s.devices s.manager from.manager (no_device t s.devices rest.devices from.devices), none_starts t s rest.settled) refl
 
-  -- BEFORE THE NEXT DUE MOMENT an instant changes nothing, tells nothing and reads nothing
-  pub quiet : (t : ℕ) (s : Bus) → IsAtRest s → t < next_due s → instant t s ≡ Answer (s, [])
-  unfolding instant after_window
-  quiet t s rest h =
-      let ahead = from_due (t + 1) s (omega (arith, h)) in
-      let from = parts_from (t + 1) s ahead.1 in
-      rw (no_window t s ahead.0, no_events t s from.steps, no_delivery t s rest from) refl
+-- BEFORE THE NEXT DUE MOMENT an instant changes nothing, tells nothing and reads nothing
+pub quiet : (t : ℕ) (s : Bus) → IsAtRest s → t < next_due s → instant t s ≡ Answer (s, [])
+unfolding instant after_window
+quiet t s rest h =
+    let ahead = from_due (t + 1) s (omega (arith, h)) in
+    let from = parts_from (t + 1) s ahead.1 in
+    rw (no_window t s ahead.0, no_events t s from.steps, no_delivery t s rest from) refl
