@@ -19,8 +19,8 @@ use crate::windows::{begin_window, run_due};
 use bus_events::StepsLeft;
 use can_frame::{Frame, bit_time, slot_bits};
 use co_base::Octets;
-use co_device::DeviceState;
 use co_parts::{END, Roster};
+use device_agenda::ScheduledDevice;
 use nmt_boot::{Manager, Notes};
 use std::alloc::{AllocError, Global};
 use std::marker::Model;
@@ -35,7 +35,7 @@ pub struct BusState {
     pub(crate) alloc: Global,
     pub(crate) spent: bool,
     pub(crate) bit_time: u32,
-    pub(crate) devices: Vec<DeviceState>,
+    pub(crate) devices: Vec<ScheduledDevice>,
     pub(crate) manager: Manager,
     pub(crate) wire: Option<Slot>,
     pub(crate) window: u64,

@@ -6,8 +6,8 @@ ghost use Rattle.co_device.specs.Device.{moments as device_moments};
 ghost use Rattle.co_parts.specs.Moments.{moments_of};
 
 use crate::slot::Slot;
-use co_device::DeviceState;
 use co_scenario::TimedStep;
+use device_agenda::ScheduledDevice;
 
 /// The earlier of two moments, the second if there is one.
 pub(crate) fn sooner(moment: u64, other: Option<u64>) -> u64
@@ -41,7 +41,7 @@ pub(crate) fn before_end(moment: u64, wire: &Option<Slot>) -> u64
 }
 
 /// The least of a moment and of those at which devices are due. Walks them.
-pub(crate) fn before_devices(moment: u64, devices: &[DeviceState]) -> u64
+pub(crate) fn before_devices(moment: u64, devices: &[ScheduledDevice]) -> u64
     ensures { result ≡ least moment (flat_map device_moments devices.now) }
 {
     let mut first = moment;
