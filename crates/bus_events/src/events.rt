@@ -8,16 +8,17 @@ ghost use Rattle.bus_events.specs.Steps.{AreFree};
 ghost use Rattle.co_base.specs.Ranges.{is_between};
 ghost use Rattle.co_parts.specs.Images.{IsFree};
 
-use co_device::{DeviceState, Shapes};
+use co_device::Shapes;
 use co_parts::END;
 use co_scenario::{Step, TimedStep};
+use device_agenda::ScheduledDevice;
 use nmt_boot::Manager;
 use std::alloc::AllocError;
 
 /// A device sets an entry of its own at the moment t, if it has this number.
 #[tactic(auto, unfolding(crate::specs::Events::set_at))]
 fn set_one(
-    device: &mut DeviceState,
+    device: &mut ScheduledDevice,
     t: u64,
     node: u8,
     place: (u16, u8),
@@ -36,7 +37,7 @@ fn set_one(
 
 /// The devices of this number set an entry of their own at the moment t.
 fn set_each(
-    devices: &mut [DeviceState],
+    devices: &mut [ScheduledDevice],
     t: u64,
     node: u8,
     place: (u16, u8),
@@ -56,7 +57,7 @@ fn set_each(
 /// Switches the power of a device at the moment t, if it has this number.
 #[tactic(auto, unfolding(crate::specs::Events::power_at))]
 fn power_one<P: Shapes>(
-    device: &mut DeviceState,
+    device: &mut ScheduledDevice,
     t: u64,
     node: u8,
     on: bool,
@@ -76,7 +77,7 @@ fn power_one<P: Shapes>(
 
 /// Switches the power of the devices of this number at the moment t.
 fn power_each<P: Shapes>(
-    devices: &mut [DeviceState],
+    devices: &mut [ScheduledDevice],
     t: u64,
     node: u8,
     on: bool,
@@ -97,7 +98,7 @@ fn power_each<P: Shapes>(
 /// An event happens at the moment t.
 #[tactic(auto, using(crate::proofs::EventLemmas::happens_laws))]
 fn happen<P: Shapes>(
-    devices: &mut [DeviceState],
+    devices: &mut [ScheduledDevice],
     manager: &mut Manager,
     t: u64,
     step: &Step,
@@ -125,7 +126,7 @@ fn happen<P: Shapes>(
 
 /// Runs events at the moment t, one after another. Takes time by their number times that of the devices.
 pub fn run_events<P: Shapes>(
-    devices: &mut [DeviceState],
+    devices: &mut [ScheduledDevice],
     manager: &mut Manager,
     t: u64,
     steps: &[TimedStep],

@@ -71,7 +71,7 @@ impl StepsLeft {
     }
 
     /// The events.
-    fn as_slice(&self) -> &[TimedStep]
+    pub fn as_slice(&self) -> &[TimedStep]
         ensures steps { result.now ≡ self.now }
         ensures free { AreFree result.now }
     {

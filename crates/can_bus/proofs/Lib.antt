@@ -10,3 +10,9 @@ pub mod ToldLemmas
 pub mod SettledLemmas
 pub mod StartLemmas
 pub mod TimeLemmas
+pub mod DueLemmas
+pub mod QuietLemmas
+pub mod AfterLemmas
+pub mod DueRunLemmas
+pub mod LeastLemmas
+pub mod TraceLemmas

@@ -59,11 +59,11 @@ module _ (image : Image) (t : ℕ) (s : Bus) where
   abbrev handed_out : List TimedStep
   handed_out = steps_of (image (Events (t / 10000)))
 
-  starts : (t == s.window) ≡ true → outcome (window_begun t s) image ≡ in_new_window t handed_out s
+  pub starts : (t == s.window) ≡ true → outcome (window_begun t s) image ≡ in_new_window t handed_out s
   unfolding window_begun
   starts e = rw e refl
 
-  goes_on : (t == s.window) ≡ false → outcome (window_begun t s) image ≡ s
+  pub goes_on : (t == s.window) ≡ false → outcome (window_begun t s) image ≡ s
   unfolding window_begun
   goes_on e = rw e refl
 

@@ -1,3 +1,4 @@
 pub mod Bus
+pub mod Dues
 pub mod Lines
 pub mod Runs

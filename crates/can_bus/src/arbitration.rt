@@ -5,11 +5,11 @@ ghost use Rattle.can_bus.specs.Bus.{contends_with as contends, devices_after, fr
 ghost use Rattle.can_frame.specs.Winner.{contenders, IsWinner};
 
 use can_frame::{Contender, Frame};
-use co_device::DeviceState;
+use device_agenda::ScheduledDevice;
 use nmt_boot::Manager;
 
 /// The least frame that waits at a device.
-fn winner_of_devices(devices: &[DeviceState]) -> Option<Contender>
+fn winner_of_devices(devices: &[ScheduledDevice]) -> Option<Contender>
     ensures { IsWinner (contenders (map (λ d. (d.number, d.waiting)) devices.now)) result }
 {
     let mut best = None;
@@ -20,7 +20,7 @@ fn winner_of_devices(devices: &[DeviceState]) -> Option<Contender>
 }
 
 /// The least frame that waits, at a device or at the manager.
-pub(crate) fn winner(devices: &[DeviceState], manager: &Manager) -> Option<Contender>
+pub(crate) fn winner(devices: &[ScheduledDevice], manager: &Manager) -> Option<Contender>
     ensures { result ≡ winner_among devices.now manager.now }
 {
     Contender::lower(winner_of_devices(devices), manager.contender())
@@ -40,7 +40,7 @@ fn is_same(contender: &Contender, other: Option<Contender>) -> bool
 }
 
 /// Whether a device contends with this frame.
-fn contends_with(contender: &Contender, device: &DeviceState) -> bool
+fn contends_with(contender: &Contender, device: &ScheduledDevice) -> bool
     ensures { result ≡ contends contender.now device.now }
 {
     is_same(contender, device.contender())
@@ -48,7 +48,7 @@ fn contends_with(contender: &Contender, device: &DeviceState) -> bool
 
 /// The place of the first device that contends with this frame.
 #[tactic(auto, unfolding(crate::specs::Bus::sender_place))]
-fn sender_place(contender: &Contender, devices: &[DeviceState]) -> Option<usize>
+fn sender_place(contender: &Contender, devices: &[ScheduledDevice]) -> Option<usize>
     ensures { result ≡ place_of_sender contender.now devices.now }
 {
     devices
@@ -59,7 +59,7 @@ fn sender_place(contender: &Contender, devices: &[DeviceState]) -> Option<usize>
 /// Takes the frame that wins from its list.
 pub(crate) fn send(
     contender: &Contender,
-    devices: &mut [DeviceState],
+    devices: &mut [ScheduledDevice],
     manager: &mut Manager,
 ) -> Frame
     requires { winner_among devices.old manager.old ≡ Some contender.now }

@@ -3,11 +3,13 @@
 ghost use Rattle.std.specs.Prelude.{◌≡◌, ◌<◌, ◌≤◌, ◌+◌, ◌*◌, ◌++◌, ◌↔◌, length, IfOk, OnOk, OnErr, IsErr, IsTrue};
 ghost use Rattle.asking.specs.Asking.{followed, outcome, reads};
 ghost use Rattle.can_bus.specs.Bus.{blank, ended, from_delivery_on, instant, on_wire, power_on, power_on_of, slot_started};
+ghost use Rattle.can_bus.specs.Dues.{next_due};
 ghost use Rattle.can_frame.specs.Frames.{slot_bits as bits_of};
 ghost use Rattle.co_parts.specs.Contents.{first_roster as roster_of_first};
 
 use crate::arbitration::{send, winner};
 use crate::devices::{copy_all, new_devices, power_all, same_all};
+use crate::due_moments::{before_devices, before_end, before_steps, sooner};
 use crate::lines::Lines;
 use crate::nodes::run_nodes;
 use crate::parts::Parts;
@@ -17,8 +19,8 @@ use crate::windows::{begin_window, run_due};
 use bus_events::StepsLeft;
 use can_frame::{Frame, bit_time, slot_bits};
 use co_base::Octets;
-use co_device::DeviceState;
 use co_parts::{END, Roster};
+use device_agenda::ScheduledDevice;
 use nmt_boot::{Manager, Notes};
 use std::alloc::{AllocError, Global};
 use std::marker::Model;
@@ -33,7 +35,7 @@ pub struct BusState {
     pub(crate) alloc: Global,
     pub(crate) spent: bool,
     pub(crate) bit_time: u32,
-    pub(crate) devices: Vec<DeviceState>,
+    pub(crate) devices: Vec<ScheduledDevice>,
     pub(crate) manager: Manager,
     pub(crate) wire: Option<Slot>,
     pub(crate) window: u64,
@@ -286,6 +288,19 @@ impl BusState {
         ensures { result ≡ self.now.spent }
     {
         self.spent
+    }
+
+    /// The least moment at which something is due: a timer of a device or of the manager, the end of the
+    /// frame on the wire, an event, or the start of the next window. An instant before it changes nothing
+    /// once another has run. Walks the nodes and the events that are left, and takes no memory.
+    #[tactic(auto, using(crate::proofs::LeastLemmas::next_due_is))]
+    pub fn next_due(&self) -> u64
+        ensures { result ≡ next_due self.now }
+    {
+        let first = before_steps(self.window, self.steps.as_slice());
+        let first = before_end(first, &self.wire);
+        let first = sooner(first, self.manager.next_due());
+        before_devices(first, &self.devices)
     }
 
     /// The instant at the moment t, which is below `END`: adds what it tells to the lines. One in which

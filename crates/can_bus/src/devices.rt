@@ -7,17 +7,18 @@ ghost use Rattle.bus_events.specs.Each.{each};
 ghost use Rattle.co_device.specs.Device.{powered, ran};
 
 use crate::slot::Slot;
-use co_device::{DeviceState, Shapes};
+use co_device::Shapes;
 use co_parts::END;
+use device_agenda::ScheduledDevice;
 use std::alloc::{AllocError, Global};
 
 /// The devices of these numbers without power.
-pub(crate) fn new_devices(alloc: Global, numbers: &[u8]) -> Result<Vec<DeviceState>, AllocError>
+pub(crate) fn new_devices(alloc: Global, numbers: &[u8]) -> Result<Vec<ScheduledDevice>, AllocError>
     ensures { IfOk result (λ devices. devices.items ≡ without_power numbers.now) }
 {
     let mut devices = Vec::new(alloc);
     for number in numbers {
-        devices.push(DeviceState::new(alloc, *number))?;
+        devices.push(ScheduledDevice::new(alloc, *number))?;
     }
     Ok(devices)
 }
@@ -25,8 +26,8 @@ pub(crate) fn new_devices(alloc: Global, numbers: &[u8]) -> Result<Vec<DeviceSta
 /// Devices that are equal to these.
 pub(crate) fn copy_all(
     alloc: Global,
-    devices: &[DeviceState],
-) -> Result<Vec<DeviceState>, AllocError>
+    devices: &[ScheduledDevice],
+) -> Result<Vec<ScheduledDevice>, AllocError>
     ensures { IfOk result (λ copies. copies.items ≡ devices.now) }
 {
     let mut copies = Vec::new(alloc);
@@ -38,7 +39,7 @@ pub(crate) fn copy_all(
 }
 
 /// Whether the devices of two lists are the same.
-pub(crate) fn same_all(devices: &[DeviceState], others: &[DeviceState]) -> bool
+pub(crate) fn same_all(devices: &[ScheduledDevice], others: &[ScheduledDevice]) -> bool
     ensures { IsTrue result ↔ (devices.now ≡ others.now) }
 {
     if devices.len() != others.len() {
@@ -54,7 +55,7 @@ pub(crate) fn same_all(devices: &[DeviceState], others: &[DeviceState]) -> bool
 
 /// Switches the power of each on, at time 0.
 pub(crate) fn power_all<P: Shapes>(
-    devices: &mut [DeviceState],
+    devices: &mut [ScheduledDevice],
     shapes: &mut P,
 ) -> Result<(), AllocError>
     ensures state { OnOk result (devices.new ≡ outcome (each (powered true 0) devices.old) (P.seen shapes.old).image) }
@@ -71,7 +72,7 @@ pub(crate) fn power_all<P: Shapes>(
 /// Gives a device the frame of a slot that ends at the moment t, if it isn't its sender.
 #[tactic(auto, unfolding(crate::specs::Bus::hears))]
 fn hear<P: Shapes>(
-    device: &mut DeviceState,
+    device: &mut ScheduledDevice,
     t: u64,
     slot: &Slot,
     shapes: &mut P,
@@ -90,7 +91,7 @@ fn hear<P: Shapes>(
 
 /// Gives each device but its sender the frame of a slot that ends at the moment t.
 pub(crate) fn hear_all<P: Shapes>(
-    devices: &mut [DeviceState],
+    devices: &mut [ScheduledDevice],
     t: u64,
     slot: &Slot,
     shapes: &mut P,
@@ -108,7 +109,7 @@ pub(crate) fn hear_all<P: Shapes>(
 }
 
 /// Runs the timers and then the TPDOs of each device at the moment t.
-pub(crate) fn run_all(devices: &mut [DeviceState], t: u64) -> Result<(), AllocError>
+pub(crate) fn run_all(devices: &mut [ScheduledDevice], t: u64) -> Result<(), AllocError>
     requires { t < END }
     ensures { OnOk result (devices.new ≡ map (ran t) devices.old) }
 {

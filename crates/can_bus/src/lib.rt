@@ -4,7 +4,7 @@
 mod arbitration;
 mod bus_state;
 mod devices;
-pub mod laws;
+mod due_moments;
 mod line;
 mod line_texts;
 mod lines;

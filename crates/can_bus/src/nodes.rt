@@ -8,15 +8,16 @@ use crate::devices::{hear_all, run_all};
 use crate::managing::manage;
 use crate::parts::Parts;
 use crate::slot::Slot;
-use co_device::{DeviceState, Shapes};
+use co_device::Shapes;
 use co_parts::END;
+use device_agenda::ScheduledDevice;
 use nmt_boot::{Manager, Notes};
 use std::alloc::AllocError;
 
 /// Delivers the frame of a slot that ends at the moment t, where one does, to each device but its sender.
 #[tactic(auto, unfolding(crate::specs::Bus::delivered))]
 fn deliver<P: Shapes>(
-    devices: &mut [DeviceState],
+    devices: &mut [ScheduledDevice],
     t: u64,
     ended: &Option<Slot>,
     shapes: &mut P,
@@ -36,7 +37,7 @@ fn deliver<P: Shapes>(
 /// The delivery, the timers and TPDOs of each device, and the manager.
 #[tactic(auto, using(crate::proofs::NodeLemmas::nodes_laws))]
 pub(crate) fn run_nodes<P: Parts>(
-    devices: &mut [DeviceState],
+    devices: &mut [ScheduledDevice],
     manager: &mut Manager,
     t: u64,
     ended: &Option<Slot>,

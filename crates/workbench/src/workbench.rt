@@ -127,9 +127,9 @@ impl Workbench {
     /// The trace of the network of the project as it is now: from the power-on, an instant at each
     /// microsecond up to the horizon.
     ///
-    /// Reads the EDS of each node once, and plans the messages. Then takes time by the horizon times the
-    /// number of nodes, and by the frames that are sent; memory by the number of lines, and the entries
-    /// and writes of all nodes.
+    /// Reads the EDS of each node once, and plans the messages. Then runs the microseconds at which something
+    /// is due: takes time by their number times that of nodes; memory by the number of lines, and the
+    /// entries and writes of all nodes.
     #[tactic(auto, unfolding(crate::specs::Queries::trace_of))]
     pub fn trace(&mut self) -> Result<Vec<Line>, AllocError>
         ensures lines { IfOk result (λ lines. lines.items ≡ trace_of self.old.project) }

@@ -5,8 +5,8 @@ use Rattle.co_depend.specs.Image.{image_of}
 use Rattle.workbench.specs.Queries.{trace_of}
 use Rattle.workbench.proofs.workbench.Workbench.trace.Goals as goal
 
-pub trace-requires : goal.trace-requires
-trace-requires c =
+pub trace-requires-clause-soon : goal.trace-requires-clause-soon
+trace-requires-clause-soon c =
     let limit = between 0 10000000 c.self.inside.project.horizon c.keeps_to_rules.ensures.horizon in
     omega (arith, limit.1, c.horizon-horizon.ensures)
 

@@ -1,10 +1,12 @@
 //! Laws of a bus, each a function whose contract is the law.
 
-ghost use Rattle.std.specs.Prelude.{◌≡◌, ◌≢◌, ◌<◌, ◌+◌, ◌*◌, ◌∷◌, [], ℕ, All, Some, None, filter};
+ghost use Rattle.std.specs.Prelude.{◌≡◌, ◌≢◌, ◌↔◌, ◌<◌, ◌+◌, ◌*◌, ◌∷◌, [], ℕ, All, Some, None, filter};
+ghost use Rattle.asking.specs.Agenda.{IsSameUnder};
 ghost use Rattle.asking.specs.Alike.{AreAlike};
-ghost use Rattle.asking.specs.Asking.{Agrees, Answer, outcome, reads};
+ghost use Rattle.asking.specs.Asking.{Agrees, Answer, outcome, reads, turns};
 ghost use Rattle.bus_events.specs.Steps.{has_time, steps_due, steps_left};
 ghost use Rattle.can_bus.specs.Bus.{hears, instant, power_on, slot_started, window_begun, Bus};
+ghost use Rattle.can_bus.specs.Dues.{IsAtRest, IsJustBefore, due_run, moments, next_due};
 ghost use Rattle.can_bus.specs.Lines.{line_time};
 ghost use Rattle.can_bus.specs.Runs.{is_shown, power_on_reads, run, trace, window_of, HasItsEvents, IsInTime, IsNextWindow, IsSettled, StartsWith};
 ghost use Rattle.can_bus.specs.declared.line.Line.{Line as Told};
@@ -16,53 +18,81 @@ ghost use Rattle.co_parts.specs.Contents.{Image};
 ghost use Rattle.co_parts.specs.Images.{IsCoherent};
 ghost use Rattle.co_parts.specs.declared.part.Part.TheVariants as part;
 
-/// Under two images that agree on what an instant or a run reads under the one, it is the same.
+/// Under two images that agree on what an instant, a run or the instants of a window read under the one, it
+/// is the same: the same end, the same lines and the same reads. The first window's instants and the power-on
+/// are the run to 10,000.
 #[tactic(auto, using(asking::proofs::QuestionLemmas::two_images))]
 pub fn two_images()
     ensures instants { (first second : Image) (t : ℕ) (s : Bus) → Agrees second (reads (instant t s) first) → AreAlike (instant t s) first second }
     ensures runs { (first second : Image) (end : ℕ) → Agrees second (reads (run end) first) → AreAlike (run end) first second }
+    ensures spans { (first second : Image) (i : ℕ) (s : Bus) → Agrees second (reads (turns instant 10000 (10000 * i) s) first) → AreAlike (turns instant 10000 (10000 * i) s) first second }
+{}
+
+/// A bus at rest does nothing before its next due moment: an instant changes nothing, tells nothing and reads
+/// nothing. That moment is the least of its due moments and the start of its next window.
+#[tactic(auto, using(can_bus::proofs::DueLemmas::due_later, can_bus::proofs::QuietLemmas::quiet))]
+pub fn before_a_due_moment_nothing_happens()
+    ensures least { (t : ℕ) (s : Bus) → (t < next_due s) ↔ ((t < s.window) × All (λ m. t < m) (moments s)) }
+    ensures quiet { (t : ℕ) (s : Bus) → IsAtRest s → t < next_due s → instant t s ≡ Answer (s, []) }
+{}
+
+/// Under a coherent image each instant from the power-on on leaves a bus at rest, whose due moments all lie
+/// ahead.
+#[tactic(auto, using(can_bus::proofs::DueRunLemmas::before_first, can_bus::proofs::DueRunLemmas::before_next, can_bus::proofs::DueRunLemmas::at_rest_after, can_bus::proofs::DueRunLemmas::due_past))]
+pub fn each_instant_leaves_a_bus_at_rest()
+    ensures first { (image : Image) → IsCoherent image → IsJustBefore 0 (outcome power_on image) }
+    ensures each { (image : Image) → IsCoherent image → (t : ℕ) (s : Bus) → IsJustBefore t s → IsJustBefore (t + 1) (outcome (instant t s) image).0 }
+    ensures rest { (image : Image) (t : ℕ) (s : Bus) → IsJustBefore t s → IsAtRest (outcome (instant t s) image).0 }
+    ensures later { (image : Image) → IsCoherent image → (t : ℕ) (s : Bus) → IsJustBefore t s → t < next_due (outcome (instant t s) image).0 }
+{}
+
+/// Under a coherent image the run over due moments is the run over all moments: the same lines, the same end
+/// and the same reads.
+#[tactic(auto, using(can_bus::proofs::DueRunLemmas::due_run_is_run))]
+pub fn the_run_over_due_moments_is_the_run()
+    ensures { (image : Image) (end : ℕ) → IsCoherent image → IsSameUnder image (due_run end) (run end) }
 {}
 
 /// Power-on reads the roster, and then the values and the entries of each node.
-#[tactic(auto, using(crate::proofs::ReadLemmas::power_on_reads_all))]
+#[tactic(auto, using(can_bus::proofs::ReadLemmas::power_on_reads_all))]
 pub fn power_on_reads_each_node()
     ensures { (image : Image) → reads power_on image ≡ power_on_reads image }
 {}
 
 /// The lines of an instant have its time.
-#[tactic(auto, using(crate::proofs::ToldLemmas::lines_at))]
+#[tactic(auto, using(can_bus::proofs::ToldLemmas::lines_at))]
 pub fn lines_have_their_time()
     ensures { (image : Image) (t : ℕ) (s : Bus) → All (λ (line : Told). line_time line ≡ t) (outcome (instant t s) image).1 }
 {}
 
 /// The trace is what any run past the horizon shows up to it, and all that the run to the horizon tells.
-#[tactic(auto, using(crate::proofs::ToldLemmas::trace_laws))]
+#[tactic(auto, using(can_bus::proofs::ToldLemmas::trace_laws))]
 pub fn trace_of_a_longer_run()
     ensures longer { (image : Image) (horizon end : ℕ) → horizon < end → filter (is_shown horizon) (outcome (run end) image).1 ≡ trace image horizon }
     ensures whole { (image : Image) (horizon : ℕ) → (outcome (run (horizon + 1)) image).1 ≡ trace image horizon }
 {}
 
 /// After an instant no frame waits at an idle wire.
-#[tactic(auto, using(crate::proofs::SettledLemmas::instant_settles))]
+#[tactic(auto, using(can_bus::proofs::SettledLemmas::instant_settles))]
 pub fn each_instant_leaves_a_settled_bus()
     ensures { (image : Image) (t : ℕ) (s : Bus) → IsSettled (outcome (instant t s) image).0 }
 {}
 
 /// A slot that starts at an idle wire is that of a waiting frame that no other is below.
-#[tactic(auto, using(crate::proofs::StartLemmas::slot_is_winners))]
+#[tactic(auto, using(can_bus::proofs::StartLemmas::slot_is_winners))]
 pub fn the_winner_starts()
     ensures { (t : ℕ) (s : Bus) (slot : Sent) → s.wire ≡ None → (slot_started t s).wire ≡ Some slot → (c : Bid) × ((w : Queued) × StartsWith t s slot c w) }
 {}
 
 /// A frame isn't delivered to the node that sends it.
-#[tactic(auto, using(crate::proofs::ReadLemmas::own_frame_unheard))]
+#[tactic(auto, using(can_bus::proofs::ReadLemmas::own_frame_unheard))]
 pub fn no_device_hears_its_own_frame()
     ensures { (t : ℕ) (slot : Sent) (d : Device) → d.number ≡ slot.sender → hears t slot d ≡ Answer d }
 {}
 
 /// Windows start at the whole multiples of 10,000 microseconds, and at no other moment. Where one starts, its
 /// events are asked for, and nothing else before they run.
-#[tactic(auto, using(crate::proofs::TimeLemmas::each_window, crate::proofs::TimeLemmas::window_reads, crate::proofs::TimeLemmas::no_window_starts))]
+#[tactic(auto, using(can_bus::proofs::TimeLemmas::each_window, can_bus::proofs::TimeLemmas::window_reads, can_bus::proofs::TimeLemmas::no_window_starts))]
 pub fn windows_start_at_whole_multiples()
     ensures next { (image : Image) (t : ℕ) (s : Bus) → IsNextWindow t s.window → IsNextWindow (t + 1) (outcome (instant t s) image).0.window }
     ensures asked { (image : Image) (i : ℕ) (s : Bus) → s.window ≡ 10000 * i → reads (window_begun (10000 * i) s) image ≡ (part.Events i, image (part.Events i)) ∷ [] }
@@ -71,7 +101,7 @@ pub fn windows_start_at_whole_multiples()
 
 /// Under a coherent image the next window starts at its moment, and the events that have not run are in order
 /// of time and lie ahead: at power-on, and after each instant. An event that has run isn't among them.
-#[tactic(auto, using(crate::proofs::TimeLemmas::in_time_first, crate::proofs::TimeLemmas::in_time_after, crate::proofs::TimeLemmas::instant_steps))]
+#[tactic(auto, using(can_bus::proofs::TimeLemmas::in_time_first, can_bus::proofs::TimeLemmas::in_time_after, can_bus::proofs::TimeLemmas::instant_steps))]
 pub fn events_that_are_left_lie_ahead()
     ensures first { (image : Image) → IsInTime 0 (outcome power_on image) }
     ensures each { (image : Image) (t : ℕ) (s : Bus) → IsCoherent image → IsInTime t s → IsInTime (t + 1) (outcome (instant t s) image).0 }
@@ -80,7 +110,7 @@ pub fn events_that_are_left_lie_ahead()
 
 /// Under a coherent image the events that run in the instant at the moment t are those with this time in the
 /// window in which t lies, all of them, by number.
-#[tactic(auto, using(crate::proofs::TimeLemmas::has_events_first, crate::proofs::TimeLemmas::has_events_after, crate::proofs::TimeLemmas::due_are_its_events))]
+#[tactic(auto, using(can_bus::proofs::TimeLemmas::has_events_first, can_bus::proofs::TimeLemmas::has_events_after, can_bus::proofs::TimeLemmas::due_are_its_events))]
 pub fn each_event_runs_at_its_time()
     ensures first { (image : Image) → HasItsEvents image 0 (outcome power_on image) }
     ensures each { (image : Image) (t : ℕ) (s : Bus) → IsCoherent image → HasItsEvents image t s → HasItsEvents image (t + 1) (outcome (instant t s) image).0 }

@@ -1,0 +1,4 @@
+//! Laws of a CAN bus.
+#![tactic(auto)]
+
+pub mod laws;
