@@ -5,12 +5,11 @@ use Rattle.std.specs.List.{list_any}
 use Rattle.asking.specs.Asking.{Asking, Answer, bind}
 use Rattle.can_frame.specs.Frames.{BaseFrame}
 use Rattle.can_frame.specs.Identifiers.{error_control_id, nmt_id, sdo_request_id}
-use Rattle.co_dict.specs.Values.{Values}
 use Rattle.co_parts.specs.Contents.{Content}
 use Rattle.co_parts.specs.declared.part.Part.{Part}
 use Rattle.co_pdos.specs.declared.configuration.Configuration.{Configuration}
 use Rattle.co_pdos.specs.declared.receipt.Receipt.TheVariants.{Ignored}
-use Rattle.co_profile.specs.Consumers.{all_heard, any_expects, any_failed, consumer_entry, expects, heard, is_over}
+use Rattle.co_profile.specs.Consumers.{all_heard, any_expects, any_failed, expects, heard, is_over}
 use Rattle.co_profile.specs.Profile.{sync_identifier}
 use Rattle.co_profile.specs.declared.consumer.Consumer.{Consumer}
 use Rattle.device_pdos.specs.Rpdos.{any_has_identifier, has_identifier, receipt_of, rpdo_at}
