@@ -82,7 +82,7 @@ initialised t shape values d = record {
   state = PreOperational;
   learnt = learnt_of shape;
   values = values;
-  consumers = consumers.consumers_of shape;
+  consumers = consumers.consumers_of shape values;
   rpdos = rpdos_of shape values;
   tpdos = tpdos_of shape values;
   synced = false;
@@ -168,7 +168,7 @@ without_error is_over d = if is_over then record d { values = error_cleared d.le
 -- 1016h: the consumer's moment and failure are forgotten, without an emergency object
 unfoldable pub consumer_written : ℕ → Device → Device
 consumer_written sub d =
-    without_error (consumers.is_over d.consumers (consumers.consumers_written sub d.consumers)) (record d { consumers = consumers.consumers_written sub d.consumers })
+    without_error (consumers.is_over d.consumers (consumers.consumers_written sub d.values d.consumers)) (record d { consumers = consumers.consumers_written sub d.values d.consumers })
 
 -- of an entry that is none of a PDO's objects
 unfoldable pub after_own_write : ℕ → ℕ × ℕ → Device → Device
@@ -213,7 +213,7 @@ sdo_request t request d =
 -- consumers that expect the node start or go on; with the end of the last failure the error bits are cleared, and an emergency object tells it
 unfoldable pub error_control : ℕ → ℕ → Device → Device
 error_control t producer d =
-    let after = consumers.all_heard t producer d.values d.consumers in
+    let after = consumers.all_heard t producer d.consumers in
     if consumers.is_over d.consumers after then with_emergency 0x0000 (without_error true (record d { consumers = after }))
     else record d { consumers = after }
 

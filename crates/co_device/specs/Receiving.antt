@@ -96,5 +96,5 @@ ignored frame d =
     else if frame.id == nmt_id then not (is_addressed d.number frame.bytes)
     else if frame.id == sync_identifier d.learnt d.values then not (is_in Operational d)
     else if (frame.id == sdo_request_id d.number) && (length frame.bytes == 8) then is_in Stopped d
-    else if is_error_control frame then not (any_expects (frame.id - error_control_id 0) d.values d.consumers)
+    else if is_error_control frame then not (any_expects (frame.id - error_control_id 0) d.consumers)
     else not (is_in Operational d && any_has_identifier frame.id d.rpdos)

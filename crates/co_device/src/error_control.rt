@@ -19,7 +19,7 @@ impl DeviceState {
         ensures { OnOk result (self.new ≡ error_control t producer self.old) }
     {
         let had_failed = any_failed(&self.consumers);
-        hear(&mut self.consumers, t, producer, &self.values);
+        hear(&mut self.consumers, t, producer);
         if had_failed && !any_failed(&self.consumers) {
             self.clear_error_if(true)?;
             return self.tell(NO_ERROR);

@@ -72,7 +72,7 @@ impl DeviceState {
             return self.is_in(NmtState::Stopped);
         }
         if let Some(producer) = producer_of(frame) {
-            return !any_expects(&self.consumers, producer, &self.values);
+            return !any_expects(&self.consumers, producer);
         }
         !(self.is_in(NmtState::Operational) && any_has_identifier(&self.rpdos, frame.id()))
     }

@@ -45,7 +45,7 @@ impl DeviceState {
         let mut waiting = Pending::new(self.alloc);
         let frame = Frame::of(identifiers::error_control(self.number), &[BOOT_UP]);
         waiting.add(Purpose::BootUp, frame)?;
-        self.consumers = consumers_of(self.alloc, shape)?;
+        self.consumers = consumers_of(self.alloc, shape, &values)?;
         self.rpdos = rpdos_of(self.alloc, shape, &values)?;
         self.tpdos = tpdos_of(self.alloc, shape, &values)?;
         self.has_power = true;

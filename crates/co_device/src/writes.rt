@@ -50,7 +50,7 @@ impl DeviceState {
         ensures { OnOk result (self.new ≡ consumer_written sub self.old) }
     {
         let had_failed = any_failed(&self.consumers);
-        forget(&mut self.consumers, sub);
+        forget(&mut self.consumers, sub, &self.values);
         let is_over = had_failed && !any_failed(&self.consumers);
         self.clear_error_if(is_over)
     }

@@ -1,12 +1,12 @@
 -- When heartbeat consumers fail.
-use Rattle.std.proofs.Common.{◌≡◌, ◌≢◌, ℕ, ◌+◌, ◌*◌, ◌==◌, ◌++◌, Bool, true, false, List, [], ◌∷◌, Option, Some, None, map, refl, ap, arith}
+use Rattle.std.proofs.Common.{◌≡◌, ◌≢◌, ℕ, ◌+◌, ◌*◌, ◌==◌, ◌++◌, Bool, true, false, List, [], ◌∷◌, Option, Some, None, map, refl, sym, ap, ◌∙◌, arith}
 use Rattle.std.specs.Prelude.{if◌then◌else◌}
 use Rattle.std.specs.List.{AllByRecursion}
 use Rattle.std.proofs.lemmas.Bool.Decides.{nat_tests}
 use Rattle.co_dict.specs.Shapes.{Shaped}
 use Rattle.co_dict.specs.Values.{Values}
 use Rattle.co_parts.specs.Moments.{is_due, moments_of}
-use Rattle.co_profile.specs.Consumers.{all_expired, all_heard, consumer_entry, consumer_time, consumers_of, expects, expired, failures, heard, moments, waiting_for_start}
+use Rattle.co_profile.specs.Consumers.{all_expired, all_heard, consumer_entry, consumer_time, consumers_of, consumers_written, expects, expired, failures, heard, moments, rewritten, waiting_for_start}
 use Rattle.co_profile.specs.declared.consumer.Consumer.{Consumer}
 
 same_test : (t : ℕ) → (t == t) ≡ true
@@ -21,6 +21,9 @@ other_test m t other = by (m == t) refl
     by : (test : Bool) → (m == t) ≡ test → test ≡ false
     by false e = refl
     by true e = absurd (other (passed_test m t e))
+
+unequal : {A : Type 0} (b : Bool) → b ≡ false → b ≡ true → A
+unequal b e h = absurd cc
 
 -- ---- its moment
 
@@ -40,21 +43,44 @@ fails_only_then t c not fails = by (is_due t c.moment) refl fails
 
 -- ---- who was heard
 
-one_heard : (t producer : ℕ) (values : Values) (c : Consumer) → expects producer (consumer_entry values (heard t producer values c).sub) ≡ true → (heard t producer values c).failed ≡ false
-one_heard t producer values c = by (expects producer (consumer_entry values c.sub)) refl
+one_heard : (t producer : ℕ) (c : Consumer) → expects producer (heard t producer c).entry ≡ true → (heard t producer c).failed ≡ false
+one_heard t producer c = by (expects producer c.entry) refl
   where
     after : Bool → Consumer
-    after test = if test then record c { moment = Some (t + 1000 * consumer_time (consumer_entry values c.sub)); failed = false } else c
+    after test = if test then record c { moment = Some (t + 1000 * consumer_time c.entry); failed = false } else c
 
-    by : (test : Bool) → expects producer (consumer_entry values c.sub) ≡ test → expects producer (consumer_entry values (after test).sub) ≡ true → (after test).failed ≡ false
+    by : (test : Bool) → expects producer c.entry ≡ test → expects producer (after test).entry ≡ true → (after test).failed ≡ false
     by true e h = refl
     by false e h = absurd cc
 
-pub none_failed : (t producer : ℕ) (values : Values) (consumers : List Consumer)
-    → AllByRecursion (λ c. expects producer (consumer_entry values c.sub) ≡ true → c.failed ≡ false) (all_heard t producer values consumers)
+pub none_failed : (t producer : ℕ) (consumers : List Consumer)
+    → AllByRecursion (λ c. expects producer c.entry ≡ true → c.failed ≡ false) (all_heard t producer consumers)
 unfolding all_heard
-none_failed t producer values [] = tt
-none_failed t producer values (c ∷ consumers) = (one_heard t producer values c, none_failed t producer values consumers)
+none_failed t producer [] = tt
+none_failed t producer (c ∷ consumers) = (one_heard t producer c, none_failed t producer consumers)
+
+-- ---- the value that one goes by
+
+each_goes_by : (values : Values) (subs : List ℕ) → AllByRecursion (λ (c : Consumer). c.entry ≡ consumer_entry values c.sub) (map (waiting_for_start values) subs)
+each_goes_by values [] = tt
+each_goes_by values (sub ∷ subs) = (refl, each_goes_by values subs)
+
+pub all_go_by : (shape : Shaped) (values : Values) → AllByRecursion (λ c. c.entry ≡ consumer_entry values c.sub) (consumers_of shape values)
+unfolding consumers_of
+all_go_by shape values = each_goes_by values _
+
+one_written : (sub : ℕ) (values : Values) (c : Consumer) → (rewritten sub values c).sub ≡ sub → (rewritten sub values c).entry ≡ consumer_entry values sub
+one_written sub values c = by (c.sub == sub) refl
+  where
+    by : (test : Bool) → (c.sub == sub) ≡ test → (if test then waiting_for_start values sub else c).sub ≡ sub → (if test then waiting_for_start values sub else c).entry ≡ consumer_entry values sub
+    by true e h = refl
+    by false e h = unequal (sub == sub) (ap (λ (n : ℕ). n == sub) (sym h) ∙ e) (same_test sub)
+
+pub written_goes_by : (sub : ℕ) (values : Values) (consumers : List Consumer)
+    → AllByRecursion (λ c. c.sub ≡ sub → c.entry ≡ consumer_entry values sub) (consumers_written sub values consumers)
+unfolding consumers_written
+written_goes_by sub values [] = tt
+written_goes_by sub values (c ∷ consumers) = (one_written sub values c, written_goes_by sub values consumers)
 
 -- ---- not due
 
@@ -82,13 +108,13 @@ none_fail t consumers none = no_count t consumers (not_started t consumers none)
 pub none_change : (t : ℕ) (consumers : List Consumer) → AllByRecursion (λ c. c.moment ≡ None) consumers → all_expired t consumers ≡ consumers
 none_change t consumers none = no_change t consumers (not_started t consumers none)
 
-each_waits : (subs : List ℕ) → AllByRecursion (λ (c : Consumer). c.moment ≡ None) (map waiting_for_start subs)
-each_waits [] = tt
-each_waits (sub ∷ subs) = (refl, each_waits subs)
+each_waits : (values : Values) (subs : List ℕ) → AllByRecursion (λ (c : Consumer). c.moment ≡ None) (map (waiting_for_start values) subs)
+each_waits values [] = tt
+each_waits values (sub ∷ subs) = (refl, each_waits values subs)
 
-pub none_started : (shape : Shaped) → AllByRecursion (λ c. c.moment ≡ None) (consumers_of shape)
+pub none_started : (shape : Shaped) (values : Values) → AllByRecursion (λ c. c.moment ≡ None) (consumers_of shape values)
 unfolding consumers_of
-none_started shape = each_waits _
+none_started shape values = each_waits values _
 
 elsewhere_first : (t : ℕ) (moment : Option ℕ) (rest : List ℕ) → AllByRecursion (λ m. m ≢ t) (moments_of moment ++ rest) → (is_due t moment ≡ false) × AllByRecursion (λ m. m ≢ t) rest
 elsewhere_first t None rest none = (refl, none)

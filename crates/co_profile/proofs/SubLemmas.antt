@@ -5,6 +5,7 @@ use Rattle.std.proofs.lemmas.List.{map-append}
 use Rattle.std.proofs.lemmas.List.Elements.{filter-append}
 use Rattle.co_dict.specs.PdoChecks.{has_type, is_unsigned32}
 use Rattle.co_dict.specs.Shapes.{Shaped}
+use Rattle.co_dict.specs.Values.{Values}
 use Rattle.co_profile.specs.Consumers.{consumers_of, waiting_for_start}
 use Rattle.co_profile.specs.declared.consumer.Consumer.{Consumer}
 
@@ -18,7 +19,7 @@ range_more a (suc n) j e =
     let one : suc n + 1 ≡ suc (n + 1) = omega arith in
     ap (range_with_len a) one ∙ ap (λ xs. a ∷ xs) (range_more (a + 1) n j (omega (arith, e)))
 
-module _ (shape : Shaped) where
+module _ (shape : Shaped) (values : Values) where
   next : (i : ℕ) → subs_to shape (i + 1) ≡ subs_to shape i ++ filter (λ s. has_type is_unsigned32 shape (0x1016, s)) ((i + 1) ∷ [])
   unfolding subs_to
   next i =
@@ -26,22 +27,22 @@ module _ (shape : Shaped) where
       ap (filter there) (range_more 1 i (i + 1) (omega arith)) ∙ filter-append there (range_with_len 1 i) ((i + 1) ∷ [])
 
   pub one_more : (i : ℕ) (before after : List Consumer) → has_type is_unsigned32 shape (0x1016, i + 1) ≡ true
-      → before ≡ map waiting_for_start (subs_to shape i) → after ≡ before ++ waiting_for_start (i + 1) ∷ [] → after ≡ map waiting_for_start (subs_to shape (i + 1))
+      → before ≡ map (waiting_for_start values) (subs_to shape i) → after ≡ before ++ waiting_for_start values (i + 1) ∷ [] → after ≡ map (waiting_for_start values) (subs_to shape (i + 1))
   one_more i before after is so_far added =
       added
-      ∙ ap (λ xs. xs ++ waiting_for_start (i + 1) ∷ []) so_far
-      ∙ sym (map-append waiting_for_start (subs_to shape i) ((i + 1) ∷ []))
-      ∙ ap (map waiting_for_start) (sym (next i ∙ (rw is refl)))
+      ∙ ap (λ xs. xs ++ waiting_for_start values (i + 1) ∷ []) so_far
+      ∙ sym (map-append (waiting_for_start values) (subs_to shape i) ((i + 1) ∷ []))
+      ∙ ap (map (waiting_for_start values)) (sym (next i ∙ (rw is refl)))
 
   pub skipped : (i : ℕ) (before : List Consumer) → has_type is_unsigned32 shape (0x1016, i + 1) ≡ false
-      → before ≡ map waiting_for_start (subs_to shape i) → before ≡ map waiting_for_start (subs_to shape (i + 1))
+      → before ≡ map (waiting_for_start values) (subs_to shape i) → before ≡ map (waiting_for_start values) (subs_to shape (i + 1))
   skipped i before not so_far =
-      so_far ∙ ap (map waiting_for_start) (sym (next i ∙ (rw (not, append-nil) refl)))
+      so_far ∙ ap (map (waiting_for_start values)) (sym (next i ∙ (rw (not, append-nil) refl)))
 
-  pub none_at_first : map waiting_for_start (subs_to shape 0) ≡ []
+  pub none_at_first : map (waiting_for_start values) (subs_to shape 0) ≡ []
   unfolding subs_to
   none_at_first = refl
 
-  pub all : map waiting_for_start (subs_to shape 255) ≡ consumers_of shape
+  pub all : map (waiting_for_start values) (subs_to shape 255) ≡ consumers_of shape values
   unfolding subs_to consumers_of
   all = refl

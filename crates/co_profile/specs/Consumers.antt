@@ -7,14 +7,6 @@ use Rattle.co_dict.specs.Values.{Values, number_at}
 use Rattle.co_parts.specs.Moments.{is_due, moments_of}
 use Rattle.co_profile.specs.declared.consumer.Consumer.{Consumer}
 
--- one that hasn't started
-abbrev pub waiting_for_start : ℕ → Consumer
-waiting_for_start sub = record { sub = sub; moment = None; failed = false }
-
--- those of a device: the sub-indices of 1016h from 1 on that are there as UNSIGNED32
-unfoldable pub consumers_of : Shaped → List Consumer
-consumers_of shape = map waiting_for_start (filter (λ sub. has_type is_unsigned32 shape (0x1016, sub)) (range_with_len 1 255))
-
 -- ---- the consumer heartbeat time of a sub-index
 
 abbrev pub consumer_entry : Values → ℕ → ℕ
@@ -32,18 +24,27 @@ consumer_time entry = entry % 0x10000
 abbrev pub expects : ℕ → ℕ → Bool
 expects producer entry = (producer_of entry == producer) && nat_lt 0 (consumer_time entry)
 
+-- ---- the consumers of a device
+
+-- one that hasn't started, and goes by its consumer heartbeat time as that stands
+abbrev pub waiting_for_start : Values → ℕ → Consumer
+waiting_for_start values sub = record { sub = sub; entry = consumer_entry values sub; moment = None; failed = false }
+
+-- the sub-indices of 1016h from 1 on that are there as UNSIGNED32
+unfoldable pub consumers_of : Shaped → Values → List Consumer
+consumers_of shape values = map (waiting_for_start values) (filter (λ sub. has_type is_unsigned32 shape (0x1016, sub)) (range_with_len 1 255))
+
 -- ---- an error control frame of a node comes at t: it starts the consumer or renews it, and ends its failure
 
-abbrev pub heard : ℕ → ℕ → Values → Consumer → Consumer
-heard t producer values c =
-    if expects producer (consumer_entry values c.sub) then record c { moment = Some (t + 1000 * consumer_time (consumer_entry values c.sub)); failed = false } else c
+abbrev pub heard : ℕ → ℕ → Consumer → Consumer
+heard t producer c = if expects producer c.entry then record c { moment = Some (t + 1000 * consumer_time c.entry); failed = false } else c
 
-unfoldable pub all_heard : ℕ → ℕ → Values → List Consumer → List Consumer
-all_heard t producer values consumers = map (heard t producer values) consumers
+unfoldable pub all_heard : ℕ → ℕ → List Consumer → List Consumer
+all_heard t producer consumers = map (heard t producer) consumers
 
 -- one of them expects the heartbeat of this node
-unfoldable pub any_expects : ℕ → Values → List Consumer → Bool
-any_expects producer values consumers = list_any (λ c. expects producer (consumer_entry values c.sub)) consumers
+unfoldable pub any_expects : ℕ → List Consumer → Bool
+any_expects producer consumers = list_any (λ c. expects producer c.entry) consumers
 
 -- ---- failures
 
@@ -66,13 +67,13 @@ all_expired t consumers = map (expired t) consumers
 unfoldable pub failures : ℕ → List Consumer → ℕ
 failures t consumers = length (filter (λ c. is_due t c.moment) consumers)
 
--- ---- a write of a sub-index: its consumer hasn't started any more
+-- ---- a write of a sub-index: its consumer hasn't started any more, and goes by the new value
 
-abbrev pub rewritten : ℕ → Consumer → Consumer
-rewritten sub c = if c.sub == sub then waiting_for_start sub else c
+abbrev pub rewritten : ℕ → Values → Consumer → Consumer
+rewritten sub values c = if c.sub == sub then waiting_for_start values sub else c
 
-unfoldable pub consumers_written : ℕ → List Consumer → List Consumer
-consumers_written sub consumers = map (rewritten sub) consumers
+unfoldable pub consumers_written : ℕ → Values → List Consumer → List Consumer
+consumers_written sub values consumers = map (rewritten sub values) consumers
 
 -- ---- the moments of those that run
 

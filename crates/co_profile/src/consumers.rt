@@ -3,16 +3,13 @@
 ghost use Rattle.std.specs.Prelude.{◌≡◌, ◌<◌, IfOk, ◌↔◌, IsTrue};
 ghost use Rattle.co_dict.specs.PdoChecks.{has_type, is_unsigned32};
 ghost use Rattle.co_parts.specs.Moments.{earliest};
-ghost use Rattle.co_profile.specs.Consumers.{all_expired, all_heard, any_expects, any_failed as some_failed, consumer_entry, consumer_time, consumers_of as consumers_now, consumers_written, expects, failures as failures_now, heard, moments};
+ghost use Rattle.co_profile.specs.Consumers.{all_expired, all_heard, any_expects, any_failed as some_failed, consumers_of as consumers_now, consumers_written, expects, failures as failures_now, heard, moments};
 
-use crate::consumer::Consumer;
+use crate::consumer::{CONSUMER_HEARTBEAT_TIME, Consumer};
 use co_dict::{Dict, Shape};
 use co_parts::{END, earlier, is_due};
 use co_values::DataType;
 use std::alloc::{AllocError, Global};
-
-/// The index of the consumer heartbeat times (CiA 301).
-const CONSUMER_HEARTBEAT_TIME: u16 = 0x1016;
 
 /// The last sub-index of an object.
 const LAST_SUB: u8 = 255;
@@ -28,20 +25,20 @@ fn has_unsigned_32(shape: &Shape, index: u16, sub: u8) -> bool
 }
 
 /// The heartbeat consumers of a device (CiA 301): the sub-indices of 1016h from 1 on that are there as
-/// UNSIGNED32. None has started.
+/// UNSIGNED32, each with its value. None has started.
 #[tactic(auto, using(crate::proofs::SubLemmas::none_at_first, crate::proofs::SubLemmas::one_more, crate::proofs::SubLemmas::skipped, crate::proofs::SubLemmas::all), unfolding(crate::specs::Consumers::consumers_of))]
-pub fn consumers_of(alloc: Global, shape: &Shape) -> Result<Vec<Consumer>, AllocError>
-    ensures { IfOk result (λ consumers. consumers.items ≡ consumers_now shape.now) }
+pub fn consumers_of(
+    alloc: Global,
+    shape: &Shape,
+    values: &Dict,
+) -> Result<Vec<Consumer>, AllocError>
+    ensures { IfOk result (λ consumers. consumers.items ≡ consumers_now shape.now values.now) }
 {
     let mut consumers = Vec::new(alloc);
     for i in 0..LAST_SUB {
         let sub = i + 1;
         if has_unsigned_32(shape, CONSUMER_HEARTBEAT_TIME, sub) {
-            consumers.push(Consumer {
-                sub,
-                moment: None,
-                failed: false,
-            })?;
+            consumers.push(Consumer::waiting_for_start(sub, values))?;
         }
     }
     Ok(consumers)
@@ -56,11 +53,11 @@ fn expects(producer: u8, entry: u32) -> bool
 }
 
 /// A consumer at an error control frame of a node that comes at the moment t.
-fn hear_one(consumer: &mut Consumer, t: u64, producer: u8, values: &Dict)
+fn hear_one(consumer: &mut Consumer, t: u64, producer: u8)
     requires { t < END }
-    ensures { consumer.new ≡ heard t producer values.now consumer.old }
+    ensures { consumer.new ≡ heard t producer consumer.old }
 {
-    let entry = values.number_32(CONSUMER_HEARTBEAT_TIME, consumer.sub);
+    let entry = consumer.entry;
     if expects(producer, entry) {
         consumer.moment = Some(t + 1000 * u64::from(entry % 0x1_0000));
         consumer.failed = false;
@@ -70,34 +67,23 @@ fn hear_one(consumer: &mut Consumer, t: u64, producer: u8, values: &Dict)
 /// An error control frame of a node, 1 to 127, comes at the moment t, in microseconds: it starts or
 /// renews the consumers that expect the node's heartbeat, and ends their failures. Needs no memory.
 #[tactic(auto, unfolding(crate::specs::Consumers::all_heard))]
-pub fn hear(consumers: &mut [Consumer], t: u64, producer: u8, values: &Dict)
+pub fn hear(consumers: &mut [Consumer], t: u64, producer: u8)
     requires { t < END }
-    ensures { consumers.new ≡ all_heard t producer values.now consumers.old }
+    ensures { consumers.new ≡ all_heard t producer consumers.old }
 {
     for consumer in consumers.iter_mut() {
-        hear_one(consumer, t, producer, values);
+        hear_one(consumer, t, producer);
     }
 }
 
-/// Whether a consumer expects the heartbeat of a node.
-fn is_expecting(consumer: &Consumer, producer: u8, values: &Dict) -> bool
-    ensures { result ≡ expects producer (consumer_entry values.now consumer.now.sub) }
-{
-    expects(
-        producer,
-        values.number_32(CONSUMER_HEARTBEAT_TIME, consumer.sub),
-    )
-}
-
-/// Whether one of the consumers expects the heartbeat of a node. Takes time by their number and the
-/// logarithm of the number of entries.
+/// Whether one of the consumers expects the heartbeat of a node. Walks the consumers.
 #[tactic(auto, unfolding(crate::specs::Consumers::any_expects))]
-pub fn any_expects(consumers: &[Consumer], producer: u8, values: &Dict) -> bool
-    ensures { result ≡ any_expects producer values.now consumers.now }
+pub fn any_expects(consumers: &[Consumer], producer: u8) -> bool
+    ensures { result ≡ any_expects producer consumers.now }
 {
     consumers
         .iter()
-        .any(|consumer| is_expecting(consumer, producer, values))
+        .any(|consumer| expects(producer, consumer.entry))
 }
 
 /// The consumers whose moment is t, in microseconds, fail.
@@ -127,14 +113,15 @@ pub fn failures(consumers: &[Consumer], t: u64) -> usize
     count
 }
 
-/// A consumer heartbeat time is written: its consumer hasn't started any more, and hasn't failed.
+/// A consumer heartbeat time is written: its consumer goes by the new value, hasn't started any more, and
+/// hasn't failed.
 #[tactic(auto, unfolding(crate::specs::Consumers::consumers_written))]
-pub fn forget(consumers: &mut [Consumer], sub: u8)
-    ensures { consumers.new ≡ consumers_written sub consumers.old }
+pub fn forget(consumers: &mut [Consumer], sub: u8, values: &Dict)
+    ensures { consumers.new ≡ consumers_written sub values.now consumers.old }
 {
     for consumer in consumers.iter_mut() {
         if consumer.sub == sub {
-            *consumer = Consumer::waiting_for_start(sub);
+            *consumer = Consumer::waiting_for_start(sub, values);
         }
     }
 }

@@ -4,7 +4,7 @@ ghost use Rattle.std.specs.Prelude.{◌≡◌, ◌≢◌, ℕ, false, true, List
 ghost use Rattle.std.specs.List.{AllByRecursion};
 ghost use Rattle.co_dict.specs.Shapes.{Shaped};
 ghost use Rattle.co_dict.specs.Values.{Values};
-ghost use Rattle.co_profile.specs.Consumers.{all_expired, all_heard, consumer_entry, consumers_of, expects, expired, failures, moments};
+ghost use Rattle.co_profile.specs.Consumers.{all_expired, all_heard, consumer_entry, consumers_of, consumers_written, expects, expired, failures, moments};
 ghost use Rattle.co_profile.specs.declared.consumer.Consumer.{Consumer as One};
 
 /// A consumer that hasn't failed fails at its moment, and at no other.
@@ -17,15 +17,21 @@ pub fn a_consumer_fails_at_its_moment()
 /// Once an error control frame of a node has come, no consumer that expects it has failed.
 #[tactic(auto, using(crate::proofs::ConsumerLemmas::none_failed))]
 pub fn who_was_heard_has_not_failed()
-    ensures { (t producer : ℕ) (values : Values) (consumers : List One)
-        → AllByRecursion (λ c. expects producer (consumer_entry values c.sub) ≡ true → c.failed ≡ false) (all_heard t producer values consumers) }
+    ensures { (t producer : ℕ) (consumers : List One) → AllByRecursion (λ c. expects producer c.entry ≡ true → c.failed ≡ false) (all_heard t producer consumers) }
+{}
+
+/// A consumer goes by the value of its sub-index: that with which the device starts, or the one written last.
+#[tactic(auto, using(crate::proofs::ConsumerLemmas::all_go_by, crate::proofs::ConsumerLemmas::written_goes_by))]
+pub fn a_consumer_goes_by_its_value()
+    ensures first { (shape : Shaped) (values : Values) → AllByRecursion (λ c. c.entry ≡ consumer_entry values c.sub) (consumers_of shape values) }
+    ensures written { (sub : ℕ) (values : Values) (consumers : List One) → AllByRecursion (λ c. c.sub ≡ sub → c.entry ≡ consumer_entry values sub) (consumers_written sub values consumers) }
 {}
 
 /// A consumer doesn't start before an error control frame of its node comes, and one that hasn't started
 /// doesn't fail: without a frame there is no failure.
 #[tactic(auto, using(crate::proofs::ConsumerLemmas::none_started, crate::proofs::ConsumerLemmas::none_fail, crate::proofs::ConsumerLemmas::none_change))]
 pub fn a_consumer_that_has_not_started_does_not_fail()
-    ensures started { (shape : Shaped) → AllByRecursion (λ c. c.moment ≡ None) (consumers_of shape) }
+    ensures started { (shape : Shaped) (values : Values) → AllByRecursion (λ c. c.moment ≡ None) (consumers_of shape values) }
     ensures count { (t : ℕ) (consumers : List One) → AllByRecursion (λ c. c.moment ≡ None) consumers → failures t consumers ≡ 0 }
     ensures kept { (t : ℕ) (consumers : List One) → AllByRecursion (λ c. c.moment ≡ None) consumers → all_expired t consumers ≡ consumers }
 {}

@@ -9,7 +9,7 @@ use Rattle.co_dict.specs.Shapes.{Shaped}
 use Rattle.co_dict.specs.Values.{Values}
 use Rattle.co_parts.specs.Contents.{Image}
 use Rattle.co_parts.specs.Moments.{is_due}
-use Rattle.co_profile.specs.Consumers.{all_expired, all_heard, consumer_entry, consumer_time, consumers_of, consumers_written, expects, expired, failures, heard, producer_of, rewritten, waiting_for_start}
+use Rattle.co_profile.specs.Consumers.{all_expired, all_heard, consumer_time, consumers_of, consumers_written, expects, expired, failures, heard, producer_of, rewritten, waiting_for_start}
 use Rattle.co_profile.specs.Profile.{error_set, next_heartbeat, producer_heartbeat_time}
 use Rattle.co_profile.specs.declared.consumer.Consumer.{Consumer}
 use Rattle.co_profile.specs.declared.learnt.Learnt.{Learnt}
@@ -140,50 +140,50 @@ starts_later : (t u time : ℕ) → u ≤ t + 1 → 0 < time → u ≤ t + 1000 
 starts_later t u time h k = omega (arith, h, k)
 
 module _ (t u : ℕ) (now : u ≤ t + 1) where
-  one_heard : (producer : ℕ) (values : Values) (c : Consumer) → NotBefore u c.moment → NotBefore u (heard t producer values c).moment
-  one_heard producer values c h = by (expects producer (consumer_entry values c.sub)) refl
+  one_heard : (producer : ℕ) (c : Consumer) → NotBefore u c.moment → NotBefore u (heard t producer c).moment
+  one_heard producer c h = by (expects producer c.entry) refl
     where
-      by : (test : Bool) → expects producer (consumer_entry values c.sub) ≡ test
-          → NotBefore u (if test then record c { moment = Some (t + 1000 * consumer_time (consumer_entry values c.sub)); failed = false } else c).moment
-      by true e = starts_later t u (consumer_time (consumer_entry values c.sub)) now (time_of producer (consumer_entry values c.sub) e)
+      by : (test : Bool) → expects producer c.entry ≡ test
+          → NotBefore u (if test then record c { moment = Some (t + 1000 * consumer_time c.entry); failed = false } else c).moment
+      by true e = starts_later t u (consumer_time c.entry) now (time_of producer c.entry e)
       by false e = h
 
-  heard_ahead : (producer : ℕ) (values : Values) (cs : List Consumer) → AreAhead u cs → AreAhead u (all_heard t producer values cs)
+  heard_ahead : (producer : ℕ) (cs : List Consumer) → AreAhead u cs → AreAhead u (all_heard t producer cs)
   unfolding all_heard
-  heard_ahead producer values [] h = tt
-  heard_ahead producer values (c ∷ cs) h = (one_heard producer values c h.0, heard_ahead producer values cs h.1)
+  heard_ahead producer [] h = tt
+  heard_ahead producer (c ∷ cs) h = (one_heard producer c h.0, heard_ahead producer cs h.1)
 
-  one_rewritten : (sub : ℕ) (c : Consumer) → NotBefore u c.moment → NotBefore u (rewritten sub c).moment
-  one_rewritten sub c h = by (c.sub == sub)
+  one_rewritten : (sub : ℕ) (values : Values) (c : Consumer) → NotBefore u c.moment → NotBefore u (rewritten sub values c).moment
+  one_rewritten sub values c h = by (c.sub == sub)
     where
-      by : (test : Bool) → NotBefore u (if test then waiting_for_start sub else c).moment
+      by : (test : Bool) → NotBefore u (if test then waiting_for_start values sub else c).moment
       by true = tt
       by false = h
 
-  written_ahead : (sub : ℕ) (cs : List Consumer) → AreAhead u cs → AreAhead u (consumers_written sub cs)
+  written_ahead : (sub : ℕ) (values : Values) (cs : List Consumer) → AreAhead u cs → AreAhead u (consumers_written sub values cs)
   unfolding consumers_written
-  written_ahead sub [] h = tt
-  written_ahead sub (c ∷ cs) h = (one_rewritten sub c h.0, written_ahead sub cs h.1)
+  written_ahead sub values [] h = tt
+  written_ahead sub values (c ∷ cs) h = (one_rewritten sub values c h.0, written_ahead sub values cs h.1)
 
   ahead_kept : IsKept t (IsAhead u)
   ahead_kept = record {
     others = λ d values rpdos tpdos synced frames transfer h. same_timers u d _ refl refl h;
     started = λ d h. record { heartbeat = begins_ahead t u d.learnt d.values now; consumers = h.consumers };
-    forgotten = λ d sub h. record { heartbeat = h.heartbeat; consumers = written_ahead sub d.consumers h.consumers };
-    heard = λ d producer h. record { heartbeat = h.heartbeat; consumers = heard_ahead producer d.values d.consumers h.consumers };
+    forgotten = λ d sub h. record { heartbeat = h.heartbeat; consumers = written_ahead sub d.values d.consumers h.consumers };
+    heard = λ d producer h. record { heartbeat = h.heartbeat; consumers = heard_ahead producer d.consumers h.consumers };
   }
 
-  new_ahead : (subs : List ℕ) → AreAhead u (map waiting_for_start subs)
-  new_ahead [] = tt
-  new_ahead (sub ∷ subs) = (tt, new_ahead subs)
+  new_ahead : (values : Values) (subs : List ℕ) → AreAhead u (map (waiting_for_start values) subs)
+  new_ahead values [] = tt
+  new_ahead values (sub ∷ subs) = (tt, new_ahead values subs)
 
-  all_new_ahead : (shape : Shaped) → AreAhead u (consumers_of shape)
+  all_new_ahead : (shape : Shaped) (values : Values) → AreAhead u (consumers_of shape values)
   unfolding consumers_of
-  all_new_ahead shape = new_ahead _
+  all_new_ahead shape values = new_ahead values _
 
   initialised_ahead : (shape : Shaped) (values : Values) (d : Device) → IsAhead u (initialised t shape values d)
   unfolding initialised
-  initialised_ahead shape values d = record { heartbeat = begins_ahead t u _ values now; consumers = all_new_ahead shape }
+  initialised_ahead shape values d = record { heartbeat = begins_ahead t u _ values now; consumers = all_new_ahead shape values }
 
   out_ahead : (d : Device) → IsAhead u d → IsAhead u (out_of_operational d)
   unfolding out_of_operational

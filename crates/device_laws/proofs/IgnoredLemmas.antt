@@ -29,15 +29,15 @@ unturned false h = refl
 
 -- ---- the consumers
 
-one_unheard : (t producer : ℕ) (values : Values) (c : Consumer) → expects producer (consumer_entry values c.sub) ≡ false → heard t producer values c ≡ c
-one_unheard t producer values c e = rw e refl
+one_unheard : (t producer : ℕ) (c : Consumer) → expects producer c.entry ≡ false → heard t producer c ≡ c
+one_unheard t producer c e = rw e refl
 
-unheard : (t producer : ℕ) (values : Values) (cs : List Consumer) → any_expects producer values cs ≡ false → all_heard t producer values cs ≡ cs
+unheard : (t producer : ℕ) (cs : List Consumer) → any_expects producer cs ≡ false → all_heard t producer cs ≡ cs
 unfolding any_expects all_heard
-unheard t producer values [] h = refl
-unheard t producer values (c ∷ cs) h =
-    let parts = neither (expects producer (consumer_entry values c.sub)) (list_any (λ c. expects producer (consumer_entry values c.sub)) cs) h in
-    ap (λ (x : Consumer). x ∷ all_heard t producer values cs) (one_unheard t producer values c parts.0) ∙ ap (λ xs. c ∷ xs) (unheard t producer values cs parts.1)
+unheard t producer [] h = refl
+unheard t producer (c ∷ cs) h =
+    let parts = neither (expects producer c.entry) (list_any (λ c. expects producer c.entry) cs) h in
+    ap (λ (x : Consumer). x ∷ all_heard t producer cs) (one_unheard t producer c parts.0) ∙ ap (λ xs. c ∷ xs) (unheard t producer cs parts.1)
 
 not_over : (cs : List Consumer) → is_over cs cs ≡ false
 unfolding is_over
@@ -47,9 +47,9 @@ not_over cs = by (any_failed cs)
     by true = refl
     by false = refl
 
-control_ignored : (t producer : ℕ) (d : Device) → any_expects producer d.values d.consumers ≡ false → error_control t producer d ≡ d
+control_ignored : (t producer : ℕ) (d : Device) → any_expects producer d.consumers ≡ false → error_control t producer d ≡ d
 unfolding error_control
-control_ignored t producer d h = rw (unheard t producer d.values d.consumers h, not_over d.consumers) refl
+control_ignored t producer d h = rw (unheard t producer d.consumers h, not_over d.consumers) refl
 
 -- ---- the RPDOs
 

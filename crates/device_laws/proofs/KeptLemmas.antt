@@ -33,8 +33,8 @@ pub record IsKept (t : ℕ) (P : Device → Type 0) : Type 0 where
   pub others : (d : Device) (values : Values) (rpdos : List RpdoState) (tpdos : List TpdoState) (synced : Bool) (frames : List Waiting) (transfer : Transfer)
       → P d → P (record d { values = values; rpdos = rpdos; tpdos = tpdos; synced = synced; waiting = frames; transfer = transfer })
   pub started : (d : Device) → P d → P (heartbeat_started t d)
-  pub forgotten : (d : Device) (sub : ℕ) → P d → P (record d { consumers = consumers_written sub d.consumers })
-  pub heard : (d : Device) (producer : ℕ) → P d → P (record d { consumers = all_heard t producer d.values d.consumers })
+  pub forgotten : (d : Device) (sub : ℕ) → P d → P (record d { consumers = consumers_written sub d.values d.consumers })
+  pub heard : (d : Device) (producer : ℕ) → P d → P (record d { consumers = all_heard t producer d.consumers })
 
 module _ (t : ℕ) (P : Device → Type 0) (k : IsKept t P) where
   with_values : (d : Device) (values : Values) → P d → P (record d { values = values })
@@ -60,7 +60,7 @@ module _ (t : ℕ) (P : Device → Type 0) (k : IsKept t P) where
 
   consumer_kept : (sub : ℕ) (d : Device) → P d → P (consumer_written sub d)
   unfolding consumer_written
-  consumer_kept sub d h = cleared (is_over d.consumers (consumers_written sub d.consumers)) _ (k.forgotten d sub h)
+  consumer_kept sub d h = cleared (is_over d.consumers (consumers_written sub d.values d.consumers)) _ (k.forgotten d sub h)
 
   own_kept : (place : ℕ × ℕ) (d : Device) → P d → P (after_own_write t place d)
   unfolding after_own_write
@@ -89,7 +89,7 @@ module _ (t : ℕ) (P : Device → Type 0) (k : IsKept t P) where
   pub control_kept : (producer : ℕ) (d : Device) → P d → P (error_control t producer d)
   unfolding error_control
   control_kept producer d h =
-      let after : Device = record d { consumers = all_heard t producer d.values d.consumers } in
+      let after : Device = record d { consumers = all_heard t producer d.consumers } in
       one_of P (is_over d.consumers after.consumers) _ after (emergency_kept 0x0000 _ (cleared true after (k.heard d producer h))) (k.heard d producer h)
 
   entry_kept : (shape : Shaped) (entry : ℕ) (bits : List ℕ) (d : Device) → P d → P (entry_taken t shape entry bits d)

@@ -151,7 +151,7 @@ cleared_silent false d h = h
 
 consumer_silent : (sub : ℕ) (d : Device) → IsSilent d → IsSilent (consumer_written sub d)
 unfolding consumer_written
-consumer_silent sub d h = cleared_silent _ _ (unchanged d (record d { consumers = consumers_written sub d.consumers }) refl refl refl h)
+consumer_silent sub d h = cleared_silent _ _ (unchanged d (record d { consumers = consumers_written sub d.values d.consumers }) refl refl refl h)
 
 own_silent : (t : ℕ) (place : ℕ × ℕ) (d : Device) → IsSilent d → IsSilent (after_own_write t place d)
 unfolding after_own_write
@@ -166,7 +166,7 @@ set_is_silent t place bytes d h = one_of IsSilent d.has_power _ d (own_silent t 
 control_silent : (t producer : ℕ) (d : Device) → IsSilent d → IsSilent (error_control t producer d)
 unfolding error_control
 control_silent t producer d h =
-    let after : Device = record d { consumers = all_heard t producer d.values d.consumers } in
+    let after : Device = record d { consumers = all_heard t producer d.consumers } in
     let now : IsSilent after = unchanged d after refl refl refl h in
     one_of IsSilent (is_over d.consumers after.consumers) _ after (told_silent 0x0000 (without_error true after) (cleared_silent true after now)) now
 

@@ -7,4 +7,4 @@ pub returns : goal.returns
 unfolding consumers_of
 returns c =
     let last : c.loop-i.i ≡ 255 = omega arith in
-    c.loop-i.invariant ∙ ap (λ (n : ℕ). map waiting_for_start (subs_to c.args.shape.now n)) last ∙ all c.args.shape.now
+    c.loop-i.invariant ∙ ap (λ (n : ℕ). map (waiting_for_start c.args.values.now) (subs_to c.args.shape.now n)) last ∙ all c.args.shape.now c.args.values.now

@@ -5,4 +5,4 @@ use Rattle.co_profile.proofs.consumers.consumers_of.Given as goal
 
 -- those of the sub-indices so far are there
 abbrev pub invariant-loop-i : goal.invariant-loop-i
-invariant-loop-i l = l.consumers.items ≡ map waiting_for_start (subs_to l.shape l.i)
+invariant-loop-i l = l.consumers.items ≡ map (waiting_for_start l.values) (subs_to l.shape l.i)
