@@ -1,5 +1,5 @@
 #!/usr/bin/env python3
-"""Times the trace of a network of 126 nodes, an instant at each microsecond, and takes its peak memory.
+"""Times the trace of a network of 126 nodes, an instant at each due moment, and takes its peak memory.
 
 Takes the path of the built program, and runs it over scripts on its standard input, at 1000 kbit/s and
 to a horizon of 1,000,000 microseconds:

@@ -30,7 +30,7 @@ pub fn two_images()
 
 /// A bus at rest does nothing before its next due moment: an instant changes nothing, tells nothing and reads
 /// nothing. That moment is the least of its due moments and the start of its next window.
-#[tactic(auto, using(can_bus::proofs::DueLemmas::due_later, can_bus::proofs::QuietLemmas::quiet))]
+#[tactic(auto, using(can_bus::proofs::QuietLemmas::quiet))]
 pub fn before_a_due_moment_nothing_happens()
     ensures least { (t : ℕ) (s : Bus) → (t < next_due s) ↔ ((t < s.window) × All (λ m. t < m) (moments s)) }
     ensures quiet { (t : ℕ) (s : Bus) → IsAtRest s → t < next_due s → instant t s ≡ Answer (s, []) }
@@ -38,7 +38,7 @@ pub fn before_a_due_moment_nothing_happens()
 
 /// Under a coherent image each instant from the power-on on leaves a bus at rest, whose due moments all lie
 /// ahead.
-#[tactic(auto, using(can_bus::proofs::DueRunLemmas::before_first, can_bus::proofs::DueRunLemmas::before_next, can_bus::proofs::DueRunLemmas::at_rest_after, can_bus::proofs::DueRunLemmas::due_past))]
+#[tactic(auto, using(can_bus::proofs::DueRunLemmas::before_first, can_bus::proofs::DueRunLemmas::before_next, can_bus::proofs::DueRunLemmas::due_past))]
 pub fn each_instant_leaves_a_bus_at_rest()
     ensures first { (image : Image) → IsCoherent image → IsJustBefore 0 (outcome power_on image) }
     ensures each { (image : Image) → IsCoherent image → (t : ℕ) (s : Bus) → IsJustBefore t s → IsJustBefore (t + 1) (outcome (instant t s) image).0 }
@@ -48,7 +48,6 @@ pub fn each_instant_leaves_a_bus_at_rest()
 
 /// Under a coherent image the run over due moments is the run over all moments: the same lines, the same end
 /// and the same reads.
-#[tactic(auto, using(can_bus::proofs::DueRunLemmas::due_run_is_run))]
 pub fn the_run_over_due_moments_is_the_run()
     ensures { (image : Image) (end : ℕ) → IsCoherent image → IsSameUnder image (due_run end) (run end) }
 {}

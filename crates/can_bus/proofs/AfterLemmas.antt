@@ -1,9 +1,9 @@
 -- After an instant every due moment lies ahead, and the devices rest.
-use Rattle.std.proofs.Common.{◌≡◌, ℕ, zero, suc, ◌+◌, ◌*◌, ◌<◌, ◌≤◌, Bool, true, false, List, [], ◌∷◌, ◌++◌, map, Option, Some, None, refl, sym, ap, ◌∙◌, arith}
-use Rattle.std.specs.Prelude.{All, ◌==◌, flat_map, if◌then◌else◌, remove, slice_set}
+use Rattle.std.proofs.Common.{◌≡◌, ℕ, zero, suc, ◌+◌, ◌*◌, ◌<◌, ◌≤◌, Bool, true, false, List, [], ◌∷◌, ◌++◌, map, Option, Some, None, refl, arith}
+use Rattle.std.specs.Prelude.{All, ◌==◌, if◌then◌else◌, remove, slice_set}
 use Rattle.std.specs.List.{AllByRecursion}
 use Rattle.std.proofs.lemmas.Bool.Decides.{nat_tests}
-use Rattle.std.proofs.lemmas.List.Elements.{All-cons, All-from_recursion, All-head, All-nil}
+use Rattle.std.proofs.lemmas.List.Elements.{All-cons, All-head, All-nil}
 use Rattle.asking.specs.Asking.{Asking, outcome}
 use Rattle.bus_events.specs.Each.{each}
 use Rattle.bus_events.specs.Events.{events_at, happens, power_at, set_at}
@@ -16,7 +16,6 @@ use Rattle.can_frame.specs.declared.waiting.Waiting.{Waiting}
 use Rattle.co_device.specs.Device as device
 use Rattle.co_device.specs.Device.{Device, ran}
 use Rattle.co_parts.specs.Contents.{Content, Image}
-use Rattle.co_parts.specs.Images.{IsCoherent}
 use Rattle.co_parts.specs.Moments.{moments_of}
 use Rattle.co_parts.specs.declared.part.Part.{Part}
 use Rattle.co_profile.specs.Consumers as consumers
@@ -35,7 +34,7 @@ use Rattle.nmt_boot.specs.Ahead.{IsAhead as IsManagerAhead}
 use Rattle.nmt_boot.specs.Manager as manager
 use Rattle.nmt_boot.specs.Manager.{Manager}
 use Rattle.nmt_boot.specs.declared.note.Note.{Note as Noted}
-use Rattle.can_bus.specs.Bus.{Bus, after_events, after_nodes, delivered, device_at, devices_after, ended, events_run, from_delivery_on, frame_sent, hears, in_new_window, instant, managed, manager_after, manager_hears, nodes_at, on_wire, sender_place, slot_of, slot_started, start_on, started, window_begun, winner}
+use Rattle.can_bus.specs.Bus.{Bus, delivered, device_at, devices_after, ended, events_run, from_delivery_on, frame_sent, hears, instant, managed, manager_after, manager_hears, on_wire, sender_place, slot_started, start_on, started, window_begun, winner}
 use Rattle.can_bus.specs.declared.slot.Slot.{Slot}
 use Rattle.can_bus.proofs.DueLemmas.{AreFrom, DevicesFrom, SlotFrom, splits}
 use Rattle.can_bus.proofs.InstantLemmas.{begun, outcome_delivery, outcome_instant, run_by_events}

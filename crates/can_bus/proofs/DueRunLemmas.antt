@@ -1,11 +1,11 @@
 -- The run over due moments is the run.
 use Rattle.bus_events.specs.Each.{each}
-use Rattle.std.proofs.Common.{true, ◌≡◌, ℕ, zero, suc, ◌+◌, ◌*◌, ◌/◌, ◌<◌, ◌≤◌, List, [], ◌∷◌, ◌++◌, Option, Some, None, length, get_or, refl, sym, ap, ◌∙◌, arith}
+use Rattle.std.proofs.Common.{true, ◌≡◌, ℕ, zero, suc, ◌+◌, ◌<◌, ◌≤◌, List, [], ◌∷◌, ◌++◌, length, get_or, refl, sym, ap, ◌∙◌, arith}
 use Rattle.std.specs.Prelude.{All}
 use Rattle.std.specs.List.{AllByRecursion}
 use Rattle.std.proofs.lemmas.List.Elements.{All-from_recursion}
 use Rattle.asking.specs.Agenda.{dues, IsSameUnder}
-use Rattle.asking.specs.Asking.{Answer, outcome, reads, turns}
+use Rattle.asking.specs.Asking.{outcome, reads, turns}
 use Rattle.asking.proofs.DueLemmas.{dues_same}
 use Rattle.asking.proofs.QuestionLemmas.{outcome_bind, reads_bind}
 use Rattle.can_frame.specs.Frames.{bit_time}
@@ -15,13 +15,12 @@ use Rattle.co_parts.specs.Contents.{Image, roster_of}
 use Rattle.co_parts.specs.Images.{IsCoherent, IsRoster, bit_rates}
 use Rattle.co_parts.specs.declared.part.Part.TheVariants.{Roster}
 use Rattle.co_parts.specs.declared.roster.Roster.{Roster as Network}
-use Rattle.device_laws.specs.Ahead.{IsAhead}
 use Rattle.device_laws.specs.Rest.{Rests}
-use Rattle.can_bus.specs.Bus.{Bus, instant, power_on, power_on_of, switched_on, without_power}
+use Rattle.can_bus.specs.Bus.{Bus, instant, power_on, switched_on, without_power}
 use Rattle.can_bus.specs.Dues.{IsAtRest, IsJustBefore, due_run, least, moments, next_due}
 use Rattle.can_bus.specs.Runs.{run}
 use Rattle.can_bus.proofs.AfterLemmas.{instant_past}
-use Rattle.can_bus.proofs.DueLemmas.{AreFrom, due_from, from_parts, parts_from}
+use Rattle.can_bus.proofs.DueLemmas.{due_from, from_parts, parts_from}
 use Rattle.can_bus.proofs.PowerLemmas.{outcome_power_on_of}
 use Rattle.can_bus.proofs.QuietLemmas.{quiet}
 use Rattle.can_bus.proofs.SettledLemmas.{instant_settles}

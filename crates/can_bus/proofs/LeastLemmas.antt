@@ -1,5 +1,5 @@
 -- The least due moment, part by part.
-use Rattle.std.proofs.Common.{◌≡◌, ℕ, suc, ◌+◌, ◌<◌, ◌≤◌, List, [], ◌∷◌, ◌++◌, map, drop, length, get_or, Option, Some, None, refl, sym, ap, ◌∙◌, arith}
+use Rattle.std.proofs.Common.{◌≡◌, ℕ, suc, ◌+◌, ◌<◌, ◌≤◌, List, [], ◌∷◌, ◌++◌, drop, length, get_or, Option, Some, None, refl, sym, ap, ◌∙◌, arith}
 use Rattle.std.specs.Prelude.{flat_map, min}
 use Rattle.std.proofs.Math.Seq.{drop-cons}
 use Rattle.std.proofs.lemmas.List.{drop_all}
@@ -10,7 +10,7 @@ use Rattle.co_parts.specs.Moments.{earlier, earliest, moments_of}
 use Rattle.nmt_boot.specs.Manager as manager
 use Rattle.nmt_boot.specs.Manager.{Manager}
 use Rattle.can_bus.specs.Bus.{Bus}
-use Rattle.can_bus.specs.Dues.{least, moments, next_due, slot_moments, step_moments}
+use Rattle.can_bus.specs.Dues.{least, next_due, slot_moments, step_moments}
 
 -- of two lists
 pub least_append : (one : ℕ) (xs ys : List ℕ) → least one (xs ++ ys) ≡ least (least one ys) xs

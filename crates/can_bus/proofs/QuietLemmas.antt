@@ -1,14 +1,13 @@
 -- Before a bus is due nothing happens.
-use Rattle.std.proofs.Common.{◌≡◌, ℕ, ◌+◌, ◌<◌, ◌≤◌, Bool, true, false, List, [], ◌∷◌, ◌++◌, map, length, Option, Some, None, refl, sym, ap, ◌∙◌, arith}
+use Rattle.std.proofs.Common.{◌≡◌, ℕ, ◌+◌, ◌<◌, ◌≤◌, false, List, [], ◌∷◌, map, Option, Some, None, refl, arith}
 use Rattle.std.specs.Prelude.{All, ◌==◌}
 use Rattle.std.specs.List.{AllByRecursion}
 use Rattle.std.proofs.lemmas.Bool.Decides.{nat_tests}
 use Rattle.std.proofs.lemmas.List.Elements.{All-head, All-tail}
-use Rattle.asking.specs.Asking.{Asking, Answer}
+use Rattle.asking.specs.Asking.{Answer}
 use Rattle.bus_events.specs.Events.{events_at}
 use Rattle.bus_events.specs.Steps.{LieFrom, has_time, steps_due, steps_left}
-use Rattle.can_frame.specs.Winner.{contenders, contenders_of, winner_of}
-use Rattle.can_frame.specs.declared.contender.Contender.{Contender}
+use Rattle.can_frame.specs.Winner.{contenders, contenders_of}
 use Rattle.can_frame.specs.declared.waiting.Waiting.{Waiting}
 use Rattle.co_device.specs.Device as device
 use Rattle.co_device.specs.Device.{Device, ran}
@@ -17,11 +16,10 @@ use Rattle.device_laws.proofs.RestLemmas.{quiet_at_rest}
 use Rattle.device_laws.specs.Rest.{Rests}
 use Rattle.nmt_boot.proofs.MomentLemmas.{quiet as quiet_timers}
 use Rattle.nmt_boot.specs.Ahead.{IsAhead}
-use Rattle.nmt_boot.specs.Manager.{Manager, timers}
+use Rattle.nmt_boot.specs.Manager.{Manager}
 use Rattle.can_bus.specs.Bus.{Bus, after_devices, after_window, delivered, ended, events_run, from_delivery_on, instant, lists, managed, manager_hears, nodes_at, on_wire, slot_started, start_on, window_begun, winner}
 use Rattle.can_bus.specs.Dues.{IsAtRest, next_due}
 use Rattle.can_bus.specs.Runs.{IsIdle, IsSettled, NoneWaits}
-use Rattle.can_bus.specs.declared.line.Line.{Line}
 use Rattle.can_bus.specs.declared.slot.Slot.{Slot}
 use Rattle.can_bus.proofs.DueLemmas.{AreFrom, DevicesFrom, SlotFrom, from_due, parts_from}
 

@@ -1,18 +1,13 @@
 -- A trace runs due moments alone.
-use Rattle.std.proofs.Common.{◌≡◌, ℕ, ◌+◌, ◌-◌, ◌<◌, ◌≤◌, ◌⊎◌, inl, inr, Bool, true, false, List, [], ◌++◌, refl, sym, ap, ◌∙◌, arith}
-use Rattle.std.specs.Prelude.{All, nat_le}
-use Rattle.std.specs.List.{AllByRecursion}
+use Rattle.std.proofs.Common.{◌≡◌, ℕ, ◌+◌, ◌-◌, ◌<◌, ◌≤◌, Bool, true, false, List, [], ◌++◌, refl, sym, ap, ◌∙◌, arith}
+use Rattle.std.specs.Prelude.{nat_le}
 use Rattle.std.proofs.lemmas.Bool.Decides.{nat_tests}
 use Rattle.asking.specs.Asking.{Answer, outcome, turns}
 use Rattle.asking.proofs.LoopLemmas.{jumped, turned_told}
-use Rattle.co_device.specs.Device as device
-use Rattle.co_device.specs.Device.{Device, ran}
 use Rattle.co_parts.specs.Contents.{Image}
 use Rattle.co_parts.specs.Images.{IsCoherent}
-use Rattle.device_laws.specs.Ahead.{IsAhead}
-use Rattle.device_laws.specs.Rest.{Rests}
 use Rattle.can_bus.specs.Bus.{Bus, instant}
-use Rattle.can_bus.specs.Dues.{IsJustBefore, moments, next_due}
+use Rattle.can_bus.specs.Dues.{IsJustBefore, next_due}
 use Rattle.can_bus.specs.declared.line.Line.{Line}
 use Rattle.can_bus.proofs.DueLemmas.{due_from, from_due, parts_from}
 use Rattle.can_bus.proofs.DueRunLemmas.{before_next}

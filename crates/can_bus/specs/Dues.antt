@@ -1,5 +1,5 @@
 -- When a bus is due (this profile's own).
-use Rattle.std.specs.Prelude.{◌≡◌, ℕ, ◌<◌, ◌≤◌, All, min, List, [], ◌∷◌, ◌++◌, flat_map, map, Option, Some, None}
+use Rattle.std.specs.Prelude.{ℕ, ◌<◌, ◌≤◌, All, min, List, [], ◌∷◌, ◌++◌, flat_map, map, Option, Some, None}
 use Rattle.asking.specs.Agenda.{dues}
 use Rattle.asking.specs.Asking.{Asking, bind}
 use Rattle.co_parts.specs.Contents.{Content}

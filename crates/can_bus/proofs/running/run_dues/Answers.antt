@@ -1,4 +1,4 @@
-use Rattle.std.proofs.Common.{◌<◌, ◌≤◌, ◌++◌, ◌-◌, ◌∙◌, arith, ap, sym, refl}
+use Rattle.std.proofs.Common.{◌<◌, ◌++◌, ◌∙◌, arith, ap, sym, refl}
 use Rattle.std.proofs.lemmas.List.{append-nil}
 use Rattle.can_bus.proofs.TraceLemmas.{first_ready, first_told, next_later, next_ready, next_told, none_from}
 use Rattle.can_bus.proofs.running.run_dues.Goals as goal

@@ -10,6 +10,9 @@ trace-requires-clause-soon c =
     let limit = between 0 10000000 c.self.inside.project.horizon c.keeps_to_rules.ensures.horizon in
     omega (arith, limit.1, c.horizon-horizon.ensures)
 
+pub trace-requires-clause-coherent : goal.trace-requires-clause-coherent
+trace-requires-clause-coherent c = c.in_ok-parts.ensures.coherent
+
 pub returns-clause-lines : goal.returns-clause-lines
 unfolding trace_of
 returns-clause-lines c =
