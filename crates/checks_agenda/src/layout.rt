@@ -44,7 +44,9 @@ impl Layout {
         let Some(mut block) = self.block.take() else {
             return Ok(());
         };
-        block.lines.push(Vec::from_slice(self.alloc, line.as_bytes())?)?;
+        block
+            .lines
+            .push(Vec::from_slice(self.alloc, line.as_bytes())?)?;
         if block.left > 1 {
             block.left -= 1;
             self.block = Some(block);

@@ -51,7 +51,10 @@ pub fn show_run<W: Write>(alloc: Global, out: &mut W, project: &Project) -> Resu
     let comes_to_the_same = copy.same(&bus) && third.as_slice() == second.as_slice();
     let count = first.len() + second.len();
     let told = lines.as_slice().len();
-    writeln!(out, "  turns {count}, lines {told}, equal {is_equal}, moved {differs}, the same {comes_to_the_same}")?;
+    writeln!(
+        out,
+        "  turns {count}, lines {told}, equal {is_equal}, moved {differs}, the same {comes_to_the_same}"
+    )?;
     write!(out, "  at")?;
     for moment in first.iter().chain(second.iter()).take(SHOWN) {
         write!(out, " {moment}")?;
