@@ -2,3 +2,4 @@ pub mod EachLemmas
 pub mod EventLemmas
 pub mod OtherLemmas
 pub mod StepLemmas
+pub mod TimeLemmas

@@ -1,5 +1,5 @@
 -- The events of a window, in order of time and then of number.
-use Rattle.std.specs.Prelude.{◌≤◌, ◌==◌, ℕ, Bool, All, List, [], take, drop, Option, filter, nat_le}
+use Rattle.std.specs.Prelude.{◌≤◌, ◌==◌, ℕ, Bool, All, List, [], take, drop, map, Option, filter, nat_le}
 use Rattle.std.specs.List.{AllByRecursion, prefix_len}
 use Rattle.std.specs.declared.rc.Rc.{Rc}
 use Rattle.co_parts.specs.Contents.{or_else}
@@ -14,6 +14,10 @@ in_window window = or_else [] (shared window)
 -- the events change no object of a PDO, and set values of at most 512 bytes
 abbrev pub AreFree : List TimedStep → Type 0
 AreFree steps = AllByRecursion (λ step. IsFree step.step) steps
+
+-- the times of events
+abbrev pub times : List TimedStep → List ℕ
+times steps = map (λ step. step.time) steps
 
 abbrev pub has_time : ℕ → TimedStep → Bool
 has_time t step = step.time == t

@@ -2,10 +2,11 @@
 
 ghost use Rattle.std.specs.Prelude.{◌≡◌, ◌≤◌, ◌↔◌, [], length, IfOk, IsTrue};
 ghost use Rattle.std.specs.List.{prefix_len};
-ghost use Rattle.bus_events.specs.Steps.{has_time, in_window, steps_due, steps_left as are_left, AreFree};
+ghost use Rattle.co_parts.specs.Moments.{earliest};
+ghost use Rattle.bus_events.specs.Steps.{has_time, in_window, steps_due, steps_left as are_left, times, AreFree};
 
 use crate::same_steps::same_steps;
-use co_parts::Window;
+use co_parts::{Window, earlier};
 use co_scenario::TimedStep;
 use std::alloc::AllocError;
 use std::marker::Model;
@@ -16,18 +17,20 @@ use std::rc::Rc;
 pub struct StepsLeft {
     window: Option<Rc<Window>>,
     next: usize,
+    first: Option<u64>,
 }
 
 impl Model for StepsLeft {
-    ghost use Rattle.std.specs.Prelude.{◌≤◌, List, drop, length};
-    ghost use Rattle.bus_events.specs.Steps.{in_window, AreFree};
+    ghost use Rattle.std.specs.Prelude.{◌≡◌, ◌≤◌, List, drop, length};
+    ghost use Rattle.bus_events.specs.Steps.{in_window, times, AreFree};
+    ghost use Rattle.co_parts.specs.Moments.{earliest};
     ghost use Rattle.co_scenario.specs.declared.timed_step.TimedStep.{TimedStep};
 
     ghost Value = { List TimedStep };
 
     ghost view = { λ steps. drop steps.next (in_window steps.window) };
 
-    ghost invariant = { λ steps. (steps.next ≤ length (in_window steps.window)) × AreFree (in_window steps.window) };
+    ghost invariant = { λ steps. (steps.next ≤ length (in_window steps.window)) × AreFree (in_window steps.window) × (steps.first ≡ earliest (times (drop steps.next (in_window steps.window)))) };
 }
 
 /// The events of a window; none where it is absent.
@@ -51,6 +54,17 @@ fn count_at(steps: &[TimedStep], t: u64) -> usize
         .count()
 }
 
+/// The first of the times of events. Walks them.
+fn first_of(steps: &[TimedStep]) -> Option<u64>
+    ensures { result ≡ earliest (times steps.now) }
+{
+    let mut first = None;
+    for step in steps {
+        first = earlier(first, Some(u64::from(step.time)));
+    }
+    first
+}
+
 impl StepsLeft {
     /// No events. Takes no memory.
     pub fn none() -> StepsLeft
@@ -59,6 +73,7 @@ impl StepsLeft {
         StepsLeft {
             window: None,
             next: 0,
+            first: None,
         }
     }
 
@@ -67,7 +82,12 @@ impl StepsLeft {
         requires { AreFree (in_window window) }
         ensures { result ≡ in_window window }
     {
-        StepsLeft { window, next: 0 }
+        let first = first_of(steps_of(&window));
+        StepsLeft {
+            window,
+            next: 0,
+            first,
+        }
     }
 
     /// The events.
@@ -76,6 +96,13 @@ impl StepsLeft {
         ensures free { AreFree result.now }
     {
         &steps_of(&self.window)[self.next..]
+    }
+
+    /// The first of their times, in microseconds, if one is left. Takes constant time.
+    pub fn first(&self) -> Option<u64>
+        ensures { result ≡ earliest (times self.now) }
+    {
+        self.first
     }
 
     /// The events that are due at the moment t: those at the front that have this time. Takes time by their
@@ -89,14 +116,18 @@ impl StepsLeft {
         &steps[..count_at(steps, t)]
     }
 
-    /// Forgets the events that are due at the moment t. Takes time by their number.
+    /// Forgets the events that are due at the moment t. Takes time by the number of those that are left, where
+    /// one is due.
     #[tactic(auto, unfolding(crate::specs::Steps::steps_left))]
     pub fn forget(&mut self, t: u64)
         ensures { self.new ≡ are_left t self.old }
     {
         let steps = steps_of(&self.window);
         let count = count_at(&steps[self.next..], t);
-        self.next += count;
+        if count > 0 {
+            self.next += count;
+            self.first = first_of(&steps[self.next..]);
+        }
     }
 
     /// Equal events. Takes no memory.
@@ -110,6 +141,7 @@ impl StepsLeft {
         Ok(StepsLeft {
             window,
             next: self.next,
+            first: self.first,
         })
     }
 

@@ -34,7 +34,8 @@ use Rattle.nmt_boot.specs.Ahead.{IsAhead as IsManagerAhead}
 use Rattle.nmt_boot.specs.Manager as manager
 use Rattle.nmt_boot.specs.Manager.{Manager}
 use Rattle.nmt_boot.specs.declared.note.Note.{Note as Noted}
-use Rattle.can_bus.specs.Bus.{Bus, delivered, device_at, devices_after, ended, events_run, from_delivery_on, frame_sent, hears, instant, managed, manager_after, manager_hears, on_wire, sender_place, slot_started, start_on, started, window_begun, winner}
+use Rattle.bus_devices.specs.Senders.{device_at, sender_place}
+use Rattle.can_bus.specs.Bus.{Bus, delivered, devices_after, ended, events_run, from_delivery_on, frame_sent, hears, instant, managed, manager_after, manager_hears, on_wire, slot_started, start_on, started, window_begun, winner}
 use Rattle.can_bus.specs.declared.slot.Slot.{Slot}
 use Rattle.can_bus.proofs.DueLemmas.{AreFrom, DevicesFrom, SlotFrom, splits}
 use Rattle.can_bus.proofs.InstantLemmas.{begun, outcome_delivery, outcome_instant, run_by_events}

@@ -1,7 +1,6 @@
 -- The winner, and the list where it waits.
-use Rattle.std.proofs.Common.{◌≡◌, ℕ, suc, ◌<◌, ◌≤◌, Bool, true, false, List, [], ◌∷◌, ◌++◌, length, map, get_or, Option, Some, None, ◌⊎◌, inl, inr, refl, sym, ap, ◌∙◌, arith}
-use Rattle.std.specs.Prelude.{if◌then◌else◌, remove, slice_get}
-use Rattle.std.proofs.Math.ListN.{set}
+use Rattle.std.proofs.Common.{◌≡◌, ℕ, suc, ◌<◌, ◌≤◌, Bool, true, false, List, [], ◌∷◌, ◌++◌, length, map, get_or, Option, Some, None, ◌⊎◌, inl, inr, refl, sym, subst, ap, ◌∙◌, arith}
+use Rattle.std.specs.Prelude.{if◌then◌else◌, slice_get}
 use Rattle.std.specs.List.{position, position_or_len}
 use Rattle.std.proofs.lemmas.Bool.{false≢true}
 use Rattle.std.proofs.lemmas.Bool.Decides.{nat_tests}
@@ -17,7 +16,8 @@ use Rattle.can_frame.specs.declared.waiting.Waiting.{Waiting}
 use Rattle.can_frame.proofs.WinnerLemmas.{contender_at, length-contenders_of, winner-append, winner-unique, winner_of-wins}
 use Rattle.co_device.specs.Device.{Device, without_power}
 use Rattle.nmt_boot.specs.Manager.{Manager}
-use Rattle.can_bus.specs.Bus.{contends_with, device_at, devices_after, frame_sent, is_contender, lists, sender_place, winner}
+use Rattle.bus_devices.specs.Senders.{contends_with, device_at, is_contender, sender_place}
+use Rattle.can_bus.specs.Bus.{frame_sent, lists, winner}
 
 -- ---- who wins is who is found
 
@@ -121,12 +121,12 @@ module _ (c : Contender) (ds : List Device) (i : ℕ) (found : Some i ≡ sender
   same_device : (d : Device) → get_or ds i d ≡ device_at ds i
   same_device d = get_or_default ds i d (without_power false 0) (sends_at d).0
 
-  pub device_sends : (m : Manager) (d : Device) (w : Waiting) → slice_get (get_or ds i d).waiting c.place ≡ Some w → w.frame ≡ frame_sent c (sender_place c ds) ds m
-  device_sends m d w h =
-      rw (← found, ← same_device d) (ap (λ (x : Waiting). x.frame) (sym (get_or_from_slice_get (get_or ds i d).waiting c.place w _ h)))
+  pub device_within : c.place < length (device_at ds i).waiting
+  device_within = let d = without_power false 0 in subst (λ (x : Device). c.place < length x.waiting) (same_device d) (sends_at d).1
 
-  pub device_left : (d new : Device) → new ≡ record (get_or ds i d) { waiting = remove (get_or ds i d).waiting c.place } → set ds i new ≡ devices_after c (sender_place c ds) ds
-  device_left d new h = rw (← found, ← same_device d, h)
+  pub device_sends : (m : Manager) (w : Waiting) → slice_get (device_at ds i).waiting c.place ≡ Some w → w.frame ≡ frame_sent c (sender_place c ds) ds m
+  device_sends m w h =
+      rw (← found) (ap (λ (x : Waiting). x.frame) (sym (get_or_from_slice_get (device_at ds i).waiting c.place w _ h)))
 
 -- by the manager, where no device is found
 module _ (c : Contender) (ds : List Device) (m : Manager) (found : None ≡ sender_place c ds) where

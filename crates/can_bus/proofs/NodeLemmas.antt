@@ -1,5 +1,5 @@
 -- What the nodes do, one after another.
-use Rattle.std.proofs.Common.{◌≡◌, ℕ, List, ◌+◌, ◌++◌, Option, ◌∙◌, ap, refl, length, length-append, map}
+use Rattle.std.proofs.Common.{◌≡◌, ℕ, List, [], ◌∷◌, ◌+◌, ◌++◌, Option, Some, None, ◌∙◌, ap, sym, refl, length, length-append, map}
 use Rattle.std.proofs.lemmas.List.{append-nil}
 use Rattle.asking.specs.Asking.{Answer, Seen, outcome, reads, followed}
 use Rattle.asking.proofs.QuestionLemmas.{outcome_bind, reads_bind, followed_bind, followed_last}
@@ -7,8 +7,66 @@ use Rattle.co_parts.specs.Contents.{Content, Image}
 use Rattle.co_parts.specs.declared.part.Part.{Part}
 use Rattle.co_device.specs.Device.{Device, ran}
 use Rattle.nmt_boot.specs.Manager.{Manager}
-use Rattle.can_bus.specs.Bus.{after_devices, delivered, managed, nodes_at}
+use Rattle.bus_events.specs.Each.{each}
+use Rattle.bus_events.proofs.EachLemmas.{outcome_each, reads_each}
+use Rattle.device_agenda.specs.Agenda.{at_instant}
+use Rattle.can_bus.specs.Bus.{after_devices, delivered, delivery_of, hears, managed, nodes_at}
 use Rattle.can_bus.specs.declared.slot.Slot.{Slot}
+
+-- ---- a device hears what is delivered and then runs: so do all, whether each does both in turn or all do the one first
+
+module _ (t : ℕ) where
+  one_runs : (d : Device) (image : Image) → outcome (at_instant t None d) image ≡ ran t d
+  unfolding at_instant
+  one_runs d image = refl
+
+  one_asks_nothing : (d : Device) (image : Image) → reads (at_instant t None d) image ≡ []
+  unfolding at_instant
+  one_asks_nothing d image = refl
+
+  all_run : (ds : List Device) (image : Image) → outcome (each (at_instant t None) ds) image ≡ map (ran t) ds
+  all_run [] image = refl
+  all_run (d ∷ ds) image = outcome_each (at_instant t None) d ds image ∙ rw (one_runs d image, all_run ds image) refl
+
+  all_ask_nothing : (ds : List Device) (image : Image) → reads (each (at_instant t None) ds) image ≡ []
+  all_ask_nothing [] image = refl
+  all_ask_nothing (d ∷ ds) image = reads_each (at_instant t None) d ds image ∙ rw (one_asks_nothing d image, all_ask_nothing ds image) refl
+
+  module _ (slot : Slot) where
+    one_hears : (d : Device) (image : Image) → outcome (at_instant t (delivery_of (Some slot)) d) image ≡ ran t (outcome (hears t slot d) image)
+    unfolding at_instant hears Rattle.device_agenda.specs.Agenda.hears
+    one_hears d image = outcome_bind (hears t slot d) (λ heard. Answer (ran t heard)) image
+
+    one_asks : (d : Device) (image : Image) → reads (at_instant t (delivery_of (Some slot)) d) image ≡ reads (hears t slot d) image
+    unfolding at_instant hears Rattle.device_agenda.specs.Agenda.hears
+    one_asks d image = reads_bind (hears t slot d) (λ heard. Answer (ran t heard)) image ∙ append-nil _
+
+    all_hear : (ds : List Device) (image : Image) → outcome (each (at_instant t (delivery_of (Some slot))) ds) image ≡ map (ran t) (outcome (each (hears t slot) ds) image)
+    all_hear [] image = refl
+    all_hear (d ∷ ds) image =
+        outcome_each (at_instant t (delivery_of (Some slot))) d ds image
+        ∙ rw (one_hears d image, all_hear ds image) refl
+        ∙ ap (map (ran t)) (sym (outcome_each (hears t slot) d ds image))
+
+    all_ask : (ds : List Device) (image : Image) → reads (each (at_instant t (delivery_of (Some slot))) ds) image ≡ reads (each (hears t slot) ds) image
+    all_ask [] image = refl
+    all_ask (d ∷ ds) image =
+        reads_each (at_instant t (delivery_of (Some slot))) d ds image
+        ∙ rw (one_asks d image, all_ask ds image) refl
+        ∙ sym (reads_each (hears t slot) d ds image)
+
+  pub all_outcome : (slot : Option Slot) (ds : List Device) (image : Image) → outcome (each (at_instant t (delivery_of slot)) ds) image ≡ map (ran t) (outcome (delivered t slot ds) image)
+  unfolding delivered
+  all_outcome None ds image = all_run ds image
+  all_outcome (Some slot) ds image = all_hear slot ds image
+
+  pub all_reads : (slot : Option Slot) (ds : List Device) (image : Image) → reads (each (at_instant t (delivery_of slot)) ds) image ≡ reads (delivered t slot ds) image
+  unfolding delivered
+  all_reads None ds image = all_ask_nothing ds image
+  all_reads (Some slot) ds image = all_ask slot ds image
+
+  pub all_followed : (slot : Option Slot) (ds : List Device) (seen : Seen Part Content) → followed (each (at_instant t (delivery_of slot)) ds) seen ≡ followed (delivered t slot ds) seen
+  all_followed slot ds seen = rw (all_reads slot ds seen.image) refl
 
 module _ (t : ℕ) (slot : Option Slot) (m : Manager) where
   outcome_last : (ds : List Device) (image : Image) → outcome (after_devices t slot m ds) image ≡ (ds, outcome (managed t slot m) image)
@@ -42,7 +100,14 @@ module _ (t : ℕ) (slot : Option Slot) (m : Manager) where
         followed_bind (delivered t slot ds) (λ heard. after_devices t slot m (map (ran t) heard)) seen
         ∙ followed_after (map (ran t) (outcome (delivered t slot ds) seen.image)) (followed (delivered t slot ds) seen)
 
-    pub length_nodes : (image : Image) → length (reads (nodes_at t slot ds m) image) ≡ length (reads (delivered t slot ds) image) + length (reads (managed t slot m) image)
-    length_nodes image = rw (reads_nodes image, length-append) refl
+    -- the devices hear and run one after another: each the one and then the other
+    pub outcome_run : (image : Image) → outcome (nodes_at t slot ds m) image ≡ (outcome (each (at_instant t (delivery_of slot)) ds) image, outcome (managed t slot m) image)
+    outcome_run image = outcome_nodes image ∙ ap (λ (heard : List Device). (heard, outcome (managed t slot m) image)) (sym (all_outcome t slot ds image))
 
-pub ruleset nodes_laws = (outcome_nodes, length_nodes, followed_nodes)
+    pub followed_run : (seen : Seen Part Content) → followed (nodes_at t slot ds m) seen ≡ followed (managed t slot m) (followed (each (at_instant t (delivery_of slot)) ds) seen)
+    followed_run seen = followed_nodes seen ∙ ap (λ (after : Seen Part Content). followed (managed t slot m) after) (sym (all_followed t slot ds seen))
+
+    pub length_run : (image : Image) → length (reads (nodes_at t slot ds m) image) ≡ length (reads (each (at_instant t (delivery_of slot)) ds) image) + length (reads (managed t slot m) image)
+    length_run image = rw (reads_nodes image, all_reads t slot ds image, length-append) refl
+
+pub ruleset nodes_laws = (outcome_run, length_run, followed_run)

@@ -11,7 +11,8 @@ use Rattle.can_frame.specs.declared.waiting.Waiting.{Waiting}
 use Rattle.can_frame.proofs.WinnerLemmas.{contender_at, length-contenders_of, winner_of-wins}
 use Rattle.co_device.specs.Device.{Device, without_power}
 use Rattle.nmt_boot.specs.Manager.{Manager}
-use Rattle.can_bus.specs.Bus.{Bus, contends_with, device_at, frame_sent, lists, sender_place, slot_of, slot_started, start_on, started, winner}
+use Rattle.bus_devices.specs.Senders.{contends_with, device_at, sender_place}
+use Rattle.can_bus.specs.Bus.{Bus, frame_sent, lists, slot_of, slot_started, start_on, started, winner}
 use Rattle.can_bus.specs.Runs.{StartsWith}
 use Rattle.can_bus.specs.declared.slot.Slot.{Slot}
 use Rattle.can_bus.proofs.ArbitrationLemmas.{contends_is, manager_contends, none_found, place_within}

@@ -1,11 +1,14 @@
 -- Windows, and the events of a moment.
-use Rattle.std.proofs.Common.{◌≡◌, ℕ, List, Option, Some, None, IfSome, ◌∙◌}
+use Rattle.std.proofs.Common.{◌≡◌, ℕ, suc, false, true, List, [], ◌∷◌, length, Option, Some, None, IfSome, refl, sym, ◌∙◌, arith}
+use Rattle.std.specs.Prelude.{◌==◌}
+use Rattle.std.proofs.lemmas.Bool.{false≢true}
+use Rattle.std.proofs.lemmas.Bool.Decides.{nat_tests}
 use Rattle.std.specs.List.{AllByRecursion}
 use Rattle.std.specs.declared.rc.Rc.{Rc}
 use Rattle.std.proofs.lemmas.List.{append-nil}
 use Rattle.asking.specs.Asking.{Answer, Seen, outcome, reads, followed}
 use Rattle.asking.proofs.QuestionLemmas.{outcome_bind, reads_bind, followed_last}
-use Rattle.bus_events.proofs.StepLemmas.{free_within}
+use Rattle.bus_events.proofs.StepLemmas.{all_of_them, free_within}
 use Rattle.bus_events.specs.Events.{events_at}
 use Rattle.bus_events.specs.Steps.{AreFree, in_window, steps_due, steps_left}
 use Rattle.co_device.specs.Device.{Device}
@@ -21,6 +24,14 @@ use Rattle.can_bus.specs.Bus.{Bus, after_events, events_run}
 pub free_window : {Z : Type 0} (i : ℕ) (window : Option (Rc (List TimedStep) Z)) → IfSome (shared window) (AllByRecursion (IsWithin i)) → AreFree (in_window window)
 free_window i None h = tt
 free_window i (Some window) h = free_within i window.value h
+
+not_empty : (n : ℕ) → (suc n == 0) ≡ false
+not_empty n = grind (arith, nat_tests)
+
+-- a list of no elements
+empty_is : (steps : List TimedStep) → (length steps == 0) ≡ true → steps ≡ []
+empty_is [] e = refl
+empty_is (step ∷ steps) e = absurd (false≢true (sym (not_empty (length steps)) ∙ e))
 
 module _ (t : ℕ) (s : Bus) where
   pub outcome_events_run : (image : Image) → outcome (events_run t s) image ≡ after_events t s (outcome (events_at t (steps_due t s.steps) (s.devices, s.manager)) image)
@@ -39,5 +50,19 @@ module _ (t : ℕ) (s : Bus) where
       → after ≡ (outcome (events_at t due (before, s.manager)) image).0 → m ≡ (outcome (events_at t due (before, s.manager)) image).1 → left ≡ steps_left t s.steps
       → ◌≡◌ {A = Bus} (record s { devices = after; manager = m; steps = left }) (outcome (events_run t s) image)
   events_run_state image due left before after m e f d h l = rw (outcome_events_run, d, h, l, e, f)
+
+  -- where none is due, none runs, and none is forgotten
+  pub none_runs : steps_due t s.steps ≡ [] → events_run t s ≡ Answer s
+  unfolding events_run events_at
+  none_runs e =
+      let left : steps_left t s.steps ≡ s.steps = rw e at (all_of_them t s.steps) in
+      rw (e, left) refl
+
+  module _ (due : List TimedStep) (are : due ≡ steps_due t s.steps) (empty : (length due == 0) ≡ true) where
+    pub none_state : (image : Image) → s ≡ outcome (events_run t s) image
+    none_state image = rw (none_runs (sym are ∙ empty_is due empty)) refl
+
+    pub none_followed : (seen : Seen Part Content) → seen ≡ followed (events_run t s) seen
+    none_followed seen = rw (none_runs (sym are ∙ empty_is due empty), append-nil) refl
 
 pub ruleset events_laws = (outcome_events_run, reads_events_run, followed_events_run)

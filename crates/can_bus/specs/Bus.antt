@@ -1,9 +1,8 @@
 -- The bus at a moment, and one instant of it. All moments are absolute, in microseconds from the power-on of the network.
-use Rattle.std.specs.Prelude.{ℕ, ◌+◌, ◌*◌, ◌/◌, ◌==◌, ◌&&◌, Bool, false, true, List, [], ◌∷◌, ◌++◌, map, remove, slice_index_or, slice_set, Option, Some, None, if◌then◌else◌}
-use Rattle.std.specs.List.{position}
+use Rattle.std.specs.Prelude.{ℕ, ◌+◌, ◌*◌, ◌/◌, ◌==◌, Bool, false, true, List, [], ◌∷◌, ◌++◌, map, remove, slice_index_or, slice_set, Option, Some, None, if◌then◌else◌}
 use Rattle.asking.specs.Asking.{Asking, Answer, Ask, bind}
 use Rattle.can_frame.specs.Frames.{BaseFrame, bit_time, slot_bits}
-use Rattle.can_frame.specs.Winner.{contenders, contenders_of, winner_of}
+use Rattle.can_frame.specs.Winner.{contenders, winner_of}
 use Rattle.can_frame.specs.WaitingFrames.{waiting}
 use Rattle.can_frame.specs.declared.contender.Contender.{Contender}
 use Rattle.can_frame.specs.declared.purpose.Purpose.TheVariants.{Nmt}
@@ -19,9 +18,11 @@ use Rattle.co_scenario.specs.declared.timed_step.TimedStep.{TimedStep}
 use Rattle.nmt_boot.specs.Manager as manager
 use Rattle.nmt_boot.specs.Manager.{Manager}
 use Rattle.nmt_boot.specs.declared.note.Note.{Note as Noted}
+use Rattle.bus_devices.specs.Senders.{device_at, sender_place}
 use Rattle.bus_events.specs.Each.{each}
 use Rattle.bus_events.specs.Events.{events_at}
 use Rattle.bus_events.specs.Steps.{steps_due, steps_left}
+use Rattle.device_agenda.specs.Delivered.{Delivered}
 use Rattle.can_bus.specs.declared.line.Line.{Line}
 use Rattle.can_bus.specs.declared.line.Line.TheVariants.{Frame, Note}
 use Rattle.can_bus.specs.declared.slot.Slot.{Slot}
@@ -100,6 +101,11 @@ unfoldable pub delivered : ℕ → Option Slot → List Device → Asking Part C
 delivered t None ds = Answer ds
 delivered t (Some slot) ds = each (hears t slot) ds
 
+-- the frame with its sender
+abbrev pub delivery_of : Option Slot → Option Delivered
+delivery_of None = None
+delivery_of (Some slot) = Some (record { sender = slot.sender; frame = slot.frame })
+
 -- ---- the manager: the delivered frame, and then its timers
 
 unfoldable pub manager_hears : ℕ → Option Slot → Manager → Asking Part Content (Manager × List Noted)
@@ -121,23 +127,12 @@ note_lines t notes = map (Note t) notes
 abbrev pub lists : List Device → Manager → List (ℕ × List Waiting)
 lists ds m = map (λ d. (d.number, d.waiting)) ds ++ (m.number, m.waiting) ∷ []
 
-abbrev pub is_contender : Contender → Option Contender → Bool
-is_contender c None = false
-is_contender c (Some b) = (b.id == c.id) && ((b.node == c.node) && (b.place == c.place))
-
--- it is this device that contends with the frame
-abbrev pub contends_with : Contender → Device → Bool
-contends_with c d = is_contender c (winner_of (contenders_of (d.number, d.waiting)))
-
 -- the frame that waits at a place
 abbrev pub frame_at : List Waiting → ℕ → BaseFrame
 frame_at frames place = (slice_index_or frames place (waiting Nmt (record { id = 0; bytes = [] }))).frame
 
 abbrev pub slot_of : ℕ → ℕ → ℕ → BaseFrame → Slot
 slot_of t bit sender frame = record { end = t + slot_bits frame * bit; sender = sender; frame = frame }
-
-abbrev pub device_at : List Device → ℕ → Device
-device_at ds i = slice_index_or ds i (device.without_power false 0)
 
 -- what is sent: the frame of a device, or else of the manager
 abbrev pub frame_sent : Contender → Option ℕ → List Device → Manager → BaseFrame
@@ -152,10 +147,6 @@ devices_after c (Some i) ds = slice_set ds i (record (device_at ds i) { waiting 
 abbrev pub manager_after : Contender → Option ℕ → Manager → Manager
 manager_after c None m = record m { waiting = remove m.waiting c.place }
 manager_after c (Some i) m = m
-
--- the place of the first device that contends with the frame
-unfoldable pub sender_place : Contender → List Device → Option ℕ
-sender_place c ds = position (contends_with c) ds
 
 abbrev pub started : ℕ → Option Contender → Bus → Bus
 started t None s = s

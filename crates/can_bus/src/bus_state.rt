@@ -8,19 +8,18 @@ ghost use Rattle.can_frame.specs.Frames.{slot_bits as bits_of};
 ghost use Rattle.co_parts.specs.Contents.{first_roster as roster_of_first};
 
 use crate::arbitration::{send, winner};
-use crate::devices::{copy_all, new_devices, power_all, same_all};
-use crate::due_moments::{before_devices, before_end, before_steps, sooner};
+use crate::due_moments::{before_end, sooner};
 use crate::lines::Lines;
 use crate::nodes::run_nodes;
 use crate::parts::Parts;
 use crate::slot::Slot;
 use crate::telling::tell;
 use crate::windows::{begin_window, run_due};
+use bus_devices::{Devices, new_devices, power_all};
 use bus_events::StepsLeft;
 use can_frame::{Frame, bit_time, slot_bits};
 use co_base::Octets;
 use co_parts::{END, Roster};
-use device_agenda::ScheduledDevice;
 use nmt_boot::{Manager, Notes};
 use std::alloc::{AllocError, Global};
 use std::marker::Model;
@@ -35,7 +34,7 @@ pub struct BusState {
     pub(crate) alloc: Global,
     pub(crate) spent: bool,
     pub(crate) bit_time: u32,
-    pub(crate) devices: Vec<ScheduledDevice>,
+    pub(crate) devices: Devices,
     pub(crate) manager: Manager,
     pub(crate) wire: Option<Slot>,
     pub(crate) window: u64,
@@ -52,7 +51,7 @@ impl Model for BusState {
 
     ghost coded = { Prim.hlevel (codes, map.code {R = place_cmp} (coded× coded_ℕ coded_ℕ) (coded_list coded_ℕ)) };
 
-    ghost view = { λ bus. record { spent = bus.spent; bit_time = bus.bit_time; devices = bus.devices.items; manager = bus.manager; wire = bus.wire; window = bus.window; steps = bus.steps } };
+    ghost view = { λ bus. record { spent = bus.spent; bit_time = bus.bit_time; devices = bus.devices; manager = bus.manager; wire = bus.wire; window = bus.window; steps = bus.steps } };
 }
 
 /// The network of the first project: its manager alone.
@@ -89,7 +88,7 @@ fn power_on_of<P: Parts>(
         alloc,
         spent: false,
         bit_time: bit_time(roster.bit_rate),
-        devices,
+        devices: Devices::of(alloc, devices),
         manager,
         wire: None,
         window: 0,
@@ -141,7 +140,7 @@ fn start_slot(bus: &mut BusState, t: u64)
     }
     let best = winner(&bus.devices, &bus.manager);
     if let Some(contender) = best {
-        let frame = send(&contender, bus.devices.as_mut_slice(), &mut bus.manager);
+        let frame = send(&contender, &mut bus.devices, &mut bus.manager);
         bus.wire = Some(Slot {
             end: slot_end(t, bus.bit_time, &frame),
             sender: contender.node,
@@ -168,7 +167,7 @@ fn run_from_delivery<P: Parts>(
     let ended = take_ended(&mut bus.wire, t);
     let mut notes = Notes::new(bus.alloc);
     run_nodes(
-        bus.devices.as_mut_slice(),
+        &mut bus.devices,
         &mut bus.manager,
         t,
         &ended,
@@ -209,7 +208,7 @@ impl BusState {
             alloc,
             spent: false,
             bit_time: 1,
-            devices: Vec::new(alloc),
+            devices: Devices::none(alloc),
             manager: Manager::new(alloc),
             wire: None,
             window: 0,
@@ -243,7 +242,7 @@ impl BusState {
         if self.spent {
             return Err(AllocError);
         }
-        let devices = copy_all(self.alloc, &self.devices)?;
+        let devices = self.devices.copy()?;
         let manager = self.manager.copy()?;
         let steps = self.steps.copy()?;
         Ok(BusState {
@@ -280,7 +279,7 @@ impl BusState {
         if !self.manager.same(&other.manager) {
             return false;
         }
-        same_all(&self.devices, &other.devices)
+        self.devices.same(&other.devices)
     }
 
     /// Whether a call before found no memory.
@@ -292,15 +291,16 @@ impl BusState {
 
     /// The least moment at which something is due: a timer of a device or of the manager, the end of the
     /// frame on the wire, an event, or the start of the next window. An instant before it changes nothing
-    /// once another has run. Walks the nodes and the events that are left, and takes no memory.
+    /// once another has run. Takes time by an eighth of the devices once an instant has
+    /// run, and no memory.
     #[tactic(auto, using(crate::proofs::LeastLemmas::next_due_is))]
     pub fn next_due(&self) -> u64
         ensures { result ≡ next_due self.now }
     {
-        let first = before_steps(self.window, self.steps.as_slice());
+        let first = sooner(self.window, self.steps.first());
         let first = before_end(first, &self.wire);
         let first = sooner(first, self.manager.next_due());
-        before_devices(first, &self.devices)
+        sooner(first, self.devices.next_due())
     }
 
     /// The instant at the moment t, which is below `END`: adds what it tells to the lines. One in which

@@ -3,7 +3,6 @@
 
 mod arbitration;
 mod bus_state;
-mod devices;
 mod due_moments;
 mod line;
 mod line_texts;

@@ -2,42 +2,31 @@
 
 ghost use Rattle.std.specs.Prelude.{◌≡◌, ◌<◌, ◌≤◌, ◌+◌, ◌++◌, length, OnOk};
 ghost use Rattle.asking.specs.Asking.{followed, outcome, reads};
-ghost use Rattle.can_bus.specs.Bus.{delivered, nodes_at};
+ghost use Rattle.can_bus.specs.Bus.{delivery_of as delivery_of_slot, nodes_at};
 
-use crate::devices::{hear_all, run_all};
 use crate::managing::manage;
 use crate::parts::Parts;
 use crate::slot::Slot;
-use co_device::Shapes;
+use bus_devices::Devices;
 use co_parts::END;
-use device_agenda::ScheduledDevice;
+use device_agenda::Delivery;
 use nmt_boot::{Manager, Notes};
 use std::alloc::AllocError;
 
-/// Delivers the frame of a slot that ends at the moment t, where one does, to each device but its sender.
-#[tactic(auto, unfolding(crate::specs::Bus::delivered))]
-fn deliver<P: Shapes>(
-    devices: &mut [ScheduledDevice],
-    t: u64,
-    ended: &Option<Slot>,
-    shapes: &mut P,
-) -> Result<(), AllocError>
-    requires { t < END }
-    ensures state { OnOk result (devices.new ≡ outcome (delivered t ended.now devices.old) (P.seen shapes.old).image) }
-    ensures noted { OnOk result (P.seen shapes.new ≡ followed (delivered t ended.now devices.old) (P.seen shapes.old)) }
-    ensures counted { OnOk result (P.asks shapes.new ≤ P.asks shapes.old + length (reads (delivered t ended.now devices.old) (P.seen shapes.old).image)) }
-    ensures kept { (P.seen shapes.new).image ≡ (P.seen shapes.old).image }
+/// What is delivered where a slot ends.
+fn delivery_of(ended: &Option<Slot>) -> Option<Delivery>
+    ensures { result ≡ delivery_of_slot ended.now }
 {
     match ended {
-        None => Ok(()),
-        Some(slot) => hear_all(devices, t, slot, shapes),
+        None => None,
+        Some(slot) => Some(Delivery::of(slot.sender, slot.frame)),
     }
 }
 
 /// The delivery, the timers and TPDOs of each device, and the manager.
 #[tactic(auto, using(crate::proofs::NodeLemmas::nodes_laws))]
 pub(crate) fn run_nodes<P: Parts>(
-    devices: &mut [ScheduledDevice],
+    devices: &mut Devices,
     manager: &mut Manager,
     t: u64,
     ended: &Option<Slot>,
@@ -52,7 +41,7 @@ pub(crate) fn run_nodes<P: Parts>(
     ensures counted { OnOk result (P.asks parts.new ≤ P.asks parts.old + length (reads (nodes_at t ended.now devices.old manager.old) (P.seen parts.old).image)) }
     ensures kept { (P.seen parts.new).image ≡ (P.seen parts.old).image }
 {
-    deliver(devices, t, ended, parts)?;
-    run_all(devices, t)?;
+    let delivery = delivery_of(ended);
+    devices.instant(t, &delivery, parts)?;
     manage(manager, t, ended, parts, notes)
 }

@@ -6,9 +6,11 @@ ghost use Rattle.can_bus.specs.Bus.{events_run, window_begun};
 
 use crate::bus_state::BusState;
 use crate::parts::Parts;
+use bus_devices::Devices;
 use bus_events::{StepsLeft, run_events};
 use co_parts::END;
 use std::alloc::AllocError;
+use std::mem::replace;
 
 /// The time that a window takes, in microseconds.
 const WINDOW: u64 = 10_000;
@@ -44,8 +46,13 @@ pub(crate) fn run_due<P: Parts>(bus: &mut BusState, t: u64, parts: &mut P) -> Re
     ensures counted { OnOk result (P.asks parts.new ≤ P.asks parts.old + length (reads (events_run t bus.old) (P.seen parts.old).image)) }
     ensures kept { (P.seen parts.new).image ≡ (P.seen parts.old).image }
 {
-    let devices = bus.devices.as_mut_slice();
-    run_events(devices, &mut bus.manager, t, bus.steps.due(t), parts)?;
+    let steps = bus.steps.due(t);
+    if steps.is_empty() {
+        return Ok(());
+    }
+    let mut devices = replace(&mut bus.devices, Devices::none(bus.alloc)).into_vec();
+    run_events(devices.as_mut_slice(), &mut bus.manager, t, steps, parts)?;
+    bus.devices = Devices::of(bus.alloc, devices);
     bus.steps.forget(t);
     Ok(())
 }

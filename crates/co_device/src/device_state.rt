@@ -150,8 +150,43 @@ impl DeviceState {
         &self.values
     }
 
+    /// Whether it has power.
+    pub fn has_power(&self) -> bool
+        ensures { result ≡ self.now.has_power }
+    {
+        self.has_power
+    }
+
+    /// What it has learnt of its entries.
+    pub fn learnt(&self) -> Learnt
+        ensures { result ≡ self.now.learnt }
+    {
+        self.learnt
+    }
+
+    /// Its heartbeat consumers, by sub-index.
+    pub fn consumers(&self) -> &[Consumer]
+        ensures { result.now ≡ self.now.consumers }
+    {
+        &self.consumers
+    }
+
+    /// Its RPDOs, by number.
+    pub fn rpdos(&self) -> &[RpdoState]
+        ensures { result.now ≡ self.now.rpdos }
+    {
+        &self.rpdos
+    }
+
+    /// Its TPDOs, by number.
+    pub fn tpdos(&self) -> &[TpdoState]
+        ensures { result.now ≡ self.now.tpdos }
+    {
+        &self.tpdos
+    }
+
     /// Whether it is in an NMT state.
-    pub(crate) fn is_in(&self, state: NmtState) -> bool
+    pub fn is_in(&self, state: NmtState) -> bool
         ensures { result ≡ is_in_state state self.now }
     {
         self.state == state

@@ -2,16 +2,14 @@
 
 ghost use Rattle.std.specs.Prelude.{◌≡◌, ◌<◌, ◌≤◌, ◌+◌, length, OnOk};
 ghost use Rattle.asking.specs.Asking.{followed, outcome, reads};
-ghost use Rattle.co_device.specs.Receiving.{ignored, received};
+ghost use Rattle.co_device.specs.Receiving.{received};
 
 use crate::device_state::DeviceState;
-use crate::nmt_state::NmtState;
 use crate::shapes::Shapes;
 use can_frame::{Frame, identifiers};
 use co_parts::END;
-use co_profile::{any_expects, command, eight, is_addressed, producer_of, sync_identifier};
+use co_profile::{command, eight, is_addressed, producer_of, sync_identifier};
 use co_scenario::NmtCommand;
-use device_pdos::any_has_identifier;
 use std::alloc::AllocError;
 
 impl DeviceState {
@@ -50,30 +48,5 @@ impl DeviceState {
             return self.take_error_control(t, producer);
         }
         self.take_pdo(t, frame, shapes)
-    }
-
-    /// Whether it takes nothing of a frame: none of its services expects it in its NMT state. Takes time by
-    /// its consumers or its RPDOs, and by the logarithm of the number of entries.
-    #[tactic(auto, unfolding(crate::specs::Receiving::ignored))]
-    pub fn ignores(&self, frame: &Frame) -> bool
-        ensures { result ≡ ignored frame.now self.now }
-    {
-        if !self.has_power {
-            return true;
-        }
-        let bytes = frame.bytes();
-        if frame.id() == identifiers::nmt() {
-            return !is_addressed(self.number, bytes);
-        }
-        if frame.id() == sync_identifier(self.learnt, &self.values) {
-            return !self.is_in(NmtState::Operational);
-        }
-        if frame.id() == identifiers::sdo_request(self.number) && bytes.len() == 8 {
-            return self.is_in(NmtState::Stopped);
-        }
-        if let Some(producer) = producer_of(frame) {
-            return !any_expects(&self.consumers, producer);
-        }
-        !(self.is_in(NmtState::Operational) && any_has_identifier(&self.rpdos, frame.id()))
     }
 }

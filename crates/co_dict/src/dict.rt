@@ -1,6 +1,6 @@
 //! The values of a device's entries.
 
-ghost use Rattle.std.specs.Prelude.{◌≡◌, ◌≤◌, ◌↔◌, IsTrue, length, OnOk, OnErr, IfOk, IfSome, option_copied};
+ghost use Rattle.std.specs.Prelude.{◌≡◌, ◌≤◌, ◌↔◌, IsTrue, length, OnOk, OnErr, IfOk, IfSome, Some, option_copied};
 ghost use Rattle.std.specs.FinMap as map;
 ghost use Rattle.co_dict.specs.Places.{place_cmp};
 ghost use Rattle.co_dict.specs.Restored.{restored};
@@ -48,12 +48,25 @@ impl Dict {
         }
     }
 
-    /// Sets the value of an entry, and of that entry alone.
+    /// Whether an entry has this value.
+    fn holds(&self, index: u16, sub: u8, bytes: &[u8]) -> bool
+        ensures { IsTrue result → map.get self.now (index, sub) ≡ Some bytes.now }
+    {
+        match self.read(index, sub) {
+            Some(value) => value == bytes,
+            None => false,
+        }
+    }
+
+    /// Sets the value of an entry, and of that entry alone. Takes no memory where it has that value.
     pub fn write(&mut self, index: u16, sub: u8, bytes: &[u8]) -> Result<(), AllocError>
         requires { length bytes.now ≤ longest_value }
         ensures ok { OnOk result (self.new ≡ map.insert self.old (index, sub) bytes.now) }
         ensures err { OnErr result (self.new ≡ self.old) }
     {
+        if self.holds(index, sub, bytes) {
+            return Ok(());
+        }
         let value = Octets::from_slice(self.alloc, bytes)?;
         self.values.insert((index, sub), value)?;
         Ok(())

@@ -1,19 +1,23 @@
--- What a device does that isn't due, and what it does at a frame that it ignores.
-use Rattle.std.proofs.Common.{◌≡◌, ℕ, ◌<◌, Bool, true, false, List, [], ◌∷◌, Option, Some, None, append-nil, refl, sym, ap, ◌∙◌, arith}
+-- What an agenda says of the moments, and the agendas of one device.
+use Rattle.std.proofs.Common.{◌≡◌, ℕ, ◌<◌, Bool, false, List, [], ◌∷◌, Option, Some, None, is_some, append-nil, refl, sym, ap, ◌∙◌, arith, inl, inr}
 use Rattle.std.specs.Prelude.{min, nat_le}
 use Rattle.std.specs.List.{AllByRecursion}
 use Rattle.std.proofs.lemmas.Bool.Decides.{nat_tests}
 use Rattle.asking.specs.Asking.{Asking, Answer, Seen, followed, outcome}
 use Rattle.can_frame.specs.Frames.{BaseFrame}
+use Rattle.can_frame.specs.Winner.{contenders_of, IsWinner}
+use Rattle.can_frame.specs.declared.contender.Contender.{Contender}
 use Rattle.can_frame.specs.declared.waiting.Waiting.{Waiting}
 use Rattle.co_parts.specs.Contents.{Content, Image}
 use Rattle.co_parts.specs.Moments.{earlier, earliest}
 use Rattle.co_parts.specs.declared.part.Part.{Part}
-use Rattle.co_device.specs.Device.{Device, moments, next_due, ran}
-use Rattle.co_device.specs.Receiving.{ignored, received}
-use Rattle.device_laws.proofs.IgnoredLemmas.{ignored_changes_nothing}
-use Rattle.device_laws.proofs.RestLemmas.{quiet_at_rest, sent_rests}
-use Rattle.device_agenda.specs.Agenda.{IsKnown, has_come}
+use Rattle.co_device.specs.Device.{Device, moments, next_due}
+use Rattle.co_device.specs.Receiving.{ignored}
+use Rattle.device_laws.specs.Deaf.{IsDeafTo, IsIdleSync}
+use Rattle.device_laws.proofs.RestLemmas.{sent_rests}
+use Rattle.device_agenda.specs.Agenda.{has_come, IsAgendaOf, Sleeps}
+use Rattle.device_agenda.specs.declared.agenda.Agenda.{Agenda as Plan}
+use Rattle.device_agenda.specs.declared.groups.Groups.{Groups}
 
 -- ---- moments
 
@@ -35,36 +39,81 @@ both_later t m (Some n) e =
     let first : t < min m n = not_yet t (min m n) e in
     (first_later t m n first, later_test t n (second_later t m n first))
 
-all_later : (t : ℕ) (ms : List ℕ) → has_come t (earliest ms) ≡ false → AllByRecursion (λ m. t < m) ms
+pub all_later : (t : ℕ) (ms : List ℕ) → has_come t (earliest ms) ≡ false → AllByRecursion (λ m. t < m) ms
 all_later t [] e = tt
 all_later t (m ∷ ms) e = let both = both_later t m (earliest ms) e in (both.0, all_later t ms both.1)
 
-due_later : (t : ℕ) (d : Device) → has_come t (next_due d) ≡ false → AllByRecursion (λ m. t < m) (moments d)
+-- ---- the agenda of a device
+
+none_waits : (node : ℕ) (frames : List Waiting) (found : Option Contender) → IsWinner (contenders_of (node, frames)) found → is_some found ≡ false → frames ≡ []
+none_waits node [] found h e = refl
+none_waits node (w ∷ frames) None h e = absurd cc
+none_waits node (w ∷ frames) (Some c) h e = absurd cc
+
+pub silent_where_none : (d : Device) (found : Option Contender) → IsWinner (contenders_of (d.number, d.waiting)) found → is_some found ≡ false → d.waiting ≡ []
+silent_where_none d found h e = none_waits d.number d.waiting found h e
+
+pub due_of : (a : Plan) (d : Device) → IsAgendaOf a (d ∷ []) → a.awake ≡ false → a.due ≡ next_due d
 unfolding next_due
-due_later t d e = all_later t (moments d) e
+due_of a d plan e = plan.due e ∙ ap earliest (append-nil (moments d))
 
--- ---- a device that isn't awake
-
-pub sleeps_on : (t : ℕ) (awake : Bool) (due : Option ℕ) (d : Device) → IsKnown awake due d → awake ≡ false → has_come t due ≡ false → d ≡ ran t d
-sleeps_on t awake due d known asleep e =
-    let is = known asleep in
-    sym (quiet_at_rest t d is.1 (due_later t d (ap (has_come t) (sym is.0) ∙ e)))
-
-sent_due : (frames : List Waiting) (d : Device) → next_due (record d { waiting = frames }) ≡ next_due d
+pub plan_of : (a : Plan) (d : Device) → Sleeps a.groups d → a.due ≡ next_due d → (a.waits ≡ false → d.waiting ≡ []) → IsAgendaOf a (d ∷ [])
 unfolding next_due
-sent_due frames d = refl
+plan_of a d sleeps due silent = record {
+  due = λ e. due ∙ ap earliest (sym (append-nil (moments d)));
+  asleep = λ e. (sleeps, tt);
+  silent = λ e. (silent e, tt);
+}
 
-pub sent_known : (awake : Bool) (due : Option ℕ) (frames : List Waiting) (d : Device) → IsKnown awake due d → IsKnown awake due (record d { waiting = frames })
-sent_known awake due frames d known e = let is = known e in (is.0 ∙ sym (sent_due frames d), sent_rests frames d is.1)
+pub not_spent : (a : Plan) (d : Device) → IsAgendaOf a (d ∷ []) → a.awake ≡ false → d.spent ≡ false
+not_spent a d plan e = (plan.asleep e).0.unspent
 
--- ---- a frame that is ignored
+-- ---- once a frame is sent
+
+module _ (frames : List Waiting) (d : Device) where
+  sent_ignored : (frame : BaseFrame) → ignored frame (record d { waiting = frames }) ≡ ignored frame d
+  unfolding ignored
+  sent_ignored frame = refl
+
+  sent_idle : (frame : BaseFrame) → IsIdleSync frame d → IsIdleSync frame (record d { waiting = frames })
+  sent_idle frame h = record {
+    no_command = h.no_command;
+    is_sync = h.is_sync;
+    awaits_none = record { nothing_kept = h.awaits_none.nothing_kept; no_tpdo = h.awaits_none.no_tpdo };
+  }
+
+  sent_deaf : (frame : BaseFrame) → IsDeafTo frame d → IsDeafTo frame (record d { waiting = frames })
+  sent_deaf frame (inl e) = inl (sent_ignored frame ∙ e)
+  sent_deaf frame (inr h) = inr (sent_idle frame h)
+
+  sent_sleeps : (groups : Groups) → Sleeps groups d → Sleeps groups (record d { waiting = frames })
+  sent_sleeps groups h = record {
+    rests = sent_rests frames d h.rests;
+    unspent = h.unspent;
+    deaf = λ frame bound e. sent_deaf frame (h.deaf frame bound e);
+  }
+
+  pub sent_plan : (a : Plan) (waits : Bool) → IsAgendaOf a (d ∷ []) → (waits ≡ false → frames ≡ []) → IsAgendaOf (record a { waits = waits }) (record d { waiting = frames } ∷ [])
+  sent_plan a waits plan silent = record {
+    due = plan.due;
+    asleep = λ e. (sent_sleeps a.groups (plan.asleep e).0, tt);
+    silent = λ e. (silent e, tt);
+  }
+
+pub sent_agenda : (a : Plan) (d e : Device) (frames : List Waiting) (found : Option Contender) (waits : Bool) → IsAgendaOf a (d ∷ []) → e ≡ record d { waiting = frames }
+    → IsWinner (contenders_of (e.number, e.waiting)) found → waits ≡ is_some found → IsAgendaOf (record a { waits = waits }) (e ∷ [])
+sent_agenda a d e frames found waits plan is wins w =
+    rw is
+    (sent_plan frames d a waits plan (λ f. sym (ap (λ (x : Device). x.waiting) is) ∙ silent_where_none e found wins (sym w ∙ f)))
+
+-- ---- where nothing is read
 
 nothing_followed : (d : Device) (seen : Seen Part Content) → followed {V = Content} (Answer d) seen ≡ seen
 nothing_followed d seen = rw append-nil refl
 
-module _ (t : ℕ) (frame : BaseFrame) (d : Device) (e : ignored frame d ≡ true) where
-  pub ignored_state : (image : Image) → d ≡ outcome (received t frame d) image
-  ignored_state image = sym (ap (λ (m : Asking Part Content Device). outcome m image) (ignored_changes_nothing t frame d e))
+module _ (m : Asking Part Content Device) (d : Device) (e : m ≡ Answer d) where
+  pub same_state : (image : Image) → d ≡ outcome m image
+  same_state image = sym (ap (λ (m : Asking Part Content Device). outcome m image) e)
 
-  pub ignored_noted : (seen : Seen Part Content) → seen ≡ followed (received t frame d) seen
-  ignored_noted seen = sym (ap (λ (m : Asking Part Content Device). followed m seen) (ignored_changes_nothing t frame d e) ∙ nothing_followed d seen)
+  pub none_noted : (seen : Seen Part Content) → seen ≡ followed m seen
+  none_noted seen = sym (ap (λ (m : Asking Part Content Device). followed m seen) e ∙ nothing_followed d seen)

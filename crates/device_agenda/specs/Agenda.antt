@@ -1,13 +1,53 @@
--- When a device has to run.
-use Rattle.std.specs.Prelude.{◌≡◌, ℕ, nat_le, Bool, false, Option, Some, None}
-use Rattle.co_device.specs.Device.{Device, next_due}
+-- What a device does in an instant, and when it does nothing.
+use Rattle.std.specs.Prelude.{◌≡◌, ◌<◌, ℕ, ◌==◌, not, ◌&&◌, nat_le, Bool, false, List, [], flat_map, Option, Some, None, if◌then◌else◌}
+use Rattle.std.specs.List.{AllByRecursion}
+use Rattle.asking.specs.Asking.{Asking, Answer, bind}
+use Rattle.can_frame.specs.Frames.{BaseFrame}
+use Rattle.co_device.specs.Device.{Device, moments, ran}
+use Rattle.co_device.specs.Receiving.{received}
+use Rattle.co_parts.specs.Contents.{Content}
+use Rattle.co_parts.specs.Moments.{earliest}
+use Rattle.co_parts.specs.declared.part.Part.{Part}
+use Rattle.device_laws.specs.Deaf.{IsDeafTo}
 use Rattle.device_laws.specs.Rest.{Rests}
+use Rattle.device_agenda.specs.Delivered.{Delivered}
+use Rattle.device_agenda.specs.Groups.{includes}
+use Rattle.device_agenda.specs.declared.agenda.Agenda.{Agenda}
+use Rattle.device_agenda.specs.declared.groups.Groups.{Groups}
+
+-- each node but its sender hears what is delivered
+unfoldable pub hears : ℕ → Delivered → Device → Asking Part Content Device
+hears t delivered d = if d.number == delivered.sender then Answer d else received t delivered.frame d
+
+-- WHAT A DEVICE DOES IN AN INSTANT: it hears what is delivered, if anything is, and then runs what is due
+unfoldable pub at_instant : ℕ → Option Delivered → Device → Asking Part Content Device
+at_instant t None d = Answer (ran t d)
+at_instant t (Some delivered) d = bind (hears t delivered d) (λ heard. Answer (ran t heard))
 
 -- a moment is there that has come at t
 abbrev pub has_come : ℕ → Option ℕ → Bool
 has_come t None = false
 has_come t (Some due) = nat_le due t
 
--- a device that isn't awake rests, and its due moment is known
-abbrev pub IsKnown : Bool → Option ℕ → Device → Type 0
-IsKnown awake due d = awake ≡ false → (due ≡ next_due d) × Rests d
+-- ---- agendas
+
+-- the device sleeps: it rests, a call before found memory, and frames of no other groups are anything to it
+pub record Sleeps (groups : Groups) (d : Device) : Type 0 where
+  pub rests : Rests d
+  pub unspent : d.spent ≡ false
+  pub deaf : (frame : BaseFrame) → frame.id < 0x800 → includes groups frame.id ≡ false → IsDeafTo frame d
+
+-- an agenda of devices: where they aren't awake, they sleep until it is due or a frame of its groups comes; where none waits, no frame waits at them
+pub record IsAgendaOf (a : Agenda) (ds : List Device) : Type 0 where
+  pub due : a.awake ≡ false → a.due ≡ earliest (flat_map moments ds)
+  pub asleep : a.awake ≡ false → AllByRecursion (Sleeps a.groups) ds
+  pub silent : a.waits ≡ false → AllByRecursion (λ d. d.waiting ≡ []) ds
+
+-- what is delivered is of one of the groups
+abbrev pub stirs : Groups → Option Delivered → Bool
+stirs groups None = false
+stirs groups (Some delivered) = includes groups delivered.frame.id
+
+-- it says that nothing happens in an instant
+abbrev pub sleeps_through : ℕ → Option Delivered → Agenda → Bool
+sleeps_through t delivered a = not a.awake && (not (has_come t a.due) && not (stirs a.groups delivered))

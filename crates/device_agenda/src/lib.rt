@@ -1,6 +1,15 @@
 //! Devices that run only when they are due.
 #![tactic(auto)]
 
+mod agenda;
+mod delivery;
+mod groups;
+mod ignored;
+pub mod laws;
 mod scheduled_device;
+mod stirring;
 
+pub use agenda::Agenda;
+pub use delivery::Delivery;
+pub use groups::Groups;
 pub use scheduled_device::ScheduledDevice;

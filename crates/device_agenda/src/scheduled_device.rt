@@ -1,39 +1,44 @@
-//! A device that runs only when it is due.
+//! A device that runs only when it has to.
 
-ghost use Rattle.std.specs.Prelude.{◌≡◌, ◌↔◌, ◌<◌, ◌≤◌, ◌+◌, Some, false, length, remove, slice_get, IfOk, OnOk, OnErr, IsErr, IsTrue};
-ghost use Rattle.asking.specs.Asking.{followed, outcome, reads};
+ghost use Rattle.std.specs.Prelude.{◌≡◌, ◌↔◌, ◌<◌, ◌≤◌, ◌+◌, ◌∷◌, [], Some, true, false, length, remove, slice_get, IfOk, IfSome, OnOk, OnErr, IsErr, IsTrue};
+ghost use Rattle.asking.specs.Asking.{Answer, followed, outcome, reads};
 ghost use Rattle.can_frame.specs.Winner.{contenders_of, IsWinner};
 ghost use Rattle.co_base.specs.Ranges.{is_between};
 ghost use Rattle.co_values.specs.Values.{longest_value};
 ghost use Rattle.co_device.specs.Device.{next_due, powered, ran, was_set, without_power};
-ghost use Rattle.co_device.specs.Receiving.{received};
-ghost use Rattle.device_agenda.specs.Agenda.{has_come};
+ghost use Rattle.co_device.specs.Receiving.{ignored};
+ghost use Rattle.device_agenda.specs.Agenda.{at_instant, hears, IsAgendaOf};
+ghost use Rattle.device_laws.specs.Rest.{Rests};
 
-use can_frame::{Contender, Frame, Waiting};
+use crate::agenda::{Agenda, has_come};
+use crate::delivery::Delivery;
+use crate::ignored::ignores;
+use crate::stirring::stirring;
+use can_frame::{Contender, Waiting};
 use co_device::{DeviceState, Shapes};
 use co_dict::Dict;
 use co_parts::END;
 use std::alloc::{AllocError, Global};
 use std::marker::Model;
 
-/// A device at a moment (CiA 301) that runs only when it is due.
+/// A device at a moment (CiA 301) that runs only when it has to.
 ///
-/// It does what the device does. The moment at which it is due is worked out when it ran, and until then
-/// it sleeps, unless a frame that it takes, a write of its application or its switch wakes it. When it is
-/// due follows from the device, and is no part of it: two are the same where their devices are.
+/// It does what the device does. Its agenda is worked out when it ran, and until a moment or a frame that the
+/// agenda has, it sleeps, unless a write of its application or its switch wakes it. The agenda follows from the
+/// device, and is no part of it: two are the same where their devices are.
 #[derive(Drop)]
 pub struct ScheduledDevice {
     device: DeviceState,
-    due: Option<u64>,
-    awake: bool,
+    agenda: Agenda,
 }
 
 impl Model for ScheduledDevice {
+    ghost use Rattle.std.specs.Prelude.{◌∷◌, []};
     ghost use Rattle.std.specs.Coded.{codes, coded_ℕ, coded_list, coded×};
     ghost use Rattle.std.specs.FinMap as map;
     ghost use Rattle.co_dict.specs.Places.{place_cmp};
     ghost use Rattle.co_device.specs.Device.{Device};
-    ghost use Rattle.device_agenda.specs.Agenda.{IsKnown};
+    ghost use Rattle.device_agenda.specs.Agenda.{IsAgendaOf};
 
     ghost Value = { Device };
 
@@ -41,17 +46,95 @@ impl Model for ScheduledDevice {
 
     ghost view = { λ s. s.device };
 
-    ghost invariant = { λ s. IsKnown s.awake s.due s.device };
+    ghost invariant = { λ s. IsAgendaOf s.agenda (s.device ∷ []) };
 }
 
-/// Whether a moment is there that has come at t.
-fn has_come(t: u64, due: Option<u64>) -> bool
-    ensures { result ≡ has_come t due }
+/// The agenda of a device that ran.
+fn agenda_of(device: &DeviceState) -> Agenda
+    requires rests { Rests device.now }
+    requires unspent { device.now.spent ≡ false }
+    ensures { IsAgendaOf result (device.now ∷ []) }
 {
-    match due {
-        Some(due) => due <= t,
-        None => false,
+    Agenda {
+        awake: false,
+        due: device.next_due(),
+        groups: stirring(device),
+        waits: device.contender().is_some(),
     }
+}
+
+/// Whether what is delivered is nothing that a device takes.
+fn takes_nothing(device: &DeviceState, delivery: &Option<Delivery>) -> bool
+    ensures { IsTrue result → IfSome delivery.now (λ d. ignored d.frame device.now ≡ true) }
+{
+    match delivery {
+        None => true,
+        Some(delivery) => ignores(device, &delivery.frame),
+    }
+}
+
+/// Gives a device what is delivered at the moment t, if it isn't its sender.
+#[tactic(auto, unfolding(crate::specs::Agenda::hears))]
+fn hear<P: Shapes>(
+    device: &mut DeviceState,
+    t: u64,
+    delivery: &Delivery,
+    shapes: &mut P,
+) -> Result<(), AllocError>
+    requires { t < END }
+    ensures state { OnOk result (device.new ≡ outcome (hears t delivery.now device.old) (P.seen shapes.old).image) }
+    ensures noted { OnOk result (P.seen shapes.new ≡ followed (hears t delivery.now device.old) (P.seen shapes.old)) }
+    ensures counted { OnOk result (P.asks shapes.new ≤ P.asks shapes.old + length (reads (hears t delivery.now device.old) (P.seen shapes.old).image)) }
+    ensures kept { (P.seen shapes.new).image ≡ (P.seen shapes.old).image }
+    ensures still { OnOk result (IsTrue device.old.spent → IsTrue device.new.spent) }
+    ensures spent { OnErr result (IsTrue device.new.spent) }
+{
+    if device.number() == delivery.sender {
+        return Ok(());
+    }
+    device.on_frame(t, &delivery.frame, shapes)
+}
+
+/// Runs what is due at the moment t.
+fn run_due(device: &mut DeviceState, t: u64) -> Result<(), AllocError>
+    requires { t < END }
+    ensures state { OnOk result (device.new ≡ ran t device.old) }
+    ensures refused { IsTrue device.old.spent → IsErr result }
+    ensures spent { OnErr result (IsTrue device.new.spent) }
+    ensures rests { OnOk result (Rests device.new) }
+    ensures unspent { OnOk result (device.new.spent ≡ false) }
+{
+    if device.spent() {
+        return Err(AllocError);
+    }
+    device.on_instant(t)?;
+    Ok(())
+}
+
+/// What a device does at the moment t: it hears what is delivered, and then runs what is due.
+#[tactic(auto, unfolding(crate::specs::Agenda::at_instant))]
+fn run<P: Shapes>(
+    device: &mut DeviceState,
+    t: u64,
+    delivery: &Option<Delivery>,
+    shapes: &mut P,
+) -> Result<(), AllocError>
+    requires { t < END }
+    ensures state { OnOk result (device.new ≡ outcome (at_instant t delivery.now device.old) (P.seen shapes.old).image) }
+    ensures noted { OnOk result (P.seen shapes.new ≡ followed (at_instant t delivery.now device.old) (P.seen shapes.old)) }
+    ensures counted { OnOk result (P.asks shapes.new ≤ P.asks shapes.old + length (reads (at_instant t delivery.now device.old) (P.seen shapes.old).image)) }
+    ensures kept { (P.seen shapes.new).image ≡ (P.seen shapes.old).image }
+    ensures refused { IsTrue device.old.spent → IsErr result }
+    ensures spent { OnErr result (IsTrue device.new.spent) }
+    ensures rests { OnOk result (Rests device.new) }
+    ensures unspent { OnOk result (device.new.spent ≡ false) }
+{
+    let Some(delivery) = delivery else {
+        return run_due(device, t);
+    };
+    hear(device, t, delivery, shapes)?;
+    run_due(device, t)?;
+    Ok(())
 }
 
 impl ScheduledDevice {
@@ -61,8 +144,7 @@ impl ScheduledDevice {
     {
         ScheduledDevice {
             device: DeviceState::new(alloc, number),
-            due: None,
-            awake: true,
+            agenda: Agenda::unknown(),
         }
     }
 
@@ -74,8 +156,7 @@ impl ScheduledDevice {
         let device = self.device.copy()?;
         Ok(ScheduledDevice {
             device,
-            due: self.due,
-            awake: self.awake,
+            agenda: self.agenda,
         })
     }
 
@@ -112,11 +193,18 @@ impl ScheduledDevice {
     pub fn next_due(&self) -> Option<u64>
         ensures { result ≡ next_due self.now }
     {
-        if self.awake {
+        if self.agenda.awake {
             self.device.next_due()
         } else {
-            self.due
+            self.agenda.due
         }
+    }
+
+    /// Its agenda.
+    pub fn agenda(&self) -> Agenda
+        ensures { IsAgendaOf result (self.now ∷ []) }
+    {
+        self.agenda
     }
 
     /// The frame with which it contends for the bus: the first of those waiting that have the least
@@ -124,6 +212,9 @@ impl ScheduledDevice {
     pub fn contender(&self) -> Option<Contender>
         ensures { IsWinner (contenders_of (self.now.number, self.now.waiting)) result }
     {
+        if !self.agenda.waits {
+            return None;
+        }
         self.device.contender()
     }
 
@@ -133,7 +224,9 @@ impl ScheduledDevice {
         ensures frame { slice_get self.old.waiting place ≡ Some result }
         ensures left { self.new ≡ record self.old { waiting = remove self.old.waiting place } }
     {
-        self.device.send(place)
+        let sent = self.device.send(place);
+        self.agenda.waits = self.device.contender().is_some();
+        sent
     }
 
     /// Switches the power of the device at the moment t. Where it is as it was, nothing changes.
@@ -146,33 +239,8 @@ impl ScheduledDevice {
         ensures refused { IsTrue self.old.spent → IsErr result }
         ensures spent { OnErr result (IsTrue self.new.spent) }
     {
-        self.awake = true;
+        self.agenda = Agenda::unknown();
         self.device.power(on, t, shapes)
-    }
-
-    /// Takes a frame of another node at the moment t. One that the device ignores doesn't wake it.
-    pub fn on_frame<P: Shapes>(
-        &mut self,
-        t: u64,
-        frame: &Frame,
-        shapes: &mut P,
-    ) -> Result<(), AllocError>
-        requires { t < END }
-        ensures state { OnOk result (self.new ≡ outcome (received t frame.now self.old) (P.seen shapes.old).image) }
-        ensures noted { OnOk result (P.seen shapes.new ≡ followed (received t frame.now self.old) (P.seen shapes.old)) }
-        ensures counted { OnOk result (P.asks shapes.new ≤ P.asks shapes.old + length (reads (received t frame.now self.old) (P.seen shapes.old).image)) }
-        ensures kept { (P.seen shapes.new).image ≡ (P.seen shapes.old).image }
-        ensures refused { IsTrue self.old.spent → IsErr result }
-        ensures spent { OnErr result (IsTrue self.new.spent) }
-    {
-        if self.device.spent() {
-            return Err(AllocError);
-        }
-        if self.device.ignores(frame) {
-            return Ok(());
-        }
-        self.awake = true;
-        self.device.on_frame(t, frame, shapes)
     }
 
     /// The application of the device sets an entry at the moment t, whatever its access and limits; without
@@ -185,39 +253,50 @@ impl ScheduledDevice {
         ensures refused { IsTrue self.old.spent → IsErr result }
         ensures spent { OnErr result (IsTrue self.new.spent) }
     {
-        self.awake = true;
+        self.agenda = Agenda::unknown();
         self.device.set(t, index, sub, bytes)
     }
 
-    /// Runs the device at the moment t: heartbeat consumers by sub-index, the heartbeat, and then the TPDOs
-    /// by number.
-    fn run(&mut self, t: u64) -> Result<(), AllocError>
+    /// Runs what has to at the moment t: it hears what is delivered, if another node sent it, and then come its
+    /// heartbeat consumers by sub-index, the heartbeat, and the TPDOs by number. Takes constant time where it
+    /// sleeps.
+    pub fn instant<P: Shapes>(
+        &mut self,
+        t: u64,
+        delivery: &Option<Delivery>,
+        shapes: &mut P,
+    ) -> Result<(), AllocError>
         requires { t < END }
-        ensures state { OnOk result (self.new ≡ ran t self.old) }
+        ensures state { OnOk result (self.new ≡ outcome (at_instant t delivery.now self.old) (P.seen shapes.old).image) }
+        ensures noted { OnOk result (P.seen shapes.new ≡ followed (at_instant t delivery.now self.old) (P.seen shapes.old)) }
+        ensures counted { OnOk result (P.asks shapes.new ≤ P.asks shapes.old + length (reads (at_instant t delivery.now self.old) (P.seen shapes.old).image)) }
+        ensures kept { (P.seen shapes.new).image ≡ (P.seen shapes.old).image }
         ensures refused { IsTrue self.old.spent → IsErr result }
         ensures spent { OnErr result (IsTrue self.new.spent) }
     {
-        self.awake = true;
-        self.device.on_instant(t)?;
-        self.due = self.device.next_due();
-        self.awake = false;
+        if self.does_nothing(t, delivery) {
+            return Ok(());
+        }
+        self.agenda = Agenda::unknown();
+        run(&mut self.device, t, delivery, shapes)?;
+        self.agenda = agenda_of(&self.device);
         Ok(())
     }
 
-    /// Runs what is due at the moment t: heartbeat consumers by sub-index, the heartbeat, and then the TPDOs
-    /// by number. Takes constant time where it sleeps and isn't due.
-    pub fn on_instant(&mut self, t: u64) -> Result<(), AllocError>
-        requires { t < END }
-        ensures state { OnOk result (self.new ≡ ran t self.old) }
-        ensures refused { IsTrue self.old.spent → IsErr result }
-        ensures spent { OnErr result (IsTrue self.new.spent) }
+    /// Whether nothing happens to it at the moment t.
+    fn does_nothing(&self, t: u64, delivery: &Option<Delivery>) -> bool
+        ensures nothing { IsTrue result → at_instant t delivery.now self.now ≡ Answer self.now }
+        ensures unspent { IsTrue result → self.now.spent ≡ false }
     {
-        if self.device.spent() {
-            return Err(AllocError);
+        if self.agenda.sleeps_through(t, delivery) {
+            return true;
         }
-        if !self.awake && !has_come(t, self.due) {
-            return Ok(());
+        if self.agenda.awake {
+            return false;
         }
-        self.run(t)
+        if has_come(t, self.agenda.due) {
+            return false;
+        }
+        takes_nothing(&self.device, delivery)
     }
 }

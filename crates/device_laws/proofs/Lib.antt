@@ -7,3 +7,4 @@ pub mod PartLemmas
 pub mod ResetLemmas
 pub mod RestLemmas
 pub mod StateLemmas
+pub mod DeafLemmas

@@ -20,7 +20,7 @@ use Rattle.device_laws.proofs.AheadLemmas.{due_later, quiet}
 use Rattle.device_laws.proofs.CaseLemmas.{either, not_both}
 
 -- all of these moments lie after t
-abbrev LieAfter : ℕ → List ℕ → Type 0
+abbrev pub LieAfter : ℕ → List ℕ → Type 0
 LieAfter t moments = AllByRecursion (λ m. t < m) moments
 
 -- ---- the moments of the timers
@@ -43,6 +43,16 @@ consumers_after : (t : ℕ) (cs : List Consumer) → AreAhead (t + 1) cs → Lie
 consumers_after t [] h = tt
 consumers_after t (c ∷ cs) h = all_both (λ m. t < m) (moments_of c.moment) (consumers.moments cs) (after_now t c.moment h.0) (consumers_after t cs h.1)
 
+-- all moments of a device lie after t: those of its timers, and those of its TPDOs
+pub timers_ahead : (t : ℕ) (d : Device) → LieAfter t (moments d) → IsAhead (t + 1) d
+timers_ahead t d h =
+    let both = all_parts (λ m. t < m) (moments_of d.heartbeat ++ consumers.moments d.consumers) (tpdos.moments (is_in Operational d) d.tpdos) h in
+    let first = all_parts (λ m. t < m) (moments_of d.heartbeat) (consumers.moments d.consumers) both.0 in
+    record { heartbeat = not_before t d.heartbeat first.0; consumers = consumers_ahead t d.consumers first.1 }
+
+pub tpdos_after : (t : ℕ) (d : Device) → LieAfter t (moments d) → LieAfter t (tpdos.moments (is_in Operational d) d.tpdos)
+tpdos_after t d h = (all_parts (λ m. t < m) (moments_of d.heartbeat ++ consumers.moments d.consumers) (tpdos.moments (is_in Operational d) d.tpdos) h).1
+
 -- ---- at rest
 
 looked_rests : (t : ℕ) (d : Device) → Rests (tpdos_run t d)
@@ -64,7 +74,7 @@ sent_moments frames d = refl
 
 -- ---- before it is due
 
-equal : (d : Device) (synced : Bool) (tpdos : List TpdoState) (frames : List Waiting) → synced ≡ d.synced → tpdos ≡ d.tpdos → frames ≡ d.waiting
+pub equal : (d : Device) (synced : Bool) (tpdos : List TpdoState) (frames : List Waiting) → synced ≡ d.synced → tpdos ≡ d.tpdos → frames ≡ d.waiting
     → record d { synced = synced; tpdos = tpdos; waiting = frames } ≡ d
 equal d synced tpdos frames s p f =
     ap (λ (x : Bool). record d { synced = x; tpdos = tpdos; waiting = frames }) s
@@ -95,11 +105,7 @@ module _ (u : ℕ) (d : Device) (rests : Rests d) where
 
   pub quiet_at_rest : LieAfter u (moments d) → ran u d ≡ d
   unfolding ran
-  quiet_at_rest h =
-      let both = all_parts (λ m. u < m) (moments_of d.heartbeat ++ consumers.moments d.consumers) (tpdos.moments (is_in Operational d) d.tpdos) h in
-      let first = all_parts (λ m. u < m) (moments_of d.heartbeat) (consumers.moments d.consumers) both.0 in
-      ap (tpdos_run u) (quiet u d (record { heartbeat = not_before u d.heartbeat first.0; consumers = consumers_ahead u d.consumers first.1 }))
-      ∙ tpdos_quiet both.1
+  quiet_at_rest h = ap (tpdos_run u) (quiet u d (timers_ahead u d h)) ∙ tpdos_quiet (tpdos_after u d h)
 
 -- ---- all moments after it ran
 

@@ -1,3 +1,4 @@
 pub mod Ahead
 pub mod States
 pub mod Rest
+pub mod Deaf

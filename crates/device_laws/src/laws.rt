@@ -4,7 +4,7 @@ ghost use Rattle.std.specs.Prelude.{◌≡◌, ◌≢◌, ◌<◌, ◌≤◌, �
 ghost use Rattle.std.specs.FinMap as map;
 ghost use Rattle.std.specs.List.{AllByRecursion};
 ghost use Rattle.asking.specs.Alike.{AreAlike};
-ghost use Rattle.asking.specs.Asking.{Agrees, Answer, outcome, reads};
+ghost use Rattle.asking.specs.Asking.{Agrees, Answer, bind, outcome, reads};
 ghost use Rattle.can_frame.specs.Frames.{BaseFrame};
 ghost use Rattle.can_frame.specs.declared.waiting.Waiting.{Waiting};
 ghost use Rattle.co_base.specs.Ranges.{is_between};
@@ -17,6 +17,7 @@ ghost use Rattle.device_pdos.specs.Rpdos.{receipt_of, rpdo_at};
 ghost use Rattle.co_device.specs.Device.{Device, consumers_run, enter_pre_operational, is_in, moments, next_due, powered, ran, reset_communication, reset_node, sdo_request, stop_remote_node, timers, was_set, without_power};
 ghost use Rattle.co_device.specs.Receiving.{ignored, pdo_received, received, rpdo_received, sync_received};
 ghost use Rattle.device_laws.specs.Ahead.{IsAhead, IsOwnPart};
+ghost use Rattle.device_laws.specs.Deaf.{IsDeafTo};
 ghost use Rattle.device_laws.specs.Rest.{Rests};
 ghost use Rattle.device_laws.specs.States.{HasBooted, HasNoPdo, IsDark, IsSilent, SaysNothing, StaysItself, nmt_message};
 
@@ -88,6 +89,14 @@ pub fn a_device_stays_itself()
 #[tactic(auto, using(crate::proofs::IgnoredLemmas::ignored_changes_nothing))]
 pub fn an_ignored_frame_changes_nothing()
     ensures { (t : ℕ) (frame : BaseFrame) (d : Device) → ignored frame d ≡ true → received t frame d ≡ Answer d }
+{}
+
+/// As long as all its moments lie ahead, a frame that is nothing to a device at rest changes nothing in the
+/// instant of its delivery, and nothing is read for it: a SYNC that the device doesn't await is one.
+#[tactic(auto, using(crate::proofs::DeafLemmas::nothing_comes_of_it))]
+pub fn what_is_nothing_to_a_device_changes_nothing()
+    ensures { (t : ℕ) (frame : BaseFrame) (d : Device) → Rests d → AllByRecursion (λ m. t < m) (moments d) → IsDeafTo frame d
+        → bind (received t frame d) (λ heard. Answer (ran t heard)) ≡ Answer d }
 {}
 
 /// Without power a device takes nothing, nothing waits and nothing is due.

@@ -24,7 +24,7 @@ earliest_one : (o : Option ℕ) → earliest (moments_of o) ≡ o
 earliest_one None = refl
 earliest_one (Some moment) = refl
 
-first_then : (o : Option ℕ) (ms : List ℕ) → earliest (moments_of o ++ ms) ≡ earlier o (earliest ms)
+pub first_then : (o : Option ℕ) (ms : List ℕ) → earliest (moments_of o ++ ms) ≡ earlier o (earliest ms)
 first_then o ms = earliest_append (moments_of o) ms ∙ ap (λ (first : Option ℕ). earlier first (earliest ms)) (earliest_one o)
 
 one_more : (first : Option ℕ) (n : Booting) (ns : List Booting) → earlier (earlier first (deadline_of n.stage)) (earliest (deadlines ns)) ≡ earlier first (earliest (deadlines (n ∷ ns)))

@@ -6,3 +6,4 @@ pub mod AheadLemmas
 pub mod BeatLemmas
 pub mod TableLemmas
 pub mod EndLemmas
+pub mod QuietLemmas

@@ -85,15 +85,15 @@ not_due : (t : ℕ) (o : Option ℕ) → IfSome o (λ d. t + 1 ≤ d) → is_due
 not_due t None h = refl
 not_due t (Some d) h = grind (arith, nat_tests)
 
-quiet_nodes : (t : ℕ) (ns : List Booting) → AreFrom (t + 1) ns → map (node_after t) ns ≡ ns
+pub quiet_nodes : (t : ℕ) (ns : List Booting) → AreFrom (t + 1) ns → map (node_after t) ns ≡ ns
 quiet_nodes t [] h = refl
 quiet_nodes t (n ∷ ns) h = rw (not_at t (deadline_of n.stage) h.0, quiet_nodes t ns h.1) refl
 
-quiet_queue : (t : ℕ) (ns : List Booting) (ws : List Waiting) → AreFrom (t + 1) ns → queue_after_all t ns ws ≡ ws
+pub quiet_queue : (t : ℕ) (ns : List Booting) (ws : List Waiting) → AreFrom (t + 1) ns → queue_after_all t ns ws ≡ ws
 quiet_queue t [] ws h = refl
 quiet_queue t (n ∷ ns) ws h = rw (not_at t (deadline_of n.stage) h.0) (quiet_queue t ns ws h.1)
 
-quiet_notes : (t : ℕ) (ns : List Booting) → AreFrom (t + 1) ns → notes_after_all t ns ≡ []
+pub quiet_notes : (t : ℕ) (ns : List Booting) → AreFrom (t + 1) ns → notes_after_all t ns ≡ []
 quiet_notes t [] h = refl
 quiet_notes t (n ∷ ns) h = rw (not_at t (deadline_of n.stage) h.0) (quiet_notes t ns h.1)
 

@@ -4,10 +4,10 @@
 mod booting;
 pub mod laws;
 mod manager;
+mod node_table;
 mod note;
 mod notes;
 mod sent;
-mod table;
 mod telling;
 
 pub use booting::Booting;

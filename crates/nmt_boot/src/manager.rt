@@ -5,9 +5,8 @@ ghost use Rattle.asking.specs.Asking.{followed, outcome, reads};
 ghost use Rattle.can_frame.specs.Winner.{contenders_of, IsWinner};
 ghost use Rattle.nmt_boot.specs.Manager as rules;
 
-use crate::booting::Booting;
+use crate::node_table::NodeTable;
 use crate::notes::Notes;
-use crate::table::{self, first_deadline};
 use crate::telling::{note, send_command, tell};
 use can_frame::{Contender, Frame, Pending, Purpose, Unwanted, Waiting, identifiers};
 use co_parts::{END, Roster, earlier, is_due, moment_after};
@@ -31,7 +30,7 @@ pub struct Manager {
     heartbeat: Option<u64>,
     sync_period: u64,
     sync: Option<u64>,
-    nodes: Vec<Booting>,
+    nodes: NodeTable,
     waiting: Pending,
 }
 
@@ -41,7 +40,7 @@ impl Model for Manager {
 
     ghost Value = { State };
 
-    ghost view = { λ m. record { spent = m.spent; number = m.number; timeout = m.timeout; period = m.period; heartbeat = m.heartbeat; sync_period = m.sync_period; sync = m.sync; nodes = m.nodes.items; waiting = m.waiting } };
+    ghost view = { λ m. record { spent = m.spent; number = m.number; timeout = m.timeout; period = m.period; heartbeat = m.heartbeat; sync_period = m.sync_period; sync = m.sync; nodes = m.nodes; waiting = m.waiting } };
 
     ghost invariant = { λ m. (m.timeout < 1000 * 2 ^ 16) × (m.period < 1000 * 2 ^ 16) × (m.sync_period < 2 ^ 32) };
 }
@@ -108,7 +107,7 @@ impl Manager {
             heartbeat: None,
             sync_period: 0,
             sync: None,
-            nodes: Vec::new(alloc),
+            nodes: NodeTable::none(alloc),
             waiting: Pending::new(alloc),
         }
     }
@@ -120,7 +119,7 @@ impl Manager {
     {
         let period = microseconds(roster.heartbeat_ms);
         let sync_period = sync_time(roster);
-        let nodes = table::unseen_nodes(alloc, roster.nodes.as_slice())?;
+        let nodes = NodeTable::unseen(alloc, roster.nodes.as_slice())?;
         let mut waiting = Pending::new(alloc);
         let boot_up = Frame::of(identifiers::error_control(roster.manager), &[0]);
         waiting.add(Purpose::BootUp, boot_up)?;
@@ -146,7 +145,7 @@ impl Manager {
         if self.spent {
             return Err(AllocError);
         }
-        let nodes = table::copy_nodes(self.alloc, &self.nodes)?;
+        let nodes = self.nodes.copy(self.alloc)?;
         let waiting = self.waiting.copy()?;
         Ok(Manager {
             alloc: self.alloc,
@@ -180,17 +179,17 @@ impl Manager {
             && self.number == other.number
             && self.timeout == other.timeout
             && self.has_times_of(other)
-            && table::same_nodes(&self.nodes, &other.nodes)
+            && self.nodes.same(&other.nodes)
             && self.waiting.same(&other.waiting)
     }
 
-    /// The first moment at which a request times out, or a heartbeat or SYNC is due. Takes time by the number
-    /// of nodes.
+    /// The first moment at which a request times out, or a heartbeat or SYNC is due. Takes constant time; by
+    /// the number of nodes where the manager is spent.
     #[tactic(auto, using(crate::proofs::EarliestLemmas::next_due_is))]
     pub fn next_due(&self) -> Option<u64>
         ensures { result ≡ rules.next_due self.now }
     {
-        let timed = earlier(self.sync, first_deadline(&self.nodes));
+        let timed = earlier(self.sync, self.nodes.first_deadline());
         earlier(self.heartbeat, timed)
     }
 
@@ -267,11 +266,10 @@ impl Manager {
         ensures kept { (P.seen boots.new).image ≡ (P.seen boots.old).image }
     {
         let deadline = t + self.timeout();
-        let number = table::number_at(&self.nodes, i);
-        note(notes, number, table::lost_at(&self.nodes, i))?;
+        let number = self.nodes.number_at(i);
+        note(notes, number, self.nodes.lost_at(i))?;
         self.waiting.drop_of(Unwanted::SdoOf(number));
-        let nodes = self.nodes.as_mut_slice();
-        let sent = table::boot_at(self.alloc, nodes, i, deadline, boots)?;
+        let sent = self.nodes.boot_at(self.alloc, i, deadline, boots)?;
         tell(&mut self.waiting, notes, number, sent)?;
         Ok(())
     }
@@ -295,9 +293,10 @@ impl Manager {
         ensures kept { (P.seen boots.new).image ≡ (P.seen boots.old).image }
     {
         let deadline = t + self.timeout();
-        let number = table::number_at(&self.nodes, i);
-        let nodes = self.nodes.as_mut_slice();
-        let sent = table::answer_at(self.alloc, nodes, i, deadline, answer, boots)?;
+        let number = self.nodes.number_at(i);
+        let sent = self
+            .nodes
+            .answer_at(self.alloc, i, deadline, answer, boots)?;
         tell(&mut self.waiting, notes, number, sent)?;
         Ok(())
     }
@@ -368,12 +367,12 @@ impl Manager {
         let bytes = frame.bytes();
         if is_boot_up(bytes) {
             let base = identifiers::error_control(0);
-            let place = table::place_of(&self.nodes, base, frame.id());
+            let place = self.nodes.place_of(base, frame.id());
             return self.take_boot_up(t, place, boots, notes);
         }
         if bytes.len() == 8 {
             let base = identifiers::sdo_answer(0);
-            let place = table::place_of(&self.nodes, base, frame.id());
+            let place = self.nodes.place_of(base, frame.id());
             return self.take_answer(t, &eight(bytes), place, boots, notes);
         }
         Ok(())
@@ -385,8 +384,7 @@ impl Manager {
         ensures state { OnOk result (self.new ≡ (rules.time_outs t self.old).0) }
         ensures notes { OnOk result (notes.new ≡ notes.old ++ (rules.time_outs t self.old).1) }
     {
-        let nodes = self.nodes.as_mut_slice();
-        table::time_outs(t, nodes, &mut self.waiting, notes)
+        self.nodes.time_outs(t, &mut self.waiting, notes)
     }
 
     /// The heartbeat, where it is due at the moment t.
@@ -456,7 +454,8 @@ impl Manager {
         done
     }
 
-    /// Runs what is due at the moment t, and notes it. Takes time by the number of nodes.
+    /// Runs what is due at the moment t, and notes it. Takes time by the number of nodes where a request times
+    /// out, and by the number of frames that wait where a heartbeat or SYNC is due.
     pub fn on_instant(&mut self, t: u64, notes: &mut Notes) -> Result<(), AllocError>
         requires { t < END }
         ensures state { OnOk result (self.new ≡ (rules.timers t self.old).0) }

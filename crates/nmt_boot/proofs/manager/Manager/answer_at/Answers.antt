@@ -1,5 +1,3 @@
-use Rattle.std.proofs.Common.{◌≡◌, arith, length}
-use Rattle.std.proofs.lemmas.List.{with_items_is}
 use Rattle.nmt_boot.proofs.EventLemmas.{answered_state}
 use Rattle.nmt_boot.specs.contracts.manager.Manager.{the_view}
 use Rattle.nmt_boot.proofs.manager.Manager.answer_at.Goals as goal
@@ -8,8 +6,7 @@ pub returns-clause-state : goal.returns-clause-state
 returns-clause-state g c =
     let m = the_view c.self.inside in
     let image = (g.P.Asked.seen c.args.boots.now).image in
-    let same : length c.answer_at.new.nodes ≡ c.self.inside.nodes.len = omega arith in
-    let done = rw (c.as_mut_slice-nodes.ensures.value, c.timeout.ensures.timeout, ← c.self.view_is) at c.in_ok-sent.ensures in
-    let queued = rw (c.number_at-number.ensures, c.deref.ensures.value) at c.in_ok-tell.ensures.queued in
-    rw (← c.self.view_is, with_items_is c.self.inside.nodes c.answer_at.new.nodes same)
-    (answered_state c.args.t c.args.answer.now c.args.i m image c.in_ok-sent.sent c.answer_at.new.nodes c.tell.new.waiting done.nodes done.sent queued)
+    let done = rw (c.timeout.ensures.timeout, ← c.self.view_is) at c.in_ok-sent.ensures in
+    let queued = rw c.number_at-number.ensures at c.in_ok-tell.ensures.queued in
+    rw (← c.self.view_is)
+    (answered_state c.args.t c.args.answer.now c.args.i m image c.in_ok-sent.sent c.answer_at.new.self c.tell.new.waiting done.nodes done.sent queued)

@@ -1,0 +1,37 @@
+-- Devices that sleep through an instant.
+use Rattle.std.proofs.Common.{◌≡◌, ℕ, ◌<◌, true, List, [], ◌∷◌, Option, refl, sym, ap, ◌∙◌}
+use Rattle.std.specs.Prelude.{IfSome}
+use Rattle.std.specs.List.{AllByRecursion}
+use Rattle.std.proofs.lemmas.List.{append-nil}
+use Rattle.asking.specs.Asking.{Asking, Answer, Seen, bind, followed, outcome}
+use Rattle.bus_events.specs.Each.{each}
+use Rattle.co_device.specs.Device.{Device}
+use Rattle.co_parts.specs.Contents.{Content, Image}
+use Rattle.co_parts.specs.declared.part.Part.{Part}
+use Rattle.device_agenda.specs.Agenda.{IsAgendaOf, at_instant, sleeps_through}
+use Rattle.device_agenda.specs.Delivered.{Delivered}
+use Rattle.device_agenda.specs.declared.agenda.Agenda.{Agenda}
+
+idle : {N V A : Type 0} (step : A → Asking N V A) (xs : List A) → AllByRecursion (λ x. step x ≡ Answer x) xs → each step xs ≡ Answer xs
+idle step [] still = refl
+idle {N} {V} {A} step (x ∷ xs) still =
+    ap (λ (m : Asking N V A). bind m (λ b. bind (each step xs) (λ bs. Answer (b ∷ bs)))) still.0
+    ∙ ap (λ (m : Asking N V (List A)). bind m (λ bs. Answer (x ∷ bs))) (idle step xs still.1)
+
+-- what the law of agendas says
+abbrev pub NothingHappens : Type 0
+NothingHappens = (a : Agenda) (ds : List Device) (t : ℕ) (delivered : Option Delivered) → IfSome delivered (λ d. d.frame.id < 0x800)
+    → IsAgendaOf a ds → sleeps_through t delivered a ≡ true → AllByRecursion (λ d. at_instant t delivered d ≡ Answer d) ds
+
+module _ (law : NothingHappens) (a : Agenda) (ds : List Device) (t : ℕ) (delivered : Option Delivered) (short : IfSome delivered (λ d. d.frame.id < 0x800)) (is : IsAgendaOf a ds) (asleep : sleeps_through t delivered a ≡ true) where
+  all_idle : each (at_instant t delivered) ds ≡ Answer ds
+  all_idle = idle (at_instant t delivered) ds (law a ds t delivered short is asleep)
+
+  nothing_followed : (seen : Seen Part Content) → followed {V = Content} (Answer ds) seen ≡ seen
+  nothing_followed seen = rw append-nil refl
+
+  pub idle_state : (image : Image) → ds ≡ outcome (each (at_instant t delivered) ds) image
+  idle_state image = sym (ap (λ (m : Asking Part Content (List Device)). outcome m image) all_idle)
+
+  pub idle_noted : (seen : Seen Part Content) → seen ≡ followed (each (at_instant t delivered) ds) seen
+  idle_noted seen = sym (ap (λ (m : Asking Part Content (List Device)). followed m seen) all_idle ∙ nothing_followed seen)

@@ -1,0 +1,5 @@
+pub mod BlockLemmas
+pub mod DueLemmas
+pub mod IdleLemmas
+pub mod SenderLemmas
+pub mod SentLemmas

@@ -1,0 +1,22 @@
+use Rattle.std.proofs.Common.{◌<◌, ◌∙◌, length, arith}
+use Rattle.device_agenda.specs.Agenda.{at_instant}
+use Rattle.bus_events.proofs.EachLemmas.{each_state, each_noted, each_counted}
+use Rattle.bus_devices.proofs.block.run_each.Goals as goal
+
+pub loop-device-preserved : goal.loop-device-preserved
+loop-device-preserved g c =
+    let old = c.loop-device.invariant in
+    let image = (g.P.Asked.seen c.args.shapes.now).image in
+    let step = at_instant c.args.t c.args.delivery.now in
+    let i = c.loop-device.device-index in
+    let ss = c.loop-device.devices in
+    let d = c.device-item.result in
+    let t = c.instant.new.self in
+    let within : i < length ss = omega arith in
+    let e = c.in_ok-instant.ensures in
+    record {
+      state = each_state step ss i d t within image (rw old.kept at e.state) ∙ old.state;
+      noted = each_noted step ss i d t within _ _ e.noted ∙ old.noted;
+      counted = omega (arith, each_counted step ss i d t within image (g.P.Asked.asks c.loop-device.shapes) (g.P.Asked.asks c.instant.new.shapes) (rw old.kept at e.counted), old.counted);
+      kept = e.kept ∙ old.kept;
+    }

@@ -1,0 +1,19 @@
+use Rattle.std.proofs.Common.{◌≡◌, ◌++◌, ◌≤◌, ◌+◌, length, take, drop}
+use Rattle.device_agenda.specs.Agenda.{at_instant}
+use Rattle.asking.specs.Asking.{outcome, followed, reads}
+use Rattle.bus_events.specs.Each.{each}
+use Rattle.bus_devices.proofs.block.run_each.Given as goal
+
+-- what is done and what is left give what all give
+abbrev pub invariant-loop-device : goal.invariant-loop-device
+invariant-loop-device g l =
+    let seen = g.P.Asked.seen l.fn.shapes in
+    let step = at_instant l.fn.t l.fn.delivery in
+    let rest = each step (drop l.device-index l.devices) in
+    let all = each step l.fn.devices in
+    record {
+      state : take l.device-index l.devices ++ outcome rest seen.image ≡ outcome all seen.image;
+      noted : followed rest (g.P.Asked.seen l.shapes) ≡ followed all seen;
+      counted : g.P.Asked.asks l.shapes + length (reads rest seen.image) ≤ g.P.Asked.asks l.fn.shapes + length (reads all seen.image);
+      kept : (g.P.Asked.seen l.shapes).image ≡ seen.image;
+    }

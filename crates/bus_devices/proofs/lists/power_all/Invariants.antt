@@ -1,0 +1,20 @@
+use Rattle.std.proofs.Common.{◌≡◌, ◌++◌, ◌≤◌, ◌+◌, length, take, drop}
+use Rattle.std.specs.Prelude.{true}
+use Rattle.co_device.specs.Device.{powered}
+use Rattle.asking.specs.Asking.{outcome, followed, reads}
+use Rattle.bus_events.specs.Each.{each}
+use Rattle.bus_devices.proofs.lists.power_all.Given as goal
+
+-- what is done and what is left give what all give
+abbrev pub invariant-loop-device : goal.invariant-loop-device
+invariant-loop-device g l =
+    let seen = g.P.Asked.seen l.fn.shapes in
+    let step = powered true 0 in
+    let rest = each step (drop l.device-index l.devices) in
+    let all = each step l.fn.devices in
+    record {
+      state : take l.device-index l.devices ++ outcome rest seen.image ≡ outcome all seen.image;
+      noted : followed rest (g.P.Asked.seen l.shapes) ≡ followed all seen;
+      counted : g.P.Asked.asks l.shapes + length (reads rest seen.image) ≤ g.P.Asked.asks l.fn.shapes + length (reads all seen.image);
+      kept : (g.P.Asked.seen l.shapes).image ≡ seen.image;
+    }

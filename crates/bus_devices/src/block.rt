@@ -1,0 +1,99 @@
+//! What a few devices of a bus do.
+
+ghost use Rattle.std.specs.Prelude.{◌≡◌, ◌<◌, ◌≤◌, ◌+◌, length, OnOk};
+ghost use Rattle.asking.specs.Asking.{followed, outcome, reads};
+ghost use Rattle.bus_devices.specs.Senders.{contends_with as contends, device_lists, is_contender, sender_place};
+ghost use Rattle.bus_events.specs.Each.{each};
+ghost use Rattle.can_frame.specs.Winner.{contenders, IsWinner};
+ghost use Rattle.co_parts.specs.Moments.{earliest};
+ghost use Rattle.co_device.specs.Device.{moments};
+ghost use Rattle.std.specs.List.{flat_map};
+ghost use Rattle.device_agenda.specs.Agenda.{at_instant, IsAgendaOf};
+
+use can_frame::Contender;
+use co_device::Shapes;
+use co_parts::{END, earlier};
+use device_agenda::{Agenda, Delivery, ScheduledDevice};
+use std::alloc::AllocError;
+
+/// The agenda of devices.
+pub(crate) fn agenda_of(devices: &[ScheduledDevice]) -> Agenda
+    ensures { IsAgendaOf result devices.now }
+{
+    let mut agenda = Agenda::none();
+    for device in devices {
+        agenda = agenda.and(device.agenda());
+    }
+    agenda
+}
+
+/// Runs each device that has to run at the moment t, at which this is delivered.
+pub(crate) fn run_each<P: Shapes>(
+    devices: &mut [ScheduledDevice],
+    t: u64,
+    delivery: &Option<Delivery>,
+    shapes: &mut P,
+) -> Result<(), AllocError>
+    requires { t < END }
+    ensures state { OnOk result (devices.new ≡ outcome (each (at_instant t delivery.now) devices.old) (P.seen shapes.old).image) }
+    ensures noted { OnOk result (P.seen shapes.new ≡ followed (each (at_instant t delivery.now) devices.old) (P.seen shapes.old)) }
+    ensures counted { OnOk result (P.asks shapes.new ≤ P.asks shapes.old + length (reads (each (at_instant t delivery.now) devices.old) (P.seen shapes.old).image)) }
+    ensures kept { (P.seen shapes.new).image ≡ (P.seen shapes.old).image }
+{
+    for device in devices.iter_mut() {
+        device.instant(t, delivery, shapes)?;
+    }
+    Ok(())
+}
+
+/// The first moment at which one of the devices is due, if there is one. Walks them.
+pub(crate) fn first_due(devices: &[ScheduledDevice]) -> Option<u64>
+    ensures { result ≡ earliest (flat_map moments devices.now) }
+{
+    let mut first = None;
+    for device in devices {
+        first = earlier(first, device.next_due());
+    }
+    first
+}
+
+/// The least frame that waits at one of the devices. Walks them.
+pub(crate) fn winner_of(devices: &[ScheduledDevice]) -> Option<Contender>
+    ensures { IsWinner (contenders (device_lists devices.now)) result }
+{
+    let mut best = None;
+    for device in devices {
+        best = Contender::lower(best, device.contender());
+    }
+    best
+}
+
+/// Whether a frame is this one.
+fn is_same(contender: &Contender, other: Option<Contender>) -> bool
+    ensures { result ≡ is_contender contender.now other }
+{
+    match other {
+        None => false,
+        Some(other) => {
+            other.id == contender.id
+                && (other.node == contender.node && other.place == contender.place)
+        }
+    }
+}
+
+/// Whether a device contends with this frame.
+fn contends_with(contender: &Contender, device: &ScheduledDevice) -> bool
+    ensures { result ≡ contends contender.now device.now }
+{
+    is_same(contender, device.contender())
+}
+
+/// The place of the first device that contends with this frame. Walks them.
+#[tactic(auto, unfolding(crate::specs::Senders::sender_place))]
+pub(crate) fn place_of_sender(contender: &Contender, devices: &[ScheduledDevice]) -> Option<usize>
+    ensures { result ≡ sender_place contender.now devices.now }
+{
+    devices
+        .iter()
+        .position(|device| contends_with(contender, device))
+}

@@ -1,0 +1,10 @@
+//! The devices of a bus, of which only those run that have to.
+#![tactic(auto)]
+
+mod block;
+mod blocks;
+mod devices;
+mod lists;
+
+pub use devices::Devices;
+pub use lists::{new_devices, power_all};

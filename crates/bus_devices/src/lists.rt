@@ -1,0 +1,67 @@
+//! The devices of a network as the power comes on.
+
+ghost use Rattle.std.specs.Prelude.{◌≡◌, ◌≤◌, ◌+◌, ◌↔◌, false, true, length, map, IfOk, IsTrue, OnOk};
+ghost use Rattle.asking.specs.Asking.{followed, outcome, reads};
+ghost use Rattle.bus_events.specs.Each.{each};
+ghost use Rattle.co_device.specs.Device.{powered, without_power};
+
+use co_device::Shapes;
+use device_agenda::ScheduledDevice;
+use std::alloc::{AllocError, Global};
+
+/// The devices of these numbers without power.
+pub fn new_devices(alloc: Global, numbers: &[u8]) -> Result<Vec<ScheduledDevice>, AllocError>
+    ensures { IfOk result (λ devices. devices.items ≡ map (without_power false) numbers.now) }
+{
+    let mut devices = Vec::new(alloc);
+    for number in numbers {
+        devices.push(ScheduledDevice::new(alloc, *number))?;
+    }
+    Ok(devices)
+}
+
+/// Devices that are equal to these.
+pub(crate) fn copy_all(
+    alloc: Global,
+    devices: &[ScheduledDevice],
+) -> Result<Vec<ScheduledDevice>, AllocError>
+    ensures { IfOk result (λ copies. copies.items ≡ devices.now) }
+{
+    let mut copies = Vec::new(alloc);
+    for device in devices {
+        let copy = device.copy()?;
+        copies.push(copy)?;
+    }
+    Ok(copies)
+}
+
+/// Whether the devices of two lists are the same.
+pub(crate) fn same_all(devices: &[ScheduledDevice], others: &[ScheduledDevice]) -> bool
+    ensures { IsTrue result ↔ (devices.now ≡ others.now) }
+{
+    if devices.len() != others.len() {
+        return false;
+    }
+    for i in 0..devices.len() {
+        if !devices[i].same(&others[i]) {
+            return false;
+        }
+    }
+    true
+}
+
+/// Switches the power of each on, at time 0.
+pub fn power_all<P: Shapes>(
+    devices: &mut [ScheduledDevice],
+    shapes: &mut P,
+) -> Result<(), AllocError>
+    ensures state { OnOk result (devices.new ≡ outcome (each (powered true 0) devices.old) (P.seen shapes.old).image) }
+    ensures noted { OnOk result (P.seen shapes.new ≡ followed (each (powered true 0) devices.old) (P.seen shapes.old)) }
+    ensures counted { OnOk result (P.asks shapes.new ≤ P.asks shapes.old + length (reads (each (powered true 0) devices.old) (P.seen shapes.old).image)) }
+    ensures kept { (P.seen shapes.new).image ≡ (P.seen shapes.old).image }
+{
+    for device in devices.iter_mut() {
+        device.power(true, 0, shapes)?;
+    }
+    Ok(())
+}

@@ -1,6 +1,0 @@
-use Rattle.std.proofs.Common.{take, map}
-use Rattle.can_frame.specs.Winner.{contenders, IsWinner}
-use Rattle.can_bus.proofs.arbitration.winner_of_devices.Given as goal
-
-abbrev pub invariant-loop-device : goal.invariant-loop-device
-invariant-loop-device l = IsWinner (contenders (map (λ d. (d.number, d.waiting)) (take l.device-index l.devices))) l.best

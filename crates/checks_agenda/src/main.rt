@@ -1,0 +1,52 @@
+//! Runs the networks that its input lays out from due moment to due moment, and prints the runs.
+//!
+//! A line is an edit of the project, as a session takes it, or `run`: a run to the horizon. Prints each
+//! line but those of data sheets, and of a run the number of its turns and of the lines that it told,
+//! whether a copy of the bus that was taken halfway was equal then, was left behind by the rest of the run,
+//! and came to the same by a run of its own, and the first moments.
+#![tactic(auto)]
+
+mod block;
+mod layout;
+mod outcome;
+mod run;
+
+use anyhow::Result;
+use layout::Layout;
+use run::run_project;
+use std::alloc::Global;
+use std::io::Write;
+
+/// Runs the network that is laid out, and shows the run.
+fn show_run<W: Write>(alloc: Global, out: &mut W, layout: &Layout) -> Result<()> {
+    let outcome = run_project(alloc, layout.project())?;
+    outcome.show(out)
+}
+
+/// Does what a line says that is none of a data sheet.
+fn obey<W: Write>(alloc: Global, out: &mut W, layout: &mut Layout, line: &str) -> Result<()> {
+    writeln!(out, "{line}")?;
+    if line == "run" {
+        show_run(alloc, out, layout)
+    } else {
+        layout.take_command(line)
+    }
+}
+
+/// Takes a line.
+fn take<W: Write>(alloc: Global, out: &mut W, layout: &mut Layout, line: &str) -> Result<()> {
+    if layout.takes_block() {
+        layout.take_line(line)
+    } else {
+        obey(alloc, out, layout, line)
+    }
+}
+
+fn main(rt: HostRuntime) -> Result<()> {
+    let alloc = rt.alloc();
+    let mut layout = Layout::new(alloc);
+    for line in rt.lines(alloc) {
+        take(alloc, &mut rt.stdout(), &mut layout, line?.as_str())?;
+    }
+    Ok(())
+}

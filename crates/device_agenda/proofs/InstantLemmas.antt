@@ -1,0 +1,22 @@
+-- What a device does in an instant in which it is told something.
+use Rattle.std.proofs.Common.{◌≡◌, ℕ, append-nil, Some, sym, ◌∙◌}
+use Rattle.asking.specs.Asking.{Answer, Seen, followed, outcome, reads}
+use Rattle.asking.proofs.QuestionLemmas.{followed_last, outcome_bind, reads_bind}
+use Rattle.co_parts.specs.Contents.{Content, Image}
+use Rattle.co_parts.specs.declared.part.Part.{Part}
+use Rattle.co_device.specs.Device.{Device, ran}
+use Rattle.device_agenda.specs.Agenda.{at_instant, hears}
+use Rattle.device_agenda.specs.Delivered.{Delivered}
+
+module _ (t : ℕ) (delivered : Delivered) (d : Device) where
+  pub told_state : (image : Image) → ran t (outcome (hears t delivered d) image) ≡ outcome (at_instant t (Some delivered) d) image
+  unfolding at_instant
+  told_state image = sym (outcome_bind (hears t delivered d) (λ heard. Answer (ran t heard)) image)
+
+  pub told_noted : (seen : Seen Part Content) → followed (hears t delivered d) seen ≡ followed (at_instant t (Some delivered) d) seen
+  unfolding at_instant
+  told_noted seen = sym (followed_last (hears t delivered d) (ran t) seen)
+
+  pub told_reads : (image : Image) → reads (hears t delivered d) image ≡ reads (at_instant t (Some delivered) d) image
+  unfolding at_instant
+  told_reads image = sym (reads_bind (hears t delivered d) (λ heard. Answer (ran t heard)) image ∙ append-nil _)

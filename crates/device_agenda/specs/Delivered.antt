@@ -1,0 +1,14 @@
+-- What is delivered on a bus in an instant.
+use Rattle.std.specs.Prelude.{◌≡◌, ◌<◌, ℕ}
+use Rattle.can_frame.specs.Frames.{BaseFrame}
+use Rattle.device_agenda.specs.Groups.{group_of}
+
+-- a frame, and the number of the node that sent it
+pub record Delivered : Type 0 where
+  pub sender : ℕ
+  pub frame : BaseFrame
+
+-- its identifier has 11 bits, and this is its group
+pub record IsInGroup (delivered : Delivered) (number : ℕ) : Type 0 where
+  pub identifier : delivered.frame.id < 0x800
+  pub group : number ≡ group_of delivered.frame.id

@@ -1,0 +1,86 @@
+//! When devices have to run.
+
+ghost use Rattle.std.specs.Prelude.{◌≡◌, ◌<◌, ◌||◌, ◌++◌, List, [], false, IfSome, IsTrue};
+ghost use Rattle.co_device.specs.Device.{Device};
+ghost use Rattle.device_agenda.specs.Agenda.{has_come as come, IsAgendaOf, sleeps_through};
+
+use crate::delivery::Delivery;
+use crate::groups::Groups;
+use co_parts::earlier;
+
+/// When devices have to run: at the moment at which one is due, and where a frame is delivered of a group of
+/// which one may take a frame.
+#[derive(Clone, Copy, Debug)]
+pub struct Agenda {
+    /// Whether one has to run whatever comes.
+    pub awake: bool,
+    /// The first moment at which one is due, in microseconds, if there is one and none is awake.
+    pub due: Option<u64>,
+    /// The groups of the frames that are something to one of them.
+    pub groups: Groups,
+    /// Whether a frame may wait at one of them.
+    pub waits: bool,
+}
+
+/// Whether a moment is there that has come at t.
+pub(crate) fn has_come(t: u64, due: Option<u64>) -> bool
+    ensures { result ≡ come t due }
+{
+    match due {
+        Some(due) => due <= t,
+        None => false,
+    }
+}
+
+/// Whether one of two holds.
+pub(crate) fn either(one: bool, other: bool) -> bool
+    ensures { result ≡ one || other }
+{
+    one || other
+}
+
+impl Agenda {
+    /// That of no device.
+    pub fn none() -> Agenda
+        ensures { IsAgendaOf result [] }
+    {
+        Agenda {
+            awake: false,
+            due: None,
+            groups: Groups::none(),
+            waits: false,
+        }
+    }
+
+    /// That of devices of which nothing is known.
+    pub(crate) fn unknown() -> Agenda
+        ensures { (ds : List Device) → IsAgendaOf result ds }
+    {
+        Agenda {
+            awake: true,
+            due: None,
+            groups: Groups::none(),
+            waits: true,
+        }
+    }
+
+    /// That of these devices and others.
+    pub fn and(self, other: Agenda) -> Agenda
+        ensures { (ds es : List Device) → IsAgendaOf self ds → IsAgendaOf other es → IsAgendaOf result (ds ++ es) }
+    {
+        Agenda {
+            awake: either(self.awake, other.awake),
+            due: earlier(self.due, other.due),
+            groups: self.groups.and(other.groups),
+            waits: either(self.waits, other.waits),
+        }
+    }
+
+    /// Whether nothing happens to its devices at the moment t, at which this is delivered.
+    pub fn sleeps_through(&self, t: u64, delivery: &Option<Delivery>) -> bool
+        ensures sleeps { result ≡ sleeps_through t delivery.now self.now }
+        ensures bound { IsTrue result → IfSome delivery.now (λ d. d.frame.id < 0x800) }
+    {
+        !self.awake && !has_come(t, self.due) && !Delivery::stirs(self.groups, delivery)
+    }
+}

@@ -1,0 +1,17 @@
+//! Laws of agendas, each a function whose contract is the law.
+
+ghost use Rattle.std.specs.Prelude.{◌≡◌, ℕ, ◌<◌, true, List, ◌∷◌, [], Option, IfSome};
+ghost use Rattle.std.specs.List.{AllByRecursion};
+ghost use Rattle.asking.specs.Asking.{Answer};
+ghost use Rattle.co_device.specs.Device.{Device};
+ghost use Rattle.device_agenda.specs.Agenda.{IsAgendaOf, at_instant, sleeps_through};
+ghost use Rattle.device_agenda.specs.Delivered.{Delivered};
+ghost use Rattle.device_agenda.specs.declared.agenda.Agenda.{Agenda as Plan};
+
+/// Devices that sleep through an instant by an agenda of theirs do nothing in it: no device changes, and
+/// nothing is read.
+#[tactic(auto, using(crate::proofs::SleepLemmas::nothing_happens))]
+pub fn devices_that_sleep_do_nothing()
+    ensures { (a : Plan) (ds : List Device) (t : ℕ) (delivered : Option Delivered) → IfSome delivered (λ d. d.frame.id < 0x800)
+        → IsAgendaOf a ds → sleeps_through t delivered a ≡ true → AllByRecursion (λ d. at_instant t delivered d ≡ Answer d) ds }
+{}

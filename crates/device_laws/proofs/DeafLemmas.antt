@@ -1,0 +1,156 @@
+-- A frame that is nothing to a device at rest changes nothing in the instant of its delivery, and nothing is read for it.
+use Rattle.std.proofs.Common.{◌≡◌, ℕ, zero, suc, ◌<◌, ◌==◌, Bool, true, false, not, List, [], ◌∷◌, Option, Some, None, inl, inr, refl, sym, ap, ◌∙◌, arith}
+use Rattle.std.specs.Prelude.{if◌then◌else◌, nat_le}
+use Rattle.std.specs.List.{AllByRecursion}
+use Rattle.std.proofs.lemmas.Bool.Decides.{nat_tests}
+use Rattle.asking.specs.Asking.{Asking, Answer, bind}
+use Rattle.can_frame.specs.Frames.{BaseFrame}
+use Rattle.can_frame.specs.Identifiers.{nmt_id}
+use Rattle.can_frame.specs.declared.waiting.Waiting.{Waiting}
+use Rattle.co_dict.specs.Values.{Values}
+use Rattle.co_parts.specs.Contents.{Content}
+use Rattle.co_parts.specs.declared.part.Part.{Part}
+use Rattle.co_pdos.specs.Tpdo.{Remembered, inhibit_over, is_sent_by_type, looked_at_by_type}
+use Rattle.co_pdos.specs.declared.communication.Communication.{Communication}
+use Rattle.co_pdos.specs.declared.configuration.Configuration.{Configuration}
+use Rattle.co_profile.specs.Profile.{sync_identifier}
+use Rattle.device_pdos.specs.Rpdos.{rpdo_at}
+use Rattle.device_pdos.specs.Tpdos as tpdos
+use Rattle.device_pdos.specs.Tpdos.{bytes_now, frame_if, frame_sent, looked, looked_by, sent_by, tpdos_looked, with_frame, with_tpdos}
+use Rattle.device_pdos.specs.declared.rpdo_state.RpdoState.{RpdoState}
+use Rattle.device_pdos.specs.declared.tpdo_state.TpdoState.{TpdoState}
+use Rattle.device_pdos.proofs.LookLemmas.{quiet_tpdos, quiet_waiting}
+use Rattle.co_device.specs.Device.{Device, is_in, moments, ran, tpdos_run}
+use Rattle.co_device.specs.Receiving.{kept_applied, places, received, rpdo_synced, sync_received, walk}
+use Rattle.co_device.specs.declared.nmt_state.NmtState.TheVariants.{Operational}
+use Rattle.device_laws.specs.Deaf.{AwaitsNoSync, IsDeafTo, IsIdleSync, goes_by_sync, is_synchronous}
+use Rattle.device_laws.specs.Rest.{Rests}
+use Rattle.device_laws.proofs.AheadLemmas.{quiet}
+use Rattle.device_laws.proofs.CaseLemmas.{not_both}
+use Rattle.device_laws.proofs.IgnoredLemmas.{ignored_changes_nothing}
+use Rattle.device_laws.proofs.RestLemmas.{LieAfter, equal, quiet_at_rest, timers_ahead, tpdos_after}
+
+-- ---- RPDOs that keep no frame
+
+none_kept : (rpdos : List RpdoState) → AllByRecursion (λ p. p.kept ≡ None) rpdos → (i : ℕ) → (rpdo_at rpdos i).kept ≡ None
+none_kept [] h i = refl
+none_kept (p ∷ rpdos) h zero = h.0
+none_kept (p ∷ rpdos) h (suc i) = none_kept rpdos h.1 i
+
+module _ (t : ℕ) (d : Device) (nothing_kept : AllByRecursion (λ p. p.kept ≡ None) d.rpdos) where
+  one_idle : (i : ℕ) → rpdo_synced t i d ≡ Answer d
+  unfolding rpdo_synced kept_applied
+  one_idle i = rw (none_kept d.rpdos nothing_kept i) refl
+
+  walk_idle : (numbers : List ℕ) → walk (rpdo_synced t) numbers d ≡ Answer d
+  walk_idle [] = refl
+  walk_idle (i ∷ numbers) = ap (λ (m : Asking Part Content Device). bind m (walk (rpdo_synced t) numbers)) (one_idle i) ∙ walk_idle numbers
+
+-- ---- TPDOs that don't go by SYNC are looked at as without it
+
+not_zero : (kind : ℕ) → nat_le kind 240 ≡ false → (kind == 0) ≡ false
+not_zero kind h = grind (arith, nat_tests)
+
+looked_alike : (kind : Option ℕ) (c : Communication) (t : ℕ) (bytes : List ℕ) (r : Remembered) → is_synchronous kind ≡ false
+    → looked_at_by_type kind c true t bytes r ≡ looked_at_by_type kind c false t bytes r
+unfolding looked_at_by_type
+looked_alike None c t bytes r h = refl
+looked_alike (Some kind) c t bytes r h = rw (not_zero kind h, h) refl
+
+sent_alike : (kind : Option ℕ) (t : ℕ) (bytes : List ℕ) (r : Remembered) → is_synchronous kind ≡ false
+    → is_sent_by_type kind true t bytes r ≡ is_sent_by_type kind false t bytes r
+unfolding is_sent_by_type
+sent_alike None t bytes r h = refl
+sent_alike (Some kind) t bytes r h = rw (not_zero kind h, h) refl
+
+module _ (t : ℕ) (values : Values) where
+  remembers_alike : (configuration : Option Configuration) (r : Remembered) → goes_by_sync configuration ≡ false
+      → looked_by configuration t true values r ≡ looked_by configuration t false values r
+  remembers_alike None r h = refl
+  remembers_alike (Some c) r h = looked_alike c.communication.kind c.communication t (bytes_now values c) r h
+
+  frames_alike : (configuration : Option Configuration) (r : Remembered) → goes_by_sync configuration ≡ false
+      → sent_by configuration t true values r ≡ sent_by configuration t false values r
+  unfolding sent_by
+  frames_alike None r h = refl
+  frames_alike (Some c) r h =
+      let bytes : List ℕ = bytes_now values c in
+      ap (λ (test : Bool). frame_if test c.identifier bytes) (sent_alike c.communication.kind t bytes r h)
+
+  one_alike : (p : TpdoState) → goes_by_sync p.configuration ≡ false → looked t true values p ≡ looked t false values p
+  one_alike p h = ap (λ (r : Remembered). record p { remembered = r }) (remembers_alike p.configuration (inhibit_over t p.remembered) h)
+
+  all_alike : (ps : List TpdoState) → AllByRecursion (λ p. goes_by_sync p.configuration ≡ false) ps → tpdos_looked t true values ps ≡ tpdos_looked t false values ps
+  unfolding tpdos_looked
+  all_alike [] h = refl
+  all_alike (p ∷ ps) h =
+      ap (λ (q : TpdoState). q ∷ tpdos_looked t true values ps) (one_alike p h.0) ∙ ap (λ (qs : List TpdoState). looked t false values p ∷ qs) (all_alike ps h.1)
+
+  waiting_alike : (ps : List TpdoState) (frames : List Waiting) → AllByRecursion (λ p. goes_by_sync p.configuration ≡ false) ps
+      → with_tpdos t true values ps frames ≡ with_tpdos t false values ps frames
+  unfolding with_tpdos
+  waiting_alike [] frames h = refl
+  waiting_alike (p ∷ ps) frames h =
+      ap (λ (frame : Option BaseFrame). with_tpdos t true values ps (with_frame p.number frame frames)) (frames_alike p.configuration (inhibit_over t p.remembered) h.0)
+      ∙ waiting_alike ps (with_frame p.number (frame_sent t false values p) frames) h.1
+
+-- ---- the instant
+
+-- one of two trees, with what the test gave
+one_tree : (P : Asking Part Content Device → Type 0) (b : Bool) (m n : Asking Part Content Device) → (b ≡ true → P m) → (b ≡ false → P n) → P (if b then m else n)
+one_tree P true m n p q = p refl
+one_tree P false m n p q = q refl
+
+module _ (t : ℕ) (d : Device) (rests : Rests d) (ahead : LieAfter t (moments d)) where
+  -- what the device hears first leaves it as it was when the instant ends
+  abbrev IsNothing : Asking Part Content Device → Type 0
+  IsNothing m = bind m (λ heard. Answer (ran t heard)) ≡ Answer d
+
+  nothing_heard : IsNothing (Answer d)
+  nothing_heard = ap (λ (x : Device). Answer x) (quiet_at_rest t d rests ahead)
+
+  module _ (awaits : AwaitsNoSync d) (on : is_in Operational d ≡ true) where
+    tpdos_in_operational : LieAfter t (tpdos.moments true d.tpdos)
+    tpdos_in_operational = rw on at (tpdos_after t d ahead)
+
+    looked_at_sync : tpdos_run t (record d { synced = true }) ≡ d
+    unfolding tpdos_run
+    looked_at_sync =
+        let unsent = rests.unwanted on t tpdos_in_operational in
+        rw on
+        (equal d false _ _ (sym rests.unsynced)
+        (all_alike t d.values d.tpdos awaits.no_tpdo ∙ quiet_tpdos t d.values d.tpdos unsent tpdos_in_operational)
+        (waiting_alike t d.values d.tpdos d.waiting awaits.no_tpdo ∙ quiet_waiting t d.values d.tpdos d.waiting unsent))
+
+    ran_at_sync : ran t (record d { synced = true }) ≡ d
+    unfolding ran
+    ran_at_sync =
+        let h = timers_ahead t d ahead in
+        ap (tpdos_run t) (quiet t (record d { synced = true }) (record { heartbeat = h.heartbeat; consumers = h.consumers }))
+        ∙ looked_at_sync
+
+    walk_is_nothing : IsNothing (walk (rpdo_synced t) (places d) (record d { synced = true }))
+    walk_is_nothing =
+        ap (λ (m : Asking Part Content Device). bind m (λ heard. Answer (ran t heard))) (walk_idle t (record d { synced = true }) awaits.nothing_kept (places d))
+        ∙ ap (λ (x : Device). Answer x) ran_at_sync
+
+  sync_is_nothing : AwaitsNoSync d → IsNothing (sync_received t d)
+  unfolding sync_received
+  sync_is_nothing awaits = one_tree IsNothing (is_in Operational d) _ _ (walk_is_nothing awaits) (λ e. nothing_heard)
+
+  idle_is_nothing : (frame : BaseFrame) → IsIdleSync frame d → IsNothing (received t frame d)
+  unfolding received
+  idle_is_nothing frame h =
+      one_tree IsNothing (not d.has_power) _ _ (λ e. nothing_heard)
+      (λ off. one_tree IsNothing (frame.id == nmt_id) _ _ (not_both (frame.id == nmt_id) h.no_command)
+      (λ e. one_tree IsNothing (frame.id == sync_identifier d.learnt d.values) _ _ (λ e. sync_is_nothing h.awaits_none)
+      (λ e. not_both (frame.id == sync_identifier d.learnt d.values) e h.is_sync)))
+
+  deaf_is_nothing : (frame : BaseFrame) → IsDeafTo frame d → IsNothing (received t frame d)
+  deaf_is_nothing frame (inl h) =
+      ap (λ (m : Asking Part Content Device). bind m (λ heard. Answer (ran t heard))) (ignored_changes_nothing t frame d h) ∙ nothing_heard
+  deaf_is_nothing frame (inr h) = idle_is_nothing frame h
+
+pub nothing_comes_of_it : (t : ℕ) (frame : BaseFrame) (d : Device) → Rests d → AllByRecursion (λ m. t < m) (moments d) → IsDeafTo frame d
+    → bind (received t frame d) (λ heard. Answer (ran t heard)) ≡ Answer d
+nothing_comes_of_it t frame d rests ahead deaf = deaf_is_nothing t d rests ahead frame deaf

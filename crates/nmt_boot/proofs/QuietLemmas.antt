@@ -1,0 +1,34 @@
+-- No node times out before the first deadline.
+use Rattle.std.proofs.Common.{◌≡◌, ℕ, ◌+◌, ◌<◌, ◌≤◌, List, [], ◌∷◌, map, Option, Some, None, IfSome, subst, arith}
+use Rattle.co_parts.specs.Moments.{earlier, earliest}
+use Rattle.node_boot.specs.Boot.{deadline_of}
+use Rattle.can_frame.specs.declared.waiting.Waiting.{Waiting}
+use Rattle.nmt_boot.proofs.EarliestLemmas.{first_then}
+use Rattle.nmt_boot.proofs.MomentLemmas.{AreFrom, quiet_nodes, quiet_notes, quiet_queue}
+use Rattle.nmt_boot.specs.Manager.{deadlines, node_after, notes_after_all, queue_after_all}
+use Rattle.nmt_boot.specs.declared.booting.Booting.{Booting}
+
+-- the first of the deadlines, if there is one, lies after t
+abbrev pub IsQuiet : ℕ → List Booting → Type 0
+IsQuiet t nodes = IfSome (earliest (deadlines nodes)) (λ first. t < first)
+
+both_later : (t : ℕ) (a b : Option ℕ) → IfSome (earlier a b) (λ d. t < d) → IfSome a (λ d. t + 1 ≤ d) × IfSome b (λ d. t < d)
+both_later t None b h = (tt, h)
+both_later t (Some a) None h = (omega (arith, h), tt)
+both_later t (Some a) (Some b) h = (omega (arith, h), omega (arith, h))
+
+are_from : (t : ℕ) (ns : List Booting) → IsQuiet t ns → AreFrom (t + 1) ns
+unfolding deadlines
+are_from t [] h = tt
+are_from t (n ∷ ns) h =
+    let both = both_later t (deadline_of n.stage) (earliest (deadlines ns)) (subst (λ (o : Option ℕ). IfSome o (λ first. t < first)) (first_then (deadline_of n.stage) (deadlines ns)) h) in
+    (both.0, are_from t ns both.1)
+
+pub nodes_stay : (t : ℕ) (ns : List Booting) → IsQuiet t ns → map (node_after t) ns ≡ ns
+nodes_stay t ns h = quiet_nodes t ns (are_from t ns h)
+
+pub queue_stays : (t : ℕ) (ns : List Booting) (ws : List Waiting) → IsQuiet t ns → queue_after_all t ns ws ≡ ws
+queue_stays t ns ws h = quiet_queue t ns ws (are_from t ns h)
+
+pub nothing_noted : (t : ℕ) (ns : List Booting) → IsQuiet t ns → notes_after_all t ns ≡ []
+nothing_noted t ns h = quiet_notes t ns (are_from t ns h)

@@ -1,0 +1,330 @@
+//! The table of the manager's nodes.
+
+ghost use Rattle.std.specs.Prelude.{◌≡◌, ◌≤◌, ◌<◌, ◌+◌, ◌++◌, ◌↔◌, [], length, map, IfOk, IfSome, IsTrue, OnOk};
+ghost use Rattle.asking.specs.Asking.{followed, outcome, reads};
+ghost use Rattle.co_parts.specs.Moments.{earliest};
+ghost use Rattle.node_boot.specs.Boot.{boot_nmt_slave, sdo_answer};
+ghost use Rattle.nmt_boot.specs.Manager.{deadlines, lost, node_after, node_at, notes_after_all, place_of as is_place_of, queue_after_all, unseen, with_stage};
+ghost use Rattle.nmt_boot.specs.Sending.{sent_by};
+
+use crate::booting::Booting;
+use crate::notes::Notes;
+use crate::sent::Sent;
+use can_frame::Pending;
+use co_parts::earlier;
+use node_boot::{BootStage, Boots, Word, deadline_of};
+use std::alloc::{AllocError, Global};
+use std::marker::Model;
+
+/// The nodes of a manager with their boots, by number.
+///
+/// The first of their deadlines is kept, so that asking for it takes constant time. It is not known where a
+/// call found no memory; then it is looked for anew.
+#[derive(Drop)]
+pub(crate) struct NodeTable {
+    nodes: Vec<Booting>,
+    known: bool,
+    deadline: Option<u64>,
+}
+
+impl Model for NodeTable {
+    ghost use Rattle.std.specs.Prelude.{◌≡◌, List, IsTrue};
+    ghost use Rattle.co_parts.specs.Moments.{earliest};
+    ghost use Rattle.nmt_boot.specs.Manager.{deadlines};
+    ghost use Rattle.nmt_boot.specs.declared.booting.Booting.{Booting};
+
+    ghost Value = { List Booting };
+
+    ghost view = { λ table. table.nodes.items };
+
+    ghost invariant = { λ table. IsTrue table.known → table.deadline ≡ earliest (deadlines table.nodes.items) };
+}
+
+/// Nodes of which no boot-up came yet.
+fn unseen_nodes(alloc: Global, numbers: &[u8]) -> Result<Vec<Booting>, AllocError>
+    ensures { IfOk result (λ nodes. nodes.items ≡ map unseen numbers.now) }
+{
+    let mut nodes = Vec::new(alloc);
+    for number in numbers {
+        nodes.push(Booting {
+            number: *number,
+            stage: BootStage::Unseen,
+        })?;
+    }
+    Ok(nodes)
+}
+
+/// Equal nodes.
+fn copy_nodes(alloc: Global, nodes: &[Booting]) -> Result<Vec<Booting>, AllocError>
+    ensures { IfOk result (λ copies. copies.items ≡ nodes.now) }
+{
+    let mut copies = Vec::new(alloc);
+    for node in nodes {
+        copies.push(node.copy()?)?;
+    }
+    Ok(copies)
+}
+
+/// Whether two lists of nodes are the same.
+fn same_nodes(nodes: &[Booting], others: &[Booting]) -> bool
+    ensures { IsTrue result ↔ (nodes.now ≡ others.now) }
+{
+    if nodes.len() != others.len() {
+        return false;
+    }
+    for place in 0..nodes.len() {
+        if !nodes[place].same(&others[place]) {
+            return false;
+        }
+    }
+    true
+}
+
+/// The place of the node whose frames have this identifier: its number above a base.
+#[tactic(auto, unfolding(crate::specs::Manager::place_of))]
+fn place_in(nodes: &[Booting], base: u16, id: u16) -> Option<usize>
+    requires { base ≤ 0x700 }
+    ensures place { result ≡ is_place_of base id nodes.now }
+    ensures within { IfSome result (λ i. i < length nodes.now) }
+{
+    nodes
+        .iter()
+        .position(|node| base + u16::from(node.number) == id)
+}
+
+/// The boot of one of the nodes begins anew.
+fn boot_in<P: Boots>(
+    alloc: Global,
+    nodes: &mut [Booting],
+    i: usize,
+    deadline: u64,
+    boots: &mut P,
+) -> Result<Sent, AllocError>
+    requires { i < length nodes.now }
+    ensures nodes { OnOk result (nodes.new ≡ with_stage nodes.old i (outcome (boot_nmt_slave deadline (node_at nodes.old i).number) (P.seen boots.old).image).stage) }
+    ensures sent { IfOk result (λ sent. sent ≡ sent_by (outcome (boot_nmt_slave deadline (node_at nodes.old i).number) (P.seen boots.old).image)) }
+    ensures noted { OnOk result (P.seen boots.new ≡ followed (boot_nmt_slave deadline (node_at nodes.old i).number) (P.seen boots.old)) }
+    ensures counted { OnOk result (P.asks boots.new ≤ P.asks boots.old + length (reads (boot_nmt_slave deadline (node_at nodes.old i).number) (P.seen boots.old).image)) }
+    ensures kept { (P.seen boots.new).image ≡ (P.seen boots.old).image }
+{
+    nodes[i].boot(alloc, deadline, boots)
+}
+
+/// An SDO answer of one of the nodes comes.
+fn answer_in<P: Boots>(
+    alloc: Global,
+    nodes: &mut [Booting],
+    i: usize,
+    deadline: u64,
+    answer: &[u8; 8],
+    boots: &mut P,
+) -> Result<Sent, AllocError>
+    requires { i < length nodes.now }
+    ensures nodes { OnOk result (nodes.new ≡ with_stage nodes.old i (outcome (sdo_answer deadline (node_at nodes.old i).number (node_at nodes.old i).stage answer.now) (P.seen boots.old).image).stage) }
+    ensures sent { IfOk result (λ sent. sent ≡ sent_by (outcome (sdo_answer deadline (node_at nodes.old i).number (node_at nodes.old i).stage answer.now) (P.seen boots.old).image)) }
+    ensures noted { OnOk result (P.seen boots.new ≡ followed (sdo_answer deadline (node_at nodes.old i).number (node_at nodes.old i).stage answer.now) (P.seen boots.old)) }
+    ensures counted { OnOk result (P.asks boots.new ≤ P.asks boots.old + length (reads (sdo_answer deadline (node_at nodes.old i).number (node_at nodes.old i).stage answer.now) (P.seen boots.old).image)) }
+    ensures kept { (P.seen boots.new).image ≡ (P.seen boots.old).image }
+{
+    nodes[i].take_answer(alloc, deadline, answer, boots)
+}
+
+/// The time-outs of the moment t, node by node.
+fn time_out_each(
+    t: u64,
+    nodes: &mut [Booting],
+    waiting: &mut Pending,
+    notes: &mut Notes,
+) -> Result<(), AllocError>
+    ensures state { OnOk result (nodes.new ≡ map (node_after t) nodes.old) }
+    ensures queued { OnOk result (waiting.new ≡ queue_after_all t nodes.old waiting.old) }
+    ensures notes { OnOk result (notes.new ≡ notes.old ++ notes_after_all t nodes.old) }
+{
+    for node in nodes.iter_mut() {
+        node.time_out(t, waiting, notes)?;
+    }
+    Ok(())
+}
+
+/// The first of the deadlines of the nodes. Walks them.
+fn first_of(nodes: &[Booting]) -> Option<u64>
+    ensures { result ≡ earliest (deadlines nodes.now) }
+{
+    let mut first = None;
+    for node in nodes {
+        first = earlier(first, deadline_of(&node.stage));
+    }
+    first
+}
+
+/// Whether a moment lies after t; it does where there is none.
+fn lies_after(t: u64, moment: Option<u64>) -> bool
+    ensures { IsTrue result ↔ IfSome moment (λ at. t < at) }
+{
+    match moment {
+        None => true,
+        Some(at) => t < at,
+    }
+}
+
+impl NodeTable {
+    /// No nodes. Takes no memory.
+    #[tactic(auto, unfolding(crate::specs::Manager::deadlines))]
+    pub(crate) fn none(alloc: Global) -> NodeTable
+        ensures { result ≡ [] }
+    {
+        NodeTable {
+            nodes: Vec::new(alloc),
+            known: true,
+            deadline: None,
+        }
+    }
+
+    /// Nodes of which no boot-up came yet.
+    pub(crate) fn unseen(alloc: Global, numbers: &[u8]) -> Result<NodeTable, AllocError>
+        ensures { IfOk result (λ table. table ≡ map unseen numbers.now) }
+    {
+        let nodes = unseen_nodes(alloc, numbers)?;
+        let deadline = first_of(&nodes);
+        Ok(NodeTable {
+            nodes,
+            known: true,
+            deadline,
+        })
+    }
+
+    /// An equal table.
+    pub(crate) fn copy(&self, alloc: Global) -> Result<NodeTable, AllocError>
+        ensures { IfOk result (λ table. table ≡ self.now) }
+    {
+        let nodes = copy_nodes(alloc, &self.nodes)?;
+        Ok(NodeTable {
+            nodes,
+            known: self.known,
+            deadline: self.deadline,
+        })
+    }
+
+    /// Whether two tables are the same.
+    pub(crate) fn same(&self, other: &NodeTable) -> bool
+        ensures { IsTrue result ↔ (self.now ≡ other.now) }
+    {
+        same_nodes(&self.nodes, &other.nodes)
+    }
+
+    /// The place of the node whose frames have this identifier: its number above a base. Walks the nodes.
+    pub(crate) fn place_of(&self, base: u16, id: u16) -> Option<usize>
+        requires { base ≤ 0x700 }
+        ensures place { result ≡ is_place_of base id self.now }
+        ensures within { IfSome result (λ i. i < length self.now) }
+    {
+        place_in(&self.nodes, base, id)
+    }
+
+    /// The number of a node of the table.
+    pub(crate) fn number_at(&self, i: usize) -> u8
+        requires { i < length self.now }
+        ensures { result ≡ (node_at self.now i).number }
+    {
+        self.nodes[i].number
+    }
+
+    /// What is noted where a node of the table boots anew.
+    pub(crate) fn lost_at(&self, i: usize) -> Option<Word>
+        requires { i < length self.now }
+        ensures { result ≡ lost (node_at self.now i).stage }
+    {
+        self.nodes[i].lost()
+    }
+
+    /// The first of the deadlines of the nodes. Takes constant time where it is known, and else walks the
+    /// nodes.
+    pub(crate) fn first_deadline(&self) -> Option<u64>
+        ensures { result ≡ earliest (deadlines self.now) }
+    {
+        if self.known {
+            self.deadline
+        } else {
+            first_of(&self.nodes)
+        }
+    }
+
+    /// Whether it is known that each deadline lies after t. Takes constant time.
+    fn is_quiet(&self, t: u64) -> bool
+        ensures { IsTrue result → IfSome (earliest (deadlines self.now)) (λ first. t < first) }
+    {
+        self.known && lies_after(t, self.deadline)
+    }
+
+    /// Looks for the first of the deadlines, and keeps it. Walks the nodes.
+    fn learn(&mut self)
+        ensures { self.new ≡ self.old }
+    {
+        self.deadline = first_of(&self.nodes);
+        self.known = true;
+    }
+
+    /// The boot of a node of the table begins anew. Walks the nodes.
+    pub(crate) fn boot_at<P: Boots>(
+        &mut self,
+        alloc: Global,
+        i: usize,
+        deadline: u64,
+        boots: &mut P,
+    ) -> Result<Sent, AllocError>
+        requires { i < length self.now }
+        ensures nodes { OnOk result (self.new ≡ with_stage self.old i (outcome (boot_nmt_slave deadline (node_at self.old i).number) (P.seen boots.old).image).stage) }
+        ensures sent { IfOk result (λ sent. sent ≡ sent_by (outcome (boot_nmt_slave deadline (node_at self.old i).number) (P.seen boots.old).image)) }
+        ensures noted { OnOk result (P.seen boots.new ≡ followed (boot_nmt_slave deadline (node_at self.old i).number) (P.seen boots.old)) }
+        ensures counted { OnOk result (P.asks boots.new ≤ P.asks boots.old + length (reads (boot_nmt_slave deadline (node_at self.old i).number) (P.seen boots.old).image)) }
+        ensures kept { (P.seen boots.new).image ≡ (P.seen boots.old).image }
+    {
+        self.known = false;
+        let sent = boot_in(alloc, &mut self.nodes, i, deadline, boots)?;
+        self.learn();
+        Ok(sent)
+    }
+
+    /// An SDO answer of a node of the table comes. Walks the nodes.
+    pub(crate) fn answer_at<P: Boots>(
+        &mut self,
+        alloc: Global,
+        i: usize,
+        deadline: u64,
+        answer: &[u8; 8],
+        boots: &mut P,
+    ) -> Result<Sent, AllocError>
+        requires { i < length self.now }
+        ensures nodes { OnOk result (self.new ≡ with_stage self.old i (outcome (sdo_answer deadline (node_at self.old i).number (node_at self.old i).stage answer.now) (P.seen boots.old).image).stage) }
+        ensures sent { IfOk result (λ sent. sent ≡ sent_by (outcome (sdo_answer deadline (node_at self.old i).number (node_at self.old i).stage answer.now) (P.seen boots.old).image)) }
+        ensures noted { OnOk result (P.seen boots.new ≡ followed (sdo_answer deadline (node_at self.old i).number (node_at self.old i).stage answer.now) (P.seen boots.old)) }
+        ensures counted { OnOk result (P.asks boots.new ≤ P.asks boots.old + length (reads (sdo_answer deadline (node_at self.old i).number (node_at self.old i).stage answer.now) (P.seen boots.old).image)) }
+        ensures kept { (P.seen boots.new).image ≡ (P.seen boots.old).image }
+    {
+        self.known = false;
+        let sent = answer_in(alloc, &mut self.nodes, i, deadline, answer, boots)?;
+        self.learn();
+        Ok(sent)
+    }
+
+    /// The time-outs of the moment t, node by node. Takes constant time where it is known that each deadline
+    /// lies after t, and else walks the nodes.
+    pub(crate) fn time_outs(
+        &mut self,
+        t: u64,
+        waiting: &mut Pending,
+        notes: &mut Notes,
+    ) -> Result<(), AllocError>
+        ensures state { OnOk result (self.new ≡ map (node_after t) self.old) }
+        ensures queued { OnOk result (waiting.new ≡ queue_after_all t self.old waiting.old) }
+        ensures notes { OnOk result (notes.new ≡ notes.old ++ notes_after_all t self.old) }
+    {
+        if self.is_quiet(t) {
+            return Ok(());
+        }
+        self.known = false;
+        time_out_each(t, &mut self.nodes, waiting, notes)?;
+        self.learn();
+        Ok(())
+    }
+}
