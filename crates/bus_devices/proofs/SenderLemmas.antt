@@ -1,5 +1,5 @@
 -- The winner and who sends, block by block.
-use Rattle.std.proofs.Common.{◌≡◌, ℕ, zero, suc, append_assoc, ◌+◌, ◌<◌, Bool, true, false, List, [], ◌∷◌, ◌++◌, length, take, drop, Option, Some, None, refl, sym, ap, ◌∙◌, subst, arith, zero-add}
+use Rattle.std.proofs.Common.{◌≡◌, ℕ, zero, suc, append_assoc, ◌+◌, ◌<◌, Bool, true, false, List, [], ◌∷◌, ◌++◌, length, take, drop, get_or, Option, Some, None, refl, sym, ap, ◌∙◌, subst, arith, zero-add}
 use Rattle.std.specs.Prelude.{if◌then◌else◌, nat_lt, not}
 use Rattle.std.specs.List.{AllByRecursion, position, position_or_len}
 use Rattle.std.proofs.lemmas.Bool.Decides.{nat_tests}
@@ -11,6 +11,7 @@ use Rattle.can_frame.specs.declared.contender.Contender.{Contender}
 use Rattle.can_frame.specs.declared.waiting.Waiting.{Waiting}
 use Rattle.can_frame.proofs.WinnerLemmas.{winner-append, winner-unique, winner_of-wins}
 use Rattle.co_device.specs.Device.{Device, without_power}
+use Rattle.device_agenda.specs.Agenda.{IsAgendaOf}
 use Rattle.device_agenda.specs.declared.agenda.Agenda.{Agenda}
 use Rattle.bus_devices.specs.Blocks.{AreAgendasOf}
 use Rattle.bus_devices.specs.Senders.{contends_with, device_lists, is_contender, sender_place}
@@ -20,11 +21,16 @@ use Rattle.bus_devices.specs.Senders.{contends_with, device_lists, is_contender,
 pub winner_is : (cs : List Contender) (o : Option Contender) → IsWinner cs o → o ≡ winner_of cs
 winner_is cs o h = winner-unique cs o (winner_of cs) h (winner_of-wins cs)
 
+-- the lower of one and none
+pub lower_none : (o : Option Contender) → o ≡ lower o None
+lower_none None = refl
+lower_none (Some c) = refl
+
 -- no frame waits
 abbrev AreSilent : List Device → Type 0
 AreSilent ds = AllByRecursion (λ d. d.waiting ≡ []) ds
 
-pub none_contends : (ds : List Device) → AreSilent ds → contenders (device_lists ds) ≡ []
+none_contends : (ds : List Device) → AreSilent ds → contenders (device_lists ds) ≡ []
 none_contends [] h = refl
 none_contends (d ∷ ds) h = ap (λ (frames : List Waiting). contenders_of (d.number, frames) ++ contenders (device_lists ds)) h.0 ∙ none_contends ds h.1
 
@@ -44,6 +50,16 @@ of_both : (xs ys : List Device) → contenders (device_lists (xs ++ ys)) ≡ con
 of_both xs ys =
     let list_of : Device → ℕ × List Waiting = λ d. (d.number, d.waiting) in
     ap contenders (map-append list_of xs ys) ∙ flat_map-append contenders_of (device_lists xs) (device_lists ys)
+
+-- the agenda at the front of those that are left is of the next block
+agenda_here : (agendas : List Agenda) (i : ℕ) (a : Agenda) (rest : List Device) → i < length agendas → AreAgendasOf (drop i agendas) rest → IsAgendaOf (get_or agendas i a) (take 8 rest)
+agenda_here [] i a rest within h = absurd (omega (arith, within))
+agenda_here (b ∷ agendas) zero a rest within h = h.0
+agenda_here (b ∷ agendas) (suc i) a rest within h = agenda_here agendas i a rest (omega (arith, within)) h
+
+-- where it says so, no frame waits there
+pub none_here : (agendas : List Agenda) (i : ℕ) (a : Agenda) (rest block : List Device) → i < length agendas → block ≡ take 8 rest → AreAgendasOf (drop i agendas) rest → (get_or agendas i a).waits ≡ false → contenders (device_lists block) ≡ []
+none_here agendas i a rest block within e h off = none_contends block (subst AreSilent (sym e) ((agenda_here agendas i a rest within h).silent off))
 
 -- the agendas that are left are of the devices that are left, and the best so far wins among the others
 abbrev pub AreWonSoFar : List Agenda → List Device → List Device → Option Contender → Type 0

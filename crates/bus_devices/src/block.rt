@@ -63,7 +63,9 @@ pub(crate) fn winner_of(devices: &[ScheduledDevice]) -> Option<Contender>
 {
     let mut best = None;
     for device in devices {
-        best = Contender::lower(best, device.contender());
+        if let Some(contender) = device.contender() {
+            best = Contender::lower(best, Some(contender));
+        }
     }
     best
 }

@@ -129,18 +129,6 @@ pub(crate) fn first_of(agendas: &[Agenda]) -> Option<u64>
     first
 }
 
-/// The least frame that waits at one of the devices of a block.
-fn winner_in(agenda: &Agenda, devices: &[ScheduledDevice]) -> Option<Contender>
-    requires { IsAgendaOf agenda.now devices.now }
-    ensures { IsWinner (contenders (device_lists devices.now)) result }
-{
-    if agenda.waits {
-        winner_of(devices)
-    } else {
-        None
-    }
-}
-
 /// The least frame that waits at one of the devices. Walks the agendas, and the blocks where frames may wait.
 pub(crate) fn winner(agendas: &[Agenda], devices: &[ScheduledDevice]) -> Option<Contender>
     requires { AreAgendasOf agendas.now devices.now }
@@ -150,7 +138,9 @@ pub(crate) fn winner(agendas: &[Agenda], devices: &[ScheduledDevice]) -> Option<
     let mut rest = devices;
     for agenda in agendas {
         let (block, others) = rest.split_at(first_block(rest.len()));
-        best = Contender::lower(best, winner_in(agenda, block));
+        if agenda.waits {
+            best = Contender::lower(best, winner_of(block));
+        }
         rest = others;
     }
     best

@@ -92,7 +92,9 @@ impl Devices {
     }
 
     /// An instant of each device, by number: it hears what is delivered, if another node sent it, and then
-    /// runs what is due. Takes time by the devices that have to run, and by an eighth of all.
+    /// runs what is due. Takes time by the devices that have to run, and by an eighth of all. The first instant
+    /// of these devices walks all of them, and takes memory for agendas, an eighth as many as devices. Want of
+    /// memory may come halfway: some of the devices have had their instant then, and others not.
     pub fn instant<P: Shapes>(
         &mut self,
         t: u64,

@@ -1,5 +1,5 @@
 //! The line of a frame in a trace.
-ghost use Rattle.std.specs.Prelude.{◌≡◌, ◌<◌, ◌≤◌, ◌++◌, length, IfOk, OnOk};
+ghost use Rattle.std.specs.Prelude.{◌≡◌, ◌<◌, ◌≤◌, ◌++◌, ◌∷◌, [], length, IfOk, OnOk};
 ghost use Rattle.can_frame.specs.TraceLines.{counted, frame_line, identifier_digits, spaced_bytes, ten_digits};
 
 use crate::frame::Frame;
@@ -47,6 +47,14 @@ fn identifier_digits(id: u16) -> [u8; 3]
     ]
 }
 
+/// A byte as a space and two digits.
+fn spaced(byte: u8) -> [u8; 3]
+    ensures { result ≡ spaced_bytes (byte ∷ []) }
+{
+    let [high, low] = byte_digits(byte);
+    [b' ', high, low]
+}
+
 /// Writes the number of bytes in brackets, and each byte.
 fn write_bytes(out: &mut Vec<u8>, bytes: &[u8]) -> Result<(), AllocError>
     requires { length bytes.now ≤ 8 }
@@ -54,8 +62,7 @@ fn write_bytes(out: &mut Vec<u8>, bytes: &[u8]) -> Result<(), AllocError>
 {
     out.extend_from_slice(&[b' ', b'[', upper_digit(bytes.len() as u8), b']'])?;
     for byte in bytes {
-        out.push(b' ')?;
-        out.extend_from_slice(&byte_digits(*byte))?;
+        out.extend_from_slice(&spaced(*byte))?;
     }
     Ok(())
 }

@@ -94,3 +94,8 @@ module _ (shape : Shaped) (values : Values) (place : ℕ × ℕ) (bytes : List �
 pub any_ok : {P : Type 0} (r : Result (Unit {0}) Abort) → P → OnOk r P
 any_ok (Ok nothing) h = h
 any_ok (Err abort) h = tt
+
+-- a check that passed
+pub ok_is : (r : Result (Unit {0}) Abort) → IsOk r → r ≡ Ok tt
+ok_is (Ok nothing) h = refl
+ok_is (Err abort) h = cc

@@ -1,10 +1,11 @@
 -- The test of an index, and what it says.
 use Rattle.std.proofs.Common.{◌≡◌, ◌==◌, ◌||◌, ◌↔◌, ℕ, List, [], ◌∷◌, Bool, true, false, T, IsTrue, refl, sym, ap, subst, ◌∙◌, eq-eqb, eqb→eq}
-use Rattle.std.specs.Prelude.{is_some}
+use Rattle.std.specs.Prelude.{is_some, Some}
 use Rattle.std.specs.List.{list_any}
 use Rattle.std.specs.Ordering.{eq_by_cmp, is_eq}
 use Rattle.std.specs.Cmp.{tied_itself}
 use Rattle.std.specs.FinMap.{contains_key-keys, get, keys}
+use Rattle.co_dict.specs.declared.entry.Entry.{Entry}
 use Rattle.co_dict.specs.Checks.{has_index}
 use Rattle.co_dict.specs.Places.{place_cmp}
 use Rattle.co_dict.specs.Shapes.{Shaped, HasIndex}
@@ -59,3 +60,7 @@ index_test shape index false h = by (has_index shape index) refl
     by : (b : Bool) → has_index shape index ≡ b → false ≡ b
     by true is = h.1 ((has_index_is shape index).0 is)
     by false is = refl
+
+-- an entry that is there has its index
+pub index_there : (shape : Shaped) (index sub : ℕ) (entry : Entry) → Some entry ≡ get shape.entries (index, sub) → has_index shape index ≡ true
+index_there shape index sub entry there = (has_index_is shape index).1 (sub, subst (λ o. is_some o ≡ true) there refl)

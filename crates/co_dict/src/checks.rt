@@ -1,7 +1,9 @@
 //! What a device answers to an access.
 
-ghost use Rattle.std.specs.Prelude.{◌≡◌, ◌≤◌, Some, Err, IfOk, IfErr, IsOk, OnOk};
+ghost use Rattle.std.specs.Prelude.{◌≡◌, ◌≤◌, ◌∷◌, [], if◌then◌else◌, nat_lt, ℕ, Some, Err, IfOk, IfErr, IsOk, OnOk};
 ghost use Rattle.std.specs.FinMap as map;
+ghost use Rattle.co_dict.specs.Aborts.{length_too_high, no_object, no_sub_index};
+ghost use Rattle.co_dict.specs.Shapes.{Shaped};
 ghost use Rattle.co_values.specs.Values.{Fits, longest_value};
 ghost use Rattle.co_dict.specs.Checks.{refused_by, has_index, entry_lines, access_check, read_check, length_check, is_no_flag, is_below_limit, is_above_limit};
 
@@ -21,6 +23,17 @@ fn has_index(shape: &Shape, index: u16) -> bool
     shape.has_index(index)
 }
 
+/// What an index without the sub is refused by: `NO_OBJECT` where no entry has it, else `NO_SUB_INDEX`.
+fn no_entry(shape: &Shape, index: u16) -> Abort
+    ensures { result ≡ if has_index shape.now index then no_sub_index else no_object }
+{
+    if has_index(shape, index) {
+        Abort::NO_SUB_INDEX
+    } else {
+        Abort::NO_OBJECT
+    }
+}
+
 /// The entry at an index and sub, where its type is modelled; else the abort of the first of these
 /// that applies: `NO_OBJECT`, `NO_SUB_INDEX`, `UNSUPPORTED_ACCESS`.
 fn modelled_entry(shape: &Shape, index: u16, sub: u8) -> Result<&Entry, Abort>
@@ -28,11 +41,8 @@ fn modelled_entry(shape: &Shape, index: u16, sub: u8) -> Result<&Entry, Abort>
     ensures granted { OnOk result (IsOk (refused_by (entry_lines shape.now (index, sub)))) }
     ensures refused { IfErr result (λ abort. refused_by (entry_lines shape.now (index, sub)) ≡ Err abort) }
 {
-    if !has_index(shape, index) {
-        return Err(Abort::NO_OBJECT);
-    }
     let Some(entry) = shape.entry(index, sub) else {
-        return Err(Abort::NO_SUB_INDEX);
+        return Err(no_entry(shape, index));
     };
     if !entry.kind.is_modelled() {
         return Err(Abort::UNSUPPORTED_ACCESS);
@@ -40,19 +50,29 @@ fn modelled_entry(shape: &Shape, index: u16, sub: u8) -> Result<&Entry, Abort>
     Ok(entry)
 }
 
-/// Whether a device takes writes of an entry, whatever the value (CiA 301). The abort is that of the
-/// first of these that applies: `NO_OBJECT`, `NO_SUB_INDEX`, `UNSUPPORTED_ACCESS` where its type is
-/// not modelled, `READ_ONLY` where it is read-only or constant.
+/// The entry at an index and sub, where a device takes writes of it; else the abort of `check_access`.
 #[tactic(auto, unfolding(crate::specs::Checks::access_check))]
-pub fn check_access(shape: &Shape, index: u16, sub: u8) -> Result<(), Abort>
-    ensures { result ≡ access_check shape.now (index, sub) }
+pub(crate) fn writable_entry(shape: &Shape, index: u16, sub: u8) -> Result<&Entry, Abort>
+    ensures entry { IfOk result (λ entry. map.get shape.now.entries (index, sub) ≡ Some entry.now) }
+    ensures granted { OnOk result (IsOk (access_check shape.now (index, sub))) }
+    ensures refused { IfErr result (λ abort. access_check shape.now (index, sub) ≡ Err abort) }
 {
     let entry = modelled_entry(shape, index, sub)?;
     if entry.access.is_writable() {
-        Ok(())
+        Ok(entry)
     } else {
         Err(Abort::READ_ONLY)
     }
+}
+
+/// Whether a device takes writes of an entry, whatever the value (CiA 301). The abort is that of the
+/// first of these that applies: `NO_OBJECT`, `NO_SUB_INDEX`, `UNSUPPORTED_ACCESS` where its type is
+/// not modelled, `READ_ONLY` where it is read-only or constant.
+pub fn check_access(shape: &Shape, index: u16, sub: u8) -> Result<(), Abort>
+    ensures { result ≡ access_check shape.now (index, sub) }
+{
+    writable_entry(shape, index, sub)?;
+    Ok(())
 }
 
 /// Whether a device gives the value of an entry (CiA 301). The abort is that of the first of these
@@ -70,6 +90,31 @@ pub fn check_read(shape: &Shape, index: u16, sub: u8) -> Result<(), Abort>
     }
 }
 
+/// Whether a value can have so many bytes, whatever its type.
+fn check_size(size: usize) -> Result<(), Abort>
+    ensures answer { result ≡ refused_by ((nat_lt longest_value size, length_too_high) ∷ []) }
+    ensures short { OnOk result (size ≤ longest_value) }
+{
+    if size > LONGEST_VALUE {
+        return Err(Abort::LENGTH_TOO_HIGH);
+    }
+    Ok(())
+}
+
+/// Whether this entry can have a value of so many bytes.
+#[tactic(auto, unfolding(crate::specs::Checks::length_check))]
+pub(crate) fn check_length_of(entry: &Entry, size: usize) -> Result<(), Abort>
+    ensures answer { (shape : Shaped) (place : ℕ × ℕ) → map.get shape.entries place ≡ Some entry.now → result ≡ length_check shape place size }
+    ensures short { OnOk result (size ≤ longest_value) }
+{
+    if let Some(length) = entry.kind.fixed_len()
+        && size != length
+    {
+        return Err(Abort::LENGTH_DOES_NOT_MATCH);
+    }
+    check_size(size)
+}
+
 /// Whether an entry can have a value of so many bytes (CiA 301): `LENGTH_DOES_NOT_MATCH` where each
 /// value of its type has one length and this is another, `LENGTH_TOO_HIGH` over 512 bytes. An entry
 /// that is not there has no type.
@@ -78,16 +123,10 @@ pub fn check_length(shape: &Shape, index: u16, sub: u8, size: usize) -> Result<(
     ensures answer { result ≡ length_check shape.now (index, sub) size }
     ensures short { OnOk result (size ≤ longest_value) }
 {
-    if let Some(entry) = shape.entry(index, sub)
-        && let Some(length) = entry.kind.fixed_len()
-        && size != length
-    {
-        return Err(Abort::LENGTH_DOES_NOT_MATCH);
+    match shape.entry(index, sub) {
+        Some(entry) => check_length_of(entry, size),
+        None => check_size(size),
     }
-    if size > LONGEST_VALUE {
-        return Err(Abort::LENGTH_TOO_HIGH);
-    }
-    Ok(())
 }
 
 /// Whether bytes are that of no BOOLEAN, where the entry is one.

@@ -1,25 +1,25 @@
 //! The write check.
 
-ghost use Rattle.std.specs.Prelude.{◌≡◌, ◌≤◌, IsOk, OnOk, length};
-ghost use Rattle.co_values.specs.Values.{longest_value};
-ghost use Rattle.co_dict.specs.Checks.{refused_by, access_check, length_check, value_lines};
+ghost use Rattle.std.specs.Prelude.{◌≡◌, ◌≤◌, ℕ, OnOk, Some, false, length};
+ghost use Rattle.std.specs.FinMap as map;
+ghost use Rattle.co_values.specs.Values.{Fits, longest_value};
+ghost use Rattle.co_dict.specs.Checks.{is_no_flag, refused_by, value_lines};
+ghost use Rattle.co_dict.specs.Shapes.{Shaped};
 ghost use Rattle.co_dict.specs.WriteCheck.{write_check};
 
 use crate::abort::Abort;
-use crate::checks::{check_access, check_length, is_above_limit, is_below_limit, is_no_flag};
+use crate::checks::{check_length_of, is_above_limit, is_below_limit, is_no_flag, writable_entry};
 use crate::dict::Dict;
+use crate::entry::Entry;
 use crate::pdo_checks::{check_cob_id, check_mapping_object, check_new_count};
 use crate::shape::Shape;
 
 /// Whether bytes of an entry's length are a value of it, within its limits.
-fn check_value(shape: &Shape, index: u16, sub: u8, bytes: &[u8]) -> Result<(), Abort>
-    requires access { IsOk (access_check shape.now (index, sub)) }
-    requires length { IsOk (length_check shape.now (index, sub) (length bytes.now)) }
-    ensures { result ≡ refused_by (value_lines shape.now (index, sub) bytes.now) }
+fn check_value(entry: &Entry, bytes: &[u8]) -> Result<(), Abort>
+    requires { is_no_flag bytes.now entry.now ≡ false → Fits entry.now.kind bytes.now }
+    ensures { (shape : Shaped) (place : ℕ × ℕ) → map.get shape.entries place ≡ Some entry.now
+        → result ≡ refused_by (value_lines shape place bytes.now) }
 {
-    let Some(entry) = shape.entry(index, sub) else {
-        return Ok(());
-    };
     if is_no_flag(entry, bytes) {
         return Err(Abort::INVALID_VALUE);
     }
@@ -57,9 +57,9 @@ pub fn check_write(
     ensures answer { result ≡ write_check shape.now dict.now (index, sub) bytes.now }
     ensures short { OnOk result (length bytes.now ≤ longest_value) }
 {
-    check_access(shape, index, sub)?;
-    check_length(shape, index, sub, bytes.len())?;
-    check_value(shape, index, sub, bytes)?;
+    let entry = writable_entry(shape, index, sub)?;
+    check_length_of(entry, bytes.len())?;
+    check_value(entry, bytes)?;
     check_cob_id(shape, dict, index, sub, bytes)?;
     check_mapping_object(shape, dict, index, sub)?;
     check_new_count(shape, dict, index, sub, bytes)
