@@ -44,8 +44,13 @@ class Project:
         """Takes an accepted command."""
         name = tool.shown(command.name).replace("-", "_")
         edit = getattr(self, f"_{name}", None)
-        if edit:
-            edit(command, [tool.shown(word) for word in command.words[1:]])
+        try:
+            if edit:
+                edit(command, [tool.shown(word) for word in command.words[1:]])
+        except (IndexError, KeyError):
+            raise tool.Fault(
+                f"line {command.number} of the script can't be accepted, and its reply says so: they are of "
+                f"different sessions: {tool.shown(command.line)}") from None
 
     def copy(self):
         """The project as it is now."""
