@@ -2,12 +2,13 @@
 """Times the trace of a network of 126 nodes, an instant at each due moment, and takes its peak memory.
 
 Takes the path of the built program, and runs it over scripts on its standard input, at 1000 kbit/s and
-to a horizon of 1,000,000 microseconds:
+to a horizon of 1,000,000 microseconds (`long`: 10,000,000):
 
     quiet   126 nodes without writes: each boots, is started, and then nothing is due
     busy    126 nodes of 30 parameters each, and a heartbeat each 100 ms
     synced  126 nodes, a heartbeat each 100 ms, a SYNC each millisecond, 16 messages at each second one,
             each to the next node, and an event each 37 ms that changes a value of one
+    long    the same for ten seconds
 
 Each is run without a query, and then with `trace`. Prints the seconds of the processor for both and
 their difference, and the peak memory. Asserts a difference under 60 seconds and at most 64 MiB, and of
@@ -26,9 +27,13 @@ MESSAGES = 16
 SECONDS = 60
 MEMORY = 64 << 20
 
+# The scripts with messages, and how far they run.
+MESSAGES_TO = {"synced": 1_000_000, "long": 10_000_000}
+
 # The number of lines, and the last one.
 QUIET = 3 * NODES + 1, b"%010d 77F [1] 00" % (55 + 118 * NODES)
 SYNCED = 10680, b"0000999957 73E [1] 05"
+LONG = 103110, b"0009999957 73E [1] 05"
 
 # One TPDO and one RPDO, off, and values for them.
 PDOS = b"""[1400sub1]
@@ -72,15 +77,15 @@ def text(kind):
     lines = [b"[1017]\n", b"DataType=6\n"]
     for number in range(ENTRIES):
         lines += [b"[%04X]\n" % (0x2000 + number), b"DataType=6\n"]
-    return lines + PDOS.splitlines(True) if kind == "synced" else lines
+    return lines + PDOS.splitlines(True) if kind in MESSAGES_TO else lines
 
 
-def messages():
-    edits = [b"manager 127 1000 100 500\n"]
+def messages(end):
+    edits = [b"horizon %d\n" % end, b"manager 127 1000 100 500\n"]
     for k in range(1, MESSAGES + 1):
         edits += [b"message m%02d %d 1 2 0 0 0\n" % (k, k), b"source m%02d 1 6041 0\n" % k, b"source m%02d 2 6064 0\n" % k]
         edits += [b"sink m%02d 1 %d 6040 0\n" % (k, k + 1), b"sink m%02d 2 %d 607A 0\n" % (k, k + 1)]
-    for k, time in enumerate(range(400_000, 1_000_000, 37_000), 1):
+    for k, time in enumerate(range(400_000, end, 37_000), 1):
         edits.append(b"event %d %d set %d 6064 0 %d\n" % (k, time, 1 + k % MESSAGES, 11 * k))
     return edits
 
@@ -94,8 +99,8 @@ def script(kind):
             edits.append(b"param %d 1017 0 100\n" % node)
         if kind == "busy":
             edits += [b"param %d %04X 0 %d\n" % (node, 0x2000 + number, number) for number in range(1, ENTRIES)]
-    if kind == "synced":
-        edits += messages()
+    if kind in MESSAGES_TO:
+        edits += messages(MESSAGES_TO[kind])
     return [b"eds a %d\n" % len(lines), *lines, *edits], 1 + len(edits)
 
 
@@ -118,12 +123,12 @@ def is_right(replies, edits, kind):
     """Quiet: a boot-up, a note and a start for each node, and the manager's boot-up behind them.
 
     Node k boots up at 55 + 118 (k - 1) and is started 63 later, since starts have the least identifier.
-    What is awaited of `synced` is by a plain program of the same rules."""
+    What is awaited of `synced` and `long` is by a plain program of the same rules."""
     lines = replies[edits + 1:]
     configured = sum(line.endswith(b" configured") for line in lines)
     if replies[:edits] != [b"ok"] * edits or replies[edits] != b"lines %d" % len(lines) or configured != NODES:
         return False
-    awaited = {"quiet": QUIET, "synced": SYNCED}
+    awaited = {"quiet": QUIET, "synced": SYNCED, "long": LONG}
     return kind not in awaited or awaited[kind] == (len(lines), lines[-1])
 
 
@@ -132,7 +137,7 @@ def main():
         sys.exit("usage: trace.py PROGRAM")
     program = os.path.abspath(sys.argv[1])
     failed = False
-    for kind in ("quiet", "busy", "synced"):
+    for kind in ("quiet", "busy", "synced", "long"):
         lines, edits = script(kind)
         before, _, taken = run(program, lines)
         after, memory, replies = run(program, [*lines, b"trace\n"])

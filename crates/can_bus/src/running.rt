@@ -54,8 +54,8 @@ fn run_dues<P: Parts>(
 /// The trace of the network whose parts are handed out: from the power-on, the lines that an instant at each
 /// microsecond up to the horizon brings. It runs those at which something is due, as the others bring none.
 ///
-/// Takes time by the number of due moments times that of nodes, and memory by the number of lines, the
-/// devices' values, and what they have open and waiting.
+/// Takes time at each due moment by the devices that have to run there, and by an eighth of all; memory by the
+/// number of lines, the devices' values, and what they have open and waiting.
 #[tactic(auto, using(crate::proofs::RunLemmas::run_tells, crate::proofs::DueRunLemmas::before_first))]
 pub fn trace<P: Parts>(alloc: Global, parts: &mut P, horizon: u32) -> Result<Lines, AllocError>
     requires soon { horizon < END }

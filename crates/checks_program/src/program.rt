@@ -109,7 +109,61 @@ const HELP: &[u8] = b"\
     Options:\n\
     \x20     --script <FILE>  Read commands from FILE, not from the standard input\n\
     \x20 -h, --help           Print help\n\
-    \x20 -V, --version        Print version\n";
+    \x20 -V, --version        Print version\n\
+    \n\
+    Edits. Numbers are decimal; INDEX, SUB and COB are hexadecimal, without 0x.\n\
+    \x20 bitrate K                            10, 20, 50, 125, 250, 500, 1000 kbit/s\n\
+    \x20 horizon US                           the simulation ends, 0 to 10000000 us\n\
+    \x20 manager ID SYNC_US HB_MS TIMEOUT_MS  who boots the nodes; 0 for no SYNC or HB\n\
+    \x20 eds NAME LINES                       the next LINES lines are an EDS\n\
+    \x20 drop-eds NAME\n\
+    \x20 node ID NAME EDS                     node 1 to 127, by the EDS of that name\n\
+    \x20 drop-node ID\n\
+    \x20 param ID INDEX SUB TEXT              the value of an entry of a node\n\
+    \x20 unparam ID INDEX SUB\n\
+    \x20 message NAME ID TPDO TYPE INHIBIT EVENT COB\n\
+    \x20                                      a PDO of node ID: INHIBIT in 100 us,\n\
+    \x20                                      EVENT in ms, COB 0 for an automatic one\n\
+    \x20 drop-message NAME\n\
+    \x20 source MESSAGE POS INDEX SUB         the sender's entry at position 1 to 64\n\
+    \x20 unsource MESSAGE POS\n\
+    \x20 sink MESSAGE POS ID INDEX SUB        the entry of node ID that takes it\n\
+    \x20 unsink MESSAGE POS ID\n\
+    \x20 event K TIME set ID INDEX SUB TEXT   at TIME us an application sets an entry\n\
+    \x20 event K TIME power ID on|off         a node's power is switched\n\
+    \x20 event K TIME nmt CMD ID              1 start, 2 stop, 128 pre-operational,\n\
+    \x20                                      129 and 130 reset; ID 0 for all nodes\n\
+    \x20 drop-event K\n\
+    The first project has 1000 kbit/s, horizon 1000000, manager 127 0 0 500.\n\
+    \n\
+    Queries:\n\
+    \x20 dcf ID    the device configuration file of a node (CiA 306)\n\
+    \x20 cdcf ID   its concise DCF (CiA 302), in hexadecimal digits\n\
+    \x20 diag      all that is wrong with the project\n\
+    \x20 trace     the frames on the bus, by time in us, and the manager's notes\n\
+    \x20 project   the project as commands\n\
+    \n\
+    Each command has one reply: ok, or lines K with K lines behind it, or\n\
+    refused N NAME, which leaves all as it was:\n\
+    \x20 1 Memory     no memory; the session ends\n\
+    \x20 2 Syntax     unknown command, number of words, or a word not of its form\n\
+    \x20 3 Range      a number outside its limits\n\
+    \x20 4 Unknown    no such EDS, node, parameter, message, source, sink or event\n\
+    \x20 5 Taken      the number or the name of another node\n\
+    \x20 6 InUse      nodes, messages or events still name it\n\
+    \x20 7 Limit      one more than there can be\n\
+    \x20 8 BadByte    a control byte in an EDS\n\
+    \x20 9 Truncated  the input ends inside an EDS\n\
+    \n\
+    Exit status: 0 where all was answered, refused commands too; 1 where the\n\
+    session failed, with cobench: N NAME on the standard error; 2 for wrong words.\n\
+    \n\
+    Common slips:\n\
+    \x20 0x1017 or 1017h for an INDEX: it is 1017\n\
+    \x20 a wrong LINES, where empty lines count too: the rest of the EDS is taken\n\
+    \x20   for commands, or commands for lines of the EDS\n\
+    \x20 comments: there are none, neither in lines of their own nor behind commands\n\
+    \x20 diag after edits: ok says that an edit was understood, not that it fits\n";
 
 const VERSION: &[u8] = b"cobench 0.1.0\n";
 

@@ -1,5 +1,6 @@
 //! What the words ask for.
 
+use crate::guide::GUIDE;
 use clap::error::ErrorKind;
 use clap::{Arg, ArgAction, Command, Error};
 use std::alloc::Global;
@@ -21,9 +22,9 @@ const VERSION: &str = "0.1.0";
 /// The words begin with the program's name. They are judged first, then FILE is opened, then
 /// commands are read from it, or from the input where there is no FILE. Replies go to the output,
 /// `cobench: N NAME` and the text on wrong words to the faults. `--help` (`-h`) writes what the
-/// words can be to the output, and `--version` (`-V`) the program's name and version, `cobench
-/// 0.1.0`. The status is 0 where the session came to its end and after these two, 1 after a session
-/// fault (2 Read where FILE can't be opened), and 2 after wrong words.
+/// words can be, the commands and the replies to the output, and `--version` (`-V`) the program's
+/// name and version, `cobench 0.1.0`. The status is 0 where the session came to its end and after
+/// these two, 1 after a session fault (2 Read where FILE can't be opened), and 2 after wrong words.
 pub fn run<R: Files + AllocGlobal, I: Read, O: Write, E: Write>(
     rt: &R,
     words: &[String],
@@ -55,6 +56,7 @@ fn script_of<'a>(alloc: Global, words: &'a [String]) -> Result<Option<&'a str>, 
         .bin_name("cobench")?
         .version(VERSION)
         .about("An engineering workbench for one CANopen network")
+        .after_help(GUIDE)
         .arg(script)?;
     let matches = command.try_get_matches_from(words)?;
     Ok(matches.get_str("script"))

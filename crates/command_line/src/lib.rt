@@ -2,5 +2,6 @@
 #![tactic(auto)]
 
 mod command;
+mod guide;
 
 pub use command::{complain, run};

@@ -190,9 +190,9 @@ fn take_turn<W: Outlet>(
 /// written, and flushed, before the next.
 ///
 /// A session makes at most 67,108,865 reads. It takes time linear in its input, up to a logarithm
-/// where an EDS is read or a table is searched; `node` and `drop-eds` also walk the nodes, and
-/// `drop-node` the events. A query takes time and memory by the length of its reply, and `dcf` and
-/// `cdcf` also by that of the node's EDS, which they read anew.
+/// where an EDS is read or a table is searched; `node` and `drop-eds` also walk the nodes, `drop-node`
+/// the messages, their sinks and the events, and `drop-message` its sources and sinks. A query takes
+/// the time and memory of its call of `Workbench`, and of its reply's length.
 ///
 /// # Errors
 /// - Memory: a growth was refused. The replies to the commands before were written, each whole;

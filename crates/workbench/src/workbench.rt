@@ -127,9 +127,10 @@ impl Workbench {
     /// The trace of the network of the project as it is now: from the power-on, an instant at each
     /// microsecond up to the horizon.
     ///
-    /// Reads the EDS of each node once, and plans the messages. Then runs the microseconds at which something
-    /// is due: takes time by their number times that of nodes; memory by the number of lines, and the
-    /// entries and writes of all nodes.
+    /// Reads the EDS of each node once, plans the messages, and puts the events in order. Then runs the
+    /// microseconds at which something is due: takes time at each by what is due or changes there, by the nodes
+    /// that have to run, and by an eighth of all; memory by the number of lines, and the entries and writes of
+    /// all nodes.
     #[tactic(auto, unfolding(crate::specs::Queries::trace_of))]
     pub fn trace(&mut self) -> Result<Vec<Line>, AllocError>
         ensures lines { IfOk result (λ lines. lines.items ≡ trace_of self.old.project) }

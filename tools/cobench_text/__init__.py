@@ -1,0 +1,1 @@
+"""What the tools share: the texts that cobench reads and writes, as records."""

@@ -1,0 +1,246 @@
+"""What the frames of a trace mean, in the words of a project.
+
+Which PDO a frame is, and what it carries, is read as the network itself has it: from the defaults of a
+node's EDS, and from the writes by which the manager configures it in the trace.
+"""
+from . import device
+from .trace import Note
+
+NMT, SYNC, EMCY, PDO, SDO, CONTROL, NOTE = "NMT", "SYNC", "EMCY", "PDO", "SDO", "error control", "note"
+KINDS = (NMT, SYNC, EMCY, PDO, SDO, CONTROL)
+
+SERVICES = {1: "start", 2: "stop", 128: "enter pre-operational", 129: "reset node", 130: "reset communication"}
+STATES = {0: "boot-up", 4: "stopped", 5: "operational", 127: "pre-operational"}
+EMERGENCIES = {0: "no error any more", 0x8130: "heartbeat error", 0x8210: "PDO too short"}
+ABORTS = {
+    0x05030000: "toggle bit not alternated", 0x05040000: "SDO timed out", 0x05040001: "command not valid",
+    0x06010000: "access not supported", 0x06010001: "write only", 0x06010002: "read only",
+    0x06020000: "no such object", 0x06040041: "cannot be mapped", 0x06040042: "PDO length exceeded",
+    0x06070010: "length does not match", 0x06070012: "length too high", 0x06090011: "no such sub-index",
+    0x06090030: "invalid value", 0x06090031: "value too high", 0x06090032: "value too low",
+}
+PREDEFINED = {0x180: "TPDO 1", 0x280: "TPDO 2", 0x380: "TPDO 3", 0x480: "TPDO 4",
+              0x200: "RPDO 1", 0x300: "RPDO 2", 0x400: "RPDO 3", 0x500: "RPDO 4"}
+
+
+class Meaning:
+    """What a line of a trace says.
+
+    kind     NMT, SYNC, EMCY, PDO, SDO, error control or note
+    sender   the number of the node that sends it, None where that isn't known
+    node     the number of the node that it is of, None where it is of none
+    subject  the message, PDO or object that it is of
+    text     all of it but time and identifier
+    """
+
+    def __init__(self, kind, sender, node, subject, text):
+        self.kind, self.sender, self.node, self.subject, self.text = kind, sender, node, subject, text
+
+
+class Transfer:
+    """An SDO transfer: its object, the bytes so far, and how many segments came."""
+
+    def __init__(self, key, data=b""):
+        self.key, self.data, self.segments = key, data, 0
+
+
+def key_of(data):
+    return int.from_bytes(data[1:3], "little"), data[3]
+
+
+def segment_of(data):
+    """The bytes of a segment, and whether it is the last one."""
+    return data[1:8 - (data[0] >> 1 & 7)], bool(data[0] & 1)
+
+
+class Network:
+    """The nodes of a project, or of none, with what the trace so far tells of their PDOs."""
+
+    def __init__(self, project=None, with_names=False):
+        self.manager = project.manager[0] if project else 127
+        self.names = {node: name for node, (name, _) in project.nodes.items()} if project else {}
+        devices = {name: device.Device(lines) for name, lines in project.texts.items()} if project else {}
+        self.devices = {node: devices[eds] for node, (_, eds) in project.nodes.items()} if project else {}
+        self.messages = {(each.node, each.tpdo): name for name, each in project.messages.items()} if project else {}
+        self.with_names = with_names
+        self.values, self.owners, self.transfers = {}, {}, {}
+
+    def name(self, node):
+        if node == self.manager:
+            return "manager"
+        return self.names.get(node, f"node {node}")
+
+    def object_text(self, node, key):
+        index, sub = key
+        entry = self.devices[node].entries.get(key) if self.with_names and node in self.devices else None
+        return f"{index:04X}h:{sub:02X}" + (f" {entry.name}" if entry and entry.name else "")
+
+    def kind_of(self, node, key):
+        entry = self.devices[node].entries.get(key) if node in self.devices else None
+        return entry.kind if entry else 0
+
+    # What a node's PDOs are.
+
+    def power(self, node):
+        """A node boots up: its PDO objects have their defaults."""
+        for key in self.values.get(node, {}):
+            self.disown(node, key)
+        self.values[node] = {}
+        if node in self.devices:
+            for key in self.devices[node].entries:
+                if 0x1800 <= key[0] <= 0x1BFF:
+                    self.write(node, key, self.devices[node].default(*key, node))
+
+    def disown(self, node, key):
+        value = self.values[node].get(key)
+        if key[1] == 1 and 0x1800 <= key[0] <= 0x19FF and value is not None:
+            self.owners.get(value & 0x7FF, set()).discard((node, key[0] - 0x17FF))
+
+    def write(self, node, key, value):
+        """A PDO object of a node has a new value."""
+        if value is None:
+            return
+        values = self.values.setdefault(node, {})
+        self.disown(node, key)
+        values[key] = value
+        if key[1] == 1 and 0x1800 <= key[0] <= 0x19FF and not value & 0xA0000000:
+            self.owners.setdefault(value & 0x7FF, set()).add((node, key[0] - 0x17FF))
+
+    def mapping(self, node, tpdo):
+        """The entries and bits that a TPDO maps, None where that isn't known."""
+        values, index = self.values.get(node, {}), 0x19FF + tpdo
+        words = [values.get((index, sub)) for sub in range(1, values.get((index, 0), 0) + 1)]
+        if not words or None in words:
+            return None
+        return [((word >> 16, word >> 8 & 0xFF), word & 0xFF) for word in words]
+
+    # What a frame means.
+
+    def of(self, line):
+        """The meaning of a frame or note, the next of the trace."""
+        if isinstance(line, Note):
+            return Meaning(NOTE, self.manager, line.node, line.what, f"note {self.name(line.node)} {line.what}")
+        identifier, data = line.identifier, line.data
+        node = identifier & 0x7F
+        if identifier == 0 and len(data) == 2:
+            return self.command(*data)
+        if identifier == 0x80:
+            return Meaning(SYNC, self.manager, None, "", f"SYNC {data[0]}" if data else "SYNC")
+        if 0x701 <= identifier <= 0x77F and len(data) == 1:
+            return self.control(node, data[0])
+        if 0x581 <= identifier <= 0x67F and node and len(data) == 8:
+            return self.answer(node, data) if identifier < 0x600 else self.request(node, data)
+        if 0x81 <= identifier <= 0xFF and len(data) == 8 and not self.owners.get(identifier):
+            return self.emergency(node, data)
+        return self.pdo(identifier, data)
+
+    def command(self, service, node):
+        to = self.name(node) if node else "all nodes"
+        what = SERVICES.get(service, f"command {service}")
+        return Meaning(NMT, self.manager, node or None, what, f"{what} {to}")
+
+    def control(self, node, byte):
+        state = STATES.get(byte, f"state {byte}")
+        if byte == 0:
+            self.power(node)
+            return Meaning(CONTROL, node, node, state, f"{self.name(node)} boot-up")
+        return Meaning(CONTROL, node, node, state, f"{self.name(node)} heartbeat: {state}")
+
+    def emergency(self, node, data):
+        code = int.from_bytes(data[:2], "little")
+        what = EMERGENCIES.get(code, "error")
+        text = f"{self.name(node)} EMCY {code:04X}h {what}, error register {data[2]:02X}h"
+        return Meaning(EMCY, node, node, f"{code:04X}h", text)
+
+    def pdo(self, identifier, data):
+        owners = sorted(self.owners.get(identifier, ()))
+        if not owners:
+            node, what = identifier & 0x7F, PREDEFINED.get(identifier & 0x780)
+            known = node in self.names or node in self.values
+            sender = node if what and known and what[0] == "T" else None
+            subject = f"{self.name(node)} {what}" if what and known else "PDO"
+            return Meaning(PDO, sender, sender, subject, f"{subject}: {data.hex(' ').upper()}".rstrip())
+        subject = " or ".join(self.messages.get(owner, f"{self.name(owner[0])} TPDO {owner[1]}") for owner in owners)
+        node, tpdo = owners[0]
+        mapping = self.mapping(node, tpdo) if len(owners) == 1 else None
+        values = data.hex(" ").upper() if mapping is None else self.pdo_values(node, mapping, data)
+        return Meaning(PDO, node, node, subject, f"{subject}: {values}".rstrip())
+
+    def pdo_values(self, node, mapping, data):
+        texts, start = [], 0
+        for key, bits in mapping:
+            where = f"{key[0]:04X}h" + (f":{key[1]:02X}" if key[1] else "")
+            texts.append(f"{where}={device.value_at(data, start, bits, self.kind_of(node, key))}" if bits else where)
+            start += bits
+        return " ".join(texts)
+
+    # SDO: the manager's requests, and a node's answers.
+
+    def sdo(self, sender, node, key, what):
+        subject = self.object_text(node, key) if key else ""
+        text = f"{subject} {what}".strip()
+        return Meaning(SDO, sender, node, subject, f"{self.name(node)} {text}")
+
+    def request(self, node, data):
+        def said(what):
+            return self.sdo(self.manager, node, transfer.key if transfer else None, what)
+
+        byte, transfer = data[0], self.transfers.get(node)
+        if byte in (0x2F, 0x2B, 0x27, 0x23, 0x21, 0x40):
+            transfer = self.transfers[node] = Transfer(key_of(data))
+            if byte == 0x40:
+                return said("read")
+            if byte == 0x21:
+                return said(f":= {int.from_bytes(data[4:], 'little')} bytes in segments")
+            transfer.data = data[4:8 - (byte >> 2 & 3)]
+            return said(f":= {self.value(node, transfer)}")
+        if byte == 0x80:
+            return self.abort(self.manager, node, data)
+        if byte in (0x60, 0x70):
+            return said(f"read segment {transfer.segments + 1}" if transfer else "read segment")
+        if byte < 0x20 and transfer:
+            transfer.data += segment_of(data)[0]
+            transfer.segments += 1
+            return said(f"segment {transfer.segments}: {segment_of(data)[0].hex(' ').upper()}".strip())
+        return said(f"command {byte:02X}h")
+
+    def answer(self, node, data):
+        def said(what):
+            return self.sdo(node, node, transfer.key if transfer else None, what)
+
+        byte, transfer = data[0], self.transfers.get(node)
+        if byte == 0x80:
+            return self.abort(node, node, data)
+        if byte in (0x60, 0x4F, 0x4B, 0x47, 0x43, 0x41):
+            transfer = transfer or Transfer(key_of(data))
+            if byte == 0x60 and not transfer.data:
+                return said("ready for segments")
+            if byte == 0x60:
+                return self.written(node, transfer, "written")
+            if byte == 0x41:
+                return said(f"= {int.from_bytes(data[4:], 'little')} bytes in segments")
+            transfer.data = data[4:8 - (byte >> 2 & 3)]
+            return said(f"= {self.value(node, transfer)}")
+        if byte in (0x20, 0x30) and transfer:
+            return said(f"segment {transfer.segments} taken")
+        if byte < 0x20 and transfer:
+            piece, last = segment_of(data)
+            transfer.data += piece
+            transfer.segments += 1
+            shown = f"segment {transfer.segments}: {piece.hex(' ').upper()}".strip()
+            return said(f"= {self.value(node, transfer)}" if last else shown)
+        return said(f"answer {byte:02X}h")
+
+    def value(self, node, transfer):
+        return device.text_of(transfer.data, self.kind_of(node, transfer.key))
+
+    def written(self, node, transfer, what):
+        """The node has taken a value: its PDOs go by it."""
+        if 0x1800 <= transfer.key[0] <= 0x1BFF:
+            self.write(node, transfer.key, int.from_bytes(transfer.data, "little"))
+        return self.sdo(node, node, transfer.key, what)
+
+    def abort(self, sender, node, data):
+        code = int.from_bytes(data[4:], "little")
+        self.transfers.pop(node, None)
+        return self.sdo(sender, node, key_of(data), f"abort {code:08X} {ABORTS.get(code, '')}".strip())

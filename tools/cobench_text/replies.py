@@ -1,0 +1,102 @@
+"""Replies of a session, paired with the commands of its script."""
+import re
+
+from . import tool
+from .hints import bad_syntax
+
+REFUSED = re.compile(rb"refused ([1-9]) (Memory|Syntax|Range|Unknown|Taken|InUse|Limit|BadByte|Truncated)")
+LINES = re.compile(rb"lines ([0-9]+)")
+FAULT = re.compile(rb"cobench: ([1-9] [A-Za-z]+)")
+
+
+class Reply:
+    """`ok`, `refused N NAME`, or `lines K` with its lines.
+
+    number   its line among the replies, from 1
+    refused  `N NAME`, or None
+    lines    the lines of a query, or None
+    """
+
+    def __init__(self, number, refused=None, lines=None):
+        self.number, self.refused, self.lines = number, refused, lines
+
+    def is_accepted(self):
+        return self.refused is None
+
+
+class Session:
+    """The replies of a session, whether they are cut off, and the fault that ended it, if it is told."""
+
+    def __init__(self, replies, cut, fault):
+        self.replies, self.cut, self.fault = replies, cut, fault
+
+
+def session_of(path, text):
+    """The replies that a text holds."""
+    where = tool.name_of(path)
+    lines = text.split(b"\n")
+    last = lines.pop()
+    replies, place = [], 0
+    while place < len(lines):
+        line = lines[place].rstrip(b"\r")
+        place += 1
+        refused, query, fault = REFUSED.fullmatch(line), LINES.fullmatch(line), FAULT.fullmatch(line)
+        if line == b"ok":
+            replies.append(Reply(place))
+        elif refused:
+            replies.append(Reply(place, refused=tool.shown(b" ".join(refused.groups()))))
+        elif query:
+            count = int(query.group(1))
+            answer = [each.rstrip(b"\r") for each in lines[place:place + count]]
+            if len(answer) < count:
+                return Session(replies, f"{where}:{place}: {len(answer)} of {count} lines are there", None)
+            replies.append(Reply(place, lines=answer))
+            place += count
+        elif fault and place == len(lines) and not last:
+            return Session(replies, None, tool.shown(fault.group(1)))
+        else:
+            start = tool.shown(line[:60])
+            raise tool.Fault(f"{where}:{place}: this is no reply: {start}")
+    cut = f"{where}:{place + 1}: the last line is cut" if last else None
+    return Session(replies, cut, None)
+
+
+def read_session(path):
+    return session_of(path, tool.read_text(path))
+
+
+QUERIES = {b"dcf", b"cdcf", b"diag", b"trace", b"project"}
+
+
+def answers(command, reply):
+    """Whether a reply can be that to a command: lines to a query alone, and `ok` to an edit alone."""
+    if reply.refused is not None:
+        return True
+    return (reply.lines is not None) == (command.name in QUERIES) and not command.is_comment()
+
+
+def agreement(commands, session):
+    """Of how many commands the form says whether they are refused with Syntax, as they are."""
+    refused = [reply.refused == "2 Syntax" for reply in session.replies]
+    return sum(is_refused == (bad_syntax(command) is not None) for command, is_refused in zip(commands, refused))
+
+
+def pairs(path, commands, session):
+    """The commands of a script that have a reply, each with it, and those that have none.
+
+    Comments have no reply where the script went through `expand`; where it didn't, each has one.
+    """
+    without = [command for command in commands if not command.is_comment()]
+    given = len(session.replies)
+    readings = [each for each in (without, commands) if len(each) >= given and all(map(answers, each, session.replies))]
+    if readings:
+        asked = max(readings, key=lambda each: (len(each) == given, agreement(each, session)))
+        return list(zip(asked, session.replies)), asked[given:]
+    for command, reply in zip(without, session.replies):
+        if not answers(command, reply):
+            raise tool.Fault(
+                f"line {reply.number} of the replies can't be that to line {command.number} of "
+                f"{tool.name_of(path)}: they are of different sessions")
+    raise tool.Fault(
+        f"{tool.name_of(path)} has {len(without)} commands, and there are {given} replies: "
+        "they are of different sessions")

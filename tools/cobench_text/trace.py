@@ -1,0 +1,86 @@
+"""The lines of a trace, and the traces among the replies of a session."""
+import re
+
+from . import replies, tool
+
+FRAME = re.compile(rb"([0-9]{10}) ([0-7][0-9A-F]{2}) \[([0-8])\]((?: [0-9A-F]{2})*)")
+NOTE = re.compile(rb"([0-9]{10}) note ([0-9]{1,3}) (configured|lost|failed (?:[0-9A-F]{8}|timeout|difference))")
+
+
+class Frame:
+    """A frame on the bus: the time in microseconds at which it was there whole, its identifier and bytes."""
+
+    def __init__(self, time, identifier, data):
+        self.time, self.identifier, self.data = time, identifier, data
+
+    def line(self):
+        data = "".join(f" {byte:02X}" for byte in self.data)
+        return f"{self.time:010} {self.identifier:03X} [{len(self.data)}]{data}"
+
+
+    def log_line(self):
+        """The frame as a line of a log of candump."""
+        seconds, micros = divmod(self.time, 1_000_000)
+        return f"({seconds:010}.{micros:06}) can0 {self.identifier:03X}#{self.data.hex().upper()}\n"
+
+
+class Note:
+    """What the manager notes of a node."""
+
+    def __init__(self, time, node, what):
+        self.time, self.node, self.what = time, node, what
+
+
+def line_of(line):
+    """The frame or note of a line, else None."""
+    frame = FRAME.fullmatch(line)
+    if frame:
+        data = bytes.fromhex(frame.group(4).decode())
+        if len(data) == int(frame.group(3)):
+            return Frame(int(frame.group(1)), int(frame.group(2), 16), data)
+    note = NOTE.fullmatch(line)
+    return Note(int(note.group(1)), int(note.group(2)), note.group(3).decode()) if note else None
+
+
+def trace_of(lines):
+    """The frames and notes of these lines, or None where they are no trace, as the files that `dcf` prints."""
+    found = [line_of(line) for line in lines]
+    return None if None in found else found
+
+
+def is_session(text):
+    return re.match(rb"(ok|refused [1-9] [A-Za-z]+|lines [0-9]+)\r?(\n|$)", text) is not None
+
+
+def traces_of(path, text):
+    """The traces that a text has: the lines of one, or the replies of a session with some."""
+    where = tool.name_of(path)
+    if is_session(text):
+        session = replies.session_of(path, text)
+        if session.cut:
+            raise tool.Fault(f"{session.cut}: the replies are cut")
+        answers = [trace_of(reply.lines) for reply in session.replies if reply.lines]
+        return [answer for answer in answers if answer]
+    lines = text.split(b"\n")
+    if lines.pop():
+        raise tool.Fault(f"{where}:{len(lines) + 1}: the last line is cut")
+    for number, line in enumerate(lines, 1):
+        if line_of(line.rstrip(b"\r")) is None:
+            raise tool.Fault(f"{where}:{number}: this is no line of a trace: {tool.shown(line[:60])}")
+    return [trace_of([line.rstrip(b"\r") for line in lines])] if lines else []
+
+
+def pick(path, traces, wanted):
+    """The wanted trace, counted from 1; without a wish the first one, with a warning where there are more."""
+    if not traces:
+        raise tool.Fault(f"{tool.name_of(path)}: there is no trace with lines in it")
+    if wanted is not None and not 1 <= wanted <= len(traces):
+        raise tool.Fault(f"{tool.name_of(path)}: it has {len(traces)} traces, and no trace {wanted}")
+    if wanted is None and len(traces) > 1:
+        tool.say(f"{tool.name_of(path)} has {len(traces)} traces; this is the first, and --trace 2 takes the next")
+    return traces[(wanted or 1) - 1]
+
+
+def add_words(words):
+    """The word that chooses a trace."""
+    words.add_argument("--trace", metavar="N", type=int, help="take the Nth trace of the session, not the first")
