@@ -1,8 +1,8 @@
 -- What is packed by one mapping, and unpacked by another.
-use Rattle.std.proofs.Common.{◌≡◌, ◌≢◌, ℕ, zero, suc, ◌+◌, ◌*◌, ◌/◌, ◌%◌, ◌^◌, ◌-◌, ◌<◌, ◌≤◌, List, [], ◌∷◌, ◌++◌, length, map, take, drop, Bool, true, false, cond, Option, Some, refl, sym, ap, subst, ◌∙◌, append_assoc, append-nil, arith}
+use Rattle.std.proofs.Common.{◌≡◌, ◌≢◌, ℕ, zero, suc, ◌+◌, ◌*◌, ◌/◌, ◌%◌, ◌^◌, ◌-◌, ◌<◌, ◌≤◌, List, [], ◌∷◌, ◌++◌, length, map, take, drop, Bool, true, false, ◌&&◌, cond, Option, Some, None, refl, sym, ap, subst, ◌∙◌, append_assoc, append-nil, arith}
 use Rattle.std.specs.Prelude.{is_ok, slice_get, slice_index, if◌then◌else◌}
 use Rattle.std.specs.FinMap.{get, insert}
-use Rattle.std.specs.Option.{unwrap_or}
+use Rattle.std.specs.Option.{option_map_or, unwrap_or}
 use Rattle.std.proofs.Math.Nat.{mod-eq_of_lt, pow-succ'}
 use Rattle.std.proofs.Math.Pow.{pow_mono}
 use Rattle.std.proofs.Math.Seq.{drop-append-add, take-append_seam, take-length}
@@ -16,10 +16,12 @@ use Rattle.co_values.specs.declared.form.Form.{Form}
 use Rattle.co_values.specs.declared.form.Form.TheVariants.{Flag, Signed, Unsigned, Characters, HexPairs, Unmodelled}
 use Rattle.co_values.specs.declared.form.Width.{Width}
 use Rattle.co_values.specs.declared.form.Width.TheVariants.{Bits8, Bits16, Bits32, Bits64}
-use Rattle.co_values.specs.Types.{bits_of_form, form, octets}
+use Rattle.co_values.specs.Types.{bits_of_form, form, octets, width_bits}
 use Rattle.co_values.specs.Values.{FitsForm}
+use Rattle.co_dict.specs.declared.direction.Direction.TheVariants.{Receive}
+use Rattle.co_dict.specs.declared.entry.Entry.{Entry}
 use Rattle.co_dict.specs.Mappings.{mapped_length, mapped_place, mapping_bits}
-use Rattle.co_dict.specs.Pdos.{is_of_pdos}
+use Rattle.co_dict.specs.Pdos.{is_mappable, is_of_pdos}
 use Rattle.co_dict.specs.Shapes.{Shaped}
 use Rattle.co_dict.specs.Values.{Values, number_at}
 use Rattle.co_dict.specs.WriteCheck.{write_check}
@@ -27,7 +29,7 @@ use Rattle.co_dict.proofs.CheckLaws.{checked_alike, suits_taken}
 use Rattle.co_dict.proofs.PlaceLemmas.{written_elsewhere, written_there}
 use Rattle.co_mapping.specs.Bits.{low_bits, number_of}
 use Rattle.co_mapping.specs.Carried.{AreApart, TakesWhole}
-use Rattle.co_mapping.specs.Packing.{bits_for, bytes_begun, entry_bits, frame_bits, packed, packed_bits, takes, unpacked, unpacked_from, value_of_bits, with_bits}
+use Rattle.co_mapping.specs.Packing.{bits_for, bytes_begun, entry_bits, frame_bits, names_entry, packed, packed_bits, takes, unpacked, unpacked_from, value_of_bits, with_bits}
 use Rattle.co_mapping.proofs.BitLemmas.{length-low_bits, low_bits-suc, number-low_bits}
 use Rattle.co_mapping.proofs.PackLemmas.{length-packed_bits}
 use Rattle.co_mapping.proofs.PositionLaws.{AreBits, packed_are_bits}
@@ -126,7 +128,8 @@ module _ (shape : Shaped) (entry : ℕ) (bits : List ℕ) where
   with_alike : is_of_pdos Place.0 ≡ false → (values others : Values) → get values Place ≡ get others Place → get (with_bits shape entry bits values) Place ≡ get (with_bits shape entry bits others) Place
   unfolding takes
   with_alike outside values others same =
-      let test : takes shape entry bits values ≡ takes shape entry bits others = ap is_ok (checked_alike shape Place (value_of_bits bits) outside values others) in
+      let test : takes shape entry bits values ≡ takes shape entry bits others =
+      ap (λ check. names_entry shape entry && is_ok check) (checked_alike shape Place (value_of_bits bits) outside values others) in
       with_there values ∙ ap (λ b. cond b (Some (value_of_bits bits)) (get values Place)) test ∙ ap (cond (takes shape entry bits others) (Some (value_of_bits bits))) same ∙ sym (with_there others)
 
 module _ (shape : Shaped) (bits : List ℕ) (q : ℕ × ℕ) where
@@ -231,6 +234,11 @@ kept_whole Characters count bytes are fits e = cc
 kept_whole HexPairs count bytes are fits e = cc
 kept_whole Unmodelled count bytes are fits e = absurd fits
 
+-- an entry that has a width in PDOs can be mapped
+mappable_of : (mappable : Bool) (bits : Option ℕ) (count : ℕ) → (if mappable then bits else None) ≡ Some count → (mappable ≡ true) × (bits ≡ Some count)
+mappable_of true bits count e = (refl, e)
+mappable_of false bits count e = absurd cc
+
 -- ---- from one device to another
 
 -- mappings of the same lengths have the same positions
@@ -256,6 +264,7 @@ pub carried : (shape : Shaped) (from into : Values) (sent taken : List ℕ) (i a
 unfolding bits_for takes
 carried shape from into sent taken i a b bytes few alike apart at_a at_b held whole =
     let same = alike_there sent taken alike i a b at_a at_b in
+    let mappable = mappable_of (is_mappable Receive whole.described) (width_bits whole.described.kind) (mapped_length b) whole.width in
     let frame : List ℕ = frame_bits (packed from sent).0 in
     let start : 0 + mapping_bits (take i taken) ≡ mapping_bits (take i sent) = omega (arith, same.1) in
     let bits : bits_for b (0 + mapping_bits (take i taken)) frame ≡ entry_bits from a =
@@ -268,9 +277,11 @@ carried shape from into sent taken i a b bytes few alike apart at_a at_b held wh
     let value : value_of_bits (entry_bits from a) ≡ bytes =
     ap (λ n. little_bytes (bytes_begun n) (number_of (entry_bits from a))) count
     ∙ ap (little_bytes (bytes_begun (mapped_length b))) number
-    ∙ kept_whole (form whole.described.kind) (mapped_length b) bytes whole.suits.fits.0 whole.suits.fits.1 whole.width in
+    ∙ kept_whole (form whole.described.kind) (mapped_length b) bytes whole.suits.fits.0 whole.suits.fits.1 mappable.1 in
+    let named : names_entry shape b ≡ true = ap (λ (o : Option Entry). option_map_or (is_mappable Receive) o false) whole.suits.there ∙ mappable.0 in
     let ok : takes shape b (entry_bits from a) into ≡ true =
-    ap (λ v. is_ok (write_check shape into (mapped_place b) v)) value ∙ ap is_ok (suits_taken shape into (mapped_place b) bytes whole.described whole.suits whole.outside) in
+    ap (λ test. test && is_ok (write_check shape into (mapped_place b) (value_of_bits (entry_bits from a)))) named
+    ∙ ap (λ v. is_ok (write_check shape into (mapped_place b) v)) value ∙ ap is_ok (suits_taken shape into (mapped_place b) bytes whole.described whole.suits whole.outside) in
     gets_bits shape taken frame 0 into i b apart at_b whole.outside
     ∙ ap (λ v. get (with_bits shape b v into) (mapped_place b)) bits
     ∙ with_there shape b (entry_bits from a) into
