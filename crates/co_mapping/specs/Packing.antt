@@ -56,12 +56,12 @@ takes shape entry bits values =
 unfoldable pub with_bits : Shaped → ℕ → List ℕ → Values → Values
 with_bits shape entry bits values = if takes shape entry bits values then insert values (mapped_place entry) (value_of_bits bits) else values
 
--- each mapped entry gets its bits, those behind the bits of the entries before it, and is judged by what stands then
-unfoldable pub unpacked_from : ℕ → Shaped → List ℕ → List ℕ → Values → Values
-unpacked_from position shape [] bits values = values
-unpacked_from position shape (entry ∷ mapping) bits values =
-    unpacked_from (position + mapped_length entry) shape mapping bits (with_bits shape entry (bits_for entry position bits) values)
+-- what stands after each entry of a mapping had its turn, with the bits behind those of the entries before it
+abbrev pub after_entries : {S : Type 0} → (ℕ → List ℕ → S → S) → ℕ → List ℕ → List ℕ → S → S
+after_entries turn position [] bits s = s
+after_entries turn position (entry ∷ mapping) bits s =
+    after_entries turn (position + mapped_length entry) mapping bits (turn entry (bits_for entry position bits) s)
 
--- a device takes a frame by a mapping
+-- a device takes a frame by a mapping: each entry is judged by what stands in its turn
 abbrev pub unpacked : Shaped → List ℕ → List ℕ → Values → Values
-unpacked shape mapping bytes values = unpacked_from 0 shape mapping (frame_bits bytes) values
+unpacked shape mapping bytes values = after_entries (with_bits shape) 0 mapping (frame_bits bytes) values

@@ -8,3 +8,4 @@ pub mod ResetLemmas
 pub mod RestLemmas
 pub mod StateLemmas
 pub mod DeafLemmas
+pub mod AppliedLemmas

@@ -13,9 +13,10 @@ ghost use Rattle.co_parts.specs.Contents.{Image, shape_of, values_of};
 ghost use Rattle.co_profile.specs.Consumers.{failures};
 ghost use Rattle.co_profile.specs.Profile.{error_set, next_heartbeat};
 ghost use Rattle.co_sdo.specs.Server.{answered};
-ghost use Rattle.device_pdos.specs.Rpdos.{receipt_of, rpdo_at};
+ghost use Rattle.co_mapping.specs.Packing.{unpacked};
+ghost use Rattle.device_pdos.specs.Rpdos.{mapping_of_rpdo, receipt_of, rpdo_at};
 ghost use Rattle.co_device.specs.Device.{Device, consumers_run, enter_pre_operational, is_in, moments, next_due, powered, ran, reset_communication, reset_node, sdo_request, stop_remote_node, timers, was_set, without_power};
-ghost use Rattle.co_device.specs.Receiving.{ignored, pdo_received, received, rpdo_received, sync_received};
+ghost use Rattle.co_device.specs.Receiving.{ignored, pdo_received, received, rpdo_received, rpdo_synced, sync_received};
 ghost use Rattle.device_laws.specs.Ahead.{IsAhead, IsOwnPart};
 ghost use Rattle.device_laws.specs.Deaf.{IsDeafTo};
 ghost use Rattle.device_laws.specs.Rest.{Rests};
@@ -193,6 +194,23 @@ pub fn what_a_failure_brings_about()
     ensures left { (t : ℕ) (d : Device) → nat_lt 0 (failures t d.consumers) ≡ true → is_in NmtState.Operational (consumers_run t d) ≡ false }
     ensures stopped { (t : ℕ) (d : Device) → is_in NmtState.Stopped d ≡ true → nat_lt 0 (failures t d.consumers) ≡ true
         → ((consumers_run t d).waiting ≡ d.waiting) × ((consumers_run t d).values ≡ error_set d.learnt d.values) }
+{}
+
+/// An RPDO that applies a frame, at once or at a SYNC, leaves the values that are unpacked of it by its mapping
+/// at every entry but the error register, 1001h:00, whose error bits the write of a consumer heartbeat time may
+/// clear.
+#[tactic(auto, using(crate::proofs::AppliedLemmas::received_is_unpacked, crate::proofs::AppliedLemmas::kept_is_unpacked))]
+pub fn an_rpdo_unpacks_what_it_applies()
+    ensures at_once { (image : Image) (t : ℕ) (frame : BaseFrame) (i : ℕ) (d : Device) (place : ℕ × ℕ)
+        → receipt_of frame (rpdo_at d.rpdos i).configuration ≡ Receipt.AtOnce → place ≢ (0x1001, 0)
+        → map.get (outcome (rpdo_received t frame i d) image).values place
+        ≡ (let mapping = mapping_of_rpdo (rpdo_at d.rpdos i).configuration in
+        map.get (unpacked (shape_of (image (Part.Shape d.number))) mapping frame.bytes d.values) place) }
+    ensures at_sync { (image : Image) (t : ℕ) (frame : BaseFrame) (i : ℕ) (d : Device) (place : ℕ × ℕ)
+        → (rpdo_at d.rpdos i).kept ≡ Some frame → place ≢ (0x1001, 0)
+        → map.get (outcome (rpdo_synced t i d) image).values place
+        ≡ (let mapping = mapping_of_rpdo (rpdo_at d.rpdos i).configuration in
+        map.get (unpacked (shape_of (image (Part.Shape d.number))) mapping frame.bytes d.values) place) }
 {}
 
 /// An RPDO that keeps a frame reads nothing; one that applies it reads the device's entries once.
