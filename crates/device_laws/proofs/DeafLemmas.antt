@@ -19,7 +19,7 @@ use Rattle.device_pdos.specs.Tpdos as tpdos
 use Rattle.device_pdos.specs.Tpdos.{bytes_now, frame_if, frame_sent, looked, looked_by, sent_by, tpdos_looked, with_frame, with_tpdos}
 use Rattle.device_pdos.specs.declared.rpdo_state.RpdoState.{RpdoState}
 use Rattle.device_pdos.specs.declared.tpdo_state.TpdoState.{TpdoState}
-use Rattle.device_pdos.proofs.LookLemmas.{quiet_tpdos, quiet_waiting}
+use Rattle.device_pdos.proofs.RestLemmas.{nothing_sent, tpdos_rest}
 use Rattle.co_device.specs.Device.{Device, is_in, moments, ran, tpdos_run}
 use Rattle.co_device.specs.Receiving.{kept_applied, places, received, rpdo_synced, sync_received, walk}
 use Rattle.co_device.specs.declared.nmt_state.NmtState.TheVariants.{Operational}
@@ -116,11 +116,11 @@ module _ (t : ℕ) (d : Device) (rests : Rests d) (ahead : LieAfter t (moments d
     looked_at_sync : tpdos_run t (record d { synced = true }) ≡ d
     unfolding tpdos_run
     looked_at_sync =
-        let unsent = rests.unwanted on t tpdos_in_operational in
+        let unwanted = rests.unwanted on in
         rw on
         (equal d false _ _ (sym rests.unsynced)
-        (all_alike t d.values d.tpdos awaits.no_tpdo ∙ quiet_tpdos t d.values d.tpdos unsent tpdos_in_operational)
-        (waiting_alike t d.values d.tpdos d.waiting awaits.no_tpdo ∙ quiet_waiting t d.values d.tpdos d.waiting unsent))
+        (all_alike t d.values d.tpdos awaits.no_tpdo ∙ tpdos_rest t d.values d.tpdos unwanted tpdos_in_operational)
+        (waiting_alike t d.values d.tpdos d.waiting awaits.no_tpdo ∙ nothing_sent t d.values d.tpdos d.waiting unwanted tpdos_in_operational))
 
     ran_at_sync : ran t (record d { synced = true }) ≡ d
     unfolding ran

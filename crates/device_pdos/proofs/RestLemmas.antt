@@ -1,6 +1,6 @@
 -- What a look at a TPDO leaves for later: nothing before its next moment.
-use Rattle.std.proofs.Common.{◌≡◌, ℕ, ◌==◌, ◌<◌, Bool, true, false, List, [], ◌∷◌, Option, Some, None, refl, ap, ◌∙◌, arith}
-use Rattle.std.specs.Prelude.{if◌then◌else◌, nat_le, nat_lt, not, ◌&&◌, ◌||◌}
+use Rattle.std.proofs.Common.{◌≡◌, ℕ, ◌==◌, ◌<◌, Bool, true, false, List, [], ◌∷◌, Option, Some, None, refl, ap, subst, ◌∙◌, arith}
+use Rattle.std.specs.Prelude.{if◌then◌else◌, is_none, nat_le, nat_lt, not, ◌&&◌, ◌||◌}
 use Rattle.std.specs.Str.{bytes_eq}
 use Rattle.std.specs.List.{AllByRecursion}
 use Rattle.std.proofs.lemmas.Bool.Decides.{nat_tests}
@@ -9,10 +9,10 @@ use Rattle.co_dict.specs.Values.{Values}
 use Rattle.co_parts.specs.Moments.{moments_of}
 use Rattle.co_pdos.specs.declared.communication.Communication.{Communication}
 use Rattle.co_pdos.specs.declared.configuration.Configuration.{Configuration}
-use Rattle.co_pdos.specs.Tpdo.{Remembered, after_change, after_event, after_nth, differs, has_come, inhibit_over, is_ahead, is_sent_at_change, is_sent_at_event, is_sent_at_nth, is_sent_by_type, looked_at, looked_at_by_type}
+use Rattle.co_pdos.specs.Tpdo.{Remembered, after_event, differs, has_come, inhibit_over, is_ahead, is_sent_at_change, is_sent_at_event, is_sent_at_nth, is_sent_by_type, looked_at_by_type}
 use Rattle.device_pdos.proofs.LookLemmas.{Ahead, all_parts, held_ahead, quiet_tpdos, quiet_waiting}
 use Rattle.can_frame.specs.declared.waiting.Waiting.{Waiting}
-use Rattle.device_pdos.specs.Tpdos.{bytes_now, due_of, frame_if, frame_sent, is_event_driven, looked, looked_by, moments, sent_by, tpdo_moment, tpdos_looked, waits_for_event, with_tpdos}
+use Rattle.device_pdos.specs.Tpdos.{bytes_now, due_of, frame_if, frame_sent, is_event_driven, is_wanted, is_wanted_by, looked_by, moments, sent_by, tpdo_moment, tpdos_looked, waits_for_event, with_tpdos}
 use Rattle.device_pdos.specs.declared.tpdo_state.TpdoState.{TpdoState}
 
 test_ahead : (u m : ℕ) → u < m → nat_lt u m ≡ true
@@ -66,58 +66,85 @@ unfolding after_event
 kept c t bytes r true e none = not_different bytes (after_event c t bytes r) (rw e refl)
 kept c t bytes r false e none = rw e (unsent_same t bytes r e (rw e at none))
 
--- what an event-driven TPDO remembers after a look
-after_look : (c : Communication) (t u : ℕ) (bytes : List ℕ) (r : Remembered) → Ahead u true (after_event c t bytes r) → is_sent_at_event u bytes (after_event c t bytes r) ≡ false
-after_look c t u bytes r ahead = unsent u bytes (after_event c t bytes r) ahead (kept c t bytes r (is_sent_at_event t bytes r) refl)
+-- ---- whatever the type
 
--- whatever the type
-rests_by_type : (kind : Option ℕ) (c : Communication) (at_sync : Bool) (t u : ℕ) (bytes : List ℕ) (r : Remembered) → Ahead u (is_event_driven kind) (looked_at_by_type kind c at_sync t bytes r)
-    → is_sent_by_type kind false u bytes (looked_at_by_type kind c at_sync t bytes r) ≡ false
-unfolding is_sent_by_type looked_at_by_type is_sent_at_change is_sent_at_nth
-rests_by_type None c at_sync t u bytes r ahead = refl
-rests_by_type (Some kind) c at_sync t u bytes r ahead = by (kind == 0) (nat_le kind 240) (nat_le 254 kind) ahead
+unwanted_type : (kind : Option ℕ) (c : Communication) (at_sync : Bool) (t : ℕ) (bytes : List ℕ) (r : Remembered) (s : Remembered) → looked_at_by_type kind c at_sync t bytes r ≡ s
+    → (is_event_driven kind && is_none s.inhibit && differs bytes s) ≡ false
+unfolding looked_at_by_type
+unwanted_type None c at_sync t bytes r s e = refl
+unwanted_type (Some kind) c at_sync t bytes r s e = by (nat_le 254 kind) refl
   where
-    after : Bool → Bool → Bool → Remembered
-    after zero cyclic event =
-        if zero then after_change at_sync bytes r else if cyclic then after_nth kind at_sync bytes r else if event then after_event c t bytes r else r
+    not_zero : nat_le 254 kind ≡ true → (kind == 0) ≡ false
+    not_zero e = grind (arith, nat_tests)
 
-    by : (zero cyclic event : Bool) → Ahead u event (after zero cyclic event)
-        → (if zero then is_sent_at_change false bytes (after zero cyclic event) else if cyclic then is_sent_at_nth kind false (after zero cyclic event)
-        else if event then is_sent_at_event u bytes (after zero cyclic event) else false) ≡ false
-    by true cyclic event h = refl
-    by false true event h = refl
-    by false false true h = after_look c t u bytes r h
-    by false false false h = refl
+    not_cyclic : nat_le 254 kind ≡ true → nat_le kind 240 ≡ false
+    not_cyclic e = grind (arith, nat_tests)
+
+    same : nat_le 254 kind ≡ true → after_event c t bytes r ≡ s
+    same event = rw (not_zero event, not_cyclic event, event) at e
+
+    when_none : (inhibit : Option ℕ) (differ : Bool) → (inhibit ≡ None → differ ≡ false) → (is_none inhibit && differ) ≡ false
+    when_none None differ h = h refl
+    when_none (Some m) differ h = refl
+
+    by : (event : Bool) → nat_le 254 kind ≡ event → (event && is_none s.inhibit && differs bytes s) ≡ false
+    by false f = refl
+    by true f = when_none s.inhibit (differs bytes s) (subst (λ (x : Remembered). x.inhibit ≡ None → differs bytes x ≡ false) (same f) (kept c t bytes r (is_sent_at_event t bytes r) refl))
+
+-- one that isn't wanted isn't sent before its moment
+unsent_type : (kind : Option ℕ) (u : ℕ) (bytes : List ℕ) (r : Remembered) → Ahead u (is_event_driven kind) r → (is_event_driven kind && is_none r.inhibit && differs bytes r) ≡ false
+    → is_sent_by_type kind false u bytes r ≡ false
+unfolding is_sent_by_type is_sent_at_change is_sent_at_nth
+unsent_type None u bytes r ahead unwanted = refl
+unsent_type (Some kind) u bytes r ahead unwanted = by (kind == 0) (nat_le kind 240) (nat_le 254 kind) ahead unwanted
+  where
+    same : (inhibit : Option ℕ) (differ : Bool) → (is_none inhibit && differ) ≡ false → inhibit ≡ None → differ ≡ false
+    same None differ h e = h
+    same (Some m) differ h e = absurd cc
+
+    by : (zero cyclic event : Bool) → Ahead u event r → (event && is_none r.inhibit && differs bytes r) ≡ false
+        → (if zero then is_sent_at_change false bytes r else if cyclic then is_sent_at_nth kind false r else if event then is_sent_at_event u bytes r else false) ≡ false
+    by true cyclic event h k = refl
+    by false true event h k = refl
+    by false false true h k = unsent u bytes r h (same r.inhibit (differs bytes r) k)
+    by false false false h k = refl
 
 -- ---- one TPDO, and all of a device
 
-unsent_by : (configuration : Option Configuration) (at_sync : Bool) (t u : ℕ) (values : Values) (r : Remembered) → Ahead u (waits_for_event configuration) (looked_by configuration t at_sync values r)
-    → sent_by configuration u false values (looked_by configuration t at_sync values r) ≡ None
+looked_unwanted : (configuration : Option Configuration) (at_sync : Bool) (t : ℕ) (values : Values) (r : Remembered)
+    → is_wanted_by configuration values (looked_by configuration t at_sync values r) ≡ false
+looked_unwanted None at_sync t values r = refl
+looked_unwanted (Some c) at_sync t values r = unwanted_type c.communication.kind c.communication at_sync t (bytes_now values c) r _ refl
+
+unsent_by : (configuration : Option Configuration) (u : ℕ) (values : Values) (r : Remembered) → Ahead u (waits_for_event configuration) r → is_wanted_by configuration values r ≡ false
+    → sent_by configuration u false values r ≡ None
 unfolding sent_by
-unsent_by None at_sync t u values r ahead = refl
-unsent_by (Some c) at_sync t u values r ahead =
+unsent_by None u values r ahead unwanted = refl
+unsent_by (Some c) u values r ahead unwanted =
     let bytes : List ℕ = bytes_now values c in
-    let s : Remembered = looked_at c.communication at_sync t bytes r in
-    ap (λ test. frame_if test c.identifier bytes) (rests_by_type c.communication.kind c.communication at_sync t u bytes r ahead)
+    ap (λ test. frame_if test c.identifier bytes) (unsent_type c.communication.kind u bytes r ahead unwanted)
 
-one_rests : (t u : ℕ) (at_sync : Bool) (values : Values) (p : TpdoState) → AllByRecursion (λ m. u < m) (moments_of (tpdo_moment true (looked t at_sync values p)))
-    → frame_sent u false values (looked t at_sync values p) ≡ None
-one_rests t u at_sync values p ahead =
-    let s : Remembered = looked_by p.configuration t at_sync values (inhibit_over t p.remembered) in
-    ap (sent_by p.configuration u false values) (held_ahead u (waits_for_event p.configuration) s ahead)
-    ∙ unsent_by p.configuration at_sync t u values (inhibit_over t p.remembered) ahead
+pub none_wanted : (t : ℕ) (at_sync : Bool) (values : Values) (tpdos : List TpdoState) → AllByRecursion (λ p. is_wanted values p ≡ false) (tpdos_looked t at_sync values tpdos)
+unfolding tpdos_looked is_wanted
+none_wanted t at_sync values [] = tt
+none_wanted t at_sync values (p ∷ tpdos) = (looked_unwanted p.configuration at_sync t values (inhibit_over t p.remembered), none_wanted t at_sync values tpdos)
 
-pub all_rest : (t u : ℕ) (at_sync : Bool) (values : Values) (tpdos : List TpdoState) → AllByRecursion (λ m. u < m) (moments true (tpdos_looked t at_sync values tpdos))
-    → AllByRecursion (λ p. frame_sent u false values p ≡ None) (tpdos_looked t at_sync values tpdos)
-unfolding tpdos_looked
-all_rest t u at_sync values [] ahead = tt
-all_rest t u at_sync values (p ∷ tpdos) ahead =
-    let split = all_parts (λ m. u < m) (moments_of (tpdo_moment true (looked t at_sync values p))) (moments true (tpdos_looked t at_sync values tpdos)) ahead in
-    (one_rests t u at_sync values p split.0, all_rest t u at_sync values tpdos split.1)
+module _ (u : ℕ) (values : Values) where
+  pub none_sent : (tpdos : List TpdoState) → AllByRecursion (λ p. is_wanted values p ≡ false) tpdos → AllByRecursion (λ m. u < m) (moments true tpdos)
+      → AllByRecursion (λ p. frame_sent u false values p ≡ None) tpdos
+  unfolding is_wanted
+  none_sent [] unwanted ahead = tt
+  none_sent (p ∷ tpdos) unwanted ahead =
+      let split = all_parts (λ m. u < m) (moments_of (tpdo_moment true p)) (moments true tpdos) ahead in
+      let counts : Bool = waits_for_event p.configuration in
+      let one : frame_sent u false values p ≡ None =
+      ap (sent_by p.configuration u false values) (held_ahead u counts p.remembered split.0) ∙ unsent_by p.configuration u values p.remembered split.0 unwanted.0 in
+      (one, none_sent tpdos unwanted.1 split.1)
 
-module _ (t u : ℕ) (at_sync : Bool) (values : Values) (tpdos : List TpdoState) (ahead : AllByRecursion (λ m. u < m) (moments true (tpdos_looked t at_sync values tpdos))) where
-  pub tpdos_rest : tpdos_looked u false values (tpdos_looked t at_sync values tpdos) ≡ tpdos_looked t at_sync values tpdos
-  tpdos_rest = quiet_tpdos u values (tpdos_looked t at_sync values tpdos) (all_rest t u at_sync values tpdos ahead) ahead
+  pub tpdos_rest : (tpdos : List TpdoState) → AllByRecursion (λ p. is_wanted values p ≡ false) tpdos → AllByRecursion (λ m. u < m) (moments true tpdos)
+      → tpdos_looked u false values tpdos ≡ tpdos
+  tpdos_rest tpdos unwanted ahead = quiet_tpdos u values tpdos (none_sent tpdos unwanted ahead) ahead
 
-  pub nothing_sent : (frames : List Waiting) → with_tpdos u false values (tpdos_looked t at_sync values tpdos) frames ≡ frames
-  nothing_sent frames = quiet_waiting u values (tpdos_looked t at_sync values tpdos) frames (all_rest t u at_sync values tpdos ahead)
+  pub nothing_sent : (tpdos : List TpdoState) (frames : List Waiting) → AllByRecursion (λ p. is_wanted values p ≡ false) tpdos → AllByRecursion (λ m. u < m) (moments true tpdos)
+      → with_tpdos u false values tpdos frames ≡ frames
+  nothing_sent tpdos frames unwanted ahead = quiet_waiting u values tpdos frames (none_sent tpdos unwanted ahead)

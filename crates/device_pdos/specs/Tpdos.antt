@@ -1,5 +1,5 @@
 -- The TPDOs of a device at a moment (CiA 301), by number.
-use Rattle.std.specs.Prelude.{ℕ, ◌==◌, ◌&&◌, nat_le, true, false, Bool, List, [], ◌∷◌, map, flat_map, take, Option, Some, None, if◌then◌else◌}
+use Rattle.std.specs.Prelude.{ℕ, ◌==◌, ◌&&◌, nat_le, true, false, Bool, List, [], ◌∷◌, map, flat_map, take, Option, Some, None, is_none, if◌then◌else◌}
 use Rattle.can_frame.specs.Frames.{BaseFrame}
 use Rattle.can_frame.specs.WaitingFrames.{replaced}
 use Rattle.can_frame.specs.declared.purpose.Purpose.TheVariants as purpose
@@ -9,7 +9,7 @@ use Rattle.co_dict.specs.Values.{Values}
 use Rattle.co_mapping.specs.Packing.{packed}
 use Rattle.co_parts.specs.Moments.{moments_of}
 use Rattle.co_pdos.specs.Configured.{configuration_of}
-use Rattle.co_pdos.specs.Tpdo.{Remembered, forgotten, inhibit_over, is_sent, looked_at}
+use Rattle.co_pdos.specs.Tpdo.{Remembered, differs, forgotten, inhibit_over, is_sent, looked_at}
 use Rattle.co_pdos.specs.Working.{tpdo_object}
 use Rattle.co_pdos.specs.declared.configuration.Configuration.{Configuration}
 use Rattle.device_pdos.specs.Objects.{number_of_object, numbers_of}
@@ -94,6 +94,14 @@ is_event_driven (Some kind) = nat_le 254 kind
 abbrev pub waits_for_event : Option Configuration → Bool
 waits_for_event None = false
 waits_for_event (Some c) = is_event_driven c.communication.kind
+
+-- one that works, is event-driven and isn't inhibited is wanted where its bytes differ from those last queued
+abbrev pub is_wanted_by : Option Configuration → Values → Remembered → Bool
+is_wanted_by None values r = false
+is_wanted_by (Some c) values r = is_event_driven c.communication.kind && is_none r.inhibit && differs (bytes_now values c) r
+
+unfoldable pub is_wanted : Values → TpdoState → Bool
+is_wanted values p = is_wanted_by p.configuration values p.remembered
 
 -- while it is inhibited, the end of that; else its event moment, where it counts
 abbrev pub due_of : Bool → Option ℕ → Option ℕ → Option ℕ

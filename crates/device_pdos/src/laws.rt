@@ -8,7 +8,7 @@ ghost use Rattle.co_dict.specs.Values.{Values};
 ghost use Rattle.co_pdos.specs.declared.configuration.Configuration.{Configuration as Settings};
 ghost use Rattle.device_pdos.specs.Objects.{number_of_object};
 ghost use Rattle.device_pdos.specs.Rpdos.{rpdo, rpdo_written, rpdos_written};
-ghost use Rattle.device_pdos.specs.Tpdos.{frame_sent, freed, looked, moments, tpdo, tpdo_written, tpdos_freed, tpdos_looked, tpdos_written, with_tpdos};
+ghost use Rattle.device_pdos.specs.Tpdos.{frame_sent, freed, is_wanted, looked, moments, tpdo, tpdo_written, tpdos_freed, tpdos_looked, tpdos_written, with_tpdos};
 ghost use Rattle.device_pdos.specs.declared.rpdo_state.RpdoState.{RpdoState as Rpdo};
 ghost use Rattle.device_pdos.specs.declared.tpdo_state.TpdoState.{TpdoState as State};
 
@@ -59,16 +59,21 @@ pub fn quiet_between_moments()
     ensures freed { (t : ℕ) (tpdos : List State) → AllByRecursion (λ m. t < m) (moments false tpdos) → tpdos_freed t tpdos ≡ tpdos }
 {}
 
-/// TPDOs that were looked at rest: as long as their moments lie ahead, none is sent without a SYNC, and no
-/// later look without one changes what they remember, or what waits.
-#[tactic(auto, using(crate::proofs::RestLemmas::all_rest, crate::proofs::RestLemmas::tpdos_rest, crate::proofs::RestLemmas::nothing_sent))]
+/// TPDOs that were looked at rest: none is wanted. As long as none is, and their moments lie ahead, none is sent
+/// without a SYNC, and no look without one changes what they remember, or what waits.
+#[tactic(auto, using(crate::proofs::RestLemmas::none_wanted, crate::proofs::RestLemmas::none_sent, crate::proofs::RestLemmas::tpdos_rest, crate::proofs::RestLemmas::nothing_sent))]
 pub fn tpdos_that_were_looked_at_rest()
-    ensures unsent { (t u : ℕ) (at_sync : Bool) (values : Values) (tpdos : List State) → AllByRecursion (λ m. u < m) (moments true (tpdos_looked t at_sync values tpdos))
-        → AllByRecursion (λ p. frame_sent u false values p ≡ None) (tpdos_looked t at_sync values tpdos) }
-    ensures tpdos { (t u : ℕ) (at_sync : Bool) (values : Values) (tpdos : List State) → AllByRecursion (λ m. u < m) (moments true (tpdos_looked t at_sync values tpdos))
-        → tpdos_looked u false values (tpdos_looked t at_sync values tpdos) ≡ tpdos_looked t at_sync values tpdos }
-    ensures waiting { (t u : ℕ) (at_sync : Bool) (values : Values) (tpdos : List State) (frames : List WaitingFrame) → AllByRecursion (λ m. u < m) (moments true (tpdos_looked t at_sync values tpdos))
-        → with_tpdos u false values (tpdos_looked t at_sync values tpdos) frames ≡ frames }
+    ensures unwanted { (t : ℕ) (at_sync : Bool) (values : Values) (tpdos : List State)
+        → AllByRecursion (λ p. is_wanted values p ≡ false) (tpdos_looked t at_sync values tpdos) }
+    ensures unsent { (u : ℕ) (values : Values) (tpdos : List State)
+        → AllByRecursion (λ p. is_wanted values p ≡ false) tpdos → AllByRecursion (λ m. u < m) (moments true tpdos)
+        → AllByRecursion (λ p. frame_sent u false values p ≡ None) tpdos }
+    ensures tpdos { (u : ℕ) (values : Values) (tpdos : List State)
+        → AllByRecursion (λ p. is_wanted values p ≡ false) tpdos → AllByRecursion (λ m. u < m) (moments true tpdos)
+        → tpdos_looked u false values tpdos ≡ tpdos }
+    ensures waiting { (u : ℕ) (values : Values) (tpdos : List State) (frames : List WaitingFrame)
+        → AllByRecursion (λ p. is_wanted values p ≡ false) tpdos → AllByRecursion (λ m. u < m) (moments true tpdos)
+        → with_tpdos u false values tpdos frames ≡ frames }
 {}
 
 /// After a look at the TPDOs every moment at which one is due lies later; so it does outside Operational
