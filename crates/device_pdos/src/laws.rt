@@ -1,14 +1,13 @@
 //! Laws of a device's PDOs, each a function whose contract is the law.
 
-ghost use Rattle.std.specs.Prelude.{◌≡◌, ◌≢◌, ◌<◌, ◌≤◌, ℕ, Bool, true, false, List, None, Some};
+ghost use Rattle.std.specs.Prelude.{◌≡◌, ◌≢◌, ◌<◌, ℕ, Bool, true, false, List, None, Some};
 ghost use Rattle.std.specs.List.{AllByRecursion};
 ghost use Rattle.can_frame.specs.declared.waiting.Waiting.{Waiting as WaitingFrame};
 ghost use Rattle.co_dict.specs.Shapes.{Shaped};
 ghost use Rattle.co_dict.specs.Values.{Values};
-ghost use Rattle.co_pdos.specs.declared.configuration.Configuration.{Configuration as Settings};
 ghost use Rattle.device_pdos.specs.Objects.{number_of_object};
 ghost use Rattle.device_pdos.specs.Rpdos.{rpdo, rpdo_written, rpdos_written};
-ghost use Rattle.device_pdos.specs.Tpdos.{frame_sent, freed, is_wanted, looked, moments, tpdo, tpdo_written, tpdos_freed, tpdos_looked, tpdos_written, with_tpdos};
+ghost use Rattle.device_pdos.specs.Tpdos.{frame_sent, freed, goes_by_sync, is_wanted, looked, moments, tpdo, tpdo_written, tpdos_freed, tpdos_looked, tpdos_written, waits_for_event, with_tpdos};
 ghost use Rattle.device_pdos.specs.declared.rpdo_state.RpdoState.{RpdoState as Rpdo};
 ghost use Rattle.device_pdos.specs.declared.tpdo_state.TpdoState.{TpdoState as State};
 
@@ -31,20 +30,21 @@ pub fn a_write_judges_its_pdo_anew()
     ensures other_rpdo { (shape : Shaped) (values : Values) (index : ℕ) (p : Rpdo) → p.number ≢ number_of_object index → rpdo_written shape values index p ≡ p }
 {}
 
-/// Without a SYNC a TPDO of the types 0 to 240 isn't sent, and remembers what it did but for an inhibit
-/// moment that has come.
+/// Without a SYNC a synchronous TPDO isn't sent, and remembers what it did but for an inhibit moment that has
+/// come.
+#[tactic(auto, using(crate::proofs::LookLemmas::unsent_without_sync, crate::proofs::LookLemmas::kept_without_sync))]
 pub fn without_a_sync_no_synchronous_tpdo_is_sent()
-    ensures sent { (t kind : ℕ) (values : Values) (p : State) (c : Settings) → p.configuration ≡ Some c → c.communication.kind ≡ Some kind → kind ≤ 240
+    ensures sent { (t : ℕ) (values : Values) (p : State) → goes_by_sync p.configuration ≡ true
         → frame_sent t false values p ≡ None }
-    ensures kept { (t kind : ℕ) (values : Values) (p : State) (c : Settings) → p.configuration ≡ Some c → c.communication.kind ≡ Some kind → kind ≤ 240
+    ensures kept { (t : ℕ) (values : Values) (p : State) → goes_by_sync p.configuration ≡ true
         → looked t false values p ≡ freed t p }
 {}
 
-/// A TPDO of type 254 or 255 whose inhibit moment is ahead isn't sent, and stays.
+/// An event-driven TPDO whose inhibit moment is ahead isn't sent, and stays.
 pub fn an_inhibited_tpdo_is_not_sent()
-    ensures sent { (t m kind : ℕ) (at_sync : Bool) (values : Values) (p : State) (c : Settings) → p.configuration ≡ Some c → c.communication.kind ≡ Some kind → 254 ≤ kind
+    ensures sent { (t m : ℕ) (at_sync : Bool) (values : Values) (p : State) → waits_for_event p.configuration ≡ true
         → p.remembered.inhibit ≡ Some m → t < m → frame_sent t at_sync values p ≡ None }
-    ensures kept { (t m kind : ℕ) (at_sync : Bool) (values : Values) (p : State) (c : Settings) → p.configuration ≡ Some c → c.communication.kind ≡ Some kind → 254 ≤ kind
+    ensures kept { (t m : ℕ) (at_sync : Bool) (values : Values) (p : State) → waits_for_event p.configuration ≡ true
         → p.remembered.inhibit ≡ Some m → t < m → looked t at_sync values p ≡ p }
 {}
 
