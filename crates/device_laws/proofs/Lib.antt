@@ -9,3 +9,4 @@ pub mod RestLemmas
 pub mod StateLemmas
 pub mod DeafLemmas
 pub mod AppliedLemmas
+pub mod FailureLemmas

@@ -15,7 +15,7 @@ ghost use Rattle.co_profile.specs.Profile.{error_set, next_heartbeat};
 ghost use Rattle.co_sdo.specs.Server.{answered};
 ghost use Rattle.co_mapping.specs.Packing.{unpacked};
 ghost use Rattle.device_pdos.specs.Rpdos.{mapping_of_rpdo, receipt_of, rpdo_at};
-ghost use Rattle.co_device.specs.Device.{Device, consumers_run, enter_pre_operational, is_in, moments, next_due, powered, ran, reset_communication, reset_node, sdo_request, stop_remote_node, timers, was_set, without_power};
+ghost use Rattle.co_device.specs.Device.{Device, consumers_run, enter_pre_operational, is_in, moments, next_due, powered, ran, reset_communication, reset_node, sdo_request, stop_remote_node, timers, was_set, with_emergencies, with_emergency, without_power};
 ghost use Rattle.co_device.specs.Receiving.{ignored, pdo_received, received, rpdo_received, rpdo_synced, sync_received};
 ghost use Rattle.device_laws.specs.Ahead.{IsAhead, IsOwnPart};
 ghost use Rattle.device_laws.specs.Deaf.{IsDeafTo};
@@ -194,6 +194,14 @@ pub fn what_a_failure_brings_about()
     ensures left { (t : ℕ) (d : Device) → nat_lt 0 (failures t d.consumers) ≡ true → is_in NmtState.Operational (consumers_run t d) ≡ false }
     ensures stopped { (t : ℕ) (d : Device) → is_in NmtState.Stopped d ≡ true → nat_lt 0 (failures t d.consumers) ≡ true
         → ((consumers_run t d).waiting ≡ d.waiting) × ((consumers_run t d).values ≡ error_set d.learnt d.values) }
+{}
+
+/// Consumers that fail at one moment are told one by one: one more emergency object waits for each.
+#[tactic(auto, using(crate::proofs::FailureLemmas::none_told, crate::proofs::FailureLemmas::one_more_told))]
+pub fn failures_are_told_one_by_one()
+    ensures none { (code : ℕ) (d : Device) → with_emergencies 0 code d ≡ d }
+    ensures one_more { (count code : ℕ) (d : Device)
+        → with_emergencies (count + 1) code d ≡ with_emergency code (with_emergencies count code d) }
 {}
 
 /// An RPDO that applies a frame, at once or at a SYNC, leaves the values that are unpacked of it by its mapping
