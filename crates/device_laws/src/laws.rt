@@ -12,6 +12,7 @@ ghost use Rattle.co_dict.specs.Places.{place_cmp};
 ghost use Rattle.co_parts.specs.Contents.{Image, shape_of, values_of};
 ghost use Rattle.co_profile.specs.Consumers.{failures};
 ghost use Rattle.co_profile.specs.Profile.{error_set, next_heartbeat};
+ghost use Rattle.co_sdo.specs.Frames.{command};
 ghost use Rattle.co_sdo.specs.Server.{answered};
 ghost use Rattle.co_mapping.specs.Packing.{unpacked};
 ghost use Rattle.device_pdos.specs.Rpdos.{mapping_of_rpdo, receipt_of, rpdo_at};
@@ -25,6 +26,7 @@ ghost use Rattle.device_laws.specs.States.{HasBooted, HasNoPdo, IsDark, IsSilent
 use co_device::NmtState;
 use co_parts::Part;
 use co_pdos::Receipt;
+use co_sdo::transfer::Transfer;
 
 /// Before the next moment of its timers nothing happens to a device of itself by them.
 #[tactic(auto, using(crate::proofs::AheadLemmas::quiet))]
@@ -139,6 +141,20 @@ pub fn a_stopped_device_says_nothing_by_sdo_or_emergency()
 pub fn a_stopped_server_takes_nothing()
     ensures same { (image : Image) (t : ℕ) (request : List ℕ) (d : Device) → is_in NmtState.Stopped d ≡ true → outcome (sdo_request t request d) image ≡ d }
     ensures unread { (image : Image) (t : ℕ) (request : List ℕ) (d : Device) → is_in NmtState.Stopped d ≡ true → reads (sdo_request t request d) image ≡ [] }
+{}
+
+/// An abort of the client drops the open transfer and changes nothing else, whatever entries the device has.
+#[tactic(auto, using(co_device::proofs::AbortLemmas::abort_leaves))]
+pub fn an_abort_of_the_client_drops_the_transfer()
+    ensures { (image : Image) (t : ℕ) (request : List ℕ) (d : Device) → is_in NmtState.Stopped d ≡ false
+        → command request ≡ 0x80 → outcome (sdo_request t request d) image ≡ record d { transfer = Transfer.Idle } }
+{}
+
+/// A server that isn't stopped reads the device's entries once for each request, an abort too.
+#[tactic(auto, using(crate::proofs::StateLemmas::request_reads))]
+pub fn a_request_reads_the_entries_once()
+    ensures { (image : Image) (t : ℕ) (request : List ℕ) (d : Device) → is_in NmtState.Stopped d ≡ false
+        → reads (sdo_request t request d) image ≡ (Part.Shape d.number, image (Part.Shape d.number)) ∷ [] }
 {}
 
 /// Reset node gives every entry its value by the EDS. Reset communication does so for 1000h to 1FFFh,
