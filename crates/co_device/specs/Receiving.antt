@@ -1,5 +1,6 @@
 -- The frames that a device receives (CiA 301): each is taken by the first that fits.
-use Rattle.std.specs.Prelude.{ℕ, ◌-◌, ◌==◌, not, ◌&&◌, Bool, true, List, [], ◌∷◌, length, slice_index_or, Option, Some, None, if◌then◌else◌}
+use Rattle.std.specs.Prelude.{ℕ, ◌-◌, ◌==◌, not, ◌&&◌, Bool, true, List, [], ◌∷◌, length, slice_index_or, Option}
+use Rattle.std.specs.Prelude.{Some, None, if◌then◌else◌}
 use Rattle.std.specs.List.{range_with_len}
 use Rattle.asking.specs.Asking.{Asking, Answer, Ask, bind}
 use Rattle.can_frame.specs.Frames.{BaseFrame}

@@ -14,7 +14,8 @@ AreApart shape mapping =
     (i j a b : ℕ) → slice_get mapping i ≡ Some a → slice_get mapping j ≡ Some b
     → names_entry shape a ≡ true → mapped_place a ≡ mapped_place b → i ≡ j
 
--- a mapping entry names an entry of the device that RPDOs can map, in its whole length, no object of a PDO, that may be given the bytes
+-- a mapping entry names an entry of the device that RPDOs can map, in its whole length and no object of a PDO,
+-- that may be given the bytes
 pub record TakesWhole (shape : Shaped) (entry : ℕ) (bytes : List ℕ) : Type 0 where
   pub described : Entry
   pub suits : Suits shape (mapped_place entry) bytes described

@@ -1,5 +1,6 @@
 -- PDO mapping (CiA 301): the values of mapped entries in a frame of up to 64 bits, and out of it.
-use Rattle.std.specs.Prelude.{ℕ, ◌+◌, ◌/◌, ◌&&◌, List, [], ◌∷◌, length, take, drop, flat_map, is_ok, Bool, if◌then◌else◌}
+use Rattle.std.specs.Prelude.{ℕ, ◌+◌, ◌/◌, ◌&&◌, List, [], ◌∷◌, length, take, drop, flat_map, is_ok, Bool}
+use Rattle.std.specs.Prelude.{if◌then◌else◌}
 use Rattle.std.specs.FinMap.{insert}
 use Rattle.byteorder.specs.Endian.{little_bytes, little_number}
 use Rattle.co_dict.specs.declared.direction.Direction.TheVariants.{Receive}

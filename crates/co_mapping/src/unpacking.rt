@@ -2,7 +2,8 @@
 
 ghost use Rattle.std.specs.Prelude.{◌≡◌, ◌≤◌, ◌+◌, OnOk, OnErr, IfOk, take};
 ghost use Rattle.co_dict.specs.Mappings.{mapped_length as length_mapped, mapping_bits};
-ghost use Rattle.co_mapping.specs.Packing.{bits_for, bytes_begun, frame_bits, names_entry as names_one, takes, unpacked, value_of_bits, with_bits};
+ghost use Rattle.co_mapping.specs.Packing.{bits_for, bytes_begun, frame_bits, names_entry as names_one, takes};
+ghost use Rattle.co_mapping.specs.Packing.{unpacked, value_of_bits, with_bits};
 
 use crate::bits::moved_down;
 use co_dict::{Dict, Direction, Shape, check_write, mapped_length, mapped_place, number_64};

@@ -70,14 +70,16 @@ cyclic_turn n at_sync bytes r =
     else if nat_le n (r.syncs + 1) then sent bytes (record r { syncs = 0 })
     else unsent (record r { syncs = r.syncs + 1 })
 
--- event-driven: where the bytes differ or the event moment has come, unless the inhibit moment is ahead; both are then set from now
+-- event-driven: where the bytes differ or the event moment has come, unless the inhibit moment is ahead; both moments
+-- are then set from now
 unfoldable pub event_turn : Communication → ℕ → List ℕ → Remembered → Turn
 event_turn c t bytes r =
     if not (is_ahead t r.inhibit) && (differs bytes r || has_come t r.event)
     then sent bytes (record r { inhibit = moment_from t c.inhibit_time; event = event_moment t c })
     else unsent r
 
--- THE TURN AT THE MOMENT t of one of a transmission type that has these bytes, at a SYNC or not; other types, and none, are never sent
+-- THE TURN AT THE MOMENT t of one of a transmission type that has these bytes, at a SYNC or not: one of another type,
+-- or of none, is never sent
 unfoldable pub turn_by_type : Option TransmissionType → Communication → Bool → ℕ → List ℕ → Remembered → Turn
 turn_by_type (Some Acyclic) c at_sync t bytes r = acyclic_turn at_sync bytes r
 turn_by_type (Some (Cyclic n)) c at_sync t bytes r = cyclic_turn n at_sync bytes r

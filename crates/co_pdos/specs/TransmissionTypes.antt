@@ -1,7 +1,8 @@
 -- The transmission type of a PDO (CiA 301).
 use Rattle.std.specs.Prelude.{ℕ, nat_le, ◌==◌, Bool, true, false, if◌then◌else◌}
 use Rattle.co_pdos.specs.declared.transmission_type.TransmissionType.{TransmissionType}
-use Rattle.co_pdos.specs.declared.transmission_type.TransmissionType.TheVariants.{Acyclic, Cyclic, Reserved, EventDriven}
+use Rattle.co_pdos.specs.declared.transmission_type.TransmissionType.TheVariants.{Acyclic, Cyclic, Reserved}
+use Rattle.co_pdos.specs.declared.transmission_type.TransmissionType.TheVariants.{EventDriven}
 
 -- that of a number: 0 is acyclic synchronous, n from 1 to 240 cyclic synchronous, 254 and 255 are event-driven
 abbrev pub type_of_number : ℕ → TransmissionType

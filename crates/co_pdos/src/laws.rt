@@ -54,7 +54,8 @@ pub fn moments_are_set_ahead()
 
 /// The bytes that a TPDO was last sent with are remembered, whatever its type is.
 pub fn what_was_sent_is_remembered()
-    ensures { (transmission : Option TransmissionType) (c : Parameters) (at_sync : Bool) (t : ℕ) (bytes : List ℕ) (r : Remembered)
+    ensures { (transmission : Option TransmissionType) (c : Parameters) (at_sync : Bool) (t : ℕ)
+        (bytes : List ℕ) (r : Remembered)
         → (let turn = turn_by_type transmission c at_sync t bytes r in
         turn.remembered.last ≡ (if turn.is_sent then Some bytes else r.last)) }
 {}

@@ -1,7 +1,8 @@
 //! The transmission type of a PDO.
 
 ghost use Rattle.std.specs.Prelude.{◌≡◌};
-ghost use Rattle.co_pdos.specs.TransmissionTypes.{is_event_driven as is_of_events, is_synchronous as is_of_sync, type_of_number};
+ghost use Rattle.co_pdos.specs.TransmissionTypes.{is_event_driven as is_of_events, is_synchronous as is_of_sync};
+ghost use Rattle.co_pdos.specs.TransmissionTypes.{type_of_number};
 
 /// The transmission type of a PDO (CiA 301): when a TPDO is sent, and when an RPDO takes its frames.
 #[derive(Clone, Copy, Debug, PartialEq, Eq)]

@@ -174,3 +174,5 @@ module _ (image : Image) (t : ℕ) (frame : BaseFrame) where
         → get (outcome (rpdo_synced t i d) image).values place ≡ get Unpacked place
     unfolding rpdo_synced kept_applied
     kept_is_unpacked place kept apart = rw kept (applied_agree (mapping_of_rpdo (rpdo_at d.rpdos i).configuration) _ place apart)
+
+pub ruleset what_is_applied = (received_is_unpacked, kept_is_unpacked)

@@ -16,7 +16,10 @@ ghost use Rattle.co_sdo.specs.Frames.{command};
 ghost use Rattle.co_sdo.specs.Server.{answered};
 ghost use Rattle.co_mapping.specs.Packing.{unpacked};
 ghost use Rattle.device_pdos.specs.Rpdos.{mapping_of_rpdo, receipt_of, rpdo_at};
-ghost use Rattle.co_device.specs.Device.{Device, consumers_run, enter_pre_operational, is_in, moments, next_due, powered, ran, reset_communication, reset_node, sdo_request, stop_remote_node, timers, was_set, with_emergencies, with_emergency, without_power};
+ghost use Rattle.co_device.specs.Device.{Device, consumers_run, enter_pre_operational, is_in, moments, next_due};
+ghost use Rattle.co_device.specs.Device.{powered, ran, reset_communication, reset_node, sdo_request};
+ghost use Rattle.co_device.specs.Device.{stop_remote_node, timers, was_set, with_emergencies, with_emergency};
+ghost use Rattle.co_device.specs.Device.{without_power};
 ghost use Rattle.co_device.specs.Receiving.{ignored, pdo_received, received, rpdo_received, rpdo_synced, sync_received};
 ghost use Rattle.device_laws.specs.Ahead.{IsAhead, IsOwnPart};
 ghost use Rattle.device_laws.specs.Deaf.{IsDeafTo};
@@ -223,7 +226,7 @@ pub fn failures_are_told_one_by_one()
 /// An RPDO that applies a frame, at once or at a SYNC, leaves the values that are unpacked of it by its mapping
 /// at every entry but the error register, 1001h:00, whose error bits the write of a consumer heartbeat time may
 /// clear.
-#[tactic(auto, using(crate::proofs::AppliedLemmas::received_is_unpacked, crate::proofs::AppliedLemmas::kept_is_unpacked))]
+#[tactic(auto, using(crate::proofs::AppliedLemmas::what_is_applied))]
 pub fn an_rpdo_unpacks_what_it_applies()
     ensures at_once { (image : Image) (t : ℕ) (frame : BaseFrame) (i : ℕ) (d : Device) (place : ℕ × ℕ)
         → receipt_of frame (rpdo_at d.rpdos i).configuration ≡ Receipt.AtOnce → place ≢ (0x1001, 0)

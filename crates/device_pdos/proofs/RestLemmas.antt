@@ -145,3 +145,5 @@ module _ (u : ℕ) (values : Values) where
   pub nothing_sent : (tpdos : List TpdoState) (frames : List Waiting) → AllByRecursion (λ p. is_wanted values p ≡ false) tpdos → AllByRecursion (λ m. u < m) (moments true tpdos)
       → with_tpdos u false values tpdos frames ≡ frames
   nothing_sent tpdos frames unwanted ahead = quiet_waiting u values tpdos frames (none_sent tpdos unwanted ahead)
+
+pub ruleset rests = (none_wanted, none_sent, tpdos_rest, nothing_sent)

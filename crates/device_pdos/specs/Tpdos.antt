@@ -1,5 +1,6 @@
 -- The TPDOs of a device at a moment (CiA 301), by number.
-use Rattle.std.specs.Prelude.{ℕ, ◌==◌, ◌&&◌, true, false, Bool, List, [], ◌∷◌, map, flat_map, take, Option, Some, None, is_none, if◌then◌else◌}
+use Rattle.std.specs.Prelude.{ℕ, ◌==◌, ◌&&◌, true, false, Bool, List, [], ◌∷◌, map, flat_map, take, Option, Some}
+use Rattle.std.specs.Prelude.{None, is_none, if◌then◌else◌}
 use Rattle.std.specs.Option.{option_map_or}
 use Rattle.can_frame.specs.Frames.{BaseFrame}
 use Rattle.can_frame.specs.WaitingFrames.{replaced}
@@ -13,6 +14,7 @@ use Rattle.co_pdos.specs.Configured.{configuration_of}
 use Rattle.co_pdos.specs.Tpdo.{Remembered, Turn, differs, forgotten, inhibit_over, turn_by_type}
 use Rattle.co_pdos.specs.TransmissionTypes.{is_event_driven, is_synchronous}
 use Rattle.co_pdos.specs.Working.{tpdo_object}
+use Rattle.co_pdos.specs.declared.communication.Communication.{Communication}
 use Rattle.co_pdos.specs.declared.configuration.Configuration.{Configuration}
 use Rattle.co_pdos.specs.declared.transmission_type.TransmissionType.{TransmissionType}
 use Rattle.device_pdos.specs.Objects.{number_of_object, numbers_of}
@@ -59,12 +61,14 @@ tpdos_freed t tpdos = map (freed t) tpdos
 abbrev pub frame_if : Bool → ℕ → List ℕ → Option BaseFrame
 frame_if is_sent id bytes = if is_sent then Some (record { id = id; bytes = bytes }) else None
 
--- THE TURN OF A TPDO at the moment t, at a SYNC or not, by what it goes by: what it remembers then, and its frame if it is sent
+-- THE TURN OF A TPDO at the moment t, at a SYNC or not, by what it goes by: what it remembers then, and its frame if it
+-- is sent
 unfoldable pub turn : Option Configuration → ℕ → Bool → Values → Remembered → Remembered × Option BaseFrame
 turn None t at_sync values r = (inhibit_over t r, None)
 turn (Some c) t at_sync values r =
     let bytes : List ℕ = bytes_now values c in
-    let own : Turn = turn_by_type c.communication.transmission_type c.communication at_sync t bytes (inhibit_over t r) in
+    let by : Communication = c.communication in
+    let own : Turn = turn_by_type by.transmission_type by at_sync t bytes (inhibit_over t r) in
     (own.remembered, frame_if own.is_sent c.identifier bytes)
 
 abbrev pub looked : ℕ → Bool → Values → TpdoState → TpdoState

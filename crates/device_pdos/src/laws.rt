@@ -7,7 +7,9 @@ ghost use Rattle.co_dict.specs.Shapes.{Shaped};
 ghost use Rattle.co_dict.specs.Values.{Values};
 ghost use Rattle.device_pdos.specs.Objects.{number_of_object};
 ghost use Rattle.device_pdos.specs.Rpdos.{rpdo, rpdo_written, rpdos_written};
-ghost use Rattle.device_pdos.specs.Tpdos.{frame_sent, freed, goes_by_sync, is_wanted, looked, moments, tpdo, tpdo_written, tpdos_freed, tpdos_looked, tpdos_written, waits_for_event, with_tpdos};
+ghost use Rattle.device_pdos.specs.Tpdos.{frame_sent, freed, goes_by_sync, is_wanted, looked, moments, tpdo};
+ghost use Rattle.device_pdos.specs.Tpdos.{tpdo_written, tpdos_freed, tpdos_looked, tpdos_written, waits_for_event};
+ghost use Rattle.device_pdos.specs.Tpdos.{with_tpdos};
 ghost use Rattle.device_pdos.specs.declared.rpdo_state.RpdoState.{RpdoState as Rpdo};
 ghost use Rattle.device_pdos.specs.declared.tpdo_state.TpdoState.{TpdoState as State};
 
@@ -61,7 +63,7 @@ pub fn quiet_between_moments()
 
 /// TPDOs that were looked at rest: none is wanted. As long as none is, and their moments lie ahead, none is sent
 /// without a SYNC, and no look without one changes what they remember, or what waits.
-#[tactic(auto, using(crate::proofs::RestLemmas::none_wanted, crate::proofs::RestLemmas::none_sent, crate::proofs::RestLemmas::tpdos_rest, crate::proofs::RestLemmas::nothing_sent))]
+#[tactic(auto, using(crate::proofs::RestLemmas::rests))]
 pub fn tpdos_that_were_looked_at_rest()
     ensures unwanted { (t : ℕ) (at_sync : Bool) (values : Values) (tpdos : List State)
         → AllByRecursion (λ p. is_wanted values p ≡ false) (tpdos_looked t at_sync values tpdos) }
