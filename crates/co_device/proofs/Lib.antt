@@ -1,2 +1,3 @@
 pub mod RpdoLemmas
 pub mod WalkLemmas
+pub mod AbortLemmas

@@ -1,13 +1,12 @@
--- The entries that a frame gives values to, and the number of RPDOs.
-use Rattle.std.proofs.Common.{◌≡◌, ℕ, suc, ◌+◌, ◌==◌, ◌<◌, ◌≤◌, Bool, true, false, List, [], ◌∷◌, Option, Some, None, refl, ap, ◌∙◌, length, get_or, drop, arith}
+-- The number of RPDOs.
+use Rattle.std.proofs.Common.{◌≡◌, ℕ, ◌+◌, ◌==◌, Bool, true, false, List, [], ◌∷◌, Option, Some, None, refl, ◌∙◌, length}
 use Rattle.std.specs.Prelude.{if◌then◌else◌}
-use Rattle.std.proofs.Math.Seq.{drop-cons}
-use Rattle.std.proofs.lemmas.List.{drop_all, length-map, length-set}
+use Rattle.std.proofs.lemmas.List.{length-map, length-set}
 use Rattle.asking.specs.Asking.{outcome}
 use Rattle.can_frame.specs.Frames.{BaseFrame}
 use Rattle.co_dict.specs.Mappings.{mapped_length, mapped_place}
 use Rattle.co_dict.specs.Shapes.{Shaped}
-use Rattle.co_mapping.specs.Packing.{bits_for, frame_bits, takes, with_bits}
+use Rattle.co_mapping.specs.Packing.{after_entries, bits_for, frame_bits, takes, with_bits}
 use Rattle.co_parts.specs.Contents.{Image, shape_of}
 use Rattle.co_parts.specs.declared.part.Part.TheVariants.{Shape}
 use Rattle.co_pdos.specs.declared.receipt.Receipt.{Receipt}
@@ -15,23 +14,8 @@ use Rattle.co_pdos.specs.declared.receipt.Receipt.TheVariants.{Short, Kept, AtOn
 use Rattle.device_pdos.specs.Objects.{is_of_rpdos, is_of_tpdos}
 use Rattle.device_pdos.specs.Rpdos.{receipt_of, rpdo_at, rpdos_written, with_kept}
 use Rattle.co_device.specs.Device.{Device, after_own_write, after_write, consumer_written, is_in, is_producer_time, with_emergency, without_error}
-use Rattle.co_device.specs.Receiving.{applied, entries_taken, entry_taken, kept_applied, rpdo_received, rpdo_synced, taken_by}
+use Rattle.co_device.specs.Receiving.{applied, entry_taken, kept_applied, rpdo_received, rpdo_synced, taken_by}
 use Rattle.co_device.specs.declared.nmt_state.NmtState.TheVariants.{Stopped}
-
--- ---- entry by entry
-
-left : (mapping : List ℕ) (i : ℕ) → i < length mapping → drop i mapping ≡ get_or mapping i 0 ∷ drop (i + 1) mapping
-left mapping i within =
-    let next : suc i ≡ i + 1 = omega arith in
-    drop-cons mapping i 0 within ∙ ap (λ n. get_or mapping i 0 ∷ drop n mapping) next
-
-module _ (t : ℕ) (shape : Shaped) (mapping bits : List ℕ) (d : Device) (i position : ℕ) where
-  pub taken_next : i < length mapping → entries_taken t shape position (drop i mapping) bits d
-      ≡ entries_taken t shape (position + mapped_length (get_or mapping i 0)) (drop (i + 1) mapping) bits (entry_taken t shape (get_or mapping i 0) (bits_for (get_or mapping i 0) position bits) d)
-  taken_next within = ap (λ m. entries_taken t shape position m bits d) (left mapping i within)
-
-  pub taken_end : length mapping ≤ i → entries_taken t shape position (drop i mapping) bits d ≡ d
-  taken_end end = ap (λ m. entries_taken t shape position m bits d) (drop_all i mapping end)
 
 -- ---- as many RPDOs as before
 
@@ -65,7 +49,8 @@ unfolding entry_taken
 entry_many t shape entry bits d =
     one_of (takes shape entry bits d.values) d _ d (write_many t shape (mapped_place entry) (record d { values = with_bits shape entry bits d.values })) refl
 
-entries_many : (t : ℕ) (shape : Shaped) (position : ℕ) (mapping bits : List ℕ) (d : Device) → AsMany d (entries_taken t shape position mapping bits d)
+entries_many : (t : ℕ) (shape : Shaped) (position : ℕ) (mapping bits : List ℕ) (d : Device)
+    → AsMany d (after_entries (entry_taken t shape) position mapping bits d)
 entries_many t shape position [] bits d = refl
 entries_many t shape position (entry ∷ mapping) bits d =
     entries_many t shape (position + mapped_length entry) mapping bits _ ∙ entry_many t shape entry (bits_for entry position bits) d

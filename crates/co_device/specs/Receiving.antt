@@ -1,12 +1,13 @@
 -- The frames that a device receives (CiA 301): each is taken by the first that fits.
-use Rattle.std.specs.Prelude.{ℕ, ◌+◌, ◌-◌, ◌==◌, not, ◌&&◌, Bool, true, List, [], ◌∷◌, length, slice_index_or, Option, Some, None, if◌then◌else◌}
+use Rattle.std.specs.Prelude.{ℕ, ◌-◌, ◌==◌, not, ◌&&◌, Bool, true, List, [], ◌∷◌, length, slice_index_or, Option}
+use Rattle.std.specs.Prelude.{Some, None, if◌then◌else◌}
 use Rattle.std.specs.List.{range_with_len}
 use Rattle.asking.specs.Asking.{Asking, Answer, Ask, bind}
 use Rattle.can_frame.specs.Frames.{BaseFrame}
 use Rattle.can_frame.specs.Identifiers.{error_control_id, nmt_id, sdo_request_id}
-use Rattle.co_dict.specs.Mappings.{mapped_length, mapped_place}
+use Rattle.co_dict.specs.Mappings.{mapped_place}
 use Rattle.co_dict.specs.Shapes.{Shaped}
-use Rattle.co_mapping.specs.Packing.{bits_for, frame_bits, takes, with_bits}
+use Rattle.co_mapping.specs.Packing.{after_entries, frame_bits, takes, with_bits}
 use Rattle.co_parts.specs.Contents.{Content, shape_of}
 use Rattle.co_parts.specs.declared.part.Part.{Part}
 use Rattle.co_parts.specs.declared.part.Part.TheVariants.{Shape}
@@ -33,15 +34,13 @@ entry_taken t shape entry bits d =
     if takes shape entry bits d.values then after_write t shape (mapped_place entry) (record d { values = with_bits shape entry bits d.values })
     else d
 
--- one after the other, each behind the bits of those before it, and judged by what stands then
-abbrev pub entries_taken : ℕ → Shaped → ℕ → List ℕ → List ℕ → Device → Device
-entries_taken t shape position [] bits d = d
-entries_taken t shape position (entry ∷ mapping) bits d =
-    entries_taken t shape (position + mapped_length entry) mapping bits (entry_taken t shape entry (bits_for entry position bits) d)
+-- those of a mapping, each judged by what stands in its turn
+abbrev pub entries_taken : ℕ → Shaped → List ℕ → List ℕ → Device → Device
+entries_taken t shape mapping bytes d = after_entries (entry_taken t shape) 0 mapping (frame_bits bytes) d
 
 -- a frame by a mapping, as that is now
 unfoldable pub applied : ℕ → List ℕ → BaseFrame → Device → Asking Part Content Device
-applied t mapping frame d = Ask (Shape d.number) (λ w. Answer (entries_taken t (shape_of w) 0 mapping (frame_bits frame.bytes) d))
+applied t mapping frame d = Ask (Shape d.number) (λ w. Answer (entries_taken t (shape_of w) mapping frame.bytes d))
 
 -- what becomes of a frame at the RPDO at a place
 unfoldable pub taken_by : Receipt → ℕ → BaseFrame → ℕ → Device → Asking Part Content Device

@@ -63,7 +63,7 @@ impl DeviceState {
     ) -> Result<(), AllocError>
         requires soon { t < END }
         requires fits { mapping_bits mapping.now ≤ 64 }
-        ensures { OnOk result (self.new ≡ entries_taken t shape.now 0 mapping.now (frame_bits frame.now.bytes) self.old) }
+        ensures { OnOk result (self.new ≡ entries_taken t shape.now mapping.now frame.now.bytes self.old) }
     {
         let mut position = 0;
         for entry in mapping {

@@ -1,8 +1,8 @@
 -- What is packed by one mapping, and unpacked by another.
-use Rattle.std.proofs.Common.{◌≡◌, ◌≢◌, ℕ, zero, suc, ◌+◌, ◌*◌, ◌/◌, ◌%◌, ◌^◌, ◌-◌, ◌<◌, ◌≤◌, List, [], ◌∷◌, ◌++◌, length, map, take, drop, Bool, true, false, cond, Option, Some, refl, sym, ap, subst, ◌∙◌, append_assoc, append-nil, arith}
+use Rattle.std.proofs.Common.{◌≡◌, ◌≢◌, ℕ, zero, suc, ◌+◌, ◌*◌, ◌/◌, ◌%◌, ◌^◌, ◌-◌, ◌<◌, ◌≤◌, List, [], ◌∷◌, ◌++◌, length, map, take, drop, Bool, true, false, ◌&&◌, cond, Option, Some, None, refl, sym, ap, subst, ◌∙◌, append_assoc, append-nil, arith}
 use Rattle.std.specs.Prelude.{is_ok, slice_get, slice_index, if◌then◌else◌}
 use Rattle.std.specs.FinMap.{get, insert}
-use Rattle.std.specs.Option.{unwrap_or}
+use Rattle.std.specs.Option.{option_map_or, unwrap_or}
 use Rattle.std.proofs.Math.Nat.{mod-eq_of_lt, pow-succ'}
 use Rattle.std.proofs.Math.Pow.{pow_mono}
 use Rattle.std.proofs.Math.Seq.{drop-append-add, take-append_seam, take-length}
@@ -16,10 +16,13 @@ use Rattle.co_values.specs.declared.form.Form.{Form}
 use Rattle.co_values.specs.declared.form.Form.TheVariants.{Flag, Signed, Unsigned, Characters, HexPairs, Unmodelled}
 use Rattle.co_values.specs.declared.form.Width.{Width}
 use Rattle.co_values.specs.declared.form.Width.TheVariants.{Bits8, Bits16, Bits32, Bits64}
-use Rattle.co_values.specs.Types.{bits_of_form, form, octets}
+use Rattle.co_values.specs.Types.{bits_of_form, form, octets, width_bits}
 use Rattle.co_values.specs.Values.{FitsForm}
+use Rattle.co_dict.specs.declared.direction.Direction.TheVariants.{Receive}
+use Rattle.co_dict.specs.declared.entry.Entry.{Entry}
+use Rattle.co_dict.specs.Checks.{is_entry_that}
 use Rattle.co_dict.specs.Mappings.{mapped_length, mapped_place, mapping_bits}
-use Rattle.co_dict.specs.Pdos.{is_of_pdos}
+use Rattle.co_dict.specs.Pdos.{is_mappable, is_of_pdos}
 use Rattle.co_dict.specs.Shapes.{Shaped}
 use Rattle.co_dict.specs.Values.{Values, number_at}
 use Rattle.co_dict.specs.WriteCheck.{write_check}
@@ -27,7 +30,7 @@ use Rattle.co_dict.proofs.CheckLaws.{checked_alike, suits_taken}
 use Rattle.co_dict.proofs.PlaceLemmas.{written_elsewhere, written_there}
 use Rattle.co_mapping.specs.Bits.{low_bits, number_of}
 use Rattle.co_mapping.specs.Carried.{AreApart, TakesWhole}
-use Rattle.co_mapping.specs.Packing.{bits_for, bytes_begun, entry_bits, frame_bits, packed, packed_bits, takes, unpacked, unpacked_from, value_of_bits, with_bits}
+use Rattle.co_mapping.specs.Packing.{after_entries, bits_for, bytes_begun, entry_bits, frame_bits, names_entry, packed, packed_bits, takes, unpacked, value_of_bits, with_bits}
 use Rattle.co_mapping.proofs.BitLemmas.{length-low_bits, low_bits-suc, number-low_bits}
 use Rattle.co_mapping.proofs.PackLemmas.{length-packed_bits}
 use Rattle.co_mapping.proofs.PositionLaws.{AreBits, packed_are_bits}
@@ -126,38 +129,60 @@ module _ (shape : Shaped) (entry : ℕ) (bits : List ℕ) where
   with_alike : is_of_pdos Place.0 ≡ false → (values others : Values) → get values Place ≡ get others Place → get (with_bits shape entry bits values) Place ≡ get (with_bits shape entry bits others) Place
   unfolding takes
   with_alike outside values others same =
-      let test : takes shape entry bits values ≡ takes shape entry bits others = ap is_ok (checked_alike shape Place (value_of_bits bits) outside values others) in
+      let test : takes shape entry bits values ≡ takes shape entry bits others =
+      ap (λ check. names_entry shape entry && is_ok check) (checked_alike shape Place (value_of_bits bits) outside values others) in
       with_there values ∙ ap (λ b. cond b (Some (value_of_bits bits)) (get values Place)) test ∙ ap (cond (takes shape entry bits others) (Some (value_of_bits bits))) same ∙ sym (with_there others)
+
+-- a mapping entry that names no entry changes nothing
+with_left : (shape : Shaped) (entry : ℕ) (bits : List ℕ) (values : Values) (q : ℕ × ℕ) → (names_entry shape entry ≡ true → q ≢ mapped_place entry)
+    → get (with_bits shape entry bits values) q ≡ get values q
+unfolding with_bits takes
+with_left shape entry bits values q apart = by (names_entry shape entry) refl
+  where
+    unnamed : names_entry shape entry ≡ false → get (with_bits shape entry bits values) q ≡ get values q
+    unnamed e = rw e refl
+
+    by : (named : Bool) → names_entry shape entry ≡ named → get (with_bits shape entry bits values) q ≡ get values q
+    by true e = with_elsewhere shape entry bits values q (apart e)
+    by false e = unnamed e
 
 module _ (shape : Shaped) (bits : List ℕ) (q : ℕ × ℕ) where
   -- what isn't mapped stays
-  pub unmapped_stays : (mapping : List ℕ) (position : ℕ) (values : Values) → ((i entry : ℕ) → slice_get mapping i ≡ Some entry → q ≢ mapped_place entry)
-      → get (unpacked_from position shape mapping bits values) q ≡ get values q
-  unfolding unpacked_from
+  pub unmapped_stays : (mapping : List ℕ) (position : ℕ) (values : Values)
+      → ((i entry : ℕ) → slice_get mapping i ≡ Some entry → names_entry shape entry ≡ true → q ≢ mapped_place entry)
+      → get (after_entries (with_bits shape) position mapping bits values) q ≡ get values q
   unmapped_stays [] position values apart = refl
   unmapped_stays (entry ∷ mapping) position values apart =
       unmapped_stays mapping (position + mapped_length entry) (with_bits shape entry (bits_for entry position bits) values) (λ i e there. apart (suc i) e there)
-      ∙ with_elsewhere shape entry (bits_for entry position bits) values q (apart 0 entry refl)
+      ∙ with_left shape entry (bits_for entry position bits) values q (apart 0 entry refl)
 
--- those of a mapping behind its first entry are apart too
-apart_behind : (first : ℕ) (mapping : List ℕ) → AreApart (first ∷ mapping) → AreApart mapping
-apart_behind first mapping apart i j a b at_i at_j same = let next : suc i ≡ suc j = apart (suc i) (suc j) a b at_i at_j same in omega (arith, next)
+module _ (shape : Shaped) (first : ℕ) (mapping : List ℕ) (apart : AreApart shape (first ∷ mapping)) where
+  -- those of a mapping behind its first entry are apart too
+  apart_behind : AreApart shape mapping
+  apart_behind i j a b at_i at_j named same = let next : suc i ≡ suc j = apart (suc i) (suc j) a b at_i at_j named same in omega (arith, next)
 
-first_apart : (first : ℕ) (mapping : List ℕ) → AreApart (first ∷ mapping) → (i entry : ℕ) → slice_get mapping i ≡ Some entry → mapped_place first ≢ mapped_place entry
-first_apart first mapping apart i entry at same = let never : 0 ≡ suc i = apart 0 (suc i) first entry refl at same in absurd (omega (arith, never))
+  -- whether an entry is named hangs on its place alone
+  first_apart : (i entry : ℕ) → slice_get mapping i ≡ Some entry → names_entry shape entry ≡ true → mapped_place first ≢ mapped_place entry
+  first_apart i entry at named same =
+      let named_too : names_entry shape first ≡ true = ap (λ (p : ℕ × ℕ). is_entry_that (is_mappable Receive) shape p) same ∙ named in
+      let never : 0 ≡ suc i = apart 0 (suc i) first entry refl at named_too same in absurd (omega (arith, never))
+
+  apart_from_first : (i entry : ℕ) → slice_get mapping i ≡ Some entry → names_entry shape first ≡ true → mapped_place entry ≢ mapped_place first
+  apart_from_first i entry at named same =
+      let never : 0 ≡ suc i = apart 0 (suc i) first entry refl at named (sym same) in absurd (omega (arith, never))
 
 -- each mapped entry gets the bits at its position
-pub gets_bits : (shape : Shaped) (mapping bits : List ℕ) (position : ℕ) (values : Values) (i entry : ℕ) → AreApart mapping → slice_get mapping i ≡ Some entry
+pub gets_bits : (shape : Shaped) (mapping bits : List ℕ) (position : ℕ) (values : Values) (i entry : ℕ) → AreApart shape mapping → slice_get mapping i ≡ Some entry
     → is_of_pdos (mapped_place entry).0 ≡ false
-    → get (unpacked_from position shape mapping bits values) (mapped_place entry) ≡ get (with_bits shape entry (bits_for entry (position + mapping_bits (take i mapping)) bits) values) (mapped_place entry)
-unfolding unpacked_from
+    → get (after_entries (with_bits shape) position mapping bits values) (mapped_place entry)
+    ≡ get (with_bits shape entry (bits_for entry (position + mapping_bits (take i mapping)) bits) values) (mapped_place entry)
 gets_bits shape [] bits position values i entry apart e outside = cc
 gets_bits shape (first ∷ mapping) bits position values zero entry apart e outside =
     let same : first ≡ entry = cc in
     let here : position ≡ position + 0 = omega arith in
     let next : ℕ → Values = λ n. with_bits shape n (bits_for n position bits) values in
-    let stays = unmapped_stays shape bits (mapped_place first) mapping (position + mapped_length first) (next first) (first_apart first mapping apart) in
-    ap (get (unpacked_from (position + mapped_length first) shape mapping bits (next first))) (ap mapped_place (sym same))
+    let stays = unmapped_stays shape bits (mapped_place first) mapping (position + mapped_length first) (next first) (first_apart shape first mapping apart) in
+    ap (get (after_entries (with_bits shape) (position + mapped_length first) mapping bits (next first))) (ap mapped_place (sym same))
     ∙ stays
     ∙ ap (λ n. get (next n) (mapped_place n)) same
     ∙ ap (λ n. get (with_bits shape entry (bits_for entry n bits) values) (mapped_place entry)) here
@@ -166,9 +191,9 @@ gets_bits shape (first ∷ mapping) bits position values (suc i) entry apart e o
     let next : Values = with_bits shape first (bits_for first position bits) values in
     let sum : mapping_bits (take (suc i) (first ∷ mapping)) ≡ mapped_length first + before = sum_by-cons mapped_length first (take i mapping) in
     let here : position + mapped_length first + before ≡ position + mapping_bits (take (suc i) (first ∷ mapping)) = omega (arith, sum) in
-    let other : mapped_place entry ≢ mapped_place first = λ same. first_apart first mapping apart i entry e (sym same) in
-    gets_bits shape mapping bits (position + mapped_length first) next i entry (apart_behind first mapping apart) e outside
-    ∙ with_alike shape entry (bits_for entry (position + mapped_length first + before) bits) outside next values (with_elsewhere shape first (bits_for first position bits) values (mapped_place entry) other)
+    let other = apart_from_first shape first mapping apart i entry e in
+    gets_bits shape mapping bits (position + mapped_length first) next i entry (apart_behind shape first mapping apart) e outside
+    ∙ with_alike shape entry (bits_for entry (position + mapped_length first + before) bits) outside next values (with_left shape first (bits_for first position bits) values (mapped_place entry) other)
     ∙ ap (λ n. get (with_bits shape entry (bits_for entry n bits) values) (mapped_place entry)) here
 
 -- ---- the value
@@ -231,6 +256,11 @@ kept_whole Characters count bytes are fits e = cc
 kept_whole HexPairs count bytes are fits e = cc
 kept_whole Unmodelled count bytes are fits e = absurd fits
 
+-- an entry that has a width in PDOs can be mapped
+mappable_of : (mappable : Bool) (bits : Option ℕ) (count : ℕ) → (if mappable then bits else None) ≡ Some count → (mappable ≡ true) × (bits ≡ Some count)
+mappable_of true bits count e = (refl, e)
+mappable_of false bits count e = absurd cc
+
 -- ---- from one device to another
 
 -- mappings of the same lengths have the same positions
@@ -250,12 +280,13 @@ alike_there (x ∷ sent) (y ∷ taken) alike (suc i) a b at_a at_b =
     (rest.0, sum_by-cons mapped_length x (take i sent) ∙ ap (λ (n : ℕ). n + mapping_bits (take i sent)) head ∙ ap (λ (n : ℕ). mapped_length y + n) rest.1 ∙ sym (sum_by-cons mapped_length y (take i taken)))
 
 pub carried : (shape : Shaped) (from into : Values) (sent taken : List ℕ) (i a b : ℕ) (bytes : List ℕ)
-    → mapping_bits sent ≤ 64 → map mapped_length sent ≡ map mapped_length taken → AreApart taken
+    → mapping_bits sent ≤ 64 → map mapped_length sent ≡ map mapped_length taken → AreApart shape taken
     → slice_get sent i ≡ Some a → slice_get taken i ≡ Some b → get from (mapped_place a) ≡ Some bytes → TakesWhole shape b bytes
     → get (unpacked shape taken (packed from sent).0 into) (mapped_place b) ≡ Some bytes
 unfolding bits_for takes
 carried shape from into sent taken i a b bytes few alike apart at_a at_b held whole =
     let same = alike_there sent taken alike i a b at_a at_b in
+    let mappable = mappable_of (is_mappable Receive whole.described) (width_bits whole.described.kind) (mapped_length b) whole.width in
     let frame : List ℕ = frame_bits (packed from sent).0 in
     let start : 0 + mapping_bits (take i taken) ≡ mapping_bits (take i sent) = omega (arith, same.1) in
     let bits : bits_for b (0 + mapping_bits (take i taken)) frame ≡ entry_bits from a =
@@ -268,16 +299,18 @@ carried shape from into sent taken i a b bytes few alike apart at_a at_b held wh
     let value : value_of_bits (entry_bits from a) ≡ bytes =
     ap (λ n. little_bytes (bytes_begun n) (number_of (entry_bits from a))) count
     ∙ ap (little_bytes (bytes_begun (mapped_length b))) number
-    ∙ kept_whole (form whole.described.kind) (mapped_length b) bytes whole.suits.fits.0 whole.suits.fits.1 whole.width in
+    ∙ kept_whole (form whole.described.kind) (mapped_length b) bytes whole.suits.fits.0 whole.suits.fits.1 mappable.1 in
+    let named : names_entry shape b ≡ true = ap (λ (o : Option Entry). option_map_or (is_mappable Receive) o false) whole.suits.there ∙ mappable.0 in
     let ok : takes shape b (entry_bits from a) into ≡ true =
-    ap (λ v. is_ok (write_check shape into (mapped_place b) v)) value ∙ ap is_ok (suits_taken shape into (mapped_place b) bytes whole.described whole.suits whole.outside) in
+    ap (λ test. test && is_ok (write_check shape into (mapped_place b) (value_of_bits (entry_bits from a)))) named
+    ∙ ap (λ v. is_ok (write_check shape into (mapped_place b) v)) value ∙ ap is_ok (suits_taken shape into (mapped_place b) bytes whole.described whole.suits whole.outside) in
     gets_bits shape taken frame 0 into i b apart at_b whole.outside
     ∙ ap (λ v. get (with_bits shape b v into) (mapped_place b)) bits
     ∙ with_there shape b (entry_bits from a) into
     ∙ ap (λ t. cond t (Some (value_of_bits (entry_bits from a))) (get into (mapped_place b))) ok
     ∙ ap (λ v. Some v) value
 
-pub from_start : (shape : Shaped) (mapping bytes : List ℕ) (values : Values) (i entry : ℕ) → AreApart mapping → slice_get mapping i ≡ Some entry
+pub from_start : (shape : Shaped) (mapping bytes : List ℕ) (values : Values) (i entry : ℕ) → AreApart shape mapping → slice_get mapping i ≡ Some entry
     → is_of_pdos (mapped_place entry).0 ≡ false
     → get (unpacked shape mapping bytes values) (mapped_place entry) ≡ get (with_bits shape entry (bits_for entry (mapping_bits (take i mapping)) (frame_bits bytes)) values) (mapped_place entry)
 from_start shape mapping bytes values i entry apart e outside =
@@ -285,7 +318,8 @@ from_start shape mapping bytes values i entry apart e outside =
     gets_bits shape mapping (frame_bits bytes) 0 values i entry apart e outside
     ∙ ap (λ n. get (with_bits shape entry (bits_for entry n (frame_bits bytes)) values) (mapped_place entry)) start
 
-pub others_stay : (shape : Shaped) (mapping bytes : List ℕ) (values : Values) (place : ℕ × ℕ) → ((i entry : ℕ) → slice_get mapping i ≡ Some entry → place ≢ mapped_place entry)
+pub others_stay : (shape : Shaped) (mapping bytes : List ℕ) (values : Values) (place : ℕ × ℕ)
+    → ((i entry : ℕ) → slice_get mapping i ≡ Some entry → names_entry shape entry ≡ true → place ≢ mapped_place entry)
     → get (unpacked shape mapping bytes values) place ≡ get values place
 others_stay shape mapping bytes values place apart = unmapped_stays shape (frame_bits bytes) place mapping 0 values apart
 

@@ -5,10 +5,8 @@ use Rattle.std.proofs.lemmas.List.{drop_all}
 use Rattle.byteorder.proofs.Bytes.{take-bytes_low_first}
 use Rattle.byteorder.specs.Endian.{little_bytes}
 use Rattle.co_dict.specs.Mappings.{mapped_length}
-use Rattle.co_dict.specs.Shapes.{Shaped}
-use Rattle.co_dict.specs.Values.{Values}
 use Rattle.co_mapping.specs.Bits.{low_bits, number_of}
-use Rattle.co_mapping.specs.Packing.{bits_for, bytes_begun, unpacked_from, value_of_bits, with_bits}
+use Rattle.co_mapping.specs.Packing.{after_entries, bits_for, bytes_begun, value_of_bits}
 use Rattle.co_mapping.proofs.BitLemmas.{length-low_bits, low_bits-suc, low_bits-zero, number-low_bits}
 use Rattle.co_mapping.proofs.PackLemmas.{left}
 
@@ -64,12 +62,11 @@ value_there entry position n bytes within are =
 
 -- ---- entry by entry
 
-module _ (shape : Shaped) (mapping : List ℕ) (bits : List ℕ) (values : Values) (i position : ℕ) where
-  pub unpacked_next : i < length mapping → unpacked_from position shape (drop i mapping) bits values
-      ≡ unpacked_from (position + mapped_length (get_or mapping i 0)) shape (drop (i + 1) mapping) bits (with_bits shape (get_or mapping i 0) (bits_for (get_or mapping i 0) position bits) values)
-  unfolding unpacked_from
-  unpacked_next within = ap (λ m. unpacked_from position shape m bits values) (left mapping i 0 within)
+module _ {S : Type 0} (turn : ℕ → List ℕ → S → S) (mapping : List ℕ) (bits : List ℕ) (s : S) (i position : ℕ) where
+  pub entry_next : i < length mapping → after_entries turn position (drop i mapping) bits s
+      ≡ after_entries turn (position + mapped_length (get_or mapping i 0)) (drop (i + 1) mapping) bits
+      (turn (get_or mapping i 0) (bits_for (get_or mapping i 0) position bits) s)
+  entry_next within = ap (λ m. after_entries turn position m bits s) (left mapping i 0 within)
 
-  pub unpacked_end : length mapping ≤ i → unpacked_from position shape (drop i mapping) bits values ≡ values
-  unfolding unpacked_from
-  unpacked_end end = ap (λ m. unpacked_from position shape m bits values) (drop_all i mapping end)
+  pub entries_end : length mapping ≤ i → after_entries turn position (drop i mapping) bits s ≡ s
+  entries_end end = ap (λ m. after_entries turn position m bits s) (drop_all i mapping end)

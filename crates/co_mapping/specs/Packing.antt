@@ -1,8 +1,12 @@
 -- PDO mapping (CiA 301): the values of mapped entries in a frame of up to 64 bits, and out of it.
-use Rattle.std.specs.Prelude.{ℕ, ◌+◌, ◌/◌, List, [], ◌∷◌, length, take, drop, flat_map, is_ok, Bool, if◌then◌else◌}
+use Rattle.std.specs.Prelude.{ℕ, ◌+◌, ◌/◌, ◌&&◌, List, [], ◌∷◌, length, take, drop, flat_map, is_ok, Bool}
+use Rattle.std.specs.Prelude.{if◌then◌else◌}
 use Rattle.std.specs.FinMap.{insert}
 use Rattle.byteorder.specs.Endian.{little_bytes, little_number}
+use Rattle.co_dict.specs.declared.direction.Direction.TheVariants.{Receive}
+use Rattle.co_dict.specs.Checks.{is_entry_that}
 use Rattle.co_dict.specs.Mappings.{mapped_length, mapped_place}
+use Rattle.co_dict.specs.Pdos.{is_mappable}
 use Rattle.co_dict.specs.Shapes.{Shaped}
 use Rattle.co_dict.specs.Values.{Values, number_at}
 use Rattle.co_dict.specs.WriteCheck.{write_check}
@@ -40,20 +44,25 @@ bits_for entry position bits = take (mapped_length entry) (drop position bits)
 abbrev pub value_of_bits : List ℕ → List ℕ
 value_of_bits bits = little_bytes (bytes_begun (length bits)) (number_of bits)
 
--- the device takes the bits for what a mapping entry names; for a dummy, which is no entry, it takes none
+-- a mapping entry of an RPDO names an entry of the device: one is there that RPDOs can map; else it is a dummy
+abbrev pub names_entry : Shaped → ℕ → Bool
+names_entry shape entry = is_entry_that (is_mappable Receive) shape (mapped_place entry)
+
+-- the device takes the bits for that entry, where it may be given their value; for a dummy it takes none
 unfoldable pub takes : Shaped → ℕ → List ℕ → Values → Bool
-takes shape entry bits values = is_ok (write_check shape values (mapped_place entry) (value_of_bits bits))
+takes shape entry bits values =
+    names_entry shape entry && is_ok (write_check shape values (mapped_place entry) (value_of_bits bits))
 
 -- where it does, the entry gets the value
 unfoldable pub with_bits : Shaped → ℕ → List ℕ → Values → Values
 with_bits shape entry bits values = if takes shape entry bits values then insert values (mapped_place entry) (value_of_bits bits) else values
 
--- each mapped entry gets its bits, those behind the bits of the entries before it, and is judged by what stands then
-unfoldable pub unpacked_from : ℕ → Shaped → List ℕ → List ℕ → Values → Values
-unpacked_from position shape [] bits values = values
-unpacked_from position shape (entry ∷ mapping) bits values =
-    unpacked_from (position + mapped_length entry) shape mapping bits (with_bits shape entry (bits_for entry position bits) values)
+-- what stands after each entry of a mapping had its turn, with the bits behind those of the entries before it
+abbrev pub after_entries : {S : Type 0} → (ℕ → List ℕ → S → S) → ℕ → List ℕ → List ℕ → S → S
+after_entries turn position [] bits s = s
+after_entries turn position (entry ∷ mapping) bits s =
+    after_entries turn (position + mapped_length entry) mapping bits (turn entry (bits_for entry position bits) s)
 
--- a device takes a frame by a mapping
+-- a device takes a frame by a mapping: each entry is judged by what stands in its turn
 abbrev pub unpacked : Shaped → List ℕ → List ℕ → Values → Values
-unpacked shape mapping bytes values = unpacked_from 0 shape mapping (frame_bits bytes) values
+unpacked shape mapping bytes values = after_entries (with_bits shape) 0 mapping (frame_bits bytes) values

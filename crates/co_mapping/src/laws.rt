@@ -1,6 +1,7 @@
 //! Laws of packing, each a function whose contract is the law.
 
-ghost use Rattle.std.specs.Prelude.{◌≡◌, ◌≢◌, ◌<◌, ◌≤◌, ◌/◌, ◌%◌, ℕ, false, List, map, Some, slice_get, slice_index, take};
+ghost use Rattle.std.specs.Prelude.{◌≡◌, ◌≢◌, ◌<◌, ◌≤◌, ◌/◌, ◌%◌, ℕ, true, false, List, map, Some, slice_get};
+ghost use Rattle.std.specs.Prelude.{slice_index, take};
 ghost use Rattle.std.specs.FinMap as finite;
 ghost use Rattle.std.specs.Int.{bit_at};
 ghost use Rattle.co_base.specs.Bytes.{AreBytes};
@@ -9,7 +10,8 @@ ghost use Rattle.co_dict.specs.Pdos.{is_of_pdos};
 ghost use Rattle.co_dict.specs.Shapes.{Shaped};
 ghost use Rattle.co_dict.specs.Values.{Values};
 ghost use Rattle.co_mapping.specs.Carried.{AreApart, TakesWhole};
-ghost use Rattle.co_mapping.specs.Packing.{bits_for, bytes_begun, entry_bits, frame_bits, packed, packed_bits, unpacked, with_bits};
+ghost use Rattle.co_mapping.specs.Packing.{bits_for, bytes_begun, entry_bits, frame_bits, names_entry};
+ghost use Rattle.co_mapping.specs.Packing.{packed, packed_bits, unpacked, with_bits};
 
 /// Position p of a PDO is bit p mod 8 of byte p div 8, into a frame and out of it.
 #[tactic(auto, using(crate::proofs::PositionLaws::positions))]
@@ -35,15 +37,17 @@ pub fn each_entry_has_its_bits_at_its_position()
 
 /// Each entry of a mapping gets the bits at its position, where the device takes them, and keeps its
 /// value where it doesn't, whatever becomes of the other entries. What no entry of the mapping names
-/// stays.
+/// stays, also where a dummy has its place.
 #[tactic(auto, using(crate::proofs::CarriedLaws::each_its_own))]
 pub fn each_entry_gets_the_bits_at_its_position()
-    ensures mapped { (shape : Shaped) (mapping bytes : List ℕ) (values : Values) (i entry : ℕ) → AreApart mapping
-        → slice_get mapping i ≡ Some entry → is_of_pdos (mapped_place entry).0 ≡ false
+    ensures mapped { (shape : Shaped) (mapping bytes : List ℕ) (values : Values) (i entry : ℕ)
+        → AreApart shape mapping → slice_get mapping i ≡ Some entry → is_of_pdos (mapped_place entry).0 ≡ false
         → finite.get (unpacked shape mapping bytes values) (mapped_place entry)
-        ≡ finite.get (with_bits shape entry (bits_for entry (mapping_bits (take i mapping)) (frame_bits bytes)) values) (mapped_place entry) }
+        ≡ (let bits = bits_for entry (mapping_bits (take i mapping)) (frame_bits bytes) in
+        finite.get (with_bits shape entry bits values) (mapped_place entry)) }
     ensures others { (shape : Shaped) (mapping bytes : List ℕ) (values : Values) (place : ℕ × ℕ)
-        → ((i entry : ℕ) → slice_get mapping i ≡ Some entry → place ≢ mapped_place entry)
+        → ((i entry : ℕ) → slice_get mapping i ≡ Some entry → names_entry shape entry ≡ true
+        → place ≢ mapped_place entry)
         → finite.get (unpacked shape mapping bytes values) place ≡ finite.get values place }
 {}
 
@@ -52,7 +56,8 @@ pub fn each_entry_gets_the_bits_at_its_position()
 /// given that value; whatever the others of its mapping are, dummies too.
 pub fn what_is_packed_is_unpacked()
     ensures { (shape : Shaped) (from into : Values) (sent taken : List ℕ) (i a b : ℕ) (bytes : List ℕ)
-        → mapping_bits sent ≤ 64 → map mapped_length sent ≡ map mapped_length taken → AreApart taken
+        → mapping_bits sent ≤ 64 → map mapped_length sent ≡ map mapped_length taken
+        → AreApart shape taken
         → slice_get sent i ≡ Some a → slice_get taken i ≡ Some b
         → finite.get from (mapped_place a) ≡ Some bytes → TakesWhole shape b bytes
         → finite.get (unpacked shape taken (packed from sent).0 into) (mapped_place b) ≡ Some bytes }

@@ -2,10 +2,11 @@
 
 ghost use Rattle.std.specs.Prelude.{◌≡◌, ◌≤◌, ◌+◌, OnOk, OnErr, IfOk, take};
 ghost use Rattle.co_dict.specs.Mappings.{mapped_length as length_mapped, mapping_bits};
-ghost use Rattle.co_mapping.specs.Packing.{bits_for, bytes_begun, frame_bits, takes, unpacked, value_of_bits, with_bits};
+ghost use Rattle.co_mapping.specs.Packing.{bits_for, bytes_begun, frame_bits, names_entry as names_one, takes};
+ghost use Rattle.co_mapping.specs.Packing.{unpacked, value_of_bits, with_bits};
 
 use crate::bits::moved_down;
-use co_dict::{Dict, Shape, check_write, mapped_length, mapped_place, number_64};
+use co_dict::{Dict, Direction, Shape, check_write, mapped_length, mapped_place, number_64};
 use co_values::to_le;
 use std::alloc::AllocError;
 
@@ -17,10 +18,21 @@ fn value_for(entry: u32, position: u32, bytes: &[u8]) -> [u8; 8]
     to_le(moved_down(number_64(bytes), mapped_length(entry), position))
 }
 
+/// Whether a mapping entry names an entry of the device that RPDOs can map; else it is a dummy.
+fn names_entry(shape: &Shape, entry: u32) -> bool
+    ensures { result ≡ names_one shape.now entry }
+{
+    let (index, sub) = mapped_place(entry);
+    match shape.entry(index, sub) {
+        Some(entry) => entry.is_mappable(Direction::Receive),
+        None => false,
+    }
+}
+
 /// Gives one mapped entry its bits out of a frame (CiA 301, PDO mapping), those from a position on,
-/// as a value of as many bytes as they begin: it is written where `check_write` passes, as the
-/// dictionary stands, and else nothing changes, as where the device has no entry, at a dummy. Tells
-/// whether it was written. A bit that the frame lacks is 0. The position is from 0 to 64, less the entry's length.
+/// as a value of as many bytes as they begin: it is written where RPDOs can map it and `check_write`
+/// passes, as the dictionary stands; else nothing changes, as at a dummy. Tells whether it was
+/// written. A bit that the frame lacks is 0. The position is from 0 to 64, less the entry's length.
 ///
 /// Want of memory leaves the dictionary as it was.
 #[tactic(auto, unfolding(crate::specs::Packing::takes, crate::specs::Packing::with_bits))]
@@ -36,15 +48,17 @@ pub fn unpack_entry(
     ensures ok { OnOk result (dict.new ≡ with_bits shape.now entry (bits_for entry position (frame_bits bytes.now)) dict.old) }
     ensures err { OnErr result (dict.new ≡ dict.old) }
 {
+    if !names_entry(shape, entry) {
+        return Ok(false);
+    }
     let (index, sub) = mapped_place(entry);
     let value = value_for(entry, position, bytes);
     let value = &value[..(mapped_length(entry) as usize + 7) / 8];
-    if check_write(shape, dict, index, sub, value).is_ok() {
-        dict.write(index, sub, value)?;
-        Ok(true)
-    } else {
-        Ok(false)
+    if check_write(shape, dict, index, sub, value).is_err() {
+        return Ok(false);
     }
+    dict.write(index, sub, value)?;
+    Ok(true)
 }
 
 /// Each mapped entry out of a frame.

@@ -1,18 +1,11 @@
 -- When a TPDO is sent, and what it remembers then.
-use Rattle.std.proofs.Common.{◌≡◌, ℕ, zero, suc, ◌+◌, ◌<◌, ◌≤◌, ◌==◌, Bool, true, false, List, Option, Some, None, IfSome, refl, ap, sym, ◌∙◌, arith}
+use Rattle.std.proofs.Common.{◌≡◌, ℕ, zero, suc, ◌+◌, ◌<◌, ◌≤◌, ◌==◌, ◌&&◌, ◌||◌, not, Bool, true, false, List, Option, Some, None, IfSome, refl, ap, sym, ◌∙◌, arith}
 use Rattle.std.specs.Prelude.{if◌then◌else◌, nat_le, nat_lt}
 use Rattle.std.proofs.lemmas.Bool.Decides.{nat_tests}
 use Rattle.co_pdos.specs.declared.communication.Communication.{Communication}
-use Rattle.co_pdos.specs.Tpdo.{Remembered, after_change, after_event, after_nth, event_moment, inhibit_over, is_sent, is_sent_at_change, is_sent_at_event, is_sent_at_nth, is_sent_by_type, later, looked_at, looked_at_by_type, moment_from}
-
-pub test_zero : (kind : ℕ) → 254 ≤ kind → (kind == 0) ≡ false
-test_zero kind h = grind (arith, nat_tests)
-
-pub test_cyclic : (kind : ℕ) → 254 ≤ kind → nat_le kind 240 ≡ false
-test_cyclic kind h = grind (arith, nat_tests)
-
-pub test_event : (kind : ℕ) → 254 ≤ kind → nat_le 254 kind ≡ true
-test_event kind h = grind (arith, nat_tests)
+use Rattle.co_pdos.specs.declared.transmission_type.TransmissionType.{TransmissionType}
+use Rattle.co_pdos.specs.declared.transmission_type.TransmissionType.TheVariants.{Acyclic, Cyclic, EventDriven, Reserved}
+use Rattle.co_pdos.specs.Tpdo.{Remembered, acyclic_turn, cyclic_turn, differs, event_moment, event_turn, has_come, inhibit_over, is_ahead, later, moment_from, sent, turn_by_type, unsent}
 
 lies_ahead : (t m : ℕ) → t < m → nat_lt t m ≡ true
 lies_ahead t m h = grind (arith, nat_tests)
@@ -20,33 +13,48 @@ lies_ahead t m h = grind (arith, nat_tests)
 not_come : (t m : ℕ) → t < m → nat_le m t ≡ false
 not_come t m h = grind (arith, nat_tests)
 
--- those of the types 254 and 255 are the event-driven ones
-module _ (c : Communication) (kind : ℕ) (is : c.kind ≡ Some kind) (event : 254 ≤ kind) where
-  pub sent_is : (at_sync : Bool) (t : ℕ) (bytes : List ℕ) (r : Remembered) → is_sent c at_sync t bytes r ≡ is_sent_at_event t bytes r
-  unfolding is_sent_by_type
-  sent_is at_sync t bytes r = rw (is, test_zero kind event, test_cyclic kind event, test_event kind event) refl
+-- ---- the turn of an event-driven one, by its test
 
-  pub looked_is : (at_sync : Bool) (t : ℕ) (bytes : List ℕ) (r : Remembered) → looked_at c at_sync t bytes r ≡ after_event c t bytes r
-  unfolding looked_at_by_type
-  looked_is at_sync t bytes r = rw (is, test_zero kind event, test_cyclic kind event, test_event kind event) refl
+-- it is sent at t with these bytes
+abbrev pub is_wanted_at : ℕ → List ℕ → Remembered → Bool
+is_wanted_at t bytes r = not (is_ahead t r.inhibit) && (differs bytes r || has_come t r.event)
+
+-- with its moments set from now
+abbrev pub moments_set : Communication → ℕ → Remembered → Remembered
+moments_set c t r = record r { inhibit = moment_from t c.inhibit_time; event = event_moment t c }
+
+pub event_unsent : (c : Communication) (t : ℕ) (bytes : List ℕ) (r : Remembered) → is_wanted_at t bytes r ≡ false → event_turn c t bytes r ≡ unsent r
+unfolding event_turn
+event_unsent c t bytes r e = ap (λ (test : Bool). if test then sent bytes (moments_set c t r) else unsent r) e
+
+pub event_sent : (c : Communication) (t : ℕ) (bytes : List ℕ) (r : Remembered) → is_wanted_at t bytes r ≡ true → event_turn c t bytes r ≡ sent bytes (moments_set c t r)
+unfolding event_turn
+event_sent c t bytes r e = ap (λ (test : Bool). if test then sent bytes (moments_set c t r) else unsent r) e
+
+sent_by_test : (test : Bool) (bytes : List ℕ) (r s : Remembered) → (if test then sent bytes r else unsent s).is_sent ≡ test
+sent_by_test true bytes r s = refl
+sent_by_test false bytes r s = refl
+
+pub event_is_sent : (c : Communication) (t : ℕ) (bytes : List ℕ) (r : Remembered) → (event_turn c t bytes r).is_sent ≡ is_wanted_at t bytes r
+unfolding event_turn
+event_is_sent c t bytes r = sent_by_test (is_wanted_at t bytes r) bytes (moments_set c t r) r
 
 -- ---- the inhibit moment
 
-held : (t m : ℕ) (bytes : List ℕ) (r : Remembered) → r.inhibit ≡ Some m → t < m → is_sent_at_event t bytes r ≡ false
-unfolding is_sent_at_event
-held t m bytes r e h = rw (e, lies_ahead t m h) refl
+held_back : (held differ come : Bool) → held ≡ true → (not held && (differ || come)) ≡ false
+held_back held differ come h = rw h refl
 
-pub not_sent : (c : Communication) (kind : ℕ) (at_sync : Bool) (t m : ℕ) (bytes : List ℕ) (r : Remembered) → c.kind ≡ Some kind → 254 ≤ kind
-    → r.inhibit ≡ Some m → t < m → is_sent c at_sync t bytes r ≡ false
-not_sent c kind at_sync t m bytes r is event e h = sent_is c kind is event at_sync t bytes r ∙ held t m bytes r e h
+pub held : (c : Communication) (t m : ℕ) (bytes : List ℕ) (r : Remembered) → r.inhibit ≡ Some m → t < m → event_turn c t bytes r ≡ unsent r
+held c t m bytes r e h =
+    event_unsent c t bytes r (held_back (is_ahead t r.inhibit) (differs bytes r) (has_come t r.event) (ap (is_ahead t) e ∙ lies_ahead t m h))
 
-pub stays : (c : Communication) (kind : ℕ) (at_sync : Bool) (t m : ℕ) (bytes : List ℕ) (r : Remembered) → c.kind ≡ Some kind → 254 ≤ kind
-    → r.inhibit ≡ Some m → t < m → looked_at c at_sync t bytes r ≡ r
-unfolding after_event
-stays c kind at_sync t m bytes r is event e h = rw (looked_is c kind is event at_sync t bytes r, held t m bytes r e h) refl
+pub held_by_type : (c : Communication) (at_sync : Bool) (t m : ℕ) (bytes : List ℕ) (r : Remembered) → r.inhibit ≡ Some m → t < m
+    → turn_by_type (Some EventDriven) c at_sync t bytes r ≡ unsent r
+unfolding turn_by_type
+held_by_type c at_sync t m bytes r e h = held c t m bytes r e h
 
 -- an inhibit moment that is ahead isn't over
-still_held : (t m : ℕ) (r : Remembered) → r.inhibit ≡ Some m → t < m → inhibit_over t r ≡ r
+pub still_held : (t m : ℕ) (r : Remembered) → r.inhibit ≡ Some m → t < m → inhibit_over t r ≡ r
 unfolding inhibit_over
 still_held t m r e h = rw (e, not_come t m h) refl
 
@@ -85,86 +93,51 @@ not_before t event inhibit true = tt
 not_before t event inhibit false = second_not_after (t + event) (t + inhibit)
 
 -- what an event-driven TPDO remembers that was sent
-module _ (c : Communication) (kind : ℕ) (at_sync : Bool) (t : ℕ) (bytes : List ℕ) (r : Remembered) (is : c.kind ≡ Some kind) (event : 254 ≤ kind)
-    (sends : is_sent c at_sync t bytes r ≡ true) where
-  passed : is_sent_at_event t bytes r ≡ true
-  passed = sym (sent_is c kind is event at_sync t bytes r) ∙ sends
+module _ (c : Communication) (at_sync : Bool) (t : ℕ) (bytes : List ℕ) (r : Remembered) (sends : (turn_by_type (Some EventDriven) c at_sync t bytes r).is_sent ≡ true) where
+  abbrev Now : Remembered
+  Now = (turn_by_type (Some EventDriven) c at_sync t bytes r).remembered
 
-  inhibit_is : (looked_at c at_sync t bytes r).inhibit ≡ moment_from t c.inhibit_time
-  unfolding after_event
-  inhibit_is = rw (looked_is c kind is event at_sync t bytes r, passed) refl
+  now_is : Now ≡ record (moments_set c t r) { last = Some bytes }
+  unfolding turn_by_type
+  now_is = ap (λ turn. turn.remembered) (event_sent c t bytes r (sym (event_is_sent c t bytes r) ∙ sends))
 
-  event_is : (looked_at c at_sync t bytes r).event ≡ event_moment t c
-  unfolding after_event
-  event_is = rw (looked_is c kind is event at_sync t bytes r, passed) refl
-
-  pub inhibited : 0 < c.inhibit_time → (looked_at c at_sync t bytes r).inhibit ≡ Some (t + c.inhibit_time)
-  inhibited h = inhibit_is ∙ (rw (test_some c.inhibit_time h) refl)
+  inhibited : 0 < c.inhibit_time → Now.inhibit ≡ Some (t + c.inhibit_time)
+  inhibited h = ap (λ (s : Remembered). s.inhibit) now_is ∙ (rw (test_some c.inhibit_time h) refl)
 
   pub silent : (next : Bool) (u : ℕ) (others : List ℕ) → 0 < c.inhibit_time → u < t + c.inhibit_time
-      → is_sent c next u others (inhibit_over u (looked_at c at_sync t bytes r)) ≡ false
+      → turn_by_type (Some EventDriven) c next u others (inhibit_over u Now) ≡ unsent Now
   silent next u others some h =
-      let s : Remembered = looked_at c at_sync t bytes r in
-      ap (is_sent c next u others) (still_held u (t + c.inhibit_time) s (inhibited some) h)
-      ∙ not_sent c kind next u (t + c.inhibit_time) others s is event (inhibited some) h
+      ap (turn_by_type (Some EventDriven) c next u others) (still_held u (t + c.inhibit_time) Now (inhibited some) h)
+      ∙ held_by_type c next u (t + c.inhibit_time) others Now (inhibited some) h
 
-  pub inhibit_ahead : IfSome (looked_at c at_sync t bytes r).inhibit (λ m. t < m)
-  inhibit_ahead = rw inhibit_is (set_ahead t c.inhibit_time (c.inhibit_time == 0) refl)
+  pub inhibit_ahead : IfSome Now.inhibit (λ m. t < m)
+  inhibit_ahead = rw now_is (set_ahead t c.inhibit_time (c.inhibit_time == 0) refl)
 
-  pub event_ahead : IfSome (looked_at c at_sync t bytes r).event (λ m. t < m)
-  event_ahead = rw event_is (later_ahead t c.event_time c.inhibit_time (c.event_time == 0) refl)
+  pub event_ahead : IfSome Now.event (λ m. t < m)
+  event_ahead = rw now_is (later_ahead t c.event_time c.inhibit_time (c.event_time == 0) refl)
 
-  pub event_behind_inhibit : IfSome (looked_at c at_sync t bytes r).event (λ m. t + c.inhibit_time ≤ m)
-  event_behind_inhibit = rw event_is (not_before t c.event_time c.inhibit_time (c.event_time == 0))
+  pub event_behind_inhibit : IfSome Now.event (λ m. t + c.inhibit_time ≤ m)
+  event_behind_inhibit = rw now_is (not_before t c.event_time c.inhibit_time (c.event_time == 0))
 
 -- ---- the bytes that were last queued
 
--- where the same test decides both
-last_of : (test : Bool) (a b : Remembered) (bytes : Option (List ℕ)) (last : Option (List ℕ)) → a.last ≡ bytes → b.last ≡ last
-    → (if test then a else b).last ≡ (if test then bytes else last)
-last_of true a b bytes last e f = e
-last_of false a b bytes last e f = f
+module _ (bytes : List ℕ) (last : Option (List ℕ)) where
+  last_of : (test : Bool) (r s : Remembered) → s.last ≡ last
+      → (if test then sent bytes r else unsent s).remembered.last ≡ (if (if test then sent bytes r else unsent s).is_sent then Some bytes else last)
+  last_of true r s e = refl
+  last_of false r s e = e
 
-change_last : (at_sync : Bool) (bytes : List ℕ) (r : Remembered) → (after_change at_sync bytes r).last ≡ (if is_sent_at_change at_sync bytes r then Some bytes else r.last)
-unfolding after_change
-change_last at_sync bytes r = last_of (is_sent_at_change at_sync bytes r) _ r (Some bytes) r.last refl refl
-
-nth_last : (n : ℕ) (at_sync : Bool) (bytes : List ℕ) (r : Remembered) → (after_nth n at_sync bytes r).last ≡ (if is_sent_at_nth n at_sync r then Some bytes else r.last)
-unfolding after_nth is_sent_at_nth
-nth_last n false bytes r = refl
-nth_last n true bytes r = last_of (nat_le n (r.syncs + 1)) _ _ (Some bytes) r.last refl refl
-
-event_last : (c : Communication) (t : ℕ) (bytes : List ℕ) (r : Remembered) → (after_event c t bytes r).last ≡ (if is_sent_at_event t bytes r then Some bytes else r.last)
-unfolding after_event
-event_last c t bytes r = last_of (is_sent_at_event t bytes r) _ r (Some bytes) r.last refl refl
-
--- one of two, each with its own test
-chosen : (test : Bool) (a b : Remembered) (p q : Bool) (bytes : Option (List ℕ)) (last : Option (List ℕ))
-    → a.last ≡ (if p then bytes else last) → b.last ≡ (if q then bytes else last)
-    → (if test then a else b).last ≡ (if (if test then p else q) then bytes else last)
-chosen true a b p q bytes last e f = e
-chosen false a b p q bytes last e f = f
-
-last_by_type : (kind : Option ℕ) (c : Communication) (at_sync : Bool) (t : ℕ) (bytes : List ℕ) (r : Remembered)
-    → (looked_at_by_type kind c at_sync t bytes r).last ≡ (if is_sent_by_type kind at_sync t bytes r then Some bytes else r.last)
-unfolding looked_at_by_type is_sent_by_type
-last_by_type None c at_sync t bytes r = refl
-last_by_type (Some kind) c at_sync t bytes r =
-    chosen (kind == 0) _ _ (is_sent_at_change at_sync bytes r) _ (Some bytes) r.last (change_last at_sync bytes r)
-    (chosen (nat_le kind 240) _ _ (is_sent_at_nth kind at_sync r) _ (Some bytes) r.last (nth_last kind at_sync bytes r)
-    (chosen (nat_le 254 kind) _ r (is_sent_at_event t bytes r) false (Some bytes) r.last (event_last c t bytes r) refl))
-
-pub last_is : (c : Communication) (at_sync : Bool) (t : ℕ) (bytes : List ℕ) (r : Remembered)
-    → (looked_at c at_sync t bytes r).last ≡ (if is_sent c at_sync t bytes r then Some bytes else r.last)
-last_is c at_sync t bytes r = last_by_type c.kind c at_sync t bytes r
+pub last_is : (transmission : Option TransmissionType) (c : Communication) (at_sync : Bool) (t : ℕ) (bytes : List ℕ) (r : Remembered)
+    → (turn_by_type transmission c at_sync t bytes r).remembered.last ≡ (if (turn_by_type transmission c at_sync t bytes r).is_sent then Some bytes else r.last)
+unfolding turn_by_type acyclic_turn cyclic_turn event_turn
+last_is None c at_sync t bytes r = refl
+last_is (Some Acyclic) c at_sync t bytes r = last_of bytes r.last (at_sync && differs bytes r) r r refl
+last_is (Some (Cyclic n)) c false t bytes r = refl
+last_is (Some (Cyclic n)) c true t bytes r = last_of bytes r.last (nat_le n (r.syncs + 1)) (record r { syncs = 0 }) (record r { syncs = r.syncs + 1 }) refl
+last_is (Some Reserved) c at_sync t bytes r = refl
+last_is (Some EventDriven) c at_sync t bytes r = last_of bytes r.last (is_wanted_at t bytes r) (moments_set c t r) r refl
 
 -- ---- each n-th SYNC
-
-not_zero : (n : ℕ) → 0 < n → (n == 0) ≡ false
-not_zero n h = grind (arith, nat_tests)
-
-is_cyclic : (n : ℕ) → n ≤ 240 → nat_le n 240 ≡ true
-is_cyclic n h = grind (arith, nat_tests)
 
 reached_by : (syncs n : ℕ) (a b : Bool) → syncs < n → nat_le n (syncs + 1) ≡ a → (syncs + 1 == n) ≡ b → a ≡ b
 reached_by syncs n true true h e f = refl
@@ -172,27 +145,27 @@ reached_by syncs n false false h e f = refl
 reached_by syncs n true false h e f = absurd (grind (arith, nat_tests))
 reached_by syncs n false true h e f = absurd (grind (arith, nat_tests))
 
-syncs_of : (test : Bool) (a b : Remembered) → (if test then a else b).syncs ≡ (if test then a.syncs else b.syncs)
-syncs_of true a b = refl
-syncs_of false a b = refl
-
 reached : (syncs n : ℕ) → syncs < n → nat_le n (syncs + 1) ≡ (syncs + 1 == n)
 reached syncs n h = reached_by syncs n (nat_le n (syncs + 1)) (syncs + 1 == n) h refl refl
 
-module _ (c : Communication) (n : ℕ) (is : c.kind ≡ Some n) (some : 0 < n) (cyclic : n ≤ 240) where
-  pub nth_sent : (t : ℕ) (bytes : List ℕ) (r : Remembered) → r.syncs < n → is_sent c true t bytes r ≡ (r.syncs + 1 == n)
-  unfolding is_sent_by_type is_sent_at_nth
-  nth_sent t bytes r h = rw (is, not_zero n some, is_cyclic n cyclic) (reached r.syncs n h)
+syncs_of : (test : Bool) (bytes : List ℕ) (r s : Remembered) → (if test then sent bytes r else unsent s).remembered.syncs ≡ (if test then r.syncs else s.syncs)
+syncs_of true bytes r s = refl
+syncs_of false bytes r s = refl
 
-  pub nth_counted : (t : ℕ) (bytes : List ℕ) (r : Remembered) → r.syncs < n
-      → (looked_at c true t bytes r).syncs ≡ (if r.syncs + 1 == n then 0 else r.syncs + 1)
-  unfolding looked_at_by_type after_nth
-  nth_counted t bytes r h = rw (is, not_zero n some, is_cyclic n cyclic, reached r.syncs n h) (syncs_of (r.syncs + 1 == n) _ _)
+module _ (c : Communication) (n t : ℕ) (bytes : List ℕ) (r : Remembered) where
+  pub nth_sent : r.syncs < n → (turn_by_type (Some (Cyclic n)) c true t bytes r).is_sent ≡ (r.syncs + 1 == n)
+  unfolding turn_by_type cyclic_turn
+  nth_sent h = sent_by_test (nat_le n (r.syncs + 1)) bytes (record r { syncs = 0 }) (record r { syncs = r.syncs + 1 }) ∙ reached r.syncs n h
 
-  pub nth_unsent : (t : ℕ) (bytes : List ℕ) (r : Remembered) → is_sent c false t bytes r ≡ false
-  unfolding is_sent_by_type is_sent_at_nth
-  nth_unsent t bytes r = rw (is, not_zero n some, is_cyclic n cyclic) refl
+  pub nth_counted : r.syncs < n → (turn_by_type (Some (Cyclic n)) c true t bytes r).remembered.syncs ≡ (if r.syncs + 1 == n then 0 else r.syncs + 1)
+  unfolding turn_by_type cyclic_turn
+  nth_counted h = syncs_of (nat_le n (r.syncs + 1)) bytes (record r { syncs = 0 }) (record r { syncs = r.syncs + 1 })
+      ∙ ap (λ (test : Bool). if test then 0 else r.syncs + 1) (reached r.syncs n h)
 
-  pub nth_stays : (t : ℕ) (bytes : List ℕ) (r : Remembered) → looked_at c false t bytes r ≡ r
-  unfolding looked_at_by_type after_nth
-  nth_stays t bytes r = rw (is, not_zero n some, is_cyclic n cyclic) refl
+  pub nth_unsent : turn_by_type (Some (Cyclic n)) c false t bytes r ≡ unsent r
+  unfolding turn_by_type cyclic_turn
+  nth_unsent = refl
+
+pub ruleset set_moments = (inhibit_ahead, event_ahead, event_behind_inhibit)
+
+pub ruleset nth_sync = (nth_sent, nth_counted, nth_unsent)

@@ -10,7 +10,7 @@ use Rattle.co_pdos.specs.Working.{count_of, event_time, identifier_of, inhibit_t
 -- its communication parameters
 abbrev pub communication_of : Shaped → Values → ℕ → Communication
 communication_of shape values object = record {
-  kind = transmission_type shape values object;
+  transmission_type = transmission_type shape values object;
   inhibit_time = inhibit_time shape values object;
   event_time = event_time shape values object;
 }

@@ -1,17 +1,17 @@
 -- What becomes of a frame that an RPDO receives (CiA 301).
-use Rattle.std.specs.Prelude.{ℕ, nat_le, nat_lt, Option, Some, None, if◌then◌else◌}
-use Rattle.co_base.specs.Ranges.{is_between}
+use Rattle.std.specs.Prelude.{ℕ, nat_lt, Option, Some, if◌then◌else◌}
 use Rattle.co_pdos.specs.declared.receipt.Receipt.{Receipt}
 use Rattle.co_pdos.specs.declared.receipt.Receipt.TheVariants.{Short, Kept, AtOnce, Ignored}
+use Rattle.co_pdos.specs.declared.transmission_type.TransmissionType.{TransmissionType}
+use Rattle.co_pdos.specs.declared.transmission_type.TransmissionType.TheVariants.{Acyclic, Cyclic, EventDriven}
 
--- by the transmission type: 0 to 240 is synchronous, 254 and 255 are event-driven
-abbrev pub received_by_type : Option ℕ → Receipt
-received_by_type None = Ignored
-received_by_type (Some kind) =
-    if nat_le kind 240 then Kept
-    else if is_between 254 255 kind then AtOnce
-    else Ignored
+-- by the transmission type: a synchronous one has it wait for the next SYNC, an event-driven one takes it at once
+abbrev pub received_by_type : Option TransmissionType → Receipt
+received_by_type (Some Acyclic) = Kept
+received_by_type (Some (Cyclic n)) = Kept
+received_by_type (Some EventDriven) = AtOnce
+received_by_type other = Ignored
 
 -- A FRAME OF A WORKING RPDO: one with fewer bytes than the mapping begins is short, whatever the transmission type
-unfoldable pub received : Option ℕ → ℕ → ℕ → Receipt
-received kind mapped count = if nat_lt count mapped then Short else received_by_type kind
+unfoldable pub received : Option TransmissionType → ℕ → ℕ → Receipt
+received transmission mapped count = if nat_lt count mapped then Short else received_by_type transmission

@@ -7,6 +7,8 @@ use Rattle.co_dict.specs.PdoChecks.{has_type, is_unsigned8, is_unsigned32, mappi
 use Rattle.co_dict.specs.Pdos.{identifier, is_restricted, is_valid}
 use Rattle.co_dict.specs.Shapes.{Shaped}
 use Rattle.co_dict.specs.Values.{Values, number_at}
+use Rattle.co_pdos.specs.TransmissionTypes.{type_of_number}
+use Rattle.co_pdos.specs.declared.transmission_type.TransmissionType.{TransmissionType}
 
 -- ---- the objects of a PDO
 
@@ -64,8 +66,9 @@ is_unsigned16 (Unsigned Bits16) = true
 is_unsigned16 other = false
 
 -- the transmission type: sub-index 2; none where that isn't an UNSIGNED8
-unfoldable pub transmission_type : Shaped → Values → ℕ → Option ℕ
-transmission_type shape values object = if has_type is_unsigned8 shape (object, 2) then Some (number_at 1 values (object, 2)) else None
+unfoldable pub transmission_type : Shaped → Values → ℕ → Option TransmissionType
+transmission_type shape values object =
+    if has_type is_unsigned8 shape (object, 2) then Some (type_of_number (number_at 1 values (object, 2))) else None
 
 -- the number of an UNSIGNED16; 0 where the entry isn't one
 abbrev pub number_of_unsigned16 : Shaped → Values → ℕ × ℕ → ℕ

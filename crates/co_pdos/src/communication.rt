@@ -4,6 +4,7 @@ ghost use Rattle.std.specs.Prelude.{◌≡◌, ◌≤◌};
 ghost use Rattle.co_dict.specs.PdoChecks.{has_type};
 ghost use Rattle.co_pdos.specs.Working.{event_time, inhibit_time, is_unsigned16, number_of_unsigned16, transmission_type as type_of};
 
+use crate::transmission_type::TransmissionType;
 use crate::working::has_unsigned_8;
 use co_dict::{Dict, Shape};
 use co_values::DataType;
@@ -12,7 +13,7 @@ use co_values::DataType;
 #[derive(Clone, Copy, Debug, PartialEq, Eq)]
 pub struct Communication {
     /// The transmission type; none where the device has none as UNSIGNED8.
-    pub kind: Option<u8>,
+    pub transmission_type: Option<TransmissionType>,
     /// The inhibit time in microseconds; 0 is none.
     pub inhibit_time: u32,
     /// The event time in microseconds; 0 is none.
@@ -43,11 +44,11 @@ fn unsigned_16(shape: &Shape, dict: &Dict, index: u16, sub: u8) -> u16
 /// The transmission type of the PDO with a communication object: sub-index 2. `None` where that isn't
 /// an UNSIGNED8.
 #[tactic(auto, unfolding(crate::specs::Working::transmission_type))]
-pub fn transmission_type(shape: &Shape, dict: &Dict, object: u16) -> Option<u8>
+fn transmission_type(shape: &Shape, dict: &Dict, object: u16) -> Option<TransmissionType>
     ensures { result ≡ type_of shape.now dict.now object }
 {
     if has_unsigned_8(shape, object, 2) {
-        Some(dict.number_8(object, 2))
+        Some(TransmissionType::of(dict.number_8(object, 2)))
     } else {
         None
     }
@@ -59,12 +60,12 @@ impl Communication {
     /// milliseconds; a time that isn't an UNSIGNED16 is 0.
     #[tactic(auto, unfolding(crate::specs::Working::inhibit_time, crate::specs::Working::event_time))]
     pub fn of(shape: &Shape, dict: &Dict, object: u16) -> Communication
-        ensures kind { result.kind ≡ type_of shape.now dict.now object }
+        ensures transmission_type { result.transmission_type ≡ type_of shape.now dict.now object }
         ensures inhibit { result.inhibit_time ≡ inhibit_time shape.now dict.now object }
         ensures event { result.event_time ≡ event_time shape.now dict.now object }
     {
         Communication {
-            kind: transmission_type(shape, dict, object),
+            transmission_type: transmission_type(shape, dict, object),
             inhibit_time: 100 * u32::from(unsigned_16(shape, dict, object, 3)),
             event_time: 1000 * u32::from(unsigned_16(shape, dict, object, 5)),
         }

@@ -10,12 +10,14 @@ mod mapping;
 mod payload;
 mod receipt;
 mod tpdo;
+mod transmission_type;
 mod working;
 
-pub use communication::{Communication, transmission_type};
+pub use communication::Communication;
 pub use configuration::Configuration;
 pub use frame_identifier::FrameIdentifier;
 pub use mapping::Mapping;
 pub use receipt::{Receipt, received};
 pub use tpdo::Tpdo;
+pub use transmission_type::TransmissionType;
 pub use working::{identifier, is_pdo, rpdo_object, tpdo_object, works};

@@ -3,6 +3,8 @@
 ghost use Rattle.std.specs.Prelude.{◌≡◌};
 ghost use Rattle.co_pdos.specs.Rpdo.{received as receipt_of_frame};
 
+use crate::transmission_type::TransmissionType;
+
 /// What becomes of a frame that a working RPDO receives (CiA 301).
 #[derive(Clone, Copy, Debug, PartialEq, Eq)]
 pub enum Receipt {
@@ -18,17 +20,17 @@ pub enum Receipt {
 
 /// What becomes of a frame of so many bytes at a working RPDO of a transmission type, where its
 /// mapping begins `mapped` bytes. `Short` where the frame has fewer, whatever the type is; else `Kept`
-/// for the types 0 to 240, `AtOnce` for 254 and 255, and `Ignored` for others and none.
+/// for the synchronous types, `AtOnce` for the event-driven one, and `Ignored` for others and none.
 #[tactic(auto, unfolding(crate::specs::Rpdo::received))]
-pub fn received(kind: Option<u8>, mapped: usize, count: usize) -> Receipt
-    ensures { result ≡ receipt_of_frame kind mapped count }
+pub fn received(transmission: Option<TransmissionType>, mapped: usize, count: usize) -> Receipt
+    ensures { result ≡ receipt_of_frame transmission mapped count }
 {
     if count < mapped {
         return Receipt::Short;
     }
-    match kind {
-        Some(0..=240) => Receipt::Kept,
-        Some(254..=255) => Receipt::AtOnce,
-        _ => Receipt::Ignored,
+    match transmission {
+        Some(TransmissionType::Acyclic | TransmissionType::Cyclic(_)) => Receipt::Kept,
+        Some(TransmissionType::EventDriven) => Receipt::AtOnce,
+        Some(TransmissionType::Reserved) | None => Receipt::Ignored,
     }
 }

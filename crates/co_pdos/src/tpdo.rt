@@ -1,10 +1,13 @@
 //! What a TPDO remembers, and when it is sent.
 
 ghost use Rattle.std.specs.Prelude.{◌≡◌, ◌↔◌, ◌≤◌, ◌<◌, ◌^◌, length, IsTrue};
-ghost use Rattle.co_pdos.specs.Tpdo.{after_change, after_event, after_nth, differs, event_moment, forgotten as nothing_remembered, has_come, inhibit_over, is_ahead, is_sent, is_sent_at_change, is_sent_at_event, is_sent_at_nth, looked_at, moment_from};
+ghost use Rattle.co_pdos.specs.Tpdo.{acyclic_turn, cyclic_turn, event_turn, turn_by_type};
+ghost use Rattle.co_pdos.specs.Tpdo.{differs, event_moment, forgotten as nothing_remembered, has_come};
+ghost use Rattle.co_pdos.specs.Tpdo.{inhibit_over, is_ahead, moment_from};
 
 use crate::communication::Communication;
 use crate::payload::Payload;
+use crate::transmission_type::TransmissionType;
 use std::marker::Model;
 
 /// What a TPDO remembers (CiA 301): the bytes that were last queued, its inhibit and event moments in
@@ -145,12 +148,12 @@ impl Tpdo {
         }
     }
 
-    /// Looks at one of type 0, and answers whether it is sent.
-    #[tactic(auto, unfolding(crate::specs::Tpdo::is_sent_at_change, crate::specs::Tpdo::after_change))]
+    /// Looks at an acyclic synchronous one, and answers whether it is sent.
+    #[tactic(auto, unfolding(crate::specs::Tpdo::acyclic_turn))]
     fn at_change(&mut self, at_sync: bool, bytes: &[u8]) -> bool
         requires { length bytes.now ≤ 8 }
-        ensures sent { result ≡ is_sent_at_change at_sync bytes.now self.old }
-        ensures remembered { self.new ≡ after_change at_sync bytes.now self.old }
+        ensures sent { result ≡ (acyclic_turn at_sync bytes.now self.old).is_sent }
+        ensures remembered { self.new ≡ (acyclic_turn at_sync bytes.now self.old).remembered }
     {
         if at_sync && self.differs(bytes) {
             self.last = Some(Payload::of(bytes));
@@ -159,12 +162,12 @@ impl Tpdo {
         false
     }
 
-    /// Looks at one of the types n from 1 to 240, and answers whether it is sent.
-    #[tactic(auto, unfolding(crate::specs::Tpdo::is_sent_at_nth, crate::specs::Tpdo::after_nth))]
+    /// Looks at a cyclic synchronous one of the number n, and answers whether it is sent.
+    #[tactic(auto, unfolding(crate::specs::Tpdo::cyclic_turn))]
     fn at_nth(&mut self, n: u8, at_sync: bool, bytes: &[u8]) -> bool
         requires { length bytes.now ≤ 8 }
-        ensures sent { result ≡ is_sent_at_nth n at_sync self.old }
-        ensures remembered { self.new ≡ after_nth n at_sync bytes.now self.old }
+        ensures sent { result ≡ (cyclic_turn n at_sync bytes.now self.old).is_sent }
+        ensures remembered { self.new ≡ (cyclic_turn n at_sync bytes.now self.old).remembered }
     {
         if !at_sync {
             return false;
@@ -179,13 +182,13 @@ impl Tpdo {
         true
     }
 
-    /// Looks at one of the types 254 and 255, and answers whether it is sent.
-    #[tactic(auto, unfolding(crate::specs::Tpdo::is_sent_at_event, crate::specs::Tpdo::after_event))]
+    /// Looks at an event-driven one, and answers whether it is sent.
+    #[tactic(auto, unfolding(crate::specs::Tpdo::event_turn))]
     fn at_event(&mut self, communication: Communication, t: u64, bytes: &[u8]) -> bool
         requires moment { t < 2 ^ 63 }
         requires short { length bytes.now ≤ 8 }
-        ensures sent { result ≡ is_sent_at_event t bytes.now self.old }
-        ensures remembered { self.new ≡ after_event communication t bytes.now self.old }
+        ensures sent { result ≡ (event_turn communication t bytes.now self.old).is_sent }
+        ensures remembered { self.new ≡ (event_turn communication t bytes.now self.old).remembered }
     {
         if is_ahead(t, self.inhibit) || !(self.differs(bytes) || has_come(t, self.event)) {
             return false;
@@ -200,11 +203,11 @@ impl Tpdo {
     /// at most 8, and answers whether it is sent; where it is, the bytes are remembered. `at_sync` says
     /// whether a SYNC came that counts for it.
     ///
-    /// Type 0 is sent at a SYNC where the bytes differ from those last queued; the types n from 1 to 240
-    /// at each n-th SYNC; 254 and 255 where the bytes differ or the event moment has come, unless the
-    /// inhibit moment is ahead, and both moments are then set from now; other types never. Needs no
-    /// memory.
-    #[tactic(auto, unfolding(crate::specs::Tpdo::is_sent_by_type, crate::specs::Tpdo::looked_at_by_type))]
+    /// An acyclic synchronous one is sent at a SYNC where the bytes differ from those last queued; a cyclic
+    /// one of the number n at each n-th SYNC; an event-driven one where the bytes differ or the event
+    /// moment has come, unless the inhibit moment is ahead, and both moments are then set from now; one of
+    /// another type, or of none, never. Needs no memory.
+    #[tactic(auto, unfolding(crate::specs::Tpdo::turn_by_type))]
     pub fn look(
         &mut self,
         communication: Communication,
@@ -214,14 +217,16 @@ impl Tpdo {
     ) -> bool
         requires moment { t < 2 ^ 63 }
         requires short { length bytes.now ≤ 8 }
-        ensures sent { result ≡ is_sent communication at_sync t bytes.now self.old }
-        ensures remembered { self.new ≡ looked_at communication at_sync t bytes.now self.old }
+        ensures sent { result
+            ≡ (turn_by_type communication.transmission_type communication at_sync t bytes.now self.old).is_sent }
+        ensures remembered { self.new
+            ≡ (turn_by_type communication.transmission_type communication at_sync t bytes.now self.old).remembered }
     {
-        match communication.kind {
-            Some(0) => self.at_change(at_sync, bytes),
-            Some(n) if n <= 240 => self.at_nth(n, at_sync, bytes),
-            Some(n) if n >= 254 => self.at_event(communication, t, bytes),
-            _ => false,
+        match communication.transmission_type {
+            Some(TransmissionType::Acyclic) => self.at_change(at_sync, bytes),
+            Some(TransmissionType::Cyclic(n)) => self.at_nth(n, at_sync, bytes),
+            Some(TransmissionType::EventDriven) => self.at_event(communication, t, bytes),
+            Some(TransmissionType::Reserved) | None => false,
         }
     }
 }

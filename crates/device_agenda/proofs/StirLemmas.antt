@@ -12,8 +12,9 @@ use Rattle.co_dict.specs.Values.{Values, number_at}
 use Rattle.co_profile.specs.Consumers.{any_expects, expects}
 use Rattle.co_profile.specs.Profile.{sync_identifier}
 use Rattle.co_profile.specs.declared.learnt.Learnt.{Learnt}
-use Rattle.device_laws.specs.Deaf.{AwaitsNoSync, goes_by_sync, IsDeafTo}
+use Rattle.device_laws.specs.Deaf.{AwaitsNoSync, IsDeafTo}
 use Rattle.device_pdos.specs.Rpdos.{any_has_identifier, has_identifier}
+use Rattle.device_pdos.specs.Tpdos.{goes_by_sync}
 use Rattle.device_pdos.specs.declared.rpdo_state.RpdoState.{RpdoState}
 use Rattle.device_pdos.specs.declared.tpdo_state.TpdoState.{TpdoState}
 use Rattle.co_device.specs.Device.{Device, is_error_control, is_in}

@@ -7,8 +7,9 @@ ghost use Rattle.can_frame.specs.Identifiers.{error_control_id};
 ghost use Rattle.co_profile.specs.Consumers.{expects, producer_of};
 ghost use Rattle.co_profile.specs.Profile.{sync_identifier as identifier_of_sync};
 ghost use Rattle.device_agenda.specs.Groups.{Extends, includes};
-ghost use Rattle.device_laws.specs.Deaf.{AwaitsNoSync, goes_by_sync as by_sync, IsDeafTo};
+ghost use Rattle.device_laws.specs.Deaf.{AwaitsNoSync, IsDeafTo};
 ghost use Rattle.device_pdos.specs.Rpdos.{has_identifier};
+ghost use Rattle.device_pdos.specs.Tpdos.{goes_by_sync};
 
 use crate::agenda::either;
 use crate::groups::Groups;
@@ -17,19 +18,6 @@ use co_device::DeviceState;
 use co_pdos::Configuration;
 use co_profile::{Consumer, sync_identifier};
 use device_pdos::{RpdoState, TpdoState};
-
-/// Whether a TPDO works and goes by SYNC: of types 0 to 240.
-fn goes_by_sync(configuration: &Option<Configuration>) -> bool
-    ensures { result ≡ by_sync configuration.now }
-{
-    match configuration {
-        Some(configuration) => match configuration.communication.kind {
-            Some(kind) => kind <= 240,
-            None => false,
-        },
-        None => false,
-    }
-}
 
 /// Whether one of the RPDOs keeps a frame.
 fn any_keeps(rpdos: &[RpdoState]) -> bool
@@ -40,9 +28,9 @@ fn any_keeps(rpdos: &[RpdoState]) -> bool
 
 /// Whether one of the TPDOs goes by SYNC.
 fn any_goes_by_sync(tpdos: &[TpdoState]) -> bool
-    ensures { result ≡ list_any (λ p. by_sync p.configuration) tpdos.now }
+    ensures { result ≡ list_any (λ p. goes_by_sync p.configuration) tpdos.now }
 {
-    tpdos.iter().any(|tpdo| goes_by_sync(&tpdo.configuration))
+    tpdos.iter().any(|tpdo| tpdo.goes_by_sync())
 }
 
 /// Whether something of a device may wait for a SYNC.

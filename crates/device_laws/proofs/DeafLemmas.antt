@@ -1,8 +1,8 @@
 -- A frame that is nothing to a device at rest changes nothing in the instant of its delivery, and nothing is read for it.
-use Rattle.std.proofs.Common.{◌≡◌, ℕ, zero, suc, ◌<◌, ◌==◌, Bool, true, false, not, List, [], ◌∷◌, Option, Some, None, inl, inr, refl, sym, ap, ◌∙◌, arith}
-use Rattle.std.specs.Prelude.{if◌then◌else◌, nat_le}
+use Rattle.std.proofs.Common.{◌≡◌, ℕ, zero, suc, ◌<◌, ◌==◌, Bool, true, false, not, List, [], ◌∷◌, Option, Some, None, inl, inr, refl, sym, ap, ◌∙◌}
+use Rattle.std.specs.Prelude.{if◌then◌else◌}
 use Rattle.std.specs.List.{AllByRecursion}
-use Rattle.std.proofs.lemmas.Bool.Decides.{nat_tests}
+use Rattle.std.specs.Option.{option_map_or}
 use Rattle.asking.specs.Asking.{Asking, Answer, bind}
 use Rattle.can_frame.specs.Frames.{BaseFrame}
 use Rattle.can_frame.specs.Identifiers.{nmt_id}
@@ -10,20 +10,24 @@ use Rattle.can_frame.specs.declared.waiting.Waiting.{Waiting}
 use Rattle.co_dict.specs.Values.{Values}
 use Rattle.co_parts.specs.Contents.{Content}
 use Rattle.co_parts.specs.declared.part.Part.{Part}
-use Rattle.co_pdos.specs.Tpdo.{Remembered, inhibit_over, is_sent_by_type, looked_at_by_type}
+use Rattle.co_pdos.specs.Tpdo.{Remembered, inhibit_over, turn_by_type}
+use Rattle.co_pdos.specs.TransmissionTypes.{is_synchronous}
 use Rattle.co_pdos.specs.declared.communication.Communication.{Communication}
 use Rattle.co_pdos.specs.declared.configuration.Configuration.{Configuration}
+use Rattle.co_pdos.specs.declared.transmission_type.TransmissionType.{TransmissionType}
+use Rattle.co_pdos.specs.declared.transmission_type.TransmissionType.TheVariants.{Acyclic, Cyclic, EventDriven, Reserved}
 use Rattle.co_profile.specs.Profile.{sync_identifier}
 use Rattle.device_pdos.specs.Rpdos.{rpdo_at}
 use Rattle.device_pdos.specs.Tpdos as tpdos
-use Rattle.device_pdos.specs.Tpdos.{bytes_now, frame_if, frame_sent, looked, looked_by, sent_by, tpdos_looked, with_frame, with_tpdos}
+use Rattle.device_pdos.specs.Tpdos.{bytes_now, frame_sent, goes_by_sync, looked, tpdos_looked, turn, with_frame, with_tpdos}
 use Rattle.device_pdos.specs.declared.rpdo_state.RpdoState.{RpdoState}
 use Rattle.device_pdos.specs.declared.tpdo_state.TpdoState.{TpdoState}
-use Rattle.device_pdos.proofs.LookLemmas.{quiet_tpdos, quiet_waiting}
+use Rattle.device_pdos.proofs.LookLemmas.{told}
+use Rattle.device_pdos.proofs.RestLemmas.{nothing_sent, tpdos_rest}
 use Rattle.co_device.specs.Device.{Device, is_in, moments, ran, tpdos_run}
 use Rattle.co_device.specs.Receiving.{kept_applied, places, received, rpdo_synced, sync_received, walk}
 use Rattle.co_device.specs.declared.nmt_state.NmtState.TheVariants.{Operational}
-use Rattle.device_laws.specs.Deaf.{AwaitsNoSync, IsDeafTo, IsIdleSync, goes_by_sync, is_synchronous}
+use Rattle.device_laws.specs.Deaf.{AwaitsNoSync, IsDeafTo, IsIdleSync}
 use Rattle.device_laws.specs.Rest.{Rests}
 use Rattle.device_laws.proofs.AheadLemmas.{quiet}
 use Rattle.device_laws.proofs.CaseLemmas.{not_both}
@@ -46,39 +50,26 @@ module _ (t : ℕ) (d : Device) (nothing_kept : AllByRecursion (λ p. p.kept ≡
   walk_idle [] = refl
   walk_idle (i ∷ numbers) = ap (λ (m : Asking Part Content Device). bind m (walk (rpdo_synced t) numbers)) (one_idle i) ∙ walk_idle numbers
 
--- ---- TPDOs that don't go by SYNC are looked at as without it
+-- ---- TPDOs that don't go by SYNC have their turn as without it
 
-not_zero : (kind : ℕ) → nat_le kind 240 ≡ false → (kind == 0) ≡ false
-not_zero kind h = grind (arith, nat_tests)
-
-looked_alike : (kind : Option ℕ) (c : Communication) (t : ℕ) (bytes : List ℕ) (r : Remembered) → is_synchronous kind ≡ false
-    → looked_at_by_type kind c true t bytes r ≡ looked_at_by_type kind c false t bytes r
-unfolding looked_at_by_type
-looked_alike None c t bytes r h = refl
-looked_alike (Some kind) c t bytes r h = rw (not_zero kind h, h) refl
-
-sent_alike : (kind : Option ℕ) (t : ℕ) (bytes : List ℕ) (r : Remembered) → is_synchronous kind ≡ false
-    → is_sent_by_type kind true t bytes r ≡ is_sent_by_type kind false t bytes r
-unfolding is_sent_by_type
-sent_alike None t bytes r h = refl
-sent_alike (Some kind) t bytes r h = rw (not_zero kind h, h) refl
+turn_alike : (transmission : Option TransmissionType) (c : Communication) (t : ℕ) (bytes : List ℕ) (r : Remembered) → option_map_or is_synchronous transmission false ≡ false
+    → turn_by_type transmission c true t bytes r ≡ turn_by_type transmission c false t bytes r
+unfolding turn_by_type
+turn_alike None c t bytes r h = refl
+turn_alike (Some Acyclic) c t bytes r h = absurd cc
+turn_alike (Some (Cyclic n)) c t bytes r h = absurd cc
+turn_alike (Some Reserved) c t bytes r h = refl
+turn_alike (Some EventDriven) c t bytes r h = refl
 
 module _ (t : ℕ) (values : Values) where
-  remembers_alike : (configuration : Option Configuration) (r : Remembered) → goes_by_sync configuration ≡ false
-      → looked_by configuration t true values r ≡ looked_by configuration t false values r
-  remembers_alike None r h = refl
-  remembers_alike (Some c) r h = looked_alike c.communication.kind c.communication t (bytes_now values c) r h
-
-  frames_alike : (configuration : Option Configuration) (r : Remembered) → goes_by_sync configuration ≡ false
-      → sent_by configuration t true values r ≡ sent_by configuration t false values r
-  unfolding sent_by
-  frames_alike None r h = refl
-  frames_alike (Some c) r h =
-      let bytes : List ℕ = bytes_now values c in
-      ap (λ (test : Bool). frame_if test c.identifier bytes) (sent_alike c.communication.kind t bytes r h)
+  turns_alike : (configuration : Option Configuration) (r : Remembered) → goes_by_sync configuration ≡ false
+      → turn configuration t true values r ≡ turn configuration t false values r
+  unfolding turn
+  turns_alike None r h = refl
+  turns_alike (Some c) r h = ap (told c.identifier (bytes_now values c)) (turn_alike c.communication.transmission_type c.communication t (bytes_now values c) (inhibit_over t r) h)
 
   one_alike : (p : TpdoState) → goes_by_sync p.configuration ≡ false → looked t true values p ≡ looked t false values p
-  one_alike p h = ap (λ (r : Remembered). record p { remembered = r }) (remembers_alike p.configuration (inhibit_over t p.remembered) h)
+  one_alike p h = ap (λ (own : Remembered × Option BaseFrame). record p { remembered = own.0 }) (turns_alike p.configuration p.remembered h)
 
   all_alike : (ps : List TpdoState) → AllByRecursion (λ p. goes_by_sync p.configuration ≡ false) ps → tpdos_looked t true values ps ≡ tpdos_looked t false values ps
   unfolding tpdos_looked
@@ -91,7 +82,7 @@ module _ (t : ℕ) (values : Values) where
   unfolding with_tpdos
   waiting_alike [] frames h = refl
   waiting_alike (p ∷ ps) frames h =
-      ap (λ (frame : Option BaseFrame). with_tpdos t true values ps (with_frame p.number frame frames)) (frames_alike p.configuration (inhibit_over t p.remembered) h.0)
+      ap (λ (own : Remembered × Option BaseFrame). with_tpdos t true values ps (with_frame p.number own.1 frames)) (turns_alike p.configuration p.remembered h.0)
       ∙ waiting_alike ps (with_frame p.number (frame_sent t false values p) frames) h.1
 
 -- ---- the instant
@@ -116,11 +107,11 @@ module _ (t : ℕ) (d : Device) (rests : Rests d) (ahead : LieAfter t (moments d
     looked_at_sync : tpdos_run t (record d { synced = true }) ≡ d
     unfolding tpdos_run
     looked_at_sync =
-        let unsent = rests.unwanted on t tpdos_in_operational in
+        let unwanted = rests.unwanted on in
         rw on
         (equal d false _ _ (sym rests.unsynced)
-        (all_alike t d.values d.tpdos awaits.no_tpdo ∙ quiet_tpdos t d.values d.tpdos unsent tpdos_in_operational)
-        (waiting_alike t d.values d.tpdos d.waiting awaits.no_tpdo ∙ quiet_waiting t d.values d.tpdos d.waiting unsent))
+        (all_alike t d.values d.tpdos awaits.no_tpdo ∙ tpdos_rest t d.values d.tpdos unwanted tpdos_in_operational)
+        (waiting_alike t d.values d.tpdos d.waiting awaits.no_tpdo ∙ nothing_sent t d.values d.tpdos d.waiting unwanted tpdos_in_operational))
 
     ran_at_sync : ran t (record d { synced = true }) ≡ d
     unfolding ran

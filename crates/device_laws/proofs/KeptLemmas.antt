@@ -8,7 +8,7 @@ use Rattle.can_frame.specs.declared.waiting.Waiting.{Waiting}
 use Rattle.co_dict.specs.Mappings.{mapped_length, mapped_place}
 use Rattle.co_dict.specs.Shapes.{Shaped}
 use Rattle.co_dict.specs.Values.{Values}
-use Rattle.co_mapping.specs.Packing.{bits_for, frame_bits, takes, with_bits}
+use Rattle.co_mapping.specs.Packing.{after_entries, bits_for, frame_bits, takes, with_bits}
 use Rattle.co_parts.specs.Contents.{Image, shape_of}
 use Rattle.co_parts.specs.declared.part.Part.TheVariants.{Shape}
 use Rattle.co_pdos.specs.declared.receipt.Receipt.{Receipt}
@@ -24,7 +24,7 @@ use Rattle.device_pdos.specs.Rpdos.{mapping_of_rpdo, receipt_of, rpdo_at, with_k
 use Rattle.device_pdos.specs.declared.rpdo_state.RpdoState.{RpdoState}
 use Rattle.device_pdos.specs.declared.tpdo_state.TpdoState.{TpdoState}
 use Rattle.co_device.specs.Device.{Device, after_own_write, after_write, after_wrote, answer_frames, consumer_written, error_control, heartbeat_started, is_addressed, is_error_control, is_in, is_producer_time, nmt_service, sdo_request, was_set, with_emergency, without_error}
-use Rattle.co_device.specs.Receiving.{applied, entries_taken, entry_taken, kept_applied, pdo_received, places, received, rpdo_received, rpdo_synced, sync_received, taken_by}
+use Rattle.co_device.specs.Receiving.{applied, entry_taken, kept_applied, pdo_received, places, received, rpdo_received, rpdo_synced, sync_received, taken_by}
 use Rattle.co_device.specs.declared.nmt_state.NmtState.TheVariants.{Operational, Stopped}
 use Rattle.device_laws.proofs.CaseLemmas.{one_of, picked, turned, walk_keeps}
 
@@ -97,7 +97,8 @@ module _ (t : ℕ) (P : Device → Type 0) (k : IsKept t P) where
   entry_kept shape entry bits d h =
       one_of P (takes shape entry bits d.values) _ d (write_kept shape (mapped_place entry) _ (with_values d (with_bits shape entry bits d.values) h)) h
 
-  entries_kept : (shape : Shaped) (position : ℕ) (mapping bits : List ℕ) (d : Device) → P d → P (entries_taken t shape position mapping bits d)
+  entries_kept : (shape : Shaped) (position : ℕ) (mapping bits : List ℕ) (d : Device) → P d
+      → P (after_entries (entry_taken t shape) position mapping bits d)
   entries_kept shape position [] bits d h = h
   entries_kept shape position (entry ∷ mapping) bits d h =
       entries_kept shape (position + mapped_length entry) mapping bits _ (entry_kept shape entry (bits_for entry position bits) d h)

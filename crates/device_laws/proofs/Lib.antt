@@ -8,3 +8,5 @@ pub mod ResetLemmas
 pub mod RestLemmas
 pub mod StateLemmas
 pub mod DeafLemmas
+pub mod AppliedLemmas
+pub mod FailureLemmas

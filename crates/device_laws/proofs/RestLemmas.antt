@@ -10,8 +10,8 @@ use Rattle.device_pdos.specs.Tpdos as tpdos
 use Rattle.device_pdos.specs.Tpdos.{tpdos_freed, tpdos_looked, with_tpdos}
 use Rattle.device_pdos.specs.declared.tpdo_state.TpdoState.{TpdoState}
 use Rattle.device_pdos.proofs.LaterLemmas.{all_freed_later, looked_later}
-use Rattle.device_pdos.proofs.LookLemmas.{all_both, all_parts, quiet_freed, quiet_tpdos, quiet_waiting}
-use Rattle.device_pdos.proofs.RestLemmas.{all_rest}
+use Rattle.device_pdos.proofs.LookLemmas.{all_both, all_parts, quiet_freed}
+use Rattle.device_pdos.proofs.RestLemmas.{none_wanted, nothing_sent, tpdos_rest}
 use Rattle.co_device.specs.Device.{Device, is_in, moments, ran, timers, tpdos_run}
 use Rattle.co_device.specs.declared.nmt_state.NmtState.TheVariants.{Operational}
 use Rattle.device_laws.specs.Ahead.{AreAhead, IsAhead, NotBefore}
@@ -59,7 +59,7 @@ looked_rests : (t : ℕ) (d : Device) → Rests (tpdos_run t d)
 unfolding tpdos_run
 looked_rests t d =
     either Rests (is_in Operational d) _ _
-    (λ e. record { unsynced = refl; unwanted = λ f u h. all_rest t u d.synced d.values d.tpdos h })
+    (λ e. record { unsynced = refl; unwanted = λ f. none_wanted t d.synced d.values d.tpdos })
     (λ e. record { unsynced = refl; unwanted = λ f. not_both (is_in Operational d) e f })
 
 pub ran_rests : (t : ℕ) (d : Device) → Rests (ran t d)
@@ -85,10 +85,10 @@ module _ (u : ℕ) (d : Device) (rests : Rests d) where
   looked_quiet : is_in Operational d ≡ true → LieAfter u (tpdos.moments true d.tpdos)
       → record d { synced = false; tpdos = tpdos_looked u d.synced d.values d.tpdos; waiting = with_tpdos u d.synced d.values d.tpdos d.waiting } ≡ d
   looked_quiet e h =
-      let unsent = rests.unwanted e u h in
+      let unwanted = rests.unwanted e in
       equal d false _ _ (sym rests.unsynced)
-      (ap (λ (x : Bool). tpdos_looked u x d.values d.tpdos) rests.unsynced ∙ quiet_tpdos u d.values d.tpdos unsent h)
-      (ap (λ (x : Bool). with_tpdos u x d.values d.tpdos d.waiting) rests.unsynced ∙ quiet_waiting u d.values d.tpdos d.waiting unsent)
+      (ap (λ (x : Bool). tpdos_looked u x d.values d.tpdos) rests.unsynced ∙ tpdos_rest u d.values d.tpdos unwanted h)
+      (ap (λ (x : Bool). with_tpdos u x d.values d.tpdos d.waiting) rests.unsynced ∙ nothing_sent u d.values d.tpdos d.waiting unwanted h)
 
   freed_quiet : LieAfter u (tpdos.moments false d.tpdos) → record d { synced = false; tpdos = tpdos_freed u d.tpdos } ≡ d
   freed_quiet h = equal d false (tpdos_freed u d.tpdos) d.waiting (sym rests.unsynced) (quiet_freed u d.tpdos h) refl

@@ -195,6 +195,11 @@ module _ (image : Image) (t : ℕ) where
   unfolding sdo_request
   nothing_read request d asleep = rw asleep refl
 
+  pub request_reads : (request : List ℕ) (d : Device) → is_in Stopped d ≡ false
+      → reads (sdo_request t request d) image ≡ (Shape d.number, image (Shape d.number)) ∷ []
+  unfolding sdo_request
+  request_reads request d on = rw on refl
+
   -- what is the same device in Stopped, and keeps the state else
   silent_by : (d e : Device) (b : Bool) → is_in Stopped d ≡ b → (is_in Stopped d ≡ true → e ≡ d) → e.state ≡ d.state → IsSilent d → IsSilent e
   silent_by d e true s same state h = rw (same s) h

@@ -1,22 +1,12 @@
 -- Frames that are nothing to a device.
-use Rattle.std.specs.Prelude.{◌≡◌, ◌⊎◌, ℕ, ◌==◌, nat_le, Bool, true, false, Option, Some, None}
+use Rattle.std.specs.Prelude.{◌≡◌, ◌⊎◌, ◌==◌, true, false, None}
 use Rattle.std.specs.List.{AllByRecursion}
 use Rattle.can_frame.specs.Frames.{BaseFrame}
 use Rattle.can_frame.specs.Identifiers.{nmt_id}
 use Rattle.co_device.specs.Device.{Device}
 use Rattle.co_device.specs.Receiving.{ignored}
-use Rattle.co_pdos.specs.declared.configuration.Configuration.{Configuration}
 use Rattle.co_profile.specs.Profile.{sync_identifier}
-
--- the types 0 to 240
-abbrev pub is_synchronous : Option ℕ → Bool
-is_synchronous None = false
-is_synchronous (Some kind) = nat_le kind 240
-
--- a TPDO that works goes by SYNC where its type is synchronous
-abbrev pub goes_by_sync : Option Configuration → Bool
-goes_by_sync None = false
-goes_by_sync (Some c) = is_synchronous c.communication.kind
+use Rattle.device_pdos.specs.Tpdos.{goes_by_sync}
 
 -- no RPDO keeps a frame for the next SYNC, and no TPDO goes by it
 pub record AwaitsNoSync (d : Device) : Type 0 where

@@ -1,12 +1,12 @@
 -- A device at rest.
-use Rattle.std.specs.Prelude.{◌≡◌, ℕ, ◌<◌, true, false, None}
+use Rattle.std.specs.Prelude.{◌≡◌, true, false}
 use Rattle.std.specs.List.{AllByRecursion}
-use Rattle.device_pdos.specs.Tpdos.{frame_sent, moments}
+use Rattle.device_pdos.specs.Tpdos.{is_wanted}
 use Rattle.co_device.specs.Device.{Device, is_in}
 use Rattle.co_device.specs.declared.nmt_state.NmtState.TheVariants.{Operational}
 
--- no SYNC is left, and no TPDO is wanted: in Operational none is sent before a moment of theirs comes
+-- no SYNC is left, and in Operational no TPDO is wanted: an event-driven one is inhibited, or has the bytes that it
+-- sent last
 pub record Rests (d : Device) : Type 0 where
   pub unsynced : d.synced ≡ false
-  pub unwanted : is_in Operational d ≡ true → (u : ℕ) → AllByRecursion (λ m. u < m) (moments true d.tpdos)
-      → AllByRecursion (λ p. frame_sent u false d.values p ≡ None) d.tpdos
+  pub unwanted : is_in Operational d ≡ true → AllByRecursion (λ p. is_wanted d.values p ≡ false) d.tpdos

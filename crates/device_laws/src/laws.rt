@@ -12,10 +12,15 @@ ghost use Rattle.co_dict.specs.Places.{place_cmp};
 ghost use Rattle.co_parts.specs.Contents.{Image, shape_of, values_of};
 ghost use Rattle.co_profile.specs.Consumers.{failures};
 ghost use Rattle.co_profile.specs.Profile.{error_set, next_heartbeat};
+ghost use Rattle.co_sdo.specs.Frames.{command};
 ghost use Rattle.co_sdo.specs.Server.{answered};
-ghost use Rattle.device_pdos.specs.Rpdos.{receipt_of, rpdo_at};
-ghost use Rattle.co_device.specs.Device.{Device, consumers_run, enter_pre_operational, is_in, moments, next_due, powered, ran, reset_communication, reset_node, sdo_request, stop_remote_node, timers, was_set, without_power};
-ghost use Rattle.co_device.specs.Receiving.{ignored, pdo_received, received, rpdo_received, sync_received};
+ghost use Rattle.co_mapping.specs.Packing.{unpacked};
+ghost use Rattle.device_pdos.specs.Rpdos.{mapping_of_rpdo, receipt_of, rpdo_at};
+ghost use Rattle.co_device.specs.Device.{Device, consumers_run, enter_pre_operational, is_in, moments, next_due};
+ghost use Rattle.co_device.specs.Device.{powered, ran, reset_communication, reset_node, sdo_request};
+ghost use Rattle.co_device.specs.Device.{stop_remote_node, timers, was_set, with_emergencies, with_emergency};
+ghost use Rattle.co_device.specs.Device.{without_power};
+ghost use Rattle.co_device.specs.Receiving.{ignored, pdo_received, received, rpdo_received, rpdo_synced, sync_received};
 ghost use Rattle.device_laws.specs.Ahead.{IsAhead, IsOwnPart};
 ghost use Rattle.device_laws.specs.Deaf.{IsDeafTo};
 ghost use Rattle.device_laws.specs.Rest.{Rests};
@@ -24,6 +29,7 @@ ghost use Rattle.device_laws.specs.States.{HasBooted, HasNoPdo, IsDark, IsSilent
 use co_device::NmtState;
 use co_parts::Part;
 use co_pdos::Receipt;
+use co_sdo::transfer::Transfer;
 
 /// Before the next moment of its timers nothing happens to a device of itself by them.
 #[tactic(auto, using(crate::proofs::AheadLemmas::quiet))]
@@ -140,6 +146,20 @@ pub fn a_stopped_server_takes_nothing()
     ensures unread { (image : Image) (t : ℕ) (request : List ℕ) (d : Device) → is_in NmtState.Stopped d ≡ true → reads (sdo_request t request d) image ≡ [] }
 {}
 
+/// An abort of the client drops the open transfer and changes nothing else, whatever entries the device has.
+#[tactic(auto, using(co_device::proofs::AbortLemmas::abort_leaves))]
+pub fn an_abort_of_the_client_drops_the_transfer()
+    ensures { (image : Image) (t : ℕ) (request : List ℕ) (d : Device) → is_in NmtState.Stopped d ≡ false
+        → command request ≡ 0x80 → outcome (sdo_request t request d) image ≡ record d { transfer = Transfer.Idle } }
+{}
+
+/// A server that isn't stopped reads the device's entries once for each request, an abort too.
+#[tactic(auto, using(crate::proofs::StateLemmas::request_reads))]
+pub fn a_request_reads_the_entries_once()
+    ensures { (image : Image) (t : ℕ) (request : List ℕ) (d : Device) → is_in NmtState.Stopped d ≡ false
+        → reads (sdo_request t request d) image ≡ (Part.Shape d.number, image (Part.Shape d.number)) ∷ [] }
+{}
+
 /// Reset node gives every entry its value by the EDS. Reset communication does so for 1000h to 1FFFh,
 /// and leaves all others.
 #[tactic(auto, using(crate::proofs::ResetLemmas::node_values, crate::proofs::ResetLemmas::communication_values))]
@@ -193,6 +213,31 @@ pub fn what_a_failure_brings_about()
     ensures left { (t : ℕ) (d : Device) → nat_lt 0 (failures t d.consumers) ≡ true → is_in NmtState.Operational (consumers_run t d) ≡ false }
     ensures stopped { (t : ℕ) (d : Device) → is_in NmtState.Stopped d ≡ true → nat_lt 0 (failures t d.consumers) ≡ true
         → ((consumers_run t d).waiting ≡ d.waiting) × ((consumers_run t d).values ≡ error_set d.learnt d.values) }
+{}
+
+/// Consumers that fail at one moment are told one by one: one more emergency object waits for each.
+#[tactic(auto, using(crate::proofs::FailureLemmas::none_told, crate::proofs::FailureLemmas::one_more_told))]
+pub fn failures_are_told_one_by_one()
+    ensures none { (code : ℕ) (d : Device) → with_emergencies 0 code d ≡ d }
+    ensures one_more { (count code : ℕ) (d : Device)
+        → with_emergencies (count + 1) code d ≡ with_emergency code (with_emergencies count code d) }
+{}
+
+/// An RPDO that applies a frame, at once or at a SYNC, leaves the values that are unpacked of it by its mapping
+/// at every entry but the error register, 1001h:00, whose error bits the write of a consumer heartbeat time may
+/// clear.
+#[tactic(auto, using(crate::proofs::AppliedLemmas::what_is_applied))]
+pub fn an_rpdo_unpacks_what_it_applies()
+    ensures at_once { (image : Image) (t : ℕ) (frame : BaseFrame) (i : ℕ) (d : Device) (place : ℕ × ℕ)
+        → receipt_of frame (rpdo_at d.rpdos i).configuration ≡ Receipt.AtOnce → place ≢ (0x1001, 0)
+        → map.get (outcome (rpdo_received t frame i d) image).values place
+        ≡ (let mapping = mapping_of_rpdo (rpdo_at d.rpdos i).configuration in
+        map.get (unpacked (shape_of (image (Part.Shape d.number))) mapping frame.bytes d.values) place) }
+    ensures at_sync { (image : Image) (t : ℕ) (frame : BaseFrame) (i : ℕ) (d : Device) (place : ℕ × ℕ)
+        → (rpdo_at d.rpdos i).kept ≡ Some frame → place ≢ (0x1001, 0)
+        → map.get (outcome (rpdo_synced t i d) image).values place
+        ≡ (let mapping = mapping_of_rpdo (rpdo_at d.rpdos i).configuration in
+        map.get (unpacked (shape_of (image (Part.Shape d.number))) mapping frame.bytes d.values) place) }
 {}
 
 /// An RPDO that keeps a frame reads nothing; one that applies it reads the device's entries once.

@@ -1,103 +1,100 @@
 -- What a look at a TPDO leaves as it is.
-use Rattle.std.proofs.Common.{◌≡◌, ℕ, ◌==◌, ◌<◌, ◌≤◌, Bool, true, false, List, [], ◌∷◌, ◌++◌, Option, Some, None, refl, ap, ◌∙◌, arith}
-use Rattle.std.specs.Prelude.{if◌then◌else◌, nat_le}
+use Rattle.std.proofs.Common.{◌≡◌, ℕ, ◌<◌, Bool, true, false, List, [], ◌∷◌, ◌++◌, Option, Some, None, refl, sym, ap, ◌∙◌}
 use Rattle.std.specs.List.{AllByRecursion}
-use Rattle.std.proofs.lemmas.Bool.Decides.{nat_tests}
+use Rattle.std.specs.Option.{option_map_or}
+use Rattle.can_frame.specs.Frames.{BaseFrame}
 use Rattle.can_frame.specs.declared.waiting.Waiting.{Waiting}
 use Rattle.co_dict.specs.Values.{Values}
 use Rattle.co_parts.specs.Moments.{moments_of}
 use Rattle.co_pdos.specs.declared.communication.Communication.{Communication}
 use Rattle.co_pdos.specs.declared.configuration.Configuration.{Configuration}
-use Rattle.co_pdos.specs.Tpdo.{Remembered, after_change, after_event, after_nth, inhibit_over, is_sent, is_sent_at_change, is_sent_at_event, is_sent_at_nth, is_sent_by_type, looked_at_by_type}
-use Rattle.co_pdos.proofs.TpdoLemmas.{not_sent, stays}
-use Rattle.device_pdos.specs.Tpdos.{bytes_now, due_of, frame_if, frame_sent, freed, looked, looked_by, moments, sent_by, tpdo_moment, tpdos_freed, tpdos_looked, waits_for_event, with_frame, with_tpdos}
+use Rattle.co_pdos.specs.declared.transmission_type.TransmissionType.{TransmissionType}
+use Rattle.co_pdos.specs.declared.transmission_type.TransmissionType.TheVariants.{Acyclic, Cyclic, EventDriven, Reserved}
+use Rattle.co_pdos.specs.Tpdo.{Remembered, Turn, acyclic_turn, cyclic_turn, inhibit_over, turn_by_type, unsent}
+use Rattle.co_pdos.specs.TransmissionTypes.{is_event_driven, is_synchronous}
+use Rattle.co_pdos.proofs.TpdoLemmas.{event_is_sent, event_unsent, held_by_type, still_held}
+use Rattle.device_pdos.specs.Tpdos.{bytes_now, due_of, frame_if, frame_sent, freed, goes_by_sync, looked, moments, tpdo_moment, tpdos_freed, tpdos_looked, turn, waits_for_event, with_frame, with_tpdos}
 use Rattle.device_pdos.specs.declared.tpdo_state.TpdoState.{TpdoState}
+
+-- what is told of a turn: what is remembered, and the frame
+abbrev pub told : ℕ → List ℕ → Turn → Remembered × Option BaseFrame
+told id bytes own = (own.remembered, frame_if own.is_sent id bytes)
 
 -- ---- one that isn't sent without a SYNC
 
-pub unchanged : (bytes : List ℕ) (r : Remembered) → after_change false bytes r ≡ r
-unfolding after_change is_sent_at_change
-unchanged bytes r = refl
-
-pub uncounted : (n : ℕ) (bytes : List ℕ) (r : Remembered) → after_nth n false bytes r ≡ r
-unfolding after_nth
-uncounted n bytes r = refl
-
-no_event : (c : Communication) (t : ℕ) (bytes : List ℕ) (r : Remembered) → is_sent_at_event t bytes r ≡ false → after_event c t bytes r ≡ r
-unfolding after_event
-no_event c t bytes r e = rw e refl
-
-unsent_stays : (kind : Option ℕ) (c : Communication) (t : ℕ) (bytes : List ℕ) (r : Remembered) → is_sent_by_type kind false t bytes r ≡ false → looked_at_by_type kind c false t bytes r ≡ r
-unfolding is_sent_by_type looked_at_by_type
+unsent_stays : (transmission : Option TransmissionType) (c : Communication) (t : ℕ) (bytes : List ℕ) (r : Remembered)
+    → (turn_by_type transmission c false t bytes r).is_sent ≡ false → turn_by_type transmission c false t bytes r ≡ unsent r
+unfolding turn_by_type acyclic_turn cyclic_turn
 unsent_stays None c t bytes r e = refl
-unsent_stays (Some kind) c t bytes r e = by (kind == 0) (nat_le kind 240) (nat_le 254 kind) e
-  where
-    by : (zero cyclic event : Bool)
-        → (if zero then is_sent_at_change false bytes r else if cyclic then is_sent_at_nth kind false r else if event then is_sent_at_event t bytes r else false) ≡ false
-        → (if zero then after_change false bytes r else if cyclic then after_nth kind false bytes r else if event then after_event c t bytes r else r) ≡ r
-    by true cyclic event h = unchanged bytes r
-    by false true event h = uncounted kind bytes r
-    by false false true h = no_event c t bytes r h
-    by false false false h = refl
+unsent_stays (Some Acyclic) c t bytes r e = refl
+unsent_stays (Some (Cyclic n)) c t bytes r e = refl
+unsent_stays (Some Reserved) c t bytes r e = refl
+unsent_stays (Some EventDriven) c t bytes r e = event_unsent c t bytes r (sym (event_is_sent c t bytes r) ∙ e)
 
-not_if : (sent : Bool) (id : ℕ) (bytes : List ℕ) → frame_if sent id bytes ≡ None → sent ≡ false
+not_if : (is_sent : Bool) (id : ℕ) (bytes : List ℕ) → frame_if is_sent id bytes ≡ None → is_sent ≡ false
 not_if true id bytes e = absurd cc
 not_if false id bytes e = refl
 
-by_configuration : (configuration : Option Configuration) (t : ℕ) (values : Values) (r : Remembered) → sent_by configuration t false values r ≡ None → looked_by configuration t false values r ≡ r
-unfolding sent_by
+by_configuration : (configuration : Option Configuration) (t : ℕ) (values : Values) (r : Remembered) → (turn configuration t false values r).1 ≡ None
+    → (turn configuration t false values r).0 ≡ inhibit_over t r
+unfolding turn
 by_configuration None t values r e = refl
 by_configuration (Some c) t values r e =
-    let bytes : List ℕ = bytes_now values c in
-    unsent_stays c.communication.kind c.communication t bytes r (not_if (is_sent c.communication false t bytes r) c.identifier bytes e)
+    ap (λ (own : Turn). own.remembered) (unsent_stays c.communication.transmission_type c.communication t (bytes_now values c) (inhibit_over t r) (not_if _ c.identifier (bytes_now values c) e))
 
 unsent_kept : (t : ℕ) (values : Values) (p : TpdoState) → frame_sent t false values p ≡ None → looked t false values p ≡ freed t p
-unsent_kept t values p e = ap (λ (r : Remembered). record p { remembered = r }) (by_configuration p.configuration t values (inhibit_over t p.remembered) e)
+unsent_kept t values p e = ap (λ (r : Remembered). record p { remembered = r }) (by_configuration p.configuration t values p.remembered e)
 
 -- ---- the synchronous types
 
-silent : (kind t : ℕ) (bytes : List ℕ) (r : Remembered) → kind ≤ 240 → is_sent_by_type (Some kind) false t bytes r ≡ false
-unfolding is_sent_by_type is_sent_at_change is_sent_at_nth
-silent kind t bytes r low = rw (cyclic kind low) (by (kind == 0))
-  where
-    cyclic : (n : ℕ) → n ≤ 240 → nat_le n 240 ≡ true
-    cyclic n h = grind (arith, nat_tests)
+silent : (transmission : Option TransmissionType) (c : Communication) (t : ℕ) (bytes : List ℕ) (r : Remembered) → option_map_or is_synchronous transmission false ≡ true
+    → turn_by_type transmission c false t bytes r ≡ unsent r
+unfolding turn_by_type acyclic_turn cyclic_turn
+silent None c t bytes r e = absurd cc
+silent (Some Acyclic) c t bytes r e = refl
+silent (Some (Cyclic n)) c t bytes r e = refl
+silent (Some Reserved) c t bytes r e = absurd cc
+silent (Some EventDriven) c t bytes r e = absurd cc
 
-    by : (zero : Bool) → (if zero then false else false) ≡ false
-    by true = refl
-    by false = refl
+without_sync : (configuration : Option Configuration) (t : ℕ) (values : Values) (r : Remembered) → goes_by_sync configuration ≡ true → (turn configuration t false values r).1 ≡ None
+unfolding turn
+without_sync None t values r e = absurd cc
+without_sync (Some c) t values r e =
+    ap (λ (own : Turn). (told c.identifier (bytes_now values c) own).1) (silent c.communication.transmission_type c.communication t (bytes_now values c) (inhibit_over t r) e)
 
-module _ (t kind : ℕ) (values : Values) (p : TpdoState) (c : Configuration) (is : p.configuration ≡ Some c) (type : c.communication.kind ≡ Some kind) where
-  pub unsent_without_sync : kind ≤ 240 → frame_sent t false values p ≡ None
-  unfolding sent_by
-  unsent_without_sync low =
-      let bytes : List ℕ = bytes_now values c in
-      let r : Remembered = inhibit_over t p.remembered in
-      let unsent : is_sent c.communication false t bytes r ≡ false = ap (λ k. is_sent_by_type k false t bytes r) type ∙ silent kind t bytes r low in
-      rw (is, unsent) refl
+module _ (t : ℕ) (values : Values) (p : TpdoState) (synchronous : goes_by_sync p.configuration ≡ true) where
+  pub unsent_without_sync : frame_sent t false values p ≡ None
+  unsent_without_sync = without_sync p.configuration t values p.remembered synchronous
 
-  pub kept_without_sync : kind ≤ 240 → looked t false values p ≡ freed t p
-  kept_without_sync low = unsent_kept t values p (unsent_without_sync low)
+  pub kept_without_sync : looked t false values p ≡ freed t p
+  kept_without_sync = unsent_kept t values p unsent_without_sync
 
 -- ---- the inhibit moment
 
-not_come : (t m : ℕ) → t < m → nat_le m t ≡ false
-not_come t m h = grind (arith, nat_tests)
+held_type : (transmission : Option TransmissionType) (c : Communication) (at_sync : Bool) (t m : ℕ) (bytes : List ℕ) (r : Remembered)
+    → option_map_or is_event_driven transmission false ≡ true → r.inhibit ≡ Some m → t < m → turn_by_type transmission c at_sync t bytes r ≡ unsent r
+held_type None c at_sync t m bytes r event e h = absurd cc
+held_type (Some Acyclic) c at_sync t m bytes r event e h = absurd cc
+held_type (Some (Cyclic n)) c at_sync t m bytes r event e h = absurd cc
+held_type (Some Reserved) c at_sync t m bytes r event e h = absurd cc
+held_type (Some EventDriven) c at_sync t m bytes r event e h = held_by_type c at_sync t m bytes r e h
 
-still_held : (t m : ℕ) (r : Remembered) → r.inhibit ≡ Some m → t < m → inhibit_over t r ≡ r
-unfolding inhibit_over
-still_held t m r e h = rw (e, not_come t m h) refl
+held_turn : (configuration : Option Configuration) (at_sync : Bool) (t m : ℕ) (values : Values) (r : Remembered) → waits_for_event configuration ≡ true
+    → r.inhibit ≡ Some m → t < m → ◌≡◌ {A = Remembered × Option BaseFrame} (turn configuration t at_sync values r) (r, None)
+unfolding turn
+held_turn None at_sync t m values r event e h = absurd cc
+held_turn (Some c) at_sync t m values r event e h =
+    let bytes : List ℕ = bytes_now values c in
+    ap (λ (s : Remembered). told c.identifier bytes (turn_by_type c.communication.transmission_type c.communication at_sync t bytes s)) (still_held t m r e h)
+    ∙ ap (told c.identifier bytes) (held_type c.communication.transmission_type c.communication at_sync t m bytes r event e h)
 
-module _ (t m kind : ℕ) (at_sync : Bool) (values : Values) (p : TpdoState) (c : Configuration) (is : p.configuration ≡ Some c) (type : c.communication.kind ≡ Some kind)
-    (event : 254 ≤ kind) (held : p.remembered.inhibit ≡ Some m) (ahead : t < m) where
+module _ (t m : ℕ) (at_sync : Bool) (values : Values) (p : TpdoState) (event : waits_for_event p.configuration ≡ true) (held : p.remembered.inhibit ≡ Some m) (ahead : t < m) where
   pub unsent_while_inhibited : frame_sent t at_sync values p ≡ None
-  unfolding sent_by
-  unsent_while_inhibited =
-      rw (is, still_held t m p.remembered held ahead, not_sent c.communication kind at_sync t m (bytes_now values c) p.remembered type event held ahead) refl
+  unsent_while_inhibited = ap (λ (own : Remembered × Option BaseFrame). own.1) (held_turn p.configuration at_sync t m values p.remembered event held ahead)
 
   pub kept_while_inhibited : looked t at_sync values p ≡ p
   kept_while_inhibited =
-      rw (is, still_held t m p.remembered held ahead, stays c.communication kind at_sync t m (bytes_now values c) p.remembered type event held ahead) refl
+      ap (λ (own : Remembered × Option BaseFrame). record p { remembered = own.0 }) (held_turn p.configuration at_sync t m values p.remembered event held ahead)
 
 -- ---- between moments
 

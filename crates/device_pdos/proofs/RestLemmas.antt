@@ -1,19 +1,24 @@
 -- What a look at a TPDO leaves for later: nothing before its next moment.
-use Rattle.std.proofs.Common.{◌≡◌, ℕ, ◌==◌, ◌<◌, Bool, true, false, List, [], ◌∷◌, Option, Some, None, refl, ap, ◌∙◌, arith}
-use Rattle.std.specs.Prelude.{if◌then◌else◌, nat_le, nat_lt, not, ◌&&◌, ◌||◌}
+use Rattle.std.proofs.Common.{◌≡◌, ℕ, ◌<◌, Bool, true, false, List, [], ◌∷◌, Option, Some, None, refl, ap, ◌∙◌, arith}
+use Rattle.std.specs.Prelude.{is_none, nat_le, nat_lt, not, ◌&&◌, ◌||◌}
+use Rattle.std.specs.Option.{option_map_or}
 use Rattle.std.specs.Str.{bytes_eq}
 use Rattle.std.specs.List.{AllByRecursion}
 use Rattle.std.proofs.lemmas.Bool.Decides.{nat_tests}
 use Rattle.std.proofs.lemmas.Slice.Eq.{bytes_eq-Decides}
+use Rattle.can_frame.specs.declared.waiting.Waiting.{Waiting}
 use Rattle.co_dict.specs.Values.{Values}
 use Rattle.co_parts.specs.Moments.{moments_of}
 use Rattle.co_pdos.specs.declared.communication.Communication.{Communication}
 use Rattle.co_pdos.specs.declared.configuration.Configuration.{Configuration}
-use Rattle.co_pdos.specs.Tpdo.{Remembered, after_change, after_event, after_nth, differs, has_come, inhibit_over, is_ahead, is_sent_at_change, is_sent_at_event, is_sent_at_nth, is_sent_by_type, looked_at, looked_at_by_type}
-use Rattle.device_pdos.proofs.LookLemmas.{Ahead, all_parts, held_ahead, quiet_tpdos, quiet_waiting}
-use Rattle.can_frame.specs.declared.waiting.Waiting.{Waiting}
-use Rattle.device_pdos.specs.Tpdos.{bytes_now, due_of, frame_if, frame_sent, is_event_driven, looked, looked_by, moments, sent_by, tpdo_moment, tpdos_looked, waits_for_event, with_tpdos}
+use Rattle.co_pdos.specs.declared.transmission_type.TransmissionType.{TransmissionType}
+use Rattle.co_pdos.specs.declared.transmission_type.TransmissionType.TheVariants.{Acyclic, Cyclic, EventDriven, Reserved}
+use Rattle.co_pdos.specs.Tpdo.{Remembered, acyclic_turn, cyclic_turn, differs, event_turn, has_come, inhibit_over, is_ahead, turn_by_type}
+use Rattle.co_pdos.specs.TransmissionTypes.{is_event_driven}
+use Rattle.co_pdos.proofs.TpdoLemmas.{event_is_sent, event_sent, event_unsent, is_wanted_at, moments_set}
+use Rattle.device_pdos.specs.Tpdos.{bytes_now, due_of, frame_if, frame_sent, is_wanted, is_wanted_by, moments, tpdo_moment, tpdos_looked, turn, waits_for_event, with_tpdos}
 use Rattle.device_pdos.specs.declared.tpdo_state.TpdoState.{TpdoState}
+use Rattle.device_pdos.proofs.LookLemmas.{Ahead, all_parts, held_ahead, quiet_tpdos, quiet_waiting}
 
 test_ahead : (u m : ℕ) → u < m → nat_lt u m ≡ true
 test_ahead u m h = grind (arith, nat_tests)
@@ -31,93 +36,114 @@ neither held differ come h d c = rw (h, d, c) refl
 held_back : (held differ come : Bool) → held ≡ true → (not held && (differ || come)) ≡ false
 held_back held differ come h = rw h refl
 
--- an event-driven TPDO with these moments, whose bytes don't differ unless it is inhibited
-unsent : (u : ℕ) (bytes : List ℕ) (r : Remembered) → Ahead u true r → (r.inhibit ≡ None → differs bytes r ≡ false) → is_sent_at_event u bytes r ≡ false
-unfolding is_sent_at_event
-unsent u bytes r ahead same = by r.inhibit refl ahead
+-- ---- an event-driven one that isn't wanted isn't sent before its moment
+
+not_different : (inhibit : Option ℕ) (differ : Bool) → (is_none inhibit && differ) ≡ false → inhibit ≡ None → differ ≡ false
+not_different None differ h e = h
+not_different (Some m) differ h e = absurd cc
+
+unwanted_unsent : (u : ℕ) (bytes : List ℕ) (r : Remembered) → Ahead u true r → (is_none r.inhibit && differs bytes r) ≡ false → is_wanted_at u bytes r ≡ false
+unwanted_unsent u bytes r ahead unwanted = by r.inhibit refl ahead
   where
-    by : (inhibit : Option ℕ) → r.inhibit ≡ inhibit → AllByRecursion (λ m. u < m) (moments_of (due_of true inhibit r.event))
-        → (not (is_ahead u r.inhibit) && (differs bytes r || has_come u r.event)) ≡ false
-    by None e h = neither (is_ahead u r.inhibit) (differs bytes r) (has_come u r.event) (ap (is_ahead u) e) (same e) (event_not_come u r.event h)
+    by : (inhibit : Option ℕ) → r.inhibit ≡ inhibit → AllByRecursion (λ m. u < m) (moments_of (due_of true inhibit r.event)) → is_wanted_at u bytes r ≡ false
+    by None e h =
+        neither (is_ahead u r.inhibit) (differs bytes r) (has_come u r.event) (ap (is_ahead u) e) (not_different r.inhibit (differs bytes r) unwanted e) (event_not_come u r.event h)
     by (Some m) e h = held_back (is_ahead u r.inhibit) (differs bytes r) (has_come u r.event) (ap (is_ahead u) e ∙ test_ahead u m h.0)
 
--- ---- after a look
+-- ---- an event-driven one that had its turn isn't wanted
 
 same_bytes : (bytes : List ℕ) → bytes_eq bytes bytes ≡ true
 same_bytes bytes = (bytes_eq-Decides bytes bytes).1 refl
 
-not_different : (bytes : List ℕ) (r : Remembered) → r.last ≡ Some bytes → differs bytes r ≡ false
+last_is_now : (bytes : List ℕ) (r : Remembered) → differs bytes (record r { last = Some bytes }) ≡ false
 unfolding differs
-not_different bytes r e = rw (e, same_bytes bytes) refl
+last_is_now bytes r = rw same_bytes refl
 
 -- one that wasn't sent and isn't inhibited has the bytes that it had
-not_held : (held differ come : Bool) → (not held && (differ || come)) ≡ false → held ≡ false → differ ≡ false
-not_held true differ come e h = absurd cc
-not_held false true come e h = e
-not_held false false come e h = refl
+not_held : (inhibit : Option ℕ) (held differ come : Bool) → (not held && (differ || come)) ≡ false → (inhibit ≡ None → held ≡ false) → (is_none inhibit && differ) ≡ false
+not_held (Some m) held differ come e h = refl
+not_held None true differ come e h = absurd (let never = h refl in cc)
+not_held None false true come e h = e
+not_held None false false come e h = refl
 
-unsent_same : (t : ℕ) (bytes : List ℕ) (r : Remembered) → is_sent_at_event t bytes r ≡ false → r.inhibit ≡ None → differs bytes r ≡ false
-unfolding is_sent_at_event
-unsent_same t bytes r e none = not_held (is_ahead t r.inhibit) (differs bytes r) (has_come t r.event) e (ap (is_ahead t) none)
+nothing_differs : (inhibit : Option ℕ) (differ : Bool) → differ ≡ false → (is_none inhibit && differ) ≡ false
+nothing_differs None differ e = e
+nothing_differs (Some m) differ e = refl
 
-kept : (c : Communication) (t : ℕ) (bytes : List ℕ) (r : Remembered) (test : Bool) → is_sent_at_event t bytes r ≡ test
-    → (after_event c t bytes r).inhibit ≡ None → differs bytes (after_event c t bytes r) ≡ false
-unfolding after_event
-kept c t bytes r true e none = not_different bytes (after_event c t bytes r) (rw e refl)
-kept c t bytes r false e none = rw e (unsent_same t bytes r e (rw e at none))
+abbrev Unwanted : List ℕ → Remembered → Type 0
+Unwanted bytes r = (is_none r.inhibit && differs bytes r) ≡ false
 
--- what an event-driven TPDO remembers after a look
-after_look : (c : Communication) (t u : ℕ) (bytes : List ℕ) (r : Remembered) → Ahead u true (after_event c t bytes r) → is_sent_at_event u bytes (after_event c t bytes r) ≡ false
-after_look c t u bytes r ahead = unsent u bytes (after_event c t bytes r) ahead (kept c t bytes r (is_sent_at_event t bytes r) refl)
-
--- whatever the type
-rests_by_type : (kind : Option ℕ) (c : Communication) (at_sync : Bool) (t u : ℕ) (bytes : List ℕ) (r : Remembered) → Ahead u (is_event_driven kind) (looked_at_by_type kind c at_sync t bytes r)
-    → is_sent_by_type kind false u bytes (looked_at_by_type kind c at_sync t bytes r) ≡ false
-unfolding is_sent_by_type looked_at_by_type is_sent_at_change is_sent_at_nth
-rests_by_type None c at_sync t u bytes r ahead = refl
-rests_by_type (Some kind) c at_sync t u bytes r ahead = by (kind == 0) (nat_le kind 240) (nat_le 254 kind) ahead
+event_unwanted : (c : Communication) (t : ℕ) (bytes : List ℕ) (r : Remembered) → Unwanted bytes (event_turn c t bytes r).remembered
+event_unwanted c t bytes r = by (is_wanted_at t bytes r) refl
   where
-    after : Bool → Bool → Bool → Remembered
-    after zero cyclic event =
-        if zero then after_change at_sync bytes r else if cyclic then after_nth kind at_sync bytes r else if event then after_event c t bytes r else r
+    by : (test : Bool) → is_wanted_at t bytes r ≡ test → Unwanted bytes (event_turn c t bytes r).remembered
+    by true e =
+        let now : Remembered = moments_set c t r in
+        rw (event_sent c t bytes r e) (nothing_differs now.inhibit (differs bytes (record now { last = Some bytes })) (last_is_now bytes now))
+    by false e = rw (event_unsent c t bytes r e) (not_held r.inhibit (is_ahead t r.inhibit) (differs bytes r) (has_come t r.event) e (ap (is_ahead t)))
 
-    by : (zero cyclic event : Bool) → Ahead u event (after zero cyclic event)
-        → (if zero then is_sent_at_change false bytes (after zero cyclic event) else if cyclic then is_sent_at_nth kind false (after zero cyclic event)
-        else if event then is_sent_at_event u bytes (after zero cyclic event) else false) ≡ false
-    by true cyclic event h = refl
-    by false true event h = refl
-    by false false true h = after_look c t u bytes r h
-    by false false false h = refl
+-- ---- whatever the type
+
+-- one of a type that is event-driven isn't wanted
+abbrev Idle : Option TransmissionType → List ℕ → Remembered → Type 0
+Idle transmission bytes r = (option_map_or is_event_driven transmission false && is_none r.inhibit && differs bytes r) ≡ false
+
+looked_idle : (transmission : Option TransmissionType) (c : Communication) (at_sync : Bool) (t : ℕ) (bytes : List ℕ) (r : Remembered)
+    → Idle transmission bytes (turn_by_type transmission c at_sync t bytes r).remembered
+unfolding turn_by_type
+looked_idle None c at_sync t bytes r = refl
+looked_idle (Some Acyclic) c at_sync t bytes r = refl
+looked_idle (Some (Cyclic n)) c at_sync t bytes r = refl
+looked_idle (Some Reserved) c at_sync t bytes r = refl
+looked_idle (Some EventDriven) c at_sync t bytes r = event_unwanted c t bytes r
+
+idle_unsent : (transmission : Option TransmissionType) (c : Communication) (u : ℕ) (bytes : List ℕ) (r : Remembered) → Ahead u (option_map_or is_event_driven transmission false) r
+    → Idle transmission bytes r → (turn_by_type transmission c false u bytes r).is_sent ≡ false
+unfolding turn_by_type acyclic_turn cyclic_turn
+idle_unsent None c u bytes r ahead unwanted = refl
+idle_unsent (Some Acyclic) c u bytes r ahead unwanted = refl
+idle_unsent (Some (Cyclic n)) c u bytes r ahead unwanted = refl
+idle_unsent (Some Reserved) c u bytes r ahead unwanted = refl
+idle_unsent (Some EventDriven) c u bytes r ahead unwanted = event_is_sent c u bytes r ∙ unwanted_unsent u bytes r ahead unwanted
 
 -- ---- one TPDO, and all of a device
 
-unsent_by : (configuration : Option Configuration) (at_sync : Bool) (t u : ℕ) (values : Values) (r : Remembered) → Ahead u (waits_for_event configuration) (looked_by configuration t at_sync values r)
-    → sent_by configuration u false values (looked_by configuration t at_sync values r) ≡ None
-unfolding sent_by
-unsent_by None at_sync t u values r ahead = refl
-unsent_by (Some c) at_sync t u values r ahead =
+looked_unwanted : (configuration : Option Configuration) (at_sync : Bool) (t : ℕ) (values : Values) (r : Remembered)
+    → is_wanted_by configuration values (turn configuration t at_sync values r).0 ≡ false
+unfolding turn
+looked_unwanted None at_sync t values r = refl
+looked_unwanted (Some c) at_sync t values r = looked_idle c.communication.transmission_type c.communication at_sync t (bytes_now values c) (inhibit_over t r)
+
+unsent_by : (configuration : Option Configuration) (u : ℕ) (values : Values) (r : Remembered) → Ahead u (waits_for_event configuration) r → is_wanted_by configuration values r ≡ false
+    → (turn configuration u false values r).1 ≡ None
+unfolding turn
+unsent_by None u values r ahead unwanted = refl
+unsent_by (Some c) u values r ahead unwanted =
     let bytes : List ℕ = bytes_now values c in
-    let s : Remembered = looked_at c.communication at_sync t bytes r in
-    ap (λ test. frame_if test c.identifier bytes) (rests_by_type c.communication.kind c.communication at_sync t u bytes r ahead)
+    let transmission : Option TransmissionType = c.communication.transmission_type in
+    ap (λ (s : Remembered). frame_if (turn_by_type transmission c.communication false u bytes s).is_sent c.identifier bytes) (held_ahead u (waits_for_event (Some c)) r ahead)
+    ∙ ap (λ test. frame_if test c.identifier bytes) (idle_unsent transmission c.communication u bytes r ahead unwanted)
 
-one_rests : (t u : ℕ) (at_sync : Bool) (values : Values) (p : TpdoState) → AllByRecursion (λ m. u < m) (moments_of (tpdo_moment true (looked t at_sync values p)))
-    → frame_sent u false values (looked t at_sync values p) ≡ None
-one_rests t u at_sync values p ahead =
-    let s : Remembered = looked_by p.configuration t at_sync values (inhibit_over t p.remembered) in
-    ap (sent_by p.configuration u false values) (held_ahead u (waits_for_event p.configuration) s ahead)
-    ∙ unsent_by p.configuration at_sync t u values (inhibit_over t p.remembered) ahead
+pub none_wanted : (t : ℕ) (at_sync : Bool) (values : Values) (tpdos : List TpdoState) → AllByRecursion (λ p. is_wanted values p ≡ false) (tpdos_looked t at_sync values tpdos)
+unfolding tpdos_looked is_wanted
+none_wanted t at_sync values [] = tt
+none_wanted t at_sync values (p ∷ tpdos) = (looked_unwanted p.configuration at_sync t values p.remembered, none_wanted t at_sync values tpdos)
 
-pub all_rest : (t u : ℕ) (at_sync : Bool) (values : Values) (tpdos : List TpdoState) → AllByRecursion (λ m. u < m) (moments true (tpdos_looked t at_sync values tpdos))
-    → AllByRecursion (λ p. frame_sent u false values p ≡ None) (tpdos_looked t at_sync values tpdos)
-unfolding tpdos_looked
-all_rest t u at_sync values [] ahead = tt
-all_rest t u at_sync values (p ∷ tpdos) ahead =
-    let split = all_parts (λ m. u < m) (moments_of (tpdo_moment true (looked t at_sync values p))) (moments true (tpdos_looked t at_sync values tpdos)) ahead in
-    (one_rests t u at_sync values p split.0, all_rest t u at_sync values tpdos split.1)
+module _ (u : ℕ) (values : Values) where
+  pub none_sent : (tpdos : List TpdoState) → AllByRecursion (λ p. is_wanted values p ≡ false) tpdos → AllByRecursion (λ m. u < m) (moments true tpdos)
+      → AllByRecursion (λ p. frame_sent u false values p ≡ None) tpdos
+  unfolding is_wanted
+  none_sent [] unwanted ahead = tt
+  none_sent (p ∷ tpdos) unwanted ahead =
+      let split = all_parts (λ m. u < m) (moments_of (tpdo_moment true p)) (moments true tpdos) ahead in
+      (unsent_by p.configuration u values p.remembered split.0 unwanted.0, none_sent tpdos unwanted.1 split.1)
 
-module _ (t u : ℕ) (at_sync : Bool) (values : Values) (tpdos : List TpdoState) (ahead : AllByRecursion (λ m. u < m) (moments true (tpdos_looked t at_sync values tpdos))) where
-  pub tpdos_rest : tpdos_looked u false values (tpdos_looked t at_sync values tpdos) ≡ tpdos_looked t at_sync values tpdos
-  tpdos_rest = quiet_tpdos u values (tpdos_looked t at_sync values tpdos) (all_rest t u at_sync values tpdos ahead) ahead
+  pub tpdos_rest : (tpdos : List TpdoState) → AllByRecursion (λ p. is_wanted values p ≡ false) tpdos → AllByRecursion (λ m. u < m) (moments true tpdos)
+      → tpdos_looked u false values tpdos ≡ tpdos
+  tpdos_rest tpdos unwanted ahead = quiet_tpdos u values tpdos (none_sent tpdos unwanted ahead) ahead
 
-  pub nothing_sent : (frames : List Waiting) → with_tpdos u false values (tpdos_looked t at_sync values tpdos) frames ≡ frames
-  nothing_sent frames = quiet_waiting u values (tpdos_looked t at_sync values tpdos) frames (all_rest t u at_sync values tpdos ahead)
+  pub nothing_sent : (tpdos : List TpdoState) (frames : List Waiting) → AllByRecursion (λ p. is_wanted values p ≡ false) tpdos → AllByRecursion (λ m. u < m) (moments true tpdos)
+      → with_tpdos u false values tpdos frames ≡ frames
+  nothing_sent tpdos frames unwanted ahead = quiet_waiting u values tpdos frames (none_sent tpdos unwanted ahead)
+
+pub ruleset rests = (none_wanted, none_sent, tpdos_rest, nothing_sent)

@@ -55,7 +55,9 @@ with_kept rpdos i frame = slice_set rpdos i (record (rpdo_at rpdos i) { kept = f
 unfoldable pub receipt_of : BaseFrame → Option Configuration → Receipt
 receipt_of frame None = receipt.Ignored
 receipt_of frame (Some c) =
-    if c.identifier == frame.id then received c.communication.kind (bytes_begun (mapping_bits c.mapping)) (length frame.bytes) else receipt.Ignored
+    if c.identifier == frame.id
+    then received c.communication.transmission_type (bytes_begun (mapping_bits c.mapping)) (length frame.bytes)
+    else receipt.Ignored
 
 -- it works, and its frames have this identifier
 abbrev pub has_identifier : ℕ → Option Configuration → Bool

@@ -1,5 +1,7 @@
 -- The TPDOs of a device at a moment (CiA 301), by number.
-use Rattle.std.specs.Prelude.{ℕ, ◌==◌, ◌&&◌, nat_le, true, false, Bool, List, [], ◌∷◌, map, flat_map, take, Option, Some, None, if◌then◌else◌}
+use Rattle.std.specs.Prelude.{ℕ, ◌==◌, ◌&&◌, true, false, Bool, List, [], ◌∷◌, map, flat_map, take, Option, Some}
+use Rattle.std.specs.Prelude.{None, is_none, if◌then◌else◌}
+use Rattle.std.specs.Option.{option_map_or}
 use Rattle.can_frame.specs.Frames.{BaseFrame}
 use Rattle.can_frame.specs.WaitingFrames.{replaced}
 use Rattle.can_frame.specs.declared.purpose.Purpose.TheVariants as purpose
@@ -9,9 +11,12 @@ use Rattle.co_dict.specs.Values.{Values}
 use Rattle.co_mapping.specs.Packing.{packed}
 use Rattle.co_parts.specs.Moments.{moments_of}
 use Rattle.co_pdos.specs.Configured.{configuration_of}
-use Rattle.co_pdos.specs.Tpdo.{Remembered, forgotten, inhibit_over, is_sent, looked_at}
+use Rattle.co_pdos.specs.Tpdo.{Remembered, Turn, differs, forgotten, inhibit_over, turn_by_type}
+use Rattle.co_pdos.specs.TransmissionTypes.{is_event_driven, is_synchronous}
 use Rattle.co_pdos.specs.Working.{tpdo_object}
+use Rattle.co_pdos.specs.declared.communication.Communication.{Communication}
 use Rattle.co_pdos.specs.declared.configuration.Configuration.{Configuration}
+use Rattle.co_pdos.specs.declared.transmission_type.TransmissionType.{TransmissionType}
 use Rattle.device_pdos.specs.Objects.{number_of_object, numbers_of}
 use Rattle.device_pdos.specs.declared.tpdo_state.TpdoState.{TpdoState}
 
@@ -52,24 +57,25 @@ freed t p = record p { remembered = inhibit_over t p.remembered }
 unfoldable pub tpdos_freed : ℕ → List TpdoState → List TpdoState
 tpdos_freed t tpdos = map (freed t) tpdos
 
--- a TPDO that works is looked at, at a SYNC or not
-abbrev pub looked_by : Option Configuration → ℕ → Bool → Values → Remembered → Remembered
-looked_by None t at_sync values r = r
-looked_by (Some c) t at_sync values r = looked_at c.communication at_sync t (bytes_now values c) r
-
-abbrev pub looked : ℕ → Bool → Values → TpdoState → TpdoState
-looked t at_sync values p = record p { remembered = looked_by p.configuration t at_sync values (inhibit_over t p.remembered) }
-
 -- its frame, if it is sent
 abbrev pub frame_if : Bool → ℕ → List ℕ → Option BaseFrame
-frame_if sent id bytes = if sent then Some (record { id = id; bytes = bytes }) else None
+frame_if is_sent id bytes = if is_sent then Some (record { id = id; bytes = bytes }) else None
 
-unfoldable pub sent_by : Option Configuration → ℕ → Bool → Values → Remembered → Option BaseFrame
-sent_by None t at_sync values r = None
-sent_by (Some c) t at_sync values r = frame_if (is_sent c.communication at_sync t (bytes_now values c) r) c.identifier (bytes_now values c)
+-- THE TURN OF A TPDO at the moment t, at a SYNC or not, by what it goes by: what it remembers then, and its frame if it
+-- is sent
+unfoldable pub turn : Option Configuration → ℕ → Bool → Values → Remembered → Remembered × Option BaseFrame
+turn None t at_sync values r = (inhibit_over t r, None)
+turn (Some c) t at_sync values r =
+    let bytes : List ℕ = bytes_now values c in
+    let by : Communication = c.communication in
+    let own : Turn = turn_by_type by.transmission_type by at_sync t bytes (inhibit_over t r) in
+    (own.remembered, frame_if own.is_sent c.identifier bytes)
+
+abbrev pub looked : ℕ → Bool → Values → TpdoState → TpdoState
+looked t at_sync values p = record p { remembered = (turn p.configuration t at_sync values p.remembered).0 }
 
 abbrev pub frame_sent : ℕ → Bool → Values → TpdoState → Option BaseFrame
-frame_sent t at_sync values p = sent_by p.configuration t at_sync values (inhibit_over t p.remembered)
+frame_sent t at_sync values p = (turn p.configuration t at_sync values p.remembered).1
 
 -- it takes the place of a frame of the same TPDO that still waits
 abbrev pub with_frame : ℕ → Option BaseFrame → List Waiting → List Waiting
@@ -84,16 +90,28 @@ unfoldable pub with_tpdos : ℕ → Bool → Values → List TpdoState → List 
 with_tpdos t at_sync values [] frames = frames
 with_tpdos t at_sync values (p ∷ tpdos) frames = with_tpdos t at_sync values tpdos (with_frame p.number (frame_sent t at_sync values p) frames)
 
--- ---- the moment at which a TPDO is due
+-- ---- what a TPDO waits for
 
--- types 254 and 255
-abbrev pub is_event_driven : Option ℕ → Bool
-is_event_driven None = false
-is_event_driven (Some kind) = nat_le 254 kind
+-- it works, and is of such a transmission type
+abbrev pub has_type : (TransmissionType → Bool) → Option Configuration → Bool
+has_type is_type None = false
+has_type is_type (Some c) = option_map_or is_type c.communication.transmission_type false
+
+abbrev pub goes_by_sync : Option Configuration → Bool
+goes_by_sync configuration = has_type is_synchronous configuration
 
 abbrev pub waits_for_event : Option Configuration → Bool
-waits_for_event None = false
-waits_for_event (Some c) = is_event_driven c.communication.kind
+waits_for_event configuration = has_type is_event_driven configuration
+
+-- one that works, is event-driven and isn't inhibited is wanted where its bytes differ from those last queued
+abbrev pub is_wanted_by : Option Configuration → Values → Remembered → Bool
+is_wanted_by None values r = false
+is_wanted_by (Some c) values r = waits_for_event (Some c) && is_none r.inhibit && differs (bytes_now values c) r
+
+unfoldable pub is_wanted : Values → TpdoState → Bool
+is_wanted values p = is_wanted_by p.configuration values p.remembered
+
+-- ---- the moment at which a TPDO is due
 
 -- while it is inhibited, the end of that; else its event moment, where it counts
 abbrev pub due_of : Bool → Option ℕ → Option ℕ → Option ℕ

@@ -1,14 +1,15 @@
 //! Laws of a device's PDOs, each a function whose contract is the law.
 
-ghost use Rattle.std.specs.Prelude.{◌≡◌, ◌≢◌, ◌<◌, ◌≤◌, ℕ, Bool, true, false, List, None, Some};
+ghost use Rattle.std.specs.Prelude.{◌≡◌, ◌≢◌, ◌<◌, ℕ, Bool, true, false, List, None, Some};
 ghost use Rattle.std.specs.List.{AllByRecursion};
 ghost use Rattle.can_frame.specs.declared.waiting.Waiting.{Waiting as WaitingFrame};
 ghost use Rattle.co_dict.specs.Shapes.{Shaped};
 ghost use Rattle.co_dict.specs.Values.{Values};
-ghost use Rattle.co_pdos.specs.declared.configuration.Configuration.{Configuration as Settings};
 ghost use Rattle.device_pdos.specs.Objects.{number_of_object};
 ghost use Rattle.device_pdos.specs.Rpdos.{rpdo, rpdo_written, rpdos_written};
-ghost use Rattle.device_pdos.specs.Tpdos.{frame_sent, freed, looked, moments, tpdo, tpdo_written, tpdos_freed, tpdos_looked, tpdos_written, with_tpdos};
+ghost use Rattle.device_pdos.specs.Tpdos.{frame_sent, freed, goes_by_sync, is_wanted, looked, moments, tpdo};
+ghost use Rattle.device_pdos.specs.Tpdos.{tpdo_written, tpdos_freed, tpdos_looked, tpdos_written, waits_for_event};
+ghost use Rattle.device_pdos.specs.Tpdos.{with_tpdos};
 ghost use Rattle.device_pdos.specs.declared.rpdo_state.RpdoState.{RpdoState as Rpdo};
 ghost use Rattle.device_pdos.specs.declared.tpdo_state.TpdoState.{TpdoState as State};
 
@@ -31,20 +32,21 @@ pub fn a_write_judges_its_pdo_anew()
     ensures other_rpdo { (shape : Shaped) (values : Values) (index : ℕ) (p : Rpdo) → p.number ≢ number_of_object index → rpdo_written shape values index p ≡ p }
 {}
 
-/// Without a SYNC a TPDO of the types 0 to 240 isn't sent, and remembers what it did but for an inhibit
-/// moment that has come.
+/// Without a SYNC a synchronous TPDO isn't sent, and remembers what it did but for an inhibit moment that has
+/// come.
+#[tactic(auto, using(crate::proofs::LookLemmas::unsent_without_sync, crate::proofs::LookLemmas::kept_without_sync))]
 pub fn without_a_sync_no_synchronous_tpdo_is_sent()
-    ensures sent { (t kind : ℕ) (values : Values) (p : State) (c : Settings) → p.configuration ≡ Some c → c.communication.kind ≡ Some kind → kind ≤ 240
+    ensures sent { (t : ℕ) (values : Values) (p : State) → goes_by_sync p.configuration ≡ true
         → frame_sent t false values p ≡ None }
-    ensures kept { (t kind : ℕ) (values : Values) (p : State) (c : Settings) → p.configuration ≡ Some c → c.communication.kind ≡ Some kind → kind ≤ 240
+    ensures kept { (t : ℕ) (values : Values) (p : State) → goes_by_sync p.configuration ≡ true
         → looked t false values p ≡ freed t p }
 {}
 
-/// A TPDO of type 254 or 255 whose inhibit moment is ahead isn't sent, and stays.
+/// An event-driven TPDO whose inhibit moment is ahead isn't sent, and stays.
 pub fn an_inhibited_tpdo_is_not_sent()
-    ensures sent { (t m kind : ℕ) (at_sync : Bool) (values : Values) (p : State) (c : Settings) → p.configuration ≡ Some c → c.communication.kind ≡ Some kind → 254 ≤ kind
+    ensures sent { (t m : ℕ) (at_sync : Bool) (values : Values) (p : State) → waits_for_event p.configuration ≡ true
         → p.remembered.inhibit ≡ Some m → t < m → frame_sent t at_sync values p ≡ None }
-    ensures kept { (t m kind : ℕ) (at_sync : Bool) (values : Values) (p : State) (c : Settings) → p.configuration ≡ Some c → c.communication.kind ≡ Some kind → 254 ≤ kind
+    ensures kept { (t m : ℕ) (at_sync : Bool) (values : Values) (p : State) → waits_for_event p.configuration ≡ true
         → p.remembered.inhibit ≡ Some m → t < m → looked t at_sync values p ≡ p }
 {}
 
@@ -59,16 +61,21 @@ pub fn quiet_between_moments()
     ensures freed { (t : ℕ) (tpdos : List State) → AllByRecursion (λ m. t < m) (moments false tpdos) → tpdos_freed t tpdos ≡ tpdos }
 {}
 
-/// TPDOs that were looked at rest: as long as their moments lie ahead, none is sent without a SYNC, and no
-/// later look without one changes what they remember, or what waits.
-#[tactic(auto, using(crate::proofs::RestLemmas::all_rest, crate::proofs::RestLemmas::tpdos_rest, crate::proofs::RestLemmas::nothing_sent))]
+/// TPDOs that were looked at rest: none is wanted. As long as none is, and their moments lie ahead, none is sent
+/// without a SYNC, and no look without one changes what they remember, or what waits.
+#[tactic(auto, using(crate::proofs::RestLemmas::rests))]
 pub fn tpdos_that_were_looked_at_rest()
-    ensures unsent { (t u : ℕ) (at_sync : Bool) (values : Values) (tpdos : List State) → AllByRecursion (λ m. u < m) (moments true (tpdos_looked t at_sync values tpdos))
-        → AllByRecursion (λ p. frame_sent u false values p ≡ None) (tpdos_looked t at_sync values tpdos) }
-    ensures tpdos { (t u : ℕ) (at_sync : Bool) (values : Values) (tpdos : List State) → AllByRecursion (λ m. u < m) (moments true (tpdos_looked t at_sync values tpdos))
-        → tpdos_looked u false values (tpdos_looked t at_sync values tpdos) ≡ tpdos_looked t at_sync values tpdos }
-    ensures waiting { (t u : ℕ) (at_sync : Bool) (values : Values) (tpdos : List State) (frames : List WaitingFrame) → AllByRecursion (λ m. u < m) (moments true (tpdos_looked t at_sync values tpdos))
-        → with_tpdos u false values (tpdos_looked t at_sync values tpdos) frames ≡ frames }
+    ensures unwanted { (t : ℕ) (at_sync : Bool) (values : Values) (tpdos : List State)
+        → AllByRecursion (λ p. is_wanted values p ≡ false) (tpdos_looked t at_sync values tpdos) }
+    ensures unsent { (u : ℕ) (values : Values) (tpdos : List State)
+        → AllByRecursion (λ p. is_wanted values p ≡ false) tpdos → AllByRecursion (λ m. u < m) (moments true tpdos)
+        → AllByRecursion (λ p. frame_sent u false values p ≡ None) tpdos }
+    ensures tpdos { (u : ℕ) (values : Values) (tpdos : List State)
+        → AllByRecursion (λ p. is_wanted values p ≡ false) tpdos → AllByRecursion (λ m. u < m) (moments true tpdos)
+        → tpdos_looked u false values tpdos ≡ tpdos }
+    ensures waiting { (u : ℕ) (values : Values) (tpdos : List State) (frames : List WaitingFrame)
+        → AllByRecursion (λ p. is_wanted values p ≡ false) tpdos → AllByRecursion (λ m. u < m) (moments true tpdos)
+        → with_tpdos u false values tpdos frames ≡ frames }
 {}
 
 /// After a look at the TPDOs every moment at which one is due lies later; so it does outside Operational

@@ -69,7 +69,7 @@ impl RpdoState {
     {
         match &self.configuration {
             Some(configuration) if configuration.identifier.number() == frame.id() => received(
-                configuration.communication.kind,
+                configuration.communication.transmission_type,
                 mapped_bytes(&configuration.mapping),
                 frame.bytes().len(),
             ),

@@ -2,7 +2,7 @@
 
 ghost use Rattle.std.specs.Prelude.{◌≡◌, ◌↔◌, ◌<◌, ◌^◌, IsTrue, OnOk};
 ghost use Rattle.co_pdos.specs.Tpdo.{forgotten};
-ghost use Rattle.device_pdos.specs.Tpdos.{frame_sent, looked, tpdo_moment, waits_for_event, with_frame};
+ghost use Rattle.device_pdos.specs.Tpdos.{frame_sent, goes_by_sync, looked, tpdo_moment, waits_for_event, with_frame};
 
 use can_frame::{Frame, Pending, Purpose};
 use co_dict::Dict;
@@ -46,13 +46,26 @@ impl TpdoState {
         Configuration::are_same(&self.configuration, &other.configuration)
     }
 
-    /// Whether it works and is event-driven: of type 254 or 255.
+    /// Whether it works and is event-driven.
     fn waits_for_event(&self) -> bool
         ensures { result ≡ waits_for_event self.now.configuration }
     {
         match &self.configuration {
-            Some(configuration) => match configuration.communication.kind {
-                Some(kind) => kind >= 254,
+            Some(configuration) => match configuration.communication.transmission_type {
+                Some(transmission) => transmission.is_event_driven(),
+                None => false,
+            },
+            None => false,
+        }
+    }
+
+    /// Whether it works and goes by SYNC.
+    pub fn goes_by_sync(&self) -> bool
+        ensures { result ≡ goes_by_sync self.now.configuration }
+    {
+        match &self.configuration {
+            Some(configuration) => match configuration.communication.transmission_type {
+                Some(transmission) => transmission.is_synchronous(),
                 None => false,
             },
             None => false,
@@ -75,7 +88,7 @@ impl TpdoState {
     }
 
     /// Looks at it at the moment t, and answers its frame where it is sent.
-    #[tactic(auto, using(crate::proofs::PackedLemmas::few), unfolding(crate::specs::Tpdos::bytes_now, crate::specs::Tpdos::sent_by))]
+    #[tactic(auto, using(crate::proofs::PackedLemmas::few), unfolding(crate::specs::Tpdos::bytes_now, crate::specs::Tpdos::turn))]
     fn look(&mut self, t: u64, at_sync: bool, dict: &Dict) -> Option<Frame>
         requires { t < 2 ^ 63 }
         ensures state { self.new ≡ looked t at_sync dict.now self.old }

@@ -1,8 +1,8 @@
 use Rattle.std.proofs.Common.{◌+◌, ℕ, List, drop, get_or, sym, ap, ◌∙◌, arith}
 use Rattle.co_dict.specs.Mappings.{mapped_length}
-use Rattle.co_mapping.specs.Packing.{frame_bits, unpacked_from}
+use Rattle.co_mapping.specs.Packing.{after_entries, frame_bits, with_bits}
 use Rattle.co_mapping.proofs.PackLemmas.{bits_left}
-use Rattle.co_mapping.proofs.UnpackLemmas.{unpacked_end, unpacked_next}
+use Rattle.co_mapping.proofs.UnpackLemmas.{entries_end, entry_next}
 use Rattle.co_mapping.proofs.unpacking.unpack_all.Goals as goal
 
 pub unpack_entry-requires : goal.unpack_entry-requires
@@ -15,10 +15,11 @@ loop-entry-preserved c =
     let bits : List ℕ = frame_bits c.args.bytes.now in
     let rest : List ℕ = drop (i + 1) c.args.mapping.now in
     let count = c.mapped_length-position.ensures in
-    let next = unpacked_next c.args.shape.now c.args.mapping.now bits c.loop-entry.dict i position c.loop-entry-test.true in
+    let turn = with_bits c.args.shape.now in
+    let next = entry_next turn c.args.mapping.now bits c.loop-entry.dict i position c.loop-entry-test.true in
     record {
-      all = ap (λ (n : ℕ). unpacked_from (position + n) c.args.shape.now rest bits c.unpack_entry.new.dict) count
-          ∙ ap (unpacked_from (position + mapped_length (get_or c.args.mapping.now i 0)) c.args.shape.now rest bits) c.in_ok-_written.ensures.ok
+      all = ap (λ (n : ℕ). after_entries turn (position + n) rest bits c.unpack_entry.new.dict) count
+          ∙ ap (after_entries turn (position + mapped_length (get_or c.args.mapping.now i 0)) rest bits) c.in_ok-_written.ensures.ok
           ∙ sym next
           ∙ c.loop-entry.invariant.all;
       length = omega (arith, bits_left c.args.mapping.now i 0 c.loop-entry-test.true, count, c.loop-entry.invariant.length);
@@ -26,5 +27,6 @@ loop-entry-preserved c =
 
 pub returns : goal.returns
 returns c =
-    sym (unpacked_end c.args.shape.now c.args.mapping.now (frame_bits c.args.bytes.now) c.loop-entry.dict c.loop-entry.entry-index c.loop-entry.position c.loop-entry-test.false)
+    sym (entries_end (with_bits c.args.shape.now) c.args.mapping.now (frame_bits c.args.bytes.now) c.loop-entry.dict
+    c.loop-entry.entry-index c.loop-entry.position c.loop-entry-test.false)
     ∙ c.loop-entry.invariant.all
