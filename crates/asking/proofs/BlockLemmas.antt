@@ -1,6 +1,7 @@
 -- Turns in blocks.
-use Rattle.std.proofs.Common.{◌≡◌, ℕ, zero, suc, ◌+◌, ◌*◌, List, [], ◌∷◌, ◌++◌, refl, sym, ap, ◌∙◌, append_assoc, add-zero, zero-add, arith}
-use Rattle.asking.specs.Asking.{Asking, Answer, joined, outcome, turns}
+use Rattle.std.proofs.Common.{◌≡◌, ℕ, zero, suc, ◌+◌, ◌*◌, List, [], ◌∷◌, ◌++◌, refl, sym, ap, ◌∙◌, append_assoc}
+use Rattle.std.proofs.Common.{add-zero, zero-add, arith}
+use Rattle.asking.specs.Asking.{Asking, Answer, then_run, outcome, turns}
 use Rattle.asking.proofs.QuestionLemmas.{outcome_turns}
 
 module _ {N V S L : Type 0} (step : ℕ → S → Asking N V (S × List L)) (image : N → V) where
@@ -11,11 +12,11 @@ module _ {N V S L : Type 0} (step : ℕ → S → Asking N V (S × List L)) (ima
   unfolding run turns
   run_zero t s = refl
 
-  run_suc : (n t : ℕ) (s : S) → run (suc n) t s ≡ joined (outcome (step t s) image) (λ x. run n (t + 1) x)
+  run_suc : (n t : ℕ) (s : S) → run (suc n) t s ≡ then_run (outcome (step t s) image) (λ x. run n (t + 1) x)
   unfolding run
   run_suc n t s = outcome_turns step n t s image
 
-  run_add : (a b t : ℕ) (s : S) → run (a + b) t s ≡ joined (run a t s) (λ x. run b (t + a) x)
+  run_add : (a b t : ℕ) (s : S) → run (a + b) t s ≡ then_run (run a t s) (λ x. run b (t + a) x)
   run_add zero b t s = rw (zero-add, add-zero, run_zero)
   run_add (suc a) b t s =
       let more : suc a + b ≡ suc (a + b) = omega arith in
@@ -27,9 +28,10 @@ module _ {N V S L : Type 0} (step : ℕ → S → Asking N V (S × List L)) (ima
       ∙ ap (λ (x : S × List L). (x.0, r.1 ++ x.1)) (run_add a b (t + 1) r.0)
       ∙ ap (λ (x : S × List L). (x.0, r.1 ++ (q.1 ++ x.1))) (ap (λ n. run b n q.0) next)
       ∙ ap (λ (ls : List L). ((run b (t + suc a) q.0).0, ls)) (sym (append_assoc r.1 q.1 (run b (t + suc a) q.0).1))
-      ∙ ap (λ (x : S × List L). joined x (λ y. run b (t + suc a) y)) (sym (run_suc a t s))
+      ∙ ap (λ (x : S × List L). then_run x (λ y. run b (t + suc a) y)) (sym (run_suc a t s))
 
-  pub turns_add : (a b t : ℕ) (s : S) → outcome (turns step (a + b) t s) image ≡ joined (outcome (turns step a t s) image) (λ x. outcome (turns step b (t + a) x) image)
+  pub turns_add : (a b t : ℕ) (s : S) → outcome (turns step (a + b) t s) image
+      ≡ then_run (outcome (turns step a t s) image) (λ x. outcome (turns step b (t + a) x) image)
   unfolding run
   turns_add a b t s = run_add a b t s
 
@@ -38,7 +40,8 @@ module _ {N V S L : Type 0} (step : ℕ → S → Asking N V (S × List L)) (w :
   unfoldable pub block : ℕ → S → Asking N V (S × List L)
   block i s = turns step w (i * w) s
 
-  pub blocks_outcome : (count i : ℕ) (s : S) → outcome (turns block count i s) image ≡ outcome (turns step (count * w) (i * w) s) image
+  pub blocks_outcome : (count i : ℕ) (s : S)
+      → outcome (turns block count i s) image ≡ outcome (turns step (count * w) (i * w) s) image
   unfolding block turns
   blocks_outcome zero i s =
       let none : 0 ≡ 0 * w = omega arith in

@@ -36,8 +36,8 @@ turns step zero t s = Answer (s, [])
 turns step (suc count) t s = bind (step t s) (λ r. bind (turns step count (t + 1) r.0) (λ q. Answer (q.0, r.1 ++ q.1)))
 
 -- what two runs come to and tell, the second from where the first ends
-abbrev pub joined : {S L : Type 0} → S × List L → (S → S × List L) → S × List L
-joined r f = ((f r.0).0, r.1 ++ (f r.0).1)
+abbrev pub then_run : {S L : Type 0} → S × List L → (S → S × List L) → S × List L
+then_run r f = ((f r.0).0, r.1 ++ (f r.0).1)
 
 -- what stands behind a device that hands out values: the image, and what it handed out
 pub record Seen (N V : Type 0) : Type 0 where
@@ -45,9 +45,9 @@ pub record Seen (N V : Type 0) : Type 0 where
   pub asked : List (N × V)
 
 -- one value is handed out
-abbrev pub handed : {N V : Type 0} → N → Seen N V → Seen N V
-handed n s = record { image = s.image; asked = s.asked ++ (n, s.image n) ∷ [] }
+abbrev pub after_ask : {N V : Type 0} → N → Seen N V → Seen N V
+after_ask n s = record { image = s.image; asked = s.asked ++ (n, s.image n) ∷ [] }
 
 -- all that is read is handed out
-abbrev pub followed : {N V A : Type 0} → Asking N V A → Seen N V → Seen N V
-followed m s = record { image = s.image; asked = s.asked ++ reads m s.image }
+abbrev pub after_reads : {N V A : Type 0} → Asking N V A → Seen N V → Seen N V
+after_reads m s = record { image = s.image; asked = s.asked ++ reads m s.image }

@@ -1,9 +1,11 @@
 -- Devices by blocks of eight.
-use Rattle.std.proofs.Common.{◌≡◌, ℕ, suc, ◌+◌, ◌-◌, ◌<◌, ◌≤◌, List, [], ◌∷◌, ◌++◌, length, take, drop, get_or, refl, sym, ap, ◌∙◌, append_assoc, length-append, subst, arith}
+use Rattle.std.proofs.Common.{◌≡◌, ℕ, suc, ◌+◌, ◌-◌, ◌<◌, ◌≤◌, List, [], ◌∷◌, ◌++◌, length, take, drop, get_or, refl}
+use Rattle.std.proofs.Common.{sym, ap, ◌∙◌, append_assoc, length-append, subst, arith}
 use Rattle.std.specs.Prelude.{min, OnOk, Result, Ok, Err}
 use Rattle.std.proofs.Math.ListN.{set}
-use Rattle.std.proofs.lemmas.List.{append-nil, drop_all, drop_at, drop_min, length-drop, length-take, take-append-drop, take_all, take_at, take_min, take_more}
-use Rattle.asking.specs.Asking.{Asking, Seen, followed, outcome, reads}
+use Rattle.std.proofs.lemmas.List.{append-nil, drop_all, drop_at, drop_min, length-drop, length-take, take-append-drop}
+use Rattle.std.proofs.lemmas.List.{take_all, take_at, take_min, take_more}
+use Rattle.asking.specs.Asking.{Asking, Seen, after_reads, outcome, reads}
 use Rattle.bus_devices.specs.Blocks.{AreAgendasOf}
 use Rattle.bus_events.specs.Each.{each}
 use Rattle.bus_events.proofs.EachLemmas.{outcome_each, reads_each}
@@ -19,7 +21,8 @@ GivesBoth a b both = (ds es : List Device) → IsAgendaOf a ds → IsAgendaOf b 
 
 -- ---- of one device more
 
-pub one_more : (a b both : Agenda) (ds : List Device) (i : ℕ) (d : Device) → i < length ds → GivesBoth a b both → IsAgendaOf a (take i ds) → IsAgendaOf b (get_or ds i d ∷ []) → IsAgendaOf both (take (i + 1) ds)
+pub one_more : (a b both : Agenda) (ds : List Device) (i : ℕ) (d : Device) → i < length ds → GivesBoth a b both
+    → IsAgendaOf a (take i ds) → IsAgendaOf b (get_or ds i d ∷ []) → IsAgendaOf both (take (i + 1) ds)
 one_more a b both ds i d within gives g h = rw (take_more ds i d within) (gives (take i ds) (get_or ds i d ∷ []) g h)
 
 -- ---- of one block more
@@ -30,7 +33,9 @@ front_is n ds block many e = e ∙ ap (λ (k : ℕ). take k ds) many ∙ take_mi
 pub back_is : (n : ℕ) (ds rest : List Device) → n ≡ min 8 (length ds) → rest ≡ drop n ds → rest ≡ drop 8 ds
 back_is n ds rest many e = e ∙ ap (λ (k : ℕ). drop k ds) many ∙ drop_min 8 ds
 
-pub block_more : (agendas : List Agenda) (a : Agenda) (all ds block rest : List Device) → block ≡ take 8 ds → rest ≡ drop 8 ds → IsAgendaOf a block → ((others : List Agenda) → AreAgendasOf others ds → AreAgendasOf (agendas ++ others) all)
+pub block_more : (agendas : List Agenda) (a : Agenda) (all ds block rest : List Device) → block ≡ take 8 ds
+    → rest ≡ drop 8 ds → IsAgendaOf a block → ((others : List Agenda) → AreAgendasOf others ds
+    → AreAgendasOf (agendas ++ others) all)
     → (others : List Agenda) → AreAgendasOf others rest → AreAgendasOf ((agendas ++ a ∷ []) ++ others) all
 block_more agendas a all ds block rest e f h before others left =
     rw (append_assoc agendas (a ∷ []) others) (before (a ∷ others) (rw e at h, rw f at left))
@@ -39,15 +44,21 @@ none_of : (ds : List Device) → length ds ≡ 0 → ds ≡ []
 none_of [] e = refl
 none_of (d ∷ ds) e = absurd (omega (arith, e))
 
-pub all_planned : (agendas : List Agenda) (all ds : List Device) → length ds ≡ 0 → ((others : List Agenda) → AreAgendasOf others ds → AreAgendasOf (agendas ++ others) all) → AreAgendasOf agendas all
+pub all_planned : (agendas : List Agenda) (all ds : List Device) → length ds ≡ 0
+    → ((others : List Agenda) → AreAgendasOf others ds → AreAgendasOf (agendas ++ others) all)
+    → AreAgendasOf agendas all
 all_planned agendas all ds none before = rw (append-nil {A = Agenda} agendas) at (before [] (none_of ds none))
 
-pub joined : (a others both : Agenda) (agendas : List Agenda) → GivesBoth a others both → ((ds : List Device) → AreAgendasOf agendas ds → IsAgendaOf others ds) → (ds : List Device) → AreAgendasOf (a ∷ agendas) ds → IsAgendaOf both ds
-joined a others both agendas gives rest ds h = rw (take-append-drop {A = Device} 8 ds) at (gives (take 8 ds) (drop 8 ds) h.0 (rest (drop 8 ds) h.1))
+pub joined : (a others both : Agenda) (agendas : List Agenda) → GivesBoth a others both
+    → ((ds : List Device) → AreAgendasOf agendas ds → IsAgendaOf others ds) → (ds : List Device)
+    → AreAgendasOf (a ∷ agendas) ds → IsAgendaOf both ds
+joined a others both agendas gives rest ds h =
+    rw (take-append-drop {A = Device} 8 ds) at (gives (take 8 ds) (drop 8 ds) h.0 (rest (drop 8 ds) h.1))
 
 -- ---- a block and what follows it
 
-front_of : (block rest : List Device) → length block ≡ min 8 (length block + length rest) → take 8 (block ++ rest) ≡ block
+front_of : (block rest : List Device) → length block ≡ min 8 (length block + length rest)
+    → take 8 (block ++ rest) ≡ block
 front_of block [] many = ap (take 8) (append-nil {A = Device} block) ∙ take_all 8 block (omega (arith, many))
 front_of block (d ∷ rest) many = take_at block (d ∷ rest) 8 (omega (arith, many))
 
@@ -55,20 +66,24 @@ back_of : (block rest : List Device) → length block ≡ min 8 (length block + 
 back_of block [] many = ap (drop 8) (append-nil {A = Device} block) ∙ drop_all 8 block (omega (arith, many))
 back_of block (d ∷ rest) many = drop_at block (d ∷ rest) 8 (omega (arith, many))
 
-both_of : (a : Agenda) (agendas : List Agenda) (block rest : List Device) → length block ≡ min 8 (length block + length rest) → IsAgendaOf a block → AreAgendasOf agendas rest → AreAgendasOf (a ∷ agendas) (block ++ rest)
+both_of : (a : Agenda) (agendas : List Agenda) (block rest : List Device)
+    → length block ≡ min 8 (length block + length rest) → IsAgendaOf a block → AreAgendasOf agendas rest
+    → AreAgendasOf (a ∷ agendas) (block ++ rest)
 both_of a agendas block rest many g h = (rw (front_of block rest many) g, rw (back_of block rest many) h)
 
 -- ---- each of two lists in turn
 
 module _ {N V A B : Type 0} (step : A → Asking N V B) where
-  pub outcome_append : (xs ys : List A) (image : N → V) → outcome (each step (xs ++ ys)) image ≡ outcome (each step xs) image ++ outcome (each step ys) image
+  pub outcome_append : (xs ys : List A) (image : N → V)
+      → outcome (each step (xs ++ ys)) image ≡ outcome (each step xs) image ++ outcome (each step ys) image
   outcome_append [] ys image = refl
   outcome_append (x ∷ xs) ys image =
       outcome_each step x (xs ++ ys) image
       ∙ ap (λ (rest : List B). outcome (step x) image ∷ rest) (outcome_append xs ys image)
       ∙ ap (λ (front : List B). front ++ outcome (each step ys) image) (sym (outcome_each step x xs image))
 
-  pub reads_append : (xs ys : List A) (image : N → V) → reads (each step (xs ++ ys)) image ≡ reads (each step xs) image ++ reads (each step ys) image
+  pub reads_append : (xs ys : List A) (image : N → V)
+      → reads (each step (xs ++ ys)) image ≡ reads (each step xs) image ++ reads (each step ys) image
   reads_append [] ys image = refl
   reads_append (x ∷ xs) ys image =
       reads_each step x (xs ++ ys) image
@@ -76,7 +91,8 @@ module _ {N V A B : Type 0} (step : A → Asking N V B) where
       ∙ sym (append_assoc (reads (step x) image) (reads (each step xs) image) (reads (each step ys) image))
       ∙ ap (λ (front : List (N × V)). front ++ reads (each step ys) image) (sym (reads_each step x xs image))
 
-  pub followed_append : (xs ys : List A) (seen : Seen N V) → followed (each step (xs ++ ys)) seen ≡ followed (each step ys) (followed (each step xs) seen)
+  pub followed_append : (xs ys : List A) (seen : Seen N V)
+      → after_reads (each step (xs ++ ys)) seen ≡ after_reads (each step ys) (after_reads (each step xs) seen)
   followed_append xs ys seen = rw (reads_append xs ys seen.image, ← append_assoc)
 
   pub length_each : (xs : List A) (image : N → V) → length (outcome (each step xs) image) ≡ length xs
@@ -89,36 +105,46 @@ module _ (step : Device → Asking Part Content Device) (ds : List Device) where
   split : take 8 ds ++ drop 8 ds ≡ ds
   split = take-append-drop {A = Device} 8 ds
 
-  pub both_state : (image : Image) (block rest : List Device) → block ≡ outcome (each step (take 8 ds)) image → rest ≡ outcome (each step (drop 8 ds)) image → block ++ rest ≡ outcome (each step ds) image
+  pub both_state : (image : Image) (block rest : List Device) → block ≡ outcome (each step (take 8 ds)) image
+      → rest ≡ outcome (each step (drop 8 ds)) image → block ++ rest ≡ outcome (each step ds) image
   both_state image block rest e f =
       ap (λ (front : List Device). front ++ rest) e
       ∙ ap (λ (back : List Device). outcome (each step (take 8 ds)) image ++ back) f
       ∙ sym (outcome_append step (take 8 ds) (drop 8 ds) image)
       ∙ ap (λ (all : List Device). outcome (each step all) image) split
 
-  pub both_noted : (first second third : Seen Part Content) → second ≡ followed (each step (take 8 ds)) first → third ≡ followed (each step (drop 8 ds)) second → third ≡ followed (each step ds) first
+  pub both_noted : (first second third : Seen Part Content) → second ≡ after_reads (each step (take 8 ds)) first
+      → third ≡ after_reads (each step (drop 8 ds)) second → third ≡ after_reads (each step ds) first
   both_noted first second third e f =
       f
-      ∙ ap (followed (each step (drop 8 ds))) e
+      ∙ ap (after_reads (each step (drop 8 ds))) e
       ∙ sym (followed_append step (take 8 ds) (drop 8 ds) first)
-      ∙ ap (λ (all : List Device). followed (each step all) first) split
+      ∙ ap (λ (all : List Device). after_reads (each step all) first) split
 
-  pub both_counted : (image : Image) (first second third : ℕ) → second ≤ first + length (reads (each step (take 8 ds)) image) → third ≤ second + length (reads (each step (drop 8 ds)) image) → third ≤ first + length (reads (each step ds) image)
+  pub both_counted : (image : Image) (first second third : ℕ)
+      → second ≤ first + length (reads (each step (take 8 ds)) image)
+      → third ≤ second + length (reads (each step (drop 8 ds)) image)
+      → third ≤ first + length (reads (each step ds) image)
   both_counted image first second third e f =
-      let all : reads (each step ds) image ≡ reads (each step (take 8 ds)) image ++ reads (each step (drop 8 ds)) image =
-      ap (λ (xs : List Device). reads (each step xs) image) (sym split) ∙ reads_append step (take 8 ds) (drop 8 ds) image in
+      let all : reads (each step ds) image ≡ reads (each step (take 8 ds)) image
+      ++ reads (each step (drop 8 ds)) image =
+      ap (λ (xs : List Device). reads (each step xs) image) (sym split)
+      ∙ reads_append step (take 8 ds) (drop 8 ds) image in
       rw (all, length-append) (omega (arith, e, f))
 
-  pub both_agendas : (image : Image) (a : Agenda) (agendas : List Agenda) (block rest : List Device) → block ≡ outcome (each step (take 8 ds)) image → rest ≡ outcome (each step (drop 8 ds)) image
+  pub both_agendas : (image : Image) (a : Agenda) (agendas : List Agenda) (block rest : List Device)
+      → block ≡ outcome (each step (take 8 ds)) image → rest ≡ outcome (each step (drop 8 ds)) image
       → IsAgendaOf a block → AreAgendasOf agendas rest → AreAgendasOf (a ∷ agendas) (block ++ rest)
   both_agendas image a agendas block rest e f g h =
-      let front : length block ≡ min 8 (length ds) = ap length e ∙ length_each step (take 8 ds) image ∙ length-take 8 ds in
+      let front : length block ≡ min 8 (length ds) = ap length e ∙ length_each step (take 8 ds) image ∙ length-take 8 ds
+      in
       let back : length rest ≡ length ds - 8 = ap length f ∙ length_each step (drop 8 ds) image ∙ length-drop 8 ds in
       both_of a agendas block rest (omega (arith, front, back)) g h
 
 -- ---- what a list of agendas begins with
 
-pub opened : (agendas others : List Agenda) (a : Agenda) (ds : List Device) → agendas ≡ a ∷ others → AreAgendasOf agendas ds → IsAgendaOf a (take 8 ds) × AreAgendasOf others (drop 8 ds)
+pub opened : (agendas others : List Agenda) (a : Agenda) (ds : List Device) → agendas ≡ a ∷ others
+    → AreAgendasOf agendas ds → IsAgendaOf a (take 8 ds) × AreAgendasOf others (drop 8 ds)
 opened agendas others a ds e h = subst (λ (xs : List Agenda). AreAgendasOf xs ds) e h
 
 pub one_set : (agendas : List Agenda) (a : Agenda) → length agendas ≡ 1 → set agendas 0 a ≡ a ∷ []

@@ -1,5 +1,6 @@
 -- The first moment at which devices are due.
-use Rattle.std.proofs.Common.{◌≡◌, ℕ, ◌+◌, ◌<◌, Bool, true, false, ◌||◌, List, [], ◌∷◌, take, drop, flat_map, get_or, length, Option, refl, sym, ap, ◌∙◌}
+use Rattle.std.proofs.Common.{◌≡◌, ℕ, ◌+◌, ◌<◌, Bool, true, false, ◌||◌, List, [], ◌∷◌, take, drop, flat_map, get_or}
+use Rattle.std.proofs.Common.{length, Option, refl, sym, ap, ◌∙◌}
 use Rattle.std.specs.List.{list_any}
 use Rattle.std.proofs.lemmas.List.{take-append-drop}
 use Rattle.std.proofs.lemmas.List.Concat.{flat_map-append}
@@ -10,8 +11,10 @@ use Rattle.co_parts.proofs.EarliestLemmas.{earliest_append, earliest_of, one_mor
 use Rattle.device_agenda.specs.declared.agenda.Agenda.{Agenda}
 
 -- of one device more
-pub device_more : (first next due : Option ℕ) (d : Device) (ds : List Device) (i : ℕ) → i < length ds → d ≡ get_or ds i d → due ≡ next_due d → next ≡ earlier first due
-    → earlier next (earliest (flat_map moments (drop (i + 1) ds))) ≡ earlier first (earliest (flat_map moments (drop i ds)))
+pub device_more : (first next due : Option ℕ) (d : Device) (ds : List Device) (i : ℕ) → i < length ds
+    → d ≡ get_or ds i d → due ≡ next_due d → next ≡ earlier first due
+    → earlier next (earliest (flat_map moments (drop (i + 1) ds)))
+    ≡ earlier first (earliest (flat_map moments (drop i ds)))
 unfolding next_due
 device_more first next due d ds i within is e f =
     let rest : Option ℕ = earliest (flat_map moments (drop (i + 1) ds)) in
@@ -25,12 +28,14 @@ abbrev pub dues : List Agenda → List ℕ
 dues agendas = flat_map (λ (a : Agenda). moments_of a.due) agendas
 
 -- of one agenda more
-pub agenda_more : (first next : Option ℕ) (a : Agenda) (agendas : List Agenda) (i : ℕ) → i < length agendas → a ≡ get_or agendas i a → next ≡ earlier first a.due
+pub agenda_more : (first next : Option ℕ) (a : Agenda) (agendas : List Agenda) (i : ℕ) → i < length agendas
+    → a ≡ get_or agendas i a → next ≡ earlier first a.due
     → earlier next (earliest (dues (drop (i + 1) agendas))) ≡ earlier first (earliest (dues (drop i agendas)))
 agenda_more first next a agendas i within is e =
     let rest : Option ℕ = earliest (dues (drop (i + 1) agendas)) in
     ap (λ (o : Option ℕ). earlier o rest) e
-    ∙ ap (λ (o : Option ℕ). earlier (earlier first o) rest) (sym (earliest_of a.due) ∙ ap (λ (x : Agenda). earliest (moments_of x.due)) is)
+    ∙ ap (λ (o : Option ℕ). earlier (earlier first o) rest)
+    (sym (earliest_of a.due) ∙ ap (λ (x : Agenda). earliest (moments_of x.due)) is)
     ∙ one_more (λ (a : Agenda). moments_of a.due) agendas i first a within
 
 neither : (a b : Bool) → a || b ≡ false → (a ≡ false) × (b ≡ false)
@@ -38,7 +43,8 @@ neither true b h = absurd cc
 neither false b h = (refl, h)
 
 -- where none is awake, they are those of the devices
-pub dues_are : (agendas : List Agenda) (ds : List Device) → AreAgendasOf agendas ds → list_any (λ (a : Agenda). a.awake) agendas ≡ false → earliest (dues agendas) ≡ earliest (flat_map moments ds)
+pub dues_are : (agendas : List Agenda) (ds : List Device) → AreAgendasOf agendas ds
+    → list_any (λ (a : Agenda). a.awake) agendas ≡ false → earliest (dues agendas) ≡ earliest (flat_map moments ds)
 dues_are [] ds e h = ap (λ (xs : List Device). earliest (flat_map moments xs)) (sym e)
 dues_are (a ∷ agendas) ds h none =
     let parts = neither a.awake (list_any (λ (a : Agenda). a.awake) agendas) none in

@@ -3,7 +3,7 @@ use Rattle.std.proofs.Common.{◌≡◌, ℕ, ◌<◌, true, List, [], ◌∷◌
 use Rattle.std.specs.Prelude.{IfSome}
 use Rattle.std.specs.List.{AllByRecursion}
 use Rattle.std.proofs.lemmas.List.{append-nil}
-use Rattle.asking.specs.Asking.{Asking, Answer, Seen, bind, followed, outcome}
+use Rattle.asking.specs.Asking.{Asking, Answer, Seen, bind, after_reads, outcome}
 use Rattle.bus_events.specs.Each.{each}
 use Rattle.co_device.specs.Device.{Device}
 use Rattle.co_parts.specs.Contents.{Content, Image}
@@ -12,7 +12,8 @@ use Rattle.device_agenda.specs.Agenda.{IsAgendaOf, at_instant, sleeps_through}
 use Rattle.device_agenda.specs.Delivered.{Delivered}
 use Rattle.device_agenda.specs.declared.agenda.Agenda.{Agenda}
 
-idle : {N V A : Type 0} (step : A → Asking N V A) (xs : List A) → AllByRecursion (λ x. step x ≡ Answer x) xs → each step xs ≡ Answer xs
+idle : {N V A : Type 0} (step : A → Asking N V A) (xs : List A) → AllByRecursion (λ x. step x ≡ Answer x) xs
+    → each step xs ≡ Answer xs
 idle step [] still = refl
 idle {N} {V} {A} step (x ∷ xs) still =
     ap (λ (m : Asking N V A). bind m (λ b. bind (each step xs) (λ bs. Answer (b ∷ bs)))) still.0
@@ -20,18 +21,23 @@ idle {N} {V} {A} step (x ∷ xs) still =
 
 -- what the law of agendas says
 abbrev pub NothingHappens : Type 0
-NothingHappens = (a : Agenda) (ds : List Device) (t : ℕ) (delivered : Option Delivered) → IfSome delivered (λ d. d.frame.id < 0x800)
-    → IsAgendaOf a ds → sleeps_through t delivered a ≡ true → AllByRecursion (λ d. at_instant t delivered d ≡ Answer d) ds
+NothingHappens = (a : Agenda) (ds : List Device) (t : ℕ) (delivered : Option Delivered)
+    → IfSome delivered (λ d. d.frame.id < 0x800)
+    → IsAgendaOf a ds → sleeps_through t delivered a ≡ true
+    → AllByRecursion (λ d. at_instant t delivered d ≡ Answer d) ds
 
-module _ (law : NothingHappens) (a : Agenda) (ds : List Device) (t : ℕ) (delivered : Option Delivered) (short : IfSome delivered (λ d. d.frame.id < 0x800)) (is : IsAgendaOf a ds) (asleep : sleeps_through t delivered a ≡ true) where
+module _ (law : NothingHappens) (a : Agenda) (ds : List Device) (t : ℕ) (delivered : Option Delivered)
+    (short : IfSome delivered (λ d. d.frame.id < 0x800)) (is : IsAgendaOf a ds)
+    (asleep : sleeps_through t delivered a ≡ true) where
   all_idle : each (at_instant t delivered) ds ≡ Answer ds
   all_idle = idle (at_instant t delivered) ds (law a ds t delivered short is asleep)
 
-  nothing_followed : (seen : Seen Part Content) → followed {V = Content} (Answer ds) seen ≡ seen
+  nothing_followed : (seen : Seen Part Content) → after_reads {V = Content} (Answer ds) seen ≡ seen
   nothing_followed seen = rw append-nil refl
 
   pub idle_state : (image : Image) → ds ≡ outcome (each (at_instant t delivered) ds) image
   idle_state image = sym (ap (λ (m : Asking Part Content (List Device)). outcome m image) all_idle)
 
-  pub idle_noted : (seen : Seen Part Content) → seen ≡ followed (each (at_instant t delivered) ds) seen
-  idle_noted seen = sym (ap (λ (m : Asking Part Content (List Device)). followed m seen) all_idle ∙ nothing_followed seen)
+  pub idle_noted : (seen : Seen Part Content) → seen ≡ after_reads (each (at_instant t delivered) ds) seen
+  idle_noted seen = sym (ap (λ (m : Asking Part Content (List Device)). after_reads m seen) all_idle
+      ∙ nothing_followed seen)

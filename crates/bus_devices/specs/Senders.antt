@@ -1,5 +1,6 @@
 -- The devices that contend for a bus.
-use Rattle.std.specs.Prelude.{ℕ, ◌==◌, ◌&&◌, Bool, false, List, map, remove, slice_index_or, slice_set, Option, Some, None}
+use Rattle.std.specs.Prelude.{ℕ, ◌==◌, ◌&&◌, Bool, false, List, map, remove, slice_index_or, slice_set, Option, Some}
+use Rattle.std.specs.Prelude.{None}
 use Rattle.std.specs.List.{position}
 use Rattle.can_frame.specs.Winner.{contenders_of, winner_of}
 use Rattle.can_frame.specs.declared.contender.Contender.{Contender}

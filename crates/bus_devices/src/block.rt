@@ -1,7 +1,7 @@
 //! What a few devices of a bus do.
 
 ghost use Rattle.std.specs.Prelude.{◌≡◌, ◌<◌, ◌≤◌, ◌+◌, length, OnOk};
-ghost use Rattle.asking.specs.Asking.{followed, outcome, reads};
+ghost use Rattle.asking.specs.Asking.{after_reads, outcome, reads};
 ghost use Rattle.bus_devices.specs.Senders.{contends_with as contends, device_lists, is_contender, sender_place};
 ghost use Rattle.bus_events.specs.Each.{each};
 ghost use Rattle.can_frame.specs.Winner.{contenders, IsWinner};
@@ -35,9 +35,12 @@ pub(crate) fn run_each<P: Shapes>(
     shapes: &mut P,
 ) -> Result<(), AllocError>
     requires { t < END }
-    ensures state { OnOk result (devices.new ≡ outcome (each (at_instant t delivery.now) devices.old) (P.seen shapes.old).image) }
-    ensures noted { OnOk result (P.seen shapes.new ≡ followed (each (at_instant t delivery.now) devices.old) (P.seen shapes.old)) }
-    ensures counted { OnOk result (P.asks shapes.new ≤ P.asks shapes.old + length (reads (each (at_instant t delivery.now) devices.old) (P.seen shapes.old).image)) }
+    ensures state { OnOk result (devices.new ≡ outcome (each (at_instant t delivery.now) devices.old)
+        (P.seen shapes.old).image) }
+    ensures noted { OnOk result (P.seen shapes.new ≡ after_reads (each (at_instant t delivery.now) devices.old)
+        (P.seen shapes.old)) }
+    ensures counted { OnOk result (P.asks shapes.new
+        ≤ P.asks shapes.old + length (reads (each (at_instant t delivery.now) devices.old) (P.seen shapes.old).image)) }
     ensures kept { (P.seen shapes.new).image ≡ (P.seen shapes.old).image }
 {
     for device in devices.iter_mut() {

@@ -2,7 +2,7 @@
 
 ghost use Rattle.std.specs.List.{flat_map, list_any};
 ghost use Rattle.std.specs.Prelude.{false, ◌≡◌, ◌<◌, ◌≤◌, ◌+◌, List, length, min, OnOk};
-ghost use Rattle.asking.specs.Asking.{followed, outcome, reads};
+ghost use Rattle.asking.specs.Asking.{after_reads, outcome, reads};
 ghost use Rattle.bus_devices.specs.Blocks.{AreAgendasOf};
 ghost use Rattle.bus_devices.specs.Senders.{device_lists, sender_place as place_of};
 ghost use Rattle.bus_events.specs.Each.{each};
@@ -54,9 +54,12 @@ fn run_block<P: Shapes>(
     requires soon { t < END }
     requires known { IsAgendaOf agenda.old devices.old }
     ensures agenda { OnOk result (IsAgendaOf agenda.new devices.new) }
-    ensures state { OnOk result (devices.new ≡ outcome (each (at_instant t delivery.now) devices.old) (P.seen shapes.old).image) }
-    ensures noted { OnOk result (P.seen shapes.new ≡ followed (each (at_instant t delivery.now) devices.old) (P.seen shapes.old)) }
-    ensures counted { OnOk result (P.asks shapes.new ≤ P.asks shapes.old + length (reads (each (at_instant t delivery.now) devices.old) (P.seen shapes.old).image)) }
+    ensures state { OnOk result (devices.new ≡ outcome (each (at_instant t delivery.now) devices.old)
+        (P.seen shapes.old).image) }
+    ensures noted { OnOk result (P.seen shapes.new ≡ after_reads (each (at_instant t delivery.now) devices.old)
+        (P.seen shapes.old)) }
+    ensures counted { OnOk result (P.asks shapes.new
+        ≤ P.asks shapes.old + length (reads (each (at_instant t delivery.now) devices.old) (P.seen shapes.old).image)) }
     ensures kept { (P.seen shapes.new).image ≡ (P.seen shapes.old).image }
 {
     if agenda.sleeps_through(t, delivery) {
@@ -78,9 +81,12 @@ pub(crate) fn run_blocks<P: Shapes>(
     requires soon { t < END }
     requires known { AreAgendasOf agendas.old devices.old }
     ensures agendas { OnOk result (AreAgendasOf agendas.new devices.new) }
-    ensures state { OnOk result (devices.new ≡ outcome (each (at_instant t delivery.now) devices.old) (P.seen shapes.old).image) }
-    ensures noted { OnOk result (P.seen shapes.new ≡ followed (each (at_instant t delivery.now) devices.old) (P.seen shapes.old)) }
-    ensures counted { OnOk result (P.asks shapes.new ≤ P.asks shapes.old + length (reads (each (at_instant t delivery.now) devices.old) (P.seen shapes.old).image)) }
+    ensures state { OnOk result (devices.new ≡ outcome (each (at_instant t delivery.now) devices.old)
+        (P.seen shapes.old).image) }
+    ensures noted { OnOk result (P.seen shapes.new ≡ after_reads (each (at_instant t delivery.now) devices.old)
+        (P.seen shapes.old)) }
+    ensures counted { OnOk result (P.asks shapes.new
+        ≤ P.asks shapes.old + length (reads (each (at_instant t delivery.now) devices.old) (P.seen shapes.old).image)) }
     ensures kept { (P.seen shapes.new).image ≡ (P.seen shapes.old).image }
 {
     if agendas.is_empty() {

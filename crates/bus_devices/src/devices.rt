@@ -2,7 +2,7 @@
 
 ghost use Rattle.std.specs.Prelude.{◌≡◌, ◌<◌, ◌≤◌, ◌+◌, ◌↔◌, [], length, slice_get, Some, IfOk, IsTrue, OnOk};
 ghost use Rattle.std.specs.List.{flat_map};
-ghost use Rattle.asking.specs.Asking.{followed, outcome, reads};
+ghost use Rattle.asking.specs.Asking.{after_reads, outcome, reads};
 ghost use Rattle.bus_devices.specs.Senders.{device_at, device_lists, sender_place as place_of, with_sent};
 ghost use Rattle.bus_events.specs.Each.{each};
 ghost use Rattle.can_frame.specs.Winner.{contenders, IsWinner};
@@ -102,9 +102,13 @@ impl Devices {
         shapes: &mut P,
     ) -> Result<(), AllocError>
         requires { t < END }
-        ensures state { OnOk result (self.new ≡ outcome (each (at_instant t delivery.now) self.old) (P.seen shapes.old).image) }
-        ensures noted { OnOk result (P.seen shapes.new ≡ followed (each (at_instant t delivery.now) self.old) (P.seen shapes.old)) }
-        ensures counted { OnOk result (P.asks shapes.new ≤ P.asks shapes.old + length (reads (each (at_instant t delivery.now) self.old) (P.seen shapes.old).image)) }
+        ensures state { OnOk result (self.new ≡ outcome (each (at_instant t delivery.now) self.old)
+            (P.seen shapes.old).image) }
+        ensures noted { OnOk result (P.seen shapes.new ≡ after_reads (each (at_instant t delivery.now) self.old)
+            (P.seen shapes.old)) }
+        ensures counted { OnOk result (P.asks shapes.new
+            ≤ P.asks shapes.old + length (reads (each (at_instant t delivery.now) self.old)
+            (P.seen shapes.old).image)) }
         ensures kept { (P.seen shapes.new).image ≡ (P.seen shapes.old).image }
     {
         if !self.known {

@@ -1,9 +1,9 @@
 //! The devices of a network as the power comes on.
 
 ghost use Rattle.std.specs.Prelude.{◌≡◌, ◌≤◌, ◌+◌, ◌↔◌, false, true, length, map, IfOk, IsTrue, OnOk};
-ghost use Rattle.asking.specs.Asking.{followed, outcome, reads};
+ghost use Rattle.asking.specs.Asking.{after_reads, outcome, reads};
 ghost use Rattle.bus_events.specs.Each.{each};
-ghost use Rattle.co_device.specs.Device.{powered, without_power};
+ghost use Rattle.co_device.specs.Device.{after_power, without_power};
 
 use co_device::Shapes;
 use device_agenda::ScheduledDevice;
@@ -55,9 +55,12 @@ pub fn power_all<P: Shapes>(
     devices: &mut [ScheduledDevice],
     shapes: &mut P,
 ) -> Result<(), AllocError>
-    ensures state { OnOk result (devices.new ≡ outcome (each (powered true 0) devices.old) (P.seen shapes.old).image) }
-    ensures noted { OnOk result (P.seen shapes.new ≡ followed (each (powered true 0) devices.old) (P.seen shapes.old)) }
-    ensures counted { OnOk result (P.asks shapes.new ≤ P.asks shapes.old + length (reads (each (powered true 0) devices.old) (P.seen shapes.old).image)) }
+    ensures state { OnOk result (devices.new ≡ outcome (each (after_power true 0) devices.old)
+        (P.seen shapes.old).image) }
+    ensures noted { OnOk result (P.seen shapes.new ≡ after_reads (each (after_power true 0) devices.old)
+        (P.seen shapes.old)) }
+    ensures counted { OnOk result (P.asks shapes.new
+        ≤ P.asks shapes.old + length (reads (each (after_power true 0) devices.old) (P.seen shapes.old).image)) }
     ensures kept { (P.seen shapes.new).image ≡ (P.seen shapes.old).image }
 {
     for device in devices.iter_mut() {

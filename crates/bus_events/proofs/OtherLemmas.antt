@@ -10,7 +10,7 @@ use Rattle.co_scenario.specs.declared.nmt_command.NmtCommand.{NmtCommand}
 use Rattle.co_scenario.specs.declared.step.Step.TheVariants.{Set, Power, Nmt}
 use Rattle.nmt_boot.specs.Manager.{Manager}
 use Rattle.bus_events.specs.Each.{each}
-use Rattle.bus_events.specs.Events.{happens, power_at, set_at}
+use Rattle.bus_events.specs.Events.{after_event, after_power_at, after_set_at}
 use Rattle.bus_events.specs.Others.{OthersStay, device_in}
 use Rattle.bus_events.proofs.EachLemmas.{outcome_each}
 use Rattle.bus_events.proofs.EventLemmas.{outcome_power}
@@ -32,36 +32,46 @@ module _ (node : ℕ) (f : Device → Device) (leaves : (d : Device) → d.numbe
   others (d ∷ ds) zero differ = leaves d differ
   others (d ∷ ds) (suc i) differ = others ds i differ
 
-set_leaves : (t node : ℕ) (place : ℕ × ℕ) (bytes : List ℕ) (d : Device) → d.number ≢ node → set_at t node place bytes d ≡ d
-unfolding set_at
+set_leaves : (t node : ℕ) (place : ℕ × ℕ) (bytes : List ℕ) (d : Device) → d.number ≢ node
+    → after_set_at t node place bytes d ≡ d
+unfolding after_set_at
 set_leaves t node place bytes d differ = rw (another d.number node differ) refl
 
-power_leaves : (image : Image) (t node : ℕ) (on : Bool) (d : Device) → d.number ≢ node → outcome (power_at t node on d) image ≡ d
-unfolding power_at
+power_leaves : (image : Image) (t node : ℕ) (on : Bool) (d : Device) → d.number ≢ node
+    → outcome (after_power_at t node on d) image ≡ d
+unfolding after_power_at
 power_leaves image t node on d differ = rw (another d.number node differ) refl
 
-each_is : (image : Image) (step : Device → Asking Part Content Device) (ds : List Device) → outcome (each step ds) image ≡ map (λ (d : Device). outcome (step d) image) ds
+each_is : (image : Image) (step : Device → Asking Part Content Device) (ds : List Device)
+    → outcome (each step ds) image ≡ map (λ (d : Device). outcome (step d) image) ds
 each_is image step [] = refl
-each_is image step (d ∷ ds) = outcome_each step d ds image ∙ ap (λ (rest : List Device). outcome (step d) image ∷ rest) (each_is image step ds)
+each_is image step (d ∷ ds) = outcome_each step d ds image ∙ ap (λ (rest : List Device). outcome (step d) image ∷ rest)
+    (each_is image step ds)
 
 module _ (image : Image) (t : ℕ) (ds : List Device) (m : Manager) where
-  pub set_others : (node index sub : ℕ) (bytes : List ℕ) → OthersStay node ds (outcome (happens t (Set node index sub bytes) (ds, m)) image).0
-  unfolding happens
-  set_others node index sub bytes = others node (set_at t node (index, sub) bytes) (set_leaves t node (index, sub) bytes) ds
+  pub set_others : (node index sub : ℕ) (bytes : List ℕ)
+      → OthersStay node ds (outcome (after_event t (Set node index sub bytes) (ds, m)) image).0
+  unfolding after_event
+  set_others node index sub bytes = others node (after_set_at t node (index, sub) bytes)
+      (set_leaves t node (index, sub) bytes) ds
 
-  pub set_manager : (node index sub : ℕ) (bytes : List ℕ) → (outcome (happens t (Set node index sub bytes) (ds, m)) image).1 ≡ m
-  unfolding happens
+  pub set_manager : (node index sub : ℕ) (bytes : List ℕ)
+      → (outcome (after_event t (Set node index sub bytes) (ds, m)) image).1 ≡ m
+  unfolding after_event
   set_manager node index sub bytes = refl
 
-  pub power_others : (node : ℕ) (on : Bool) → OthersStay node ds (outcome (happens t (Power node on) (ds, m)) image).0
+  pub power_others : (node : ℕ) (on : Bool)
+      → OthersStay node ds (outcome (after_event t (Power node on) (ds, m)) image).0
   power_others node on i differ =
       ap (λ (nodes : List Device × Manager). device_in nodes.0 i) (outcome_power t ds m node on image)
-      ∙ ap (λ (after : List Device). device_in after i) (each_is image (power_at t node on) ds)
-      ∙ others node (λ (d : Device). outcome (power_at t node on d) image) (power_leaves image t node on) ds i differ
+      ∙ ap (λ (after : List Device). device_in after i) (each_is image (after_power_at t node on) ds)
+      ∙ others node (λ (d : Device). outcome (after_power_at t node on d) image)
+      (power_leaves image t node on) ds i differ
 
-  pub power_manager : (node : ℕ) (on : Bool) → (outcome (happens t (Power node on) (ds, m)) image).1 ≡ m
+  pub power_manager : (node : ℕ) (on : Bool) → (outcome (after_event t (Power node on) (ds, m)) image).1 ≡ m
   power_manager node on = ap (λ (nodes : List Device × Manager). nodes.1) (outcome_power t ds m node on image)
 
-  pub command_devices : (node : ℕ) (command : NmtCommand) → (outcome (happens t (Nmt node command) (ds, m)) image).0 ≡ ds
-  unfolding happens
+  pub command_devices : (node : ℕ) (command : NmtCommand)
+      → (outcome (after_event t (Nmt node command) (ds, m)) image).0 ≡ ds
+  unfolding after_event
   command_devices node command = refl

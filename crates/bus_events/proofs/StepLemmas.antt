@@ -1,5 +1,6 @@
 -- Events in order of time.
-use Rattle.std.proofs.Common.{◌≡◌, ℕ, zero, suc, ◌+◌, ◌<◌, ◌≤◌, Bool, true, false, List, [], ◌∷◌, ◌++◌, length, get_or, take, drop, refl, ap, arith, sym, ◌∙◌}
+use Rattle.std.proofs.Common.{◌≡◌, ℕ, zero, suc, ◌+◌, ◌<◌, ◌≤◌, Bool, true, false, List, [], ◌∷◌, ◌++◌, length, get_or}
+use Rattle.std.proofs.Common.{take, drop, refl, ap, arith, sym, ◌∙◌}
 use Rattle.std.specs.Prelude.{◌==◌, All, filter, nat_le}
 use Rattle.std.specs.List.{AllByRecursion, prefix_len}
 use Rattle.std.proofs.lemmas.Bool.Decides.{nat_tests}
@@ -9,7 +10,8 @@ use Rattle.co_parts.specs.Images.{AreInOrder, IsFree, IsWithin}
 use Rattle.co_scenario.specs.declared.timed_step.TimedStep.{TimedStep}
 use Rattle.bus_events.specs.Steps.{AreFree, LieFrom, has_time, steps_due, steps_from, steps_left}
 
-pub free_at : (steps : List TimedStep) (i : ℕ) (d : TimedStep) → i < length steps → AreFree steps → IsFree (get_or steps i d).step
+pub free_at : (steps : List TimedStep) (i : ℕ) (d : TimedStep) → i < length steps → AreFree steps
+    → IsFree (get_or steps i d).step
 free_at [] i d within free = absurd (omega (arith, within))
 free_at (s ∷ steps) zero d within free = free.0
 free_at (s ∷ steps) (suc i) d within free = free_at steps i d (omega (arith, within)) free.1
@@ -70,27 +72,37 @@ unfolding steps_due
 due_then t [] = All-nil (λ (step : TimedStep). step.time ≡ t)
 due_then t (s ∷ steps) = by (due_then t steps) (has_time t s) refl
   where
-    by : All (λ (step : TimedStep). step.time ≡ t) (steps_due t steps) → (b : Bool) → has_time t s ≡ b → All (λ (step : TimedStep). step.time ≡ t) (steps_due t (s ∷ steps))
-    by rest true e = rw (due_first t s steps e) (All-cons (λ (step : TimedStep). step.time ≡ t) s (steps_due t steps) (it_has t s.time e) rest)
+    by : All (λ (step : TimedStep). step.time ≡ t) (steps_due t steps) → (b : Bool) → has_time t s ≡ b
+        → All (λ (step : TimedStep). step.time ≡ t) (steps_due t (s ∷ steps))
+    by rest true e = rw (due_first t s steps e)
+        (All-cons (λ (step : TimedStep). step.time ≡ t) s (steps_due t steps) (it_has t s.time e) rest)
     by rest false e = rw (due_none t s steps e) (All-nil (λ (step : TimedStep). step.time ≡ t))
 
 rest_in_order : (s : TimedStep) (steps : List TimedStep) → AreInOrder (s ∷ steps) → AreInOrder steps
 rest_in_order s [] order = tt
 rest_in_order s (next ∷ steps) order = order.1
 
-in_order_from : (u : ℕ) (s : TimedStep) (steps : List TimedStep) → AreInOrder (s ∷ steps) → u ≤ s.time → LieFrom u (s ∷ steps)
-in_order_from u s [] order h = All-cons (λ (step : TimedStep). u ≤ step.time) s [] h (All-nil (λ (step : TimedStep). u ≤ step.time))
+in_order_from : (u : ℕ) (s : TimedStep) (steps : List TimedStep) → AreInOrder (s ∷ steps) → u ≤ s.time
+    → LieFrom u (s ∷ steps)
+in_order_from u s [] order h =
+    All-cons (λ (step : TimedStep). u ≤ step.time) s [] h (All-nil (λ (step : TimedStep). u ≤ step.time))
 in_order_from u s (next ∷ steps) order h =
-    All-cons (λ (step : TimedStep). u ≤ step.time) s (next ∷ steps) h (in_order_from u next steps order.1 (omega (arith, h, order.0)))
+    All-cons (λ (step : TimedStep). u ≤ step.time) s (next
+    ∷ steps) h (in_order_from u next steps order.1 (omega (arith, h, order.0)))
 
-pub left_later : (t : ℕ) (steps : List TimedStep) → AreInOrder steps → LieFrom t steps → LieFrom (t + 1) (steps_left t steps)
+pub left_later : (t : ℕ) (steps : List TimedStep) → AreInOrder steps → LieFrom t steps
+    → LieFrom (t + 1) (steps_left t steps)
 unfolding steps_left
 left_later t [] order from = All-nil (λ (step : TimedStep). t + 1 ≤ step.time)
-left_later t (s ∷ steps) order from = by (left_later t steps (rest_in_order s steps order) (All-tail (λ (step : TimedStep). t ≤ step.time) s steps from)) (has_time t s) refl
+left_later t (s ∷ steps) order from = by (left_later t steps (rest_in_order s steps order)
+    (All-tail (λ (step : TimedStep). t ≤ step.time) s steps from)) (has_time t s) refl
   where
-    by : LieFrom (t + 1) (steps_left t steps) → (b : Bool) → has_time t s ≡ b → LieFrom (t + 1) (steps_left t (s ∷ steps))
+    by : LieFrom (t + 1) (steps_left t steps) → (b : Bool) → has_time t s ≡ b
+        → LieFrom (t + 1) (steps_left t (s ∷ steps))
     by rest true e = rw (left_after t s steps e) rest
-    by rest false e = rw (left_all t s steps e) (in_order_from (t + 1) s steps order (it_is_later t s.time e (All-head (λ (step : TimedStep). t ≤ step.time) s steps from)))
+    by rest false e = rw (left_all t s steps e)
+        (in_order_from (t + 1) s steps order (it_is_later t s.time e
+        (All-head (λ (step : TimedStep). t ≤ step.time) s steps from)))
 
 pub left_in_order : (t : ℕ) (steps : List TimedStep) → AreInOrder steps → AreInOrder (steps_left t steps)
 unfolding steps_left
@@ -125,7 +137,8 @@ pub all_stay : (t : ℕ) (steps : List TimedStep) → LieFrom t steps → steps_
 all_stay t [] h = refl
 all_stay t (s ∷ steps) h =
     rw (is_from t s.time (All-head (λ (step : TimedStep). t ≤ step.time) s steps h))
-    (ap (λ (rest : List TimedStep). s ∷ rest) (all_stay t steps (All-tail (λ (step : TimedStep). t ≤ step.time) s steps h)))
+    (ap (λ (rest : List TimedStep). s ∷ rest)
+    (all_stay t steps (All-tail (λ (step : TimedStep). t ≤ step.time) s steps h)))
 
 none_at : (t : ℕ) (steps : List TimedStep) → LieFrom (t + 1) steps → filter (has_time t) steps ≡ []
 none_at t [] h = refl
@@ -134,46 +147,59 @@ none_at t (s ∷ steps) h =
     (none_at t steps (All-tail (λ (step : TimedStep). t + 1 ≤ step.time) s steps h))
 
 -- all from the next moment on, where the first isn't of this one
-later_ones : (t : ℕ) (s : TimedStep) (steps : List TimedStep) → AreInOrder (s ∷ steps) → t ≤ s.time → has_time t s ≡ false → LieFrom (t + 1) (s ∷ steps)
+later_ones : (t : ℕ) (s : TimedStep) (steps : List TimedStep) → AreInOrder (s ∷ steps) → t ≤ s.time
+    → has_time t s ≡ false → LieFrom (t + 1) (s ∷ steps)
 later_ones t s steps order from e = in_order_from (t + 1) s steps order (it_is_later t s.time e from)
 
-due_of_these : (t : ℕ) (steps : List TimedStep) → AreInOrder steps → LieFrom t steps → steps_due t steps ≡ filter (has_time t) steps
+due_of_these : (t : ℕ) (steps : List TimedStep) → AreInOrder steps → LieFrom t steps
+    → steps_due t steps ≡ filter (has_time t) steps
 unfolding steps_due
 due_of_these t [] order from = refl
 due_of_these t (s ∷ steps) order from =
-    by (All-head (λ (step : TimedStep). t ≤ step.time) s steps from) (due_of_these t steps (rest_in_order s steps order) (All-tail (λ (step : TimedStep). t ≤ step.time) s steps from)) (has_time t s) refl
+    by (All-head (λ (step : TimedStep). t ≤ step.time) s steps from)
+    (due_of_these t steps (rest_in_order s steps order)
+    (All-tail (λ (step : TimedStep). t ≤ step.time) s steps from)) (has_time t s) refl
   where
-    by : t ≤ s.time → steps_due t steps ≡ filter (has_time t) steps → (b : Bool) → has_time t s ≡ b → steps_due t (s ∷ steps) ≡ filter (has_time t) (s ∷ steps)
+    by : t ≤ s.time → steps_due t steps ≡ filter (has_time t) steps → (b : Bool) → has_time t s ≡ b
+        → steps_due t (s ∷ steps) ≡ filter (has_time t) (s ∷ steps)
     by h rest true e = due_first t s steps e ∙ ap (λ (xs : List TimedStep). s ∷ xs) rest ∙ sym (rw e refl)
     by h rest false e = due_none t s steps e ∙ sym (none_at t (s ∷ steps) (later_ones t s steps order h e))
 
-left_of_these : (t : ℕ) (steps : List TimedStep) → AreInOrder steps → LieFrom t steps → steps_left t steps ≡ steps_from (t + 1) steps
+left_of_these : (t : ℕ) (steps : List TimedStep) → AreInOrder steps → LieFrom t steps
+    → steps_left t steps ≡ steps_from (t + 1) steps
 unfolding steps_left
 left_of_these t [] order from = refl
 left_of_these t (s ∷ steps) order from =
-    by (All-head (λ (step : TimedStep). t ≤ step.time) s steps from) (left_of_these t steps (rest_in_order s steps order) (All-tail (λ (step : TimedStep). t ≤ step.time) s steps from)) (has_time t s) refl
+    by (All-head (λ (step : TimedStep). t ≤ step.time) s steps from)
+    (left_of_these t steps (rest_in_order s steps order)
+    (All-tail (λ (step : TimedStep). t ≤ step.time) s steps from)) (has_time t s) refl
   where
-    by : t ≤ s.time → steps_left t steps ≡ steps_from (t + 1) steps → (b : Bool) → has_time t s ≡ b → steps_left t (s ∷ steps) ≡ steps_from (t + 1) (s ∷ steps)
+    by : t ≤ s.time → steps_left t steps ≡ steps_from (t + 1) steps → (b : Bool) → has_time t s ≡ b
+        → steps_left t (s ∷ steps) ≡ steps_from (t + 1) (s ∷ steps)
     by h rest true e = left_after t s steps e ∙ rest ∙ sym (rw (is_over t s.time e) refl)
     by h rest false e = left_all t s steps e ∙ sym (all_stay (t + 1) (s ∷ steps) (later_ones t s steps order h e))
 
-pub due_of_all : (t : ℕ) (steps : List TimedStep) → AreInOrder steps → steps_due t (steps_from t steps) ≡ filter (has_time t) steps
+pub due_of_all : (t : ℕ) (steps : List TimedStep) → AreInOrder steps
+    → steps_due t (steps_from t steps) ≡ filter (has_time t) steps
 unfolding steps_due
 due_of_all t [] order = refl
 due_of_all t (s ∷ steps) order = by (due_of_all t steps (rest_in_order s steps order)) (nat_le t s.time) refl
   where
-    by : steps_due t (steps_from t steps) ≡ filter (has_time t) steps → (b : Bool) → nat_le t s.time ≡ b → steps_due t (steps_from t (s ∷ steps)) ≡ filter (has_time t) (s ∷ steps)
+    by : steps_due t (steps_from t steps) ≡ filter (has_time t) steps → (b : Bool) → nat_le t s.time ≡ b
+        → steps_due t (steps_from t (s ∷ steps)) ≡ filter (has_time t) (s ∷ steps)
     by rest true e =
         let from = in_order_from t s steps order (from_is t s.time e) in
         ap (steps_due t) (all_stay t (s ∷ steps) from) ∙ due_of_these t (s ∷ steps) order from
     by rest false e = rw (e, is_before t s.time e) rest
 
-pub left_of_all : (t : ℕ) (steps : List TimedStep) → AreInOrder steps → steps_left t (steps_from t steps) ≡ steps_from (t + 1) steps
+pub left_of_all : (t : ℕ) (steps : List TimedStep) → AreInOrder steps
+    → steps_left t (steps_from t steps) ≡ steps_from (t + 1) steps
 unfolding steps_left
 left_of_all t [] order = refl
 left_of_all t (s ∷ steps) order = by (left_of_all t steps (rest_in_order s steps order)) (nat_le t s.time) refl
   where
-    by : steps_left t (steps_from t steps) ≡ steps_from (t + 1) steps → (b : Bool) → nat_le t s.time ≡ b → steps_left t (steps_from t (s ∷ steps)) ≡ steps_from (t + 1) (s ∷ steps)
+    by : steps_left t (steps_from t steps) ≡ steps_from (t + 1) steps → (b : Bool) → nat_le t s.time ≡ b
+        → steps_left t (steps_from t (s ∷ steps)) ≡ steps_from (t + 1) (s ∷ steps)
     by rest true e =
         let from = in_order_from t s steps order (from_is t s.time e) in
         ap (steps_left t) (all_stay t (s ∷ steps) from) ∙ left_of_these t (s ∷ steps) order from

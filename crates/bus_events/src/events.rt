@@ -1,9 +1,9 @@
 //! What the events of a scenario do to the nodes of a bus.
 
 ghost use Rattle.std.specs.Prelude.{◌≡◌, ◌<◌, ◌≤◌, ◌+◌, false, length, map, OnOk};
-ghost use Rattle.asking.specs.Asking.{followed, outcome, reads};
+ghost use Rattle.asking.specs.Asking.{after_reads, outcome, reads};
 ghost use Rattle.bus_events.specs.Each.{each};
-ghost use Rattle.bus_events.specs.Events.{events_at, happens, power_at, set_at};
+ghost use Rattle.bus_events.specs.Events.{after_events_at, after_event, after_power_at, after_set_at};
 ghost use Rattle.bus_events.specs.Steps.{AreFree};
 ghost use Rattle.co_base.specs.Ranges.{is_between};
 ghost use Rattle.co_parts.specs.Images.{IsFree};
@@ -16,7 +16,7 @@ use nmt_boot::Manager;
 use std::alloc::AllocError;
 
 /// A device sets an entry of its own at the moment t, if it has this number.
-#[tactic(auto, unfolding(crate::specs::Events::set_at))]
+#[tactic(auto, unfolding(crate::specs::Events::after_set_at))]
 fn set_one(
     device: &mut ScheduledDevice,
     t: u64,
@@ -27,7 +27,7 @@ fn set_one(
     requires soon { t < END }
     requires short { length bytes.now ≤ 512 }
     requires free { is_between 0x1400 0x1BFF place.0 ≡ false }
-    ensures { OnOk result (device.new ≡ set_at t node place bytes.now device.old) }
+    ensures { OnOk result (device.new ≡ after_set_at t node place bytes.now device.old) }
 {
     if device.number() != node {
         return Ok(());
@@ -46,7 +46,7 @@ fn set_each(
     requires soon { t < END }
     requires short { length bytes.now ≤ 512 }
     requires free { is_between 0x1400 0x1BFF place.0 ≡ false }
-    ensures { OnOk result (devices.new ≡ map (set_at t node place bytes.now) devices.old) }
+    ensures { OnOk result (devices.new ≡ map (after_set_at t node place bytes.now) devices.old) }
 {
     for device in devices.iter_mut() {
         set_one(device, t, node, place, bytes)?;
@@ -55,7 +55,7 @@ fn set_each(
 }
 
 /// Switches the power of a device at the moment t, if it has this number.
-#[tactic(auto, unfolding(crate::specs::Events::power_at))]
+#[tactic(auto, unfolding(crate::specs::Events::after_power_at))]
 fn power_one<P: Shapes>(
     device: &mut ScheduledDevice,
     t: u64,
@@ -64,9 +64,11 @@ fn power_one<P: Shapes>(
     shapes: &mut P,
 ) -> Result<(), AllocError>
     requires { t < END }
-    ensures state { OnOk result (device.new ≡ outcome (power_at t node on device.old) (P.seen shapes.old).image) }
-    ensures noted { OnOk result (P.seen shapes.new ≡ followed (power_at t node on device.old) (P.seen shapes.old)) }
-    ensures counted { OnOk result (P.asks shapes.new ≤ P.asks shapes.old + length (reads (power_at t node on device.old) (P.seen shapes.old).image)) }
+    ensures state { OnOk result (device.new ≡ outcome (after_power_at t node on device.old) (P.seen shapes.old).image) }
+    ensures noted { OnOk result (P.seen shapes.new ≡ after_reads (after_power_at t node on device.old)
+        (P.seen shapes.old)) }
+    ensures counted { OnOk result (P.asks shapes.new
+        ≤ P.asks shapes.old + length (reads (after_power_at t node on device.old) (P.seen shapes.old).image)) }
     ensures kept { (P.seen shapes.new).image ≡ (P.seen shapes.old).image }
 {
     if device.number() != node {
@@ -84,9 +86,12 @@ fn power_each<P: Shapes>(
     shapes: &mut P,
 ) -> Result<(), AllocError>
     requires { t < END }
-    ensures state { OnOk result (devices.new ≡ outcome (each (power_at t node on) devices.old) (P.seen shapes.old).image) }
-    ensures noted { OnOk result (P.seen shapes.new ≡ followed (each (power_at t node on) devices.old) (P.seen shapes.old)) }
-    ensures counted { OnOk result (P.asks shapes.new ≤ P.asks shapes.old + length (reads (each (power_at t node on) devices.old) (P.seen shapes.old).image)) }
+    ensures state { OnOk result (devices.new ≡ outcome (each (after_power_at t node on) devices.old)
+        (P.seen shapes.old).image) }
+    ensures noted { OnOk result (P.seen shapes.new ≡ after_reads (each (after_power_at t node on) devices.old)
+        (P.seen shapes.old)) }
+    ensures counted { OnOk result (P.asks shapes.new
+        ≤ P.asks shapes.old + length (reads (each (after_power_at t node on) devices.old) (P.seen shapes.old).image)) }
     ensures kept { (P.seen shapes.new).image ≡ (P.seen shapes.old).image }
 {
     for device in devices.iter_mut() {
@@ -106,10 +111,15 @@ fn happen<P: Shapes>(
 ) -> Result<(), AllocError>
     requires soon { t < END }
     requires free { IsFree step.now }
-    ensures devices { OnOk result (devices.new ≡ (outcome (happens t step.now (devices.old, manager.old)) (P.seen shapes.old).image).0) }
-    ensures manager { OnOk result (manager.new ≡ (outcome (happens t step.now (devices.old, manager.old)) (P.seen shapes.old).image).1) }
-    ensures noted { OnOk result (P.seen shapes.new ≡ followed (happens t step.now (devices.old, manager.old)) (P.seen shapes.old)) }
-    ensures counted { OnOk result (P.asks shapes.new ≤ P.asks shapes.old + length (reads (happens t step.now (devices.old, manager.old)) (P.seen shapes.old).image)) }
+    ensures devices { OnOk result (devices.new
+        ≡ (outcome (after_event t step.now (devices.old, manager.old)) (P.seen shapes.old).image).0) }
+    ensures manager { OnOk result (manager.new
+        ≡ (outcome (after_event t step.now (devices.old, manager.old)) (P.seen shapes.old).image).1) }
+    ensures noted { OnOk result (P.seen shapes.new ≡ after_reads (after_event t step.now (devices.old, manager.old))
+        (P.seen shapes.old)) }
+    ensures counted { OnOk result (P.asks shapes.new
+        ≤ P.asks shapes.old + length (reads (after_event t step.now (devices.old, manager.old))
+        (P.seen shapes.old).image)) }
     ensures kept { (P.seen shapes.new).image ≡ (P.seen shapes.old).image }
 {
     match step {
@@ -134,10 +144,15 @@ pub fn run_events<P: Shapes>(
 ) -> Result<(), AllocError>
     requires soon { t < END }
     requires free { AreFree steps.now }
-    ensures devices { OnOk result (devices.new ≡ (outcome (events_at t steps.now (devices.old, manager.old)) (P.seen shapes.old).image).0) }
-    ensures manager { OnOk result (manager.new ≡ (outcome (events_at t steps.now (devices.old, manager.old)) (P.seen shapes.old).image).1) }
-    ensures noted { OnOk result (P.seen shapes.new ≡ followed (events_at t steps.now (devices.old, manager.old)) (P.seen shapes.old)) }
-    ensures counted { OnOk result (P.asks shapes.new ≤ P.asks shapes.old + length (reads (events_at t steps.now (devices.old, manager.old)) (P.seen shapes.old).image)) }
+    ensures devices { OnOk result (devices.new
+        ≡ (outcome (after_events_at t steps.now (devices.old, manager.old)) (P.seen shapes.old).image).0) }
+    ensures manager { OnOk result (manager.new
+        ≡ (outcome (after_events_at t steps.now (devices.old, manager.old)) (P.seen shapes.old).image).1) }
+    ensures noted { OnOk result (P.seen shapes.new
+        ≡ after_reads (after_events_at t steps.now (devices.old, manager.old)) (P.seen shapes.old)) }
+    ensures counted { OnOk result (P.asks shapes.new
+        ≤ P.asks shapes.old + length (reads (after_events_at t steps.now (devices.old, manager.old))
+        (P.seen shapes.old).image)) }
     ensures kept { (P.seen shapes.new).image ≡ (P.seen shapes.old).image }
 {
     for step in steps {

@@ -30,7 +30,8 @@ impl Model for StepsLeft {
 
     ghost view = { λ steps. drop steps.next (in_window steps.window) };
 
-    ghost invariant = { λ steps. (steps.next ≤ length (in_window steps.window)) × AreFree (in_window steps.window) × (steps.first ≡ earliest (times (drop steps.next (in_window steps.window)))) };
+    ghost invariant = { λ steps. (steps.next ≤ length (in_window steps.window)) × AreFree (in_window steps.window)
+        × (steps.first ≡ earliest (times (drop steps.next (in_window steps.window)))) };
 }
 
 /// The events of a window; none where it is absent.

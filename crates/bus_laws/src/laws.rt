@@ -5,10 +5,11 @@ ghost use Rattle.asking.specs.Agenda.{IsSameUnder};
 ghost use Rattle.asking.specs.Alike.{AreAlike};
 ghost use Rattle.asking.specs.Asking.{Agrees, Answer, outcome, reads, turns};
 ghost use Rattle.bus_events.specs.Steps.{has_time, steps_due, steps_left};
-ghost use Rattle.can_bus.specs.Bus.{hears, instant, power_on, slot_started, window_begun, Bus};
+ghost use Rattle.can_bus.specs.Bus.{device_after_slot, instant, power_on, after_arbitration, after_window_start, Bus};
 ghost use Rattle.can_bus.specs.Dues.{IsAtRest, IsJustBefore, due_run, moments, next_due};
 ghost use Rattle.can_bus.specs.Lines.{line_time};
-ghost use Rattle.can_bus.specs.Runs.{is_shown, power_on_reads, run, trace, window_of, HasItsEvents, IsInTime, IsNextWindow, IsSettled, StartsWith};
+ghost use Rattle.can_bus.specs.Runs.{is_shown, power_on_reads, run, trace, window_of, HasItsEvents, IsInTime};
+ghost use Rattle.can_bus.specs.Runs.{IsNextWindow, IsSettled, StartsWith};
 ghost use Rattle.can_bus.specs.declared.line.Line.{Line as Told};
 ghost use Rattle.can_bus.specs.declared.slot.Slot.{Slot as Sent};
 ghost use Rattle.can_frame.specs.declared.contender.Contender.{Contender as Bid};
@@ -23,9 +24,13 @@ ghost use Rattle.co_parts.specs.declared.part.Part.TheVariants as part;
 /// are the run to 10,000.
 #[tactic(auto, using(asking::proofs::QuestionLemmas::two_images))]
 pub fn two_images()
-    ensures instants { (first second : Image) (t : ℕ) (s : Bus) → Agrees second (reads (instant t s) first) → AreAlike (instant t s) first second }
-    ensures runs { (first second : Image) (end : ℕ) → Agrees second (reads (run end) first) → AreAlike (run end) first second }
-    ensures spans { (first second : Image) (i : ℕ) (s : Bus) → Agrees second (reads (turns instant 10000 (10000 * i) s) first) → AreAlike (turns instant 10000 (10000 * i) s) first second }
+    ensures instants { (first second : Image) (t : ℕ) (s : Bus) → Agrees second (reads (instant t s) first)
+        → AreAlike (instant t s) first second }
+    ensures runs { (first second : Image) (end : ℕ) → Agrees second (reads (run end) first)
+        → AreAlike (run end) first second }
+    ensures spans { (first second : Image) (i : ℕ) (s : Bus)
+        → Agrees second (reads (turns instant 10000 (10000 * i) s) first)
+        → AreAlike (turns instant 10000 (10000 * i) s) first second }
 {}
 
 /// A bus at rest does nothing before its next due moment: an instant changes nothing, tells nothing and reads
@@ -41,9 +46,11 @@ pub fn before_a_due_moment_nothing_happens()
 #[tactic(auto, using(can_bus::proofs::DueRunLemmas::before_first, can_bus::proofs::DueRunLemmas::before_next, can_bus::proofs::DueRunLemmas::due_past))]
 pub fn each_instant_leaves_a_bus_at_rest()
     ensures first { (image : Image) → IsCoherent image → IsJustBefore 0 (outcome power_on image) }
-    ensures each { (image : Image) → IsCoherent image → (t : ℕ) (s : Bus) → IsJustBefore t s → IsJustBefore (t + 1) (outcome (instant t s) image).0 }
+    ensures each { (image : Image) → IsCoherent image → (t : ℕ) (s : Bus) → IsJustBefore t s
+        → IsJustBefore (t + 1) (outcome (instant t s) image).0 }
     ensures rest { (image : Image) (t : ℕ) (s : Bus) → IsJustBefore t s → IsAtRest (outcome (instant t s) image).0 }
-    ensures later { (image : Image) → IsCoherent image → (t : ℕ) (s : Bus) → IsJustBefore t s → t < next_due (outcome (instant t s) image).0 }
+    ensures later { (image : Image) → IsCoherent image → (t : ℕ) (s : Bus) → IsJustBefore t s
+        → t < next_due (outcome (instant t s) image).0 }
 {}
 
 /// Under a coherent image the run over due moments is the run over all moments: the same lines, the same end
@@ -61,13 +68,15 @@ pub fn power_on_reads_each_node()
 /// The lines of an instant have its time.
 #[tactic(auto, using(can_bus::proofs::ToldLemmas::lines_at))]
 pub fn lines_have_their_time()
-    ensures { (image : Image) (t : ℕ) (s : Bus) → All (λ (line : Told). line_time line ≡ t) (outcome (instant t s) image).1 }
+    ensures { (image : Image) (t : ℕ) (s : Bus)
+        → All (λ (line : Told). line_time line ≡ t) (outcome (instant t s) image).1 }
 {}
 
 /// The trace is what any run past the horizon shows up to it, and all that the run to the horizon tells.
 #[tactic(auto, using(can_bus::proofs::ToldLemmas::trace_laws))]
 pub fn trace_of_a_longer_run()
-    ensures longer { (image : Image) (horizon end : ℕ) → horizon < end → filter (is_shown horizon) (outcome (run end) image).1 ≡ trace image horizon }
+    ensures longer { (image : Image) (horizon end : ℕ) → horizon < end
+        → filter (is_shown horizon) (outcome (run end) image).1 ≡ trace image horizon }
     ensures whole { (image : Image) (horizon : ℕ) → (outcome (run (horizon + 1)) image).1 ≡ trace image horizon }
 {}
 
@@ -80,22 +89,25 @@ pub fn each_instant_leaves_a_settled_bus()
 /// A slot that starts at an idle wire is that of a waiting frame that no other is below.
 #[tactic(auto, using(can_bus::proofs::StartLemmas::slot_is_winners))]
 pub fn the_winner_starts()
-    ensures { (t : ℕ) (s : Bus) (slot : Sent) → s.wire ≡ None → (slot_started t s).wire ≡ Some slot → (c : Bid) × ((w : Queued) × StartsWith t s slot c w) }
+    ensures { (t : ℕ) (s : Bus) (slot : Sent) → s.wire ≡ None → (after_arbitration t s).wire ≡ Some slot
+        → (c : Bid) × ((w : Queued) × StartsWith t s slot c w) }
 {}
 
 /// A frame isn't delivered to the node that sends it.
 #[tactic(auto, using(can_bus::proofs::ReadLemmas::own_frame_unheard))]
 pub fn no_device_hears_its_own_frame()
-    ensures { (t : ℕ) (slot : Sent) (d : Device) → d.number ≡ slot.sender → hears t slot d ≡ Answer d }
+    ensures { (t : ℕ) (slot : Sent) (d : Device) → d.number ≡ slot.sender → device_after_slot t slot d ≡ Answer d }
 {}
 
 /// Windows start at the whole multiples of 10,000 microseconds, and at no other moment. Where one starts, its
 /// events are asked for, and nothing else before they run.
 #[tactic(auto, using(can_bus::proofs::TimeLemmas::each_window, can_bus::proofs::TimeLemmas::window_reads, can_bus::proofs::TimeLemmas::no_window_starts))]
 pub fn windows_start_at_whole_multiples()
-    ensures next { (image : Image) (t : ℕ) (s : Bus) → IsNextWindow t s.window → IsNextWindow (t + 1) (outcome (instant t s) image).0.window }
-    ensures asked { (image : Image) (i : ℕ) (s : Bus) → s.window ≡ 10000 * i → reads (window_begun (10000 * i) s) image ≡ (part.Events i, image (part.Events i)) ∷ [] }
-    ensures quiet { (t : ℕ) (s : Bus) → t ≢ s.window → window_begun t s ≡ Answer s }
+    ensures next { (image : Image) (t : ℕ) (s : Bus) → IsNextWindow t s.window
+        → IsNextWindow (t + 1) (outcome (instant t s) image).0.window }
+    ensures asked { (image : Image) (i : ℕ) (s : Bus) → s.window ≡ 10000 * i
+        → reads (after_window_start (10000 * i) s) image ≡ (part.Events i, image (part.Events i)) ∷ [] }
+    ensures quiet { (t : ℕ) (s : Bus) → t ≢ s.window → after_window_start t s ≡ Answer s }
 {}
 
 /// Under a coherent image the next window starts at its moment, and the events that have not run are in order
@@ -103,8 +115,10 @@ pub fn windows_start_at_whole_multiples()
 #[tactic(auto, using(can_bus::proofs::TimeLemmas::in_time_first, can_bus::proofs::TimeLemmas::in_time_after, can_bus::proofs::TimeLemmas::instant_steps))]
 pub fn events_that_are_left_lie_ahead()
     ensures first { (image : Image) → IsInTime 0 (outcome power_on image) }
-    ensures each { (image : Image) (t : ℕ) (s : Bus) → IsCoherent image → IsInTime t s → IsInTime (t + 1) (outcome (instant t s) image).0 }
-    ensures left { (image : Image) (t : ℕ) (s : Bus) → (outcome (instant t s) image).0.steps ≡ steps_left t (outcome (window_begun t s) image).steps }
+    ensures each { (image : Image) (t : ℕ) (s : Bus) → IsCoherent image → IsInTime t s
+        → IsInTime (t + 1) (outcome (instant t s) image).0 }
+    ensures left { (image : Image) (t : ℕ) (s : Bus)
+        → (outcome (instant t s) image).0.steps ≡ steps_left t (outcome (after_window_start t s) image).steps }
 {}
 
 /// Under a coherent image the events that run in the instant at the moment t are those with this time in the
@@ -112,7 +126,8 @@ pub fn events_that_are_left_lie_ahead()
 #[tactic(auto, using(can_bus::proofs::TimeLemmas::has_events_first, can_bus::proofs::TimeLemmas::has_events_after, can_bus::proofs::TimeLemmas::due_are_its_events))]
 pub fn each_event_runs_at_its_time()
     ensures first { (image : Image) → HasItsEvents image 0 (outcome power_on image) }
-    ensures each { (image : Image) (t : ℕ) (s : Bus) → IsCoherent image → HasItsEvents image t s → HasItsEvents image (t + 1) (outcome (instant t s) image).0 }
+    ensures each { (image : Image) (t : ℕ) (s : Bus) → IsCoherent image → HasItsEvents image t s
+        → HasItsEvents image (t + 1) (outcome (instant t s) image).0 }
     ensures due { (image : Image) (t : ℕ) (s : Bus) → IsCoherent image → HasItsEvents image t s
-        → steps_due t (outcome (window_begun t s) image).steps ≡ filter (has_time t) (window_of image t) }
+        → steps_due t (outcome (after_window_start t s) image).steps ≡ filter (has_time t) (window_of image t) }
 {}

@@ -50,7 +50,8 @@ module _ (t : ℕ) where
 
   from_devices : (ds : List Device) → DevicesFrom t ds → AllFrom (flat_map device.moments ds)
   from_devices [] h = All-nil (λ m. t ≤ m)
-  from_devices (d ∷ ds) h = All-append (λ m. t ≤ m) (device.moments d) (flat_map device.moments ds) h.0 (from_devices ds h.1)
+  from_devices (d ∷ ds) h = All-append (λ m. t ≤ m) (device.moments d)
+      (flat_map device.moments ds) h.0 (from_devices ds h.1)
 
   slot_from : (wire : Option Slot) → AllFrom (slot_moments wire) → SlotFrom t wire
   slot_from None h = tt
@@ -63,12 +64,14 @@ module _ (t : ℕ) where
   steps_from : (steps : List TimedStep) → AllFrom (step_moments steps) → LieFrom t steps
   steps_from [] h = All-nil (λ (step : TimedStep). t ≤ step.time)
   steps_from (s ∷ steps) h =
-      All-cons (λ (step : TimedStep). t ≤ step.time) s steps (All-head (λ m. t ≤ m) s.time (step_moments steps) h) (steps_from steps (All-tail (λ m. t ≤ m) s.time (step_moments steps) h))
+      All-cons (λ (step : TimedStep). t ≤ step.time) s steps (All-head (λ m. t ≤ m) s.time (step_moments steps) h)
+      (steps_from steps (All-tail (λ m. t ≤ m) s.time (step_moments steps) h))
 
   from_steps : (steps : List TimedStep) → LieFrom t steps → AllFrom (step_moments steps)
   from_steps [] h = All-nil (λ m. t ≤ m)
   from_steps (s ∷ steps) h =
-      All-cons (λ m. t ≤ m) s.time (step_moments steps) (All-head (λ (step : TimedStep). t ≤ step.time) s steps h) (from_steps steps (All-tail (λ (step : TimedStep). t ≤ step.time) s steps h))
+      All-cons (λ m. t ≤ m) s.time (step_moments steps) (All-head (λ (step : TimedStep). t ≤ step.time) s steps h)
+      (from_steps steps (All-tail (λ (step : TimedStep). t ≤ step.time) s steps h))
 
   pub parts_from : (s : Bus) → All (λ m. t ≤ m) (moments s) → AreFrom t s
   parts_from s h =
@@ -86,9 +89,11 @@ module _ (t : ℕ) where
   pub from_parts : (s : Bus) → AreFrom t s → All (λ m. t ≤ m) (moments s)
   from_parts s h =
       let rest = slot_moments s.wire ++ step_moments s.steps in
-      All-append (λ m. t ≤ m) (flat_map device.moments s.devices) (manager.moments s.manager ++ rest) (from_devices s.devices h.devices)
+      All-append (λ m. t ≤ m) (flat_map device.moments s.devices) (manager.moments s.manager ++ rest)
+      (from_devices s.devices h.devices)
       (All-append (λ m. t ≤ m) (manager.moments s.manager) rest h.manager
-      (All-append (λ m. t ≤ m) (slot_moments s.wire) (step_moments s.steps) (from_slot s.wire h.slot) (from_steps s.steps h.steps)))
+      (All-append (λ m. t ≤ m) (slot_moments s.wire) (step_moments s.steps) (from_slot s.wire h.slot)
+      (from_steps s.steps h.steps)))
 
   -- ---- the least of them
 
@@ -116,7 +121,10 @@ module _ (t : ℕ) where
 
 -- the next due moment lies after t, and so do all and the start of the next window
 pub due_later : (t : ℕ) (s : Bus) → (t < next_due s) ↔ ((t < s.window) × All (λ m. t < m) (moments s))
-due_later t s = (λ h. later (from_due (t + 1) s (omega (arith, h))), λ h. soonest (due_from (t + 1) s (omega (arith, h.0)) (λ k d p. one_later t _ (h.1 k d p))))
+due_later t s = (
+  λ h. later (from_due (t + 1) s (omega (arith, h))),
+  λ h. soonest (due_from (t + 1) s (omega (arith, h.0)) (λ k d p. one_later t _ (h.1 k d p))),
+)
   where
     one_later : (t m : ℕ) → t < m → t + 1 ≤ m
     one_later t m h = omega (arith, h)

@@ -1,31 +1,49 @@
 -- An instant: the window, the events, what the nodes do, and what is on the wire.
 use Rattle.std.proofs.Common.{◌≡◌, ℕ, ◌+◌, ◌++◌, List, Option, ap, length, length-append, refl, ◌∙◌}
 use Rattle.std.proofs.lemmas.List.{append-nil}
-use Rattle.asking.specs.Asking.{Answer, Seen, outcome, reads, followed}
+use Rattle.asking.specs.Asking.{Answer, Seen, outcome, reads, after_reads}
 use Rattle.asking.proofs.QuestionLemmas.{outcome_bind, reads_bind, followed_bind, followed_last}
 use Rattle.co_parts.specs.Contents.{Content, Image}
 use Rattle.co_parts.specs.declared.part.Part.{Part}
 use Rattle.co_device.specs.Device.{Device}
 use Rattle.nmt_boot.specs.Manager.{Manager}
-use Rattle.can_bus.specs.Bus.{Bus, after_nodes, after_window, ended, events_run, from_delivery_on, instant, nodes_at, on_wire, slot_started, window_begun}
+use Rattle.can_bus.specs.Bus.{Bus, after_nodes, after_window, ended_slot, after_events, from_delivery_on, instant}
+use Rattle.can_bus.specs.Bus.{nodes_after, open_slot, after_arbitration, after_window_start}
 use Rattle.can_bus.specs.declared.slot.Slot.{Slot}
 
 module _ (t : ℕ) (s : Bus) where
-  pub outcome_delivery : (image : Image) → outcome (from_delivery_on t s) image ≡ after_nodes t s (outcome (nodes_at t (ended t s.wire) s.devices s.manager) image)
+  pub outcome_delivery : (image : Image) → outcome (from_delivery_on t s) image
+      ≡ after_nodes t s (outcome (nodes_after t (ended_slot t s.wire) s.devices s.manager) image)
   unfolding from_delivery_on
-  outcome_delivery image = outcome_bind (nodes_at t (ended t s.wire) s.devices s.manager) (λ q. Answer (after_nodes t s q)) image
+  outcome_delivery image = outcome_bind (nodes_after t (ended_slot t s.wire) s.devices s.manager)
+      (λ q. Answer (after_nodes t s q)) image
 
-  pub reads_delivery : (image : Image) → reads (from_delivery_on t s) image ≡ reads (nodes_at t (ended t s.wire) s.devices s.manager) image
+  pub reads_delivery : (image : Image) → reads (from_delivery_on t s) image
+      ≡ reads (nodes_after t (ended_slot t s.wire) s.devices s.manager) image
   unfolding from_delivery_on
-  reads_delivery image = reads_bind (nodes_at t (ended t s.wire) s.devices s.manager) (λ q. Answer (after_nodes t s q)) image ∙ append-nil _
+  reads_delivery image = reads_bind (nodes_after t (ended_slot t s.wire) s.devices s.manager)
+      (λ q. Answer (after_nodes t s q)) image ∙ append-nil _
 
-  pub followed_delivery : (seen : Seen Part Content) → followed (from_delivery_on t s) seen ≡ followed (nodes_at t (ended t s.wire) s.devices s.manager) seen
+  pub followed_delivery : (seen : Seen Part Content)
+      → after_reads (from_delivery_on t s) seen
+      ≡ after_reads (nodes_after t (ended_slot t s.wire) s.devices s.manager) seen
   unfolding from_delivery_on
-  followed_delivery seen = followed_last (nodes_at t (ended t s.wire) s.devices s.manager) (after_nodes t s) seen
+  followed_delivery seen = followed_last (nodes_after t (ended_slot t s.wire) s.devices s.manager)
+      (after_nodes t s) seen
 
-  pub delivery_state : (image : Image) (slot wire : Option Slot) (before after : List Device) (m : Manager) (new : Bus) → slot ≡ ended t s.wire → before ≡ s.devices
-      → after ≡ (outcome (nodes_at t slot before s.manager) image).0 → m ≡ (outcome (nodes_at t slot before s.manager) image).1.0 → wire ≡ on_wire t s.wire
-      → new ≡ slot_started t (record { spent = s.spent; bit_time = s.bit_time; devices = after; manager = m; wire = wire; window = s.window; steps = s.steps }) → new ≡ (outcome (from_delivery_on t s) image).0
+  pub delivery_state : (image : Image) (slot wire : Option Slot) (before after : List Device) (m : Manager) (new : Bus)
+      → slot ≡ ended_slot t s.wire → before ≡ s.devices
+      → after ≡ (outcome (nodes_after t slot before s.manager) image).0
+      → m ≡ (outcome (nodes_after t slot before s.manager) image).1.0 → wire ≡ open_slot t s.wire
+      → new ≡ after_arbitration t (record {
+        spent = s.spent;
+        bit_time = s.bit_time;
+        devices = after;
+        manager = m;
+        wire = wire;
+        window = s.window;
+        steps = s.steps;
+      }) → new ≡ (outcome (from_delivery_on t s) image).0
   delivery_state image slot wire before after m new e f d h w n = rw (outcome_delivery, n, w, d, h, e, f)
 
 pub ruleset delivery_laws = (outcome_delivery, reads_delivery, followed_delivery)
@@ -34,31 +52,38 @@ pub ruleset delivery_laws = (outcome_delivery, reads_delivery, followed_delivery
 
 module _ (t : ℕ) (s : Bus) (image : Image) where
   abbrev pub begun : Bus
-  begun = outcome (window_begun t s) image
+  begun = outcome (after_window_start t s) image
 
   abbrev pub run_by_events : Bus
-  run_by_events = outcome (events_run t begun) image
+  run_by_events = outcome (after_events t begun) image
 
   pub outcome_instant : outcome (instant t s) image ≡ outcome (from_delivery_on t run_by_events) image
   unfolding instant after_window
   outcome_instant =
-      outcome_bind (window_begun t s) (λ b. after_window t b) image
-      ∙ outcome_bind (events_run t begun) (λ ran. from_delivery_on t ran) image
+      outcome_bind (after_window_start t s) (λ b. after_window t b) image
+      ∙ outcome_bind (after_events t begun) (λ ran. from_delivery_on t ran) image
 
-  pub reads_instant : reads (instant t s) image ≡ reads (window_begun t s) image ++ (reads (events_run t begun) image ++ reads (from_delivery_on t run_by_events) image)
+  pub reads_instant : reads (instant t s) image
+      ≡ reads (after_window_start t s) image ++ (reads (after_events t begun) image
+      ++ reads (from_delivery_on t run_by_events) image)
   unfolding instant after_window
   reads_instant =
-      reads_bind (window_begun t s) (λ b. after_window t b) image
-      ∙ ap (λ rs. reads (window_begun t s) image ++ rs) (reads_bind (events_run t begun) (λ ran. from_delivery_on t ran) image)
+      reads_bind (after_window_start t s) (λ b. after_window t b) image
+      ∙ ap (λ rs. reads (after_window_start t s) image ++ rs)
+      (reads_bind (after_events t begun) (λ ran. from_delivery_on t ran) image)
 
-  pub length_instant : length (reads (instant t s) image) ≡ length (reads (window_begun t s) image) + (length (reads (events_run t begun) image) + length (reads (from_delivery_on t run_by_events) image))
+  pub length_instant : length (reads (instant t s) image)
+      ≡ length (reads (after_window_start t s) image)
+      + (length (reads (after_events t begun) image) + length (reads (from_delivery_on t run_by_events) image))
   length_instant = rw (reads_instant, length-append, length-append) refl
 
 pub followed_instant : (t : ℕ) (s : Bus) (seen : Seen Part Content)
-    → followed (instant t s) seen ≡ followed (from_delivery_on t (run_by_events t s seen.image)) (followed (events_run t (begun t s seen.image)) (followed (window_begun t s) seen))
+    → after_reads (instant t s) seen ≡ after_reads (from_delivery_on t (run_by_events t s seen.image))
+    (after_reads (after_events t (begun t s seen.image)) (after_reads (after_window_start t s) seen))
 unfolding instant after_window
 followed_instant t s seen =
-    followed_bind (window_begun t s) (λ b. after_window t b) seen
-    ∙ followed_bind (events_run t (begun t s seen.image)) (λ ran. from_delivery_on t ran) (followed (window_begun t s) seen)
+    followed_bind (after_window_start t s) (λ b. after_window t b) seen
+    ∙ followed_bind (after_events t (begun t s seen.image)) (λ ran. from_delivery_on t ran)
+    (after_reads (after_window_start t s) seen)
 
 pub ruleset instant_laws = (outcome_instant, length_instant, followed_instant)

@@ -23,7 +23,9 @@ least_of_earliest one [] = refl
 least_of_earliest one (m ∷ ms) = sooner_is one m (earliest ms) ∙ ap (min m) (least_of_earliest one ms)
 
 -- of the window, the events, the wire, the manager and the devices
-pub next_due_is : (s : Bus) → next_due s ≡ least (least (least (least s.window (moments_of (earliest (times s.steps)))) (slot_moments s.wire)) (moments_of (manager.next_due s.manager))) (moments_of (earliest (flat_map device.moments s.devices)))
+pub next_due_is : (s : Bus) → next_due s
+    ≡ least (least (least (least s.window (moments_of (earliest (times s.steps)))) (slot_moments s.wire))
+    (moments_of (manager.next_due s.manager))) (moments_of (earliest (flat_map device.moments s.devices)))
 unfolding next_due Rattle.nmt_boot.specs.Manager.next_due
 next_due_is s =
     let ds = flat_map device.moments s.devices in
@@ -33,6 +35,9 @@ next_due_is s =
     let first = least s.window steps in
     let last = least first slots in
     least_append s.window ds (ms ++ (slots ++ steps))
-    ∙ ap (λ (n : ℕ). least n ds) (least_append s.window ms (slots ++ steps) ∙ ap (λ (n : ℕ). least n ms) (least_append s.window slots steps) ∙ sym (least_of_earliest last ms))
-    ∙ ap (λ (n : ℕ). least (least (least n slots) (moments_of (earliest ms))) ds) (sym (least_of_earliest s.window steps))
-    ∙ sym (least_of_earliest (least (least (least s.window (moments_of (earliest steps))) slots) (moments_of (earliest ms))) ds)
+    ∙ ap (λ (n : ℕ). least n ds) (least_append s.window ms (slots ++ steps)
+    ∙ ap (λ (n : ℕ). least n ms) (least_append s.window slots steps) ∙ sym (least_of_earliest last ms))
+    ∙ ap (λ (n : ℕ). least (least (least n slots) (moments_of (earliest ms))) ds)
+    (sym (least_of_earliest s.window steps))
+    ∙ sym (least_of_earliest (least (least (least s.window (moments_of (earliest steps))) slots)
+    (moments_of (earliest ms))) ds)

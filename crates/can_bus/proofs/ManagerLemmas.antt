@@ -1,30 +1,37 @@
 -- What the manager does with a delivered frame and then by its timers.
 use Rattle.std.proofs.Common.{◌≡◌, ℕ, List, ◌++◌, Option, ◌∙◌, ap, sym, append_assoc}
 use Rattle.std.proofs.lemmas.List.{append-nil}
-use Rattle.asking.specs.Asking.{Answer, Seen, outcome, reads, followed}
+use Rattle.asking.specs.Asking.{Answer, Seen, outcome, reads, after_reads}
 use Rattle.asking.proofs.QuestionLemmas.{outcome_bind, reads_bind, followed_last}
 use Rattle.co_parts.specs.Contents.{Content, Image}
 use Rattle.co_parts.specs.declared.part.Part.{Part}
 use Rattle.nmt_boot.specs.Manager.{Manager, timers}
 use Rattle.nmt_boot.specs.declared.note.Note.{Note}
-use Rattle.can_bus.specs.Bus.{managed, manager_hears, manager_timers}
+use Rattle.can_bus.specs.Bus.{manager_after_delivery, manager_after_slot, manager_after_timers}
 use Rattle.can_bus.specs.declared.slot.Slot.{Slot}
 
 module _ (t : ℕ) (slot : Option Slot) (m : Manager) where
-  pub outcome_managed : (image : Image) → outcome (managed t slot m) image ≡ manager_timers t (outcome (manager_hears t slot m) image)
-  unfolding managed
-  outcome_managed image = outcome_bind (manager_hears t slot m) (λ r. Answer (manager_timers t r)) image
+  pub outcome_managed : (image : Image) → outcome (manager_after_delivery t slot m) image
+      ≡ manager_after_timers t (outcome (manager_after_slot t slot m) image)
+  unfolding manager_after_delivery
+  outcome_managed image = outcome_bind (manager_after_slot t slot m) (λ r. Answer (manager_after_timers t r)) image
 
-  pub reads_managed : (image : Image) → reads (managed t slot m) image ≡ reads (manager_hears t slot m) image
-  unfolding managed
-  reads_managed image = reads_bind (manager_hears t slot m) (λ r. Answer (manager_timers t r)) image ∙ append-nil _
+  pub reads_managed : (image : Image) → reads (manager_after_delivery t slot m) image
+      ≡ reads (manager_after_slot t slot m) image
+  unfolding manager_after_delivery
+  reads_managed image = reads_bind (manager_after_slot t slot m) (λ r. Answer (manager_after_timers t r)) image
+      ∙ append-nil _
 
-  pub followed_managed : (seen : Seen Part Content) → followed (managed t slot m) seen ≡ followed (manager_hears t slot m) seen
-  unfolding managed
-  followed_managed seen = followed_last (manager_hears t slot m) (manager_timers t) seen
+  pub followed_managed : (seen : Seen Part Content)
+      → after_reads (manager_after_delivery t slot m) seen ≡ after_reads (manager_after_slot t slot m) seen
+  unfolding manager_after_delivery
+  followed_managed seen = followed_last (manager_after_slot t slot m) (manager_after_timers t) seen
 
   -- first what the frame brings about, and then the timers
-  pub told_managed : (image : Image) (before : List Note) → (before ++ (outcome (manager_hears t slot m) image).1) ++ (timers t (outcome (manager_hears t slot m) image).0).1 ≡ before ++ (outcome (managed t slot m) image).1
+  pub told_managed : (image : Image) (before : List Note)
+      → (before ++ (outcome (manager_after_slot t slot m) image).1)
+      ++ (timers t (outcome (manager_after_slot t slot m) image).0).1
+      ≡ before ++ (outcome (manager_after_delivery t slot m) image).1
   told_managed image before =
       append_assoc before _ _ ∙ ap (λ (r : Manager × List Note). before ++ r.1) (sym (outcome_managed image))
 

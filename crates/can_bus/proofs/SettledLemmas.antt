@@ -1,5 +1,6 @@
 -- After an instant no frame waits at an idle wire.
-use Rattle.std.proofs.Common.{◌≡◌, ℕ, List, [], ◌∷◌, ◌++◌, length, Option, Some, None, refl, sym, ap, ◌∙◌, arith, length-append}
+use Rattle.std.proofs.Common.{◌≡◌, ℕ, List, [], ◌∷◌, ◌++◌, length, Option, Some, None, refl, sym, ap, ◌∙◌, arith}
+use Rattle.std.proofs.Common.{length-append}
 use Rattle.std.specs.Prelude.{All}
 use Rattle.std.proofs.lemmas.List.Elements.{All-cons, All-nil}
 use Rattle.asking.specs.Asking.{outcome}
@@ -10,7 +11,8 @@ use Rattle.can_frame.proofs.WinnerLemmas.{length-contenders_of, winner_of-wins}
 use Rattle.co_device.specs.Device.{Device}
 use Rattle.co_parts.specs.Contents.{Image}
 use Rattle.nmt_boot.specs.Manager.{Manager}
-use Rattle.can_bus.specs.Bus.{Bus, ended, from_delivery_on, instant, lists, nodes_at, on_wire, slot_started, start_on, started, winner}
+use Rattle.can_bus.specs.Bus.{Bus, ended_slot, from_delivery_on, instant, waiting_lists, nodes_after, open_slot}
+use Rattle.can_bus.specs.Bus.{after_arbitration, after_start_on, with_slot_of, winner}
 use Rattle.can_bus.specs.Runs.{IsIdle, IsSettled, NoneWaits}
 use Rattle.can_bus.specs.declared.slot.Slot.{Slot}
 use Rattle.can_bus.proofs.InstantLemmas.{outcome_delivery, outcome_instant, run_by_events}
@@ -30,22 +32,24 @@ none_of xs ys e =
 none_at : (node : ℕ) (frames : List Waiting) → length (contenders_of (node, frames)) ≡ 0 → frames ≡ []
 none_at node frames e = empty frames (sym (length-contenders_of node frames) ∙ e)
 
-none_waits : (s : Bus) (ds : List Device) (m : Manager) → contenders (lists ds m) ≡ [] → All (λ d. d.waiting ≡ []) ds × (m.waiting ≡ [])
+none_waits : (s : Bus) (ds : List Device) (m : Manager) → contenders (waiting_lists ds m) ≡ []
+    → All (λ d. d.waiting ≡ []) ds × (m.waiting ≡ [])
 none_waits s [] m e =
     let last : ℕ × List Waiting = (m.number, m.waiting) in
     let here = none_of (contenders_of last) (contenders []) e in
     (All-nil (λ (d : Device). d.waiting ≡ []), none_at m.number m.waiting here.0)
 none_waits s (d ∷ ds) m e =
     let own : ℕ × List Waiting = (d.number, d.waiting) in
-    let here = none_of (contenders_of own) (contenders (lists ds m)) e in
-    let rest = none_waits s ds m (empty (contenders (lists ds m)) here.1) in
+    let here = none_of (contenders_of own) (contenders (waiting_lists ds m)) e in
+    let rest = none_waits s ds m (empty (contenders (waiting_lists ds m)) here.1) in
     (All-cons (λ (d : Device). d.waiting ≡ []) d ds (none_at d.number d.waiting here.0) rest.0, rest.1)
 
-none_wins : (ds : List Device) (m : Manager) → winner ds m ≡ None → contenders (lists ds m) ≡ []
+none_wins : (ds : List Device) (m : Manager) → winner ds m ≡ None → contenders (waiting_lists ds m) ≡ []
 unfolding winner
-none_wins ds m e = rw e at (winner_of-wins (contenders (lists ds m)))
+none_wins ds m e = rw e at (winner_of-wins (contenders (waiting_lists ds m)))
 
-started_settles : (t : ℕ) (s : Bus) (o : Option Contender) → winner s.devices s.manager ≡ o → IsIdle (started t o s).wire → NoneWaits (started t o s)
+started_settles : (t : ℕ) (s : Bus) (o : Option Contender) → winner s.devices s.manager ≡ o
+    → IsIdle (with_slot_of t o s).wire → NoneWaits (with_slot_of t o s)
 started_settles t s None e idle =
     let none = none_waits s s.devices s.manager (none_wins s.devices s.manager e) in
     record { devices = none.0; manager = none.1 }
@@ -54,18 +58,27 @@ started_settles t s (Some c) e idle = absurd idle
 not_idle : (wire : Option Slot) (slot : Slot) → wire ≡ Some slot → IsIdle wire → ⊥
 not_idle wire slot e h = rw e at h
 
-start_settles : (t : ℕ) (s : Bus) (wire : Option Slot) → s.wire ≡ wire → IsIdle (start_on t wire s).wire → NoneWaits (start_on t wire s)
+start_settles : (t : ℕ) (s : Bus) (wire : Option Slot) → s.wire ≡ wire → IsIdle (after_start_on t wire s).wire
+    → NoneWaits (after_start_on t wire s)
 start_settles t s None e idle = started_settles t s (winner s.devices s.manager) refl idle
 start_settles t s (Some slot) e idle = absurd (not_idle s.wire slot e idle)
 
-slot_settles : (t : ℕ) (s : Bus) → IsSettled (slot_started t s)
-unfolding IsSettled slot_started
+slot_settles : (t : ℕ) (s : Bus) → IsSettled (after_arbitration t s)
+unfolding IsSettled after_arbitration
 slot_settles t s = λ idle. start_settles t s s.wire refl idle
 
 delivery_settles : (image : Image) (t : ℕ) (s : Bus) → IsSettled (outcome (from_delivery_on t s) image).0
 delivery_settles image t s =
-    let q = outcome (nodes_at t (ended t s.wire) s.devices s.manager) image in
-    rw outcome_delivery (slot_settles t (record { spent = s.spent; bit_time = s.bit_time; devices = q.0; manager = q.1.0; wire = on_wire t s.wire; window = s.window; steps = s.steps }))
+    let q = outcome (nodes_after t (ended_slot t s.wire) s.devices s.manager) image in
+    rw outcome_delivery (slot_settles t (record {
+      spent = s.spent;
+      bit_time = s.bit_time;
+      devices = q.0;
+      manager = q.1.0;
+      wire = open_slot t s.wire;
+      window = s.window;
+      steps = s.steps;
+    }))
 
 pub instant_settles : (image : Image) (t : ℕ) (s : Bus) → IsSettled (outcome (instant t s) image).0
 instant_settles image t s = rw (outcome_instant t s image) (delivery_settles image t (run_by_events t s image))

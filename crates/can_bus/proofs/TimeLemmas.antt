@@ -1,5 +1,6 @@
 -- Windows start and events run at their times.
-use Rattle.std.proofs.Common.{◌≡◌, ◌≢◌, ℕ, ◌+◌, ◌*◌, ◌/◌, ◌≤◌, Bool, true, false, List, [], ◌∷◌, Option, Some, None, refl, sym, ap, ◌∙◌, arith, ◌<◌, filter}
+use Rattle.std.proofs.Common.{◌≡◌, ◌≢◌, ℕ, ◌+◌, ◌*◌, ◌/◌, ◌≤◌, Bool, true, false, List, [], ◌∷◌, Option, Some, None}
+use Rattle.std.proofs.Common.{refl, sym, ap, ◌∙◌, arith, ◌<◌, filter}
 use Rattle.std.specs.Prelude.{◌==◌}
 use Rattle.std.specs.List.{AllByRecursion}
 use Rattle.std.proofs.lemmas.Bool.Decides.{nat_tests}
@@ -12,7 +13,8 @@ use Rattle.co_parts.specs.Contents.{Image, roster_of, steps_of}
 use Rattle.co_parts.specs.Images.{AreInOrder, IsCoherent, IsWithin}
 use Rattle.co_parts.specs.declared.part.Part.TheVariants.{Events, Roster}
 use Rattle.co_scenario.specs.declared.timed_step.TimedStep.{TimedStep}
-use Rattle.can_bus.specs.Bus.{Bus, ended, from_delivery_on, in_new_window, instant, nodes_at, on_wire, power_on, slot_started, start_on, started, window_begun, winner}
+use Rattle.can_bus.specs.Bus.{Bus, ended_slot, from_delivery_on, with_window, instant, nodes_after, open_slot, power_on}
+use Rattle.can_bus.specs.Bus.{after_arbitration, after_start_on, with_slot_of, after_window_start, winner}
 use Rattle.can_bus.specs.Runs.{HasItsEvents, IsInTime, IsNextWindow, window_of}
 use Rattle.can_bus.specs.declared.slot.Slot.{Slot}
 use Rattle.can_bus.proofs.InstantLemmas.{begun, outcome_delivery, outcome_instant, run_by_events}
@@ -25,33 +27,46 @@ record IsSameWindow (s after : Bus) : Type 0 where
   window : after.window ≡ s.window
   steps : after.steps ≡ s.steps
 
-started_keeps : (t : ℕ) (o : Option Contender) (s : Bus) → IsSameWindow s (started t o s)
+started_keeps : (t : ℕ) (o : Option Contender) (s : Bus) → IsSameWindow s (with_slot_of t o s)
 started_keeps t None s = record { window = refl; steps = refl }
 started_keeps t (Some c) s = record { window = refl; steps = refl }
 
-start_keeps : (t : ℕ) (wire : Option Slot) (s : Bus) → IsSameWindow s (start_on t wire s)
+start_keeps : (t : ℕ) (wire : Option Slot) (s : Bus) → IsSameWindow s (after_start_on t wire s)
 start_keeps t None s = started_keeps t (winner s.devices s.manager) s
 start_keeps t (Some slot) s = record { window = refl; steps = refl }
 
-slot_keeps : (t : ℕ) (s : Bus) → IsSameWindow s (slot_started t s)
-unfolding slot_started
+slot_keeps : (t : ℕ) (s : Bus) → IsSameWindow s (after_arbitration t s)
+unfolding after_arbitration
 slot_keeps t s = start_keeps t s.wire s
 
 delivery_keeps : (image : Image) (t : ℕ) (s : Bus) → IsSameWindow s (outcome (from_delivery_on t s) image).0
 delivery_keeps image t s =
-    let q = outcome (nodes_at t (ended t s.wire) s.devices s.manager) image in
-    let kept = slot_keeps t (record { spent = s.spent; bit_time = s.bit_time; devices = q.0; manager = q.1.0; wire = on_wire t s.wire; window = s.window; steps = s.steps }) in
+    let q = outcome (nodes_after t (ended_slot t s.wire) s.devices s.manager) image in
+    let kept =
+    slot_keeps t (record {
+      spent = s.spent;
+      bit_time = s.bit_time;
+      devices = q.0;
+      manager = q.1.0;
+      wire = open_slot t s.wire;
+      window = s.window;
+      steps = s.steps;
+    }) in
     rw (outcome_delivery t s image) (record { window = kept.window; steps = kept.steps })
 
-pub instant_window : (image : Image) (t : ℕ) (s : Bus) → (outcome (instant t s) image).0.window ≡ (outcome (window_begun t s) image).window
+pub instant_window : (image : Image) (t : ℕ) (s : Bus)
+    → (outcome (instant t s) image).0.window ≡ (outcome (after_window_start t s) image).window
 instant_window image t s =
     rw (outcome_instant t s image)
-    ((delivery_keeps image t (run_by_events t s image)).window ∙ ap (λ (b : Bus). b.window) (outcome_events_run t (begun t s image) image))
+    ((delivery_keeps image t (run_by_events t s image)).window
+    ∙ ap (λ (b : Bus). b.window) (outcome_events_run t (begun t s image) image))
 
-pub instant_steps : (image : Image) (t : ℕ) (s : Bus) → (outcome (instant t s) image).0.steps ≡ steps_left t (outcome (window_begun t s) image).steps
+pub instant_steps : (image : Image) (t : ℕ) (s : Bus)
+    → (outcome (instant t s) image).0.steps ≡ steps_left t (outcome (after_window_start t s) image).steps
 instant_steps image t s =
     rw (outcome_instant t s image)
-    ((delivery_keeps image t (run_by_events t s image)).steps ∙ ap (λ (b : Bus). b.steps) (outcome_events_run t (begun t s image) image))
+    ((delivery_keeps image t (run_by_events t s image)).steps
+    ∙ ap (λ (b : Bus). b.steps) (outcome_events_run t (begun t s image) image))
 
 -- ---- a window starts, or none does
 
@@ -59,12 +74,12 @@ module _ (image : Image) (t : ℕ) (s : Bus) where
   abbrev handed_out : List TimedStep
   handed_out = steps_of (image (Events (t / 10000)))
 
-  pub starts : (t == s.window) ≡ true → outcome (window_begun t s) image ≡ in_new_window t handed_out s
-  unfolding window_begun
+  pub starts : (t == s.window) ≡ true → outcome (after_window_start t s) image ≡ with_window t handed_out s
+  unfolding after_window_start
   starts e = rw e refl
 
-  pub goes_on : (t == s.window) ≡ false → outcome (window_begun t s) image ≡ s
-  unfolding window_begun
+  pub goes_on : (t == s.window) ≡ false → outcome (after_window_start t s) image ≡ s
+  unfolding after_window_start
   goes_on e = rw e refl
 
 asked_number : (i : ℕ) → (10000 * i) / 10000 ≡ i
@@ -83,12 +98,13 @@ other_moment t u differ = by (t == u) refl
     by true e = absurd (differ (same e))
     by false e = e
 
-pub no_window_starts : (t : ℕ) (s : Bus) → t ≢ s.window → window_begun t s ≡ Answer s
-unfolding window_begun
+pub no_window_starts : (t : ℕ) (s : Bus) → t ≢ s.window → after_window_start t s ≡ Answer s
+unfolding after_window_start
 no_window_starts t s differ = rw (other_moment t s.window differ) refl
 
-pub window_reads : (image : Image) (i : ℕ) (s : Bus) → s.window ≡ 10000 * i → reads (window_begun (10000 * i) s) image ≡ (Events i, image (Events i)) ∷ []
-unfolding window_begun
+pub window_reads : (image : Image) (i : ℕ) (s : Bus) → s.window ≡ 10000 * i
+    → reads (after_window_start (10000 * i) s) image ≡ (Events i, image (Events i)) ∷ []
+unfolding after_window_start
 window_reads image i s e = rw (e, itself (10000 * i), asked_number i) refl
 
 -- ---- in time
@@ -112,19 +128,22 @@ next_window t moment e h =
 same_window : (t moment : ℕ) → t + 1 ≤ moment → IsNextWindow t moment → IsNextWindow (t + 1) moment
 same_window t moment later h = record { multiple = h.multiple; from = later; first = omega (arith, h.first) }
 
-pub begun_window : (image : Image) (t : ℕ) (s : Bus) → IsNextWindow t s.window → IsNextWindow (t + 1) (outcome (window_begun t s) image).window
+pub begun_window : (image : Image) (t : ℕ) (s : Bus) → IsNextWindow t s.window
+    → IsNextWindow (t + 1) (outcome (after_window_start t s) image).window
 begun_window image t s h = by (t == s.window) refl
   where
-    by : (b : Bool) → (t == s.window) ≡ b → IsNextWindow (t + 1) (outcome (window_begun t s) image).window
+    by : (b : Bool) → (t == s.window) ≡ b → IsNextWindow (t + 1) (outcome (after_window_start t s) image).window
     by true e = rw (starts image t s e) (next_window t s.window (it_is t s.window e) h)
     by false e = rw (goes_on image t s e) (same_window t s.window (it_is_later t s.window e h.from) h)
 
-pub each_window : (image : Image) (t : ℕ) (s : Bus) → IsNextWindow t s.window → IsNextWindow (t + 1) (outcome (instant t s) image).0.window
+pub each_window : (image : Image) (t : ℕ) (s : Bus) → IsNextWindow t s.window
+    → IsNextWindow (t + 1) (outcome (instant t s) image).0.window
 each_window image t s h = rw (instant_window image t s) (begun_window image t s h)
 
 within_from : (i : ℕ) (steps : List TimedStep) → AllByRecursion (IsWithin i) steps → LieFrom (10000 * i) steps
 within_from i [] h = All-nil (λ (step : TimedStep). 10000 * i ≤ step.time)
-within_from i (step ∷ steps) h = All-cons (λ (step : TimedStep). 10000 * i ≤ step.time) step steps h.0.0 (within_from i steps h.1)
+within_from i (step ∷ steps) h =
+    All-cons (λ (step : TimedStep). 10000 * i ≤ step.time) step steps h.0.0 (within_from i steps h.1)
 
 window_from : (t moment : ℕ) → t ≡ moment → IsNextWindow t moment → 10000 * (t / 10000) ≡ t
 window_from t moment e h =
@@ -137,25 +156,29 @@ record HasSteps (t : ℕ) (s : Bus) : Type 0 where
   order : AreInOrder s.steps
   from : LieFrom t s.steps
 
-begun_steps : (image : Image) (t : ℕ) (s : Bus) → IsCoherent image → IsInTime t s → HasSteps t (outcome (window_begun t s) image)
+begun_steps : (image : Image) (t : ℕ) (s : Bus) → IsCoherent image → IsInTime t s
+    → HasSteps t (outcome (after_window_start t s) image)
 begun_steps image t s coherent h = by (t == s.window) refl
   where
-    by : (b : Bool) → (t == s.window) ≡ b → HasSteps t (outcome (window_begun t s) image)
+    by : (b : Bool) → (t == s.window) ≡ b → HasSteps t (outcome (after_window_start t s) image)
     by true e =
         rw (starts image t s e)
         (record {
           order = coherent.ordered (t / 10000);
-          from = rw (window_from t s.window (it_is t s.window e) h.window) at (within_from (t / 10000) (handed_out image t s) (coherent.within (t / 10000)));
+          from = rw (window_from t s.window (it_is t s.window e) h.window) at (within_from (t / 10000)
+              (handed_out image t s) (coherent.within (t / 10000)));
         })
     by false e = rw (goes_on image t s e) (record { order = h.order; from = h.from })
 
-pub in_time_after : (image : Image) (t : ℕ) (s : Bus) → IsCoherent image → IsInTime t s → IsInTime (t + 1) (outcome (instant t s) image).0
+pub in_time_after : (image : Image) (t : ℕ) (s : Bus) → IsCoherent image → IsInTime t s
+    → IsInTime (t + 1) (outcome (instant t s) image).0
 in_time_after image t s coherent h =
     let steps = begun_steps image t s coherent h in
     record {
       window = each_window image t s h.window;
-      order = rw (instant_steps image t s) (left_in_order t (outcome (window_begun t s) image).steps steps.order);
-      from = rw (instant_steps image t s) (left_later t (outcome (window_begun t s) image).steps steps.order steps.from);
+      order = rw (instant_steps image t s) (left_in_order t (outcome (after_window_start t s) image).steps steps.order);
+      from = rw (instant_steps image t s)
+          (left_later t (outcome (after_window_start t s) image).steps steps.order steps.from);
     }
 
 pub in_time_first : (image : Image) → IsInTime 0 (outcome power_on image)
@@ -171,23 +194,29 @@ in_time_first image =
 -- ---- the events of each moment
 
 -- what has not run once a window was begun, if one is
-begun_has : (image : Image) (t : ℕ) (s : Bus) → IsCoherent image → HasItsEvents image t s → (outcome (window_begun t s) image).steps ≡ steps_from t (window_of image t)
+begun_has : (image : Image) (t : ℕ) (s : Bus) → IsCoherent image → HasItsEvents image t s
+    → (outcome (after_window_start t s) image).steps ≡ steps_from t (window_of image t)
 begun_has image t s coherent h = by (t == s.window) refl
   where
-    by : (b : Bool) → (t == s.window) ≡ b → (outcome (window_begun t s) image).steps ≡ steps_from t (window_of image t)
+    by : (b : Bool) → (t == s.window) ≡ b → (outcome (after_window_start t s) image).steps
+        ≡ steps_from t (window_of image t)
     by true e =
-        let from : LieFrom t (window_of image t) = rw (window_from t s.window (it_is t s.window e) h.window) at (within_from (t / 10000) (window_of image t) (coherent.within (t / 10000))) in
+        let from : LieFrom t (window_of image t) =
+        rw (window_from t s.window (it_is t s.window e) h.window) at (within_from (t / 10000) (window_of image t)
+        (coherent.within (t / 10000))) in
         rw (starts image t s e) (sym (all_stay t (window_of image t) from))
     by false e = rw (goes_on image t s e) (h.steps (omega (arith, it_is_later t s.window e h.window.from)))
 
-pub due_are_its_events : (image : Image) (t : ℕ) (s : Bus) → IsCoherent image → HasItsEvents image t s → steps_due t (outcome (window_begun t s) image).steps ≡ filter (has_time t) (window_of image t)
+pub due_are_its_events : (image : Image) (t : ℕ) (s : Bus) → IsCoherent image → HasItsEvents image t s
+    → steps_due t (outcome (after_window_start t s) image).steps ≡ filter (has_time t) (window_of image t)
 due_are_its_events image t s coherent h =
     ap (steps_due t) (begun_has image t s coherent h) ∙ due_of_all t (window_of image t) (coherent.ordered (t / 10000))
 
 same_number : (t i : ℕ) → t + 1 < 10000 * i → 10000 * i < t + 1 + 10000 → (t + 1) / 10000 ≡ t / 10000
 same_number t i h k = omega (arith, h, k)
 
-pub has_events_after : (image : Image) (t : ℕ) (s : Bus) → IsCoherent image → HasItsEvents image t s → HasItsEvents image (t + 1) (outcome (instant t s) image).0
+pub has_events_after : (image : Image) (t : ℕ) (s : Bus) → IsCoherent image → HasItsEvents image t s
+    → HasItsEvents image (t + 1) (outcome (instant t s) image).0
 has_events_after image t s coherent h =
     let next = each_window image t s h.window in
     record {

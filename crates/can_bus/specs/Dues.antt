@@ -21,9 +21,11 @@ slot_moments (Some slot) = slot.end ∷ []
 abbrev pub step_moments : List TimedStep → List ℕ
 step_moments steps = map (λ step. step.time) steps
 
--- all due moments but the start of the next window: of the devices, of the manager, of the wire, and of the events that have not run
+-- all due moments but the start of the next window: of the devices, of the manager, of the wire, and of the events
+-- that have not run
 abbrev pub moments : Bus → List ℕ
-moments s = flat_map device.moments s.devices ++ (manager.moments s.manager ++ (slot_moments s.wire ++ step_moments s.steps))
+moments s = flat_map device.moments s.devices
+    ++ (manager.moments s.manager ++ (slot_moments s.wire ++ step_moments s.steps))
 
 -- the least of these and one more
 abbrev pub least : ℕ → List ℕ → ℕ

@@ -5,8 +5,8 @@ use Rattle.std.specs.Str.{byte}
 use Rattle.can_frame.specs.TraceLines.{frame_line, ten_digits}
 use Rattle.co_text.specs.Digits.{index_digits}
 use Rattle.co_text.specs.Lines.{line_feed}
-use Rattle.node_boot.specs.declared.word.Word.{Word}
-use Rattle.node_boot.specs.declared.word.Word.TheVariants.{Lost, Configured, Difference, Aborted, TimedOut}
+use Rattle.node_boot.specs.declared.note_kind.NoteKind.{NoteKind}
+use Rattle.node_boot.specs.declared.note_kind.NoteKind.TheVariants.{Lost, Configured, Difference, Aborted, TimedOut}
 use Rattle.nmt_boot.specs.declared.note.Note.{Note as Noted}
 use Rattle.can_bus.specs.declared.line.Line.{Line}
 use Rattle.can_bus.specs.declared.line.Line.TheVariants.{Frame, Note}
@@ -16,16 +16,16 @@ abbrev pub abort_digits : ℕ → List ℕ
 abort_digits code = index_digits (code / 65536) ++ index_digits (code % 65536)
 
 -- what is noted of a node
-abbrev pub word_text : Word → List ℕ
-word_text Lost = codes "lost"
-word_text Configured = codes "configured"
-word_text Difference = codes "failed difference"
-word_text (Aborted abort) = codes "failed " ++ abort_digits abort.0
-word_text TimedOut = codes "failed timeout"
+abbrev pub kind_text : NoteKind → List ℕ
+kind_text Lost = codes "lost"
+kind_text Configured = codes "configured"
+kind_text Difference = codes "failed difference"
+kind_text (Aborted abort) = codes "failed " ++ abort_digits abort.0
+kind_text TimedOut = codes "failed timeout"
 
 -- the line of a note at a time: the time, the node, and what is noted of it
 abbrev pub note_line : ℕ → Noted → List ℕ
-note_line time note = ten_digits time ++ (codes " note " ++ (decimal note.node ++ (byte " " ∷ word_text note.word)))
+note_line time note = ten_digits time ++ (codes " note " ++ (decimal note.node ++ (byte " " ∷ kind_text note.kind)))
 
 abbrev pub line_text : Line → List ℕ
 line_text (Frame time frame) = frame_line time frame

@@ -1,5 +1,6 @@
 -- A run from power-on, its trace, and words of the laws of a bus.
-use Rattle.std.specs.Prelude.{◌≡◌, ℕ, ◌+◌, ◌*◌, ◌/◌, ◌<◌, ◌≤◌, nat_le, Bool, List, [], ◌∷◌, All, filter, Option, Some, None}
+use Rattle.std.specs.Prelude.{◌≡◌, ℕ, ◌+◌, ◌*◌, ◌/◌, ◌<◌, ◌≤◌, nat_le, Bool, List, [], ◌∷◌, All, filter, Option, Some}
+use Rattle.std.specs.Prelude.{None}
 use Rattle.std.specs.List.{flat_map}
 use Rattle.asking.specs.Asking.{Asking, bind, outcome, turns}
 use Rattle.can_frame.specs.Winner.{contenders, IsWinner, WaitsAt}
@@ -10,7 +11,7 @@ use Rattle.co_parts.specs.Images.{AreInOrder}
 use Rattle.co_parts.specs.declared.part.Part.{Part}
 use Rattle.co_parts.specs.declared.part.Part.TheVariants.{Defaults, Events, Roster, Shape}
 use Rattle.bus_events.specs.Steps.{LieFrom, steps_from}
-use Rattle.can_bus.specs.Bus.{Bus, instant, lists, power_on, slot_of}
+use Rattle.can_bus.specs.Bus.{Bus, instant, waiting_lists, power_on, slot_of}
 use Rattle.co_scenario.specs.declared.timed_step.TimedStep.{TimedStep}
 use Rattle.can_bus.specs.Lines.{line_time}
 use Rattle.can_bus.specs.declared.line.Line.{Line}
@@ -44,14 +45,15 @@ IsSettled s = IsIdle s.wire → NoneWaits s
 
 -- the slot is that of the frame w, which waits and wins with c at the moment t
 pub record StartsWith (t : ℕ) (s : Bus) (slot : Slot) (c : Contender) (w : Waiting) : Type 0 where
-  pub wins : IsWinner (contenders (lists s.devices s.manager)) (Some c)
-  pub waits : WaitsAt (lists s.devices s.manager) c.node c.place w
+  pub wins : IsWinner (contenders (waiting_lists s.devices s.manager)) (Some c)
+  pub waits : WaitsAt (waiting_lists s.devices s.manager) c.node c.place w
   pub is : slot ≡ slot_of t s.bit_time c.node w.frame
 
 -- what power-on reads: the roster, and of each node its values and its entries
 abbrev pub power_on_reads : Image → List (Part × Content)
 power_on_reads image =
-    (Roster, image Roster) ∷ flat_map (λ n. (Defaults n, image (Defaults n)) ∷ (Shape n, image (Shape n)) ∷ []) (roster_of (image Roster)).nodes
+    (Roster, image Roster) ∷ flat_map (λ n. (Defaults n, image (Defaults n)) ∷ (Shape n, image (Shape n)) ∷ [])
+    (roster_of (image Roster)).nodes
 
 -- the first of the moments at which windows start, from the moment t on: of the whole multiples of 10,000
 pub record IsNextWindow (t moment : ℕ) : Type 0 where
@@ -59,7 +61,8 @@ pub record IsNextWindow (t moment : ℕ) : Type 0 where
   pub from : t ≤ moment
   pub first : moment < t + 10000
 
--- just before the moment t: the next window starts at its moment, and the events that have not run are in order and lie from t on
+-- just before the moment t: the next window starts at its moment, and the events that have not run are in order and
+-- lie from t on
 pub record IsInTime (t : ℕ) (s : Bus) : Type 0 where
   pub window : IsNextWindow t s.window
   pub order : AreInOrder s.steps

@@ -2,7 +2,8 @@
 
 ghost use Rattle.std.specs.Prelude.{◌≡◌, Some};
 ghost use Rattle.bus_devices.specs.Senders.{sender_place as place_of_sender};
-ghost use Rattle.can_bus.specs.Bus.{devices_after, frame_sent, manager_after, winner as winner_among};
+ghost use Rattle.can_bus.specs.Bus.{devices_without_winner, winning_frame, manager_without_winner};
+ghost use Rattle.can_bus.specs.Bus.{winner as winner_among};
 
 use bus_devices::Devices;
 use can_frame::{Contender, Frame};
@@ -18,9 +19,12 @@ pub(crate) fn winner(devices: &Devices, manager: &Manager) -> Option<Contender>
 /// Takes the frame that wins from its list.
 pub(crate) fn send(contender: &Contender, devices: &mut Devices, manager: &mut Manager) -> Frame
     requires { winner_among devices.old manager.old ≡ Some contender.now }
-    ensures frame { result ≡ frame_sent contender.now (place_of_sender contender.now devices.old) devices.old manager.old }
-    ensures devices { devices.new ≡ devices_after contender.now (place_of_sender contender.now devices.old) devices.old }
-    ensures manager { manager.new ≡ manager_after contender.now (place_of_sender contender.now devices.old) manager.old }
+    ensures frame { result
+        ≡ winning_frame contender.now (place_of_sender contender.now devices.old) devices.old manager.old }
+    ensures devices { devices.new
+        ≡ devices_without_winner contender.now (place_of_sender contender.now devices.old) devices.old }
+    ensures manager { manager.new
+        ≡ manager_without_winner contender.now (place_of_sender contender.now devices.old) manager.old }
 {
     match devices.sender_place(contender) {
         Some(i) => devices.send(i, contender.place).frame,

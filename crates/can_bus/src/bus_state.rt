@@ -1,8 +1,9 @@
 //! The bus at a moment.
 
 ghost use Rattle.std.specs.Prelude.{◌≡◌, ◌<◌, ◌≤◌, ◌+◌, ◌*◌, ◌++◌, ◌↔◌, length, IfOk, OnOk, OnErr, IsErr, IsTrue};
-ghost use Rattle.asking.specs.Asking.{followed, outcome, reads};
-ghost use Rattle.can_bus.specs.Bus.{blank, ended, from_delivery_on, instant, on_wire, power_on, power_on_of, slot_started};
+ghost use Rattle.asking.specs.Asking.{after_reads, outcome, reads};
+ghost use Rattle.can_bus.specs.Bus.{blank_bus, ended_slot, from_delivery_on, instant, open_slot, power_on, power_on_of};
+ghost use Rattle.can_bus.specs.Bus.{after_arbitration};
 ghost use Rattle.can_bus.specs.Dues.{next_due};
 ghost use Rattle.can_frame.specs.Frames.{slot_bits as bits_of};
 ghost use Rattle.co_parts.specs.Contents.{first_roster as roster_of_first};
@@ -51,7 +52,15 @@ impl Model for BusState {
 
     ghost coded = { Prim.hlevel (codes, map.code {R = place_cmp} (coded× coded_ℕ coded_ℕ) (coded_list coded_ℕ)) };
 
-    ghost view = { λ bus. record { spent = bus.spent; bit_time = bus.bit_time; devices = bus.devices; manager = bus.manager; wire = bus.wire; window = bus.window; steps = bus.steps } };
+    ghost view = { λ bus. record {
+      spent = bus.spent;
+      bit_time = bus.bit_time;
+      devices = bus.devices;
+      manager = bus.manager;
+      wire = bus.wire;
+      window = bus.window;
+      steps = bus.steps;
+    } };
 }
 
 /// The network of the first project: its manager alone.
@@ -77,8 +86,9 @@ fn power_on_of<P: Parts>(
 ) -> Result<BusState, AllocError>
     requires { 1 ≤ roster.now.bit_rate }
     ensures state { IfOk result (λ bus. bus ≡ outcome (power_on_of roster.now) (P.seen parts.old).image) }
-    ensures noted { OnOk result (P.seen parts.new ≡ followed (power_on_of roster.now) (P.seen parts.old)) }
-    ensures counted { OnOk result (P.asks parts.new ≤ P.asks parts.old + length (reads (power_on_of roster.now) (P.seen parts.old).image)) }
+    ensures noted { OnOk result (P.seen parts.new ≡ after_reads (power_on_of roster.now) (P.seen parts.old)) }
+    ensures counted { OnOk result (P.asks parts.new ≤ P.asks parts.old + length (reads (power_on_of roster.now)
+        (P.seen parts.old).image)) }
     ensures kept { (P.seen parts.new).image ≡ (P.seen parts.old).image }
 {
     let mut devices = new_devices(alloc, roster.nodes.as_slice())?;
@@ -98,8 +108,8 @@ fn power_on_of<P: Parts>(
 
 /// Takes the slot that ends at the moment t off the wire.
 fn take_ended(wire: &mut Option<Slot>, t: u64) -> Option<Slot>
-    ensures ended { result ≡ ended t wire.old }
-    ensures wire { wire.new ≡ on_wire t wire.old }
+    ensures ended { result ≡ ended_slot t wire.old }
+    ensures wire { wire.new ≡ open_slot t wire.old }
 {
     match *wire {
         Some(slot) if slot.end == t => {
@@ -130,10 +140,10 @@ fn slot_end(t: u64, bit_time: u32, frame: &Frame) -> u64
 }
 
 /// Starts the slot of the winner at the moment t, where the wire is idle and a frame waits.
-#[tactic(auto, unfolding(crate::specs::Bus::slot_started))]
+#[tactic(auto, unfolding(crate::specs::Bus::after_arbitration))]
 fn start_slot(bus: &mut BusState, t: u64)
     requires { t < END }
-    ensures { bus.new ≡ slot_started t bus.old }
+    ensures { bus.new ≡ after_arbitration t bus.old }
 {
     if bus.wire.is_some() {
         return;
@@ -159,9 +169,11 @@ fn run_from_delivery<P: Parts>(
 ) -> Result<(), AllocError>
     requires { t < END }
     ensures state { OnOk result (bus.new ≡ (outcome (from_delivery_on t bus.old) (P.seen parts.old).image).0) }
-    ensures told { OnOk result (lines.new ≡ lines.old ++ (outcome (from_delivery_on t bus.old) (P.seen parts.old).image).1) }
-    ensures noted { OnOk result (P.seen parts.new ≡ followed (from_delivery_on t bus.old) (P.seen parts.old)) }
-    ensures counted { OnOk result (P.asks parts.new ≤ P.asks parts.old + length (reads (from_delivery_on t bus.old) (P.seen parts.old).image)) }
+    ensures told { OnOk result (lines.new ≡ lines.old
+        ++ (outcome (from_delivery_on t bus.old) (P.seen parts.old).image).1) }
+    ensures noted { OnOk result (P.seen parts.new ≡ after_reads (from_delivery_on t bus.old) (P.seen parts.old)) }
+    ensures counted { OnOk result (P.asks parts.new ≤ P.asks parts.old + length (reads (from_delivery_on t bus.old)
+        (P.seen parts.old).image)) }
     ensures kept { (P.seen parts.new).image ≡ (P.seen parts.old).image }
 {
     let ended = take_ended(&mut bus.wire, t);
@@ -190,8 +202,9 @@ fn run_instant<P: Parts>(
     requires { t < END }
     ensures state { OnOk result (bus.new ≡ (outcome (instant t bus.old) (P.seen parts.old).image).0) }
     ensures told { OnOk result (lines.new ≡ lines.old ++ (outcome (instant t bus.old) (P.seen parts.old).image).1) }
-    ensures noted { OnOk result (P.seen parts.new ≡ followed (instant t bus.old) (P.seen parts.old)) }
-    ensures counted { OnOk result (P.asks parts.new ≤ P.asks parts.old + length (reads (instant t bus.old) (P.seen parts.old).image)) }
+    ensures noted { OnOk result (P.seen parts.new ≡ after_reads (instant t bus.old) (P.seen parts.old)) }
+    ensures counted { OnOk result (P.asks parts.new ≤ P.asks parts.old + length (reads (instant t bus.old)
+        (P.seen parts.old).image)) }
     ensures kept { (P.seen parts.new).image ≡ (P.seen parts.old).image }
 {
     begin_window(bus, t, parts)?;
@@ -202,7 +215,7 @@ fn run_instant<P: Parts>(
 impl BusState {
     /// A bus without devices. Takes no memory.
     pub fn new(alloc: Global) -> BusState
-        ensures { result ≡ blank }
+        ensures { result ≡ blank_bus }
     {
         BusState {
             alloc,
@@ -220,8 +233,9 @@ impl BusState {
     #[tactic(auto, unfolding(crate::specs::Bus::power_on))]
     pub fn power_on<P: Parts>(alloc: Global, parts: &mut P) -> Result<BusState, AllocError>
         ensures state { IfOk result (λ bus. bus ≡ outcome power_on (P.seen parts.old).image) }
-        ensures noted { OnOk result (P.seen parts.new ≡ followed power_on (P.seen parts.old)) }
-        ensures counted { OnOk result (P.asks parts.new ≤ P.asks parts.old + length (reads power_on (P.seen parts.old).image)) }
+        ensures noted { OnOk result (P.seen parts.new ≡ after_reads power_on (P.seen parts.old)) }
+        ensures counted { OnOk result (P.asks parts.new
+            ≤ P.asks parts.old + length (reads power_on (P.seen parts.old).image)) }
         ensures kept { (P.seen parts.new).image ≡ (P.seen parts.old).image }
     {
         let roster = parts.roster()?;
@@ -315,9 +329,11 @@ impl BusState {
     ) -> Result<(), AllocError>
         requires { t < END }
         ensures state { OnOk result (self.new ≡ (outcome (instant t self.old) (P.seen parts.old).image).0) }
-        ensures told { OnOk result (lines.new ≡ lines.old ++ (outcome (instant t self.old) (P.seen parts.old).image).1) }
-        ensures noted { OnOk result (P.seen parts.new ≡ followed (instant t self.old) (P.seen parts.old)) }
-        ensures counted { OnOk result (P.asks parts.new ≤ P.asks parts.old + length (reads (instant t self.old) (P.seen parts.old).image)) }
+        ensures told { OnOk result (lines.new ≡ lines.old
+            ++ (outcome (instant t self.old) (P.seen parts.old).image).1) }
+        ensures noted { OnOk result (P.seen parts.new ≡ after_reads (instant t self.old) (P.seen parts.old)) }
+        ensures counted { OnOk result (P.asks parts.new ≤ P.asks parts.old + length (reads (instant t self.old)
+            (P.seen parts.old).image)) }
         ensures kept { (P.seen parts.new).image ≡ (P.seen parts.old).image }
         ensures refused { IsTrue self.old.spent → IsErr result }
         ensures spent { OnErr result (IsTrue self.new.spent) }

@@ -1,8 +1,8 @@
 //! What the manager of a bus does in an instant.
 
 ghost use Rattle.std.specs.Prelude.{◌≡◌, ◌<◌, ◌≤◌, ◌+◌, ◌++◌, length, OnOk};
-ghost use Rattle.asking.specs.Asking.{followed, outcome, reads};
-ghost use Rattle.can_bus.specs.Bus.{managed, manager_hears};
+ghost use Rattle.asking.specs.Asking.{after_reads, outcome, reads};
+ghost use Rattle.can_bus.specs.Bus.{manager_after_delivery, manager_after_slot};
 
 use crate::slot::Slot;
 use co_parts::END;
@@ -11,7 +11,7 @@ use node_boot::Boots;
 use std::alloc::AllocError;
 
 /// Gives the manager the frame of a slot that ends at the moment t, if it isn't its sender.
-#[tactic(auto, unfolding(crate::specs::Bus::manager_hears))]
+#[tactic(auto, unfolding(crate::specs::Bus::manager_after_slot))]
 fn hear<P: Boots>(
     manager: &mut Manager,
     t: u64,
@@ -20,10 +20,14 @@ fn hear<P: Boots>(
     notes: &mut Notes,
 ) -> Result<(), AllocError>
     requires { t < END }
-    ensures state { OnOk result (manager.new ≡ (outcome (manager_hears t ended.now manager.old) (P.seen boots.old).image).0) }
-    ensures notes { OnOk result (notes.new ≡ notes.old ++ (outcome (manager_hears t ended.now manager.old) (P.seen boots.old).image).1) }
-    ensures noted { OnOk result (P.seen boots.new ≡ followed (manager_hears t ended.now manager.old) (P.seen boots.old)) }
-    ensures counted { OnOk result (P.asks boots.new ≤ P.asks boots.old + length (reads (manager_hears t ended.now manager.old) (P.seen boots.old).image)) }
+    ensures state { OnOk result (manager.new
+        ≡ (outcome (manager_after_slot t ended.now manager.old) (P.seen boots.old).image).0) }
+    ensures notes { OnOk result (notes.new ≡ notes.old
+        ++ (outcome (manager_after_slot t ended.now manager.old) (P.seen boots.old).image).1) }
+    ensures noted { OnOk result (P.seen boots.new ≡ after_reads (manager_after_slot t ended.now manager.old)
+        (P.seen boots.old)) }
+    ensures counted { OnOk result (P.asks boots.new
+        ≤ P.asks boots.old + length (reads (manager_after_slot t ended.now manager.old) (P.seen boots.old).image)) }
     ensures kept { (P.seen boots.new).image ≡ (P.seen boots.old).image }
 {
     match ended {
@@ -47,10 +51,14 @@ pub(crate) fn manage<P: Boots>(
     notes: &mut Notes,
 ) -> Result<(), AllocError>
     requires { t < END }
-    ensures state { OnOk result (manager.new ≡ (outcome (managed t ended.now manager.old) (P.seen boots.old).image).0) }
-    ensures notes { OnOk result (notes.new ≡ notes.old ++ (outcome (managed t ended.now manager.old) (P.seen boots.old).image).1) }
-    ensures noted { OnOk result (P.seen boots.new ≡ followed (managed t ended.now manager.old) (P.seen boots.old)) }
-    ensures counted { OnOk result (P.asks boots.new ≤ P.asks boots.old + length (reads (managed t ended.now manager.old) (P.seen boots.old).image)) }
+    ensures state { OnOk result (manager.new
+        ≡ (outcome (manager_after_delivery t ended.now manager.old) (P.seen boots.old).image).0) }
+    ensures notes { OnOk result (notes.new ≡ notes.old
+        ++ (outcome (manager_after_delivery t ended.now manager.old) (P.seen boots.old).image).1) }
+    ensures noted { OnOk result (P.seen boots.new ≡ after_reads (manager_after_delivery t ended.now manager.old)
+        (P.seen boots.old)) }
+    ensures counted { OnOk result (P.asks boots.new
+        ≤ P.asks boots.old + length (reads (manager_after_delivery t ended.now manager.old) (P.seen boots.old).image)) }
     ensures kept { (P.seen boots.new).image ≡ (P.seen boots.old).image }
 {
     hear(manager, t, ended, boots, notes)?;

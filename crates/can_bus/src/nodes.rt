@@ -1,8 +1,8 @@
 //! What the nodes of a bus do in an instant.
 
 ghost use Rattle.std.specs.Prelude.{◌≡◌, ◌<◌, ◌≤◌, ◌+◌, ◌++◌, length, OnOk};
-ghost use Rattle.asking.specs.Asking.{followed, outcome, reads};
-ghost use Rattle.can_bus.specs.Bus.{delivery_of as delivery_of_slot, nodes_at};
+ghost use Rattle.asking.specs.Asking.{after_reads, outcome, reads};
+ghost use Rattle.can_bus.specs.Bus.{delivery_of as delivery_of_slot, nodes_after};
 
 use crate::managing::manage;
 use crate::parts::Parts;
@@ -34,11 +34,17 @@ pub(crate) fn run_nodes<P: Parts>(
     notes: &mut Notes,
 ) -> Result<(), AllocError>
     requires { t < END }
-    ensures devices { OnOk result (devices.new ≡ (outcome (nodes_at t ended.now devices.old manager.old) (P.seen parts.old).image).0) }
-    ensures manager { OnOk result (manager.new ≡ (outcome (nodes_at t ended.now devices.old manager.old) (P.seen parts.old).image).1.0) }
-    ensures notes { OnOk result (notes.new ≡ notes.old ++ (outcome (nodes_at t ended.now devices.old manager.old) (P.seen parts.old).image).1.1) }
-    ensures noted { OnOk result (P.seen parts.new ≡ followed (nodes_at t ended.now devices.old manager.old) (P.seen parts.old)) }
-    ensures counted { OnOk result (P.asks parts.new ≤ P.asks parts.old + length (reads (nodes_at t ended.now devices.old manager.old) (P.seen parts.old).image)) }
+    ensures devices { OnOk result (devices.new
+        ≡ (outcome (nodes_after t ended.now devices.old manager.old) (P.seen parts.old).image).0) }
+    ensures manager { OnOk result (manager.new
+        ≡ (outcome (nodes_after t ended.now devices.old manager.old) (P.seen parts.old).image).1.0) }
+    ensures notes { OnOk result (notes.new ≡ notes.old
+        ++ (outcome (nodes_after t ended.now devices.old manager.old) (P.seen parts.old).image).1.1) }
+    ensures noted { OnOk result (P.seen parts.new ≡ after_reads (nodes_after t ended.now devices.old manager.old)
+        (P.seen parts.old)) }
+    ensures counted { OnOk result (P.asks parts.new
+        ≤ P.asks parts.old + length (reads (nodes_after t ended.now devices.old manager.old)
+        (P.seen parts.old).image)) }
     ensures kept { (P.seen parts.new).image ≡ (P.seen parts.old).image }
 {
     let delivery = delivery_of(ended);

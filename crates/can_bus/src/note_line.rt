@@ -1,13 +1,13 @@
 //! The line of a note in a trace.
 
 ghost use Rattle.std.specs.Prelude.{◌≡◌, ◌++◌, IfOk, OnOk};
-ghost use Rattle.can_bus.specs.Lines.{abort_digits, note_line as line_of_note, word_text};
+ghost use Rattle.can_bus.specs.Lines.{abort_digits, note_line as line_of_note, kind_text};
 ghost use Rattle.can_frame.specs.TraceLines.{ten_digits};
 
 use co_dict::Abort;
 use co_text::index_digits;
 use nmt_boot::Note;
-use node_boot::Word;
+use node_boot::NoteKind;
 use std::alloc::{AllocError, Global};
 
 /// The longest line has as many bytes.
@@ -27,7 +27,7 @@ pub(crate) fn note_line(alloc: Global, time: u32, note: &Note) -> Result<Vec<u8>
     let node = note.node.to_string(alloc)?;
     out.extend_from_slice(node.as_bytes())?;
     out.push(b' ')?;
-    write_word(&mut out, note.word)?;
+    write_kind(&mut out, note.kind)?;
     Ok(out)
 }
 
@@ -42,18 +42,18 @@ fn write_time(out: &mut Vec<u8>, alloc: Global, time: u32) -> Result<(), AllocEr
 }
 
 /// Writes what is noted of a node.
-fn write_word(out: &mut Vec<u8>, word: Word) -> Result<(), AllocError>
-    ensures { OnOk result (out.new.items ≡ out.old.items ++ word_text word) }
+fn write_kind(out: &mut Vec<u8>, kind: NoteKind) -> Result<(), AllocError>
+    ensures { OnOk result (out.new.items ≡ out.old.items ++ kind_text kind) }
 {
-    match word {
-        Word::Lost => out.extend_from_slice(b"lost"),
-        Word::Configured => out.extend_from_slice(b"configured"),
-        Word::Difference => out.extend_from_slice(b"failed difference"),
-        Word::Aborted(abort) => {
+    match kind {
+        NoteKind::Lost => out.extend_from_slice(b"lost"),
+        NoteKind::Configured => out.extend_from_slice(b"configured"),
+        NoteKind::Difference => out.extend_from_slice(b"failed difference"),
+        NoteKind::Aborted(abort) => {
             out.extend_from_slice(b"failed ")?;
             write_abort(out, abort)
         }
-        Word::TimedOut => out.extend_from_slice(b"failed timeout"),
+        NoteKind::TimedOut => out.extend_from_slice(b"failed timeout"),
     }
 }
 

@@ -1,7 +1,7 @@
 //! The only way of a bus to an image.
 
 ghost use Rattle.std.specs.Prelude.{◌≡◌, ◌+◌, ◌-◌, ◌^◌, [], min, IfOk, IfSome, OnOk};
-ghost use Rattle.asking.specs.Asking.{handed};
+ghost use Rattle.asking.specs.Asking.{after_ask};
 ghost use Rattle.co_parts.specs.Contents.{EventsAre, RosterIs};
 ghost use Rattle.co_parts.specs.Images.{IsRoster, IsWithin};
 ghost use Rattle.co_parts.specs.Shared.{shared};
@@ -19,7 +19,7 @@ pub trait Parts: Shapes + Boots {
     fn roster(&mut self) -> Result<Option<Rc<Roster>>, AllocError>
         ensures value { IfOk result (λ r. (Self.seen self.old).image Part.Roster ≡ RosterIs (shared r)) }
         ensures fits { IfOk result (λ r. IfSome (shared r) IsRoster) }
-        ensures noted { OnOk result (Self.seen self.new ≡ handed Part.Roster (Self.seen self.old)) }
+        ensures noted { OnOk result (Self.seen self.new ≡ after_ask Part.Roster (Self.seen self.old)) }
         ensures counted { Self.asks self.new ≡ min (Self.asks self.old + 1) (2 ^ 64 - 1) }
         ensures kept { (Self.seen self.new).image ≡ (Self.seen self.old).image };
 
@@ -28,7 +28,7 @@ pub trait Parts: Shapes + Boots {
     fn events(&mut self, i: u32) -> Result<Option<Rc<Window>>, AllocError>
         ensures value { IfOk result (λ r. (Self.seen self.old).image (Part.Events i) ≡ EventsAre (shared r)) }
         ensures fits { IfOk result (λ r. IfSome (shared r) (AllByRecursion (IsWithin i))) }
-        ensures noted { OnOk result (Self.seen self.new ≡ handed (Part.Events i) (Self.seen self.old)) }
+        ensures noted { OnOk result (Self.seen self.new ≡ after_ask (Part.Events i) (Self.seen self.old)) }
         ensures counted { Self.asks self.new ≡ min (Self.asks self.old + 1) (2 ^ 64 - 1) }
         ensures kept { (Self.seen self.new).image ≡ (Self.seen self.old).image };
 

@@ -40,7 +40,8 @@ fn run_dues<P: Parts>(
     requires end { end ≤ END }
     requires before { IsJustBefore 0 bus.old }
     requires coherent { IsCoherent (P.seen parts.old).image }
-    ensures told { OnOk result (lines.new ≡ lines.old ++ (outcome (turns instant end 0 bus.old) (P.seen parts.old).image).1) }
+    ensures told { OnOk result (lines.new ≡ lines.old
+        ++ (outcome (turns instant end 0 bus.old) (P.seen parts.old).image).1) }
     ensures kept { (P.seen parts.new).image ≡ (P.seen parts.old).image }
 {
     let mut t = bus.next_due();

@@ -1,8 +1,8 @@
 //! The windows of a bus, and their events.
 
 ghost use Rattle.std.specs.Prelude.{◌≡◌, ◌<◌, ◌≤◌, ◌+◌, length, OnOk};
-ghost use Rattle.asking.specs.Asking.{followed, outcome, reads};
-ghost use Rattle.can_bus.specs.Bus.{events_run, window_begun};
+ghost use Rattle.asking.specs.Asking.{after_reads, outcome, reads};
+ghost use Rattle.can_bus.specs.Bus.{after_events, after_window_start};
 
 use crate::bus_state::BusState;
 use crate::parts::Parts;
@@ -16,16 +16,17 @@ use std::mem::replace;
 const WINDOW: u64 = 10_000;
 
 /// Asks for the events of the window that starts at the moment t, if one does.
-#[tactic(auto, using(crate::proofs::WindowLemmas::free_window), unfolding(crate::specs::Bus::window_begun))]
+#[tactic(auto, using(crate::proofs::WindowLemmas::free_window), unfolding(crate::specs::Bus::after_window_start))]
 pub(crate) fn begin_window<P: Parts>(
     bus: &mut BusState,
     t: u64,
     parts: &mut P,
 ) -> Result<(), AllocError>
     requires { t < END }
-    ensures state { OnOk result (bus.new ≡ outcome (window_begun t bus.old) (P.seen parts.old).image) }
-    ensures noted { OnOk result (P.seen parts.new ≡ followed (window_begun t bus.old) (P.seen parts.old)) }
-    ensures counted { OnOk result (P.asks parts.new ≤ P.asks parts.old + length (reads (window_begun t bus.old) (P.seen parts.old).image)) }
+    ensures state { OnOk result (bus.new ≡ outcome (after_window_start t bus.old) (P.seen parts.old).image) }
+    ensures noted { OnOk result (P.seen parts.new ≡ after_reads (after_window_start t bus.old) (P.seen parts.old)) }
+    ensures counted { OnOk result (P.asks parts.new ≤ P.asks parts.old + length (reads (after_window_start t bus.old)
+        (P.seen parts.old).image)) }
     ensures kept { (P.seen parts.new).image ≡ (P.seen parts.old).image }
 {
     if t != bus.window {
@@ -41,9 +42,10 @@ pub(crate) fn begin_window<P: Parts>(
 #[tactic(auto, using(crate::proofs::WindowLemmas::events_laws))]
 pub(crate) fn run_due<P: Parts>(bus: &mut BusState, t: u64, parts: &mut P) -> Result<(), AllocError>
     requires { t < END }
-    ensures state { OnOk result (bus.new ≡ outcome (events_run t bus.old) (P.seen parts.old).image) }
-    ensures noted { OnOk result (P.seen parts.new ≡ followed (events_run t bus.old) (P.seen parts.old)) }
-    ensures counted { OnOk result (P.asks parts.new ≤ P.asks parts.old + length (reads (events_run t bus.old) (P.seen parts.old).image)) }
+    ensures state { OnOk result (bus.new ≡ outcome (after_events t bus.old) (P.seen parts.old).image) }
+    ensures noted { OnOk result (P.seen parts.new ≡ after_reads (after_events t bus.old) (P.seen parts.old)) }
+    ensures counted { OnOk result (P.asks parts.new ≤ P.asks parts.old + length (reads (after_events t bus.old)
+        (P.seen parts.old).image)) }
     ensures kept { (P.seen parts.new).image ≡ (P.seen parts.old).image }
 {
     let steps = bus.steps.due(t);

@@ -7,19 +7,24 @@ use Rattle.can_frame.specs.Winner.{is_below}
 
 -- ---- over numbers
 
-one_way : (i n p j m q : ℕ) → (nat_lt i j || (i == j) && (nat_lt n m || (n == m) && nat_lt p q)) ≡ true → (nat_lt j i || (j == i) && (nat_lt m n || (m == n) && nat_lt q p)) ≡ false
+one_way : (i n p j m q : ℕ) → (nat_lt i j || (i == j) && (nat_lt n m || (n == m) && nat_lt p q)) ≡ true
+    → (nat_lt j i || (j == i) && (nat_lt m n || (m == n) && nat_lt q p)) ≡ false
 one_way i n p j m q h = grind (arith, nat_tests)
 
-chain : (i n p j m q k o r : ℕ) → (nat_lt i j || (i == j) && (nat_lt n m || (n == m) && nat_lt p q)) ≡ false → (nat_lt j k || (j == k) && (nat_lt m o || (m == o) && nat_lt q r)) ≡ false → (nat_lt i k || (i == k) && (nat_lt n o || (n == o) && nat_lt p r)) ≡ false
+chain : (i n p j m q k o r : ℕ) → (nat_lt i j || (i == j) && (nat_lt n m || (n == m) && nat_lt p q)) ≡ false
+    → (nat_lt j k || (j == k) && (nat_lt m o || (m == o) && nat_lt q r)) ≡ false
+    → (nat_lt i k || (i == k) && (nat_lt n o || (n == o) && nat_lt p r)) ≡ false
 chain i n p j m q k o r g h = grind (arith, nat_tests)
 
-neither : (i n p j m q : ℕ) → (nat_lt i j || (i == j) && (nat_lt n m || (n == m) && nat_lt p q)) ≡ false → (nat_lt j i || (j == i) && (nat_lt m n || (m == n) && nat_lt q p)) ≡ false → (i ≡ j) × (n ≡ m) × (p ≡ q)
+neither : (i n p j m q : ℕ) → (nat_lt i j || (i == j) && (nat_lt n m || (n == m) && nat_lt p q)) ≡ false
+    → (nat_lt j i || (j == i) && (nat_lt m n || (m == n) && nat_lt q p)) ≡ false → (i ≡ j) × (n ≡ m) × (p ≡ q)
 neither i n p j m q g h = (grind (arith, nat_tests), grind (arith, nat_tests), grind (arith, nat_tests))
 
 itself : (i n p : ℕ) → (nat_lt i i || (i == i) && (nat_lt n n || (n == n) && nat_lt p p)) ≡ false
 itself i n p = grind (arith, nat_tests)
 
-later : (i j n p q : ℕ) → i ≤ j → (q < p → i < j) → (nat_lt j i || (j == i) && (nat_lt n n || (n == n) && nat_lt q p)) ≡ false
+later : (i j n p q : ℕ) → i ≤ j → (q < p → i < j)
+    → (nat_lt j i || (j == i) && (nat_lt n n || (n == n) && nat_lt q p)) ≡ false
 later i j n p q h k = grind (arith, nat_tests)
 
 -- ---- over contenders
@@ -41,8 +46,10 @@ pub below-neither : (a b : Contender) → is_below a b ≡ false → is_below b 
 below-neither a b g h =
     let same = neither a.id a.node a.place b.id b.node b.place g h in
     let made : ℕ → ℕ → ℕ → Contender = λ id node place. record { id = id; node = node; place = place } in
-    ap (λ id. made id a.node a.place) same.0 ∙ ap (λ node. made b.id node a.place) same.1 ∙ ap (λ place. made b.id b.node place) same.2
+    ap (λ id. made id a.node a.place) same.0 ∙ ap (λ node. made b.id node a.place) same.1
+    ∙ ap (λ place. made b.id b.node place) same.2
 
 -- of a node's frames one is not below another that has a lower identifier, or no higher one and an earlier place
-pub below-later : (i j node place other : ℕ) → i ≤ j → (other < place → i < j) → is_below (record { id = j; node = node; place = other }) (record { id = i; node = node; place = place }) ≡ false
+pub below-later : (i j node place other : ℕ) → i ≤ j → (other < place → i < j)
+    → is_below (record { id = j; node = node; place = other }) (record { id = i; node = node; place = place }) ≡ false
 below-later i j node place other h k = later i j node place other h k

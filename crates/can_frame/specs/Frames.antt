@@ -1,5 +1,6 @@
 -- Frames of a CAN bus (ISO 11898-1), and the slots that they take.
-use Rattle.std.specs.Prelude.{◌≡◌, ℕ, ◌+◌, ◌*◌, ◌/◌, ◌-◌, ◌<◌, ◌≤◌, nat_lt, nat_le, ◌&&◌, if◌then◌else◌, List, ◌++◌, length, replicate, Option, Some, None}
+use Rattle.std.specs.Prelude.{◌≡◌, ℕ, ◌+◌, ◌*◌, ◌/◌, ◌-◌, ◌<◌, ◌≤◌, nat_lt, nat_le, ◌&&◌, if◌then◌else◌, List, ◌++◌}
+use Rattle.std.specs.Prelude.{length, replicate, Option, Some, None}
 use Rattle.co_base.specs.Bytes.{AreBytes}
 
 -- a base frame: its identifier and its bytes
@@ -15,7 +16,8 @@ pub record IsFrame (frame : BaseFrame) : Type 0 where
 
 -- the frame of an identifier and bytes, where they can be those of one
 abbrev pub frame_of : ℕ → List ℕ → Option BaseFrame
-frame_of id bytes = if nat_lt id 0x800 && nat_le (length bytes) 8 then Some (record { id = id; bytes = bytes }) else None
+frame_of id bytes = if nat_lt id 0x800 && nat_le (length bytes) 8 then Some (record { id = id; bytes = bytes })
+    else None
 
 -- ---- slots
 

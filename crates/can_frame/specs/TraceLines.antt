@@ -15,8 +15,8 @@ abbrev pub identifier_digits : ℕ → List ℕ
 identifier_digits id = digit_glyph true (id / 256) ∷ digit_glyph true (id / 16 % 16) ∷ digit_glyph true (id % 16) ∷ []
 
 -- a number of bytes, at most 8, in brackets
-abbrev pub counted : ℕ → List ℕ
-counted n = codes " [" ++ digit_glyph true n ∷ codes "]"
+abbrev pub byte_count : ℕ → List ℕ
+byte_count n = codes " [" ++ digit_glyph true n ∷ codes "]"
 
 -- each byte as a space and two digits
 abbrev pub spaced_bytes : List ℕ → List ℕ
@@ -24,4 +24,5 @@ spaced_bytes bytes = flat_map (λ b. byte " " ∷ byte_digits b) bytes
 
 -- the line of a frame at a time: the time, the identifier, the number of bytes, and each byte
 abbrev pub frame_line : ℕ → BaseFrame → List ℕ
-frame_line time frame = ten_digits time ++ (byte " " ∷ identifier_digits frame.id ++ (counted (length frame.bytes) ++ spaced_bytes frame.bytes))
+frame_line time frame = ten_digits time ++ (byte " " ∷ identifier_digits frame.id
+    ++ (byte_count (length frame.bytes) ++ spaced_bytes frame.bytes))

@@ -37,13 +37,14 @@ abbrev pub waits_for : Purpose → List Waiting → Bool
 waits_for purpose frames = list_any (λ w. is_same w.purpose purpose) frames
 
 -- the list where a frame takes the place of the first of its purpose, and is last where there is none
-abbrev pub replaced : Purpose → BaseFrame → List Waiting → List Waiting
-replaced purpose frame [] = waiting purpose frame ∷ []
-replaced purpose frame (w ∷ frames) = if is_same w.purpose purpose then waiting purpose frame ∷ frames else w ∷ replaced purpose frame frames
+abbrev pub with_latest : Purpose → BaseFrame → List Waiting → List Waiting
+with_latest purpose frame [] = waiting purpose frame ∷ []
+with_latest purpose frame (w ∷ frames) = if is_same w.purpose purpose then waiting purpose frame ∷ frames
+    else w ∷ with_latest purpose frame frames
 
 -- the list without what is unwanted
-abbrev pub without : Unwanted → List Waiting → List Waiting
-without unwanted frames = filter (λ w. not (is_unwanted unwanted w.purpose)) frames
+abbrev pub without_unwanted : Unwanted → List Waiting → List Waiting
+without_unwanted unwanted frames = filter (λ w. not (is_unwanted unwanted w.purpose)) frames
 
 -- the identifiers of those that wait
 abbrev pub identifiers : List Waiting → List ℕ

@@ -1,5 +1,6 @@
 -- Arbitration (ISO 11898-1): which waiting frame starts at an idle bus.
-use Rattle.std.specs.Prelude.{◌≡◌, ℕ, nat_lt, ◌==◌, ◌&&◌, ◌||◌, Bool, false, if◌then◌else◌, List, [], ◌∷◌, map, All, Contains, slice_get, Option, Some, None}
+use Rattle.std.specs.Prelude.{◌≡◌, ℕ, nat_lt, ◌==◌, ◌&&◌, ◌||◌, Bool, false, if◌then◌else◌, List, [], ◌∷◌, map, All}
+use Rattle.std.specs.Prelude.{Contains, slice_get, Option, Some, None}
 use Rattle.std.specs.List.{enumerate_from, flat_map}
 use Rattle.can_frame.specs.declared.contender.Contender.{Contender}
 use Rattle.can_frame.specs.declared.waiting.Waiting.{Waiting}
@@ -14,11 +15,13 @@ contenders lists = flat_map contenders_of lists
 
 -- a frame waits at a place of the list of a node
 abbrev pub WaitsAt : List (ℕ × List Waiting) → ℕ → ℕ → Waiting → Type 0
-WaitsAt lists node place w = (frames : List Waiting) × (Contains lists (node, frames) × (slice_get frames place ≡ Some w))
+WaitsAt lists node place w = (frames : List Waiting)
+    × (Contains lists (node, frames) × (slice_get frames place ≡ Some w))
 
 -- one is below another by identifier, then node, then place
 abbrev pub is_below : Contender → Contender → Bool
-is_below a b = nat_lt a.id b.id || (a.id == b.id) && (nat_lt a.node b.node || (a.node == b.node) && nat_lt a.place b.place)
+is_below a b = nat_lt a.id b.id || (a.id == b.id)
+    && (nat_lt a.node b.node || (a.node == b.node) && nat_lt a.place b.place)
 
 -- a frame wins that no other is below; there is none where no frame waits
 abbrev pub IsWinner : List Contender → Option Contender → Type 0

@@ -1,7 +1,8 @@
 //! The identifiers of the predefined connection set (CiA 301), but for those of PDOs. A node is 1 to
 //! 127.
 ghost use Rattle.std.specs.Prelude.{◌≡◌};
-ghost use Rattle.can_frame.specs.Identifiers.{nmt_id, sync_id, emergency_id, sdo_answer_id, sdo_request_id, error_control_id};
+ghost use Rattle.can_frame.specs.Identifiers.{nmt_id, sync_id, emergency_id, sdo_answer_id, sdo_request_id};
+ghost use Rattle.can_frame.specs.Identifiers.{error_control_id};
 
 /// That of what the network management commands: 000h.
 pub fn nmt() -> u16

@@ -1,11 +1,12 @@
 //! Laws of waiting frames and of who wins, each a function whose contract is the law.
-ghost use Rattle.std.specs.Prelude.{◌≡◌, ◌^◌, ◌<◌, ◌≤◌, ◌++◌, ◌∷◌, [], ◌⊎◌, ◌↔◌, ℕ, true, false, List, Contains, Option, Some, None};
+ghost use Rattle.std.specs.Prelude.{◌≡◌, ◌^◌, ◌<◌, ◌≤◌, ◌++◌, ◌∷◌, [], ◌⊎◌, ◌↔◌, ℕ, true, false, List, Contains};
+ghost use Rattle.std.specs.Prelude.{Option, Some, None};
 ghost use Rattle.can_frame.specs.declared.contender.Contender.{Contender as Bid};
 ghost use Rattle.can_frame.specs.declared.purpose.Purpose.{Purpose as Use};
 ghost use Rattle.can_frame.specs.declared.waiting.Waiting.{Waiting as Queued};
 ghost use Rattle.can_frame.specs.Frames.{bit_time, BaseFrame, IsFrame};
 ghost use Rattle.can_frame.specs.TraceLines.{frame_line};
-ghost use Rattle.can_frame.specs.WaitingFrames.{is_same, replaced, waiting, waits_for};
+ghost use Rattle.can_frame.specs.WaitingFrames.{is_same, with_latest, waiting, waits_for};
 ghost use Rattle.can_frame.specs.Winner.{contenders, lower, winner_of, IsWinner, WaitsAt};
 
 /// Each frame that waits contends, and no other.
@@ -33,8 +34,10 @@ pub fn the_lower_of_two_winners_wins()
 /// Where no frame wins, none waits; and each frame that waits beside the winner has a higher
 /// identifier, or the same one at a later node, or at the same node and no earlier place.
 pub fn the_winner_comes_first()
-    ensures none { (lists : List (ℕ × List Queued)) (node place : ℕ) (w : Queued) → IsWinner (contenders lists) None → ¬ WaitsAt lists node place w }
-    ensures first { (lists : List (ℕ × List Queued)) (c : Bid) (node place : ℕ) (w : Queued) → IsWinner (contenders lists) (Some c) → WaitsAt lists node place w
+    ensures none { (lists : List (ℕ × List Queued)) (node place : ℕ) (w : Queued) → IsWinner (contenders lists) None
+        → ¬ WaitsAt lists node place w }
+    ensures first { (lists : List (ℕ × List Queued)) (c : Bid) (node place : ℕ) (w : Queued)
+        → IsWinner (contenders lists) (Some c) → WaitsAt lists node place w
         → (c.id < w.frame.id) ⊎ ((c.id ≡ w.frame.id) × ((c.node < node) ⊎ ((c.node ≡ node) × (c.place ≤ place)))) }
 {}
 
@@ -42,10 +45,11 @@ pub fn the_winner_comes_first()
 /// purpose waits, it goes last.
 #[tactic(auto, using(crate::proofs::ReplacedLemmas::replaced_laws))]
 pub fn a_replaced_frame_keeps_its_place()
-    ensures there { (purpose : Use) (frame : BaseFrame) (front behind : List Queued) (w : Queued) → waits_for purpose front ≡ false → is_same w.purpose purpose ≡ true
-        → replaced purpose frame (front ++ w ∷ behind) ≡ front ++ waiting purpose frame ∷ behind }
+    ensures there { (purpose : Use) (frame : BaseFrame) (front behind : List Queued) (w : Queued)
+        → waits_for purpose front ≡ false → is_same w.purpose purpose ≡ true
+        → with_latest purpose frame (front ++ w ∷ behind) ≡ front ++ waiting purpose frame ∷ behind }
     ensures last { (purpose : Use) (frame : BaseFrame) (frames : List Queued) → waits_for purpose frames ≡ false
-        → replaced purpose frame frames ≡ frames ++ waiting purpose frame ∷ [] }
+        → with_latest purpose frame frames ≡ frames ++ waiting purpose frame ∷ [] }
 {}
 
 /// The test of purposes is equality.

@@ -1,6 +1,7 @@
 //! The frames of a node that wait for the bus.
-ghost use Rattle.std.specs.Prelude.{◌≡◌, ◌==◌, ◌<◌, ◌++◌, ◌∷◌, [], ◌↔◌, false, length, remove, slice_get, Some, IfOk, OnOk, OnErr, IsTrue};
-ghost use Rattle.can_frame.specs.WaitingFrames.{replaced, waiting, waits_for, without};
+ghost use Rattle.std.specs.Prelude.{◌≡◌, ◌==◌, ◌<◌, ◌++◌, ◌∷◌, [], ◌↔◌, false, length, remove, slice_get, Some, IfOk};
+ghost use Rattle.std.specs.Prelude.{OnOk, OnErr, IsTrue};
+ghost use Rattle.can_frame.specs.WaitingFrames.{with_latest, waiting, waits_for, without_unwanted};
 ghost use Rattle.can_frame.specs.Winner.{contenders_of, IsWinner};
 
 use crate::contender::Contender;
@@ -31,7 +32,8 @@ impl Model for Pending {
 
     ghost view = { λ pending. pending.frames.items };
 
-    ghost invariant = { λ pending. IsFirstLeast (identifiers pending.frames.items) (length pending.frames.items) pending.least };
+    ghost invariant = { λ pending. IsFirstLeast (identifiers pending.frames.items)
+        (length pending.frames.items) pending.least };
 }
 
 impl Pending {
@@ -84,7 +86,7 @@ impl Pending {
     /// of its purpose waits. Walks the list. Want of memory changes nothing, and can come only where
     /// none of its purpose waits.
     pub fn replace(&mut self, purpose: Purpose, frame: Frame) -> Result<(), AllocError>
-        ensures ok { OnOk result (self.new ≡ replaced purpose frame self.old) }
+        ensures ok { OnOk result (self.new ≡ with_latest purpose frame self.old) }
         ensures err { OnErr result (self.new ≡ self.old) }
         ensures absent { OnErr result (waits_for purpose self.old ≡ false) }
     {
@@ -100,7 +102,7 @@ impl Pending {
 
     /// Drops what is unwanted; the others keep their order. Walks the list, and takes no memory.
     pub fn drop_of(&mut self, unwanted: Unwanted)
-        ensures { self.new ≡ without unwanted self.old }
+        ensures { self.new ≡ without_unwanted unwanted self.old }
     {
         drop_unwanted(&mut self.frames, unwanted);
         self.least = least_place(&self.frames);

@@ -1,6 +1,6 @@
 //! The line of a frame in a trace.
 ghost use Rattle.std.specs.Prelude.{◌≡◌, ◌<◌, ◌≤◌, ◌++◌, ◌∷◌, [], length, IfOk, OnOk};
-ghost use Rattle.can_frame.specs.TraceLines.{counted, frame_line, identifier_digits, spaced_bytes, ten_digits};
+ghost use Rattle.can_frame.specs.TraceLines.{byte_count, frame_line, identifier_digits, spaced_bytes, ten_digits};
 
 use crate::frame::Frame;
 use co_text::{byte_digits, upper_digit};
@@ -58,7 +58,7 @@ fn spaced(byte: u8) -> [u8; 3]
 /// Writes the number of bytes in brackets, and each byte.
 fn write_bytes(out: &mut Vec<u8>, bytes: &[u8]) -> Result<(), AllocError>
     requires { length bytes.now ≤ 8 }
-    ensures { OnOk result (out.new.items ≡ out.old.items ++ (counted (length bytes.now) ++ spaced_bytes bytes.now)) }
+    ensures { OnOk result (out.new.items ≡ out.old.items ++ (byte_count (length bytes.now) ++ spaced_bytes bytes.now)) }
 {
     out.extend_from_slice(&[b' ', b'[', upper_digit(bytes.len() as u8), b']'])?;
     for byte in bytes {

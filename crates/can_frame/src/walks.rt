@@ -1,7 +1,7 @@
 //! Walks over a list of waiting frames.
 ghost use Rattle.std.specs.Prelude.{◌≡◌, ◌↔◌, length, position, IsTrue};
 ghost use Rattle.can_frame.specs.Least.{IsFirstLeast};
-ghost use Rattle.can_frame.specs.WaitingFrames.{identifiers, is_same, without};
+ghost use Rattle.can_frame.specs.WaitingFrames.{identifiers, is_same, without_unwanted};
 
 use crate::purpose::Purpose;
 use crate::unwanted::Unwanted;
@@ -31,7 +31,7 @@ pub(crate) fn place_of(frames: &[Waiting], purpose: Purpose) -> Option<usize>
 
 /// Keeps what is wanted.
 pub(crate) fn drop_unwanted(frames: &mut Vec<Waiting>, unwanted: Unwanted)
-    ensures { frames.new.items ≡ without unwanted frames.old.items }
+    ensures { frames.new.items ≡ without_unwanted unwanted frames.old.items }
 {
     frames.retain(|waiting| !unwanted.includes(waiting.purpose));
 }

@@ -5,7 +5,8 @@ use Rattle.can_frame.specs.declared.contender.Contender.{Contender}
 use Rattle.can_frame.specs.declared.waiting.Waiting.{Waiting}
 use Rattle.can_frame.proofs.WinnerLemmas.{contender_at, length-contenders_of}
 
-pub place_within : (node : ℕ) (frames : List Waiting) (c : Contender) → IsWinner (contenders_of (node, frames)) (Some c) → c.place < length frames
+pub place_within : (node : ℕ) (frames : List Waiting) (c : Contender) → IsWinner (contenders_of (node, frames)) (Some c)
+    → c.place < length frames
 place_within node frames c wins =
     let k = wins.0.0 in
     let many = length-contenders_of node frames in

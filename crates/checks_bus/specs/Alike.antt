@@ -23,4 +23,7 @@ image_of values shape expect writes (part.Boot node place) = BootIs (option_and_
 image_of values shape expect writes (part.Events window) = EventsAre None
 
 abbrev pub seen_of : OneNode → Seen Part Content
-seen_of node = record { image = image_of node.defaults.value node.shape.value node.expect node.writes.items; asked = node.asked.items }
+seen_of node = record {
+  image = image_of node.defaults.value node.shape.value node.expect node.writes.items;
+  asked = node.asked.items;
+}

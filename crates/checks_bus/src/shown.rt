@@ -7,7 +7,7 @@ use can_frame::{Frame, Purpose, Waiting};
 use co_device::DeviceState;
 use co_dict::Dict;
 use nmt_boot::{Manager, Note};
-use node_boot::Word;
+use node_boot::NoteKind;
 use std::io::Write;
 
 /// The word for what a frame is for.
@@ -145,12 +145,12 @@ pub fn show_manager<W: Write>(out: &mut W, manager: &Manager, before: &Manager) 
 pub fn show_notes<W: Write>(out: &mut W, notes: &[Note]) -> Result<()> {
     for note in notes {
         let node = note.node;
-        match note.word {
-            Word::Lost => writeln!(out, "  note {node} lost")?,
-            Word::Configured => writeln!(out, "  note {node} configured")?,
-            Word::Difference => writeln!(out, "  note {node} failed difference")?,
-            Word::Aborted(abort) => writeln!(out, "  note {node} failed {:08X}", abort.code())?,
-            Word::TimedOut => writeln!(out, "  note {node} failed timeout")?,
+        match note.kind {
+            NoteKind::Lost => writeln!(out, "  note {node} lost")?,
+            NoteKind::Configured => writeln!(out, "  note {node} configured")?,
+            NoteKind::Difference => writeln!(out, "  note {node} failed difference")?,
+            NoteKind::Aborted(abort) => writeln!(out, "  note {node} failed {:08X}", abort.code())?,
+            NoteKind::TimedOut => writeln!(out, "  note {node} failed timeout")?,
         }
     }
     Ok(())

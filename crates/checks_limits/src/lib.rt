@@ -1,5 +1,6 @@
 //! Checks of what is generated or hostile: the longest inputs, lines and texts that a session takes,
-//! the largest numbers that a project has, identifiers and PDOs that run out, and streams that come in pieces, fail or stop; and of the
+//! the largest numbers that a project has, identifiers and PDOs that run out, and streams that come in pieces, fail or
+//! stop; and of the
 //! calls of a workbench.
 #![tactic(auto)]
 

@@ -1,5 +1,6 @@
 -- Finite maps: what they have once an entry is put or taken away, and those that a tree's entries make.
-use Rattle.std.proofs.Common.{◌≡◌, ◌≢◌, Bool, true, false, cond, ◌&&◌, T, List, [], ◌∷◌, length, Some, None, refl, sym, ap, subst, ◌∙◌}
+use Rattle.std.proofs.Common.{◌≡◌, ◌≢◌, Bool, true, false, cond, ◌&&◌, T, List, [], ◌∷◌, length, Some, None, refl, sym}
+use Rattle.std.proofs.Common.{ap, subst, ◌∙◌}
 use Rattle.std.proofs.lemmas.Bool.{false_from_ne_true}
 use Rattle.std.specs.declared.cmp.Ordering.{Ordering}
 use Rattle.std.specs.declared.cmp.Ordering.TheVariants.{Less}
@@ -9,7 +10,9 @@ use Rattle.std.specs.List.{AllByRecursion}
 use Rattle.std.specs.List.Sorted.{IsStrictlySortedBy}
 use Rattle.std.specs.Map.{lookup, keys_of}
 use Rattle.std.specs.BTreeMap.{is_at}
-use Rattle.std.specs.FinMap.{FinMap, entries, entries-from_sorted, find, from_entries, get, get-from_entries, get-from_sorted, get-insert, get-remove, insert, is_sorted, len, len-entries, remove, same_map}
+use Rattle.std.specs.FinMap.{FinMap, entries, entries-from_sorted, find, from_entries, get, get-from_entries}
+use Rattle.std.specs.FinMap.{get-from_sorted, get-insert, get-remove, insert, is_sorted, len, len-entries, remove}
+use Rattle.std.specs.FinMap.{same_map}
 use Rattle.std.specs.FinMap.Entries.{below_all}
 use Rattle.std.proofs.lemmas.Map.Lookups.{CmpEqualImpliesEq}
 
@@ -73,11 +76,13 @@ module _ {K : Type 0} {R : K → K → Ordering} (total : IsTotalOrder R) (exact
         ∙ sym (get-insert total m k w q))
 
     -- different keys may be given their values in any order
-    pub put_in_any_order : (m : FinMap R X) (k l : K) (v w : X) → k ≢ l → insert (insert m k v) l w ≡ insert (insert m l w) k v
+    pub put_in_any_order : (m : FinMap R X) (k l : K) (v w : X) → k ≢ l
+        → insert (insert m k v) l w ≡ insert (insert m l w) k v
     put_in_any_order m k l v w other = same_map total exact _ _ (λ q.
         get-insert total (insert m k v) l w q
         ∙ ap (cond (eq_by_cmp R q l) (Some w)) (get-insert total m k v q)
-        ∙ swapped (eq_by_cmp R q l) (eq_by_cmp R q k) (Some w) (Some v) (get m q) (λ tie. apart q k (λ same. other (sym same ∙ alike q l tie)))
+        ∙ swapped (eq_by_cmp R q l) (eq_by_cmp R q k) (Some w) (Some v) (get m q)
+        (λ tie. apart q k (λ same. other (sym same ∙ alike q l tie)))
         ∙ ap (cond (eq_by_cmp R q k) (Some v)) (sym (get-insert total m l w q))
         ∙ sym (get-insert total (insert m l w) k v q))
 
@@ -92,20 +97,23 @@ module _ {K : Type 0} {R : K → K → Ordering} (total : IsTotalOrder R) (exact
     get_made es q = get-from_entries total es q ∙ find_is es q
 
     -- trees that differ by one entry that is put
-    pub made_put : (es fs : List (K × X)) (k : K) (v : X) → ((q : K) → lookup (is_at (R q)) fs ≡ cond (is_at (R k) q) (Some v) (lookup (is_at (R q)) es))
+    pub made_put : (es fs : List (K × X)) (k : K) (v : X)
+        → ((q : K) → lookup (is_at (R q)) fs ≡ cond (is_at (R k) q) (Some v) (lookup (is_at (R q)) es))
         → from_entries {R = R} fs ≡ insert (from_entries es) k v
     made_put es fs k v h = same_map total exact _ _ (λ q.
         get_made fs q ∙ h q ∙ ap (λ t. cond t (Some v) (lookup (is_at (R q)) es)) (turned k q)
         ∙ sym (get-insert total (from_entries es) k v q ∙ ap (cond (eq_by_cmp R q k) (Some v)) (get_made es q)))
 
     -- and by one that is taken away
-    pub made_removed : (es fs : List (K × X)) (k : K) → ((q : K) → lookup (is_at (R q)) fs ≡ cond (is_at (R k) q) None (lookup (is_at (R q)) es))
+    pub made_removed : (es fs : List (K × X)) (k : K)
+        → ((q : K) → lookup (is_at (R q)) fs ≡ cond (is_at (R k) q) None (lookup (is_at (R q)) es))
         → from_entries {R = R} fs ≡ remove (from_entries es) k
     made_removed es fs k h = same_map total exact _ _ (λ q.
         get_made fs q ∙ h q ∙ ap (λ t. cond t None (lookup (is_at (R q)) es)) (turned k q)
         ∙ sym (get-remove total (from_entries es) k q ∙ ap (cond (eq_by_cmp R q k) None) (get_made es q)))
 
-    below_all_from : (x : K) (es : List (K × X)) → AllByRecursion (λ y. R x y ≡ Less) (keys_of es) → T (below_all R x es)
+    below_all_from : (x : K) (es : List (K × X)) → AllByRecursion (λ y. R x y ≡ Less) (keys_of es)
+        → T (below_all R x es)
     below_all_from x [] h = tt
     below_all_from x (e ∷ es) h = both _ _ (subst (λ r. T (is_lt r)) (sym h.0) tt) (below_all_from x es h.1)
 
@@ -118,7 +126,8 @@ module _ {K : Type 0} {R : K → K → Ordering} (total : IsTotalOrder R) (exact
     pub entries_made : (es : List (K × X)) → IsStrictlySortedBy R (keys_of es) → entries (from_entries {R = R} es) ≡ es
     entries_made es h =
         let sorted : T (is_sorted R es) = is_sorted_from es h in
-        ap entries (same_map total exact _ _ (λ q. get-from_entries total es q ∙ sym (get-from_sorted R es q sorted))) ∙ entries-from_sorted R es sorted
+        ap entries (same_map total exact _ _ (λ q. get-from_entries total es q ∙ sym (get-from_sorted R es q sorted)))
+        ∙ entries-from_sorted R es sorted
 
     -- and as many
     pub len_made : (es : List (K × X)) → IsStrictlySortedBy R (keys_of es) → len (from_entries {R = R} es) ≡ length es

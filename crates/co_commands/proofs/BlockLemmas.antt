@@ -20,4 +20,12 @@ module _ (name text : List ℕ) (is : IsEds name text) where
       let parts = device_parts text (content_of text) is.device in
       let sizes = or_parts (nat_lt most_bytes (length text)) _ parts.0 in
       let short : has_long_line (lines_of text) ≡ false = rw (sym (same_lines text)) sizes.1 in
-      rw (is.name, le-ltb most_lines (length (lines_of text)) is.lines, short, is.ended, sizes.0, good_lines text parts.1, parts.2) refl
+      rw (
+        is.name,
+        le-ltb most_lines (length (lines_of text)) is.lines,
+        short,
+        is.ended,
+        sizes.0,
+        good_lines text parts.1,
+        parts.2,
+      ) refl

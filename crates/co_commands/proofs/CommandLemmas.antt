@@ -5,7 +5,8 @@ use Rattle.std.proofs.lemmas.Bool.{and_parts, leb-true, le-ltb}
 use Rattle.std.proofs.lemmas.Bool.Decides.{nat_tests}
 use Rattle.co_scenario.specs.declared.event.Event.TheVariants as event
 use Rattle.co_scenario.specs.declared.nmt_command.NmtCommand.{NmtCommand}
-use Rattle.co_scenario.specs.declared.nmt_command.NmtCommand.TheVariants.{Start, Stop, EnterPreOperational, ResetNode, ResetCommunication}
+use Rattle.co_scenario.specs.declared.nmt_command.NmtCommand.TheVariants.{Start, Stop, EnterPreOperational, ResetNode}
+use Rattle.co_scenario.specs.declared.nmt_command.NmtCommand.TheVariants.{ResetCommunication}
 use Rattle.co_scenario.specs.Commands.{number_of}
 use Rattle.co_edits.specs.declared.manager_settings.ManagerSettings.{ManagerSettings}
 use Rattle.co_edits.specs.declared.edit.Edit.TheVariants as edit
@@ -13,8 +14,11 @@ use Rattle.co_commands.specs.declared.request.Request.TheVariants.{Block}
 use Rattle.co_text.specs.Words.{after}
 use Rattle.co_text.specs.Digits.{byte_digits, index_digits}
 use Rattle.co_base.specs.Ranges.{is_between, AreIndices}
-use Rattle.co_edits.specs.Forms.{is_name, is_node_number, is_node_or_all, is_bit_rate, is_time, is_sync_period, is_event_number}
-use Rattle.co_commands.specs.Requests.{block_of, bitrate_of, horizon_of, manager_of, drop_eds_of, node_of, drop_node_of, id_of, param_of, unparam_of, event_at_time, set_of, switch, power_of, nmt, nmt_of, happening_of, event_of, drop_event_of}
+use Rattle.co_edits.specs.Forms.{is_name, is_node_number, is_node_or_all, is_bit_rate, is_time, is_sync_period}
+use Rattle.co_edits.specs.Forms.{is_event_number}
+use Rattle.co_commands.specs.Requests.{block_of, bitrate_of, horizon_of, manager_of, drop_eds_of, node_of, drop_node_of}
+use Rattle.co_commands.specs.Requests.{id_of, param_of, unparam_of, event_at_time, set_of, switch, power_of, nmt}
+use Rattle.co_commands.specs.Requests.{nmt_of, happening_of, event_of, drop_event_of}
 use Rattle.co_edits.specs.Edits.{IsManager, IsSetting}
 use Rattle.co_commands.proofs.NumberLemmas.{decimal_again, index_again, sub_again}
 use Rattle.co_commands.proofs.LineLemmas.{Has, Ends, Keeps}
@@ -55,51 +59,96 @@ command_below ResetCommunication = lit< tt
 
 -- ---- commands
 
-pub block_is : (line : List ℕ) (name : List ℕ) (count : ℕ) → Has Ends line (name ∷ decimal count ∷ []) → is_name name ≡ true → count ≤ 65536 → block_of false line ≡ Ok (Block (Some name) count)
+pub block_is : (line : List ℕ) (name : List ℕ) (count : ℕ) → Has Ends line (name ∷ decimal count ∷ [])
+    → is_name name ≡ true → count ≤ 65536 → block_of false line ≡ Ok (Block (Some name) count)
 unfolding block_of
-block_is line name count h named few = rw (h.1.1, h.1.0, decimal_again count (omega arith), le-ltb 65536 count few, h.0, named) refl
+block_is line name count h named few = rw (
+  h.1.1,
+  h.1.0,
+  decimal_again count (omega arith),
+  le-ltb 65536 count few,
+  h.0,
+  named,
+) refl
 
-pub bitrate_is : (line : List ℕ) (rate : ℕ) → Has Ends line (decimal rate ∷ []) → is_bit_rate rate ≡ true → bitrate_of line ≡ Ok (edit.Bitrate rate)
+pub bitrate_is : (line : List ℕ) (rate : ℕ) → Has Ends line (decimal rate ∷ []) → is_bit_rate rate ≡ true
+    → bitrate_of line ≡ Ok (edit.Bitrate rate)
 unfolding bitrate_of
 bitrate_is line rate h fits = rw (h.1, h.0, decimal_again rate (rate_below rate fits), fits) refl
 
-pub horizon_is : (line : List ℕ) (time : ℕ) → Has Ends line (decimal time ∷ []) → is_time time ≡ true → horizon_of line ≡ Ok (edit.Horizon time)
+pub horizon_is : (line : List ℕ) (time : ℕ) → Has Ends line (decimal time ∷ []) → is_time time ≡ true
+    → horizon_of line ≡ Ok (edit.Horizon time)
 unfolding horizon_of
 horizon_is line time h fits = rw (h.1, h.0, decimal_again time (time_below time fits), fits) refl
 
-pub manager_is : (line : List ℕ) (m : ManagerSettings) → Has Ends line (decimal m.id ∷ decimal m.sync_us ∷ decimal m.heartbeat_ms ∷ decimal m.timeout_ms ∷ []) → IsManager m → manager_of line ≡ Ok (edit.Manager m)
+pub manager_is : (line : List ℕ) (m : ManagerSettings)
+    → Has Ends line (decimal m.id ∷ decimal m.sync_us ∷ decimal m.heartbeat_ms ∷ decimal m.timeout_ms ∷ [])
+    → IsManager m → manager_of line ≡ Ok (edit.Manager m)
 unfolding manager_of IsManager
 manager_is line m h is =
     rw (h.1.1.1.1, h.0, h.1.0, h.1.1.0, h.1.1.1.0) (
-    rw (decimal_again m.id (id_below m.id is.0), decimal_again m.sync_us (period_below m.sync_us is.1), decimal_again m.heartbeat_ms (short_below 0 m.heartbeat_ms is.2), decimal_again m.timeout_ms (short_below 1 m.timeout_ms is.3)) (
+    rw (
+      decimal_again m.id (id_below m.id is.0),
+      decimal_again m.sync_us (period_below m.sync_us is.1),
+      decimal_again m.heartbeat_ms (short_below 0 m.heartbeat_ms is.2),
+      decimal_again m.timeout_ms (short_below 1 m.timeout_ms is.3),
+    ) (
     rw (is.0, is.1, is.2, is.3) refl))
 
-pub drop_eds_is : (line name : List ℕ) → Has Ends line (name ∷ []) → is_name name ≡ true → drop_eds_of line ≡ Ok (edit.DropEds name)
+pub drop_eds_is : (line name : List ℕ) → Has Ends line (name ∷ []) → is_name name ≡ true
+    → drop_eds_of line ≡ Ok (edit.DropEds name)
 unfolding drop_eds_of
 drop_eds_is line name h named = rw (h.1, h.0, named) refl
 
-pub node_is : (line : List ℕ) (id : ℕ) (called eds : List ℕ) → Has Ends line (decimal id ∷ called ∷ eds ∷ []) → is_node_number id ≡ true → is_name called ≡ true → is_name eds ≡ true
+pub node_is : (line : List ℕ) (id : ℕ) (called eds : List ℕ) → Has Ends line (decimal id ∷ called ∷ eds ∷ [])
+    → is_node_number id ≡ true → is_name called ≡ true → is_name eds ≡ true
     → node_of line ≡ Ok (edit.Node id called eds)
 unfolding node_of
-node_is line id called eds h fits named made = rw (h.1.1.1, h.0, h.1.0, h.1.1.0, decimal_again id (id_below id fits), named, made, fits) refl
+node_is line id called eds h fits named made =
+    rw (h.1.1.1, h.0, h.1.0, h.1.1.0, decimal_again id (id_below id fits), named, made, fits) refl
 
-pub drop_node_is : (line : List ℕ) (id : ℕ) → Has Ends line (decimal id ∷ []) → is_node_number id ≡ true → drop_node_of line ≡ Ok (edit.DropNode id)
+pub drop_node_is : (line : List ℕ) (id : ℕ) → Has Ends line (decimal id ∷ []) → is_node_number id ≡ true
+    → drop_node_of line ≡ Ok (edit.DropNode id)
 unfolding drop_node_of id_of
 drop_node_is line id h fits = rw (h.1, h.0, decimal_again id (id_below id fits), fits) refl
 
-pub param_is : (line : List ℕ) (id index sub : ℕ) (kept : List ℕ) → Has (Keeps kept) line (decimal id ∷ index_digits index ∷ byte_digits sub ∷ []) → is_node_number id ≡ true → IsSetting index sub kept
+pub param_is : (line : List ℕ) (id index sub : ℕ) (kept : List ℕ)
+    → Has (Keeps kept) line (decimal id ∷ index_digits index ∷ byte_digits sub ∷ []) → is_node_number id ≡ true
+    → IsSetting index sub kept
     → param_of line ≡ Ok (edit.Param id index sub kept)
 unfolding param_of IsSetting
 param_is line id index sub kept h fits is =
-    rw (h.0, h.1.0, h.1.1.0, h.1.1.1, decimal_again id (id_below id fits), index_again index (most 0 65535 index is.0.0), sub_again sub (most 0 255 sub is.0.1), fits, is.1) refl
+    rw (
+      h.0,
+      h.1.0,
+      h.1.1.0,
+      h.1.1.1,
+      decimal_again id (id_below id fits),
+      index_again index (most 0 65535 index is.0.0),
+      sub_again sub (most 0 255 sub is.0.1),
+      fits,
+      is.1,
+    ) refl
 
-pub unparam_is : (line : List ℕ) (id index sub : ℕ) → Has Ends line (decimal id ∷ index_digits index ∷ byte_digits sub ∷ []) → is_node_number id ≡ true → AreIndices index sub
+pub unparam_is : (line : List ℕ) (id index sub : ℕ)
+    → Has Ends line (decimal id ∷ index_digits index ∷ byte_digits sub ∷ []) → is_node_number id ≡ true
+    → AreIndices index sub
     → unparam_of line ≡ Ok (edit.Unparam id index sub)
 unfolding unparam_of
 unparam_is line id index sub h fits are =
-    rw (h.1.1.1, h.0, h.1.0, h.1.1.0, decimal_again id (id_below id fits), index_again index (most 0 65535 index are.0), sub_again sub (most 0 255 sub are.1), fits) refl
+    rw (
+      h.1.1.1,
+      h.0,
+      h.1.0,
+      h.1.1.0,
+      decimal_again id (id_below id fits),
+      index_again index (most 0 65535 index are.0),
+      sub_again sub (most 0 255 sub are.1),
+      fits,
+    ) refl
 
-pub drop_event_is : (line : List ℕ) (key : ℕ) → Has Ends line (decimal key ∷ []) → is_event_number key ≡ true → drop_event_of line ≡ Ok (edit.DropEvent key)
+pub drop_event_is : (line : List ℕ) (key : ℕ) → Has Ends line (decimal key ∷ []) → is_event_number key ≡ true
+    → drop_event_of line ≡ Ok (edit.DropEvent key)
 unfolding drop_event_of
 drop_event_is line key h fits = rw (h.1, h.0, decimal_again key (key_below key fits), fits) refl
 
@@ -118,22 +167,65 @@ nmt_again ResetCommunication = refl
 
 module _ (key moment : ℕ) (numbered : is_event_number key ≡ true) (timed : is_time moment ≡ true) where
   -- the number, the time and the kind of an event
-  pub event_is : (P : List ℕ → Type 0) (line kind : List ℕ) (words : List (List ℕ)) → Has P line (decimal key ∷ decimal moment ∷ kind ∷ words) → event_of line ≡ happening_of key moment kind (after (after (after line)))
+  pub event_is : (P : List ℕ → Type 0) (line kind : List ℕ) (words : List (List ℕ))
+      → Has P line (decimal key ∷ decimal moment ∷ kind ∷ words)
+      → event_of line ≡ happening_of key moment kind (after (after (after line)))
   unfolding event_of
-  event_is P line kind words h = rw (h.0, h.1.0, h.1.1.0, decimal_again key (key_below key numbered), decimal_again moment (time_below moment timed)) refl
+  event_is P line kind words h = rw (
+    h.0,
+    h.1.0,
+    h.1.1.0,
+    decimal_again key (key_below key numbered),
+    decimal_again moment (time_below moment timed),
+  ) refl
 
-  pub set_is : (line : List ℕ) (node index sub : ℕ) (kept : List ℕ) → Has (Keeps kept) line (decimal node ∷ index_digits index ∷ byte_digits sub ∷ []) → is_node_number node ≡ true → IsSetting index sub kept
+  pub set_is : (line : List ℕ) (node index sub : ℕ) (kept : List ℕ)
+      → Has (Keeps kept) line (decimal node ∷ index_digits index ∷ byte_digits sub ∷ []) → is_node_number node ≡ true
+      → IsSetting index sub kept
       → set_of key moment line ≡ Ok (event_at_time key moment (event.Set node index sub kept))
   unfolding set_of IsSetting
   set_is line node index sub kept h fits is =
-      rw (h.0, h.1.0, h.1.1.0, h.1.1.1, decimal_again node (id_below node fits), index_again index (most 0 65535 index is.0.0), sub_again sub (most 0 255 sub is.0.1), numbered, timed, fits, is.1) refl
+      rw (
+        h.0,
+        h.1.0,
+        h.1.1.0,
+        h.1.1.1,
+        decimal_again node (id_below node fits),
+        index_again index (most 0 65535 index is.0.0),
+        sub_again sub (most 0 255 sub is.0.1),
+        numbered,
+        timed,
+        fits,
+        is.1,
+      ) refl
 
-  pub power_is : (line : List ℕ) (node : ℕ) (on : Bool) → Has Ends line (decimal node ∷ (if on then codes "on" else codes "off") ∷ []) → is_node_number node ≡ true
+  pub power_is : (line : List ℕ) (node : ℕ) (on : Bool)
+      → Has Ends line (decimal node ∷ (if on then codes "on" else codes "off") ∷ []) → is_node_number node ≡ true
       → power_of key moment line ≡ Ok (event_at_time key moment (event.Power node on))
   unfolding power_of
-  power_is line node on h fits = rw (h.1.1, h.0, h.1.0, decimal_again node (id_below node fits), switch_again on, numbered, timed, fits) refl
+  power_is line node on h fits = rw (
+    h.1.1,
+    h.0,
+    h.1.0,
+    decimal_again node (id_below node fits),
+    switch_again on,
+    numbered,
+    timed,
+    fits,
+  ) refl
 
-  pub nmt_is : (line : List ℕ) (node : ℕ) (c : NmtCommand) → Has Ends line (decimal (number_of c) ∷ decimal node ∷ []) → is_node_or_all node ≡ true
+  pub nmt_is : (line : List ℕ) (node : ℕ) (c : NmtCommand) → Has Ends line (decimal (number_of c) ∷ decimal node ∷ [])
+      → is_node_or_all node ≡ true
       → nmt_of key moment line ≡ Ok (event_at_time key moment (event.Nmt node c))
   unfolding nmt_of
-  nmt_is line node c h fits = rw (h.1.1, h.0, h.1.0, decimal_again (number_of c) (command_below c), decimal_again node (node_below node fits), numbered, timed, nmt_again c, fits) refl
+  nmt_is line node c h fits = rw (
+    h.1.1,
+    h.0,
+    h.1.0,
+    decimal_again (number_of c) (command_below c),
+    decimal_again node (node_below node fits),
+    numbered,
+    timed,
+    nmt_again c,
+    fits,
+  ) refl

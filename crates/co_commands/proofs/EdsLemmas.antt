@@ -1,5 +1,6 @@
 -- An EDS from handed lines: the lines of its text, and the device that it is the text of.
-use Rattle.std.proofs.Common.{◌≡◌, ℕ, zero, suc, Bool, true, false, ◌==◌, ◌-◌, List, [], ◌∷◌, ◌++◌, map, take, length, refl, ap, ◌∙◌, append_assoc, Err, Ok, nat_lt, if◌then◌else◌, arith}
+use Rattle.std.proofs.Common.{◌≡◌, ℕ, zero, suc, Bool, true, false, ◌==◌, ◌-◌, List, [], ◌∷◌, ◌++◌, map, take, length}
+use Rattle.std.proofs.Common.{refl, ap, ◌∙◌, append_assoc, Err, Ok, nat_lt, if◌then◌else◌, arith}
 use Rattle.std.specs.Bool.{OnFalse}
 use Rattle.std.specs.List.{list_any, suffix_len, onto_first}
 use Rattle.std.proofs.lemmas.Bool.{or_parts, ltb-false}
@@ -16,9 +17,10 @@ use Rattle.eds_device.specs.declared.fault.DeviceFault.TheVariants as device
 use Rattle.co_edits.specs.declared.fault.EditFault.{EditFault}
 use Rattle.co_edits.specs.declared.fault.EditFault.TheVariants.{Limit}
 use Rattle.co_edits.specs.declared.edit.Edit.TheVariants.{Eds}
-use Rattle.co_edits.specs.Faults.{is_memory, judged}
+use Rattle.co_edits.specs.Faults.{is_memory, device_verdict}
 use Rattle.co_edits.specs.Forms.{is_name}
-use Rattle.co_edits.specs.Eds.{text_line, text_of, is_bad_byte, has_bad_line, has_long_line, has_too_many_entries, most_bytes, most_lines, eds_edit, IsEds}
+use Rattle.co_edits.specs.Eds.{text_line, text_of, is_bad_byte, has_bad_line, has_long_line, has_too_many_entries}
+use Rattle.co_edits.specs.Eds.{most_bytes, most_lines, eds_edit, IsEds}
 use Rattle.co_commands.proofs.TextLemmas.{trim_end_again}
 
 -- ---- lines of texts
@@ -46,7 +48,8 @@ no_lf : (b : ℕ) → is_bad_byte b ≡ false → (b == 10) ≡ false
 no_lf b h = grind (arith, nat_tests)
 
 -- a line without bad bytes, ended by LF, is the first line
-first_line : (line rest : List ℕ) → list_any is_bad_byte line ≡ false → text_lines (line ++ 10 ∷ rest) ≡ line ∷ text_lines rest
+first_line : (line rest : List ℕ) → list_any is_bad_byte line ≡ false
+    → text_lines (line ++ 10 ∷ rest) ≡ line ∷ text_lines rest
 unfolding text_lines
 first_line [] rest h = refl
 first_line (b ∷ line) rest h =
@@ -81,7 +84,8 @@ good_byte b h = grind (arith, nat_tests)
 
 good_bytes : (line : List ℕ) → list_any is_bad_byte line ≡ false → list_any ini.is_bad_byte line ≡ false
 good_bytes [] h = refl
-good_bytes (b ∷ line) h = let both = or_parts (is_bad_byte b) (list_any is_bad_byte line) h in rw (good_byte b both.0) (good_bytes line both.1)
+good_bytes (b ∷ line) h = let both = or_parts (is_bad_byte b) (list_any is_bad_byte line) h
+    in rw (good_byte b both.0) (good_bytes line both.1)
 
 -- a text has no bad byte where its lines have none
 good_text : (lines : List (List ℕ)) → has_bad_line lines ≡ false → ini.has_bad_byte (text_of lines) ≡ false
@@ -89,7 +93,8 @@ good_text [] h = refl
 good_text (line ∷ lines) h =
     let both = or_parts (list_any is_bad_byte line) (has_bad_line lines) h in
     list_any-append ini.is_bad_byte (text_line line) (text_of lines)
-    ∙ rw (list_any-append ini.is_bad_byte (kept line) (10 ∷ []), good_bytes (kept line) (good_kept line both.0)) (good_text lines both.1)
+    ∙ rw (list_any-append ini.is_bad_byte (kept line) (10 ∷ []), good_bytes (kept line) (good_kept line both.0))
+    (good_text lines both.1)
 
 -- a byte of a text but LF is good in a line
 good_in_line : (b : ℕ) → ini.is_bad_byte b ≡ false → (b == 10) ≡ false → is_bad_byte b ≡ false
@@ -103,7 +108,8 @@ good_lines (b ∷ text) h =
     let both = or_parts (ini.is_bad_byte b) (ini.has_bad_byte text) h in
     by (b == 10) refl both.0 (text_lines text) (good_lines text both.1)
   where
-    by : (t : Bool) → (b == 10) ≡ t → ini.is_bad_byte b ≡ false → (ls : List (List ℕ)) → has_bad_line ls ≡ false → has_bad_line (if t then [] ∷ ls else onto_first b ls) ≡ false
+    by : (t : Bool) → (b == 10) ≡ t → ini.is_bad_byte b ≡ false → (ls : List (List ℕ)) → has_bad_line ls ≡ false
+        → has_bad_line (if t then [] ∷ ls else onto_first b ls) ≡ false
     by true e good ls h = h
     by false e good [] h = rw (good_in_line b good e) refl
     by false e good (line ∷ ls) h = rw (good_in_line b good e) h
@@ -112,12 +118,14 @@ good_lines (b ∷ text) h =
 
 -- what a text that is read as a device has none of
 pub device_parts : (text : List ℕ) (content : Content) → device_of text ≡ Ok content
-    → (ini.is_out_of_range text ≡ false) × (ini.has_bad_byte text ≡ false) × (has_too_many_entries text ≡ false) × (content_of text ≡ content)
+    → (ini.is_out_of_range text ≡ false) × (ini.has_bad_byte text ≡ false) × (has_too_many_entries text ≡ false)
+    × (content_of text ≡ content)
 unfolding device_of has_too_many_entries
 device_parts text content h = by (ini.is_out_of_range text) (ini.has_bad_byte text) (has_too_many_entries text) h
   where
     by : (out bad many : Bool)
-        → (if out then Err device.Range else if bad then Err device.BadByte else if many then Err device.Limit else Ok (content_of text)) ≡ Ok content
+        → (if out then Err device.Range else if bad then Err device.BadByte else if many then Err device.Limit
+        else Ok (content_of text)) ≡ Ok content
         → (out ≡ false) × (bad ≡ false) × (many ≡ false) × (content_of text ≡ content)
     by true bad many h = cc
     by false true many h = cc
@@ -134,36 +142,43 @@ pub record Passes (name : List ℕ) (lines : List (List ℕ)) : Type 0 where
 
 module _ (name : List ℕ) (lines : List (List ℕ)) (p : Passes name lines) where
   -- the text is one for a device, and the edit is that of the text, unless there are too many entries
-  device_is : device_of (text_of lines) ≡ (if has_too_many_entries (text_of lines) then Err device.Limit else Ok (content_of (text_of lines)))
+  device_is : device_of (text_of lines) ≡ (if has_too_many_entries (text_of lines) then Err device.Limit
+      else Ok (content_of (text_of lines)))
   unfolding device_of has_too_many_entries
   device_is =
-      let short : list_any ini.is_long_line (ini.lines_of (text_of lines)) ≡ false = rw (same_lines (text_of lines), lines_again lines p.good, long_again lines) p.short in
+      let short : list_any ini.is_long_line (ini.lines_of (text_of lines))
+      ≡ false = rw (same_lines (text_of lines), lines_again lines p.good, long_again lines) p.short in
       rw (p.within, short, good_text lines p.good) refl
 
-  edit_is : eds_edit name lines ≡ (if has_too_many_entries (text_of lines) then Err Limit else Ok (Eds name (text_of lines)))
+  edit_is : eds_edit name lines ≡ (if has_too_many_entries (text_of lines) then Err Limit
+      else Ok (Eds name (text_of lines)))
   unfolding eds_edit
   edit_is = by (has_too_many_entries (text_of lines)) refl
     where
-      by : (many : Bool) → has_too_many_entries (text_of lines) ≡ many → eds_edit name lines ≡ (if many then Err Limit else Ok (Eds name (text_of lines)))
+      by : (many : Bool) → has_too_many_entries (text_of lines) ≡ many
+          → eds_edit name lines ≡ (if many then Err Limit else Ok (Eds name (text_of lines)))
       by true h = rw (p.named, p.few, p.short, p.within, p.good, h) refl
       by false h = rw (p.named, p.few, p.short, p.within, p.good, h) refl
 
   -- what keeps it from being a device keeps it from being an edit
-  pub refused_so : (e : EditFault) → OnFalse (is_memory e) (judged (device_of (text_of lines)) ≡ Err e) → OnFalse (is_memory e) (eds_edit name lines ≡ Err e)
+  pub refused_so : (e : EditFault) → OnFalse (is_memory e) (device_verdict (device_of (text_of lines)) ≡ Err e)
+      → OnFalse (is_memory e) (eds_edit name lines ≡ Err e)
   refused_so e h = rw edit_is (by (has_too_many_entries (text_of lines)) (is_memory e) e (rw device_is at h))
     where
-      by : (many m : Bool) (e : EditFault) → OnFalse m (judged (if many then Err device.Limit else Ok (content_of (text_of lines))) ≡ Err e)
+      by : (many m : Bool) (e : EditFault)
+          → OnFalse m (device_verdict (if many then Err device.Limit else Ok (content_of (text_of lines))) ≡ Err e)
           → OnFalse m ((if many then Err Limit else Ok (Eds name (text_of lines))) ≡ Err e)
       by many true e h = tt
       by true false e h = cc
       by false false e h = cc
 
   -- a device makes it an edit, which keeps to what each EDS does
-  module _ (taken : judged (device_of (text_of lines)) ≡ Ok tt) where
+  module _ (taken : device_verdict (device_of (text_of lines)) ≡ Ok tt) where
     few_entries : has_too_many_entries (text_of lines) ≡ false
     few_entries = by (has_too_many_entries (text_of lines)) (rw device_is at taken)
       where
-        by : (many : Bool) → judged (if many then Err device.Limit else Ok (content_of (text_of lines))) ≡ Ok tt → many ≡ false
+        by : (many : Bool) → device_verdict (if many then Err device.Limit else Ok (content_of (text_of lines))) ≡ Ok tt
+            → many ≡ false
         by true h = cc
         by false h = refl
 

@@ -43,7 +43,8 @@ one_lf : (line : List ℕ) → line_count line ≡ 0 → line_count (text_line l
 one_lf line none = sum_by-append is_lf (trim_end is_cr line) (10 ∷ []) ∙ rw (no_lf_kept line none) refl
 
 -- lines that are ended have as many LFs as there are lines
-pub counted : (lines : List (List ℕ)) → AllByRecursion (λ line. line_count line ≡ 0) lines → line_count (text_of lines) ≡ length lines
+pub counted : (lines : List (List ℕ)) → AllByRecursion (λ line. line_count line ≡ 0) lines
+    → line_count (text_of lines) ≡ length lines
 counted [] none = refl
 counted (line ∷ lines) none =
     let first = one_lf line none.0 in

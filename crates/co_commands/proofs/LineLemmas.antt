@@ -1,5 +1,6 @@
 -- Lines of words, as they are printed.
-use Rattle.std.proofs.Common.{◌≡◌, ℕ, suc, ◌+◌, ◌≤◌, Bool, true, false, not, ◌&&◌, List, [], ◌∷◌, ◌++◌, length, refl, sym, ap, ◌∙◌, arith, append-nil, length-append}
+use Rattle.std.proofs.Common.{◌≡◌, ℕ, suc, ◌+◌, ◌≤◌, Bool, true, false, not, ◌&&◌, List, [], ◌∷◌, ◌++◌, length, refl}
+use Rattle.std.proofs.Common.{sym, ap, ◌∙◌, arith, append-nil, length-append}
 use Rattle.std.specs.Prelude.{nat_lt, nat_le, Ok, codes}
 use Rattle.std.specs.List.{list_any, list_all}
 use Rattle.std.specs.Str.{bytes_eq}
@@ -13,7 +14,8 @@ use Rattle.co_base.specs.Ranges.{is_between}
 use Rattle.co_edits.specs.Forms.{is_control, is_plain, is_text}
 use Rattle.co_commands.specs.Words.{is_bad_line, text}
 use Rattle.co_commands.specs.Requests.{request, command_of, block_of}
-use Rattle.co_commands.proofs.WordLemmas.{is_visible, IsWord, clean_word, trim-space, word-space, after-space, word_is, after_is}
+use Rattle.co_commands.proofs.WordLemmas.{is_visible, IsWord, clean_word, trim-space, word-space, after-space, word_is}
+use Rattle.co_commands.proofs.WordLemmas.{after_is}
 
 -- ---- words and what ends them
 
@@ -41,11 +43,16 @@ pub last : {m : ℕ} {w : List ℕ} → IsWord m w → Spells Ends m w (w ∷ []
 last {m = m} {w = w} is = record {
   few = is.few;
   clean = clean_word w is.visible;
-  has = (ap (λ l. word (32 ∷ l)) (sym (append-nil w)) ∙ word_is m w [] is refl, ap (λ l. list_all is_blank (after (32 ∷ l))) (sym (append-nil w)) ∙ ap (list_all is_blank) (after_is m w [] is refl));
+  has = (
+    ap (λ l. word (32 ∷ l)) (sym (append-nil w)) ∙ word_is m w [] is refl,
+    ap (λ l. list_all is_blank (after (32 ∷ l))) (sym (append-nil w))
+        ∙ ap (list_all is_blank) (after_is m w [] is refl),
+  );
 }
 
 -- one more word in front
-pub more : {P : List ℕ → Type 0} {m n : ℕ} {w line : List ℕ} {words : List (List ℕ)} → IsWord m w → Spells P n line words → Spells P (m + suc n) (w ++ 32 ∷ line) (w ∷ words)
+pub more : {P : List ℕ → Type 0} {m n : ℕ} {w line : List ℕ} {words : List (List ℕ)} → IsWord m w
+    → Spells P n line words → Spells P (m + suc n) (w ++ 32 ∷ line) (w ∷ words)
 more {m = m} {w = w} {line = line} is rest = record {
   few = omega (arith, length-append w (32 ∷ line), is.few, rest.few);
   clean = list_any-append is_control w (32 ∷ line) ∙ rw (clean_word w is.visible) rest.clean;
@@ -58,7 +65,8 @@ kept t h =
     let all = and_parts (is_plain t) (bytes_eq (trimmed t) t) h in
     let plain = and_parts (is_between 1 4000 (length t)) (not (list_any is_control t)) all.0 in
     let sizes = and_parts (nat_le 1 (length t)) (nat_le (length t) 4000) plain.0 in
-    let same : trimmed (32 ∷ t) ≡ t = ap (trim_end is_blank) (trim-space t) ∙ (bytes_eq-Decides (trimmed t) t).0 all.1 in
+    let same : trimmed (32 ∷ t) ≡ t = ap (trim_end is_blank) (trim-space t) ∙ (bytes_eq-Decides (trimmed t) t).0 all.1
+    in
     record {
       few = leb-true (length t) 4000 sizes.1;
       clean = not-true (list_any is_control t) plain.1;
@@ -82,7 +90,8 @@ pub record IsRead (line : List ℕ) (asked : Request) : Type 0 where
   pub clean : list_any is_control line ≡ false
   pub is : request line ≡ Ok asked
 
-module _ {P : List ℕ → Type 0} {n : ℕ} {line : List ℕ} {words : List (List ℕ)} (first : List ℕ) (is : is_short first ≡ true) (few : n ≤ 4083) (rest : Spells P n line words) where
+module _ {P : List ℕ → Type 0} {n : ℕ} {line : List ℕ} {words : List (List ℕ)} (first : List ℕ)
+    (is : is_short first ≡ true) (few : n ≤ 4083) (rest : Spells P n line words) where
   all_words : Spells P (12 + suc n) (first ++ 32 ∷ line) (first ∷ words)
   all_words = more (short first is) rest
 
@@ -96,11 +105,13 @@ module _ {P : List ℕ → Type 0} {n : ℕ} {line : List ℕ} {words : List (Li
   good_line = rw (le-ltb 4096 (length (first ++ 32 ∷ line)) (omega (arith, all_words.few)), all_words.clean) refl
 
   -- the line of a command
-  pub command : {asked : Request} → bytes_eq first (codes "eds") ≡ false → command_of first (32 ∷ line) ≡ Ok asked → IsRead (first ++ 32 ∷ line) asked
+  pub command : {asked : Request} → bytes_eq first (codes "eds") ≡ false → command_of first (32 ∷ line) ≡ Ok asked
+      → IsRead (first ++ 32 ∷ line) asked
   unfolding request
   command other h = record { clean = all_words.clean; is = rw (first_is, rest_is, other, good_line) h }
 
   -- the line before those of an EDS
-  pub block : {asked : Request} → bytes_eq first (codes "eds") ≡ true → block_of false (32 ∷ line) ≡ Ok asked → IsRead (first ++ 32 ∷ line) asked
+  pub block : {asked : Request} → bytes_eq first (codes "eds") ≡ true → block_of false (32 ∷ line) ≡ Ok asked
+      → IsRead (first ++ 32 ∷ line) asked
   unfolding request
   block same h = record { clean = all_words.clean; is = rw (first_is, rest_is, same, good_line) h }

@@ -32,7 +32,8 @@ visible_digits base [] low h = refl
 visible_digits base (c ∷ cs) low h = rw (visible_digit c base h.0 low) (visible_digits base cs low h.1)
 
 -- the number of some digits, not too many
-number_is : (base most n : ℕ) (cs : List ℕ) → length cs ≤ most → digits_number base cs ≡ Some n → number base most cs ≡ Ok n
+number_is : (base most n : ℕ) (cs : List ℕ) → length cs ≤ most → digits_number base cs ≡ Some n
+    → number base most cs ≡ Ok n
 number_is base most n cs few is = rw (le-ltb most (length cs) few, is) refl
 
 -- ---- decimal numbers
@@ -40,7 +41,11 @@ number_is base most n cs few is = rw (le-ltb most (length cs) few, is) refl
 pub number_word : (n : ℕ) → n < 10 ^ 10 → IsWord 10 (decimal n)
 number_word n h =
     let is = decimal_is_IsNumeral n (omega arith) in
-    record { some = is.0.0; few = length-decimal-le 10 n (lit< tt) h (omega arith); visible = visible_digits 10 (decimal n) (lit≤ tt) is.0.1 }
+    record {
+      some = is.0.0;
+      few = length-decimal-le 10 n (lit< tt) h (omega arith);
+      visible = visible_digits 10 (decimal n) (lit≤ tt) is.0.1;
+    }
 
 pub decimal_again : (n : ℕ) → n < 10 ^ 10 → decimal_word (decimal n) ≡ Ok n
 decimal_again n h = number_is 10 10 n (decimal n) (number_word n h).few (digits.decimal_again n (omega arith))
@@ -48,13 +53,28 @@ decimal_again n h = number_is 10 10 n (decimal n) (number_word n h).few (digits.
 -- ---- hexadecimal numbers
 
 pub index_is_word : (n : ℕ) → n ≤ 65535 → IsWord 10 (index_digits n)
-index_is_word n h = record { some = lit< tt; few = lit≤ tt; visible = visible_digits 16 (index_digits n) (lit≤ tt) (digits.index_is_digits n h) }
+index_is_word n h = record {
+  some = lit< tt;
+  few = lit≤ tt;
+  visible = visible_digits 16 (index_digits n) (lit≤ tt)
+      (digits.index_is_digits n h);
+}
 
 pub sub_is_word : (n : ℕ) → n ≤ 255 → IsWord 10 (byte_digits n)
-sub_is_word n h = record { some = lit< tt; few = lit≤ tt; visible = visible_digits 16 (byte_digits n) (lit≤ tt) (digits.byte_is_digits n h) }
+sub_is_word n h = record {
+  some = lit< tt;
+  few = lit≤ tt;
+  visible = visible_digits 16 (byte_digits n) (lit≤ tt)
+      (digits.byte_is_digits n h);
+}
 
 pub identifier_is_word : (n : ℕ) → n ≤ 2047 → IsWord 10 (identifier_digits n)
-identifier_is_word n h = record { some = lit< tt; few = lit≤ tt; visible = visible_digits 16 (identifier_digits n) (lit≤ tt) (digits.identifier_is_digits n (omega arith)) }
+identifier_is_word n h = record {
+  some = lit< tt;
+  few = lit≤ tt;
+  visible = visible_digits 16 (identifier_digits n)
+      (lit≤ tt) (digits.identifier_is_digits n (omega arith));
+}
 
 pub index_again : (n : ℕ) → n ≤ 65535 → hexadecimal 4 (index_digits n) ≡ Ok n
 index_again n h = number_is 16 4 n (index_digits n) (lit≤ tt) (digits.index_again n h)
@@ -80,7 +100,11 @@ pub name_word : (w : List ℕ) → is_name w ≡ true → IsWord 32 w
 name_word w h =
     let all = and_parts (is_between 1 32 (length w)) (list_all is_name_byte w) h in
     let sizes = and_parts (nat_le 1 (length w)) (nat_le (length w) 32) all.0 in
-    record { some = omega (arith, leb-true 1 (length w) sizes.0); few = leb-true (length w) 32 sizes.1; visible = visible_name w all.1 }
+    record {
+      some = omega (arith, leb-true 1 (length w) sizes.0);
+      few = leb-true (length w) 32 sizes.1;
+      visible = visible_name w all.1;
+    }
 
 pub name_again : (w : List ℕ) → is_name w ≡ true → name w ≡ Ok w
 name_again w h = rw h refl

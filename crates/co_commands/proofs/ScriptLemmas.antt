@@ -34,25 +34,32 @@ ended_line (b ∷ line) rest none =
     rw both.0 (ap (onto_first b) (ended_line line rest both.1))
 
 -- lines that are ended come before those that follow
-ended_lines : (lines : List (List ℕ)) (rest : List ℕ) → AllByRecursion (λ line. line_count line ≡ 0) lines → lines_of (eds_text lines ++ rest) ≡ lines_of (eds_text lines) ++ lines_of rest
+ended_lines : (lines : List (List ℕ)) (rest : List ℕ) → AllByRecursion (λ line. line_count line ≡ 0) lines
+    → lines_of (eds_text lines ++ rest) ≡ lines_of (eds_text lines) ++ lines_of rest
 unfolding lines_of
 ended_lines [] rest none = refl
 ended_lines (line ∷ lines) rest none =
     let kept = trim_end is_cr line in
     let others = eds_text lines in
-    let first : (after : List ℕ) → lines_of ((kept ++ 10 ∷ []) ++ after) ≡ kept ∷ lines_of after = λ after. ap lines_of (append_assoc kept (10 ∷ []) after) ∙ ended_line kept after (no_lf_kept line none.0) in
+    let first : (after : List ℕ) → lines_of ((kept ++ 10 ∷ []) ++ after)
+    ≡ kept ∷ lines_of after = λ after. ap lines_of (append_assoc kept (10 ∷ []) after)
+    ∙ ended_line kept after (no_lf_kept line none.0) in
     ap lines_of (append_assoc (kept ++ 10 ∷ []) others rest) ∙ first (others ++ rest)
     ∙ ap (λ (ls : List (List ℕ)). kept ∷ ls) (ended_lines lines rest none.1)
     ∙ ap (λ (ls : List (List ℕ)). ls ++ lines_of rest) (sym (first others))
 
 -- the lines that follow that of an edit
-block_lines : (o : Edit) (rest : List ℕ) → IsEdit o → lines_of (block_of o ++ rest) ≡ lines_of (block_of o) ++ lines_of rest
+block_lines : (o : Edit) (rest : List ℕ) → IsEdit o
+    → lines_of (block_of o ++ rest) ≡ lines_of (block_of o) ++ lines_of rest
 unfolding IsEdit lines_of
-block_lines (edit.Eds name text) rest is = subst (λ (t : List ℕ). lines_of (t ++ rest) ≡ lines_of t ++ lines_of rest) is.ended (ended_lines (lines_of text) rest (no_lf text))
+block_lines (edit.Eds name text) rest is =
+    subst (λ (t : List ℕ). lines_of (t ++ rest)
+    ≡ lines_of t ++ lines_of rest) is.ended (ended_lines (lines_of text) rest (no_lf text))
 block_lines other rest is = refl
 
 -- the lines of an edit as text, before those of what follows
-pub order_lines : (o : Edit) (rest : List ℕ) → IsEdit o → lines_of (text_of o ++ rest) ≡ (line_of o ∷ lines_of (block_of o)) ++ lines_of rest
+pub order_lines : (o : Edit) (rest : List ℕ) → IsEdit o
+    → lines_of (text_of o ++ rest) ≡ (line_of o ∷ lines_of (block_of o)) ++ lines_of rest
 unfolding text_of
 order_lines o rest is =
     ap lines_of (append_assoc (line_of o) (10 ∷ block_of o) rest)

@@ -1,5 +1,6 @@
 -- Texts without blanks at their ends.
-use Rattle.std.proofs.Common.{◌≡◌, ℕ, zero, suc, ◌+◌, ◌-◌, ◌≤◌, Bool, true, false, cond, List, [], ◌∷◌, ◌++◌, reverse, length, take, drop, refl, ap, ◌∙◌, sym, length-drop, take_all, take-append-drop, arith}
+use Rattle.std.proofs.Common.{◌≡◌, ℕ, zero, suc, ◌+◌, ◌-◌, ◌≤◌, Bool, true, false, cond, List, [], ◌∷◌, ◌++◌, reverse}
+use Rattle.std.proofs.Common.{length, take, drop, refl, ap, ◌∙◌, sym, length-drop, take_all, take-append-drop, arith}
 use Rattle.std.specs.List.{prefix_len, suffix_len}
 use Rattle.std.proofs.Math.Seq.{take-append_seam}
 use Rattle.std.proofs.lemmas.List.{reverse-append, reverse-reverse, length-reverse}
@@ -39,9 +40,13 @@ module _ (p : ℕ → Bool) where
   reversed bs =
       let n : ℕ = prefix_len p (reverse bs) in
       let front : List ℕ = reverse (drop n (reverse bs)) in
-      let whole : bs ≡ front ++ reverse (take n (reverse bs)) = sym (reverse-reverse bs) ∙ ap reverse (sym (take-append-drop n (reverse bs))) ∙ reverse-append (take n (reverse bs)) (drop n (reverse bs)) in
-      let size : length front ≡ length bs - n = length-reverse (drop n (reverse bs)) ∙ length-drop n (reverse bs) ∙ ap (λ k. k - n) (length-reverse bs) in
-      let same : take (length bs - n) bs ≡ front = ap (λ k. take k bs) (sym size) ∙ ap (take (length front)) whole ∙ take-append_seam front (reverse (take n (reverse bs))) in
+      let whole : bs ≡ front ++ reverse (take n (reverse bs)) = sym (reverse-reverse bs)
+      ∙ ap reverse (sym (take-append-drop n (reverse bs)))
+      ∙ reverse-append (take n (reverse bs)) (drop n (reverse bs)) in
+      let size : length front ≡ length bs - n = length-reverse (drop n (reverse bs)) ∙ length-drop n (reverse bs)
+      ∙ ap (λ k. k - n) (length-reverse bs) in
+      let same : take (length bs - n) bs ≡ front = ap (λ k. take k bs) (sym size) ∙ ap (take (length front)) whole
+      ∙ take-append_seam front (reverse (take n (reverse bs))) in
       ap reverse same ∙ reverse-reverse (drop n (reverse bs))
 
   -- what has lost its end has none to lose
@@ -53,7 +58,8 @@ module _ (p : ℕ → Bool) where
       take_all (length left - suffix_len p left) left most
 
   -- what has lost its ends has none to lose
-  pub trimmed_again : (bs : List ℕ) → trim_end p (trim_start p (trim_end p (trim_start p bs))) ≡ trim_end p (trim_start p bs)
+  pub trimmed_again : (bs : List ℕ) → trim_end p (trim_start p (trim_end p (trim_start p bs)))
+      ≡ trim_end p (trim_start p bs)
   trimmed_again bs =
       let kept : List ℕ = trim_end p (trim_start p bs) in
       let sharp : IsSharp kept = sharp_take _ (trim_start p bs) (sharp_start bs) in
@@ -61,4 +67,5 @@ module _ (p : ℕ → Bool) where
 
 -- what is cut from the rest of a line is a text, where its length and its bytes are those of one
 pub trimmed_is_text : (rest : List ℕ) → is_plain (trimmed rest) ≡ true → is_text (trimmed rest) ≡ true
-trimmed_is_text rest plain = rw plain ((bytes_eq-Decides (trimmed (trimmed rest)) (trimmed rest)).1 (trimmed_again is_blank rest))
+trimmed_is_text rest plain =
+    rw plain ((bytes_eq-Decides (trimmed (trimmed rest)) (trimmed rest)).1 (trimmed_again is_blank rest))

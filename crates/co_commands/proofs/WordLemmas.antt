@@ -1,5 +1,6 @@
 -- The words of a line, read one after another.
-use Rattle.std.proofs.Common.{◌≡◌, ℕ, ◌+◌, ◌<◌, ◌≤◌, Bool, true, false, List, [], ◌∷◌, ◌++◌, length, take, drop, refl, ap, ◌∙◌, arith}
+use Rattle.std.proofs.Common.{◌≡◌, ℕ, ◌+◌, ◌<◌, ◌≤◌, Bool, true, false, List, [], ◌∷◌, ◌++◌, length, take, drop, refl}
+use Rattle.std.proofs.Common.{ap, ◌∙◌, arith}
 use Rattle.std.specs.Prelude.{nat_lt}
 use Rattle.std.specs.List.{prefix_len, take_while, list_any, list_all}
 use Rattle.std.proofs.Math.Numerals.{one-add}
@@ -41,7 +42,8 @@ clean_word (b ∷ w) h =
     rw (no_control b both.0) (clean_word w both.1)
 
 -- the bytes up to a blank or the end
-word_prefix : (w tail : List ℕ) → list_all is_visible w ≡ true → prefix_len is_word_byte tail ≡ 0 → prefix_len is_word_byte (w ++ tail) ≡ length w
+word_prefix : (w tail : List ℕ) → list_all is_visible w ≡ true → prefix_len is_word_byte tail ≡ 0
+    → prefix_len is_word_byte (w ++ tail) ≡ length w
 word_prefix [] tail h ends = ends
 word_prefix (b ∷ w) tail h ends =
     let both = and_parts (is_visible b) (list_all is_visible w) h in
@@ -52,7 +54,8 @@ pub trim-space : (line : List ℕ) → trim_start is_blank (32 ∷ line) ≡ tri
 trim-space line = ap (λ n. drop n (32 ∷ line)) (one-add (prefix_len is_blank line))
 
 -- a word in front stays
-trim-word : (w tail : List ℕ) → 0 < length w → list_all is_visible w ≡ true → trim_start is_blank (w ++ tail) ≡ w ++ tail
+trim-word : (w tail : List ℕ) → 0 < length w → list_all is_visible w ≡ true
+    → trim_start is_blank (w ++ tail) ≡ w ++ tail
 trim-word [] tail some h = absurd (omega arith)
 trim-word (b ∷ w) tail some h = rw (no_blank b (and_parts (is_visible b) (list_all is_visible w) h).0) refl
 
@@ -66,12 +69,14 @@ module _ (most : ℕ) (w tail : List ℕ) (is : IsWord most w) (ends : prefix_le
   -- the first word behind a space
   pub word_is : word (32 ∷ (w ++ tail)) ≡ w
   unfolding word
-  word_is = ap (take_while is_word_byte) trimmed_is ∙ ap (λ n. take n (w ++ tail)) cut_at ∙ take_at w tail (length w) refl
+  word_is = ap (take_while is_word_byte) trimmed_is ∙ ap (λ n. take n (w ++ tail)) cut_at
+      ∙ take_at w tail (length w) refl
 
   -- what follows it
   pub after_is : after (32 ∷ (w ++ tail)) ≡ tail
   unfolding after
-  after_is = ap (λ (rest : List ℕ). drop (prefix_len is_word_byte rest) rest) trimmed_is ∙ ap (λ n. drop n (w ++ tail)) cut_at ∙ drop_at w tail (length w) refl
+  after_is = ap (λ (rest : List ℕ). drop (prefix_len is_word_byte rest) rest) trimmed_is
+      ∙ ap (λ n. drop n (w ++ tail)) cut_at ∙ drop_at w tail (length w) refl
 
 -- a space in front of a line changes no word
 pub word-space : (line : List ℕ) → word (32 ∷ line) ≡ word line

@@ -13,8 +13,8 @@ use Rattle.co_commands.specs.Steps.{◌>>=◌}
 use Rattle.co_commands.specs.Words.{last_word, name, decimal, hexadecimal}
 
 -- the numbers of a message: `ID TPDO TYPE INHIBIT EVENT COB`
-unfoldable pub stated_of : List ℕ → Result Stated EditFault
-stated_of rest = do
+unfoldable pub stated_numbers : List ℕ → Result Stated EditFault
+stated_numbers rest = do
   last ← last_word (after (after (after (after (after rest)))))
   node ← decimal (word rest)
   tpdo ← decimal (word (after rest))
@@ -39,7 +39,7 @@ message_within stated = do
 unfoldable pub message_of : List ℕ → Result Edit EditFault
 message_of rest = do
   called ← name (word rest)
-  stated ← stated_of (after rest)
+  stated ← stated_numbers (after rest)
   message ← message_within stated
   Ok (edit.Message called message)
 

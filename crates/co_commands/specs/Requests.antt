@@ -1,5 +1,6 @@
 -- What one line asks (this profile's own).
-use Rattle.std.specs.Prelude.{ℕ, Bool, true, false, ◌||◌, ◌&&◌, not, List, nat_lt, if◌then◌else◌, Option, Some, None, Result, Ok, Err, codes}
+use Rattle.std.specs.Prelude.{ℕ, Bool, true, false, ◌||◌, ◌&&◌, not, List, nat_lt, if◌then◌else◌, Option, Some, None}
+use Rattle.std.specs.Prelude.{Result, Ok, Err, codes}
 use Rattle.std.specs.Str.{bytes_eq}
 use Rattle.co_edits.specs.declared.fault.EditFault.{EditFault}
 use Rattle.co_edits.specs.declared.fault.EditFault.TheVariants.{Syntax, Range}
@@ -17,20 +18,21 @@ use Rattle.co_text.specs.Blanks.{is_blank_line}
 use Rattle.co_text.specs.Words.{word, after}
 use Rattle.co_edits.specs.Eds.{most_lines}
 use Rattle.co_base.specs.Ranges.{is_between}
-use Rattle.co_edits.specs.Forms.{is_name, limited, is_node_number, is_node_or_all, is_own_index, is_bit_rate, is_time, is_sync_period, is_event_number}
+use Rattle.co_edits.specs.Forms.{is_name, limited, is_node_number, is_node_or_all, is_own_index, is_bit_rate, is_time}
+use Rattle.co_edits.specs.Forms.{is_sync_period, is_event_number}
 use Rattle.co_commands.specs.Steps.{◌>>=◌}
 use Rattle.co_commands.specs.Links.{message_of, drop_message_of, source_of, unsource_of, sink_of, unsink_of}
 use Rattle.co_commands.specs.Words.{last_word, is_bad_line, name, decimal, hexadecimal, text}
 
 -- an edit is asked
-abbrev pub asks_edit : Result Edit EditFault → Result Request EditFault
-asks_edit (Ok edit) = Ok (EditAsked edit)
-asks_edit (Err fault) = Err fault
+abbrev pub edit_request : Result Edit EditFault → Result Request EditFault
+edit_request (Ok edit) = Ok (EditAsked edit)
+edit_request (Err fault) = Err fault
 
 -- a query is asked
-abbrev pub asks_query : Result Query EditFault → Result Request EditFault
-asks_query (Ok query) = Ok (QueryAsked query)
-asks_query (Err fault) = Err fault
+abbrev pub query_request : Result Query EditFault → Result Request EditFault
+query_request (Ok query) = Ok (QueryAsked query)
+query_request (Err fault) = Err fault
 
 -- nothing is what a number out of its limits names
 abbrev or_range : {X : Type 0} → Option X → Result X EditFault
@@ -226,27 +228,27 @@ query_of first rest =
 -- what is asked of messages, or by a query
 unfoldable pub link_of : List ℕ → List ℕ → Result Request EditFault
 link_of first rest =
-    if bytes_eq first (codes "message") then asks_edit (message_of rest)
-    else if bytes_eq first (codes "drop-message") then asks_edit (drop_message_of rest)
-    else if bytes_eq first (codes "source") then asks_edit (source_of rest)
-    else if bytes_eq first (codes "unsource") then asks_edit (unsource_of rest)
-    else if bytes_eq first (codes "sink") then asks_edit (sink_of rest)
-    else if bytes_eq first (codes "unsink") then asks_edit (unsink_of rest)
-    else asks_query (query_of first rest)
+    if bytes_eq first (codes "message") then edit_request (message_of rest)
+    else if bytes_eq first (codes "drop-message") then edit_request (drop_message_of rest)
+    else if bytes_eq first (codes "source") then edit_request (source_of rest)
+    else if bytes_eq first (codes "unsource") then edit_request (unsource_of rest)
+    else if bytes_eq first (codes "sink") then edit_request (sink_of rest)
+    else if bytes_eq first (codes "unsink") then edit_request (unsink_of rest)
+    else query_request (query_of first rest)
 
 -- what a first word and the rest of its line ask
 unfoldable pub command_of : List ℕ → List ℕ → Result Request EditFault
 command_of first rest =
-    if bytes_eq first (codes "bitrate") then asks_edit (bitrate_of rest)
-    else if bytes_eq first (codes "horizon") then asks_edit (horizon_of rest)
-    else if bytes_eq first (codes "manager") then asks_edit (manager_of rest)
-    else if bytes_eq first (codes "drop-eds") then asks_edit (drop_eds_of rest)
-    else if bytes_eq first (codes "node") then asks_edit (node_of rest)
-    else if bytes_eq first (codes "drop-node") then asks_edit (drop_node_of rest)
-    else if bytes_eq first (codes "param") then asks_edit (param_of rest)
-    else if bytes_eq first (codes "unparam") then asks_edit (unparam_of rest)
-    else if bytes_eq first (codes "event") then asks_edit (event_of rest)
-    else if bytes_eq first (codes "drop-event") then asks_edit (drop_event_of rest)
+    if bytes_eq first (codes "bitrate") then edit_request (bitrate_of rest)
+    else if bytes_eq first (codes "horizon") then edit_request (horizon_of rest)
+    else if bytes_eq first (codes "manager") then edit_request (manager_of rest)
+    else if bytes_eq first (codes "drop-eds") then edit_request (drop_eds_of rest)
+    else if bytes_eq first (codes "node") then edit_request (node_of rest)
+    else if bytes_eq first (codes "drop-node") then edit_request (drop_node_of rest)
+    else if bytes_eq first (codes "param") then edit_request (param_of rest)
+    else if bytes_eq first (codes "unparam") then edit_request (unparam_of rest)
+    else if bytes_eq first (codes "event") then edit_request (event_of rest)
+    else if bytes_eq first (codes "drop-event") then edit_request (drop_event_of rest)
     else link_of first rest
 
 -- THE REQUEST: what a line asks. The line has neither the LF nor the CRs at its end

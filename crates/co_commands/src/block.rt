@@ -4,7 +4,7 @@ ghost use Rattle.std.specs.List.{list_any};
 ghost use Rattle.ini_text.specs.Text.{is_long_line};
 ghost use Rattle.co_base.specs.Gives.{Gives};
 ghost use Rattle.eds_device.specs.Faults.{device_of};
-ghost use Rattle.co_edits.specs.Faults.{is_memory, judged};
+ghost use Rattle.co_edits.specs.Faults.{is_memory, device_verdict};
 ghost use Rattle.co_edits.specs.Eds.{lines_of, text_of, is_bad_byte, has_bad_line, has_long_line};
 
 use co_edits::EditFault;
@@ -70,7 +70,7 @@ pub(crate) fn has_bad_line(lines: &[Vec<u8>]) -> bool
 
 /// Refuses a text that can't be read as a device.
 pub(crate) fn check(alloc: Global, text: &[u8]) -> Result<(), EditFault>
-    ensures { Gives is_memory (λ u. u) result (judged (device_of text.now)) }
+    ensures { Gives is_memory (λ u. u) result (device_verdict (device_of text.now)) }
 {
     Device::read(alloc, text)?;
     Ok(())

@@ -3,7 +3,8 @@ ghost use Rattle.std.specs.Prelude.{◌≡◌, true, IfOk};
 ghost use Rattle.co_base.specs.Gives.{Gives};
 ghost use Rattle.co_edits.specs.Faults.{is_memory};
 ghost use Rattle.co_edits.specs.Forms.{is_node_number};
-ghost use Rattle.co_commands.specs.Requests.{id_of, bitrate_of, horizon_of, manager_of, drop_eds_of, node_of, drop_node_of, param_of, unparam_of};
+ghost use Rattle.co_commands.specs.Requests.{id_of, bitrate_of, horizon_of, manager_of, drop_eds_of, node_of};
+ghost use Rattle.co_commands.specs.Requests.{drop_node_of, param_of, unparam_of};
 
 use crate::command::Command;
 use crate::numbers::{decimal, index, sub_index};

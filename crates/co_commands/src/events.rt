@@ -2,7 +2,8 @@
 ghost use Rattle.std.specs.Prelude.{◌≡◌};
 ghost use Rattle.co_base.specs.Gives.{Gives};
 ghost use Rattle.co_edits.specs.Faults.{is_memory};
-ghost use Rattle.co_commands.specs.Requests.{set_of, switch, power_of, nmt, nmt_of, happening_of, event_of, drop_event_of};
+ghost use Rattle.co_commands.specs.Requests.{set_of, switch, power_of, nmt, nmt_of, happening_of, event_of};
+ghost use Rattle.co_commands.specs.Requests.{drop_event_of};
 
 use crate::command::Command;
 use crate::numbers::{decimal, index, sub_index};

@@ -3,7 +3,8 @@ ghost use Rattle.std.specs.Prelude.{◌≡◌, IfOk};
 ghost use Rattle.co_base.specs.Gives.{Gives};
 ghost use Rattle.co_edits.specs.Faults.{is_memory};
 ghost use Rattle.co_messages.specs.Messages.{IsMessage};
-ghost use Rattle.co_commands.specs.Links.{stated_of, message_within, message_of, drop_message_of, source_of, unsource_of, sink_of, unsink_of};
+ghost use Rattle.co_commands.specs.Links.{stated_numbers, message_within, message_of, drop_message_of, source_of};
+ghost use Rattle.co_commands.specs.Links.{unsource_of, sink_of, unsink_of};
 
 use crate::command::Command;
 use crate::numbers::{cob, decimal, index, sub_index};
@@ -17,9 +18,9 @@ use co_text::next_word;
 use std::alloc::Global;
 
 /// `ID TPDO TYPE INHIBIT EVENT COB`
-#[tactic(auto, unfolding(crate::specs::Links::stated_of))]
+#[tactic(auto, unfolding(crate::specs::Links::stated_numbers))]
 fn stated(rest: &[u8]) -> Result<Stated, EditFault>
-    ensures { Gives is_memory (λ s. s) result (stated_of rest.now) }
+    ensures { Gives is_memory (λ s. s) result (stated_numbers rest.now) }
 {
     let (node, rest) = next_word(rest);
     let (tpdo, rest) = next_word(rest);

@@ -2,7 +2,7 @@
 ghost use Rattle.std.specs.Prelude.{◌≡◌};
 ghost use Rattle.co_base.specs.Gives.{Gives};
 ghost use Rattle.co_edits.specs.Faults.{is_memory};
-ghost use Rattle.co_commands.specs.Requests.{block_of, command_of, asks_edit, asks_query, link_of, request};
+ghost use Rattle.co_commands.specs.Requests.{block_of, command_of, edit_request, query_request, link_of, request};
 
 use crate::command::Command;
 use crate::edits::{bitrate, drop_eds, drop_node, horizon, manager, node, param, unparam};
@@ -79,13 +79,13 @@ fn block(alloc: Global, is_bad: bool, rest: &[u8]) -> Result<Request, EditFault>
 }
 
 fn edit(command: Result<Command, EditFault>) -> Result<Request, EditFault>
-    ensures { Gives is_memory (λ r. r) result (asks_edit command) }
+    ensures { Gives is_memory (λ r. r) result (edit_request command) }
 {
     Ok(Request::Edit(command?))
 }
 
 fn query(query: Result<Query, EditFault>) -> Result<Request, EditFault>
-    ensures { Gives is_memory (λ r. r) result (asks_query query) }
+    ensures { Gives is_memory (λ r. r) result (query_request query) }
 {
     Ok(Request::Query(query?))
 }

@@ -6,7 +6,7 @@ use Rattle.co_dict.specs.Places.{place_cmp}
 use Rattle.co_dict.specs.Values.{HoldEach}
 use Rattle.eds_device.specs.Entries.{defaults_of, shape_of}
 use Rattle.eds_device.proofs.LawLemmas.{values_have_lengths}
-use Rattle.co_network.specs.Network.{member_at, writes_of, Member}
+use Rattle.project_plan.specs.Network.{member_at, writes_of, Member}
 use Rattle.co_project.specs.Project.{Content as Project}
 use Rattle.co_project.specs.Sound.{IsSound}
 use Rattle.co_parts.specs.Contents.{DefaultsAre, ShapeIs, shape_of as shape_in, values_of as values_in}
@@ -22,16 +22,19 @@ write_fits : (p : Project) → (node place : ℕ) → IfSome (write_of_node p no
 unfolding write_of_node
 write_fits p node place = by (member_at p node)
   where
-    by : (o : Option Member) → IfSome (option_and_then (λ (m : Member). slice_get (writes_of p m node) place) o) IsBootWrite
+    by : (o : Option Member)
+        → IfSome (option_and_then (λ (m : Member). slice_get (writes_of p m node) place) o) IsBootWrite
     by None = tt
     by (Some m) = all_at IsBootWrite (writes_of p m node) place (node_fits p m node)
 
 -- a node's defaults have, for each modelled entry of its shape, a value of its type's length
-defaults_hold : (p : Project) (node : ℕ) → HoldEach (shape_in (ShapeIs (shape_of_node p node))).entries (values_in (DefaultsAre (defaults_of_node p node)))
+defaults_hold : (p : Project) (node : ℕ)
+    → HoldEach (shape_in (ShapeIs (shape_of_node p node))).entries (values_in (DefaultsAre (defaults_of_node p node)))
 unfolding shape_of_node defaults_of_node
 defaults_hold p node = by (member_at p node)
   where
-    by : (o : Option Member) → HoldEach (shape_in (ShapeIs (option_map (λ (m : Member). shape_of m.sections node) o))).entries
+    by : (o : Option Member)
+        → HoldEach (shape_in (ShapeIs (option_map (λ (m : Member). shape_of m.sections node) o))).entries
         (values_in (DefaultsAre (option_map (λ (m : Member). defaults_of m.sections node) o)))
     by None = λ place entry there modelled. cc (sym (get-empty place_cmp place) ∙ there)
     by (Some m) = values_have_lengths m.sections node
@@ -41,7 +44,8 @@ unfolding window_steps
 coherent p sound = record {
   roster = is_roster p sound;
   writes = write_fits p;
-  within = λ i. steps_said (AllByRecursion (IsWithin i)) tt (window_steps p i) (steps_within (shape_of_node p) p sound i);
+  within = λ i. steps_said (AllByRecursion (IsWithin i)) tt (window_steps p i)
+      (steps_within (shape_of_node p) p sound i);
   ordered = λ i. steps_said AreInOrder tt (window_steps p i) (steps_in_order (shape_of_node p) p.events i);
   defaults = defaults_hold p;
   steps = λ i. steps_said (AllByRecursion (FitsShape (image_of p))) tt (window_steps p i) (steps_fit p i);

@@ -1,5 +1,6 @@
 -- Lists of pointers, and what lies behind them.
-use Rattle.std.proofs.Common.{◌≡◌, ℕ, zero, suc, ◌<◌, ◌≤◌, false, length, arith, List, [], ◌∷◌, Result, Ok, Err, Option, Some, None, IfOk, IfSome, All, option_map, sym, ap, subst, ◌∙◌, slice_get}
+use Rattle.std.proofs.Common.{◌≡◌, ℕ, zero, suc, ◌<◌, ◌≤◌, false, length, arith, List, [], ◌∷◌, Result, Ok, Err, Option}
+use Rattle.std.proofs.Common.{Some, None, IfOk, IfSome, All, option_map, sym, ap, subst, ◌∙◌, slice_get}
 use Rattle.std.proofs.lemmas.List.Elements.{All-head, All-tail}
 use Rattle.std.proofs.lemmas.Option.{slice_get-get_or, slice_get-map, slice_get_past}
 use Rattle.std.specs.Prelude.{get_or, nat_lt}
@@ -16,7 +17,8 @@ all_at P (x ∷ xs) (suc k) all = all_at P xs k (All-tail P x xs all)
 
 module _ {X Z : Type 0} (pointers : List (Rc X Z)) (k : ℕ) (values : List X) (are : behind pointers ≡ values) where
   -- what lies behind the pointer at a place
-  pub behind_at : (pointer : Rc X Z) → k < length pointers → pointer ≡ get_or pointers k pointer → slice_get values k ≡ Some pointer.value
+  pub behind_at : (pointer : Rc X Z) → k < length pointers → pointer ≡ get_or pointers k pointer
+      → slice_get values k ≡ Some pointer.value
   behind_at pointer within is =
       ap (λ vs. slice_get vs k) (sym are) ∙ slice_get-map (λ (p : Rc X Z). p.value) pointers k
       ∙ ap (option_map (λ (p : Rc X Z). p.value)) (slice_get-get_or pointers k pointer within ∙ ap Some (sym is))
@@ -28,7 +30,8 @@ module _ {X Z : Type 0} (pointers : List (Rc X Z)) (k : ℕ) (values : List X) (
       ∙ sym (slice_get-map (λ (p : Rc X Z). p.value) pointers k) ∙ ap (λ vs. slice_get vs k) are
 
 -- what holds of a value holds behind a copy of its pointer
-pub copied_fits : {X Z E : Type 0} (P : X → Type 0) (result : Result (Option (Rc X Z)) E) (x : X) → IfOk result (λ copy. shared copy ≡ Some x) → P x → IfOk result (λ copy. IfSome (shared copy) P)
+pub copied_fits : {X Z E : Type 0} (P : X → Type 0) (result : Result (Option (Rc X Z)) E) (x : X)
+    → IfOk result (λ copy. shared copy ≡ Some x) → P x → IfOk result (λ copy. IfSome (shared copy) P)
 copied_fits P (Ok copy) x is p = subst (λ o. IfSome o P) (sym is) p
 copied_fits P (Err e) x is p = tt
 

@@ -1,5 +1,6 @@
 -- The roster of a project is one.
-use Rattle.std.proofs.Common.{◌≡◌, ℕ, ◌<◌, ◌≤◌, ◌==◌, ◌||◌, ◌⊎◌, Bool, true, false, T, List, [], ◌∷◌, All, refl, arith, inl, inr}
+use Rattle.std.proofs.Common.{◌≡◌, ℕ, ◌<◌, ◌≤◌, ◌==◌, ◌||◌, ◌⊎◌, Bool, true, false, T, List, [], ◌∷◌, All, refl, arith}
+use Rattle.std.proofs.Common.{inl, inr}
 use Rattle.std.specs.Prelude.{map, nat_eq}
 use Rattle.std.specs.List.{AllByRecursion}
 use Rattle.std.specs.Ordering.{nat_cmp, is_lt}
@@ -30,13 +31,16 @@ sync_period n is = by (n == 0) refl is
     by false some h = inr (between 1000 10000000 n h)
 
 -- the numbers of nodes aren't the manager's
-numbers_apart : (p : Project) (nodes : List (ℕ × Node)) → All (λ e. IsNodeOf p e.0 e.1) nodes → AllByRecursion (IsNode p.manager.id) (map (λ e. e.0) nodes)
+numbers_apart : (p : Project) (nodes : List (ℕ × Node)) → All (λ e. IsNodeOf p e.0 e.1) nodes
+    → AllByRecursion (IsNode p.manager.id) (map (λ e. e.0) nodes)
 unfolding IsNodeOf
 numbers_apart p [] all = tt
 numbers_apart p (e ∷ nodes) all =
     let is : IsNodeOf p e.0 e.1 = All-head (λ x. IsNodeOf p x.0 x.1) e nodes all in
-    let range = between 1 127 e.0 is.0 in
-    ((range.0, range.1, λ same. cc (is.1, eq-eqb e.0 p.manager.id same)), numbers_apart p nodes (All-tail (λ x. IsNodeOf p x.0 x.1) e nodes all))
+    let range = between 1 127 e.0 is.0 in (
+      (range.0, range.1, λ same. cc (is.1, eq-eqb e.0 p.manager.id same)),
+      numbers_apart p nodes (All-tail (λ x. IsNodeOf p x.0 x.1) e nodes all),
+    )
 
 less : (a b : ℕ) → T (is_lt (nat_cmp a b)) → a < b
 less a b h = grind (arith, nat_tests)
@@ -45,7 +49,10 @@ less a b h = grind (arith, nat_tests)
 keys_rise : {X : Type 0} (es : List (ℕ × X)) → T (is_sorted nat_cmp es) → Rise (map (λ e. e.0) es)
 keys_rise [] sorted = tt
 keys_rise (e ∷ []) sorted = tt
-keys_rise (e ∷ f ∷ es) sorted = (less e.0 f.0 (first_part _ _ (first_part _ _ sorted)), keys_rise (f ∷ es) (second_part _ _ sorted))
+keys_rise (e ∷ f ∷ es) sorted = (
+  less e.0 f.0 (first_part _ _ (first_part _ _ sorted)),
+  keys_rise (f ∷ es) (second_part _ _ sorted),
+)
 
 pub is_roster : (p : Project) → IsSound p → IsRoster (roster_of_project p)
 unfolding roster_of_project IsManager

@@ -1,5 +1,7 @@
 -- The steps of windows: within their window, in order of time, and of the lengths of their entries' types.
-use Rattle.std.proofs.Common.{◌≡◌, ℕ, ◌+◌, ◌*◌, ◌≤◌, not, Bool, true, false, List, [], ◌∷◌, Option, Some, None, Result, Ok, Err, IfOk, Contains, length, option_map, option_and_then, filter_map, refl, sym, ap, subst, ◌∙◌, arith}
+use Rattle.std.proofs.Common.{◌≡◌, ℕ, ◌+◌, ◌*◌, ◌≤◌, not, Bool, true, false, List, [], ◌∷◌, Option, Some, None, Result}
+use Rattle.std.proofs.Common.{Ok, Err, IfOk, Contains, length, option_map, option_and_then, filter_map, refl, sym, ap}
+use Rattle.std.proofs.Common.{subst, ◌∙◌, arith}
 use Rattle.std.specs.Prelude.{if◌then◌else◌, MatchOption, ◌↔◌}
 use Rattle.std.specs.FinMap.{get}
 use Rattle.std.specs.List.{AllByRecursion, cons_option}
@@ -24,7 +26,7 @@ use Rattle.co_dict.specs.Values.{HasLength}
 use Rattle.co_dict.specs.declared.entry.Entry.{Entry}
 use Rattle.eds_device.proofs.LengthLemmas.{written_length}
 use Rattle.co_params.specs.declared.parameter_fault.ParameterFault.TheVariants.{NotModelled, Unreadable}
-use Rattle.co_params.specs.Judgement.{judged_set, set_at}
+use Rattle.co_params.specs.Judgement.{set_bytes, set_bytes_at}
 use Rattle.co_edits.specs.Edits.{IsEvent, IsSetting}
 use Rattle.co_params.proofs.WrittenLemmas.{Contains-filter_map, from_filter_map}
 use Rattle.co_project.specs.Project.{Content as Project}
@@ -41,31 +43,38 @@ use Rattle.co_parts.specs.Contents.{no_shape, or_else}
 use Rattle.co_parts.specs.Images.{AreInOrder, FitsShape, IsFree, IsWithin}
 use Rattle.co_depend.specs.Held.{shapes_held, AllHeld, Held, IsWindow}
 use Rattle.co_depend.specs.Image.{image_of, shape_of_node, window_steps}
-use Rattle.co_depend.specs.Steps.{IsStepIn, at_moment, bytes_set, set_step, step_of, steps_in, timed_step_of, unless_none, Shapes}
+use Rattle.co_depend.specs.Steps.{IsStepIn, at_moment, bytes_set, set_step, step_of, steps_in, timed_step_of}
+use Rattle.co_depend.specs.Steps.{unless_none, Shapes}
 
 -- what holds of each that is picked
-picked : {X Y : Type 0} (f : X → Option Y) (P : X → Type 0) (Q : Y → Type 0) → ((x : X) (y : Y) → P x → f x ≡ Some y → Q y)
+picked : {X Y : Type 0} (f : X → Option Y) (P : X → Type 0) (Q : Y → Type 0)
+    → ((x : X) (y : Y) → P x → f x ≡ Some y → Q y)
     → (xs : List X) → AllByRecursion P xs → AllByRecursion Q (filter_map f xs)
 picked f P Q follows [] all = tt
 picked {Y = Y} f P Q follows (x ∷ xs) all = by (picked f P Q follows xs all.1) (f x) refl
   where
-    by : AllByRecursion Q (filter_map f xs) → (o : Option Y) → f x ≡ o → AllByRecursion Q (cons_option o (filter_map f xs))
+    by : AllByRecursion Q (filter_map f xs) → (o : Option Y) → f x ≡ o
+        → AllByRecursion Q (cons_option o (filter_map f xs))
     by rest None is = rest
     by rest (Some y) is = (follows x y all.0 is, rest)
 
-weaker : {X : Type 0} (P Q : X → Type 0) → ((x : X) → P x → Q x) → (xs : List X) → AllByRecursion P xs → AllByRecursion Q xs
+weaker : {X : Type 0} (P Q : X → Type 0) → ((x : X) → P x → Q x) → (xs : List X) → AllByRecursion P xs
+    → AllByRecursion Q xs
 weaker P Q follows [] all = tt
 weaker P Q follows (x ∷ xs) all = (follows x all.0, weaker P Q follows xs all.1)
 
 -- each moment that is listed has its event
-moments_have_events : (events : Events) (first last : ℕ) → AllByRecursion (HasEventBetween first last events) (events_between first last events)
+moments_have_events : (events : Events) (first last : ℕ)
+    → AllByRecursion (HasEventBetween first last events) (events_between first last events)
 moments_have_events events first last =
     let moments : List (ℕ × ℕ) = events_between first last events in
-    weaker (Contains moments) (HasEventBetween first last events) (λ m there. (has_exactly first last m events).0 there) moments
+    weaker (Contains moments) (HasEventBetween first last events)
+    (λ m there. (has_exactly first last m events).0 there) moments
     (recursion_from_All (Contains moments) moments (All-contains_itself moments))
 
 -- where a window has no steps, there is nothing to say
-pub steps_said : (P : List TimedStep → Type 0) → P [] → (steps : List TimedStep) → P steps → P (or_else [] (unless_none steps))
+pub steps_said : (P : List TimedStep → Type 0) → P [] → (steps : List TimedStep) → P steps
+    → P (or_else [] (unless_none steps))
 steps_said P none [] are = none
 steps_said P none (s ∷ steps) are = are
 
@@ -82,14 +91,23 @@ module _ (shapes : Shapes) (events : Events) where
   unfolding timed_step_of
   made moment s is = by (get events moment.1) refl is
     where
-      with_event : (e : TimedEvent) → get events moment.1 ≡ Some e → (o : Option Step) → step_of shapes e.event ≡ o → option_map (at_moment moment) o ≡ Some s → IsStepOf moment s
+      with_event : (e : TimedEvent) → get events moment.1 ≡ Some e → (o : Option Step) → step_of shapes e.event ≡ o
+          → option_map (at_moment moment) o ≡ Some s → IsStepOf moment s
       with_event e found None does is = cc
       with_event e found (Some t) does is =
           let same : at_moment moment t ≡ s = cc in
-          record { number = sym (ap (λ (x : TimedStep). x.number) same); time = sym (ap (λ (x : TimedStep). x.time) same); event = e; found = found; does = does ∙ ap Some (ap (λ (x : TimedStep). x.step) same) }
+          record {
+            number = sym (ap (λ (x : TimedStep). x.number) same);
+            time = sym (ap (λ (x : TimedStep). x.time) same);
+            event = e;
+            found = found;
+            does = does
+                ∙ ap Some (ap (λ (x : TimedStep). x.step) same);
+          }
 
       by : (o : Option TimedEvent) → get events moment.1 ≡ o
-          → option_map (at_moment moment) (option_and_then (λ (e : TimedEvent). step_of shapes e.event) o) ≡ Some s → IsStepOf moment s
+          → option_map (at_moment moment) (option_and_then (λ (e : TimedEvent). step_of shapes e.event) o) ≡ Some s
+          → IsStepOf moment s
       by None found is = cc
       by (Some e) found is = with_event e found (step_of shapes e.event) refl is
 
@@ -108,7 +126,8 @@ module _ (shapes : Shapes) (events : Events) where
   not_before : (a b : ℕ × ℕ) → moment_cmp a b ≡ Less → a.0 ≤ b.0
   not_before a b less = grind (arith, nat_tests)
 
-  ascend : (moments : List (ℕ × ℕ)) → IsStrictlySortedBy moment_cmp moments → Ascend (filter_map (timed_step_of shapes events) moments)
+  ascend : (moments : List (ℕ × ℕ)) → IsStrictlySortedBy moment_cmp moments
+      → Ascend (filter_map (timed_step_of shapes events) moments)
   unfolding IsStrictlySortedBy Ascend
   ascend [] rises = tt
   ascend (m ∷ moments) rises = by (ascend moments rises.1) (timed_step_of shapes events m) refl
@@ -121,31 +140,38 @@ module _ (shapes : Shapes) (events : Events) where
       by are (Some s) is =
           let after : AllByRecursion (λ (b : TimedStep). s.time ≤ b.time) rest =
           picked (timed_step_of shapes events) (λ n. moment_cmp m n ≡ Less) (λ (b : TimedStep). s.time ≤ b.time)
-          (λ n b less found. let here = (made m s is).time in let there = (made n b found).time in let order = not_before m n less in omega (arith, here, there, order)) moments rises.0 in
+          (λ n b less found. let here = (made m s is).time in let there = (made n b found).time
+          in let order = not_before m n less in omega (arith, here, there, order)) moments rises.0 in
           (after, are)
 
   pub steps_in_order : (i : ℕ) → AreInOrder (steps_in shapes events i)
   unfolding steps_in
-  steps_in_order i = in_order _ (ascend (events_between (10000 * i) (10000 * i + 9999) events) (rise events (10000 * i) (10000 * i + 9999)))
+  steps_in_order i = in_order _ (ascend (events_between (10000 * i) (10000 * i + 9999) events)
+      (rise events (10000 * i) (10000 * i + 9999)))
 
   -- ---- within the window, and free
 
   -- what holds of each step of an event whose time lies in the window
   pub each_step : (P : TimedStep → Type 0) (i : ℕ)
-      → ((s : TimedStep) (number : ℕ) (e : TimedEvent) → get events number ≡ Some e → step_of shapes e.event ≡ Some s.step → s.time ≡ e.time → is_between (10000 * i) (10000 * i + 9999) e.time ≡ true → P s)
+      → ((s : TimedStep) (number : ℕ) (e : TimedEvent) → get events number ≡ Some e
+      → step_of shapes e.event ≡ Some s.step → s.time ≡ e.time
+      → is_between (10000 * i) (10000 * i + 9999) e.time ≡ true → P s)
       → AllByRecursion P (steps_in shapes events i)
   unfolding steps_in
   each_step P i holds =
       let first : ℕ = 10000 * i in
       let last : ℕ = 10000 * i + 9999 in
-      picked (timed_step_of shapes events) (HasEventBetween first last events) P by (events_between first last events) (moments_have_events events first last)
+      picked (timed_step_of shapes events) (HasEventBetween first last events) P by (events_between first last events)
+      (moments_have_events events first last)
     where
-      by : (moment : ℕ × ℕ) (s : TimedStep) → HasEventBetween (10000 * i) (10000 * i + 9999) events moment → timed_step_of shapes events moment ≡ Some s → P s
+      by : (moment : ℕ × ℕ) (s : TimedStep) → HasEventBetween (10000 * i) (10000 * i + 9999) events moment
+          → timed_step_of shapes events moment ≡ Some s → P s
       by moment s has is =
           let step = made moment s is in
           let one : Some step.event ≡ Some has.0 = sym step.found ∙ has.1.0 in
           let same : step.event ≡ has.0 = ap (λ o. unwrap_or o has.0) one in
-          holds s moment.1 has.0 has.1.0 (ap (λ (e : TimedEvent). step_of shapes e.event) (sym same) ∙ step.does) (step.time ∙ sym has.1.1)
+          holds s moment.1 has.0 has.1.0 (ap (λ (e : TimedEvent). step_of shapes e.event) (sym same) ∙ step.does)
+          (step.time ∙ sym has.1.1)
           (ap (is_between (10000 * i) (10000 * i + 9999)) has.1.1 ∙ has.1.2)
 
   -- ---- these, and no others
@@ -157,10 +183,18 @@ module _ (shapes : Shapes) (events : Events) where
       let last : ℕ = 10000 * i + 9999 in
       let from = from_filter_map (timed_step_of shapes events) (events_between first last events) s there in
       let has = (has_exactly first last from.0 events).0 from.1 in
-      let step = made from.0 s from.2 in
-      (step.event, (ap (get events) step.number ∙ step.found, event_time from.0 has step.event (sym has.1.0 ∙ step.found) ∙ sym step.time, step.does, ap (is_between first last) step.time ∙ has.1.2))
+      let step = made from.0 s from.2 in (
+        step.event,
+        (
+          ap (get events) step.number ∙ step.found,
+          event_time from.0 has step.event (sym has.1.0 ∙ step.found) ∙ sym step.time,
+          step.does,
+          ap (is_between first last) step.time ∙ has.1.2,
+        ),
+      )
     where
-      event_time : (moment : ℕ × ℕ) (has : HasEventBetween (10000 * i) (10000 * i + 9999) events moment) (e : TimedEvent) → Some has.0 ≡ Some e → e.time ≡ moment.0
+      event_time : (moment : ℕ × ℕ) (has : HasEventBetween (10000 * i) (10000 * i + 9999) events moment)
+          (e : TimedEvent) → Some has.0 ≡ Some e → e.time ≡ moment.0
       event_time moment has e same = ap (λ (x : TimedEvent). x.time) (sym (ap (λ o. unwrap_or o e) same)) ∙ has.1.1
 
   listed : (i : ℕ) (s : TimedStep) → IsStepIn shapes events i s → Contains (steps_in shapes events i) s
@@ -171,7 +205,9 @@ module _ (shapes : Shapes) (events : Events) where
       let last : ℕ = 10000 * i + 9999 in
       Contains-filter_map (timed_step_of shapes events) (events_between first last events) moment s
       ((has_exactly first last moment events).1 (is.0, (is.1.0, is.1.1, is.1.3)))
-      (ap (λ (o : Option TimedEvent). option_map (at_moment moment) (option_and_then (λ (e : TimedEvent). step_of shapes e.event) o)) is.1.0 ∙ ap (option_map (at_moment moment)) is.1.2)
+      (ap (λ (o : Option TimedEvent). option_map (at_moment moment)
+      (option_and_then (λ (e : TimedEvent). step_of shapes e.event) o)) is.1.0
+      ∙ ap (option_map (at_moment moment)) is.1.2)
 
   pub exactly_these : (i : ℕ) (s : TimedStep) → Contains (steps_in shapes events i) s ↔ IsStepIn shapes events i s
   exactly_these i s = (its_event i s, listed i s)
@@ -179,11 +215,13 @@ module _ (shapes : Shapes) (events : Events) where
 -- ---- the value that is set
 
 -- it is what the text spells
-set_value : (entry : Entry) (text : List ℕ) (node : ℕ) → result_ok (set_at entry text node) ≡ value entry.kind text node
+set_value : (entry : Entry) (text : List ℕ) (node : ℕ)
+    → result_ok (set_bytes_at entry text node) ≡ value entry.kind text node
 unfolding value
 set_value entry text node = by (form entry.kind) (value_in (form entry.kind) text node) refl
   where
-    by : (f : Form) (o : Option (List ℕ)) → value_in f text node ≡ o → result_ok (if not (is_modelled_form f) then Err NotModelled else option_map_or Ok o (Err Unreadable)) ≡ o
+    by : (f : Form) (o : Option (List ℕ)) → value_in f text node ≡ o
+        → result_ok (if not (is_modelled_form f) then Err NotModelled else option_map_or Ok o (Err Unreadable)) ≡ o
     by Unmodelled None is = refl
     by Unmodelled (Some bytes) is = cc
     by Flag None is = refl
@@ -197,10 +235,12 @@ set_value entry text node = by (form entry.kind) (value_in (form entry.kind) tex
     by HexPairs None is = refl
     by HexPairs (Some bytes) is = refl
 
-spelled : (text : List ℕ) (node : ℕ) (bytes : List ℕ) (entry : Entry) → result_ok (set_at entry text node) ≡ Some bytes → HasLength entry.kind bytes
+spelled : (text : List ℕ) (node : ℕ) (bytes : List ℕ) (entry : Entry)
+    → result_ok (set_bytes_at entry text node) ≡ Some bytes → HasLength entry.kind bytes
 spelled text node bytes entry given =
     let is : value entry.kind text node ≡ Some bytes = sym (set_value entry text node) ∙ given in
-    subst (HasLength entry.kind) (ap (λ o. unwrap_or o (zero_value entry.kind)) is) (written_length entry.kind text node)
+    subst (HasLength entry.kind) (ap (λ o. unwrap_or o (zero_value entry.kind)) is)
+    (written_length entry.kind text node)
 
 -- no value is longer than 512 bytes
 short_of_width : (width : Width) (bytes : List ℕ) → length bytes ≡ octets width → length bytes ≤ longest_value
@@ -209,7 +249,8 @@ short_of_width Bits16 bytes e = omega (arith, e)
 short_of_width Bits32 bytes e = omega (arith, e)
 short_of_width Bits64 bytes e = omega (arith, e)
 
-short_of_form : (f : Form) (bytes : List ℕ) → MatchOption (len_of_form f) (length bytes ≤ longest_value) (λ n. length bytes ≡ n) → length bytes ≤ longest_value
+short_of_form : (f : Form) (bytes : List ℕ)
+    → MatchOption (len_of_form f) (length bytes ≤ longest_value) (λ n. length bytes ≡ n) → length bytes ≤ longest_value
 short_of_form Unmodelled bytes h = h
 short_of_form Flag bytes h = omega (arith, h)
 short_of_form (Signed width) bytes h = short_of_width width bytes h
@@ -218,12 +259,13 @@ short_of_form Characters bytes h = h
 short_of_form HexPairs bytes h = h
 
 set_short : (text : List ℕ) (node : ℕ) (bytes : List ℕ) (place : ℕ × ℕ) (o : Option Shaped)
-    → option_and_then (λ (shape : Shaped). result_ok (judged_set (get shape.entries place) text node)) o ≡ Some bytes → length bytes ≤ longest_value
-unfolding judged_set
+    → option_and_then (λ (shape : Shaped). result_ok (set_bytes (get shape.entries place) text node)) o ≡ Some bytes
+    → length bytes ≤ longest_value
+unfolding set_bytes
 set_short text node bytes place None given = cc
 set_short text node bytes place (Some shape) given = by (get shape.entries place) given
   where
-    by : (e : Option Entry) → result_ok (judged_set e text node) ≡ Some bytes → length bytes ≤ longest_value
+    by : (e : Option Entry) → result_ok (set_bytes e text node) ≡ Some bytes → length bytes ≤ longest_value
     by None given = cc
     by (Some entry) given = short_of_form (form entry.kind) bytes (spelled text node bytes entry given)
 
@@ -237,11 +279,16 @@ free : (shapes : Shapes) (e : Event) (t : Step) → IsEvent e → step_of shapes
 unfolding IsEvent IsSetting
 free shapes (event.Set node index sub text) t is does = by (bytes_set shapes node index sub text) refl does
   where
-    by : (o : Option (List ℕ)) → bytes_set shapes node index sub text ≡ o → option_map (set_step node index sub) o ≡ Some t → IsFree t
+    by : (o : Option (List ℕ)) → bytes_set shapes node index sub text ≡ o
+        → option_map (set_step node index sub) o ≡ Some t → IsFree t
     by None given does = cc
     by (Some bytes) given does =
         let same : set_step node index sub bytes ≡ t = cc in
-        subst IsFree same (negated (is_of_pdos index) is.1.1, set_short text node bytes (index, sub) (shapes node) given)
+        subst IsFree same (
+          negated (is_of_pdos index) is.1.1,
+          set_short text node bytes (index, sub)
+              (shapes node) given,
+        )
 free shapes (event.Power node on) t is does =
     let same : step.Power node on ≡ t = cc in
     subst IsFree same tt
@@ -249,19 +296,24 @@ free shapes (event.Nmt node command) t is does =
     let same : step.Nmt node command ≡ t = cc in
     subst IsFree same tt
 
-pub steps_within : (shapes : Shapes) (p : Project) → IsSound p → (i : ℕ) → AllByRecursion (IsWithin i) (steps_in shapes p.events i)
+pub steps_within : (shapes : Shapes) (p : Project) → IsSound p → (i : ℕ)
+    → AllByRecursion (IsWithin i) (steps_in shapes p.events i)
 unfolding IsEventOf
 steps_within shapes p sound i = each_step shapes p.events (IsWithin i) i by
   where
-    by : (s : TimedStep) (number : ℕ) (e : TimedEvent) → get p.events number ≡ Some e → step_of shapes e.event ≡ Some s.step → s.time ≡ e.time → is_between (10000 * i) (10000 * i + 9999) e.time ≡ true → IsWithin i s
+    by : (s : TimedStep) (number : ℕ) (e : TimedEvent) → get p.events number ≡ Some e
+        → step_of shapes e.event ≡ Some s.step → s.time ≡ e.time
+        → is_between (10000 * i) (10000 * i + 9999) e.time ≡ true → IsWithin i s
     by s number e there does time lies =
         let is : IsEventOf p number e = each_found (IsEventOf p) p.events number e sound.events there in
         let range = between (10000 * i) (10000 * i + 9999) e.time lies in
         (omega (arith, range.0, time), omega (arith, range.1, time), free shapes e.event s.step is.2 does)
 
 -- so they are a window
-pub steps_are_window : (shapes : Shapes) (p : Project) → IsSound p → (i : ℕ) (steps : List TimedStep) → steps ≡ steps_in shapes p.events i → IsWindow i steps
-steps_are_window shapes p sound i steps is = subst (IsWindow i) (sym is) (steps_within shapes p sound i, steps_in_order shapes p.events i)
+pub steps_are_window : (shapes : Shapes) (p : Project) → IsSound p → (i : ℕ) (steps : List TimedStep)
+    → steps ≡ steps_in shapes p.events i → IsWindow i steps
+steps_are_window shapes p sound i steps is = subst (IsWindow i) (sym is)
+    (steps_within shapes p sound i, steps_in_order shapes p.events i)
 
 -- no event lies behind the last window
 pub none_behind : (shapes : Shapes) (p : Project) → IsSound p → (i : ℕ) → 1001 ≤ i → steps_in shapes p.events i ≡ []
@@ -272,7 +324,9 @@ none_behind shapes p sound i late = empty (steps_in shapes p.events i) (each_ste
     empty [] none = refl
     empty (s ∷ steps) none = absurd none.0
 
-    by : (s : TimedStep) (number : ℕ) (e : TimedEvent) → get p.events number ≡ Some e → step_of shapes e.event ≡ Some s.step → s.time ≡ e.time → is_between (10000 * i) (10000 * i + 9999) e.time ≡ true → ⊥
+    by : (s : TimedStep) (number : ℕ) (e : TimedEvent) → get p.events number ≡ Some e
+        → step_of shapes e.event ≡ Some s.step → s.time ≡ e.time
+        → is_between (10000 * i) (10000 * i + 9999) e.time ≡ true → ⊥
     by s number e there does time lies =
         let is : IsEventOf p number e = each_found (IsEventOf p) p.events number e sound.events there in
         let range = between (10000 * i) (10000 * i + 9999) e.time lies in
@@ -284,44 +338,52 @@ module _ (nodes : AllHeld) (node index sub : ℕ) (text : List ℕ) where
   at_entry o = option_and_then (λ (h : Held). get h.shape.entries (index, sub)) o
 
   abbrev bytes_in : Option Held → Option (List ℕ)
-  bytes_in o = option_and_then (λ (shape : Shaped). result_ok (judged_set (get shape.entries (index, sub)) text node)) (option_map (λ (h : Held). h.shape) o)
+  bytes_in o = option_and_then (λ (shape : Shaped). result_ok (set_bytes (get shape.entries (index, sub)) text node))
+      (option_map (λ (h : Held). h.shape) o)
 
-  pub bytes_there : (entry : Entry) → Some entry ≡ at_entry (get nodes node) → value entry.kind text node ≡ bytes_set (shapes_held nodes) node index sub text
-  unfolding judged_set
+  pub bytes_there : (entry : Entry) → Some entry ≡ at_entry (get nodes node)
+      → value entry.kind text node ≡ bytes_set (shapes_held nodes) node index sub text
+  unfolding set_bytes
   bytes_there entry there = by (get nodes node) there
     where
       by : (o : Option Held) → Some entry ≡ at_entry o → value entry.kind text node ≡ bytes_in o
       by None there = cc
-      by (Some h) there = sym (set_value entry text node) ∙ ap (λ (o : Option Entry). result_ok (judged_set o text node)) there
+      by (Some h) there = sym (set_value entry text node)
+          ∙ ap (λ (o : Option Entry). result_ok (set_bytes o text node)) there
 
   pub none_there : None ≡ at_entry (get nodes node) → None ≡ bytes_set (shapes_held nodes) node index sub text
-  unfolding judged_set
+  unfolding set_bytes
   none_there there = by (get nodes node) there
     where
       by : (o : Option Held) → None ≡ at_entry o → None ≡ bytes_in o
       by None there = refl
-      by (Some h) there = ap (λ (o : Option Entry). result_ok (judged_set o text node)) there
+      by (Some h) there = ap (λ (o : Option Entry). result_ok (set_bytes o text node)) there
 
   -- so far as memory goes
-  pub read_there : {E : Type 0} (result : Result (Option (List ℕ)) E) (entry : Entry) → Some entry ≡ at_entry (get nodes node)
-      → IfOk result (λ bytes. bytes ≡ value entry.kind text node) → IfOk result (λ bytes. bytes ≡ bytes_set (shapes_held nodes) node index sub text)
+  pub read_there : {E : Type 0} (result : Result (Option (List ℕ)) E) (entry : Entry)
+      → Some entry ≡ at_entry (get nodes node)
+      → IfOk result (λ bytes. bytes ≡ value entry.kind text node)
+      → IfOk result (λ bytes. bytes ≡ bytes_set (shapes_held nodes) node index sub text)
   read_there (Ok bytes) entry there is = is ∙ bytes_there entry there
   read_there (Err e) entry there is = tt
 
 -- ---- a value has the length of its entry's type
 
 module _ (text : List ℕ) (node : ℕ) (bytes : List ℕ) where
-  set_fits : (place : ℕ × ℕ) (o : Option Shaped) → option_and_then (λ (shape : Shaped). result_ok (judged_set (get shape.entries place) text node)) o ≡ Some bytes
+  set_fits : (place : ℕ × ℕ) (o : Option Shaped)
+      → option_and_then (λ (shape : Shaped). result_ok (set_bytes (get shape.entries place) text node)) o ≡ Some bytes
       → (entry : Entry) → get (or_else no_shape o).entries place ≡ Some entry → HasLength entry.kind bytes
-  unfolding judged_set
+  unfolding set_bytes
   set_fits place None given entry there = cc
   set_fits place (Some shape) given entry there =
-      spelled text node bytes entry (sym (ap (λ (o : Option Entry). result_ok (judged_set o text node)) there) ∙ given)
+      spelled text node bytes entry (sym (ap (λ (o : Option Entry). result_ok (set_bytes o text node)) there) ∙ given)
 
-step_fits : (p : Project) (e : Event) (s : TimedStep) → step_of (shape_of_node p) e ≡ Some s.step → FitsShape (image_of p) s
+step_fits : (p : Project) (e : Event) (s : TimedStep) → step_of (shape_of_node p) e ≡ Some s.step
+    → FitsShape (image_of p) s
 step_fits p (event.Set node index sub text) s does = by (bytes_set (shape_of_node p) node index sub text) refl does
   where
-    by : (o : Option (List ℕ)) → bytes_set (shape_of_node p) node index sub text ≡ o → option_map (set_step node index sub) o ≡ Some s.step → FitsShape (image_of p) s
+    by : (o : Option (List ℕ)) → bytes_set (shape_of_node p) node index sub text ≡ o
+        → option_map (set_step node index sub) o ≡ Some s.step → FitsShape (image_of p) s
     by None given does = cc
     by (Some bytes) given does =
         let same : set_step node index sub bytes ≡ s.step = cc in
@@ -336,4 +398,6 @@ step_fits p (event.Nmt node command) s does =
 
 pub steps_fit : (p : Project) (i : ℕ) → AllByRecursion (FitsShape (image_of p)) (window_steps p i)
 unfolding window_steps
-steps_fit p i = each_step (shape_of_node p) p.events (FitsShape (image_of p)) i (λ s number e there does time lies. step_fits p e.event s does)
+steps_fit p i =
+    each_step (shape_of_node p) p.events (FitsShape (image_of p)) i
+    (λ s number e there does time lies. step_fits p e.event s does)

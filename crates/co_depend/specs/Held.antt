@@ -7,7 +7,7 @@ use Rattle.std.specs.Ordering.{nat_cmp}
 use Rattle.concise_dcf.specs.declared.write.Write.{Write}
 use Rattle.co_dict.specs.Shapes.{Shaped}
 use Rattle.co_dict.specs.Values.{Values}
-use Rattle.co_network.specs.Network.{with_sections, writes_of, Member}
+use Rattle.project_plan.specs.Network.{with_sections, writes_of, Member}
 use Rattle.co_project.specs.declared.node.Node.{Node}
 use Rattle.co_project.specs.Project.{Content as Project}
 use Rattle.std.specs.List.{AllByRecursion}
@@ -28,8 +28,10 @@ pub record Held : Type 0 where
 -- they are stored one by one
 abbrev pub held_code : Coded Values → Coded Shaped → Coded Identity → Coded Write → Coded Held
 held_code values_code shape_code identity_code write_code =
-    code_by (Values × (Shaped × (Identity × List Write))) (coded× values_code (coded× shape_code (coded× identity_code (coded_list write_code))))
-    (λ h. (h.defaults, (h.shape, (h.expect, h.writes)))) (λ t. record { defaults = t.0; shape = t.1.0; expect = t.1.1.0; writes = t.1.1.1 }) (λ _. refl)
+    code_by (Values × (Shaped × (Identity × List Write)))
+    (coded× values_code (coded× shape_code (coded× identity_code (coded_list write_code))))
+    (λ h. (h.defaults, (h.shape, (h.expect, h.writes))))
+    (λ t. record { defaults = t.0; shape = t.1.0; expect = t.1.1.0; writes = t.1.1.1 }) (λ _. refl)
 
 -- nodes by number
 abbrev pub AllHeld : Type 0

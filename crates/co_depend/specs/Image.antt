@@ -6,7 +6,7 @@ use Rattle.co_dict.specs.Shapes.{Shaped}
 use Rattle.co_dict.specs.Values.{Values}
 use Rattle.eds_device.specs.Entries.{defaults_of, shape_of}
 use Rattle.eds_device.specs.Identity.{identity}
-use Rattle.co_network.specs.Network.{member_at, writes_of, Member}
+use Rattle.project_plan.specs.Network.{member_at, writes_of, Member}
 use Rattle.co_project.specs.Project.{Content as Project}
 use Rattle.co_scenario.specs.declared.timed_step.TimedStep.{TimedStep}
 use Rattle.co_parts.specs.Contents.{Image, RosterIs, DefaultsAre, ShapeIs, ExpectIs, BootIs, EventsAre}
@@ -36,11 +36,13 @@ shape_of_node project node = option_map (λ (m : Member). shape_of m.sections no
 
 -- the device type and the identity of the device of its EDS
 unfoldable pub identity_of_node : Project → ℕ → Option Identity
-identity_of_node project node = option_map (λ (m : Member). record { numbers = identity m.sections node }) (member_at project node)
+identity_of_node project node = option_map (λ (m : Member). record { numbers = identity m.sections node })
+    (member_at project node)
 
 -- the write at a place, from 0, of those that the node gets
 unfoldable pub write_of_node : Project → ℕ → ℕ → Option Write
-write_of_node project node place = option_and_then (λ (m : Member). slice_get (writes_of project m node) place) (member_at project node)
+write_of_node project node place = option_and_then (λ (m : Member). slice_get (writes_of project m node) place)
+    (member_at project node)
 
 -- the steps of a window, with the shapes of the project's nodes
 unfoldable pub window_steps : Project → ℕ → List TimedStep

@@ -20,16 +20,21 @@ pub record Supply : Type 0 where
 -- they are stored one by one
 abbrev pub supply_code : Coded Roster → Coded AllHeld → Coded Windows → Coded (Part × Content) → Coded Supply
 supply_code roster_code nodes_code windows_code read_code =
-    code_by (Roster × (AllHeld × (Windows × (List (Part × Content) × ℕ)))) (coded× roster_code (coded× nodes_code (coded× windows_code (coded× (coded_list read_code) coded_ℕ))))
-    (λ s. (s.roster, (s.nodes, (s.windows, (s.asked, s.asks))))) (λ t. record { roster = t.0; nodes = t.1.0; windows = t.1.1.0; asked = t.1.1.1.0; asks = t.1.1.1.1 }) (λ _. refl)
+    code_by (Roster × (AllHeld × (Windows × (List (Part × Content) × ℕ))))
+    (coded× roster_code (coded× nodes_code (coded× windows_code (coded× (coded_list read_code) coded_ℕ))))
+    (λ s. (s.roster, (s.nodes, (s.windows, (s.asked, s.asks)))))
+    (λ t. record { roster = t.0; nodes = t.1.0; windows = t.1.1.0; asked = t.1.1.1.0; asks = t.1.1.1.1 })
+    (λ _. refl)
 
 -- the image of these parts
 abbrev pub image_held : Roster → AllHeld → Windows → Image
 image_held roster nodes windows part.Roster = RosterIs (Some roster)
-image_held roster nodes windows (part.Defaults node) = DefaultsAre (option_map (λ (h : Held). h.defaults) (get nodes node))
+image_held roster nodes windows (part.Defaults node) =
+    DefaultsAre (option_map (λ (h : Held). h.defaults) (get nodes node))
 image_held roster nodes windows (part.Shape node) = ShapeIs (option_map (λ (h : Held). h.shape) (get nodes node))
 image_held roster nodes windows (part.Expect node) = ExpectIs (option_map (λ (h : Held). h.expect) (get nodes node))
-image_held roster nodes windows (part.Boot node place) = BootIs (option_and_then (λ (h : Held). slice_get h.writes place) (get nodes node))
+image_held roster nodes windows (part.Boot node place) =
+    BootIs (option_and_then (λ (h : Held). slice_get h.writes place) (get nodes node))
 image_held roster nodes windows (part.Events window) = EventsAre (get windows window)
 
 -- the image, and what was handed out of it

@@ -19,12 +19,15 @@ pub fn the_image_is_coherent()
 /// The steps of a window are what the events of its 10,000 microseconds do, each with the time and the
 /// number of its event: these, and no others.
 pub fn each_window_has_the_steps_of_its_events()
-    ensures { (project : Project) (i : ℕ) (step : TimedStep) → Contains (window_steps project i) step ↔ IsStepIn (shape_of_node project) project.events i step }
+    ensures { (project : Project) (i : ℕ) (step : TimedStep) → Contains (window_steps project i) step
+        ↔ IsStepIn (shape_of_node project) project.events i step }
 {}
 
 /// Each node has the parts of the device of its EDS, and no other number has any.
 pub fn each_node_has_the_parts_of_its_device()
-    ensures nodes { (project : Project) (id : ℕ) (node : member) → IsSound project → node_at project.nodes id ≡ Some node
-        → (text : List ℕ) × ((text_at project.texts node.eds ≡ Some text) × HasParts project id node (content_of text).sections) }
+    ensures nodes { (project : Project) (id : ℕ) (node : member) → IsSound project
+        → node_at project.nodes id ≡ Some node
+        → (text : List ℕ) × ((text_at project.texts node.eds ≡ Some text)
+        × HasParts project id node (content_of text).sections) }
     ensures others { (project : Project) (id : ℕ) → node_at project.nodes id ≡ None → HasNoParts project id }
 {}

@@ -40,9 +40,15 @@ impl Model for NodeParts {
 
     ghost Value = { Held };
 
-    ghost coded = { held_code (map.code (coded× coded_ℕ coded_ℕ) (coded_list coded_ℕ)) (shaped_code described.the_row.coded) expected.the_row.coded written.the_row.coded };
+    ghost coded = { held_code (map.code (coded× coded_ℕ coded_ℕ) (coded_list coded_ℕ))
+        (shaped_code described.the_row.coded) expected.the_row.coded written.the_row.coded };
 
-    ghost view = { λ node. record { defaults = node.defaults.value; shape = node.shape.value; expect = node.expect.value; writes = node.writes } };
+    ghost view = { λ node. record {
+      defaults = node.defaults.value;
+      shape = node.shape.value;
+      expect = node.expect.value;
+      writes = node.writes;
+    } };
 }
 
 impl NodeParts {

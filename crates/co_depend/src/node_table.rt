@@ -75,7 +75,8 @@ impl NodeTable {
 
     /// The entry of a node at an index and sub, if there is one.
     pub fn entry(&self, id: u8, index: u16, sub: u8) -> Option<&Entry>
-        ensures { option_copied result ≡ option_and_then (λ (h : Held). map.get h.shape.entries (index, sub)) (map.get self.now id) }
+        ensures { option_copied result ≡ option_and_then (λ (h : Held). map.get h.shape.entries (index, sub))
+            (map.get self.now id) }
     {
         self.get(id)?.entry(index, sub)
     }
@@ -91,7 +92,8 @@ impl NodeTable {
 
     /// The write of a node at a place, counted from 0.
     pub fn write(&self, id: u8, place: u32) -> Result<Option<Rc<Write>>, AllocError>
-        ensures write { IfOk result (λ write. shared write ≡ option_and_then (λ (h : Held). slice_get h.writes place) (map.get self.now id)) }
+        ensures write { IfOk result (λ write. shared write ≡ option_and_then (λ (h : Held). slice_get h.writes place)
+            (map.get self.now id)) }
         ensures fits { IfOk result (λ write. IfSome (shared write) IsBootWrite) }
     {
         match self.get(id) {

@@ -48,7 +48,13 @@ impl Model for ProjectParts {
 
     ghost coded = { supply_code listed.the_row.coded table.the_row.coded timed.the_row.coded noted.the_row.coded };
 
-    ghost view = { λ parts. record { roster = parts.roster.value; nodes = parts.nodes; windows = parts.windows; asked = parts.asked.items; asks = parts.asks } };
+    ghost view = { λ parts. record {
+      roster = parts.roster.value;
+      nodes = parts.nodes;
+      windows = parts.windows;
+      asked = parts.asked.items;
+      asks = parts.asks;
+    } };
 
     ghost invariant = { λ parts. IsRoster parts.roster.value };
 }

@@ -1,14 +1,14 @@
 //! The nodes of a project with their parts.
 ghost use Rattle.std.specs.Prelude.{◌≡◌, ℕ, IfOk, OnOk, option_map};
 ghost use Rattle.std.specs.FinMap as map;
-ghost use Rattle.co_network.specs.Network.{member_at, project_plan};
+ghost use Rattle.project_plan.specs.Network.{member_at, plan_of_project};
 ghost use Rattle.co_depend.specs.Held.{held_of, with_held};
 
 use crate::node_parts::NodeParts;
 use crate::node_table::NodeTable;
-use co_network::Library;
 use co_project::{Node, Project};
 use pdo_links::Plan;
+use project_plan::Library;
 use std::alloc::{AllocError, Global};
 
 /// Adds the parts of a node, where its EDS is there.
@@ -20,7 +20,7 @@ fn add_node(
     id: u8,
     node: &Node,
 ) -> Result<(), AllocError>
-    requires { plan.now ≡ project_plan library.now.project }
+    requires { plan.now ≡ plan_of_project library.now.project }
     ensures table { OnOk result (table.new ≡ with_held library.old.project (id, node.now) table.old) }
     ensures project { library.new.project ≡ library.old.project }
 {
@@ -36,10 +36,11 @@ fn add_node(
 
 /// The nodes of a project with their parts.
 pub(crate) fn read_nodes(alloc: Global, project: &Project) -> Result<NodeTable, AllocError>
-    ensures { IfOk result (λ table. (id : ℕ) → map.get table id ≡ option_map (held_of project.now id) (member_at project.now id)) }
+    ensures { IfOk result (λ table. (id : ℕ)
+        → map.get table id ≡ option_map (held_of project.now id) (member_at project.now id)) }
 {
     let mut library = Library::new(alloc, project);
-    let plan = co_network::plan(alloc, &mut library)?;
+    let plan = project_plan::plan(alloc, &mut library)?;
     let mut table = NodeTable::new(alloc);
     for (id, node) in project.nodes() {
         add_node(alloc, &mut table, &mut library, &plan, *id, node)?;

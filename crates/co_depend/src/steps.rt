@@ -107,7 +107,8 @@ fn steps_of(
     script: &Script,
     moments: &[(u32, u16)],
 ) -> Result<Vec<TimedStep>, AllocError>
-    ensures { IfOk result (λ steps. steps.items ≡ filter_map (timed_step_of (shapes_held nodes.now) script.now) moments.now) }
+    ensures { IfOk result (λ steps. steps.items
+        ≡ filter_map (timed_step_of (shapes_held nodes.now) script.now) moments.now) }
 {
     let mut steps = Vec::new(alloc);
     for moment in moments {

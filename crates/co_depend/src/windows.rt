@@ -17,7 +17,8 @@ pub(crate) fn make_windows(
     nodes: &NodeTable,
     project: &Project,
 ) -> Result<WindowTable, AllocError>
-    ensures { IfOk result (λ windows. (i : ℕ) → map.get windows i ≡ unless_none (steps_in (shapes_held nodes.now) project.now.events i)) }
+    ensures { IfOk result (λ windows. (i : ℕ)
+        → map.get windows i ≡ unless_none (steps_in (shapes_held nodes.now) project.now.events i)) }
 {
     project.keeps_to_rules();
     let script = project.events();

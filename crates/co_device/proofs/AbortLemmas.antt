@@ -7,22 +7,24 @@ use Rattle.co_dict.specs.Values.{Values}
 use Rattle.co_parts.specs.Contents.{Image, shape_of}
 use Rattle.co_parts.specs.declared.part.Part.TheVariants.{Shape}
 use Rattle.co_sdo.specs.Frames.{command}
-use Rattle.co_sdo.specs.Server.{Answered, answered}
+use Rattle.co_sdo.specs.Server.{AfterRequest, server_answer}
 use Rattle.co_sdo.specs.declared.transfer.Transfer.{Transfer}
 use Rattle.co_sdo.specs.declared.transfer.Transfer.TheVariants.{Idle}
-use Rattle.co_device.specs.Device.{Device, after_request, is_in, sdo_request}
+use Rattle.co_device.specs.Device.{Device, after_request, is_in, after_sdo_request}
 use Rattle.co_device.specs.declared.nmt_state.NmtState.TheVariants.{Stopped}
 
 abort_answered : (shape : Shaped) (values : Values) (transfer : Transfer) (request : List ℕ) → command request ≡ 0x80
-    → answered shape values transfer request ≡ record { answer = None; values = values; transfer = Idle; wrote = None }
-unfolding answered
+    → server_answer shape values transfer request
+    ≡ record { answer = None; values = values; transfer = Idle; wrote = None }
+unfolding server_answer
 abort_answered shape values transfer request e = rw e refl
 
-pub abort_leaves : (image : Image) (t : ℕ) (request : List ℕ) (d : Device) → is_in Stopped d ≡ false → command request ≡ 0x80
-    → outcome (sdo_request t request d) image ≡ record d { transfer = Idle }
-unfolding sdo_request
+pub abort_leaves : (image : Image) (t : ℕ) (request : List ℕ) (d : Device) → is_in Stopped d ≡ false
+    → command request ≡ 0x80
+    → outcome (after_sdo_request t request d) image ≡ record d { transfer = Idle }
+unfolding after_sdo_request
 abort_leaves image t request d on e =
     let shape : Shaped = shape_of (image (Shape d.number)) in
     rw on
-    (ap (λ (s : Answered). after_request t shape s d) (abort_answered shape d.values d.transfer request e)
+    (ap (λ (s : AfterRequest). after_request t shape s d) (abort_answered shape d.values d.transfer request e)
     ∙ ap (λ (frames : List Waiting). record d { transfer = Idle; waiting = frames }) (append-nil d.waiting))

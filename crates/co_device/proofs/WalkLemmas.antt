@@ -1,7 +1,8 @@
 -- A loop over numbers that threads one device.
-use Rattle.std.proofs.Common.{◌≡◌, ℕ, suc, ◌+◌, ◌-◌, ◌<◌, ◌≤◌, List, [], ◌∷◌, ◌++◌, sym, ap, ◌∙◌, length, arith, length-append}
+use Rattle.std.proofs.Common.{◌≡◌, ℕ, suc, ◌+◌, ◌-◌, ◌<◌, ◌≤◌, List, [], ◌∷◌, ◌++◌, sym, ap, ◌∙◌, length, arith}
+use Rattle.std.proofs.Common.{length-append}
 use Rattle.std.specs.List.{range_with_len}
-use Rattle.asking.specs.Asking.{Asking, Seen, outcome, reads, followed, bind}
+use Rattle.asking.specs.Asking.{Asking, Seen, outcome, reads, after_reads, bind}
 use Rattle.asking.proofs.QuestionLemmas.{outcome_bind, reads_bind, followed_bind}
 use Rattle.co_parts.specs.Contents.{Content, Image}
 use Rattle.co_parts.specs.declared.part.Part.{Part}
@@ -27,23 +28,29 @@ module _ (step : ℕ → Device → Asking Part Content Device) (i n : ℕ) (s s
   rest_is : walk step (from i n) s ≡ bind (step i s) (walk step (from (i + 1) n))
   rest_is = ap (λ ys. walk step ys s) (from_is i n within)
 
-  pub walked_state : (image : Image) → s' ≡ outcome (step i s) image → outcome (walk step (from (i + 1) n) s') image ≡ outcome (walk step (from i n) s) image
+  pub walked_state : (image : Image) → s' ≡ outcome (step i s) image
+      → outcome (walk step (from (i + 1) n) s') image ≡ outcome (walk step (from i n) s) image
   walked_state image e =
       ap (λ y. outcome (walk step (from (i + 1) n) y) image) e
       ∙ sym (outcome_bind (step i s) (walk step (from (i + 1) n)) image)
       ∙ ap (λ (m : Asking Part Content Device). outcome m image) (sym rest_is)
 
-  pub walked_noted : (seen seen' : Seen Part Content) → s' ≡ outcome (step i s) seen.image → seen' ≡ followed (step i s) seen → followed (walk step (from (i + 1) n) s') seen' ≡ followed (walk step (from i n) s) seen
+  pub walked_noted : (seen seen' : Seen Part Content) → s' ≡ outcome (step i s) seen.image
+      → seen' ≡ after_reads (step i s) seen → after_reads (walk step (from (i + 1) n) s') seen'
+      ≡ after_reads (walk step (from i n) s) seen
   walked_noted seen seen' e h =
-      ap (followed (walk step (from (i + 1) n) s')) h
-      ∙ ap (λ y. followed (walk step (from (i + 1) n) y) (followed (step i s) seen)) e
+      ap (after_reads (walk step (from (i + 1) n) s')) h
+      ∙ ap (λ y. after_reads (walk step (from (i + 1) n) y) (after_reads (step i s) seen)) e
       ∙ sym (followed_bind (step i s) (walk step (from (i + 1) n)) seen)
-      ∙ ap (λ (m : Asking Part Content Device). followed m seen) (sym rest_is)
+      ∙ ap (λ (m : Asking Part Content Device). after_reads m seen) (sym rest_is)
 
-  pub walked_counted : (image : Image) → s' ≡ outcome (step i s) image → (asks asks' : ℕ) → asks' ≤ asks + length (reads (step i s) image)
-      → asks' + length (reads (walk step (from (i + 1) n) s') image) ≤ asks + length (reads (walk step (from i n) s) image)
+  pub walked_counted : (image : Image) → s' ≡ outcome (step i s) image → (asks asks' : ℕ)
+      → asks' ≤ asks + length (reads (step i s) image)
+      → asks' + length (reads (walk step (from (i + 1) n) s') image)
+      ≤ asks + length (reads (walk step (from i n) s) image)
   walked_counted image e asks asks' h =
-      let all : reads (walk step (from i n) s) image ≡ reads (step i s) image ++ reads (walk step (from (i + 1) n) s') image =
+      let all : reads (walk step (from i n) s) image
+      ≡ reads (step i s) image ++ reads (walk step (from (i + 1) n) s') image =
       ap (λ (m : Asking Part Content Device). reads m image) rest_is
       ∙ reads_bind (step i s) (walk step (from (i + 1) n)) image
       ∙ ap (λ y. reads (step i s) image ++ reads (walk step (from (i + 1) n) y) image) (sym e) in

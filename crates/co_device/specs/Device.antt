@@ -1,40 +1,46 @@
--- One device at a moment, and what it does (CiA 301). All moments are absolute, in microseconds from the power-on of the network.
-use Rattle.std.specs.Prelude.{ℕ, ◌==◌, ◌&&◌, ◌||◌, nat_lt, Bool, true, false, List, [], ◌∷◌, ◌++◌, length, replicate, slice_index_or, Option, Some, None, if◌then◌else◌}
+-- One device at a moment, and what it does (CiA 301). All moments are absolute, in microseconds from the power-on of
+-- the network.
+use Rattle.std.specs.Prelude.{ℕ, ◌==◌, ◌&&◌, ◌||◌, nat_lt, Bool, true, false, List, [], ◌∷◌, ◌++◌, length, replicate}
+use Rattle.std.specs.Prelude.{slice_index_or, Option, Some, None, if◌then◌else◌}
 use Rattle.std.specs.FinMap as map
 use Rattle.asking.specs.Asking.{Asking, Answer, Ask}
 use Rattle.can_frame.specs.Frames.{BaseFrame}
 use Rattle.can_frame.specs.Identifiers.{error_control_id, sdo_answer_id}
-use Rattle.can_frame.specs.WaitingFrames.{replaced, waiting, without}
+use Rattle.can_frame.specs.WaitingFrames.{with_latest, waiting, without_unwanted}
 use Rattle.can_frame.specs.declared.purpose.Purpose.TheVariants.{BootUp, Emergency, Heartbeat, Sdo}
 use Rattle.can_frame.specs.declared.unwanted.Unwanted.TheVariants.{Emergencies, Sdos, Tpdos}
 use Rattle.can_frame.specs.declared.waiting.Waiting.{Waiting}
 use Rattle.co_base.specs.Ranges.{is_between}
-use Rattle.co_dict.specs.Restored.{restored}
+use Rattle.co_dict.specs.Restored.{with_restored}
 use Rattle.co_dict.specs.Shapes.{Shaped}
 use Rattle.co_dict.specs.Values.{Values}
 use Rattle.co_parts.specs.Contents.{Content, shape_of, values_of}
 use Rattle.co_parts.specs.Moments.{earliest, is_due, moments_of}
 use Rattle.co_parts.specs.declared.part.Part.{Part}
 use Rattle.co_parts.specs.declared.part.Part.TheVariants.{Defaults, Shape}
-use Rattle.co_profile.specs.Consumers as consumers
-use Rattle.co_profile.specs.Profile.{emergency_frame, error_cleared, error_register, error_set, learnt_of, next_heartbeat}
-use Rattle.co_profile.specs.declared.consumer.Consumer.{Consumer}
-use Rattle.co_profile.specs.declared.learnt.Learnt.{Learnt}
+use Rattle.device_objects.specs.Consumers as consumers
+use Rattle.device_objects.specs.Profile.{emergency_frame, without_error_bits, error_register, with_error_bits}
+use Rattle.device_objects.specs.Profile.{learnt_of, next_heartbeat}
+use Rattle.device_objects.specs.declared.consumer.Consumer.{Consumer}
+use Rattle.device_objects.specs.declared.learnt.Learnt.{Learnt}
 use Rattle.co_scenario.specs.declared.nmt_command.NmtCommand.{NmtCommand}
-use Rattle.co_scenario.specs.declared.nmt_command.NmtCommand.TheVariants.{Start, Stop, EnterPreOperational, ResetNode, ResetCommunication}
-use Rattle.co_sdo.specs.Server.{Answered, answered}
+use Rattle.co_scenario.specs.declared.nmt_command.NmtCommand.TheVariants.{Start, Stop, EnterPreOperational, ResetNode}
+use Rattle.co_scenario.specs.declared.nmt_command.NmtCommand.TheVariants.{ResetCommunication}
+use Rattle.co_sdo.specs.Server.{AfterRequest, server_answer}
 use Rattle.co_sdo.specs.declared.transfer.Transfer.{Transfer}
 use Rattle.co_sdo.specs.declared.transfer.Transfer.TheVariants.{Idle}
 use Rattle.device_pdos.specs.Objects.{is_of_rpdos, is_of_tpdos}
-use Rattle.device_pdos.specs.Rpdos.{rpdos_emptied, rpdos_of, rpdos_written}
+use Rattle.device_pdos.specs.Rpdos.{without_kept_frames, rpdos_of, rpdos_after_write}
 use Rattle.device_pdos.specs.Tpdos as tpdos
-use Rattle.device_pdos.specs.Tpdos.{tpdos_forgotten, tpdos_freed, tpdos_looked, tpdos_of, tpdos_written, with_tpdos}
+use Rattle.device_pdos.specs.Tpdos.{without_memories, without_past_inhibits, tpdos_after_turns, tpdos_of}
+use Rattle.device_pdos.specs.Tpdos.{tpdos_after_write, with_tpdos}
 use Rattle.device_pdos.specs.declared.rpdo_state.RpdoState.{RpdoState}
 use Rattle.device_pdos.specs.declared.tpdo_state.TpdoState.{TpdoState}
 use Rattle.co_device.specs.declared.nmt_state.NmtState.{NmtState}
 use Rattle.co_device.specs.declared.nmt_state.NmtState.TheVariants.{PreOperational, Operational, Stopped}
 
--- its values by entry, its heartbeat consumers by sub-index, its PDOs by number; whether a SYNC came in this instant; the moment of its next heartbeat; the frames that wait; the open transfer of its SDO server
+-- its values by entry, its heartbeat consumers by sub-index, its PDOs by number; whether a SYNC came in this instant;
+-- the moment of its next heartbeat; the frames that wait; the open transfer of its SDO server
 pub record Device : Type 0 where
   pub spent : Bool
   pub number : ℕ
@@ -65,16 +71,31 @@ nothing_learnt = record { has_error_register = false; has_sync_cob_id = false; h
 
 -- a device without power: nothing waits, nothing is due, nothing is open
 abbrev pub without_power : Bool → ℕ → Device
-without_power spent number = record { spent = spent; number = number; has_power = false; state = PreOperational; learnt = nothing_learnt; values = map.empty; consumers = []; rpdos = []; tpdos = []; synced = false; heartbeat = None; waiting = []; transfer = Idle }
+without_power spent number = record {
+  spent = spent;
+  number = number;
+  has_power = false;
+  state = PreOperational;
+  learnt = nothing_learnt;
+  values = map.empty;
+  consumers = [];
+  rpdos = [];
+  tpdos = [];
+  synced = false;
+  heartbeat = None;
+  waiting = [];
+  transfer = Idle;
+}
 
 -- ---- NMT state Initialisation, which ends with the boot-up message in Pre-operational
 
-abbrev pub boot_up : ℕ → Waiting
-boot_up number = waiting BootUp (record { id = error_control_id number; bytes = 0 ∷ [] })
+abbrev pub boot_up_frame : ℕ → Waiting
+boot_up_frame number = waiting BootUp (record { id = error_control_id number; bytes = 0 ∷ [] })
 
--- with these values; frames that waited, the open transfer, all moments, failures, and what PDOs remember and keep are dropped
-unfoldable pub initialised : ℕ → Shaped → Values → Device → Device
-initialised t shape values d = record {
+-- with these values; frames that waited, the open transfer, all moments, failures, and what PDOs remember and keep are
+-- dropped
+unfoldable pub after_initialisation : ℕ → Shaped → Values → Device → Device
+after_initialisation t shape values d = record {
   spent = d.spent;
   number = d.number;
   has_power = true;
@@ -86,27 +107,27 @@ initialised t shape values d = record {
   tpdos = tpdos_of shape values;
   synced = false;
   heartbeat = next_heartbeat t (learnt_of shape) values;
-  waiting = boot_up d.number ∷ [];
+  waiting = boot_up_frame d.number ∷ [];
   transfer = Idle;
 }
 
 -- NMT service Reset node: every entry gets its value by the EDS
-unfoldable pub reset_node : ℕ → Device → Asking Part Content Device
-reset_node t d =
+unfoldable pub after_reset_node : ℕ → Device → Asking Part Content Device
+after_reset_node t d =
     Ask (Defaults d.number) (λ v. Ask (Shape d.number) (λ w.
-    Answer (initialised t (shape_of w) (values_of v) d)))
+    Answer (after_initialisation t (shape_of w) (values_of v) d)))
 
 -- NMT service Reset communication: those of the communication profile area alone
 unfoldable pub reset_communication : ℕ → Device → Asking Part Content Device
 reset_communication t d =
     Ask (Defaults d.number) (λ v. Ask (Shape d.number) (λ w.
-    Answer (initialised t (shape_of w) (restored 0x1000 0x1FFF (values_of v) d.values) d)))
+    Answer (after_initialisation t (shape_of w) (with_restored 0x1000 0x1FFF (values_of v) d.values) d)))
 
 -- ---- power: where it is as it was, nothing changes
 
-unfoldable pub powered : Bool → ℕ → Device → Asking Part Content Device
-powered on t d =
-    if on then (if d.has_power then Answer d else reset_node t d)
+unfoldable pub after_power : Bool → ℕ → Device → Asking Part Content Device
+after_power on t d =
+    if on then (if d.has_power then Answer d else after_reset_node t d)
     else Answer (if d.has_power then without_power d.spent d.number else d)
 
 -- ---- the other NMT services
@@ -114,7 +135,11 @@ powered on t d =
 -- leaving Operational drops the TPDOs that wait, and what PDOs remember and keep
 unfoldable pub out_of_operational : Device → Device
 out_of_operational d =
-    if is_in Operational d then record d { waiting = without Tpdos d.waiting; rpdos = rpdos_emptied d.rpdos; tpdos = tpdos_forgotten d.tpdos }
+    if is_in Operational d then record d {
+      waiting = without_unwanted Tpdos d.waiting;
+      rpdos = without_kept_frames d.rpdos;
+      tpdos = without_memories d.tpdos;
+    }
     else d
 
 abbrev pub start_remote_node : Device → Device
@@ -124,23 +149,27 @@ abbrev pub enter_pre_operational : Device → Device
 enter_pre_operational d = record (out_of_operational d) { state = PreOperational }
 
 -- SDO answers and emergency objects that wait, and the open transfer, are dropped
-abbrev pub silenced : Device → Device
-silenced d = record d { waiting = without Emergencies (without Sdos d.waiting); transfer = Idle }
+abbrev pub without_answers : Device → Device
+without_answers d = record d {
+  waiting = without_unwanted Emergencies (without_unwanted Sdos d.waiting);
+  transfer = Idle;
+}
 
 -- entering Stopped leaves Operational too
 abbrev pub stop_remote_node : Device → Device
-stop_remote_node d = if is_in Stopped d then d else record (silenced (out_of_operational d)) { state = Stopped }
+stop_remote_node d = if is_in Stopped d then d else record (without_answers (out_of_operational d)) { state = Stopped }
 
 -- a message of two bytes, the second this node's number or 0 for all
 abbrev pub is_addressed : ℕ → List ℕ → Bool
-is_addressed number bytes = (length bytes == 2) && ((slice_index_or bytes 1 0 == 0) || (slice_index_or bytes 1 0 == number))
+is_addressed number bytes = (length bytes == 2)
+    && ((slice_index_or bytes 1 0 == 0) || (slice_index_or bytes 1 0 == number))
 
 unfoldable pub nmt_service : Option NmtCommand → ℕ → Device → Asking Part Content Device
 nmt_service None t d = Answer d
 nmt_service (Some Start) t d = Answer (start_remote_node d)
 nmt_service (Some Stop) t d = Answer (stop_remote_node d)
 nmt_service (Some EnterPreOperational) t d = Answer (enter_pre_operational d)
-nmt_service (Some ResetNode) t d = reset_node t d
+nmt_service (Some ResetNode) t d = after_reset_node t d
 nmt_service (Some ResetCommunication) t d = reset_communication t d
 
 -- ---- emergency objects
@@ -149,7 +178,10 @@ nmt_service (Some ResetCommunication) t d = reset_communication t d
 unfoldable pub with_emergency : ℕ → Device → Device
 with_emergency code d =
     if is_in Stopped d then d
-    else record d { waiting = d.waiting ++ waiting Emergency (emergency_frame d.number code (error_register d.learnt d.values)) ∷ [] }
+    else record d {
+      waiting = d.waiting
+          ++ waiting Emergency (emergency_frame d.number code (error_register d.learnt d.values)) ∷ [];
+    }
 
 -- ---- what the write of an entry brings about
 
@@ -157,63 +189,74 @@ with_emergency code d =
 abbrev pub is_producer_time : ℕ × ℕ → Bool
 is_producer_time place = (place.0 == 0x1017) && (place.1 == 0)
 
-abbrev pub heartbeat_started : ℕ → Device → Device
-heartbeat_started t d = record d { heartbeat = next_heartbeat t d.learnt d.values }
+abbrev pub with_heartbeat_start : ℕ → Device → Device
+with_heartbeat_start t d = record d { heartbeat = next_heartbeat t d.learnt d.values }
 
 -- the error bits of the register are cleared where the last failure has ended
-abbrev pub without_error : Bool → Device → Device
-without_error is_over d = if is_over then record d { values = error_cleared d.learnt d.values } else d
+abbrev pub without_error_if : Bool → Device → Device
+without_error_if is_over d = if is_over then record d { values = without_error_bits d.learnt d.values } else d
 
 -- 1016h: the consumer's moment and failure are forgotten, without an emergency object
-unfoldable pub consumer_written : ℕ → Device → Device
-consumer_written sub d =
-    without_error (consumers.is_over d.consumers (consumers.consumers_written sub d.values d.consumers)) (record d { consumers = consumers.consumers_written sub d.values d.consumers })
+unfoldable pub after_write_of_consumer : ℕ → Device → Device
+after_write_of_consumer sub d =
+    without_error_if (consumers.is_last_failure_over d.consumers
+    (consumers.consumers_after_write sub d.values d.consumers))
+    (record d { consumers = consumers.consumers_after_write sub d.values d.consumers })
 
 -- of an entry that is none of a PDO's objects
 unfoldable pub after_own_write : ℕ → ℕ × ℕ → Device → Device
 after_own_write t place d =
-    if is_producer_time place then heartbeat_started t d
-    else if place.0 == 0x1016 then consumer_written place.1 d
+    if is_producer_time place then with_heartbeat_start t d
+    else if place.0 == 0x1016 then after_write_of_consumer place.1 d
     else d
 
 -- of any entry: the PDO that it is of is judged anew, keeps no frame and remembers nothing
 unfoldable pub after_write : ℕ → Shaped → ℕ × ℕ → Device → Device
 after_write t shape place d =
-    if is_of_rpdos place.0 then record d { rpdos = rpdos_written shape d.values place.0 d.rpdos }
-    else if is_of_tpdos place.0 then record d { tpdos = tpdos_written shape d.values place.0 d.tpdos }
+    if is_of_rpdos place.0 then record d { rpdos = rpdos_after_write shape d.values place.0 d.rpdos }
+    else if is_of_tpdos place.0 then record d { tpdos = tpdos_after_write shape d.values place.0 d.tpdos }
     else after_own_write t place d
 
 -- ---- the application of a device with power sets an entry, whatever its access and limits
 
-unfoldable pub was_set : ℕ → ℕ × ℕ → List ℕ → Device → Device
-was_set t place bytes d = if d.has_power then after_own_write t place (record d { values = map.insert d.values place bytes }) else d
+unfoldable pub after_set : ℕ → ℕ × ℕ → List ℕ → Device → Device
+after_set t place bytes d = if d.has_power
+    then after_own_write t place (record d { values = map.insert d.values place bytes }) else d
 
 -- ---- the SDO server, which is silent in Stopped
 
-abbrev pub after_wrote : ℕ → Shaped → Option (ℕ × ℕ) → Device → Device
-after_wrote t shape None d = d
-after_wrote t shape (Some place) d = after_write t shape place d
+abbrev pub after_server_write : ℕ → Shaped → Option (ℕ × ℕ) → Device → Device
+after_server_write t shape None d = d
+after_server_write t shape (Some place) d = after_write t shape place d
 
 abbrev pub answer_frames : ℕ → Option (List ℕ) → List Waiting
 answer_frames number None = []
 answer_frames number (Some bytes) = waiting (Sdo number) (record { id = sdo_answer_id number; bytes = bytes }) ∷ []
 
 -- what the server did stands in the device, and its answer waits
-abbrev pub after_request : ℕ → Shaped → Answered → Device → Device
-after_request t shape s d = after_wrote t shape s.wrote (record d { values = s.values; transfer = s.transfer; waiting = d.waiting ++ answer_frames d.number s.answer })
+abbrev pub after_request : ℕ → Shaped → AfterRequest → Device → Device
+after_request t shape s d =
+    after_server_write t shape s.wrote (record d {
+      values = s.values;
+      transfer = s.transfer;
+      waiting = d.waiting ++ answer_frames d.number s.answer;
+    })
 
-unfoldable pub sdo_request : ℕ → List ℕ → Device → Asking Part Content Device
-sdo_request t request d =
+unfoldable pub after_sdo_request : ℕ → List ℕ → Device → Asking Part Content Device
+after_sdo_request t request d =
     if is_in Stopped d then Answer d
-    else Ask (Shape d.number) (λ w. Answer (after_request t (shape_of w) (answered (shape_of w) d.values d.transfer request) d))
+    else Ask (Shape d.number)
+    (λ w. Answer (after_request t (shape_of w) (server_answer (shape_of w) d.values d.transfer request) d))
 
 -- ---- error control: heartbeat and boot-up of other nodes
 
--- consumers that expect the node start or go on; with the end of the last failure the error bits are cleared, and an emergency object tells it
-unfoldable pub error_control : ℕ → ℕ → Device → Device
-error_control t producer d =
-    let after = consumers.all_heard t producer d.consumers in
-    if consumers.is_over d.consumers after then with_emergency 0x0000 (without_error true (record d { consumers = after }))
+-- consumers that expect the node start or go on; with the end of the last failure the error bits are cleared, and an
+-- emergency object tells it
+unfoldable pub after_error_control : ℕ → ℕ → Device → Device
+after_error_control t producer d =
+    let after = consumers.consumers_after_heartbeat t producer d.consumers in
+    if consumers.is_last_failure_over d.consumers after
+    then with_emergency 0x0000 (without_error_if true (record d { consumers = after }))
     else record d { consumers = after }
 
 -- one byte of a node's error control identifier, 701h to 77Fh
@@ -226,40 +269,57 @@ is_error_control frame = is_between 0x701 0x77F frame.id && (length frame.bytes 
 abbrev pub with_emergencies : ℕ → ℕ → Device → Device
 with_emergencies count code d =
     if is_in Stopped d then d
-    else record d { waiting = d.waiting ++ replicate count (waiting Emergency (emergency_frame d.number code (error_register d.learnt d.values))) }
+    else record d {
+      waiting = d.waiting
+          ++ replicate count (waiting Emergency (emergency_frame d.number code (error_register d.learnt d.values)));
+    }
 
--- each that fails sets the error bits and has an emergency object sent; the device falls to Pre-operational if it is Operational
+-- each that fails sets the error bits and has an emergency object sent; the device falls to Pre-operational if it is
+-- Operational
 abbrev pub after_failures : ℕ → ℕ → Device → Device
 after_failures t count d =
-    let told = with_emergencies count 0x8130 (record d { consumers = consumers.all_expired t d.consumers; values = error_set d.learnt d.values }) in
+    let told = with_emergencies count 0x8130 (record d {
+      consumers = consumers.consumers_after_time t d.consumers;
+      values = with_error_bits d.learnt d.values;
+    }) in
     if is_in Operational told then enter_pre_operational told else told
 
-unfoldable pub consumers_run : ℕ → Device → Device
-consumers_run t d = if nat_lt 0 (consumers.failures t d.consumers) then after_failures t (consumers.failures t d.consumers) d else d
+unfoldable pub after_consumers : ℕ → Device → Device
+after_consumers t d = if nat_lt 0 (consumers.failures_at t d.consumers)
+    then after_failures t (consumers.failures_at t d.consumers) d else d
 
 abbrev pub heartbeat_frame : ℕ → NmtState → BaseFrame
 heartbeat_frame number state = record { id = error_control_id number; bytes = state_byte state ∷ [] }
 
 -- a heartbeat takes the place of one that still waits, and the next is due a period later
-unfoldable pub heartbeat_run : ℕ → Device → Device
-heartbeat_run t d =
-    if is_due t d.heartbeat then record (heartbeat_started t d) { waiting = replaced Heartbeat (heartbeat_frame d.number d.state) d.waiting }
+unfoldable pub after_heartbeat : ℕ → Device → Device
+after_heartbeat t d =
+    if is_due t d.heartbeat
+    then record (with_heartbeat_start t d) {
+      waiting =
+          with_latest Heartbeat (heartbeat_frame d.number d.state) d.waiting;
+    }
     else d
 
-unfoldable pub timers : ℕ → Device → Device
-timers t d = heartbeat_run t (consumers_run t d)
+unfoldable pub after_timers : ℕ → Device → Device
+after_timers t d = after_heartbeat t (after_consumers t d)
 
--- ---- the TPDOs of a moment: in Operational each is looked at, by number; an inhibit moment that has come is forgotten in any state, and so is the SYNC of the instant
+-- ---- the TPDOs of a moment: in Operational each is looked at, by number; an inhibit moment that has come is
+-- forgotten in any state, and so is the SYNC of the instant
 
-unfoldable pub tpdos_run : ℕ → Device → Device
-tpdos_run t d =
+unfoldable pub after_tpdos : ℕ → Device → Device
+after_tpdos t d =
     if is_in Operational d
-    then record d { synced = false; tpdos = tpdos_looked t d.synced d.values d.tpdos; waiting = with_tpdos t d.synced d.values d.tpdos d.waiting }
-    else record d { synced = false; tpdos = tpdos_freed t d.tpdos }
+    then record d {
+      synced = false;
+      tpdos = tpdos_after_turns t d.synced d.values d.tpdos;
+      waiting = with_tpdos t d.synced d.values d.tpdos d.waiting;
+    }
+    else record d { synced = false; tpdos = without_past_inhibits t d.tpdos }
 
 -- WHAT A DEVICE DOES OF ITSELF AT A MOMENT: its timers, and then its TPDOs
-unfoldable pub ran : ℕ → Device → Device
-ran t d = tpdos_run t (timers t d)
+unfoldable pub after_instant : ℕ → Device → Device
+after_instant t d = after_tpdos t (after_timers t d)
 
 -- ---- the moments at which the device is due
 

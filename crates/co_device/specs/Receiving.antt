@@ -13,84 +13,93 @@ use Rattle.co_parts.specs.declared.part.Part.{Part}
 use Rattle.co_parts.specs.declared.part.Part.TheVariants.{Shape}
 use Rattle.co_pdos.specs.declared.receipt.Receipt.{Receipt}
 use Rattle.co_pdos.specs.declared.receipt.Receipt.TheVariants.{Short, Kept, AtOnce, Ignored}
-use Rattle.co_profile.specs.Consumers.{any_expects}
-use Rattle.co_profile.specs.Profile.{sync_identifier}
+use Rattle.device_objects.specs.Consumers.{any_expects}
+use Rattle.device_objects.specs.Profile.{sync_identifier}
 use Rattle.co_scenario.specs.Commands.{command_of}
 use Rattle.device_pdos.specs.Rpdos.{any_has_identifier, mapping_of_rpdo, receipt_of, rpdo_at, with_kept}
-use Rattle.co_device.specs.Device.{Device, after_write, error_control, is_addressed, is_error_control, is_in, nmt_service, sdo_request, with_emergency}
+use Rattle.co_device.specs.Device.{Device, after_write, after_error_control, is_addressed, is_error_control, is_in}
+use Rattle.co_device.specs.Device.{nmt_service, after_sdo_request, with_emergency}
 use Rattle.co_device.specs.declared.nmt_state.NmtState.TheVariants.{Operational, Stopped}
 
 -- ---- a list of steps over one device, each on what the last one left
 
-abbrev pub walk : {X : Type 0} → (X → Device → Asking Part Content Device) → List X → Device → Asking Part Content Device
+abbrev pub walk : {X : Type 0} → (X → Device → Asking Part Content Device) → List X → Device
+    → Asking Part Content Device
 walk step [] d = Answer d
 walk step (x ∷ xs) d = bind (step x d) (walk step xs)
 
 -- ---- RPDOs: the values of a frame go to the mapped entries
 
 -- one entry: where the device takes its bits they are written, with what that brings about
-unfoldable pub entry_taken : ℕ → Shaped → ℕ → List ℕ → Device → Device
-entry_taken t shape entry bits d =
-    if takes shape entry bits d.values then after_write t shape (mapped_place entry) (record d { values = with_bits shape entry bits d.values })
+unfoldable pub after_entry : ℕ → Shaped → ℕ → List ℕ → Device → Device
+after_entry t shape entry bits d =
+    if takes shape entry bits d.values then after_write t shape (mapped_place entry)
+    (record d { values = with_bits shape entry bits d.values })
     else d
 
 -- those of a mapping, each judged by what stands in its turn
-abbrev pub entries_taken : ℕ → Shaped → List ℕ → List ℕ → Device → Device
-entries_taken t shape mapping bytes d = after_entries (entry_taken t shape) 0 mapping (frame_bits bytes) d
+abbrev pub device_after_entries : ℕ → Shaped → List ℕ → List ℕ → Device → Device
+device_after_entries t shape mapping bytes d = after_entries (after_entry t shape) 0 mapping (frame_bits bytes) d
 
 -- a frame by a mapping, as that is now
-unfoldable pub applied : ℕ → List ℕ → BaseFrame → Device → Asking Part Content Device
-applied t mapping frame d = Ask (Shape d.number) (λ w. Answer (entries_taken t (shape_of w) mapping frame.bytes d))
+unfoldable pub after_mapping : ℕ → List ℕ → BaseFrame → Device → Asking Part Content Device
+after_mapping t mapping frame d = Ask (Shape d.number)
+    (λ w. Answer (device_after_entries t (shape_of w) mapping frame.bytes d))
 
 -- what becomes of a frame at the RPDO at a place
-unfoldable pub taken_by : Receipt → ℕ → BaseFrame → ℕ → Device → Asking Part Content Device
-taken_by Short t frame i d = Answer (with_emergency 0x8210 d)
-taken_by Kept t frame i d = Answer (record d { rpdos = with_kept d.rpdos i (Some frame) })
-taken_by AtOnce t frame i d = applied t (mapping_of_rpdo (rpdo_at d.rpdos i).configuration) frame d
-taken_by Ignored t frame i d = Answer d
+unfoldable pub after_receipt : Receipt → ℕ → BaseFrame → ℕ → Device → Asking Part Content Device
+after_receipt Short t frame i d = Answer (with_emergency 0x8210 d)
+after_receipt Kept t frame i d = Answer (record d { rpdos = with_kept d.rpdos i (Some frame) })
+after_receipt AtOnce t frame i d = after_mapping t (mapping_of_rpdo (rpdo_at d.rpdos i).configuration) frame d
+after_receipt Ignored t frame i d = Answer d
 
 -- judged by what stands in its turn
-unfoldable pub rpdo_received : ℕ → BaseFrame → ℕ → Device → Asking Part Content Device
-rpdo_received t frame i d = taken_by (receipt_of frame (rpdo_at d.rpdos i).configuration) t frame i d
+unfoldable pub after_rpdo : ℕ → BaseFrame → ℕ → Device → Asking Part Content Device
+after_rpdo t frame i d = after_receipt (receipt_of frame (rpdo_at d.rpdos i).configuration) t frame i d
 
 -- the places of all of them, by number
-abbrev pub places : Device → List ℕ
-places d = range_with_len 0 (length d.rpdos)
+abbrev pub rpdo_places : Device → List ℕ
+rpdo_places d = range_with_len 0 (length d.rpdos)
 
 -- PDOs are received in Operational alone, by each RPDO with the identifier in its turn
-unfoldable pub pdo_received : ℕ → BaseFrame → Device → Asking Part Content Device
-pdo_received t frame d = if is_in Operational d then walk (rpdo_received t frame) (places d) d else Answer d
+unfoldable pub after_pdo : ℕ → BaseFrame → Device → Asking Part Content Device
+after_pdo t frame d = if is_in Operational d then walk (after_rpdo t frame) (rpdo_places d) d else Answer d
 
 -- ---- SYNC: the frames that RPDOs keep are applied, by number; the TPDOs come later in the instant
 
-unfoldable pub kept_applied : ℕ → Option BaseFrame → ℕ → Device → Asking Part Content Device
-kept_applied t None i d = Answer d
-kept_applied t (Some frame) i d = applied t (mapping_of_rpdo (rpdo_at d.rpdos i).configuration) frame (record d { rpdos = with_kept d.rpdos i None })
+unfoldable pub after_kept_frame : ℕ → Option BaseFrame → ℕ → Device → Asking Part Content Device
+after_kept_frame t None i d = Answer d
+after_kept_frame t (Some frame) i d =
+    after_mapping t (mapping_of_rpdo (rpdo_at d.rpdos i).configuration) frame
+    (record d { rpdos = with_kept d.rpdos i None })
 
-unfoldable pub rpdo_synced : ℕ → ℕ → Device → Asking Part Content Device
-rpdo_synced t i d = kept_applied t (rpdo_at d.rpdos i).kept i d
+unfoldable pub after_sync_at : ℕ → ℕ → Device → Asking Part Content Device
+after_sync_at t i d = after_kept_frame t (rpdo_at d.rpdos i).kept i d
 
-unfoldable pub sync_received : ℕ → Device → Asking Part Content Device
-sync_received t d = if is_in Operational d then walk (rpdo_synced t) (places d) (record d { synced = true }) else Answer d
+unfoldable pub after_sync : ℕ → Device → Asking Part Content Device
+after_sync t d = if is_in Operational d then walk (after_sync_at t) (rpdo_places d) (record d { synced = true })
+    else Answer d
 
 -- ---- RECEIVED FRAMES
 
-abbrev pub nmt_received : ℕ → List ℕ → Device → Asking Part Content Device
-nmt_received t bytes d = if is_addressed d.number bytes then nmt_service (command_of (slice_index_or bytes 0 0)) t d else Answer d
+abbrev pub after_nmt_frame : ℕ → List ℕ → Device → Asking Part Content Device
+after_nmt_frame t bytes d = if is_addressed d.number bytes then nmt_service (command_of (slice_index_or bytes 0 0)) t d
+    else Answer d
 
-unfoldable pub received : ℕ → BaseFrame → Device → Asking Part Content Device
-received t frame d =
+unfoldable pub after_frame : ℕ → BaseFrame → Device → Asking Part Content Device
+after_frame t frame d =
     if not d.has_power then Answer d
-    else if frame.id == nmt_id then nmt_received t frame.bytes d
-    else if frame.id == sync_identifier d.learnt d.values then sync_received t d
-    else if (frame.id == sdo_request_id d.number) && (length frame.bytes == 8) then sdo_request t frame.bytes d
-    else if is_error_control frame then Answer (error_control t (frame.id - error_control_id 0) d)
-    else pdo_received t frame d
+    else if frame.id == nmt_id then after_nmt_frame t frame.bytes d
+    else if frame.id == sync_identifier d.learnt d.values then after_sync t d
+    else if (frame.id == sdo_request_id d.number) && (length frame.bytes == 8) then after_sdo_request t frame.bytes d
+    else if is_error_control frame then Answer (after_error_control t (frame.id - error_control_id 0) d)
+    else after_pdo t frame d
 
--- ---- FRAMES OF WHICH THE DEVICE TAKES NOTHING: without power all; else those that are not to it, that its NMT state doesn't let it take, or that no consumer and no RPDO expects
+-- ---- FRAMES OF WHICH THE DEVICE TAKES NOTHING: without power all; else those that are not to it, that its NMT state
+-- doesn't let it take, or that no consumer and no RPDO expects
 
-unfoldable pub ignored : BaseFrame → Device → Bool
-ignored frame d =
+unfoldable pub is_ignored : BaseFrame → Device → Bool
+is_ignored frame d =
     if not d.has_power then true
     else if frame.id == nmt_id then not (is_addressed d.number frame.bytes)
     else if frame.id == sync_identifier d.learnt d.values then not (is_in Operational d)

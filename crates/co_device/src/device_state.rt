@@ -1,20 +1,22 @@
 //! The device at a moment.
 
-ghost use Rattle.std.specs.Prelude.{◌≡◌, ◌↔◌, ◌<◌, ◌≤◌, ◌+◌, Some, false, length, remove, slice_get, IfOk, OnOk, OnErr, IsErr, IsTrue};
-ghost use Rattle.asking.specs.Asking.{followed, outcome, reads};
+ghost use Rattle.std.specs.Prelude.{◌≡◌, ◌↔◌, ◌<◌, ◌≤◌, ◌+◌, Some, false, length, remove, slice_get, IfOk, OnOk, OnErr};
+ghost use Rattle.std.specs.Prelude.{IsErr, IsTrue};
+ghost use Rattle.asking.specs.Asking.{after_reads, outcome, reads};
 ghost use Rattle.can_frame.specs.Winner.{contenders_of, IsWinner};
 ghost use Rattle.co_base.specs.Ranges.{is_between};
 ghost use Rattle.co_values.specs.Values.{longest_value};
-ghost use Rattle.co_device.specs.Device.{is_in as is_in_state, next_due, powered, ran, was_set, without_power};
-ghost use Rattle.co_device.specs.Receiving.{received};
+ghost use Rattle.co_device.specs.Device.{is_in as is_in_state, next_due, after_power, after_instant, after_set};
+ghost use Rattle.co_device.specs.Device.{without_power};
+ghost use Rattle.co_device.specs.Receiving.{after_frame};
 
 use crate::nmt_state::NmtState;
 use crate::shapes::Shapes;
 use can_frame::{Contender, Frame, Pending, Waiting};
 use co_dict::Dict;
 use co_parts::{END, earlier};
-use co_profile::{Consumer, Learnt, same_consumers};
 use co_sdo::transfer::{self, Transfer};
+use device_objects::{Consumer, Learnt, same_consumers};
 use device_pdos::{RpdoState, TpdoState, same_rpdos, same_tpdos};
 use std::alloc::{AllocError, Global};
 use std::marker::Model;
@@ -51,7 +53,21 @@ impl Model for DeviceState {
 
     ghost coded = { Prim.hlevel (codes, map.code {R = place_cmp} (coded× coded_ℕ coded_ℕ) (coded_list coded_ℕ)) };
 
-    ghost view = { λ d. record { spent = d.spent; number = d.number; has_power = d.has_power; state = d.state; learnt = d.learnt; values = d.values; consumers = d.consumers.items; rpdos = d.rpdos.items; tpdos = d.tpdos.items; synced = d.synced; heartbeat = d.heartbeat; waiting = d.waiting; transfer = d.transfer } };
+    ghost view = { λ d. record {
+      spent = d.spent;
+      number = d.number;
+      has_power = d.has_power;
+      state = d.state;
+      learnt = d.learnt;
+      values = d.values;
+      consumers = d.consumers.items;
+      rpdos = d.rpdos.items;
+      tpdos = d.tpdos.items;
+      synced = d.synced;
+      heartbeat = d.heartbeat;
+      waiting = d.waiting;
+      transfer = d.transfer;
+    } };
 }
 
 impl DeviceState {
@@ -105,7 +121,15 @@ impl DeviceState {
 
     /// Whether the other device is the same, but for values, lists and transfer.
     fn is_like(&self, other: &DeviceState) -> bool
-        ensures { IsTrue result ↔ (record self.now { values = other.now.values; consumers = other.now.consumers; rpdos = other.now.rpdos; tpdos = other.now.tpdos; waiting = other.now.waiting; transfer = other.now.transfer } ≡ other.now) }
+        ensures { IsTrue result
+            ↔ (record self.now {
+              values = other.now.values;
+              consumers = other.now.consumers;
+              rpdos = other.now.rpdos;
+              tpdos = other.now.tpdos;
+              waiting = other.now.waiting;
+              transfer = other.now.transfer;
+            } ≡ other.now) }
     {
         self.spent == other.spent
             && self.number == other.number
@@ -197,7 +221,7 @@ impl DeviceState {
     pub fn next_due(&self) -> Option<u64>
         ensures { result ≡ next_due self.now }
     {
-        let next = earlier(self.heartbeat, co_profile::next_moment(&self.consumers));
+        let next = earlier(self.heartbeat, device_objects::next_moment(&self.consumers));
         let operational = self.is_in(NmtState::Operational);
         earlier(next, device_pdos::next_moment(&self.tpdos, operational))
     }
@@ -222,9 +246,10 @@ impl DeviceState {
     /// Switches the power of the device at the moment t. Where it is as it was, nothing changes.
     pub fn power<P: Shapes>(&mut self, on: bool, t: u64, shapes: &mut P) -> Result<(), AllocError>
         requires { t < END }
-        ensures state { OnOk result (self.new ≡ outcome (powered on t self.old) (P.seen shapes.old).image) }
-        ensures noted { OnOk result (P.seen shapes.new ≡ followed (powered on t self.old) (P.seen shapes.old)) }
-        ensures counted { OnOk result (P.asks shapes.new ≤ P.asks shapes.old + length (reads (powered on t self.old) (P.seen shapes.old).image)) }
+        ensures state { OnOk result (self.new ≡ outcome (after_power on t self.old) (P.seen shapes.old).image) }
+        ensures noted { OnOk result (P.seen shapes.new ≡ after_reads (after_power on t self.old) (P.seen shapes.old)) }
+        ensures counted { OnOk result (P.asks shapes.new ≤ P.asks shapes.old + length (reads (after_power on t self.old)
+            (P.seen shapes.old).image)) }
         ensures kept { (P.seen shapes.new).image ≡ (P.seen shapes.old).image }
         ensures refused { IsTrue self.old.spent → IsErr result }
         ensures spent { OnErr result (IsTrue self.new.spent) }
@@ -247,9 +272,11 @@ impl DeviceState {
         shapes: &mut P,
     ) -> Result<(), AllocError>
         requires { t < END }
-        ensures state { OnOk result (self.new ≡ outcome (received t frame.now self.old) (P.seen shapes.old).image) }
-        ensures noted { OnOk result (P.seen shapes.new ≡ followed (received t frame.now self.old) (P.seen shapes.old)) }
-        ensures counted { OnOk result (P.asks shapes.new ≤ P.asks shapes.old + length (reads (received t frame.now self.old) (P.seen shapes.old).image)) }
+        ensures state { OnOk result (self.new ≡ outcome (after_frame t frame.now self.old) (P.seen shapes.old).image) }
+        ensures noted { OnOk result (P.seen shapes.new ≡ after_reads (after_frame t frame.now self.old)
+            (P.seen shapes.old)) }
+        ensures counted { OnOk result (P.asks shapes.new
+            ≤ P.asks shapes.old + length (reads (after_frame t frame.now self.old) (P.seen shapes.old).image)) }
         ensures kept { (P.seen shapes.new).image ≡ (P.seen shapes.old).image }
         ensures refused { IsTrue self.old.spent → IsErr result }
         ensures spent { OnErr result (IsTrue self.new.spent) }
@@ -270,7 +297,7 @@ impl DeviceState {
         requires soon { t < END }
         requires own { is_between 0x1400 0x1BFF index ≡ false }
         requires short { length bytes.now ≤ longest_value }
-        ensures state { OnOk result (self.new ≡ was_set t (index, sub) bytes.now self.old) }
+        ensures state { OnOk result (self.new ≡ after_set t (index, sub) bytes.now self.old) }
         ensures refused { IsTrue self.old.spent → IsErr result }
         ensures spent { OnErr result (IsTrue self.new.spent) }
     {
@@ -288,7 +315,7 @@ impl DeviceState {
     /// TPDOs by number.
     pub fn on_instant(&mut self, t: u64) -> Result<(), AllocError>
         requires { t < END }
-        ensures state { OnOk result (self.new ≡ ran t self.old) }
+        ensures state { OnOk result (self.new ≡ after_instant t self.old) }
         ensures refused { IsTrue self.old.spent → IsErr result }
         ensures spent { OnErr result (IsTrue self.new.spent) }
     {

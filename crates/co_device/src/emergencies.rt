@@ -2,13 +2,13 @@
 
 ghost use Rattle.std.specs.Prelude.{◌≡◌, ◌++◌, replicate, OnOk};
 ghost use Rattle.can_frame.specs.WaitingFrames.{waiting as to_wait};
-ghost use Rattle.co_profile.specs.Profile.{emergency_frame as frame_of_emergency, error_register as register_of};
+ghost use Rattle.device_objects.specs.Profile.{emergency_frame as frame_of_emergency, error_register as register_of};
 ghost use Rattle.co_device.specs.Device.{with_emergencies, with_emergency};
 
 use crate::device_state::DeviceState;
 use crate::nmt_state::NmtState;
 use can_frame::{Frame, Pending, Purpose};
-use co_profile::{emergency_frame, error_register};
+use device_objects::{emergency_frame, error_register};
 use std::alloc::AllocError;
 
 /// So many equal emergency objects wait.

@@ -1,7 +1,7 @@
 //! The NMT services that change a device's state.
 
 ghost use Rattle.std.specs.Prelude.{◌≡◌, ◌<◌, ◌≤◌, ◌+◌, length, OnOk};
-ghost use Rattle.asking.specs.Asking.{followed, outcome, reads};
+ghost use Rattle.asking.specs.Asking.{after_reads, outcome, reads};
 ghost use Rattle.co_device.specs.Device.{enter_pre_operational, nmt_service, out_of_operational, stop_remote_node};
 
 use crate::device_state::DeviceState;
@@ -58,8 +58,10 @@ impl DeviceState {
     ) -> Result<(), AllocError>
         requires { t < END }
         ensures state { OnOk result (self.new ≡ outcome (nmt_service command t self.old) (P.seen shapes.old).image) }
-        ensures noted { OnOk result (P.seen shapes.new ≡ followed (nmt_service command t self.old) (P.seen shapes.old)) }
-        ensures counted { OnOk result (P.asks shapes.new ≤ P.asks shapes.old + length (reads (nmt_service command t self.old) (P.seen shapes.old).image)) }
+        ensures noted { OnOk result (P.seen shapes.new ≡ after_reads (nmt_service command t self.old)
+            (P.seen shapes.old)) }
+        ensures counted { OnOk result (P.asks shapes.new
+            ≤ P.asks shapes.old + length (reads (nmt_service command t self.old) (P.seen shapes.old).image)) }
         ensures kept { (P.seen shapes.new).image ≡ (P.seen shapes.old).image }
     {
         match command {

@@ -1,20 +1,20 @@
 //! The frames that a device receives.
 
 ghost use Rattle.std.specs.Prelude.{◌≡◌, ◌<◌, ◌≤◌, ◌+◌, length, OnOk};
-ghost use Rattle.asking.specs.Asking.{followed, outcome, reads};
-ghost use Rattle.co_device.specs.Receiving.{received};
+ghost use Rattle.asking.specs.Asking.{after_reads, outcome, reads};
+ghost use Rattle.co_device.specs.Receiving.{after_frame};
 
 use crate::device_state::DeviceState;
 use crate::shapes::Shapes;
 use can_frame::{Frame, identifiers};
 use co_parts::END;
-use co_profile::{command, eight, is_addressed, producer_of, sync_identifier};
 use co_scenario::NmtCommand;
+use device_objects::{command, eight, is_addressed, producer_of, sync_identifier};
 use std::alloc::AllocError;
 
 impl DeviceState {
     /// Takes a frame.
-    #[tactic(auto, unfolding(crate::specs::Receiving::received))]
+    #[tactic(auto, unfolding(crate::specs::Receiving::after_frame))]
     pub(crate) fn receive<P: Shapes>(
         &mut self,
         t: u64,
@@ -22,9 +22,11 @@ impl DeviceState {
         shapes: &mut P,
     ) -> Result<(), AllocError>
         requires { t < END }
-        ensures state { OnOk result (self.new ≡ outcome (received t frame.now self.old) (P.seen shapes.old).image) }
-        ensures noted { OnOk result (P.seen shapes.new ≡ followed (received t frame.now self.old) (P.seen shapes.old)) }
-        ensures counted { OnOk result (P.asks shapes.new ≤ P.asks shapes.old + length (reads (received t frame.now self.old) (P.seen shapes.old).image)) }
+        ensures state { OnOk result (self.new ≡ outcome (after_frame t frame.now self.old) (P.seen shapes.old).image) }
+        ensures noted { OnOk result (P.seen shapes.new ≡ after_reads (after_frame t frame.now self.old)
+            (P.seen shapes.old)) }
+        ensures counted { OnOk result (P.asks shapes.new
+            ≤ P.asks shapes.old + length (reads (after_frame t frame.now self.old) (P.seen shapes.old).image)) }
         ensures kept { (P.seen shapes.new).image ≡ (P.seen shapes.old).image }
     {
         if !self.has_power {

@@ -1,8 +1,8 @@
 //! The requests to a device's SDO server.
 
 ghost use Rattle.std.specs.Prelude.{◌≡◌, ◌<◌, ◌≤◌, ◌+◌, ◌++◌, length, OnOk};
-ghost use Rattle.asking.specs.Asking.{followed, outcome, reads};
-ghost use Rattle.co_device.specs.Device.{after_request, answer_frames, sdo_request};
+ghost use Rattle.asking.specs.Asking.{after_reads, outcome, reads};
+ghost use Rattle.co_device.specs.Device.{after_request, answer_frames, after_sdo_request};
 
 use crate::device_state::DeviceState;
 use crate::nmt_state::NmtState;
@@ -18,7 +18,8 @@ use std::mem::replace;
 impl DeviceState {
     /// Lets the answer of the server wait, if there is one.
     fn answer(&mut self, bytes: Option<[u8; 8]>) -> Result<(), AllocError>
-        ensures { OnOk result (self.new ≡ record self.old { waiting = self.old.waiting ++ answer_frames self.old.number bytes }) }
+        ensures { OnOk result (self.new
+            ≡ record self.old { waiting = self.old.waiting ++ answer_frames self.old.number bytes }) }
     {
         if let Some(bytes) = bytes {
             let frame = Frame::of(identifiers::sdo_answer(self.number), &bytes);
@@ -30,7 +31,13 @@ impl DeviceState {
     /// Does what the server did, an answer and a write, once its values stand.
     fn finish_request(&mut self, t: u64, shape: &Shape, step: Step) -> Result<(), AllocError>
         requires { t < END }
-        ensures { OnOk result (self.new ≡ after_request t shape.now (record { answer = step.answer; values = self.old.values; transfer = step.transfer; wrote = step.wrote }) self.old) }
+        ensures { OnOk result (self.new
+            ≡ after_request t shape.now (record {
+              answer = step.answer;
+              values = self.old.values;
+              transfer = step.transfer;
+              wrote = step.wrote;
+            }) self.old) }
     {
         self.transfer = step.transfer;
         self.answer(step.answer)?;
@@ -41,7 +48,7 @@ impl DeviceState {
     }
 
     /// Takes a request to the SDO server.
-    #[tactic(auto, unfolding(crate::specs::Device::sdo_request))]
+    #[tactic(auto, unfolding(crate::specs::Device::after_sdo_request))]
     pub(crate) fn take_request<P: Shapes>(
         &mut self,
         t: u64,
@@ -49,9 +56,12 @@ impl DeviceState {
         shapes: &mut P,
     ) -> Result<(), AllocError>
         requires { t < END }
-        ensures state { OnOk result (self.new ≡ outcome (sdo_request t request.now self.old) (P.seen shapes.old).image) }
-        ensures noted { OnOk result (P.seen shapes.new ≡ followed (sdo_request t request.now self.old) (P.seen shapes.old)) }
-        ensures counted { OnOk result (P.asks shapes.new ≤ P.asks shapes.old + length (reads (sdo_request t request.now self.old) (P.seen shapes.old).image)) }
+        ensures state { OnOk result (self.new ≡ outcome (after_sdo_request t request.now self.old)
+            (P.seen shapes.old).image) }
+        ensures noted { OnOk result (P.seen shapes.new ≡ after_reads (after_sdo_request t request.now self.old)
+            (P.seen shapes.old)) }
+        ensures counted { OnOk result (P.asks shapes.new
+            ≤ P.asks shapes.old + length (reads (after_sdo_request t request.now self.old) (P.seen shapes.old).image)) }
         ensures kept { (P.seen shapes.new).image ≡ (P.seen shapes.old).image }
     {
         if self.is_in(NmtState::Stopped) {

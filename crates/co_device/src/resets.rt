@@ -1,8 +1,9 @@
 //! Power, and the NMT services that reset a device.
 
 ghost use Rattle.std.specs.Prelude.{◌≡◌, ◌<◌, ◌≤◌, ◌+◌, length, OnOk};
-ghost use Rattle.asking.specs.Asking.{followed, outcome, reads};
-ghost use Rattle.co_device.specs.Device.{initialised, powered, reset_communication, reset_node, without_power};
+ghost use Rattle.asking.specs.Asking.{after_reads, outcome, reads};
+ghost use Rattle.co_device.specs.Device.{after_initialisation, after_power, reset_communication, after_reset_node};
+ghost use Rattle.co_device.specs.Device.{without_power};
 
 use crate::device_state::DeviceState;
 use crate::nmt_state::NmtState;
@@ -10,8 +11,8 @@ use crate::shapes::{Shapes, shape_or, without_entries};
 use can_frame::{Frame, Pending, Purpose, identifiers};
 use co_dict::{Dict, Shape};
 use co_parts::END;
-use co_profile::{Learnt, communication_restored, consumers_of, next_heartbeat, values_of};
 use co_sdo::transfer::Transfer;
+use device_objects::{Learnt, communication_restored, consumers_of, next_heartbeat, values_of};
 use device_pdos::{rpdos_of, tpdos_of};
 use std::alloc::AllocError;
 
@@ -37,10 +38,10 @@ impl DeviceState {
     }
 
     /// Goes through NMT state Initialisation with these entries and these values.
-    #[tactic(auto, unfolding(crate::specs::Device::initialised))]
+    #[tactic(auto, unfolding(crate::specs::Device::after_initialisation))]
     fn initialise(&mut self, t: u64, shape: &Shape, values: Dict) -> Result<(), AllocError>
         requires { t < END }
-        ensures { OnOk result (self.new ≡ initialised t shape.now values self.old) }
+        ensures { OnOk result (self.new ≡ after_initialisation t shape.now values self.old) }
     {
         let mut waiting = Pending::new(self.alloc);
         let frame = Frame::of(identifiers::error_control(self.number), &[BOOT_UP]);
@@ -60,12 +61,14 @@ impl DeviceState {
     }
 
     /// Runs NMT service Reset node.
-    #[tactic(auto, unfolding(crate::specs::Device::reset_node))]
+    #[tactic(auto, unfolding(crate::specs::Device::after_reset_node))]
     pub(crate) fn reset_node<P: Shapes>(&mut self, t: u64, shapes: &mut P) -> Result<(), AllocError>
         requires { t < END }
-        ensures state { OnOk result (self.new ≡ outcome (reset_node t self.old) (P.seen shapes.old).image) }
-        ensures noted { OnOk result (P.seen shapes.new ≡ followed (reset_node t self.old) (P.seen shapes.old)) }
-        ensures counted { OnOk result (P.asks shapes.new ≤ P.asks shapes.old + length (reads (reset_node t self.old) (P.seen shapes.old).image)) }
+        ensures state { OnOk result (self.new ≡ outcome (after_reset_node t self.old) (P.seen shapes.old).image) }
+        ensures noted { OnOk result (P.seen shapes.new ≡ after_reads (after_reset_node t self.old)
+            (P.seen shapes.old)) }
+        ensures counted { OnOk result (P.asks shapes.new
+            ≤ P.asks shapes.old + length (reads (after_reset_node t self.old) (P.seen shapes.old).image)) }
         ensures kept { (P.seen shapes.new).image ≡ (P.seen shapes.old).image }
     {
         let defaults = shapes.defaults(self.number)?;
@@ -84,8 +87,10 @@ impl DeviceState {
     ) -> Result<(), AllocError>
         requires { t < END }
         ensures state { OnOk result (self.new ≡ outcome (reset_communication t self.old) (P.seen shapes.old).image) }
-        ensures noted { OnOk result (P.seen shapes.new ≡ followed (reset_communication t self.old) (P.seen shapes.old)) }
-        ensures counted { OnOk result (P.asks shapes.new ≤ P.asks shapes.old + length (reads (reset_communication t self.old) (P.seen shapes.old).image)) }
+        ensures noted { OnOk result (P.seen shapes.new ≡ after_reads (reset_communication t self.old)
+            (P.seen shapes.old)) }
+        ensures counted { OnOk result (P.asks shapes.new
+            ≤ P.asks shapes.old + length (reads (reset_communication t self.old) (P.seen shapes.old).image)) }
         ensures kept { (P.seen shapes.new).image ≡ (P.seen shapes.old).image }
     {
         let defaults = shapes.defaults(self.number)?;
@@ -96,7 +101,7 @@ impl DeviceState {
     }
 
     /// Switches the power.
-    #[tactic(auto, unfolding(crate::specs::Device::powered))]
+    #[tactic(auto, unfolding(crate::specs::Device::after_power))]
     pub(crate) fn switch<P: Shapes>(
         &mut self,
         on: bool,
@@ -104,9 +109,10 @@ impl DeviceState {
         shapes: &mut P,
     ) -> Result<(), AllocError>
         requires { t < END }
-        ensures state { OnOk result (self.new ≡ outcome (powered on t self.old) (P.seen shapes.old).image) }
-        ensures noted { OnOk result (P.seen shapes.new ≡ followed (powered on t self.old) (P.seen shapes.old)) }
-        ensures counted { OnOk result (P.asks shapes.new ≤ P.asks shapes.old + length (reads (powered on t self.old) (P.seen shapes.old).image)) }
+        ensures state { OnOk result (self.new ≡ outcome (after_power on t self.old) (P.seen shapes.old).image) }
+        ensures noted { OnOk result (P.seen shapes.new ≡ after_reads (after_power on t self.old) (P.seen shapes.old)) }
+        ensures counted { OnOk result (P.asks shapes.new ≤ P.asks shapes.old + length (reads (after_power on t self.old)
+            (P.seen shapes.old).image)) }
         ensures kept { (P.seen shapes.new).image ≡ (P.seen shapes.old).image }
     {
         if on == self.has_power {

@@ -1,11 +1,12 @@
 //! The frames of PDOs, and SYNC messages.
 
 ghost use Rattle.std.specs.Prelude.{◌≡◌, ◌<◌, ◌≤◌, ◌+◌, length, OnOk};
-ghost use Rattle.asking.specs.Asking.{followed, outcome, reads};
+ghost use Rattle.asking.specs.Asking.{after_reads, outcome, reads};
 ghost use Rattle.co_dict.specs.Mappings.{mapped_length as length_mapped, mapping_bits};
 ghost use Rattle.co_mapping.specs.Packing.{bits_for, frame_bits};
 ghost use Rattle.device_pdos.specs.Rpdos.{mapping_of_rpdo};
-ghost use Rattle.co_device.specs.Receiving.{applied, entries_taken, entry_taken, pdo_received, rpdo_received, rpdo_synced, sync_received};
+ghost use Rattle.co_device.specs.Receiving.{after_mapping, device_after_entries, after_entry, after_pdo, after_rpdo};
+ghost use Rattle.co_device.specs.Receiving.{after_sync_at, after_sync};
 
 use crate::device_state::DeviceState;
 use crate::nmt_state::NmtState;
@@ -34,7 +35,7 @@ fn mapping_of(configuration: &Option<Configuration>) -> &[u32]
 
 impl DeviceState {
     /// Gives one mapped entry its bits out of a frame, with what that brings about.
-    #[tactic(auto, unfolding(crate::specs::Receiving::entry_taken, co_mapping::specs::Packing::with_bits))]
+    #[tactic(auto, unfolding(crate::specs::Receiving::after_entry, co_mapping::specs::Packing::with_bits))]
     fn take_entry(
         &mut self,
         t: u64,
@@ -45,7 +46,8 @@ impl DeviceState {
     ) -> Result<(), AllocError>
         requires soon { t < END }
         requires inside { position + length_mapped entry ≤ 64 }
-        ensures { OnOk result (self.new ≡ entry_taken t shape.now entry (bits_for entry position (frame_bits frame.now.bytes)) self.old) }
+        ensures { OnOk result (self.new
+            ≡ after_entry t shape.now entry (bits_for entry position (frame_bits frame.now.bytes)) self.old) }
     {
         if unpack_entry(shape, &mut self.values, entry, position, frame.bytes())? {
             return self.after_write(t, shape, mapped_place(entry));
@@ -63,7 +65,7 @@ impl DeviceState {
     ) -> Result<(), AllocError>
         requires soon { t < END }
         requires fits { mapping_bits mapping.now ≤ 64 }
-        ensures { OnOk result (self.new ≡ entries_taken t shape.now mapping.now frame.now.bytes self.old) }
+        ensures { OnOk result (self.new ≡ device_after_entries t shape.now mapping.now frame.now.bytes self.old) }
     {
         let mut position = 0;
         for entry in mapping {
@@ -74,7 +76,7 @@ impl DeviceState {
     }
 
     /// Applies a frame by the mapping of an RPDO.
-    #[tactic(auto, unfolding(crate::specs::Receiving::applied))]
+    #[tactic(auto, unfolding(crate::specs::Receiving::after_mapping))]
     fn apply<P: Shapes>(
         &mut self,
         t: u64,
@@ -83,9 +85,15 @@ impl DeviceState {
         shapes: &mut P,
     ) -> Result<(), AllocError>
         requires { t < END }
-        ensures state { OnOk result (self.new ≡ outcome (applied t (mapping_of_rpdo configuration.now) frame.now self.old) (P.seen shapes.old).image) }
-        ensures noted { OnOk result (P.seen shapes.new ≡ followed (applied t (mapping_of_rpdo configuration.now) frame.now self.old) (P.seen shapes.old)) }
-        ensures counted { OnOk result (P.asks shapes.new ≤ P.asks shapes.old + length (reads (applied t (mapping_of_rpdo configuration.now) frame.now self.old) (P.seen shapes.old).image)) }
+        ensures state { OnOk result (self.new
+            ≡ outcome (after_mapping t (mapping_of_rpdo configuration.now) frame.now self.old)
+            (P.seen shapes.old).image) }
+        ensures noted { OnOk result (P.seen shapes.new
+            ≡ after_reads (after_mapping t (mapping_of_rpdo configuration.now) frame.now self.old)
+            (P.seen shapes.old)) }
+        ensures counted { OnOk result (P.asks shapes.new
+            ≤ P.asks shapes.old + length (reads (after_mapping t (mapping_of_rpdo configuration.now) frame.now self.old)
+            (P.seen shapes.old).image)) }
         ensures kept { (P.seen shapes.new).image ≡ (P.seen shapes.old).image }
     {
         let shape = shapes.shape(self.number)?;
@@ -95,7 +103,7 @@ impl DeviceState {
     }
 
     /// Takes a frame by the RPDO at a place, judged by what stands now.
-    #[tactic(auto, unfolding(crate::specs::Receiving::rpdo_received, crate::specs::Receiving::taken_by))]
+    #[tactic(auto, unfolding(crate::specs::Receiving::after_rpdo, crate::specs::Receiving::after_receipt))]
     fn take_by_rpdo<P: Shapes>(
         &mut self,
         t: u64,
@@ -105,9 +113,11 @@ impl DeviceState {
     ) -> Result<(), AllocError>
         requires soon { t < END }
         requires inside { i < length self.old.rpdos }
-        ensures state { OnOk result (self.new ≡ outcome (rpdo_received t frame.now i self.old) (P.seen shapes.old).image) }
-        ensures noted { OnOk result (P.seen shapes.new ≡ followed (rpdo_received t frame.now i self.old) (P.seen shapes.old)) }
-        ensures counted { OnOk result (P.asks shapes.new ≤ P.asks shapes.old + length (reads (rpdo_received t frame.now i self.old) (P.seen shapes.old).image)) }
+        ensures state { OnOk result (self.new ≡ outcome (after_rpdo t frame.now i self.old) (P.seen shapes.old).image) }
+        ensures noted { OnOk result (P.seen shapes.new ≡ after_reads (after_rpdo t frame.now i self.old)
+            (P.seen shapes.old)) }
+        ensures counted { OnOk result (P.asks shapes.new
+            ≤ P.asks shapes.old + length (reads (after_rpdo t frame.now i self.old) (P.seen shapes.old).image)) }
         ensures kept { (P.seen shapes.new).image ≡ (P.seen shapes.old).image }
     {
         let rpdo = self.rpdos[i];
@@ -123,7 +133,7 @@ impl DeviceState {
     }
 
     /// Takes the frame of a PDO by each RPDO in its turn, in Operational alone.
-    #[tactic(auto, unfolding(crate::specs::Receiving::pdo_received))]
+    #[tactic(auto, unfolding(crate::specs::Receiving::after_pdo))]
     pub(crate) fn take_pdo<P: Shapes>(
         &mut self,
         t: u64,
@@ -131,9 +141,11 @@ impl DeviceState {
         shapes: &mut P,
     ) -> Result<(), AllocError>
         requires { t < END }
-        ensures state { OnOk result (self.new ≡ outcome (pdo_received t frame.now self.old) (P.seen shapes.old).image) }
-        ensures noted { OnOk result (P.seen shapes.new ≡ followed (pdo_received t frame.now self.old) (P.seen shapes.old)) }
-        ensures counted { OnOk result (P.asks shapes.new ≤ P.asks shapes.old + length (reads (pdo_received t frame.now self.old) (P.seen shapes.old).image)) }
+        ensures state { OnOk result (self.new ≡ outcome (after_pdo t frame.now self.old) (P.seen shapes.old).image) }
+        ensures noted { OnOk result (P.seen shapes.new ≡ after_reads (after_pdo t frame.now self.old)
+            (P.seen shapes.old)) }
+        ensures counted { OnOk result (P.asks shapes.new
+            ≤ P.asks shapes.old + length (reads (after_pdo t frame.now self.old) (P.seen shapes.old).image)) }
         ensures kept { (P.seen shapes.new).image ≡ (P.seen shapes.old).image }
     {
         if !self.is_in(NmtState::Operational) {
@@ -145,13 +157,14 @@ impl DeviceState {
         Ok(())
     }
     /// Applies the frame that the RPDO at a place keeps, if it keeps one.
-    #[tactic(auto, unfolding(crate::specs::Receiving::rpdo_synced, crate::specs::Receiving::kept_applied))]
+    #[tactic(auto, unfolding(crate::specs::Receiving::after_sync_at, crate::specs::Receiving::after_kept_frame))]
     fn sync_rpdo<P: Shapes>(&mut self, t: u64, i: usize, shapes: &mut P) -> Result<(), AllocError>
         requires soon { t < END }
         requires inside { i < length self.old.rpdos }
-        ensures state { OnOk result (self.new ≡ outcome (rpdo_synced t i self.old) (P.seen shapes.old).image) }
-        ensures noted { OnOk result (P.seen shapes.new ≡ followed (rpdo_synced t i self.old) (P.seen shapes.old)) }
-        ensures counted { OnOk result (P.asks shapes.new ≤ P.asks shapes.old + length (reads (rpdo_synced t i self.old) (P.seen shapes.old).image)) }
+        ensures state { OnOk result (self.new ≡ outcome (after_sync_at t i self.old) (P.seen shapes.old).image) }
+        ensures noted { OnOk result (P.seen shapes.new ≡ after_reads (after_sync_at t i self.old) (P.seen shapes.old)) }
+        ensures counted { OnOk result (P.asks shapes.new
+            ≤ P.asks shapes.old + length (reads (after_sync_at t i self.old) (P.seen shapes.old).image)) }
         ensures kept { (P.seen shapes.new).image ≡ (P.seen shapes.old).image }
     {
         let rpdo = self.rpdos[i];
@@ -166,12 +179,13 @@ impl DeviceState {
 
     /// Takes a SYNC message, in Operational alone: the frames that RPDOs keep are applied, each in its turn;
     /// the TPDOs come later in the instant.
-    #[tactic(auto, unfolding(crate::specs::Receiving::sync_received))]
+    #[tactic(auto, unfolding(crate::specs::Receiving::after_sync))]
     pub(crate) fn take_sync<P: Shapes>(&mut self, t: u64, shapes: &mut P) -> Result<(), AllocError>
         requires { t < END }
-        ensures state { OnOk result (self.new ≡ outcome (sync_received t self.old) (P.seen shapes.old).image) }
-        ensures noted { OnOk result (P.seen shapes.new ≡ followed (sync_received t self.old) (P.seen shapes.old)) }
-        ensures counted { OnOk result (P.asks shapes.new ≤ P.asks shapes.old + length (reads (sync_received t self.old) (P.seen shapes.old).image)) }
+        ensures state { OnOk result (self.new ≡ outcome (after_sync t self.old) (P.seen shapes.old).image) }
+        ensures noted { OnOk result (P.seen shapes.new ≡ after_reads (after_sync t self.old) (P.seen shapes.old)) }
+        ensures counted { OnOk result (P.asks shapes.new ≤ P.asks shapes.old + length (reads (after_sync t self.old)
+            (P.seen shapes.old).image)) }
         ensures kept { (P.seen shapes.new).image ≡ (P.seen shapes.old).image }
     {
         if self.is_in(NmtState::Operational) {

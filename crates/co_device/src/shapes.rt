@@ -1,7 +1,7 @@
 //! The parts that devices ask for.
 
 ghost use Rattle.std.specs.Prelude.{◌≡◌, ◌+◌, ◌-◌, ◌^◌, min, IfOk, OnOk};
-ghost use Rattle.asking.specs.Asking.{handed};
+ghost use Rattle.asking.specs.Asking.{after_ask};
 ghost use Rattle.co_parts.specs.Contents.{DefaultsAre, ShapeIs, no_shape, or_else};
 ghost use Rattle.co_parts.specs.Shared.{shared};
 
@@ -16,14 +16,14 @@ pub trait Shapes: Asked<Part, PartContent> {
     /// The values of a node by its EDS, or none.
     fn defaults(&mut self, node: u8) -> Result<Option<Rc<Dict>>, AllocError>
         ensures value { IfOk result (λ r. (Self.seen self.old).image (Part.Defaults node) ≡ DefaultsAre (shared r)) }
-        ensures noted { OnOk result (Self.seen self.new ≡ handed (Part.Defaults node) (Self.seen self.old)) }
+        ensures noted { OnOk result (Self.seen self.new ≡ after_ask (Part.Defaults node) (Self.seen self.old)) }
         ensures counted { Self.asks self.new ≡ min (Self.asks self.old + 1) (2 ^ 64 - 1) }
         ensures kept { (Self.seen self.new).image ≡ (Self.seen self.old).image };
 
     /// The entries of a node, or none.
     fn shape(&mut self, node: u8) -> Result<Option<Rc<Shape>>, AllocError>
         ensures value { IfOk result (λ r. (Self.seen self.old).image (Part.Shape node) ≡ ShapeIs (shared r)) }
-        ensures noted { OnOk result (Self.seen self.new ≡ handed (Part.Shape node) (Self.seen self.old)) }
+        ensures noted { OnOk result (Self.seen self.new ≡ after_ask (Part.Shape node) (Self.seen self.old)) }
         ensures counted { Self.asks self.new ≡ min (Self.asks self.old + 1) (2 ^ 64 - 1) }
         ensures kept { (Self.seen self.new).image ≡ (Self.seen self.old).image };
 }

@@ -1,13 +1,13 @@
 //! What a device does of itself at a moment.
 
 ghost use Rattle.std.specs.Prelude.{◌≡◌, ◌<◌, OnOk};
-ghost use Rattle.co_device.specs.Device.{consumers_run, heartbeat_run, ran, timers, tpdos_run};
+ghost use Rattle.co_device.specs.Device.{after_consumers, after_heartbeat, after_instant, after_timers, after_tpdos};
 
 use crate::device_state::DeviceState;
 use crate::nmt_state::NmtState;
 use can_frame::{Frame, Purpose, identifiers};
 use co_parts::END;
-use co_profile::{expire, failures, set_error};
+use device_objects::{expire, failures, set_error};
 use device_pdos::{free_tpdos, look_at_tpdos};
 use std::alloc::AllocError;
 
@@ -16,9 +16,9 @@ const HEARTBEAT_ERROR: u16 = 0x8130;
 
 impl DeviceState {
     /// Lets the heartbeat consumers fail whose moment has come.
-    #[tactic(auto, unfolding(crate::specs::Device::consumers_run))]
+    #[tactic(auto, unfolding(crate::specs::Device::after_consumers))]
     fn run_consumers(&mut self, t: u64) -> Result<(), AllocError>
-        ensures { OnOk result (self.new ≡ consumers_run t self.old) }
+        ensures { OnOk result (self.new ≡ after_consumers t self.old) }
     {
         let count = failures(&self.consumers, t);
         if count == 0 {
@@ -34,10 +34,10 @@ impl DeviceState {
     }
 
     /// Lets the heartbeat wait if it is due.
-    #[tactic(auto, unfolding(crate::specs::Device::heartbeat_run))]
+    #[tactic(auto, unfolding(crate::specs::Device::after_heartbeat))]
     fn run_heartbeat(&mut self, t: u64) -> Result<(), AllocError>
         requires { t < END }
-        ensures { OnOk result (self.new ≡ heartbeat_run t self.old) }
+        ensures { OnOk result (self.new ≡ after_heartbeat t self.old) }
     {
         if self.heartbeat != Some(t) {
             return Ok(());
@@ -52,20 +52,20 @@ impl DeviceState {
     }
 
     /// Runs the timers.
-    #[tactic(auto, unfolding(crate::specs::Device::timers))]
+    #[tactic(auto, unfolding(crate::specs::Device::after_timers))]
     fn run_timers(&mut self, t: u64) -> Result<(), AllocError>
         requires { t < END }
-        ensures { OnOk result (self.new ≡ timers t self.old) }
+        ensures { OnOk result (self.new ≡ after_timers t self.old) }
     {
         self.run_consumers(t)?;
         self.run_heartbeat(t)
     }
 
     /// Looks at the TPDOs.
-    #[tactic(auto, unfolding(crate::specs::Device::tpdos_run))]
+    #[tactic(auto, unfolding(crate::specs::Device::after_tpdos))]
     fn run_tpdos(&mut self, t: u64) -> Result<(), AllocError>
         requires { t < END }
-        ensures { OnOk result (self.new ≡ tpdos_run t self.old) }
+        ensures { OnOk result (self.new ≡ after_tpdos t self.old) }
     {
         let synced = self.synced;
         self.synced = false;
@@ -77,10 +77,10 @@ impl DeviceState {
     }
 
     /// Runs what is due.
-    #[tactic(auto, unfolding(crate::specs::Device::ran))]
+    #[tactic(auto, unfolding(crate::specs::Device::after_instant))]
     pub(crate) fn run(&mut self, t: u64) -> Result<(), AllocError>
         requires { t < END }
-        ensures { OnOk result (self.new ≡ ran t self.old) }
+        ensures { OnOk result (self.new ≡ after_instant t self.old) }
     {
         self.run_timers(t)?;
         self.run_tpdos(t)

@@ -3,12 +3,13 @@
 ghost use Rattle.std.specs.Prelude.{◌≡◌, ◌<◌, ◌≤◌, length, OnOk};
 ghost use Rattle.co_base.specs.Ranges.{is_between};
 ghost use Rattle.co_values.specs.Values.{longest_value};
-ghost use Rattle.co_device.specs.Device.{after_own_write, after_write, consumer_written, heartbeat_started, is_producer_time as is_of_producer, was_set, without_error};
+ghost use Rattle.co_device.specs.Device.{after_own_write, after_write, after_write_of_consumer, with_heartbeat_start};
+ghost use Rattle.co_device.specs.Device.{is_producer_time as is_of_producer, after_set, without_error_if};
 
 use crate::device_state::DeviceState;
 use co_dict::Shape;
 use co_parts::END;
-use co_profile::{any_failed, clear_error, forget, next_heartbeat};
+use device_objects::{any_failed, clear_error, forget, next_heartbeat};
 use device_pdos::{is_rpdo_object, is_tpdo_object, write_rpdos, write_tpdos};
 use std::alloc::AllocError;
 
@@ -29,14 +30,14 @@ impl DeviceState {
     /// Starts the heartbeat anew.
     pub(crate) fn start_heartbeat(&mut self, t: u64)
         requires { t < END }
-        ensures { self.new ≡ heartbeat_started t self.old }
+        ensures { self.new ≡ with_heartbeat_start t self.old }
     {
         self.heartbeat = next_heartbeat(t, self.learnt, &self.values);
     }
 
     /// Clears the error bits of the error register if the last failure is over.
     pub(crate) fn clear_error_if(&mut self, is_over: bool) -> Result<(), AllocError>
-        ensures { OnOk result (self.new ≡ without_error is_over self.old) }
+        ensures { OnOk result (self.new ≡ without_error_if is_over self.old) }
     {
         if is_over {
             clear_error(self.learnt, &mut self.values)?;
@@ -45,9 +46,9 @@ impl DeviceState {
     }
 
     /// Does what the write of a consumer heartbeat time brings about.
-    #[tactic(auto, unfolding(crate::specs::Device::consumer_written, co_profile::specs::Consumers::is_over))]
+    #[tactic(auto, unfolding(crate::specs::Device::after_write_of_consumer, device_objects::specs::Consumers::is_last_failure_over))]
     fn after_consumer_write(&mut self, sub: u8) -> Result<(), AllocError>
-        ensures { OnOk result (self.new ≡ consumer_written sub self.old) }
+        ensures { OnOk result (self.new ≡ after_write_of_consumer sub self.old) }
     {
         let had_failed = any_failed(&self.consumers);
         forget(&mut self.consumers, sub, &self.values);
@@ -94,7 +95,7 @@ impl DeviceState {
     }
 
     /// Sets an entry for the application.
-    #[tactic(auto, unfolding(crate::specs::Device::was_set))]
+    #[tactic(auto, unfolding(crate::specs::Device::after_set))]
     pub(crate) fn write_own(
         &mut self,
         t: u64,
@@ -104,7 +105,7 @@ impl DeviceState {
     ) -> Result<(), AllocError>
         requires soon { t < END }
         requires short { length bytes.now ≤ longest_value }
-        ensures { OnOk result (self.new ≡ was_set t (index, sub) bytes.now self.old) }
+        ensures { OnOk result (self.new ≡ after_set t (index, sub) bytes.now self.old) }
     {
         if !self.has_power {
             return Ok(());

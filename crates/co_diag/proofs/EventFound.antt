@@ -1,5 +1,6 @@
 -- The events that set what they can't are found.
-use Rattle.std.proofs.Common.{◌≡◌, ℕ, Bool, true, false, not, List, filter_map, Contains, Option, Some, None, Result, Ok, Err, refl, sym, ap, subst}
+use Rattle.std.proofs.Common.{◌≡◌, ℕ, Bool, true, false, not, List, filter_map, Contains, Option, Some, None, Result}
+use Rattle.std.proofs.Common.{Ok, Err, refl, sym, ap, subst}
 use Rattle.std.specs.Prelude.{if◌then◌else◌, option_map, option_and_then}
 use Rattle.std.specs.FinMap.{entries, get}
 use Rattle.std.specs.Option.{option_map_or}
@@ -15,15 +16,15 @@ use Rattle.co_scenario.specs.declared.timed_event.TimedEvent.{TimedEvent}
 use Rattle.eds_device.specs.Entries.{entry_at}
 use Rattle.co_params.specs.declared.parameter_fault.ParameterFault.{ParameterFault}
 use Rattle.co_params.specs.declared.parameter_fault.ParameterFault.TheVariants as parameter
-use Rattle.co_params.specs.Judgement.{judged_set}
+use Rattle.co_params.specs.Judgement.{set_bytes}
 use Rattle.co_params.proofs.WrittenLemmas.{Contains-filter_map, from_filter_map}
 use Rattle.co_project.specs.Project.{Content}
-use Rattle.co_network.specs.Network.{Member, member_at}
+use Rattle.project_plan.specs.Network.{Member, member_at}
 use Rattle.diag_lines.specs.declared.diag.Diag.{Diag}
 use Rattle.diag_lines.specs.declared.subject.Subject.TheVariants as of
 use Rattle.co_diag.specs.Faults.{parameter_code}
 use Rattle.co_diag.specs.Holds.{SetsUnfitValue, HoldsOf, Holds}
-use Rattle.co_diag.specs.Found.{said, set_fault, unfit_event}
+use Rattle.co_diag.specs.Found.{diagnostic, set_fault, unfit_event}
 use Rattle.co_diag.proofs.MemberLemmas.{at_entry, entry_of}
 
 -- ---- which faults there are
@@ -36,19 +37,22 @@ of_sets parameter.NotWritable = false
 of_sets parameter.Unreadable = true
 of_sets parameter.OutsideLimits = false
 
-set_faults : (entry : Option Entry) (text : List ℕ) (node : ℕ) (fault : ParameterFault) → judged_set entry text node ≡ Err fault → of_sets fault ≡ true
-unfolding judged_set of_sets
+set_faults : (entry : Option Entry) (text : List ℕ) (node : ℕ) (fault : ParameterFault)
+    → set_bytes entry text node ≡ Err fault → of_sets fault ≡ true
+unfolding set_bytes of_sets
 set_faults None text node fault h = let same : parameter.NoEntry ≡ fault = cc in ap of_sets (sym same)
 set_faults (Some entry) text node fault h = by (is_modelled entry.kind) (value entry.kind text node) h
   where
-    by : (b : Bool) (o : Option (List ℕ)) → (let unmodelled : Result (List ℕ) ParameterFault = Err parameter.NotModelled in let unreadable : Result (List ℕ) ParameterFault = Err parameter.Unreadable in
+    by : (b : Bool) (o : Option (List ℕ)) → (let unmodelled : Result (List ℕ) ParameterFault = Err parameter.NotModelled
+        in let unreadable : Result (List ℕ) ParameterFault = Err parameter.Unreadable in
         (if not b then unmodelled else option_map_or Ok o unreadable) ≡ Err fault) → of_sets fault ≡ true
     by false o h = let same : parameter.NotModelled ≡ fault = cc in ap of_sets (sym same)
     by true None h = let same : parameter.Unreadable ≡ fault = cc in ap of_sets (sym same)
     by true (Some bytes) h = cc
 
 -- each fault of what an event sets has its code
-of_code : (p : Content) (fault : ParameterFault) (number : ℕ) → of_sets fault ≡ true → SetsUnfitValue p fault number → HoldsOf p (parameter_code fault) (of.Event number)
+of_code : (p : Content) (fault : ParameterFault) (number : ℕ) → of_sets fault ≡ true → SetsUnfitValue p fault number
+    → HoldsOf p (parameter_code fault) (of.Event number)
 unfolding of_sets
 of_code p parameter.NoEntry number is h = h
 of_code p parameter.NotModelled number is h = h
@@ -63,30 +67,44 @@ record Unfit (p : Content) (number time : ℕ) (e : Event) (d : Diag) : Type 0 w
   fault : ParameterFault
   sets : get p.events number ≡ Some (record { time = time; event = e }) → SetsUnfitValue p fault number
   possible : of_sets fault ≡ true
-  is : said (parameter_code fault) (of.Event number) ≡ d
+  is : diagnostic (parameter_code fault) (of.Event number) ≡ d
 
-unfit_by : (p : Content) (number time : ℕ) (e : Event) (d : Diag) → set_fault p number e ≡ Some d → Unfit p number time e d
+unfit_by : (p : Content) (number time : ℕ) (e : Event) (d : Diag) → set_fault p number e ≡ Some d
+    → Unfit p number time e d
 unfit_by p number time (event.Power node on) d h = cc
 unfit_by p number time (event.Nmt node command) d h = cc
 unfit_by p number time (event.Set node index sub text) d h = by (member_at p node) refl h
   where
     judge : Member → Result (List ℕ) ParameterFault
-    judge m = judged_set (entry_at m.sections node index sub) text node
+    judge m = set_bytes (entry_at m.sections node index sub) text node
 
     with : (m : Member) → member_at p node ≡ Some m → (r : Result (List ℕ) ParameterFault) → judge m ≡ r
-        → option_map (λ fault. said (parameter_code fault) (of.Event number)) (result_err r) ≡ Some d → Unfit p number time (event.Set node index sub text) d
+        → option_map (λ fault. diagnostic (parameter_code fault) (of.Event number)) (result_err r) ≡ Some d
+        → Unfit p number time (event.Set node index sub text) d
     with m is (Ok bytes) j h = cc
     with m is (Err fault) j h =
-        let same : said (parameter_code fault) (of.Event number) ≡ d = cc in
+        let same : diagnostic (parameter_code fault) (of.Event number) ≡ d = cc in
         record {
           fault = fault;
-          sets = λ there. record { time = time; node = node; index = index; sub = sub; text = text; member = m; there = there; is = is; fails = j };
+          sets = λ there. record {
+            time = time;
+            node = node;
+            index = index;
+            sub = sub;
+            text = text;
+            member = m;
+            there = there;
+            is = is;
+            fails = j;
+          };
           possible = set_faults (entry_at m.sections node index sub) text node fault j;
           is = same;
         }
 
     by : (o : Option Member) → member_at p node ≡ o
-        → option_map (λ fault. said (parameter_code fault) (of.Event number)) (option_and_then (λ m. result_err (judge m)) o) ≡ Some d → Unfit p number time (event.Set node index sub text) d
+        → option_map (λ fault. diagnostic (parameter_code fault) (of.Event number))
+        (option_and_then (λ m. result_err (judge m)) o) ≡ Some d
+        → Unfit p number time (event.Set node index sub text) d
     by None is h = cc
     by (Some m) is h = with m is (judge m) refl h
 
@@ -95,14 +113,18 @@ unfolding unfit_event Holds
 events_hold p d c =
     let one = from_filter_map (unfit_event p) (entries p.events) d c in
     let u : Unfit p one.0.0 one.0.1.time one.0.1.event d = unfit_by p one.0.0 one.0.1.time one.0.1.event d one.2 in
-    subst (λ (x : Diag). HoldsOf p x.code x.subject) u.is (of_code p u.fault one.0.0 u.possible (u.sets (at_entry nat_cmp_total exact_unsigned p.events one.0 one.1)))
+    subst (λ (x : Diag). HoldsOf p x.code x.subject) u.is
+    (of_code p u.fault one.0.0 u.possible (u.sets (at_entry nat_cmp_total exact_unsigned p.events one.0 one.1)))
 
 -- ---- what holds is found
 
 pub events_listed : (p : Content) (fault : ParameterFault) (number : ℕ) → SetsUnfitValue p fault number
-    → Contains (filter_map (unfit_event p) (entries p.events)) (said (parameter_code fault) (of.Event number))
+    → Contains (filter_map (unfit_event p) (entries p.events)) (diagnostic (parameter_code fault) (of.Event number))
 unfolding unfit_event
 events_listed p fault number h =
     let e : TimedEvent = record { time = h.time; event = event.Set h.node h.index h.sub h.text } in
-    let found : unfit_event p (number, e) ≡ Some (said (parameter_code fault) (of.Event number)) = rw (h.is, h.fails) refl in
-    Contains-filter_map (unfit_event p) (entries p.events) (number, e) (said (parameter_code fault) (of.Event number)) (entry_of nat_cmp_total exact_unsigned p.events number e h.there) found
+    let found : unfit_event p (number, e) ≡ Some (diagnostic (parameter_code fault) (of.Event number)) =
+    rw (h.is, h.fails) refl in
+    Contains-filter_map (unfit_event p) (entries p.events) (number, e)
+    (diagnostic (parameter_code fault) (of.Event number))
+    (entry_of nat_cmp_total exact_unsigned p.events number e h.there) found

@@ -6,9 +6,13 @@ use Rattle.std.proofs.lemmas.List.Elements.{Contains-append_cases, Contains-appe
 use Rattle.co_params.specs.declared.parameter_fault.ParameterFault.TheVariants as parameter
 use Rattle.pdo_plan.specs.declared.message_fault.MessageFault.TheVariants as message
 use Rattle.co_project.specs.Project.{Content}
-use Rattle.co_network.specs.Network.{project_plan}
+use Rattle.project_plan.specs.Network.{plan_of_project}
 use Rattle.diag_lines.specs.declared.code.Code.{Code}
-use Rattle.diag_lines.specs.declared.code.Code.TheVariants.{NoEntry, Unreadable, OutsideLimits, NotWritable, NoObjects, TpdoTaken, TooManyBits, NotMappable, Mismatched, NoRpdo, NoDummy, BadIdentifier, NoIdentifier, ReservedType, SharedIdentifier, NotModelled, RemoteType, NoSync, UnfitConsumer, SkippedLine}
+use Rattle.diag_lines.specs.declared.code.Code.TheVariants.{NoEntry, Unreadable, OutsideLimits, NotWritable, NoObjects}
+use Rattle.diag_lines.specs.declared.code.Code.TheVariants.{TpdoTaken, TooManyBits, NotMappable, Mismatched, NoRpdo}
+use Rattle.diag_lines.specs.declared.code.Code.TheVariants.{NoDummy, BadIdentifier, NoIdentifier, ReservedType}
+use Rattle.diag_lines.specs.declared.code.Code.TheVariants.{SharedIdentifier, NotModelled, RemoteType, NoSync}
+use Rattle.diag_lines.specs.declared.code.Code.TheVariants.{UnfitConsumer, SkippedLine}
 use Rattle.diag_lines.specs.declared.subject.Subject.{Subject}
 use Rattle.diag_lines.specs.declared.subject.Subject.TheVariants as of
 use Rattle.diag_lines.specs.declared.diag.Diag.{Diag}
@@ -16,14 +20,17 @@ use Rattle.co_diag.specs.Values.{members}
 use Rattle.diag_lines.specs.Order.{diag_cmp}
 use Rattle.diag_lines.specs.Sets.{IsListOf, sorted_set}
 use Rattle.co_diag.specs.Holds.{HoldsOf, Holds}
-use Rattle.co_diag.specs.Found.{said, unfit_parameters, unreadable_defaults, unfit_consumers, shared_identifiers, message_faults, remote_type, no_sync, unfit_event, skipped_lines, found, diagnostics_of}
+use Rattle.co_diag.specs.Found.{diagnostic, unfit_parameters, unreadable_defaults, unfit_consumers, shared_identifiers}
+use Rattle.co_diag.specs.Found.{message_faults, remote_type, no_sync, unfit_event, skipped_lines, diagnostics_found}
+use Rattle.co_diag.specs.Found.{diagnostics_of}
 use Rattle.diag_lines.proofs.OrderLemmas.{diag_total, diag_exact}
 use Rattle.diag_lines.proofs.SetLemmas.{one_list, same_sets, set_is}
 use Rattle.co_diag.proofs.ParameterFound.{parameters_hold, parameters_listed}
 use Rattle.co_diag.proofs.DefaultFound.{defaults_hold, defaults_listed}
 use Rattle.co_diag.proofs.ConsumerFound.{consumers_hold, consumers_listed}
 use Rattle.co_diag.proofs.SharedFound.{shared_hold, shared_listed}
-use Rattle.co_diag.proofs.MessageFound.{messages_hold, messages_listed, remote_types_hold, remote_types_listed, no_syncs_hold, no_syncs_listed}
+use Rattle.co_diag.proofs.MessageFound.{messages_hold, messages_listed, remote_types_hold, remote_types_listed}
+use Rattle.co_diag.proofs.MessageFound.{no_syncs_hold, no_syncs_listed}
 use Rattle.co_diag.proofs.EventFound.{events_hold, events_listed}
 use Rattle.co_diag.proofs.TextFound.{lines_hold, lines_listed}
 
@@ -38,7 +45,7 @@ abbrev consumers : Content → List Diag
 consumers p = flat_map (unfit_consumers p) (members p)
 
 abbrev messages : Content → List Diag
-messages p = flat_map message_faults (project_plan p)
+messages p = flat_map message_faults (plan_of_project p)
 
 abbrev remote_types : Content → List Diag
 remote_types p = filter_map remote_type (entries p.messages)
@@ -53,7 +60,8 @@ abbrev lines : Content → List Diag
 lines p = flat_map skipped_lines (entries p.texts)
 
 -- what is found of one of two lists
-of_either : (xs ys : List Diag) (P : Diag → Type 0) (d : Diag) → (Contains xs d → P d) → (Contains ys d → P d) → Contains (xs ++ ys) d → P d
+of_either : (xs ys : List Diag) (P : Diag → Type 0) (d : Diag) → (Contains xs d → P d) → (Contains ys d → P d)
+    → Contains (xs ++ ys) d → P d
 of_either xs ys P d first second c = by (Contains-append_cases xs ys d c)
   where
     by : Contains xs d ⊎ Contains ys d → P d
@@ -83,8 +91,8 @@ abbrev to_events : Content → List Diag
 to_events p = to_no_syncs p ++ events p
 
 -- what is found holds
-all_hold : (p : Content) (d : Diag) → Contains (found p) d → Holds p d
-unfolding found
+all_hold : (p : Content) (d : Diag) → Contains (diagnostics_found p) d → Holds p d
+unfolding diagnostics_found
 all_hold p d =
     of_either (to_events p) (lines p) (Holds p) d
     (of_either (to_no_syncs p) (events p) (Holds p) d
@@ -106,58 +114,59 @@ all_hold p d =
 
 -- where each group stands
 module _ (p : Content) (d : Diag) where
-  up_to_events : Contains (to_events p) d → Contains (found p) d
-  unfolding found
+  up_to_events : Contains (to_events p) d → Contains (diagnostics_found p) d
+  unfolding diagnostics_found
   up_to_events c = Contains-append_left (to_events p) (lines p) d c
 
-  in_lines : Contains (lines p) d → Contains (found p) d
-  unfolding found
+  in_lines : Contains (lines p) d → Contains (diagnostics_found p) d
+  unfolding diagnostics_found
   in_lines c = Contains-append_right (to_events p) (lines p) d c
 
-  up_to_no_syncs : Contains (to_no_syncs p) d → Contains (found p) d
+  up_to_no_syncs : Contains (to_no_syncs p) d → Contains (diagnostics_found p) d
   up_to_no_syncs c = up_to_events (Contains-append_left (to_no_syncs p) (events p) d c)
 
-  in_events : Contains (events p) d → Contains (found p) d
+  in_events : Contains (events p) d → Contains (diagnostics_found p) d
   in_events c = up_to_events (Contains-append_right (to_no_syncs p) (events p) d c)
 
-  up_to_remote_types : Contains (to_remote_types p) d → Contains (found p) d
+  up_to_remote_types : Contains (to_remote_types p) d → Contains (diagnostics_found p) d
   up_to_remote_types c = up_to_no_syncs (Contains-append_left (to_remote_types p) (no_syncs p) d c)
 
-  in_no_syncs : Contains (no_syncs p) d → Contains (found p) d
+  in_no_syncs : Contains (no_syncs p) d → Contains (diagnostics_found p) d
   in_no_syncs c = up_to_no_syncs (Contains-append_right (to_remote_types p) (no_syncs p) d c)
 
-  up_to_messages : Contains (to_messages p) d → Contains (found p) d
+  up_to_messages : Contains (to_messages p) d → Contains (diagnostics_found p) d
   up_to_messages c = up_to_remote_types (Contains-append_left (to_messages p) (remote_types p) d c)
 
-  in_remote_types : Contains (remote_types p) d → Contains (found p) d
+  in_remote_types : Contains (remote_types p) d → Contains (diagnostics_found p) d
   in_remote_types c = up_to_remote_types (Contains-append_right (to_messages p) (remote_types p) d c)
 
-  up_to_shared : Contains (to_shared p) d → Contains (found p) d
+  up_to_shared : Contains (to_shared p) d → Contains (diagnostics_found p) d
   up_to_shared c = up_to_messages (Contains-append_left (to_shared p) (messages p) d c)
 
-  in_messages : Contains (messages p) d → Contains (found p) d
+  in_messages : Contains (messages p) d → Contains (diagnostics_found p) d
   in_messages c = up_to_messages (Contains-append_right (to_shared p) (messages p) d c)
 
-  up_to_consumers : Contains (to_consumers p) d → Contains (found p) d
+  up_to_consumers : Contains (to_consumers p) d → Contains (diagnostics_found p) d
   up_to_consumers c = up_to_shared (Contains-append_left (to_consumers p) (shared_identifiers p) d c)
 
-  in_shared : Contains (shared_identifiers p) d → Contains (found p) d
+  in_shared : Contains (shared_identifiers p) d → Contains (diagnostics_found p) d
   in_shared c = up_to_shared (Contains-append_right (to_consumers p) (shared_identifiers p) d c)
 
-  up_to_defaults : Contains (to_defaults p) d → Contains (found p) d
+  up_to_defaults : Contains (to_defaults p) d → Contains (diagnostics_found p) d
   up_to_defaults c = up_to_consumers (Contains-append_left (to_defaults p) (consumers p) d c)
 
-  in_consumers : Contains (consumers p) d → Contains (found p) d
+  in_consumers : Contains (consumers p) d → Contains (diagnostics_found p) d
   in_consumers c = up_to_consumers (Contains-append_right (to_defaults p) (consumers p) d c)
 
-  in_parameters : Contains (parameters p) d → Contains (found p) d
+  in_parameters : Contains (parameters p) d → Contains (diagnostics_found p) d
   in_parameters c = up_to_defaults (Contains-append_left (parameters p) (defaults p) d c)
 
-  in_defaults : Contains (defaults p) d → Contains (found p) d
+  in_defaults : Contains (defaults p) d → Contains (diagnostics_found p) d
   in_defaults c = up_to_defaults (Contains-append_right (parameters p) (defaults p) d c)
 
 -- what holds is found
-all_listed : (p : Content) (code : Code) (subject : Subject) → HoldsOf p code subject → Contains (found p) (said code subject)
+all_listed : (p : Content) (code : Code) (subject : Subject) → HoldsOf p code subject
+    → Contains (diagnostics_found p) (diagnostic code subject)
 all_listed p NoEntry (of.Param n i s) h = in_parameters p _ (parameters_listed p parameter.NoEntry n i s h)
 all_listed p NoEntry (of.Event k) h = in_events p _ (events_listed p parameter.NoEntry k h)
 all_listed p NotModelled (of.Param n i s) h = in_parameters p _ (parameters_listed p parameter.NotModelled n i s h)
@@ -184,20 +193,22 @@ all_listed p UnfitConsumer (of.Node n s) h = in_consumers p _ (consumers_listed 
 all_listed p SkippedLine (of.Eds name line) h = in_lines p _ (lines_listed p name line h)
 all_listed p code subject h = absurd h
 
-found_holds : (p : Content) (d : Diag) → Contains (found p) d ↔ Holds p d
+found_holds : (p : Content) (d : Diag) → Contains (diagnostics_found p) d ↔ Holds p d
 unfolding Holds
 found_holds p d = (all_hold p d, all_listed p d.code d.subject)
 
 -- THE LIST has exactly what holds, each once, in order
 pub the_list : (p : Content) → IsListOf diag_cmp (Holds p) (diagnostics_of p)
 unfolding diagnostics_of
-the_list p = set_is diag_total diag_exact (Holds p) (found p) (found_holds p)
+the_list p = set_is diag_total diag_exact (Holds p) (diagnostics_found p) (found_holds p)
 
 -- and there is no other
-pub two_lists : (p : Content) (xs ys : List Diag) → IsListOf diag_cmp (Holds p) xs → IsListOf diag_cmp (Holds p) ys → xs ≡ ys
+pub two_lists : (p : Content) (xs ys : List Diag) → IsListOf diag_cmp (Holds p) xs → IsListOf diag_cmp (Holds p) ys
+    → xs ≡ ys
 two_lists p xs ys = one_list diag_total (Holds p) xs ys
 
 -- what has all that is found, in any order and however often, sorted
-pub collected : (p : Content) (ds : List Diag) → ((d : Diag) → Contains ds d ↔ Contains (found p) d) → sorted_set diag_cmp ds ≡ diagnostics_of p
+pub collected : (p : Content) (ds : List Diag) → ((d : Diag) → Contains ds d ↔ Contains (diagnostics_found p) d)
+    → sorted_set diag_cmp ds ≡ diagnostics_of p
 unfolding diagnostics_of
-collected p ds same = same_sets diag_total diag_exact ds (found p) same
+collected p ds same = same_sets diag_total diag_exact ds (diagnostics_found p) same

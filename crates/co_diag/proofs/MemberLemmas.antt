@@ -1,5 +1,6 @@
 -- The nodes of a project with their devices, and the places that these have.
-use Rattle.std.proofs.Common.{◌≡◌, ℕ, true, false, List, [], ◌∷◌, Contains, filter_map, Bool, Option, Some, None, cond, refl, sym, ap, subst, ◌∙◌}
+use Rattle.std.proofs.Common.{◌≡◌, ℕ, true, false, List, [], ◌∷◌, Contains, filter_map, Bool, Option, Some, None, cond}
+use Rattle.std.proofs.Common.{refl, sym, ap, subst, ◌∙◌}
 use Rattle.std.specs.Prelude.{option_map, option_and_then}
 use Rattle.std.specs.declared.cmp.Ordering.{Ordering}
 use Rattle.std.specs.Ordering.{eq_by_cmp}
@@ -15,15 +16,16 @@ use Rattle.co_base.proofs.TableLemmas.{alike}
 use Rattle.co_values.specs.declared.form.Width.{Width}
 use Rattle.co_values.specs.declared.data_type.DataType.TheVariants.{NotModelled}
 use Rattle.co_values.specs.Types.{form}
-use Rattle.eds_device.specs.Described.{Described, described, described_by, kind_at, unless_empty, value_by, value_text}
+use Rattle.eds_device.specs.Described.{Described, description_of, description_by, kind_at, unless_empty, value_by}
+use Rattle.eds_device.specs.Described.{value_text}
 use Rattle.eds_device.specs.Origins.{Origin, origin_of}
 use Rattle.eds_device.specs.Places.{pairs_of}
 use Rattle.eds_device.proofs.LawLemmas.{rules_give}
 use Rattle.co_params.proofs.WrittenLemmas.{Contains-filter_map, from_filter_map}
-use Rattle.pdo_devices.specs.Devices.{is_unsigned_form}
+use Rattle.pdo_stations.specs.Devices.{is_unsigned_form}
 use Rattle.co_project.specs.declared.node.Node.{Node}
 use Rattle.co_project.specs.Project.{Content}
-use Rattle.co_network.specs.Network.{Member, with_sections, member_at}
+use Rattle.project_plan.specs.Network.{Member, with_sections, member_at}
 use Rattle.co_diag.specs.Values.{members}
 use Rattle.diag_lines.proofs.ListLemmas.{Contains-first, Contains-later}
 
@@ -32,13 +34,15 @@ use Rattle.diag_lines.proofs.ListLemmas.{Contains-first, Contains-later}
 module _ {K X : Type 0} {R : K → K → Ordering} (total : IsTotalOrder R) (exact : CmpEqualImpliesEq R) where
   -- what is among the entries is found
   pub at_entry : (m : FinMap R X) (e : K × X) → Contains (entries m) e → get m e.0 ≡ Some e.1
-  at_entry m e c = All-contains (λ x. get m x.0 ≡ Some x.1) (entries m) e (all_entries total exact (λ k v. get m k ≡ Some v) m (each_there m)) c
+  at_entry m e c = All-contains (λ x. get m x.0 ≡ Some x.1)
+      (entries m) e (all_entries total exact (λ k v. get m k ≡ Some v) m (each_there m)) c
 
   found_among : (es : List (K × X)) (k : K) (v : X) → find R k es ≡ Some v → Contains es (k, v)
   found_among [] k v h = cc
   found_among (e ∷ es) k v h = by (eq_by_cmp R k e.0) refl h (found_among es k v)
     where
-      by : (t : Bool) → eq_by_cmp R k e.0 ≡ t → cond t (Some e.1) (find R k es) ≡ Some v → (find R k es ≡ Some v → Contains es (k, v)) → Contains (e ∷ es) (k, v)
+      by : (t : Bool) → eq_by_cmp R k e.0 ≡ t → cond t (Some e.1) (find R k es) ≡ Some v
+          → (find R k es ≡ Some v → Contains es (k, v)) → Contains (e ∷ es) (k, v)
       by true tie h rest =
           let key : e.0 ≡ k = sym (alike total exact k e.0 tie) in
           let same : e.1 ≡ v = cc in
@@ -58,18 +62,22 @@ member_found p e c =
     let from = from_filter_map (λ x. option_map (λ m. (x.0, m)) (with_sections p x.1)) (entries p.nodes) e c in
     by from.0 (at_entry nat_cmp_total exact_unsigned p.nodes from.0 from.1) (with_sections p from.0.1) refl from.2
   where
-    by : (x : ℕ × Node) → get p.nodes x.0 ≡ Some x.1 → (o : Option Member) → with_sections p x.1 ≡ o → option_map (λ m. (x.0, m)) o ≡ Some e
+    by : (x : ℕ × Node) → get p.nodes x.0 ≡ Some x.1 → (o : Option Member) → with_sections p x.1 ≡ o
+        → option_map (λ m. (x.0, m)) o ≡ Some e
         → option_and_then (with_sections p) (get p.nodes e.0) ≡ Some e.1
     by x there None is h = cc
     by x there (Some m) is h =
         let same : ◌≡◌ {A = ℕ × Member} (x.0, m) e = cc in
-        subst (λ (y : ℕ × Member). option_and_then (with_sections p) (get p.nodes y.0) ≡ Some y.1) same (ap (option_and_then (with_sections p)) there ∙ is)
+        subst (λ (y : ℕ × Member). option_and_then (with_sections p) (get p.nodes y.0)
+        ≡ Some y.1) same (ap (option_and_then (with_sections p)) there ∙ is)
 
 pub member_listed : (p : Content) (n : ℕ) (m : Member) → member_at p n ≡ Some m → Contains (members p) (n, m)
 unfolding members member_at
 member_listed p n m h = by (get p.nodes n) refl h
   where
-    by : (o : Option Node) → get p.nodes n ≡ o → option_and_then (with_sections p) o ≡ Some m → Contains {X = ℕ × Member} (filter_map (λ e. option_map (λ m. (e.0, m)) (with_sections p e.1)) (entries p.nodes)) (n, m)
+    by : (o : Option Node) → get p.nodes n ≡ o → option_and_then (with_sections p) o ≡ Some m
+        → Contains {X = ℕ × Member} (filter_map (λ e. option_map (λ m. (e.0, m)) (with_sections p e.1))
+        (entries p.nodes)) (n, m)
     by None is h = cc
     by (Some node) is h =
         Contains-filter_map (λ e. option_map (λ m. (e.0, m)) (with_sections p e.1)) (entries p.nodes) (n, node) (n, m)
@@ -78,11 +86,12 @@ member_listed p n m h = by (get p.nodes n) refl h
 -- ---- places
 
 module _ (ss : List Section) (place : ℕ × ℕ) where
-  pub described_there : (d : Described) → described ss place.0 place.1 ≡ Some d → Contains (pairs_of ss) place
-  unfolding described
+  pub described_there : (d : Described) → description_of ss place.0 place.1 ≡ Some d → Contains (pairs_of ss) place
+  unfolding description_of
   described_there d h = by (origin_of ss place.0 place.1) refl h
     where
-      by : (o : Option Origin) → origin_of ss place.0 place.1 ≡ o → option_map (described_by place.1) o ≡ Some d → Contains (pairs_of ss) place
+      by : (o : Option Origin) → origin_of ss place.0 place.1 ≡ o → option_map (description_by place.1) o ≡ Some d
+          → Contains (pairs_of ss) place
       by None is h = cc
       by (Some origin) is h = rules_give ss place.0 place.1 origin is
 
@@ -90,15 +99,20 @@ module _ (ss : List Section) (place : ℕ × ℕ) where
   unfolding value_text
   value_there text h = by (origin_of ss place.0 place.1) refl h
     where
-      by : (o : Option Origin) → origin_of ss place.0 place.1 ≡ o → option_and_then unless_empty (option_and_then (value_by ss place.0 place.1) o) ≡ Some text → Contains (pairs_of ss) place
+      by : (o : Option Origin) → origin_of ss place.0 place.1 ≡ o
+          → option_and_then unless_empty (option_and_then (value_by ss place.0 place.1) o) ≡ Some text
+          → Contains (pairs_of ss) place
       by None is h = cc
       by (Some origin) is h = rules_give ss place.0 place.1 origin is
 
   -- only what is described has a type
-  pub unsigned_there : (width : Width) → is_unsigned_form width (form (kind_at ss place)) ≡ true → Contains (pairs_of ss) place
+  pub unsigned_there : (width : Width) → is_unsigned_form width (form (kind_at ss place)) ≡ true
+      → Contains (pairs_of ss) place
   unfolding kind_at
-  unsigned_there width h = by (described ss place.0 place.1) refl h
+  unsigned_there width h = by (description_of ss place.0 place.1) refl h
     where
-      by : (o : Option Described) → described ss place.0 place.1 ≡ o → is_unsigned_form width (form (option_map_or (λ (d : Described). d.kind) o NotModelled)) ≡ true → Contains (pairs_of ss) place
+      by : (o : Option Described) → description_of ss place.0 place.1 ≡ o
+          → is_unsigned_form width (form (option_map_or (λ (d : Described). d.kind) o NotModelled)) ≡ true
+          → Contains (pairs_of ss) place
       by None is h = cc
       by (Some d) is h = described_there d is

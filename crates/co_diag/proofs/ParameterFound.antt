@@ -1,5 +1,6 @@
 -- The parameters with a fault are found.
-use Rattle.std.proofs.Common.{◌≡◌, ◌⊎◌, inl, inr, ℕ, Bool, true, false, List, ◌++◌, Contains, Option, Some, None, Result, Ok, Err, refl, subst}
+use Rattle.std.proofs.Common.{◌≡◌, ◌⊎◌, inl, inr, ℕ, Bool, true, false, List, ◌++◌, Contains, Option, Some, None}
+use Rattle.std.proofs.Common.{Result, Ok, Err, refl, subst}
 use Rattle.std.specs.Prelude.{filter_map, if◌then◌else◌, option_map, option_and_then}
 use Rattle.std.specs.FinMap.{entries, get}
 use Rattle.std.specs.List.{flat_map}
@@ -13,17 +14,17 @@ use Rattle.eds_device.specs.Entries.{entry_at}
 use Rattle.eds_device.specs.Places.{pairs_of}
 use Rattle.co_params.specs.declared.parameter_fault.ParameterFault.{ParameterFault}
 use Rattle.co_params.specs.declared.parameter_fault.ParameterFault.TheVariants as parameter
-use Rattle.co_params.specs.Judgement.{judged}
+use Rattle.co_params.specs.Judgement.{parameter_bytes}
 use Rattle.co_params.specs.Parameters.{given_text, parameter_text}
 use Rattle.co_params.proofs.WrittenLemmas.{Contains-filter_map, from_filter_map}
 use Rattle.co_project.specs.Project.{Content}
-use Rattle.co_network.specs.Network.{Member, member_at}
+use Rattle.project_plan.specs.Network.{Member, member_at}
 use Rattle.diag_lines.specs.declared.diag.Diag.{Diag}
 use Rattle.diag_lines.specs.declared.subject.Subject.TheVariants as of
 use Rattle.co_diag.specs.Faults.{parameter_code}
 use Rattle.co_diag.specs.Values.{members}
 use Rattle.co_diag.specs.Holds.{HasUnfitParameter, HoldsOf, Holds}
-use Rattle.co_diag.specs.Found.{said, unfit_parameter, unfit_parameters}
+use Rattle.co_diag.specs.Found.{diagnostic, parameter_diagnostic, unfit_parameters}
 use Rattle.co_diag.proofs.ListLemmas.{Contains-flat_map, from_flat_map}
 use Rattle.co_diag.proofs.MemberLemmas.{entry_of, member_found, member_listed, value_there}
 
@@ -34,23 +35,25 @@ record Unfit (e : ℕ × Member) (place : ℕ × ℕ) (d : Diag) : Type 0 where
   fault : ParameterFault
   text : List ℕ
   given : parameter_text e.1.sections e.1.node.params place ≡ Some text
-  fails : judged (entry_at e.1.sections e.0 place.0 place.1) text e.0 ≡ Err fault
-  is : said (parameter_code fault) (of.Param e.0 place.0 place.1) ≡ d
+  fails : parameter_bytes (entry_at e.1.sections e.0 place.0 place.1) text e.0 ≡ Err fault
+  is : diagnostic (parameter_code fault) (of.Param e.0 place.0 place.1) ≡ d
 
-unfit_by : (e : ℕ × Member) (place : ℕ × ℕ) (d : Diag) → unfit_parameter e place ≡ Some d → Unfit e place d
-unfolding unfit_parameter
+unfit_by : (e : ℕ × Member) (place : ℕ × ℕ) (d : Diag) → parameter_diagnostic e place ≡ Some d → Unfit e place d
+unfolding parameter_diagnostic
 unfit_by e place d h = with (parameter_text e.1.sections e.1.node.params place) refl h
   where
     judge : List ℕ → Result (List ℕ) ParameterFault
-    judge text = judged (entry_at e.1.sections e.0 place.0 place.1) text e.0
+    judge text = parameter_bytes (entry_at e.1.sections e.0 place.0 place.1) text e.0
 
     of_fault : ParameterFault → Diag
-    of_fault fault = said (parameter_code fault) (of.Param e.0 place.0 place.1)
+    of_fault fault = diagnostic (parameter_code fault) (of.Param e.0 place.0 place.1)
 
-    by : (text : List ℕ) → parameter_text e.1.sections e.1.node.params place ≡ Some text → (r : Result (List ℕ) ParameterFault) → judge text ≡ r
+    by : (text : List ℕ) → parameter_text e.1.sections e.1.node.params place ≡ Some text
+        → (r : Result (List ℕ) ParameterFault) → judge text ≡ r
         → option_map of_fault (result_err r) ≡ Some d → Unfit e place d
     by text given (Ok bytes) j h = cc
-    by text given (Err fault) j h = let same : of_fault fault ≡ d = cc in record { fault = fault; text = text; given = given; fails = j; is = same }
+    by text given (Err fault) j h = let same : of_fault fault ≡ d = cc
+        in record { fault = fault; text = text; given = given; fails = j; is = same }
 
     with : (o : Option (List ℕ)) → parameter_text e.1.sections e.1.node.params place ≡ o
         → option_map of_fault (option_and_then (λ text. result_err (judge text)) o) ≡ Some d → Unfit e place d
@@ -58,18 +61,21 @@ unfit_by e place d h = with (parameter_text e.1.sections e.1.node.params place) 
     with (Some text) given h = by text given (judge text) refl h
 
 -- each fault of a parameter has its code
-of_code : (p : Content) (fault : ParameterFault) (node index sub : ℕ) → HasUnfitParameter p fault node index sub → HoldsOf p (parameter_code fault) (of.Param node index sub)
+of_code : (p : Content) (fault : ParameterFault) (node index sub : ℕ) → HasUnfitParameter p fault node index sub
+    → HoldsOf p (parameter_code fault) (of.Param node index sub)
 of_code p parameter.NoEntry node index sub h = h
 of_code p parameter.NotModelled node index sub h = h
 of_code p parameter.NotWritable node index sub h = h
 of_code p parameter.Unreadable node index sub h = h
 of_code p parameter.OutsideLimits node index sub h = h
 
-unfit_holds : (p : Content) (e : ℕ × Member) (place : ℕ × ℕ) (d : Diag) → member_at p e.0 ≡ Some e.1 → unfit_parameter e place ≡ Some d → Holds p d
+unfit_holds : (p : Content) (e : ℕ × Member) (place : ℕ × ℕ) (d : Diag) → member_at p e.0 ≡ Some e.1
+    → parameter_diagnostic e place ≡ Some d → Holds p d
 unfolding Holds
 unfit_holds p e place d is h =
     let u : Unfit e place d = unfit_by e place d h in
-    let holds : HasUnfitParameter p u.fault e.0 place.0 place.1 = record { member = e.1; text = u.text; is = is; given = u.given; fails = u.fails } in
+    let holds : HasUnfitParameter p u.fault e.0 place.0 place.1 =
+    record { member = e.1; text = u.text; is = is; given = u.given; fails = u.fails } in
     subst (λ (x : Diag). HoldsOf p x.code x.subject) u.is (of_code p u.fault e.0 place.0 place.1 holds)
 
 pub parameters_hold : (p : Content) (d : Diag) → Contains (flat_map unfit_parameters (members p)) d → Holds p d
@@ -77,32 +83,41 @@ unfolding unfit_parameters
 parameters_hold p d c =
     let at = from_flat_map unfit_parameters (members p) d c in
     by at.0 (member_found p at.0 at.1)
-    (Contains-append_cases (filter_map (λ own. unfit_parameter at.0 own.0) (entries at.0.1.node.params)) (filter_map (unfit_parameter at.0) (pairs_of at.0.1.sections)) d at.2)
+    (Contains-append_cases (filter_map (λ own. parameter_diagnostic at.0 own.0) (entries at.0.1.node.params))
+    (filter_map (parameter_diagnostic at.0) (pairs_of at.0.1.sections)) d at.2)
   where
     by : (e : ℕ × Member) → member_at p e.0 ≡ Some e.1
-        → Contains (filter_map (λ own. unfit_parameter e own.0) (entries e.1.node.params)) d ⊎ Contains (filter_map (unfit_parameter e) (pairs_of e.1.sections)) d → Holds p d
-    by e is (inl own) = let one = from_filter_map (λ own. unfit_parameter e own.0) (entries e.1.node.params) d own in unfit_holds p e one.0.0 d is one.2
-    by e is (inr given) = let one = from_filter_map (unfit_parameter e) (pairs_of e.1.sections) d given in unfit_holds p e one.0 d is one.2
+        → Contains (filter_map (λ own. parameter_diagnostic e own.0) (entries e.1.node.params)) d
+        ⊎ Contains (filter_map (parameter_diagnostic e) (pairs_of e.1.sections)) d → Holds p d
+    by e is (inl own) = let one = from_filter_map (λ own. parameter_diagnostic e own.0) (entries e.1.node.params) d own
+        in unfit_holds p e one.0.0 d is one.2
+    by e is (inr given) = let one = from_filter_map (parameter_diagnostic e) (pairs_of e.1.sections) d given
+        in unfit_holds p e one.0 d is one.2
 
 -- ---- what holds is found
 
 -- a text that isn't the node's own is one of its device
-given_there : (m : Member) (place : ℕ × ℕ) (text : List ℕ) → option_and_then unless_empty (given_text m.sections place) ≡ Some text → Contains (pairs_of m.sections) place
+given_there : (m : Member) (place : ℕ × ℕ) (text : List ℕ)
+    → option_and_then unless_empty (given_text m.sections place) ≡ Some text → Contains (pairs_of m.sections) place
 given_there m place text h = by (is_of_pdos place.0) h
   where
-    with : (o : Option (List ℕ)) → value_text m.sections place.0 place.1 ≡ o → option_and_then unless_empty o ≡ Some text → Contains (pairs_of m.sections) place
+    with : (o : Option (List ℕ)) → value_text m.sections place.0 place.1 ≡ o
+        → option_and_then unless_empty o ≡ Some text → Contains (pairs_of m.sections) place
     with None is h = cc
     with (Some value) is h = value_there m.sections place value is
 
-    by : (b : Bool) → option_and_then unless_empty (if b then None else value_text m.sections place.0 place.1) ≡ Some text → Contains (pairs_of m.sections) place
+    by : (b : Bool) → option_and_then unless_empty (if b then None else value_text m.sections place.0 place.1)
+        ≡ Some text → Contains (pairs_of m.sections) place
     by true h = cc
     by false h = with (value_text m.sections place.0 place.1) refl h
 
-pub parameters_listed : (p : Content) (fault : ParameterFault) (node index sub : ℕ) → HasUnfitParameter p fault node index sub
-    → Contains (flat_map unfit_parameters (members p)) (said (parameter_code fault) (of.Param node index sub))
-unfolding unfit_parameters unfit_parameter parameter_text
+pub parameters_listed : (p : Content) (fault : ParameterFault) (node index sub : ℕ)
+    → HasUnfitParameter p fault node index sub
+    → Contains (flat_map unfit_parameters (members p)) (diagnostic (parameter_code fault) (of.Param node index sub))
+unfolding unfit_parameters parameter_diagnostic parameter_text
 parameters_listed p fault node index sub h =
-    Contains-flat_map unfit_parameters (members p) e d (member_listed p node h.member h.is) (among (get h.member.node.params place) refl h.given)
+    Contains-flat_map unfit_parameters (members p) e d (member_listed p node h.member h.is)
+    (among (get h.member.node.params place) refl h.given)
   where
     e : ℕ × Member
     e = (node, h.member)
@@ -111,22 +126,25 @@ parameters_listed p fault node index sub h =
     place = (index, sub)
 
     d : Diag
-    d = said (parameter_code fault) (of.Param node index sub)
+    d = diagnostic (parameter_code fault) (of.Param node index sub)
 
-    found : unfit_parameter e place ≡ Some d
+    found : parameter_diagnostic e place ≡ Some d
     found = rw (h.given, h.fails) refl
 
     own_ones : List Diag
-    own_ones = filter_map (λ own. unfit_parameter e own.0) (entries h.member.node.params)
+    own_ones = filter_map (λ own. parameter_diagnostic e own.0) (entries h.member.node.params)
 
     given_ones : List Diag
-    given_ones = filter_map (unfit_parameter e) (pairs_of h.member.sections)
+    given_ones = filter_map (parameter_diagnostic e) (pairs_of h.member.sections)
 
-    among : (o : Option (List ℕ)) → get h.member.node.params place ≡ o → option_and_then unless_empty (option_or o (given_text h.member.sections place)) ≡ Some h.text
+    among : (o : Option (List ℕ)) → get h.member.node.params place ≡ o
+        → option_and_then unless_empty (option_or o (given_text h.member.sections place)) ≡ Some h.text
         → Contains (own_ones ++ given_ones) d
     among (Some own) is g =
         Contains-append_left own_ones given_ones d
-        (Contains-filter_map (λ own. unfit_parameter e own.0) (entries h.member.node.params) (place, own) d (entry_of places_total places_exact h.member.node.params place own is) found)
+        (Contains-filter_map (λ own. parameter_diagnostic e own.0) (entries h.member.node.params)
+        (place, own) d (entry_of places_total places_exact h.member.node.params place own is) found)
     among None is g =
         Contains-append_right own_ones given_ones d
-        (Contains-filter_map (unfit_parameter e) (pairs_of h.member.sections) place d (given_there h.member place h.text g) found)
+        (Contains-filter_map (parameter_diagnostic e)
+        (pairs_of h.member.sections) place d (given_there h.member place h.text g) found)

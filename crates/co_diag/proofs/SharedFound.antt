@@ -1,5 +1,6 @@
 -- The identifiers that two or more TPDOs have are found.
-use Rattle.std.proofs.Common.{◌≡◌, ◌≤◌, ◌&&◌, ℕ, Bool, true, false, not, List, length, map, filter, filter_map, Contains, Option, Some, None, refl, sym, ap, subst, ◌∙◌, arith}
+use Rattle.std.proofs.Common.{◌≡◌, ◌≤◌, ◌&&◌, ℕ, Bool, true, false, not, List, length, map, filter, filter_map}
+use Rattle.std.proofs.Common.{Contains, Option, Some, None, refl, sym, ap, subst, ◌∙◌, arith}
 use Rattle.std.specs.Prelude.{◌==◌, if◌then◌else◌, nat_le, option_and_then}
 use Rattle.std.specs.Option.{option_map_or}
 use Rattle.std.proofs.lemmas.Bool.{eqb-true, le-leb, leb-true}
@@ -10,29 +11,32 @@ use Rattle.co_dict.specs.Pdos.{is_restricted}
 use Rattle.eds_device.specs.Places.{pairs_of}
 use Rattle.co_params.proofs.WrittenLemmas.{Contains-filter_map, from_filter_map}
 use Rattle.co_project.specs.Project.{Content}
-use Rattle.co_network.specs.Network.{Member}
+use Rattle.project_plan.specs.Network.{Member}
 use Rattle.diag_lines.specs.declared.code.Code.TheVariants.{SharedIdentifier}
 use Rattle.diag_lines.specs.declared.diag.Diag.{Diag}
 use Rattle.diag_lines.specs.declared.subject.Subject.TheVariants as of
 use Rattle.co_diag.specs.Values.{members, number_after}
 use Rattle.diag_lines.specs.Identifiers.{identifier_in}
 use Rattle.co_diag.specs.Holds.{HoldsOf, Holds, IsShared, is_on, sends_with, senders_with}
-use Rattle.co_diag.specs.Found.{said, identifier_of, identifiers, shared_in, shared_identifiers}
+use Rattle.co_diag.specs.Found.{diagnostic, identifier_of, identifiers, shared_in, shared_identifiers}
 use Rattle.co_diag.proofs.ListLemmas.{length-filter_flat_map, length-filter_given, member_of_some}
 
 -- ---- as many TPDOs as identifiers
 
 -- a TPDO is on with an identifier exactly where that is the one that it has
-its_own : (p : Content) (id : ℕ) (e : ℕ × Member) (place : ℕ × ℕ) → sends_with p id e place ≡ option_map_or (λ n. n == id) (identifier_of p e place) false
+its_own : (p : Content) (id : ℕ) (e : ℕ × Member) (place : ℕ × ℕ)
+    → sends_with p id e place ≡ option_map_or (λ n. n == id) (identifier_of p e place) false
 unfolding sends_with identifier_of
 its_own p id e place = by (is_between 0x1800 0x19FF place.0) (place.1 == 1) (number_after Bits32 p e.1 e.0 place)
   where
-    of_number : (n : ℕ) (b : Bool) → (b && (identifier_in n == id)) ≡ option_map_or (λ n. n == id) (if b then Some (identifier_in n) else None) false
+    of_number : (n : ℕ) (b : Bool) → (b && (identifier_in n == id)) ≡ option_map_or (λ n. n == id)
+        (if b then Some (identifier_in n) else None) false
     of_number n true = refl
     of_number n false = refl
 
     by : (a b : Bool) (o : Option ℕ) → (a && b && option_map_or (λ cob. is_on cob && identifier_in cob == id) o false)
-        ≡ option_map_or (λ n. n == id) (if a && b then option_and_then (λ cob. if is_on cob then Some (identifier_in cob) else None) o else None) false
+        ≡ option_map_or (λ n. n == id) (if a && b
+        then option_and_then (λ cob. if is_on cob then Some (identifier_in cob) else None) o else None) false
     by true true (Some n) = of_number n (is_on n)
     by true true None = refl
     by true false o = refl
@@ -41,20 +45,26 @@ its_own p id e place = by (is_between 0x1800 0x19FF place.0) (place.1 == 1) (num
 as_many : (p : Content) (id : ℕ) → length (senders_with p id) ≡ length (filter (λ n. n == id) (identifiers p))
 unfolding senders_with identifiers
 as_many p id =
-    length-filter_flat_map (λ e. map (λ place. (e.0, place)) (filter (sends_with p id e) (pairs_of e.1.sections))) (λ e. filter_map (identifier_of p e) (pairs_of e.1.sections)) (λ n. n == id)
-    (λ e. length-map (filter (sends_with p id e) (pairs_of e.1.sections)) (λ place. (e.0, place)) ∙ length-filter_given (sends_with p id e) (identifier_of p e) (λ n. n == id) (its_own p id e) (pairs_of e.1.sections))
+    length-filter_flat_map (λ e. map (λ place. (e.0, place)) (filter (sends_with p id e) (pairs_of e.1.sections)))
+    (λ e. filter_map (identifier_of p e) (pairs_of e.1.sections)) (λ n. n == id)
+    (λ e. length-map (filter (sends_with p id e) (pairs_of e.1.sections)) (λ place. (e.0, place))
+    ∙ length-filter_given (sends_with p id e) (identifier_of p e) (λ n. n == id) (its_own p id e)
+    (pairs_of e.1.sections))
     (members p)
 
 -- ---- what is found holds
 
-shared_by : (p : Content) (id : ℕ) (d : Diag) → shared_in (identifiers p) id ≡ Some d → IsShared p id × (said SharedIdentifier (of.Cob id) ≡ d)
+shared_by : (p : Content) (id : ℕ) (d : Diag) → shared_in (identifiers p) id ≡ Some d
+    → IsShared p id × (diagnostic SharedIdentifier (of.Cob id) ≡ d)
 shared_by p id d h = by (nat_le 2 (length (filter (λ n. n == id) (identifiers p)))) (is_restricted id) refl refl h
   where
     by : (a b : Bool) → nat_le 2 (length (filter (λ n. n == id) (identifiers p))) ≡ a → is_restricted id ≡ b
-        → (if a && not b then Some (said SharedIdentifier (of.Cob id)) else None) ≡ Some d → IsShared p id × (said SharedIdentifier (of.Cob id) ≡ d)
+        → (if a && not b then Some (diagnostic SharedIdentifier (of.Cob id)) else None) ≡ Some d
+        → IsShared p id × (diagnostic SharedIdentifier (of.Cob id) ≡ d)
     by true false two free h =
-        let same : said SharedIdentifier (of.Cob id) ≡ d = cc in
-        let enough : 2 ≤ length (filter (λ n. n == id) (identifiers p)) = leb-true 2 (length (filter (λ n. n == id) (identifiers p))) two in
+        let same : diagnostic SharedIdentifier (of.Cob id) ≡ d = cc in
+        let enough : 2 ≤ length (filter (λ n. n == id) (identifiers p)) =
+        leb-true 2 (length (filter (λ n. n == id) (identifiers p))) two in
         ((subst (λ n. 2 ≤ n) (sym (as_many p id)) enough, free), same)
     by true true two free h = cc
     by false b two free h = cc
@@ -68,13 +78,16 @@ shared_hold p d c =
 
 -- ---- what holds is found
 
-pub shared_listed : (p : Content) (id : ℕ) → IsShared p id → Contains (shared_identifiers p) (said SharedIdentifier (of.Cob id))
+pub shared_listed : (p : Content) (id : ℕ) → IsShared p id
+    → Contains (shared_identifiers p) (diagnostic SharedIdentifier (of.Cob id))
 unfolding shared_identifiers
 shared_listed p id h =
     let ids : List ℕ = identifiers p in
     let two : 2 ≤ length (filter (λ n. n == id) ids) = subst (λ n. 2 ≤ n) (as_many p id) h.0 in
     let one = member_of_some (λ n. n == id) ids (omega arith) in
     let same : one.0 ≡ id = eqb-true one.0 id one.2 in
-    let test : nat_le 2 (length (filter (λ n. n == id) ids)) ≡ true = le-leb 2 (length (filter (λ n. n == id) ids)) two in
-    let found : shared_in ids id ≡ Some (said SharedIdentifier (of.Cob id)) = rw (test, h.1) refl in
-    Contains-filter_map (shared_in ids) ids one.0 (said SharedIdentifier (of.Cob id)) one.1 (ap (shared_in ids) same ∙ found)
+    let test : nat_le 2 (length (filter (λ n. n == id) ids)) ≡ true = le-leb 2 (length (filter (λ n. n == id) ids)) two
+    in
+    let found : shared_in ids id ≡ Some (diagnostic SharedIdentifier (of.Cob id)) = rw (test, h.1) refl in
+    Contains-filter_map (shared_in ids) ids one.0 (diagnostic SharedIdentifier (of.Cob id)) one.1
+    (ap (shared_in ids) same ∙ found)

@@ -1,5 +1,6 @@
 -- Private: what is kept of each node once it is configured.
-use Rattle.std.specs.Prelude.{ℕ, ◌==◌, ◌&&◌, ◌||◌, not, Bool, true, nat_le, if◌then◌else◌, List, [], ◌∷◌, Option, Some, None, option_map, option_and_then, filter_map}
+use Rattle.std.specs.Prelude.{ℕ, ◌==◌, ◌&&◌, ◌||◌, not, Bool, true, nat_le, if◌then◌else◌, List, [], ◌∷◌, Option, Some}
+use Rattle.std.specs.Prelude.{None, option_map, option_and_then, filter_map}
 use Rattle.std.specs.FinMap.{get}
 use Rattle.std.specs.List.{find}
 use Rattle.std.specs.Option.{option_map_or, unwrap_or}
@@ -13,40 +14,43 @@ use Rattle.co_dict.specs.Values.{Values}
 use Rattle.eds_device.specs.Described.{kind_at}
 use Rattle.eds_device.specs.Entries.{defaults_of}
 use Rattle.eds_device.specs.Places.{pairs_of}
-use Rattle.pdo_devices.specs.Devices.{is_unsigned_form}
+use Rattle.pdo_stations.specs.Devices.{is_unsigned_form}
 use Rattle.pdo_plan.specs.declared.planned_message.PlannedMessage.{PlannedMessage}
 use Rattle.pdo_links.specs.Writes.{node_writes}
 use Rattle.co_edits.specs.declared.manager_settings.ManagerSettings.{ManagerSettings}
-use Rattle.co_network.specs.Network.{Member}
+use Rattle.project_plan.specs.Network.{Member}
 use Rattle.diag_lines.specs.declared.code.Code.TheVariants.{UnfitConsumer}
 use Rattle.co_diag.specs.declared.consumer.HeartbeatConsumer.{HeartbeatConsumer}
 use Rattle.diag_lines.specs.declared.diag.Diag.{Diag}
 use Rattle.diag_lines.specs.declared.subject.Subject.TheVariants as of
 use Rattle.diag_lines.specs.Identifiers.{identifier_in}
 use Rattle.co_diag.specs.Holds.{is_on, consumed_node, consumer_time}
-use Rattle.co_diag.specs.Found.{said}
-use Rattle.co_diag.specs.Values.{written}
+use Rattle.co_diag.specs.Found.{diagnostic}
+use Rattle.co_diag.specs.Values.{after_writes}
 
 -- the values of a node once it is configured by a plan
 abbrev pub values_by : List PlannedMessage → ℕ × Member → Values
-values_by plan e = written (defaults_of e.1.sections e.0) (node_writes plan e.1.node.params e.1.sections e.0)
+values_by plan e = after_writes (defaults_of e.1.sections e.0) (node_writes plan e.1.node.params e.1.sections e.0)
 
 -- the number that an entry has among values, where it is there and unsigned of this width
 abbrev pub number_among : Width → List Section → Values → ℕ × ℕ → Option ℕ
 number_among width ss values place =
-    if is_unsigned_form width (form (kind_at ss place)) then option_map (little_number (octets width)) (get values place) else None
+    if is_unsigned_form width (form (kind_at ss place))
+    then option_map (little_number (octets width)) (get values place) else None
 
 -- the identifier with which a TPDO is on
 abbrev pub identifier_among : List Section → Values → ℕ × ℕ → Option ℕ
 identifier_among ss values place =
     if is_between 0x1800 0x19FF place.0 && place.1 == 1
-    then option_and_then (λ cob. if is_on cob then Some (identifier_in cob) else None) (number_among Bits32 ss values place) else None
+    then option_and_then (λ cob. if is_on cob then Some (identifier_in cob) else None)
+    (number_among Bits32 ss values place) else None
 
 -- a heartbeat consumer
 abbrev pub consumer_among : ℕ → List Section → Values → ℕ × ℕ → Option HeartbeatConsumer
 consumer_among node ss values place =
     if place.0 == 0x1016 && nat_le 1 place.1
-    then option_map (λ n. record { node = node; sub = place.1; number = n }) (number_among Bits32 ss values place) else None
+    then option_map (λ n. record { node = node; sub = place.1; number = n }) (number_among Bits32 ss values place)
+    else None
 
 -- what is kept of a node
 abbrev pub identifiers_by : List PlannedMessage → ℕ × Member → List ℕ
@@ -67,8 +71,10 @@ producer_among manager times node =
 abbrev pub unfit_among : ManagerSettings → List (ℕ × ℕ) → ℕ → Bool
 unfit_among manager times consumer =
     not (consumed_node consumer == 0) && not (consumer_time consumer == 0)
-    && option_map_or (λ period. period == 0 || nat_le (consumer_time consumer) period) (producer_among manager times (consumed_node consumer)) true
+    && option_map_or (λ period. period == 0 || nat_le (consumer_time consumer) period)
+    (producer_among manager times (consumed_node consumer)) true
 
 -- what is said of a heartbeat consumer
-abbrev pub unfit_said : ManagerSettings → List (ℕ × ℕ) → HeartbeatConsumer → Option Diag
-unfit_said manager times c = if unfit_among manager times c.number then Some (said UnfitConsumer (of.Node c.node c.sub)) else None
+abbrev pub unfit_diagnostic : ManagerSettings → List (ℕ × ℕ) → HeartbeatConsumer → Option Diag
+unfit_diagnostic manager times c = if unfit_among manager times c.number
+    then Some (diagnostic UnfitConsumer (of.Node c.node c.sub)) else None

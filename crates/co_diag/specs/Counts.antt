@@ -1,10 +1,11 @@
 -- Private: how often identifiers are had, counted to 2.
-use Rattle.std.specs.Prelude.{ℕ, zero, suc, ◌==◌, ◌&&◌, not, nat_le, if◌then◌else◌, List, slice_index_or, Option, Some, None}
+use Rattle.std.specs.Prelude.{ℕ, zero, suc, ◌==◌, ◌&&◌, not, nat_le, if◌then◌else◌, List, slice_index_or, Option, Some}
+use Rattle.std.specs.Prelude.{None}
 use Rattle.co_dict.specs.Pdos.{is_restricted}
 use Rattle.diag_lines.specs.declared.code.Code.TheVariants.{SharedIdentifier}
 use Rattle.diag_lines.specs.declared.diag.Diag.{Diag}
 use Rattle.diag_lines.specs.declared.subject.Subject.TheVariants as of
-use Rattle.co_diag.specs.Found.{said}
+use Rattle.co_diag.specs.Found.{diagnostic}
 
 abbrev pub capped : ℕ → ℕ
 capped zero = 0
@@ -16,4 +17,5 @@ one_more n = if n == 0 then 1 else 2
 
 -- what is said of an identifier
 abbrev pub shared_among : List ℕ → ℕ → Option Diag
-shared_among had id = if nat_le 2 (slice_index_or had id 0) && not (is_restricted id) then Some (said SharedIdentifier (of.Cob id)) else None
+shared_among had id = if nat_le 2 (slice_index_or had id 0) && not (is_restricted id)
+    then Some (diagnostic SharedIdentifier (of.Cob id)) else None

@@ -5,23 +5,24 @@ use Rattle.std.specs.Option.{option_map_or}
 use Rattle.std.specs.Result.{result_err}
 use Rattle.ini_text.specs.Content.{Content as Device, content_of}
 use Rattle.eds_device.specs.Entries.{entry_at}
-use Rattle.co_params.specs.Judgement.{judged_set}
+use Rattle.co_params.specs.Judgement.{set_bytes}
 use Rattle.co_scenario.specs.declared.event.Event.{Event}
 use Rattle.co_scenario.specs.declared.event.Event.TheVariants as event
 use Rattle.co_project.specs.declared.node.Node.{Node}
 use Rattle.co_project.specs.Project.{Content}
 use Rattle.co_project.specs.Tables.{Texts, node_at, text_at}
-use Rattle.co_network.specs.Library.{Read}
-use Rattle.co_network.specs.Network.{Member}
+use Rattle.project_plan.specs.Library.{Read}
+use Rattle.project_plan.specs.Network.{Member}
 use Rattle.diag_lines.specs.declared.code.Code.TheVariants.{SkippedLine}
 use Rattle.diag_lines.specs.declared.diag.Diag.{Diag}
 use Rattle.diag_lines.specs.declared.subject.Subject.TheVariants as of
 use Rattle.co_diag.specs.Faults.{parameter_code}
-use Rattle.co_diag.specs.Found.{said}
+use Rattle.co_diag.specs.Found.{diagnostic}
 
 -- the device of each text was read
 unfoldable pub AreAllRead : Read → Type 0
-AreAllRead read = (name text : List ℕ) → text_at read.project.texts name ≡ Some text → get read.devices name ≡ Some (content_of text)
+AreAllRead read = (name text : List ℕ) → text_at read.project.texts name ≡ Some text
+    → get read.devices name ≡ Some (content_of text)
 
 -- the device of a name
 abbrev pub device_at : Texts → List ℕ → Option Device
@@ -29,7 +30,8 @@ device_at texts name = option_map content_of (text_at texts name)
 
 -- the lines that aren't used of the text of a name
 abbrev pub lines_at : Texts → List ℕ → List Diag
-lines_at texts name = option_map_or (λ (d : Device). map (λ line. said SkippedLine (of.Eds name line)) d.warnings) (device_at texts name) []
+lines_at texts name = option_map_or (λ (d : Device). map (λ line. diagnostic SkippedLine (of.Eds name line)) d.warnings)
+    (device_at texts name) []
 
 -- a node with its device
 abbrev pub member_of : ℕ → Node → Device → ℕ × Member
@@ -46,7 +48,8 @@ device_for p id = option_and_then (λ (node : Node). device_at p.texts node.eds)
 -- the fault of what an event sets, by the device of its node
 abbrev pub device_fault : Content → ℕ → Event → Option Diag
 device_fault p number (event.Set node index sub text) =
-    option_map (λ fault. said (parameter_code fault) (of.Event number))
-    (option_and_then (λ (d : Device). result_err (judged_set (entry_at d.sections node index sub) text node)) (device_for p node))
+    option_map (λ fault. diagnostic (parameter_code fault) (of.Event number))
+    (option_and_then (λ (d : Device). result_err (set_bytes (entry_at d.sections node index sub) text node))
+    (device_for p node))
 device_fault p number (event.Power node on) = None
 device_fault p number (event.Nmt node command) = None

@@ -4,7 +4,10 @@ use Rattle.co_params.specs.declared.parameter_fault.ParameterFault.TheVariants a
 use Rattle.pdo_plan.specs.declared.message_fault.MessageFault.{MessageFault}
 use Rattle.pdo_plan.specs.declared.message_fault.MessageFault.TheVariants as message
 use Rattle.diag_lines.specs.declared.code.Code.{Code}
-use Rattle.diag_lines.specs.declared.code.Code.TheVariants.{NoEntry, Unreadable, OutsideLimits, NotWritable, NoObjects, TpdoTaken, TooManyBits, NotMappable, Mismatched, NoRpdo, NoDummy, BadIdentifier, NoIdentifier, ReservedType, NotModelled}
+use Rattle.diag_lines.specs.declared.code.Code.TheVariants.{NoEntry, Unreadable, OutsideLimits, NotWritable, NoObjects}
+use Rattle.diag_lines.specs.declared.code.Code.TheVariants.{TpdoTaken, TooManyBits, NotMappable, Mismatched, NoRpdo}
+use Rattle.diag_lines.specs.declared.code.Code.TheVariants.{NoDummy, BadIdentifier, NoIdentifier, ReservedType}
+use Rattle.diag_lines.specs.declared.code.Code.TheVariants.{NotModelled}
 
 -- the code of a fault of a parameter, or of what an event sets
 abbrev pub parameter_code : ParameterFault → Code

@@ -1,5 +1,7 @@
--- The diagnostics of a project as a list. Which they are is said by `Holds`: a law says that the list has exactly what holds, each once, in order.
-use Rattle.std.specs.Prelude.{ℕ, false, ◌==◌, ◌&&◌, not, nat_le, if◌then◌else◌, List, [], ◌++◌, length, map, filter, filter_map, Option, Some, None, option_map, option_and_then, is_none}
+-- The diagnostics of a project as a list. Which they are is said by `Holds`: a law says that the list has exactly what
+-- holds, each once, in order.
+use Rattle.std.specs.Prelude.{ℕ, false, ◌==◌, ◌&&◌, not, nat_le, if◌then◌else◌, List, [], ◌++◌, length, map, filter}
+use Rattle.std.specs.Prelude.{filter_map, Option, Some, None, option_map, option_and_then, is_none}
 use Rattle.std.specs.FinMap.{entries}
 use Rattle.std.specs.List.{flat_map}
 use Rattle.std.specs.Option.{option_map_or}
@@ -14,7 +16,7 @@ use Rattle.co_dict.specs.Pdos.{is_restricted}
 use Rattle.eds_device.specs.Described.{default_text}
 use Rattle.eds_device.specs.Entries.{entry_at}
 use Rattle.eds_device.specs.Places.{pairs_of}
-use Rattle.co_params.specs.Judgement.{judged, judged_set}
+use Rattle.co_params.specs.Judgement.{parameter_bytes, set_bytes}
 use Rattle.co_params.specs.Parameters.{parameter_text}
 use Rattle.co_scenario.specs.declared.event.Event.{Event}
 use Rattle.co_scenario.specs.declared.event.Event.TheVariants as event
@@ -24,9 +26,10 @@ use Rattle.pdo_plan.specs.declared.outcome.Outcome.{Outcome}
 use Rattle.pdo_plan.specs.declared.outcome.Outcome.TheVariants.{Planned, Faulty}
 use Rattle.pdo_plan.specs.declared.planned_message.PlannedMessage.{PlannedMessage}
 use Rattle.co_project.specs.Project.{Content}
-use Rattle.co_network.specs.Network.{Member, member_at, project_plan}
+use Rattle.project_plan.specs.Network.{Member, member_at, plan_of_project}
 use Rattle.diag_lines.specs.declared.code.Code.{Code}
-use Rattle.diag_lines.specs.declared.code.Code.TheVariants.{Unreadable, SharedIdentifier, RemoteType, NoSync, UnfitConsumer, SkippedLine}
+use Rattle.diag_lines.specs.declared.code.Code.TheVariants.{Unreadable, SharedIdentifier, RemoteType, NoSync}
+use Rattle.diag_lines.specs.declared.code.Code.TheVariants.{UnfitConsumer, SkippedLine}
 use Rattle.diag_lines.specs.declared.subject.Subject.{Subject}
 use Rattle.diag_lines.specs.declared.subject.Subject.TheVariants as of
 use Rattle.diag_lines.specs.declared.diag.Diag.{Diag}
@@ -37,20 +40,22 @@ use Rattle.diag_lines.specs.Order.{diag_cmp}
 use Rattle.diag_lines.specs.Sets.{sorted_set}
 use Rattle.co_diag.specs.Values.{members, number_after}
 
-abbrev pub said : Code → Subject → Diag
-said code subject = record { code = code; subject = subject }
+abbrev pub diagnostic : Code → Subject → Diag
+diagnostic code subject = record { code = code; subject = subject }
 
 -- ---- nodes
 
 -- the fault of the parameter of an entry
-unfoldable pub unfit_parameter : ℕ × Member → ℕ × ℕ → Option Diag
-unfit_parameter e place =
-    option_map (λ fault. said (parameter_code fault) (of.Param e.0 place.0 place.1))
-    (option_and_then (λ text. result_err (judged (entry_at e.1.sections e.0 place.0 place.1) text e.0)) (parameter_text e.1.sections e.1.node.params place))
+unfoldable pub parameter_diagnostic : ℕ × Member → ℕ × ℕ → Option Diag
+parameter_diagnostic e place =
+    option_map (λ fault. diagnostic (parameter_code fault) (of.Param e.0 place.0 place.1))
+    (option_and_then (λ text. result_err (parameter_bytes (entry_at e.1.sections e.0 place.0 place.1) text e.0))
+    (parameter_text e.1.sections e.1.node.params place))
 
 -- those of a node's own parameters, and of the entries of its EDS
 unfoldable pub unfit_parameters : ℕ × Member → List Diag
-unfit_parameters e = filter_map (λ own. unfit_parameter e own.0) (entries e.1.node.params) ++ filter_map (unfit_parameter e) (pairs_of e.1.sections)
+unfit_parameters e = filter_map (λ own. parameter_diagnostic e own.0) (entries e.1.node.params)
+    ++ filter_map (parameter_diagnostic e) (pairs_of e.1.sections)
 
 -- an entry of a modelled type whose text spells none of its values
 abbrev pub spells_none : ℕ → List ℕ → Entry → Option (Unit {0})
@@ -59,8 +64,9 @@ spells_none node text entry = if is_modelled entry.kind && is_none (value entry.
 -- a default that is so
 unfoldable pub unreadable_default : ℕ × Member → ℕ × ℕ → Option Diag
 unreadable_default e place =
-    option_map (λ _. said Unreadable (of.Default e.0 place.0 place.1))
-    (option_and_then (λ text. option_and_then (spells_none e.0 text) (entry_at e.1.sections e.0 place.0 place.1)) (default_text e.1.sections place.0 place.1))
+    option_map (λ _. diagnostic Unreadable (of.Default e.0 place.0 place.1))
+    (option_and_then (λ text. option_and_then (spells_none e.0 text) (entry_at e.1.sections e.0 place.0 place.1))
+    (default_text e.1.sections place.0 place.1))
 
 unfoldable pub unreadable_defaults : ℕ × Member → List Diag
 unreadable_defaults e = filter_map (unreadable_default e) (pairs_of e.1.sections)
@@ -69,7 +75,7 @@ unreadable_defaults e = filter_map (unreadable_default e) (pairs_of e.1.sections
 unfoldable pub unfit_consumer : Content → ℕ × Member → ℕ × ℕ → Option Diag
 unfit_consumer p e place =
     if place.0 == 0x1016 && nat_le 1 place.1 && option_map_or (is_unfit p) (number_after Bits32 p e.1 e.0 place) false
-    then Some (said UnfitConsumer (of.Node e.0 place.1)) else None
+    then Some (diagnostic UnfitConsumer (of.Node e.0 place.1)) else None
 
 unfoldable pub unfit_consumers : Content → ℕ × Member → List Diag
 unfit_consumers p e = filter_map (unfit_consumer p e) (pairs_of e.1.sections)
@@ -80,7 +86,8 @@ unfit_consumers p e = filter_map (unfit_consumer p e) (pairs_of e.1.sections)
 unfoldable pub identifier_of : Content → ℕ × Member → ℕ × ℕ → Option ℕ
 identifier_of p e place =
     if is_between 0x1800 0x19FF place.0 && place.1 == 1
-    then option_and_then (λ cob. if is_on cob then Some (identifier_in cob) else None) (number_after Bits32 p e.1 e.0 place) else None
+    then option_and_then (λ cob. if is_on cob then Some (identifier_in cob) else None)
+    (number_after Bits32 p e.1 e.0 place) else None
 
 -- those of all TPDOs
 unfoldable pub identifiers : Content → List ℕ
@@ -88,35 +95,39 @@ identifiers p = flat_map (λ e. filter_map (identifier_of p e) (pairs_of e.1.sec
 
 -- one that two or more of them have, and that isn't restricted
 abbrev pub shared_in : List ℕ → ℕ → Option Diag
-shared_in ids id = if nat_le 2 (length (filter (λ n. n == id) ids)) && not (is_restricted id) then Some (said SharedIdentifier (of.Cob id)) else None
+shared_in ids id = if nat_le 2 (length (filter (λ n. n == id) ids)) && not (is_restricted id)
+    then Some (diagnostic SharedIdentifier (of.Cob id)) else None
 
 unfoldable pub shared_identifiers : Content → List Diag
 shared_identifiers p = filter_map (shared_in (identifiers p)) (identifiers p)
 
 -- ---- messages
 
-abbrev pub outcome_faults : List ℕ → Outcome → List Diag
-outcome_faults name (Planned c) = []
-outcome_faults name (Faulty faults) = map (λ fault. said (message_code fault) (of.Message name)) faults
+abbrev pub message_diagnostics : List ℕ → Outcome → List Diag
+message_diagnostics name (Planned c) = []
+message_diagnostics name (Faulty faults) = map (λ fault. diagnostic (message_code fault) (of.Message name)) faults
 
 unfoldable pub message_faults : PlannedMessage → List Diag
-message_faults m = outcome_faults m.name m.outcome
+message_faults m = message_diagnostics m.name m.outcome
 
 -- a transmission type that asks for remote frames
 abbrev pub remote_type : List ℕ × Linked → Option Diag
-remote_type m = if is_between 252 253 m.1.message.transmission then Some (said RemoteType (of.Message m.0)) else None
+remote_type m = if is_between 252 253 m.1.message.transmission then Some (diagnostic RemoteType (of.Message m.0))
+    else None
 
 -- a transmission type that waits for a SYNC, where there is none
 abbrev pub no_sync : Content → List ℕ × Linked → Option Diag
-no_sync p m = if nat_le m.1.message.transmission 240 && p.manager.sync_us == 0 then Some (said NoSync (of.Message m.0)) else None
+no_sync p m = if nat_le m.1.message.transmission 240 && p.manager.sync_us == 0
+    then Some (diagnostic NoSync (of.Message m.0)) else None
 
 -- ---- events
 
 -- the fault of what an event sets
 abbrev pub set_fault : Content → ℕ → Event → Option Diag
 set_fault p number (event.Set node index sub text) =
-    option_map (λ fault. said (parameter_code fault) (of.Event number))
-    (option_and_then (λ (m : Member). result_err (judged_set (entry_at m.sections node index sub) text node)) (member_at p node))
+    option_map (λ fault. diagnostic (parameter_code fault) (of.Event number))
+    (option_and_then (λ (m : Member). result_err (set_bytes (entry_at m.sections node index sub) text node))
+    (member_at p node))
 set_fault p number (event.Power node on) = None
 set_fault p number (event.Nmt node command) = None
 
@@ -127,19 +138,21 @@ unfit_event p e = set_fault p e.0 e.1.event
 
 -- the lines of a text that aren't used
 unfoldable pub skipped_lines : List ℕ × List ℕ → List Diag
-skipped_lines text = map (λ line. said SkippedLine (of.Eds text.0 line)) (content_of text.1).warnings
+skipped_lines text = map (λ line. diagnostic SkippedLine (of.Eds text.0 line)) (content_of text.1).warnings
 
 -- ---- all
 
 -- what is found of all nodes, identifiers, messages, events and texts
-unfoldable pub found : Content → List Diag
-found p =
-    flat_map unfit_parameters (members p) ++ flat_map unreadable_defaults (members p) ++ flat_map (unfit_consumers p) (members p)
+unfoldable pub diagnostics_found : Content → List Diag
+diagnostics_found p =
+    flat_map unfit_parameters (members p) ++ flat_map unreadable_defaults (members p) ++ flat_map (unfit_consumers p)
+    (members p)
     ++ shared_identifiers p
-    ++ flat_map message_faults (project_plan p) ++ filter_map remote_type (entries p.messages) ++ filter_map (no_sync p) (entries p.messages)
+    ++ flat_map message_faults (plan_of_project p) ++ filter_map remote_type (entries p.messages)
+    ++ filter_map (no_sync p) (entries p.messages)
     ++ filter_map (unfit_event p) (entries p.events)
     ++ flat_map skipped_lines (entries p.texts)
 
 -- THE DIAGNOSTICS of a project: exactly what holds, each once, in order
 unfoldable pub diagnostics_of : Content → List Diag
-diagnostics_of p = sorted_set diag_cmp (found p)
+diagnostics_of p = sorted_set diag_cmp (diagnostics_found p)

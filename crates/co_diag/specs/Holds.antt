@@ -1,5 +1,7 @@
--- What is wrong with a project: one predicate for each code (CiA 301 and 306 say what an entry, a PDO, an identifier and a heartbeat consumer may be; the codes are this profile's own).
-use Rattle.std.specs.Prelude.{◌≡◌, ◌≤◌, ℕ, ◌/◌, ◌%◌, ◌==◌, ◌&&◌, ◌||◌, not, Bool, true, false, nat_lt, nat_le, if◌then◌else◌, List, length, filter, map, Option, Some, None, option_map, Err, Contains}
+-- What is wrong with a project: one predicate for each code (CiA 301 and 306 say what an entry, a PDO, an identifier
+-- and a heartbeat consumer may be; the codes are this profile's own).
+use Rattle.std.specs.Prelude.{◌≡◌, ◌≤◌, ℕ, ◌/◌, ◌%◌, ◌==◌, ◌&&◌, ◌||◌, not, Bool, true, false, nat_lt, nat_le}
+use Rattle.std.specs.Prelude.{if◌then◌else◌, List, length, filter, map, Option, Some, None, option_map, Err, Contains}
 use Rattle.std.specs.FinMap.{get}
 use Rattle.std.specs.List.{flat_map}
 use Rattle.std.specs.Option.{option_map_or, unwrap_or}
@@ -15,7 +17,7 @@ use Rattle.eds_device.specs.Entries.{entry_at}
 use Rattle.eds_device.specs.Places.{pairs_of}
 use Rattle.co_params.specs.declared.parameter_fault.ParameterFault.{ParameterFault}
 use Rattle.co_params.specs.declared.parameter_fault.ParameterFault.TheVariants as parameter
-use Rattle.co_params.specs.Judgement.{judged, judged_set}
+use Rattle.co_params.specs.Judgement.{parameter_bytes, set_bytes}
 use Rattle.co_params.specs.Parameters.{parameter_text}
 use Rattle.co_scenario.specs.declared.event.Event.TheVariants.{Set}
 use Rattle.co_messages.specs.declared.linked.Linked.{Linked}
@@ -24,9 +26,13 @@ use Rattle.pdo_plan.specs.declared.message_fault.MessageFault.TheVariants as mes
 use Rattle.pdo_plan.specs.declared.outcome.Outcome.TheVariants.{Faulty}
 use Rattle.pdo_plan.specs.declared.planned_message.PlannedMessage.{PlannedMessage}
 use Rattle.co_project.specs.Project.{Content}
-use Rattle.co_network.specs.Network.{Member, member_at, project_plan}
+use Rattle.project_plan.specs.Network.{Member, member_at, plan_of_project}
 use Rattle.diag_lines.specs.declared.code.Code.{Code}
-use Rattle.diag_lines.specs.declared.code.Code.TheVariants.{NoEntry, Unreadable, OutsideLimits, NotWritable, NoObjects, TpdoTaken, TooManyBits, NotMappable, Mismatched, NoRpdo, NoDummy, BadIdentifier, NoIdentifier, ReservedType, SharedIdentifier, NotModelled, RemoteType, NoSync, UnfitConsumer, SkippedLine}
+use Rattle.diag_lines.specs.declared.code.Code.TheVariants.{NoEntry, Unreadable, OutsideLimits, NotWritable, NoObjects}
+use Rattle.diag_lines.specs.declared.code.Code.TheVariants.{TpdoTaken, TooManyBits, NotMappable, Mismatched, NoRpdo}
+use Rattle.diag_lines.specs.declared.code.Code.TheVariants.{NoDummy, BadIdentifier, NoIdentifier, ReservedType}
+use Rattle.diag_lines.specs.declared.code.Code.TheVariants.{SharedIdentifier, NotModelled, RemoteType, NoSync}
+use Rattle.diag_lines.specs.declared.code.Code.TheVariants.{UnfitConsumer, SkippedLine}
 use Rattle.diag_lines.specs.declared.subject.Subject.{Subject}
 use Rattle.diag_lines.specs.declared.subject.Subject.TheVariants as of
 use Rattle.diag_lines.specs.declared.diag.Diag.{Diag}
@@ -39,7 +45,7 @@ pub record HasUnfitParameter (p : Content) (fault : ParameterFault) (node index 
   pub text : List ℕ
   pub is : member_at p node ≡ Some member
   pub given : parameter_text member.sections member.node.params (index, sub) ≡ Some text
-  pub fails : judged (entry_at member.sections node index sub) text node ≡ Err fault
+  pub fails : parameter_bytes (entry_at member.sections node index sub) text node ≡ Err fault
 
 -- what an event sets has this fault; it may be read-only, and outside its limits
 pub record SetsUnfitValue (p : Content) (fault : ParameterFault) (number : ℕ) : Type 0 where
@@ -51,7 +57,7 @@ pub record SetsUnfitValue (p : Content) (fault : ParameterFault) (number : ℕ) 
   pub member : Member
   pub there : get p.events number ≡ Some (record { time = time; event = Set node index sub text })
   pub is : member_at p node ≡ Some member
-  pub fails : judged_set (entry_at member.sections node index sub) text node ≡ Err fault
+  pub fails : set_bytes (entry_at member.sections node index sub) text node ≡ Err fault
 
 -- the DefaultValue of an entry of a modelled type spells none of its values at the node
 pub record HasUnreadableDefault (p : Content) (node index sub : ℕ) : Type 0 where
@@ -68,7 +74,7 @@ pub record HasUnreadableDefault (p : Content) (node index sub : ℕ) : Type 0 wh
 pub record HasMessageFault (p : Content) (fault : MessageFault) (name : List ℕ) : Type 0 where
   pub said : PlannedMessage
   pub faults : List MessageFault
-  pub planned : Contains (project_plan p) said
+  pub planned : Contains (plan_of_project p) said
   pub named : said.name ≡ name
   pub faulty : said.outcome ≡ Faulty faults
   pub has : Contains faults fault
@@ -91,13 +97,15 @@ sends_with p id e place =
 
 -- the TPDOs of all nodes that are on with an identifier, each with its node
 unfoldable pub senders_with : Content → ℕ → List (ℕ × (ℕ × ℕ))
-senders_with p id = flat_map (λ e. map (λ place. (e.0, place)) (filter (sends_with p id e) (pairs_of e.1.sections))) (members p)
+senders_with p id = flat_map (λ e. map (λ place. (e.0, place)) (filter (sends_with p id e) (pairs_of e.1.sections)))
+    (members p)
 
 -- two or more TPDOs are on with an identifier that isn't restricted
 abbrev pub IsShared : Content → ℕ → Type 0
 IsShared p id = (2 ≤ length (senders_with p id)) × (is_restricted id ≡ false)
 
--- the producer heartbeat time (CiA 301, 1017h) of the manager or a node in milliseconds, 0 where it sends none; None where there is no such node
+-- the producer heartbeat time (CiA 301, 1017h) of the manager or a node in milliseconds, 0 where it sends none; None
+-- where there is no such node
 unfoldable pub producer_time : Content → ℕ → Option ℕ
 producer_time p node =
     if node == p.manager.id then Some p.manager.heartbeat_ms
@@ -114,7 +122,8 @@ consumer_time consumer = consumer % 0x10000
 unfoldable pub is_unfit : Content → ℕ → Bool
 is_unfit p consumer =
     not (consumed_node consumer == 0) && not (consumer_time consumer == 0)
-    && option_map_or (λ period. period == 0 || nat_le (consumer_time consumer) period) (producer_time p (consumed_node consumer)) true
+    && option_map_or (λ period. period == 0 || nat_le (consumer_time consumer) period)
+    (producer_time p (consumed_node consumer)) true
 
 -- a heartbeat consumer of a node is so
 pub record HasUnfitConsumer (p : Content) (node sub : ℕ) : Type 0 where

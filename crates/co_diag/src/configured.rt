@@ -3,10 +3,10 @@ ghost use Rattle.std.specs.Prelude.{◌≡◌, ◌≤◌, All, IfOk, OnOk, lengt
 ghost use Rattle.byteorder.specs.Endian.{little_number};
 ghost use Rattle.co_values.specs.declared.form.Width.TheVariants.{Bits16, Bits32};
 ghost use Rattle.co_values.specs.Types.{form};
-ghost use Rattle.pdo_devices.specs.Devices.{is_unsigned_form};
+ghost use Rattle.pdo_stations.specs.Devices.{is_unsigned_form};
 ghost use Rattle.co_diag.specs.Configured.{number_among, values_by};
 ghost use Rattle.co_diag.specs.Devices.{member_of};
-ghost use Rattle.co_diag.specs.Values.{written};
+ghost use Rattle.co_diag.specs.Values.{after_writes};
 
 use co_dict::Dict;
 use co_project::Node;
@@ -19,7 +19,7 @@ use std::alloc::{AllocError, Global};
 /// Writes over values, one after the other.
 fn write_all(values: &mut Dict, writes: &[Write]) -> Result<(), AllocError>
     requires { All (λ w. length w.bytes ≤ 512) writes.now }
-    ensures { OnOk result (values.new ≡ written values.old writes.now) }
+    ensures { OnOk result (values.new ≡ after_writes values.old writes.now) }
 {
     for write in writes {
         values.write(write.index, write.sub, write.bytes.as_slice())?;

@@ -1,7 +1,7 @@
 //! The heartbeat consumers that are unfit, put at the end of what was found.
 ghost use Rattle.std.specs.Prelude.{◌≡◌, ◌++◌, ◌==◌, OnOk, filter_map, option_copied};
 ghost use Rattle.std.specs.List.{find};
-ghost use Rattle.co_diag.specs.Configured.{producer_among, unfit_among, unfit_said};
+ghost use Rattle.co_diag.specs.Configured.{producer_among, unfit_among, unfit_diagnostic};
 
 use crate::consumer::HeartbeatConsumer;
 use co_project::Project;
@@ -45,7 +45,7 @@ fn is_unfit(project: &Project, times: &[(u8, u16)], consumer: u32) -> bool
 
 /// What is said of a heartbeat consumer.
 fn unfit_said(project: &Project, times: &[(u8, u16)], consumer: &HeartbeatConsumer) -> Option<Diag>
-    ensures { result ≡ unfit_said project.now.manager times.now consumer.now }
+    ensures { result ≡ unfit_diagnostic project.now.manager times.now consumer.now }
 {
     if !is_unfit(project, times, consumer.number) {
         return None;
@@ -64,7 +64,8 @@ pub(crate) fn find_unfit_consumers(
     times: &[(u8, u16)],
     consumers: &[HeartbeatConsumer],
 ) -> Result<(), AllocError>
-    ensures { OnOk result (found.new.items ≡ found.old.items ++ filter_map (unfit_said project.now.manager times.now) consumers.now) }
+    ensures { OnOk result (found.new.items ≡ found.old.items
+        ++ filter_map (unfit_diagnostic project.now.manager times.now) consumers.now) }
 {
     for consumer in consumers {
         if let Some(diag) = unfit_said(project, times, consumer) {

@@ -8,11 +8,11 @@ ghost use Rattle.co_diag.specs.Values.{members};
 
 use crate::devices::device_of;
 use co_dict::Entry;
-use co_network::Library;
 use co_project::Node;
 use co_values::value_of;
 use diag_lines::{Code, Diag, Subject};
 use eds_device::Device;
+use project_plan::Library;
 use std::alloc::{AllocError, Global};
 
 /// Whether an entry is of a modelled type and a text spells none of its values.
@@ -65,7 +65,8 @@ fn find_in_device(
     node: &Node,
     device: &Device,
 ) -> Result<(), AllocError>
-    ensures { OnOk result (found.new.items ≡ found.old.items ++ unreadable_defaults (member_of id node.now device.now)) }
+    ensures { OnOk result (found.new.items ≡ found.old.items
+        ++ unreadable_defaults (member_of id node.now device.now)) }
 {
     for (index, sub) in device.pairs() {
         if let Some(diag) = unreadable_default(alloc, id, node, device, *index, *sub)? {
@@ -84,7 +85,8 @@ fn find_of_node(
     node: &Node,
 ) -> Result<(), AllocError>
     requires { AreAllRead library.now }
-    ensures { OnOk result (found.new.items ≡ found.old.items ++ of_node unreadable_defaults library.now.project (id, node.now)) }
+    ensures { OnOk result (found.new.items ≡ found.old.items
+        ++ of_node unreadable_defaults library.now.project (id, node.now)) }
 {
     match device_of(library, node.eds.as_slice()) {
         Some(device) => find_in_device(found, alloc, id, node, device),
@@ -99,7 +101,8 @@ pub(crate) fn find_unreadable_defaults(
     library: &Library<'_>,
 ) -> Result<(), AllocError>
     requires { AreAllRead library.now }
-    ensures { OnOk result (found.new.items ≡ found.old.items ++ flat_map unreadable_defaults (members library.now.project)) }
+    ensures { OnOk result (found.new.items ≡ found.old.items
+        ++ flat_map unreadable_defaults (members library.now.project)) }
 {
     for (id, node) in library.project().nodes() {
         find_of_node(found, alloc, library, *id, node)?;

@@ -2,8 +2,8 @@
 ghost use Rattle.std.specs.Prelude.{◌≡◌, OnOk, option_copied};
 ghost use Rattle.co_diag.specs.Devices.{AreAllRead, device_at};
 
-use co_network::Library;
 use eds_device::Device;
+use project_plan::Library;
 use std::alloc::AllocError;
 
 /// Reads the devices of all texts of a project, each once.

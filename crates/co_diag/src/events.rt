@@ -6,11 +6,11 @@ ghost use Rattle.co_diag.specs.Found.{unfit_event};
 
 use crate::devices::device_of;
 use crate::parameters::parameter_code;
-use co_network::Library;
 use co_params::judge_set;
 use co_scenario::Event;
 use diag_lines::{Diag, Subject};
 use eds_device::Device;
+use project_plan::Library;
 use std::alloc::{AllocError, Global};
 
 /// The device of a node.
@@ -60,7 +60,8 @@ pub(crate) fn find_unfit_events(
     library: &Library<'_>,
 ) -> Result<(), AllocError>
     requires { AreAllRead library.now }
-    ensures { OnOk result (found.new.items ≡ found.old.items ++ filter_map (unfit_event library.now.project) (table.entries library.now.project.events)) }
+    ensures { OnOk result (found.new.items ≡ found.old.items ++ filter_map (unfit_event library.now.project)
+        (table.entries library.now.project.events)) }
 {
     for (number, timed) in library.project().events().iter() {
         if let Some(diag) = unfit_event(alloc, library, *number, &timed.event)? {

@@ -2,9 +2,10 @@
 ghost use Rattle.std.specs.Prelude.{◌≡◌, ◌++◌, IfOk, OnOk, filter_map};
 ghost use Rattle.std.specs.FinMap as table;
 ghost use Rattle.std.specs.List.{flat_map};
-ghost use Rattle.co_network.specs.Network.{project_plan};
+ghost use Rattle.project_plan.specs.Network.{plan_of_project};
 ghost use Rattle.co_diag.specs.Devices.{AreAllRead};
-ghost use Rattle.co_diag.specs.Found.{unfit_parameters, unreadable_defaults, unfit_consumers, shared_identifiers, message_faults, remote_type, no_sync, found, diagnostics_of};
+ghost use Rattle.co_diag.specs.Found.{unfit_parameters, unreadable_defaults, unfit_consumers, shared_identifiers};
+ghost use Rattle.co_diag.specs.Found.{message_faults, remote_type, no_sync, diagnostics_found, diagnostics_of};
 ghost use Rattle.co_diag.specs.Values.{members};
 
 use crate::consumers::find_unfit_consumers;
@@ -16,10 +17,10 @@ use crate::messages::{find_message_faults, find_no_syncs, find_remote_types};
 use crate::parameters::find_unfit_parameters;
 use crate::shared::find_shared;
 use crate::texts::find_skipped_lines;
-use co_network::Library;
 use co_project::Project;
 use diag_lines::{Diag, sort_once};
 use pdo_plan::Plan;
+use project_plan::Library;
 use std::alloc::{AllocError, Global};
 
 /// Finds what is wrong with the nodes once they are configured.
@@ -30,8 +31,10 @@ fn find_of_configured(
     plan: &Plan,
 ) -> Result<(), AllocError>
     requires read { AreAllRead library.now }
-    requires plan { plan.now ≡ project_plan library.now.project }
-    ensures { OnOk result (found.new.items ≡ found.old.items ++ flat_map (unfit_consumers library.now.project) (members library.now.project) ++ shared_identifiers library.now.project) }
+    requires plan { plan.now ≡ plan_of_project library.now.project }
+    ensures { OnOk result (diagnostics_found.new.items
+        ≡ diagnostics_found.old.items ++ flat_map (unfit_consumers library.now.project) (members library.now.project)
+        ++ shared_identifiers library.now.project) }
 {
     let kept = keep_all(alloc, library, plan)?;
     find_unfit_consumers(found, library.project(), &kept.times, &kept.consumers)?;
@@ -46,7 +49,9 @@ fn find_of_messages(
     project: &Project,
     plan: &Plan,
 ) -> Result<(), AllocError>
-    ensures { OnOk result (found.new.items ≡ found.old.items ++ flat_map message_faults plan.now ++ filter_map remote_type (table.entries project.now.messages) ++ filter_map (no_sync project.now) (table.entries project.now.messages)) }
+    ensures { OnOk result (diagnostics_found.new.items ≡ diagnostics_found.old.items ++ flat_map message_faults plan.now
+        ++ filter_map remote_type (table.entries project.now.messages) ++ filter_map (no_sync project.now)
+        (table.entries project.now.messages)) }
 {
     find_message_faults(found, alloc, plan)?;
     find_remote_types(found, alloc, project)?;
@@ -55,11 +60,11 @@ fn find_of_messages(
 }
 
 /// Finds all that is wrong.
-#[tactic(auto, unfolding(crate::specs::Found::found))]
+#[tactic(auto, unfolding(crate::specs::Found::diagnostics_found))]
 fn find_all(alloc: Global, library: &Library<'_>, plan: &Plan) -> Result<Vec<Diag>, AllocError>
     requires read { AreAllRead library.now }
-    requires plan { plan.now ≡ project_plan library.now.project }
-    ensures { IfOk result (λ list. list.items ≡ found library.now.project) }
+    requires plan { plan.now ≡ plan_of_project library.now.project }
+    ensures { IfOk result (λ list. list.items ≡ diagnostics_found library.now.project) }
 {
     let mut list = Vec::new(alloc);
     find_unfit_parameters(&mut list, alloc, library)?;
@@ -84,7 +89,7 @@ pub fn diagnostics_by(
     library: &mut Library<'_>,
     plan: &Plan,
 ) -> Result<Vec<Diag>, AllocError>
-    requires { plan.now ≡ project_plan library.old.project }
+    requires { plan.now ≡ plan_of_project library.old.project }
     ensures list { IfOk result (λ list. list.items ≡ diagnostics_of library.old.project) }
     ensures project { library.new.project ≡ library.old.project }
 {
@@ -97,7 +102,7 @@ pub fn diagnostics_by(
 /// The diagnostics of a project, by the plan of its messages: all that is wrong with it, each once,
 /// in order. Reads each text once; else as `diagnostics_by`.
 pub fn diagnostics(alloc: Global, project: &Project, plan: &Plan) -> Result<Vec<Diag>, AllocError>
-    requires { plan.now ≡ project_plan project.now }
+    requires { plan.now ≡ plan_of_project project.now }
     ensures { IfOk result (λ list. list.items ≡ diagnostics_of project.now) }
 {
     let mut library = Library::new(alloc, project);

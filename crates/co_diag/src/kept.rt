@@ -10,11 +10,11 @@ use crate::configured::{configured_values, unsigned_16, unsigned_32};
 use crate::consumer::HeartbeatConsumer;
 use crate::devices::device_of;
 use co_dict::Dict;
-use co_network::Library;
 use co_project::Node;
 use diag_lines::Identifier;
 use eds_device::Device;
 use pdo_plan::Plan;
+use project_plan::Library;
 use std::alloc::{AllocError, Global};
 
 /// What is kept of the nodes once they are configured.
@@ -49,7 +49,9 @@ fn keep_identifiers(
     device: &Device,
     values: &Dict,
 ) -> Result<(), AllocError>
-    ensures { OnOk result (identifiers.new.items ≡ identifiers.old.items ++ filter_map (identifier_among device.now.sections values.now) (pairs_of device.now.sections)) }
+    ensures { OnOk result (identifiers.new.items
+        ≡ identifiers.old.items ++ filter_map (identifier_among device.now.sections values.now)
+        (pairs_of device.now.sections)) }
 {
     for (index, sub) in device.pairs() {
         if let Some(identifier) = identifier_among(device, values, *index, *sub) {
@@ -87,7 +89,9 @@ fn keep_consumers(
     device: &Device,
     values: &Dict,
 ) -> Result<(), AllocError>
-    ensures { OnOk result (consumers.new.items ≡ consumers.old.items ++ filter_map (consumer_among id device.now.sections values.now) (pairs_of device.now.sections)) }
+    ensures { OnOk result (consumers.new.items
+        ≡ consumers.old.items ++ filter_map (consumer_among id device.now.sections values.now)
+        (pairs_of device.now.sections)) }
 {
     for (index, sub) in device.pairs() {
         if let Some(consumer) = consumer_among(id, device, values, *index, *sub) {
@@ -106,9 +110,12 @@ fn keep_device(
     node: &Node,
     device: &Device,
 ) -> Result<(), AllocError>
-    ensures identifiers { OnOk result (kept.new.identifiers.items ≡ kept.old.identifiers.items ++ identifiers_by plan.now (member_of id node.now device.now)) }
-    ensures consumers { OnOk result (kept.new.consumers.items ≡ kept.old.consumers.items ++ consumers_by plan.now (member_of id node.now device.now)) }
-    ensures times { OnOk result (kept.new.times.items ≡ kept.old.times.items ++ times_by plan.now (member_of id node.now device.now)) }
+    ensures identifiers { OnOk result (kept.new.identifiers.items
+        ≡ kept.old.identifiers.items ++ identifiers_by plan.now (member_of id node.now device.now)) }
+    ensures consumers { OnOk result (kept.new.consumers.items
+        ≡ kept.old.consumers.items ++ consumers_by plan.now (member_of id node.now device.now)) }
+    ensures times { OnOk result (kept.new.times.items
+        ≡ kept.old.times.items ++ times_by plan.now (member_of id node.now device.now)) }
 {
     let values = configured_values(alloc, plan, id, node, device)?;
     keep_identifiers(&mut kept.identifiers, device, &values)?;
@@ -128,9 +135,12 @@ fn keep_node(
     node: &Node,
 ) -> Result<(), AllocError>
     requires { AreAllRead library.now }
-    ensures identifiers { OnOk result (kept.new.identifiers.items ≡ kept.old.identifiers.items ++ of_node (identifiers_by plan.now) library.now.project (id, node.now)) }
-    ensures consumers { OnOk result (kept.new.consumers.items ≡ kept.old.consumers.items ++ of_node (consumers_by plan.now) library.now.project (id, node.now)) }
-    ensures times { OnOk result (kept.new.times.items ≡ kept.old.times.items ++ of_node (times_by plan.now) library.now.project (id, node.now)) }
+    ensures identifiers { OnOk result (kept.new.identifiers.items
+        ≡ kept.old.identifiers.items ++ of_node (identifiers_by plan.now) library.now.project (id, node.now)) }
+    ensures consumers { OnOk result (kept.new.consumers.items
+        ≡ kept.old.consumers.items ++ of_node (consumers_by plan.now) library.now.project (id, node.now)) }
+    ensures times { OnOk result (kept.new.times.items
+        ≡ kept.old.times.items ++ of_node (times_by plan.now) library.now.project (id, node.now)) }
 {
     match device_of(library, node.eds.as_slice()) {
         Some(device) => keep_device(kept, alloc, plan, id, node, device),
@@ -145,9 +155,12 @@ pub(crate) fn keep_all(
     plan: &Plan,
 ) -> Result<Kept, AllocError>
     requires { AreAllRead library.now }
-    ensures identifiers { IfOk result (λ kept. kept.identifiers.items ≡ flat_map (identifiers_by plan.now) (members library.now.project)) }
-    ensures consumers { IfOk result (λ kept. kept.consumers.items ≡ flat_map (consumers_by plan.now) (members library.now.project)) }
-    ensures times { IfOk result (λ kept. kept.times.items ≡ flat_map (times_by plan.now) (members library.now.project)) }
+    ensures identifiers { IfOk result (λ kept. kept.identifiers.items ≡ flat_map (identifiers_by plan.now)
+        (members library.now.project)) }
+    ensures consumers { IfOk result (λ kept. kept.consumers.items ≡ flat_map (consumers_by plan.now)
+        (members library.now.project)) }
+    ensures times { IfOk result (λ kept. kept.times.items ≡ flat_map (times_by plan.now)
+        (members library.now.project)) }
 {
     let mut kept = Kept {
         identifiers: Vec::new(alloc),

@@ -4,7 +4,7 @@ ghost use Rattle.std.specs.FinMap as table;
 ghost use Rattle.std.specs.List.{flat_map};
 ghost use Rattle.diag_lines.specs.declared.subject.Subject.TheVariants as of;
 ghost use Rattle.co_diag.specs.Faults.{message_code};
-ghost use Rattle.co_diag.specs.Found.{said, message_faults, remote_type, no_sync};
+ghost use Rattle.co_diag.specs.Found.{diagnostic, message_faults, remote_type, no_sync};
 
 use co_messages::Linked;
 use co_project::Project;
@@ -32,7 +32,7 @@ fn message_code(fault: MessageFault) -> Code
 
 /// Says something of a message.
 fn said_of(alloc: Global, code: Code, name: &[u8]) -> Result<Diag, AllocError>
-    ensures { IfOk result (λ diag. diag ≡ said code (of.Message name.now)) }
+    ensures { IfOk result (λ diag. diag ≡ diagnostic code (of.Message name.now)) }
 {
     Ok(Diag {
         code,
@@ -47,7 +47,8 @@ fn find_faults(
     name: &[u8],
     faults: &[MessageFault],
 ) -> Result<(), AllocError>
-    ensures { OnOk result (found.new.items ≡ found.old.items ++ map (λ fault. said (message_code fault) (of.Message name.now)) faults.now) }
+    ensures { OnOk result (found.new.items ≡ found.old.items
+        ++ map (λ fault. diagnostic (message_code fault) (of.Message name.now)) faults.now) }
 {
     for fault in faults {
         let diag = said_of(alloc, message_code(*fault), name)?;
@@ -104,7 +105,8 @@ pub(crate) fn find_remote_types(
     alloc: Global,
     project: &Project,
 ) -> Result<(), AllocError>
-    ensures { OnOk result (found.new.items ≡ found.old.items ++ filter_map remote_type (table.entries project.now.messages)) }
+    ensures { OnOk result (found.new.items ≡ found.old.items
+        ++ filter_map remote_type (table.entries project.now.messages)) }
 {
     for (name, linked) in project.messages().iter() {
         if let Some(diag) = remote_type(alloc, name, linked)? {
@@ -136,7 +138,8 @@ pub(crate) fn find_no_syncs(
     alloc: Global,
     project: &Project,
 ) -> Result<(), AllocError>
-    ensures { OnOk result (found.new.items ≡ found.old.items ++ filter_map (no_sync project.now) (table.entries project.now.messages)) }
+    ensures { OnOk result (found.new.items ≡ found.old.items ++ filter_map (no_sync project.now)
+        (table.entries project.now.messages)) }
 {
     for (name, linked) in project.messages().iter() {
         if let Some(diag) = no_sync(alloc, project, name, linked)? {

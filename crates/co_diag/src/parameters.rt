@@ -5,15 +5,15 @@ ghost use Rattle.std.specs.List.{flat_map};
 ghost use Rattle.eds_device.specs.Places.{pairs_of};
 ghost use Rattle.co_diag.specs.Faults.{parameter_code};
 ghost use Rattle.co_diag.specs.Devices.{AreAllRead, member_of, of_node};
-ghost use Rattle.co_diag.specs.Found.{unfit_parameter, unfit_parameters};
+ghost use Rattle.co_diag.specs.Found.{parameter_diagnostic, unfit_parameters};
 ghost use Rattle.co_diag.specs.Values.{members};
 
 use crate::devices::device_of;
-use co_network::Library;
 use co_params::{ParameterFault, judge, parameter_text};
 use co_project::Node;
 use diag_lines::{Code, Diag, Subject};
 use eds_device::Device;
+use project_plan::Library;
 use std::alloc::{AllocError, Global};
 
 /// The code of a fault.
@@ -30,7 +30,7 @@ pub(crate) fn parameter_code(fault: ParameterFault) -> Code
 }
 
 /// What is said of the parameter of an entry.
-#[tactic(auto, unfolding(crate::specs::Found::unfit_parameter))]
+#[tactic(auto, unfolding(crate::specs::Found::parameter_diagnostic))]
 fn unfit_parameter(
     alloc: Global,
     id: u8,
@@ -39,7 +39,7 @@ fn unfit_parameter(
     index: u16,
     sub: u8,
 ) -> Result<Option<Diag>, AllocError>
-    ensures { IfOk result (λ diag. diag ≡ unfit_parameter (member_of id node.now device.now) (index, sub)) }
+    ensures { IfOk result (λ diag. diag ≡ parameter_diagnostic (member_of id node.now device.now) (index, sub)) }
 {
     let Some(text) = parameter_text(&node.params, device, index, sub) else {
         return Ok(None);
@@ -61,7 +61,9 @@ fn find_own(
     node: &Node,
     device: &Device,
 ) -> Result<(), AllocError>
-    ensures { OnOk result (found.new.items ≡ found.old.items ++ filter_map (λ own. unfit_parameter (member_of id node.now device.now) own.0) (table.entries node.now.params)) }
+    ensures { OnOk result (found.new.items ≡ found.old.items
+        ++ filter_map (λ own. parameter_diagnostic (member_of id node.now device.now) own.0)
+        (table.entries node.now.params)) }
 {
     for ((index, sub), _text) in node.params.iter() {
         if let Some(diag) = unfit_parameter(alloc, id, node, device, *index, *sub)? {
@@ -79,7 +81,8 @@ fn find_given(
     node: &Node,
     device: &Device,
 ) -> Result<(), AllocError>
-    ensures { OnOk result (found.new.items ≡ found.old.items ++ filter_map (unfit_parameter (member_of id node.now device.now)) (pairs_of device.now.sections)) }
+    ensures { OnOk result (found.new.items ≡ found.old.items
+        ++ filter_map (parameter_diagnostic (member_of id node.now device.now)) (pairs_of device.now.sections)) }
 {
     for (index, sub) in device.pairs() {
         if let Some(diag) = unfit_parameter(alloc, id, node, device, *index, *sub)? {
@@ -99,7 +102,8 @@ fn find_of_node(
     node: &Node,
 ) -> Result<(), AllocError>
     requires { AreAllRead library.now }
-    ensures { OnOk result (found.new.items ≡ found.old.items ++ of_node unfit_parameters library.now.project (id, node.now)) }
+    ensures { OnOk result (found.new.items ≡ found.old.items
+        ++ of_node unfit_parameters library.now.project (id, node.now)) }
 {
     let Some(device) = device_of(library, node.eds.as_slice()) else {
         return Ok(());
@@ -116,7 +120,8 @@ pub(crate) fn find_unfit_parameters(
     library: &Library<'_>,
 ) -> Result<(), AllocError>
     requires { AreAllRead library.now }
-    ensures { OnOk result (found.new.items ≡ found.old.items ++ flat_map unfit_parameters (members library.now.project)) }
+    ensures { OnOk result (found.new.items ≡ found.old.items
+        ++ flat_map unfit_parameters (members library.now.project)) }
 {
     for (id, node) in library.project().nodes() {
         find_of_node(found, alloc, library, *id, node)?;

@@ -1,5 +1,6 @@
 //! The identifiers that two or more TPDOs have, put at the end of what was found.
-ghost use Rattle.std.specs.Prelude.{◌≡◌, ◌++◌, ◌==◌, ℕ, OnOk, filter, filter_map, length, slice_index_or, if◌then◌else◌};
+ghost use Rattle.std.specs.Prelude.{◌≡◌, ◌++◌, ◌==◌, ℕ, OnOk, filter, filter_map, length, slice_index_or};
+ghost use Rattle.std.specs.Prelude.{if◌then◌else◌};
 ghost use Rattle.co_diag.specs.Counts.{capped, one_more, shared_among};
 ghost use Rattle.co_diag.specs.Found.{shared_in};
 
@@ -21,7 +22,9 @@ impl Counts {
     }
 
     fn count(&mut self, identifier: &Identifier)
-        ensures { (q : ℕ) → slice_index_or self.new.had q 0 ≡ (if identifier.now == q then one_more (slice_index_or self.old.had q 0) else slice_index_or self.old.had q 0) }
+        ensures { (q : ℕ) → slice_index_or self.new.had q 0
+            ≡ (if identifier.now == q then one_more (slice_index_or self.old.had q 0)
+            else slice_index_or self.old.had q 0) }
     {
         let place = usize::from(identifier.number());
         self.had[place] = if self.had[place] == 0 { 1 } else { 2 };
@@ -58,7 +61,8 @@ pub(crate) fn find_shared(
     found: &mut Vec<Diag>,
     identifiers: &[Identifier],
 ) -> Result<(), AllocError>
-    ensures { OnOk result (found.new.items ≡ found.old.items ++ filter_map (shared_in identifiers.now) identifiers.now) }
+    ensures { OnOk result (found.new.items ≡ found.old.items
+        ++ filter_map (shared_in identifiers.now) identifiers.now) }
 {
     let counts = Counts::of(identifiers);
     for identifier in identifiers {

@@ -5,16 +5,16 @@ ghost use Rattle.std.specs.List.{flat_map};
 ghost use Rattle.diag_lines.specs.declared.code.Code.TheVariants.{SkippedLine};
 ghost use Rattle.diag_lines.specs.declared.subject.Subject.TheVariants as of;
 ghost use Rattle.co_diag.specs.Devices.{AreAllRead, lines_at};
-ghost use Rattle.co_diag.specs.Found.{said, skipped_lines};
+ghost use Rattle.co_diag.specs.Found.{diagnostic, skipped_lines};
 
 use crate::devices::device_of;
-use co_network::Library;
 use diag_lines::{Code, Diag, Name, Subject};
+use project_plan::Library;
 use std::alloc::{AllocError, Global};
 
 /// Says that a line isn't used.
 fn skipped_line(alloc: Global, name: &[u8], line: u32) -> Result<Diag, AllocError>
-    ensures { IfOk result (λ diag. diag ≡ said SkippedLine (of.Eds name.now line)) }
+    ensures { IfOk result (λ diag. diag ≡ diagnostic SkippedLine (of.Eds name.now line)) }
 {
     Ok(Diag {
         code: Code::SkippedLine,
@@ -29,7 +29,8 @@ fn find_lines(
     name: &[u8],
     lines: &[u32],
 ) -> Result<(), AllocError>
-    ensures { OnOk result (found.new.items ≡ found.old.items ++ map (λ line. said SkippedLine (of.Eds name.now line)) lines.now) }
+    ensures { OnOk result (found.new.items ≡ found.old.items
+        ++ map (λ line. diagnostic SkippedLine (of.Eds name.now line)) lines.now) }
 {
     for line in lines {
         let diag = skipped_line(alloc, name, *line)?;
@@ -61,7 +62,8 @@ pub(crate) fn find_skipped_lines(
     library: &Library<'_>,
 ) -> Result<(), AllocError>
     requires { AreAllRead library.now }
-    ensures { OnOk result (found.new.items ≡ found.old.items ++ flat_map skipped_lines (table.entries library.now.project.texts)) }
+    ensures { OnOk result (found.new.items ≡ found.old.items
+        ++ flat_map skipped_lines (table.entries library.now.project.texts)) }
 {
     for (name, _text) in library.project().texts() {
         find_of_text(found, alloc, library, name)?;

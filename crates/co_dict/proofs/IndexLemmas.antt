@@ -1,5 +1,6 @@
 -- The test of an index, and what it says.
-use Rattle.std.proofs.Common.{◌≡◌, ◌==◌, ◌||◌, ◌↔◌, ℕ, List, [], ◌∷◌, Bool, true, false, T, IsTrue, refl, sym, ap, subst, ◌∙◌, eq-eqb, eqb→eq}
+use Rattle.std.proofs.Common.{◌≡◌, ◌==◌, ◌||◌, ◌↔◌, ℕ, List, [], ◌∷◌, Bool, true, false, T, IsTrue, refl, sym, ap}
+use Rattle.std.proofs.Common.{subst, ◌∙◌, eq-eqb, eqb→eq}
 use Rattle.std.specs.Prelude.{is_some, Some}
 use Rattle.std.specs.List.{list_any}
 use Rattle.std.specs.Ordering.{eq_by_cmp, is_eq}
@@ -31,12 +32,14 @@ one_of : (a b c d : Bool) → (a ≡ true → b ≡ true) → (c ≡ true → d 
 one_of true b c d first rest e = ap (λ t. t || d) (first refl)
 one_of false b c d first rest e = either b d (rest e)
 
-any_from : (p q : ℕ × ℕ → Bool) (ks : List (ℕ × ℕ)) → ((k : ℕ × ℕ) → p k ≡ true → q k ≡ true) → list_any p ks ≡ true → list_any q ks ≡ true
+any_from : (p q : ℕ × ℕ → Bool) (ks : List (ℕ × ℕ)) → ((k : ℕ × ℕ) → p k ≡ true → q k ≡ true) → list_any p ks ≡ true
+    → list_any q ks ≡ true
 any_from p q [] h e = cc
 any_from p q (k ∷ ks) h e = one_of (p k) (q k) _ _ (h k) (any_from p q ks h) e
 
 -- the test of an index holds where some entry has it
-pub has_index_is : (shape : Shaped) (index : ℕ) → (has_index shape index ≡ true → HasIndex shape index) × (HasIndex shape index → has_index shape index ≡ true)
+pub has_index_is : (shape : Shaped) (index : ℕ) → (has_index shape index ≡ true → HasIndex shape index)
+    × (HasIndex shape index → has_index shape index ≡ true)
 unfolding has_index
 has_index_is shape index = (
   (λ e.
@@ -53,7 +56,8 @@ has_index_is shape index = (
 )
 
 -- so an answer that says the one says the other
-pub index_test : (shape : Shaped) (index : ℕ) (test : Bool) → (IsTrue test ↔ HasIndex shape index) → test ≡ has_index shape index
+pub index_test : (shape : Shaped) (index : ℕ) (test : Bool) → (IsTrue test ↔ HasIndex shape index)
+    → test ≡ has_index shape index
 index_test shape index true h = sym ((has_index_is shape index).1 (h.0 refl))
 index_test shape index false h = by (has_index shape index) refl
   where
@@ -62,5 +66,6 @@ index_test shape index false h = by (has_index shape index) refl
     by false is = refl
 
 -- an entry that is there has its index
-pub index_there : (shape : Shaped) (index sub : ℕ) (entry : Entry) → Some entry ≡ get shape.entries (index, sub) → has_index shape index ≡ true
+pub index_there : (shape : Shaped) (index sub : ℕ) (entry : Entry) → Some entry ≡ get shape.entries (index, sub)
+    → has_index shape index ≡ true
 index_there shape index sub entry there = (has_index_is shape index).1 (sub, subst (λ o. is_some o ≡ true) there refl)

@@ -1,11 +1,13 @@
 -- Dictionaries of which a part is as another has it.
-use Rattle.std.proofs.Common.{◌≡◌, ◌≤◌, ℕ, Bool, List, [], ◌∷◌, ◌++◌, length, not, Option, Some, None, true, false, ◌&&◌, T, cond, IfSome, refl, sym, ap, subst, ◌∙◌}
+use Rattle.std.proofs.Common.{◌≡◌, ◌≤◌, ℕ, Bool, List, [], ◌∷◌, ◌++◌, length, not, Option, Some, None, true, false}
+use Rattle.std.proofs.Common.{◌&&◌, T, cond, IfSome, refl, sym, ap, subst, ◌∙◌}
 use Rattle.std.specs.Prelude.{if◌then◌else◌}
 use Rattle.std.specs.declared.cmp.Ordering.{Ordering}
 use Rattle.std.specs.declared.cmp.Ordering.TheVariants.{Less, Equal, Greater}
 use Rattle.std.specs.Option.{option_or}
 use Rattle.std.specs.Ordering.{is_lt, is_eq, eq_by_cmp}
-use Rattle.std.specs.FinMap.{empty, from_entries, insert, get, get-empty, get-insert, get-entries, get-from_entries, get-retain_keys, entries, entries_sorted, find, is_sorted, retain_keys, same_map}
+use Rattle.std.specs.FinMap.{empty, from_entries, insert, get, get-empty, get-insert, get-entries, get-from_entries}
+use Rattle.std.specs.FinMap.{get-retain_keys, entries, entries_sorted, find, is_sorted, retain_keys, same_map}
 use Rattle.std.specs.FinMap.Entries.{below_all}
 use Rattle.std.specs.List.Sorted.{IsStrictlySortedBy}
 use Rattle.std.specs.Map.{keys_of}
@@ -13,21 +15,24 @@ use Rattle.co_base.specs.Ranges.{is_between}
 use Rattle.co_values.specs.Values.{longest_value}
 use Rattle.co_dict.specs.declared.entry.Entry.{Entry}
 use Rattle.co_dict.specs.Places.{place_cmp}
-use Rattle.co_dict.specs.Restored.{is_kept, written_all, restored}
+use Rattle.co_dict.specs.Restored.{is_kept, with_all, with_restored}
 use Rattle.co_dict.specs.Shapes.{Shaped}
 use Rattle.co_dict.specs.Values.{Values, AreShort, HasLength, HoldEach}
 use Rattle.co_dict.proofs.PlaceLemmas.{entries_made, places_total, places_exact, tied, written_there}
 
 -- one more entry is written, if it is kept
-pub one_more : (first last : ℕ) (inside : Bool) (before rest : List ((ℕ × ℕ) × List ℕ)) (e : (ℕ × ℕ) × List ℕ) (old new : Values)
-    → before ≡ e ∷ rest → (kept : Bool) → kept ≡ is_kept first last inside e.0.0 → new ≡ (if kept then insert old e.0 e.1 else old)
-    → written_all first last inside rest new ≡ written_all first last inside before old
+pub one_more : (first last : ℕ) (inside : Bool) (before rest : List ((ℕ × ℕ) × List ℕ)) (e : (ℕ × ℕ) × List ℕ)
+    (old new : Values)
+    → before ≡ e ∷ rest → (kept : Bool) → kept ≡ is_kept first last inside e.0.0
+    → new ≡ (if kept then insert old e.0 e.1 else old)
+    → with_all first last inside rest new ≡ with_all first last inside before old
 one_more first last inside before rest e old new is kept test changed = rw (is, changed, test) refl
 
 -- ---- what is at a place
 
 sorted_from : (es : List ((ℕ × ℕ) × List ℕ)) → IsStrictlySortedBy place_cmp (keys_of es) → T (is_sorted place_cmp es)
-sorted_from es h = subst (λ xs. T (is_sorted place_cmp xs)) (entries_made es h) (entries_sorted (from_entries {R = place_cmp} es))
+sorted_from es h = subst (λ xs. T (is_sorted place_cmp xs)) (entries_made es h)
+    (entries_sorted (from_entries {R = place_cmp} es))
 
 part_first : (a b : Bool) → T (a && b) → T a
 part_first true b h = tt
@@ -47,19 +52,22 @@ none_below : (x : ℕ × ℕ) (es : List ((ℕ × ℕ) × List ℕ)) → T (belo
 none_below x [] h = refl
 none_below x (e ∷ es) h = rw (less_apart (place_cmp x e.0) (part_first _ _ h)) (none_below x es (part_second _ _ h))
 
-either_other : (test : Bool) (values : Values) (place : ℕ × ℕ) (bytes : List ℕ) (q : ℕ × ℕ) → eq_by_cmp place_cmp q place ≡ false → get (if test then insert values place bytes else values) q ≡ get values q
-either_other true values place bytes q other = get-insert places_total values place bytes q ∙ ap (λ b. cond b (Some bytes) (get values q)) other
+either_other : (test : Bool) (values : Values) (place : ℕ × ℕ) (bytes : List ℕ) (q : ℕ × ℕ)
+    → eq_by_cmp place_cmp q place ≡ false → get (if test then insert values place bytes else values) q ≡ get values q
+either_other true values place bytes q other = get-insert places_total values place bytes q
+    ∙ ap (λ b. cond b (Some bytes) (get values q)) other
 either_other false values place bytes q other = refl
 
 module _ (first last : ℕ) (inside : Bool) where
   abbrev Written : List ((ℕ × ℕ) × List ℕ) → Values → Values
-  Written = written_all first last inside
+  Written = with_all first last inside
 
   -- what is kept has its new value, if any
   abbrev Now : Bool → Option (List ℕ) → Option (List ℕ) → Option (List ℕ)
   Now kept new old = cond kept (option_or new old) old
 
-  here : (kept : Bool) (values : Values) (e : (ℕ × ℕ) × List ℕ) → Now kept None (get (if kept then insert values e.0 e.1 else values) e.0) ≡ Now kept (Some e.1) (get values e.0)
+  here : (kept : Bool) (values : Values) (e : (ℕ × ℕ) × List ℕ)
+      → Now kept None (get (if kept then insert values e.0 e.1 else values) e.0) ≡ Now kept (Some e.1) (get values e.0)
   here true values e = written_there values e.0 e.1
   here false values e = refl
 
@@ -70,74 +78,94 @@ module _ (first last : ℕ) (inside : Bool) where
       nothing : (kept : Bool) (o : Option (List ℕ)) → o ≡ Now kept None o
       nothing true o = refl
       nothing false o = refl
-  written_at (e ∷ es) values q sorted = by (eq_by_cmp place_cmp q e.0) refl (written_at es next q (part_second _ _ sorted))
+  written_at (e ∷ es) values q sorted =
+      by (eq_by_cmp place_cmp q e.0) refl (written_at es next q (part_second _ _ sorted))
     where
       next : Values
       next = if is_kept first last inside e.0.0 then insert values e.0 e.1 else values
 
-      by : (b : Bool) → eq_by_cmp place_cmp q e.0 ≡ b → get (Written es next) q ≡ Now (is_kept first last inside q.0) (find place_cmp q es) (get next q)
-          → get (Written es next) q ≡ Now (is_kept first last inside q.0) (cond b (Some e.1) (find place_cmp q es)) (get values q)
+      by : (b : Bool) → eq_by_cmp place_cmp q e.0 ≡ b
+          → get (Written es next) q ≡ Now (is_kept first last inside q.0) (find place_cmp q es) (get next q)
+          → get (Written es next) q ≡ Now (is_kept first last inside q.0) (cond b (Some e.1) (find place_cmp q es))
+          (get values q)
       by true same rest =
           let at : q ≡ e.0 = places_exact q e.0 (tied _ same) in
-          let gone : find place_cmp q es ≡ None = ap (λ p. find place_cmp p es) at ∙ none_below e.0 es (part_first _ _ sorted) in
+          let gone : find place_cmp q es ≡ None = ap (λ p. find place_cmp p es) at
+          ∙ none_below e.0 es (part_first _ _ sorted) in
           rest
           ∙ ap (λ o. Now (is_kept first last inside q.0) o (get next q)) gone
           ∙ ap (λ (p : ℕ × ℕ). Now (is_kept first last inside p.0) None (get next p)) at
           ∙ here (is_kept first last inside e.0.0) values e
           ∙ sym (ap (λ (p : ℕ × ℕ). Now (is_kept first last inside p.0) (Some e.1) (get values p)) at)
-      by false other rest = rest ∙ ap (Now (is_kept first last inside q.0) (find place_cmp q es)) (either_other (is_kept first last inside e.0.0) values e.0 e.1 q other)
+      by false other rest = rest ∙ ap (Now (is_kept first last inside q.0) (find place_cmp q es))
+          (either_other (is_kept first last inside e.0.0) values e.0 e.1 q other)
 
-find-append : (q : ℕ × ℕ) (es fs : List ((ℕ × ℕ) × List ℕ)) → find place_cmp q (es ++ fs) ≡ option_or (find place_cmp q es) (find place_cmp q fs)
+find-append : (q : ℕ × ℕ) (es fs : List ((ℕ × ℕ) × List ℕ))
+    → find place_cmp q (es ++ fs) ≡ option_or (find place_cmp q es) (find place_cmp q fs)
 find-append q [] fs = refl
 find-append q (e ∷ es) fs = by (eq_by_cmp place_cmp q e.0) (find-append q es fs)
   where
     by : (b : Bool) → find place_cmp q (es ++ fs) ≡ option_or (find place_cmp q es) (find place_cmp q fs)
-        → cond b (Some e.1) (find place_cmp q (es ++ fs)) ≡ option_or (cond b (Some e.1) (find place_cmp q es)) (find place_cmp q fs)
+        → cond b (Some e.1) (find place_cmp q (es ++ fs)) ≡ option_or (cond b (Some e.1) (find place_cmp q es))
+        (find place_cmp q fs)
     by true rest = refl
     by false rest = rest
 
-split : (within : Bool) (a b : Option (List ℕ)) → option_or (cond within a None) (cond (not within) b None) ≡ cond within a b
+split : (within : Bool) (a b : Option (List ℕ))
+    → option_or (cond within a None) (cond (not within) b None) ≡ cond within a b
 split true None b = refl
 split true (Some x) b = refl
 split false a b = refl
 
 -- within the range the other's value, elsewhere the own
-pub restored_at : (first last : ℕ) (other values : Values) (q : ℕ × ℕ) → get (restored first last other values) q ≡ cond (is_between first last q.0) (get other q) (get values q)
-unfolding restored
+pub restored_at : (first last : ℕ) (other values : Values) (q : ℕ × ℕ)
+    → get (with_restored first last other values) q ≡ cond (is_between first last q.0) (get other q) (get values q)
+unfolding with_restored
 restored_at first last other values q =
     let within : ℕ × ℕ → Bool = λ p. is_between first last p.0 in
-    let alike : (p : ℕ × ℕ → Bool) (x : ℕ × ℕ) → place_cmp q x ≡ Equal → p x ≡ p q = λ p x same. sym (ap p (places_exact q x same)) in
+    let alike : (p : ℕ × ℕ → Bool) (x : ℕ × ℕ) → place_cmp q x ≡ Equal
+    → p x ≡ p q = λ p x same. sym (ap p (places_exact q x same)) in
     let mine : Values = retain_keys values (λ p. not (within p)) in
     let others : Values = retain_keys other within in
     get-from_entries places_total (entries others ++ entries mine) q
     ∙ find-append q (entries others) (entries mine)
-    ∙ ap (λ o. option_or o (find place_cmp q (entries mine))) (sym (get-entries others q) ∙ get-retain_keys other within q (alike within))
-    ∙ ap (option_or (cond (within q) (get other q) None)) (sym (get-entries mine q) ∙ get-retain_keys values (λ p. not (within p)) q (alike (λ p. not (within p))))
+    ∙ ap (λ o. option_or o (find place_cmp q (entries mine)))
+    (sym (get-entries others q) ∙ get-retain_keys other within q (alike within))
+    ∙ ap (option_or (cond (within q) (get other q) None))
+    (sym (get-entries mine q) ∙ get-retain_keys values (λ p. not (within p)) q (alike (λ p. not (within p))))
     ∙ split (within q) (get other q) (get values q)
 
-both_steps : (within : Bool) (a b : Option (List ℕ)) → cond within (option_or a (cond (if false then within else not within) (option_or b None) None)) (cond (if false then within else not within) (option_or b None) None) ≡ cond within a b
+both_steps : (within : Bool) (a b : Option (List ℕ))
+    → cond within (option_or a (cond (if false then within else not within) (option_or b None) None))
+    (cond (if false then within else not within) (option_or b None) None) ≡ cond within a b
 both_steps true None b = refl
 both_steps true (Some x) b = refl
 both_steps false a None = refl
 both_steps false a (Some x) = refl
 
 -- what the two loops write is what is restored
-pub restored_is : (first last : ℕ) (es fs : List ((ℕ × ℕ) × List ℕ)) → IsStrictlySortedBy place_cmp (keys_of es) → IsStrictlySortedBy place_cmp (keys_of fs)
-    → written_all first last true fs (written_all first last false es empty) ≡ restored first last (from_entries fs) (from_entries es)
+pub restored_is : (first last : ℕ) (es fs : List ((ℕ × ℕ) × List ℕ)) → IsStrictlySortedBy place_cmp (keys_of es)
+    → IsStrictlySortedBy place_cmp (keys_of fs)
+    → with_all first last true fs (with_all first last false es empty) ≡ with_restored first last (from_entries fs)
+    (from_entries es)
 restored_is first last es fs own other = same_map places_total places_exact _ _ (λ q.
-    let mine : Values = written_all first last false es empty in
+    let mine : Values = with_all first last false es empty in
     written_at first last true fs mine q (sorted_from fs other)
     ∙ ap (λ o. cond (is_between first last q.0) (option_or (find place_cmp q fs) o) o)
-    (written_at first last false es empty q (sorted_from es own) ∙ ap (λ o. cond (is_kept first last false q.0) (option_or (find place_cmp q es) o) o) (get-empty place_cmp q))
+    (written_at first last false es empty q (sorted_from es own)
+    ∙ ap (λ o. cond (is_kept first last false q.0) (option_or (find place_cmp q es) o) o) (get-empty place_cmp q))
     ∙ both_steps (is_between first last q.0) (find place_cmp q fs) (find place_cmp q es)
     ∙ sym (restored_at first last (from_entries fs) (from_entries es) q
-    ∙ ap (λ o. cond (is_between first last q.0) o (get (from_entries {R = place_cmp} es) q)) (get-from_entries places_total fs q)
+    ∙ ap (λ o. cond (is_between first last q.0) o (get (from_entries {R = place_cmp} es) q))
+    (get-from_entries places_total fs q)
     ∙ ap (cond (is_between first last q.0) (find place_cmp q fs)) (get-from_entries places_total es q)))
 
 -- and it is short where both are
-pub restored_short : (first last : ℕ) (other values : Values) → AreShort other → AreShort values → AreShort (restored first last other values)
+pub restored_short : (first last : ℕ) (other values : Values) → AreShort other → AreShort values
+    → AreShort (with_restored first last other values)
 restored_short first last other values short own q =
-    subst (λ (o : Option (List ℕ)). IfSome o (λ b. length b ≤ longest_value)) (sym (restored_at first last other values q)) (by (is_between first last q.0))
+    subst (λ (o : Option (List ℕ)). IfSome o (λ b. length b ≤ longest_value))
+    (sym (restored_at first last other values q)) (by (is_between first last q.0))
   where
     by : (b : Bool) → IfSome (cond b (get other q) (get values q)) (λ bytes. length bytes ≤ longest_value)
     by true = short q
@@ -147,8 +175,10 @@ abbrev HasOne : Entry → Option (List ℕ) → Type 0
 HasOne entry o = (bytes : List ℕ) × ((o ≡ Some bytes) × HasLength entry.kind bytes)
 
 -- as do entries that have values
-pub restored_held : (shape : Shaped) (first last : ℕ) (other values : Values) → HoldEach shape.entries other → HoldEach shape.entries values → HoldEach shape.entries (restored first last other values)
-restored_held shape first last other values given own q entry there modelled = subst (HasOne entry) (sym (restored_at first last other values q)) (by (is_between first last q.0))
+pub restored_held : (shape : Shaped) (first last : ℕ) (other values : Values) → HoldEach shape.entries other
+    → HoldEach shape.entries values → HoldEach shape.entries (with_restored first last other values)
+restored_held shape first last other values given own q entry there modelled = subst (HasOne entry)
+    (sym (restored_at first last other values q)) (by (is_between first last q.0))
   where
     by : (b : Bool) → HasOne entry (cond b (get other q) (get values q))
     by true = given q entry there modelled

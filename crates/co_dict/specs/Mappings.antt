@@ -1,5 +1,6 @@
 -- PDO mapping (CiA 301): what the entries of a mapping object name.
-use Rattle.std.specs.Prelude.{ℕ, ◌/◌, ◌%◌, ◌==◌, ◌&&◌, Bool, false, List, map, sum_by, Option, None, option_and_then, if◌then◌else◌}
+use Rattle.std.specs.Prelude.{ℕ, ◌/◌, ◌%◌, ◌==◌, ◌&&◌, Bool, false, List, map, sum_by, Option, None, option_and_then}
+use Rattle.std.specs.Prelude.{if◌then◌else◌}
 use Rattle.std.specs.FinMap.{get}
 use Rattle.std.specs.List.{range_with_len}
 use Rattle.std.specs.Option.{option_map_or, option_or}
@@ -35,15 +36,19 @@ direction_of object = if is_between 0x1600 0x17FF object then Receive else Trans
 abbrev pub width_in_pdo : Direction → Entry → Option ℕ
 width_in_pdo direction entry = if is_mappable direction entry then width_bits entry.kind else None
 
--- the bits of a dummy entry: its index is the code of a data type, its sub-index is 0, and RPDOs alone map it, where the device allows it
+-- the bits of a dummy entry: its index is the code of a data type, its sub-index is 0, and RPDOs alone map it, where
+-- the device allows it
 abbrev pub dummy_width : Direction → Shaped → ℕ × ℕ → Option ℕ
 dummy_width Transmit shape place = None
-dummy_width Receive shape place = if place.1 == 0 && is_dummy_allowed shape place.0 then width_bits (modelled_type place.0) else None
+dummy_width Receive shape place = if place.1 == 0 && is_dummy_allowed shape place.0
+    then width_bits (modelled_type place.0) else None
 
 -- the bits of what a mapping entry of a direction can name: an entry of the device, else a dummy
 abbrev pub width_mapped : Direction → Shaped → ℕ × ℕ → Option ℕ
-width_mapped direction shape place = option_or (option_and_then (width_in_pdo direction) (get shape.entries place)) (dummy_width direction shape place)
+width_mapped direction shape place = option_or (option_and_then (width_in_pdo direction) (get shape.entries place))
+    (dummy_width direction shape place)
 
 -- a mapping entry names what a PDO of a direction can map, in its whole length
 abbrev pub can_be_mapped : Direction → Shaped → ℕ → Bool
-can_be_mapped direction shape entry = option_map_or (λ bits. bits == mapped_length entry) (width_mapped direction shape (mapped_place entry)) false
+can_be_mapped direction shape entry = option_map_or (λ bits. bits == mapped_length entry)
+    (width_mapped direction shape (mapped_place entry)) false

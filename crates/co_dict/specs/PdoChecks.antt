@@ -1,4 +1,5 @@
--- What a device answers to a write of the objects of its PDOs (CiA 301, PDO communication and mapping parameters). The codes are own.
+-- What a device answers to a write of the objects of its PDOs (CiA 301, PDO communication and mapping parameters). The
+-- codes are own.
 use Rattle.std.specs.Prelude.{ℕ, ◌-◌, ◌==◌, not, ◌&&◌, nat_lt, Bool, true, false, List, [], ◌∷◌, Result, if◌then◌else◌}
 use Rattle.std.specs.List.{list_any, range_with_len}
 use Rattle.byteorder.specs.Endian.{little_number}
@@ -8,9 +9,10 @@ use Rattle.co_values.specs.declared.form.Width.TheVariants.{Bits8, Bits32}
 use Rattle.co_values.specs.Types.{form}
 use Rattle.co_dict.specs.declared.abort.Abort.{Abort}
 use Rattle.co_dict.specs.Aborts.{unsupported_access, invalid_value, cannot_be_mapped, pdo_length_exceeded}
-use Rattle.co_dict.specs.Checks.{is_entry_that, refused_by}
+use Rattle.co_dict.specs.Checks.{is_entry_that, first_refusal}
 use Rattle.co_dict.specs.Mappings.{can_be_mapped, direction_of, mapping_bits, mapping_of}
-use Rattle.co_dict.specs.Pdos.{frame_bits, identifier, is_communication_object, is_mapping_object, is_restricted, is_valid}
+use Rattle.co_dict.specs.Pdos.{frame_bits, identifier, is_communication_object, is_mapping_object, is_restricted}
+use Rattle.co_dict.specs.Pdos.{is_valid}
 use Rattle.co_dict.specs.Shapes.{Shaped}
 use Rattle.co_dict.specs.Values.{Values, number_at}
 
@@ -55,7 +57,8 @@ has_valid_pdo shape values object =
 
 -- the mapping is in force: sub-index 0 is an UNSIGNED8 other than 0
 abbrev pub is_mapping_enabled : Shaped → Values → ℕ → Bool
-is_mapping_enabled shape values object = has_type is_unsigned8 shape (object, 0) && nat_lt 0 (number_at 1 values (object, 0))
+is_mapping_enabled shape values object = has_type is_unsigned8 shape (object, 0)
+    && nat_lt 0 (number_at 1 values (object, 0))
 
 abbrev pub mapping_lines : Shaped → Values → ℕ × ℕ → List (Bool × Abort)
 mapping_lines shape values place =
@@ -66,7 +69,8 @@ mapping_lines shape values place =
 -- an entry of a mapping object isn't there as UNSIGNED32, or what it names can't be mapped in its whole length
 abbrev pub is_bad_entry : Shaped → Values → ℕ → ℕ → Bool
 is_bad_entry shape values object sub =
-    not (has_type is_unsigned32 shape (object, sub) && can_be_mapped (direction_of object) shape (number_at 4 values (object, sub)))
+    not (has_type is_unsigned32 shape (object, sub)
+    && can_be_mapped (direction_of object) shape (number_at 4 values (object, sub)))
 
 abbrev pub count_lines : Shaped → Values → ℕ → ℕ → List (Bool × Abort)
 count_lines shape values object count =
@@ -77,7 +81,7 @@ count_lines shape values object count =
 
 -- a PDO can carry the first entries of its mapping object, so many of them
 unfoldable pub mapping_check : Shaped → Values → ℕ → ℕ → Result (Unit {0}) Abort
-mapping_check shape values object count = refused_by (count_lines shape values object count)
+mapping_check shape values object count = first_refusal (count_lines shape values object count)
 
 -- the new count of a mapping object, an UNSIGNED8
 abbrev pub is_mapping_count : Shaped → ℕ × ℕ → Bool

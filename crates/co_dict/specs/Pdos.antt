@@ -1,9 +1,11 @@
--- PDOs and an object dictionary (CiA 301): their objects, which entries they can carry, and which identifiers they can't have.
+-- PDOs and an object dictionary (CiA 301): their objects, which entries they can carry, and which identifiers they
+-- can't have.
 use Rattle.std.specs.Prelude.{ℕ, ◌%◌, nat_lt, ◌&&◌, ◌||◌, Bool, true, false, is_some}
 use Rattle.co_base.specs.Ranges.{is_between}
 use Rattle.co_values.specs.Types.{width_bits}
 use Rattle.co_dict.specs.declared.access.Access.{Access}
-use Rattle.co_dict.specs.declared.access.Access.TheVariants.{ReadOnly, WriteOnly, ReadWrite, ReadWriteOnInput, ReadWriteOnOutput, Constant}
+use Rattle.co_dict.specs.declared.access.Access.TheVariants.{ReadOnly, WriteOnly, ReadWrite, ReadWriteOnInput}
+use Rattle.co_dict.specs.declared.access.Access.TheVariants.{ReadWriteOnOutput, Constant}
 use Rattle.co_dict.specs.declared.direction.Direction.{Direction}
 use Rattle.co_dict.specs.declared.direction.Direction.TheVariants.{Transmit, Receive}
 use Rattle.co_dict.specs.declared.entry.Entry.{Entry}

@@ -5,8 +5,8 @@ use Rattle.co_base.specs.Ranges.{is_between}
 use Rattle.co_dict.specs.Values.{Values}
 
 -- the entries with an index from `first` to `last` are those of the other dictionary; all others stay
-unfoldable pub restored : ℕ → ℕ → Values → Values → Values
-restored first last other values = from_entries
+unfoldable pub with_restored : ℕ → ℕ → Values → Values → Values
+with_restored first last other values = from_entries
     (entries (retain_keys other (λ place. is_between first last place.0))
     ++ entries (retain_keys values (λ place. not (is_between first last place.0))))
 
@@ -16,6 +16,7 @@ restored first last other values = from_entries
 abbrev pub is_kept : ℕ → ℕ → Bool → ℕ → Bool
 is_kept first last inside index = if inside then is_between first last index else not (is_between first last index)
 
-abbrev pub written_all : ℕ → ℕ → Bool → List ((ℕ × ℕ) × List ℕ) → Values → Values
-written_all first last inside [] values = values
-written_all first last inside (e ∷ es) values = written_all first last inside es (if is_kept first last inside e.0.0 then insert values e.0 e.1 else values)
+abbrev pub with_all : ℕ → ℕ → Bool → List ((ℕ × ℕ) × List ℕ) → Values → Values
+with_all first last inside [] values = values
+with_all first last inside (e ∷ es) values = with_all first last inside es (if is_kept first last inside e.0.0
+    then insert values e.0 e.1 else values)

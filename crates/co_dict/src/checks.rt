@@ -5,7 +5,8 @@ ghost use Rattle.std.specs.FinMap as map;
 ghost use Rattle.co_dict.specs.Aborts.{length_too_high, no_object, no_sub_index};
 ghost use Rattle.co_dict.specs.Shapes.{Shaped};
 ghost use Rattle.co_values.specs.Values.{Fits, longest_value};
-ghost use Rattle.co_dict.specs.Checks.{refused_by, has_index, entry_lines, access_check, read_check, length_check, is_no_flag, is_below_limit, is_above_limit};
+ghost use Rattle.co_dict.specs.Checks.{first_refusal, has_index, entry_lines, access_check, read_check, length_check};
+ghost use Rattle.co_dict.specs.Checks.{is_no_flag, is_below_limit, is_above_limit};
 
 use crate::abort::Abort;
 use crate::entry::Entry;
@@ -38,8 +39,8 @@ fn no_entry(shape: &Shape, index: u16) -> Abort
 /// that applies: `NO_OBJECT`, `NO_SUB_INDEX`, `UNSUPPORTED_ACCESS`.
 fn modelled_entry(shape: &Shape, index: u16, sub: u8) -> Result<&Entry, Abort>
     ensures entry { IfOk result (λ entry. map.get shape.now.entries (index, sub) ≡ Some entry.now) }
-    ensures granted { OnOk result (IsOk (refused_by (entry_lines shape.now (index, sub)))) }
-    ensures refused { IfErr result (λ abort. refused_by (entry_lines shape.now (index, sub)) ≡ Err abort) }
+    ensures granted { OnOk result (IsOk (first_refusal (entry_lines shape.now (index, sub)))) }
+    ensures refused { IfErr result (λ abort. first_refusal (entry_lines shape.now (index, sub)) ≡ Err abort) }
 {
     let Some(entry) = shape.entry(index, sub) else {
         return Err(no_entry(shape, index));
@@ -92,7 +93,7 @@ pub fn check_read(shape: &Shape, index: u16, sub: u8) -> Result<(), Abort>
 
 /// Whether a value can have so many bytes, whatever its type.
 fn check_size(size: usize) -> Result<(), Abort>
-    ensures answer { result ≡ refused_by ((nat_lt longest_value size, length_too_high) ∷ []) }
+    ensures answer { result ≡ first_refusal ((nat_lt longest_value size, length_too_high) ∷ []) }
     ensures short { OnOk result (size ≤ longest_value) }
 {
     if size > LONGEST_VALUE {
@@ -104,7 +105,8 @@ fn check_size(size: usize) -> Result<(), Abort>
 /// Whether this entry can have a value of so many bytes.
 #[tactic(auto, unfolding(crate::specs::Checks::length_check))]
 pub(crate) fn check_length_of(entry: &Entry, size: usize) -> Result<(), Abort>
-    ensures answer { (shape : Shaped) (place : ℕ × ℕ) → map.get shape.entries place ≡ Some entry.now → result ≡ length_check shape place size }
+    ensures answer { (shape : Shaped) (place : ℕ × ℕ) → map.get shape.entries place ≡ Some entry.now
+        → result ≡ length_check shape place size }
     ensures short { OnOk result (size ≤ longest_value) }
 {
     if let Some(length) = entry.kind.fixed_len()

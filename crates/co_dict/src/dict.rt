@@ -3,7 +3,7 @@
 ghost use Rattle.std.specs.Prelude.{◌≡◌, ◌≤◌, ◌↔◌, IsTrue, length, OnOk, OnErr, IfOk, IfSome, Some, option_copied};
 ghost use Rattle.std.specs.FinMap as map;
 ghost use Rattle.co_dict.specs.Places.{place_cmp};
-ghost use Rattle.co_dict.specs.Restored.{restored};
+ghost use Rattle.co_dict.specs.Restored.{with_restored};
 ghost use Rattle.co_dict.specs.Values.{bytes_at, number_at};
 ghost use Rattle.co_values.specs.Values.{longest_value};
 
@@ -143,7 +143,7 @@ impl Dict {
     /// the value that it has there, and is gone where it has none there. All others stay. Takes time
     /// by the length of both dictionaries.
     pub fn restore(&mut self, from: &Dict, first: u16, last: u16) -> Result<(), AllocError>
-        ensures ok { OnOk result (self.new ≡ restored first last from.now self.old) }
+        ensures ok { OnOk result (self.new ≡ with_restored first last from.now self.old) }
         ensures err { OnErr result (self.new ≡ self.old) }
     {
         let values = restored(self.alloc, &self.values, &from.values, first, last)?;

@@ -6,7 +6,7 @@ ghost use Rattle.std.specs.Map.{keys_of};
 ghost use Rattle.std.specs.FinMap as map;
 ghost use Rattle.co_base.specs.Ranges.{is_between};
 ghost use Rattle.co_dict.specs.Places.{place_cmp};
-ghost use Rattle.co_dict.specs.Restored.{is_kept, restored, written_all};
+ghost use Rattle.co_dict.specs.Restored.{is_kept, with_restored, with_all};
 
 use co_base::Octets;
 use std::alloc::{AllocError, Global};
@@ -64,7 +64,8 @@ pub(crate) fn add_where(
     last: u16,
     inside: bool,
 ) -> Result<(), AllocError>
-    ensures written { OnOk result (map.from_entries {R = place_cmp} values.new.entries ≡ written_all first last inside from.now.entries (map.from_entries values.old.entries)) }
+    ensures written { OnOk result (map.from_entries {R = place_cmp} values.new.entries
+        ≡ with_all first last inside from.now.entries (map.from_entries values.old.entries)) }
     ensures ordered { IsStrictlySortedBy place_cmp (keys_of from.now.entries) }
 {
     for (place, value) in from.iter() {
@@ -81,7 +82,8 @@ pub(crate) fn restored(
     first: u16,
     last: u16,
 ) -> Result<BTreeMap<(u16, u8), Octets>, AllocError>
-    ensures { IfOk result (λ values. map.from_entries {R = place_cmp} values.entries ≡ restored first last (map.from_entries from.now.entries) (map.from_entries own.now.entries)) }
+    ensures { IfOk result (λ values. map.from_entries {R = place_cmp} values.entries
+        ≡ with_restored first last (map.from_entries from.now.entries) (map.from_entries own.now.entries)) }
 {
     let mut values = BTreeMap::new(alloc);
     add_where(&mut values, own, first, last, false)?;

@@ -13,7 +13,7 @@ ghost use Rattle.co_dict.specs.Checks.{access_check, has_index, length_check};
 ghost use Rattle.co_dict.specs.Mappings.{mapping_bits, mapping_of};
 ghost use Rattle.co_dict.specs.PdoChecks.{mapping_check};
 ghost use Rattle.co_dict.specs.Pdos.{is_of_pdos};
-ghost use Rattle.co_dict.specs.Restored.{restored};
+ghost use Rattle.co_dict.specs.Restored.{with_restored};
 ghost use Rattle.co_dict.specs.Shapes.{HasIndex, Shaped};
 ghost use Rattle.co_dict.specs.Values.{HoldEach, Values};
 ghost use Rattle.co_dict.specs.WriteCheck.{Suits, write_check};
@@ -21,7 +21,8 @@ ghost use Rattle.co_dict.specs.WriteCheck.{Suits, write_check};
 /// A write gives its entry the value, and leaves every other entry as it was.
 #[tactic(auto, using(crate::proofs::PlaceLemmas::written_alone))]
 pub fn a_write_changes_its_entry_alone()
-    ensures there { (dict : Values) (place : ℕ × ℕ) (bytes : List ℕ) → map.get (map.insert dict place bytes) place ≡ Some bytes }
+    ensures there { (dict : Values) (place : ℕ × ℕ) (bytes : List ℕ)
+        → map.get (map.insert dict place bytes) place ≡ Some bytes }
     ensures elsewhere { (dict : Values) (place other : ℕ × ℕ) (bytes : List ℕ) → other ≢ place
         → map.get (map.insert dict place bytes) other ≡ map.get dict other }
 {}
@@ -31,9 +32,10 @@ pub fn a_write_changes_its_entry_alone()
 #[tactic(auto, using(crate::proofs::RestoredLemmas::restored_at))]
 pub fn a_range_is_restored_alone()
     ensures each { (first last : ℕ) (other values : Values) (place : ℕ × ℕ)
-        → map.get (restored first last other values) place ≡ (if is_between first last place.0 then map.get other place else map.get values place) }
+        → map.get (with_restored first last other values) place
+        ≡ (if is_between first last place.0 then map.get other place else map.get values place) }
     ensures lengths { (shape : Shaped) (first last : ℕ) (other values : Values) → HoldEach shape.entries other
-        → HoldEach shape.entries values → HoldEach shape.entries (restored first last other values) }
+        → HoldEach shape.entries values → HoldEach shape.entries (with_restored first last other values) }
 {}
 
 /// The test of an index holds where some entry has it.
@@ -64,7 +66,8 @@ pub fn what_is_taken_suits_its_entry()
 /// Outside the objects of PDOs the dictionary doesn't count, and what suits an entry is taken.
 #[tactic(auto, using(crate::proofs::CheckLaws::outside_pdos))]
 pub fn outside_the_objects_of_pdos_what_suits_is_taken()
-    ensures alike { (shape : Shaped) (place : ℕ × ℕ) (bytes : List ℕ) → is_of_pdos place.0 ≡ false → (values others : Values)
+    ensures alike { (shape : Shaped) (place : ℕ × ℕ) (bytes : List ℕ) → is_of_pdos place.0 ≡ false
+        → (values others : Values)
         → write_check shape values place bytes ≡ write_check shape others place bytes }
     ensures taken { (shape : Shaped) (values : Values) (place : ℕ × ℕ) (bytes : List ℕ) (entry : Described)
         → Suits shape place bytes entry → is_of_pdos place.0 ≡ false → write_check shape values place bytes ≡ Ok tt }

@@ -1,11 +1,17 @@
 //! What a device answers to a write of the objects of its PDOs (CiA 301).
 
 ghost use Rattle.std.specs.Prelude.{◌≡◌, ◌≤◌};
-ghost use Rattle.co_dict.specs.Pdos.{is_valid, identifier, frame_bits, is_communication_object as is_communication_index, is_mapping_object as is_mapping_index};
+ghost use Rattle.co_dict.specs.Pdos.{is_valid, identifier, frame_bits};
+ghost use Rattle.co_dict.specs.Pdos.{is_communication_object as is_communication_index};
+ghost use Rattle.co_dict.specs.Pdos.{is_mapping_object as is_mapping_index};
 ghost use Rattle.std.specs.List.{list_any, range_with_len};
-ghost use Rattle.co_dict.specs.Mappings.{direction_of as direction_of_object, dummy_width as width_of_dummy, width_mapped as width_of_mapped, can_be_mapped as can_be_mapped_whole, mapping_bits, mapping_of};
-ghost use Rattle.co_dict.specs.Checks.{refused_by};
-ghost use Rattle.co_dict.specs.PdoChecks.{has_type, is_unsigned8, is_unsigned32, is_cob_id, takes_restricted, changes_frames, cob_id_lines, has_valid_pdo, is_mapping_enabled, mapping_lines, is_bad_entry, count_lines, mapping_check, new_count_lines};
+ghost use Rattle.co_dict.specs.Mappings.{direction_of as direction_of_object, dummy_width as width_of_dummy};
+ghost use Rattle.co_dict.specs.Mappings.{width_mapped as width_of_mapped, can_be_mapped as can_be_mapped_whole};
+ghost use Rattle.co_dict.specs.Mappings.{mapping_bits, mapping_of};
+ghost use Rattle.co_dict.specs.Checks.{first_refusal};
+ghost use Rattle.co_dict.specs.PdoChecks.{has_type, is_unsigned8, is_unsigned32, is_cob_id, takes_restricted};
+ghost use Rattle.co_dict.specs.PdoChecks.{changes_frames, cob_id_lines, has_valid_pdo, is_mapping_enabled};
+ghost use Rattle.co_dict.specs.PdoChecks.{mapping_lines, is_bad_entry, count_lines, mapping_check, new_count_lines};
 
 use crate::abort::Abort;
 use crate::dict::Dict;
@@ -92,7 +98,7 @@ pub(crate) fn check_cob_id(
     sub: u8,
     bytes: &[u8],
 ) -> Result<(), Abort>
-    ensures { result ≡ refused_by (cob_id_lines shape.now dict.now (index, sub) bytes.now) }
+    ensures { result ≡ first_refusal (cob_id_lines shape.now dict.now (index, sub) bytes.now) }
 {
     if !is_cob_id(shape, index, sub) {
         return Ok(());
@@ -137,7 +143,7 @@ pub(crate) fn check_mapping_object(
     index: u16,
     sub: u8,
 ) -> Result<(), Abort>
-    ensures { result ≡ refused_by (mapping_lines shape.now dict.now (index, sub)) }
+    ensures { result ≡ first_refusal (mapping_lines shape.now dict.now (index, sub)) }
 {
     if !is_mapping_object(index) {
         return Ok(());
@@ -262,7 +268,7 @@ pub(crate) fn check_new_count(
     sub: u8,
     bytes: &[u8],
 ) -> Result<(), Abort>
-    ensures { result ≡ refused_by (new_count_lines shape.now dict.now (index, sub) bytes.now) }
+    ensures { result ≡ first_refusal (new_count_lines shape.now dict.now (index, sub) bytes.now) }
 {
     if is_mapping_object(index) && sub == 0 && has_unsigned_8(shape, index, sub) {
         check_mapping(shape, dict, index, number_8(bytes))

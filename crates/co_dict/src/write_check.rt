@@ -3,7 +3,7 @@
 ghost use Rattle.std.specs.Prelude.{◌≡◌, ◌≤◌, ℕ, OnOk, Some, false, length};
 ghost use Rattle.std.specs.FinMap as map;
 ghost use Rattle.co_values.specs.Values.{Fits, longest_value};
-ghost use Rattle.co_dict.specs.Checks.{is_no_flag, refused_by, value_lines};
+ghost use Rattle.co_dict.specs.Checks.{is_no_flag, first_refusal, value_lines};
 ghost use Rattle.co_dict.specs.Shapes.{Shaped};
 ghost use Rattle.co_dict.specs.WriteCheck.{write_check};
 
@@ -18,7 +18,7 @@ use crate::shape::Shape;
 fn check_value(entry: &Entry, bytes: &[u8]) -> Result<(), Abort>
     requires { is_no_flag bytes.now entry.now ≡ false → Fits entry.now.kind bytes.now }
     ensures { (shape : Shaped) (place : ℕ × ℕ) → map.get shape.entries place ≡ Some entry.now
-        → result ≡ refused_by (value_lines shape place bytes.now) }
+        → result ≡ first_refusal (value_lines shape place bytes.now) }
 {
     if is_no_flag(entry, bytes) {
         return Err(Abort::INVALID_VALUE);

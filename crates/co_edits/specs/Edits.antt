@@ -7,13 +7,16 @@ use Rattle.co_edits.specs.declared.edit.Edit.TheVariants as edit
 use Rattle.co_edits.specs.declared.manager_settings.ManagerSettings.{ManagerSettings}
 use Rattle.co_base.specs.Ranges.{is_between, AreIndices}
 use Rattle.co_messages.specs.Messages.{IsMessage, is_position}
-use Rattle.co_edits.specs.Forms.{is_name, is_text, is_node_number, is_node_or_all, is_own_index, is_bit_rate, is_time, is_sync_period, is_event_number}
+use Rattle.co_edits.specs.Forms.{is_name, is_text, is_node_number, is_node_or_all, is_own_index, is_bit_rate, is_time}
+use Rattle.co_edits.specs.Forms.{is_sync_period, is_event_number}
 use Rattle.co_edits.specs.Eds.{IsEds}
 
--- the manager (CiA 302): the number of its node, the period of SYNC, and in milliseconds its heartbeat's time and the longest wait for an SDO answer
+-- the manager (CiA 302): the number of its node, the period of SYNC, and in milliseconds its heartbeat's time and the
+-- longest wait for an SDO answer
 unfoldable pub IsManager : ManagerSettings → Type 0
 IsManager m =
-    (is_node_number m.id ≡ true) × (is_sync_period m.sync_us ≡ true) × (is_between 0 65535 m.heartbeat_ms ≡ true) × (is_between 1 65535 m.timeout_ms ≡ true)
+    (is_node_number m.id ≡ true) × (is_sync_period m.sync_us ≡ true) × (is_between 0 65535 m.heartbeat_ms ≡ true)
+    × (is_between 1 65535 m.timeout_ms ≡ true)
 
 -- a parameter of a node, or what an event sets
 unfoldable pub IsSetting : ℕ → ℕ → List ℕ → Type 0
@@ -38,10 +41,12 @@ IsEdit (edit.Param id index sub text) = (is_node_number id ≡ true) × IsSettin
 IsEdit (edit.Unparam id index sub) = (is_node_number id ≡ true) × AreIndices index sub
 IsEdit (edit.Message name m) = (is_name name ≡ true) × IsMessage m
 IsEdit (edit.DropMessage name) = is_name name ≡ true
-IsEdit (edit.Source message position index sub) = (is_name message ≡ true) × (is_position position ≡ true) × AreIndices index sub
+IsEdit (edit.Source message position index sub) = (is_name message ≡ true) × (is_position position ≡ true)
+    × AreIndices index sub
 IsEdit (edit.Unsource message position) = (is_name message ≡ true) × (is_position position ≡ true)
 IsEdit (edit.Sink message position node index sub) =
     (is_name message ≡ true) × (is_position position ≡ true) × (is_node_number node ≡ true) × AreIndices index sub
-IsEdit (edit.Unsink message position node) = (is_name message ≡ true) × (is_position position ≡ true) × (is_node_number node ≡ true)
+IsEdit (edit.Unsink message position node) = (is_name message ≡ true) × (is_position position ≡ true)
+    × (is_node_number node ≡ true)
 IsEdit (edit.Event number e) = (is_event_number number ≡ true) × (is_time e.time ≡ true) × IsEvent e.event
 IsEdit (edit.DropEvent number) = is_event_number number ≡ true

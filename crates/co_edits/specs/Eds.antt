@@ -1,5 +1,6 @@
 -- The EDS that an edit keeps (its text is CiA 306's; limits and faults are this profile's own).
-use Rattle.std.specs.Prelude.{◌≡◌, ◌≤◌, ℕ, Bool, true, ◌||◌, ◌&&◌, not, List, [], ◌∷◌, ◌++◌, map, length, nat_lt, ◌==◌, Result, Ok, Vec}
+use Rattle.std.specs.Prelude.{◌≡◌, ◌≤◌, ℕ, Bool, true, ◌||◌, ◌&&◌, not, List, [], ◌∷◌, ◌++◌, map, length, nat_lt, ◌==◌}
+use Rattle.std.specs.Prelude.{Result, Ok, Vec}
 use Rattle.std.specs.List.{flat_map, list_any}
 use Rattle.std.specs.Str.{byte}
 use Rattle.co_text.specs.Blanks.{tab, trim_end}
@@ -66,7 +67,8 @@ eds_edit name lines =
     ∷ [])
     (Eds name (text_of lines))
 
--- an EDS as an edit keeps it: its name is one; it has at most 65,536 lines; it is these lines, without CRs at their ends, each ended by LF; and it is the text of a device
+-- an EDS as an edit keeps it: its name is one; it has at most 65,536 lines; it is these lines, without CRs at their
+-- ends, each ended by LF; and it is the text of a device
 pub record IsEds (called text : List ℕ) : Type 0 where
   pub name : is_name called ≡ true
   pub lines : length (text_lines text) ≤ most_lines

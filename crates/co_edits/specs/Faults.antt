@@ -6,7 +6,8 @@ use Rattle.eds_device.specs.declared.fault.DeviceFault.{DeviceFault}
 use Rattle.ini_text.specs.Content.{Content}
 use Rattle.eds_device.specs.declared.fault.DeviceFault.TheVariants as device
 use Rattle.co_edits.specs.declared.fault.EditFault.{EditFault}
-use Rattle.co_edits.specs.declared.fault.EditFault.TheVariants.{Memory, Syntax, Range, Unknown, Taken, InUse, Limit, BadByte, Truncated}
+use Rattle.co_edits.specs.declared.fault.EditFault.TheVariants.{Memory, Syntax, Range, Unknown, Taken, InUse, Limit}
+use Rattle.co_edits.specs.declared.fault.EditFault.TheVariants.{BadByte, Truncated}
 
 -- want of memory, which can come in place of any answer
 abbrev pub is_memory : EditFault → Bool
@@ -28,9 +29,9 @@ fault_of device.Limit = Limit
 fault_of device.BadByte = BadByte
 
 -- what is answered to a command for the text of a device
-abbrev pub judged : Result Content DeviceFault → Result (Unit {0}) EditFault
-judged (Ok content) = Ok tt
-judged (Err fault) = Err (fault_of fault)
+abbrev pub device_verdict : Result Content DeviceFault → Result (Unit {0}) EditFault
+device_verdict (Ok content) = Ok tt
+device_verdict (Err fault) = Err (fault_of fault)
 
 -- the number of a fault, and its name
 abbrev name_of : EditFault → List ℕ

@@ -1,5 +1,6 @@
 -- The forms of words and texts, and the limits of numbers (this profile's own).
-use Rattle.std.specs.Prelude.{ℕ, Bool, ◌||◌, ◌&&◌, not, List, [], ◌∷◌, length, nat_lt, ◌==◌, if◌then◌else◌, Result, Ok, Err}
+use Rattle.std.specs.Prelude.{ℕ, Bool, ◌||◌, ◌&&◌, not, List, [], ◌∷◌, length, nat_lt, ◌==◌, if◌then◌else◌, Result, Ok}
+use Rattle.std.specs.Prelude.{Err}
 use Rattle.std.specs.List.{list_any, list_all}
 use Rattle.std.specs.Str.{byte, bytes_eq}
 use Rattle.co_text.specs.Blanks.{tab, trimmed}
@@ -12,7 +13,8 @@ use Rattle.co_edits.specs.declared.fault.EditFault.TheVariants.{Range}
 
 -- one of `A-Z a-z 0-9 _`
 abbrev pub is_name_byte : ℕ → Bool
-is_name_byte b = is_between (byte "A") (byte "Z") b || is_between (byte "a") (byte "z") b || is_between (byte "0") (byte "9") b || b == byte "_"
+is_name_byte b = is_between (byte "A") (byte "Z") b || is_between (byte "a") (byte "z") b
+    || is_between (byte "0") (byte "9") b || b == byte "_"
 
 -- a name: 1 to 32 of them
 abbrev pub is_name : List ℕ → Bool

@@ -4,7 +4,8 @@ ghost use Rattle.co_base.specs.Gives.{Gives};
 ghost use Rattle.co_edits.specs.Faults.{is_memory};
 ghost use Rattle.co_base.specs.Ranges.{is_between};
 ghost use Rattle.co_messages.specs.Messages.{is_position};
-ghost use Rattle.co_edits.specs.Forms.{limited, is_node_number, is_node_or_all, is_own_index, is_bit_rate, is_time, is_sync_period, is_tpdo_number, is_identifier, is_event_number};
+ghost use Rattle.co_edits.specs.Forms.{limited, is_node_number, is_node_or_all, is_own_index, is_bit_rate, is_time};
+ghost use Rattle.co_edits.specs.Forms.{is_sync_period, is_tpdo_number, is_identifier, is_event_number};
 
 use crate::fault::EditFault;
 use co_dict::is_of_pdos;

@@ -18,14 +18,18 @@ byte_before : (byte : ℕ) (a b : List ℕ) → (byte ∷ a) ++ b ≡ byte ∷ (
 byte_before byte a b = refl
 
 -- four words of a line and its end, one after the other
-words_in_turn : (out a b c d : List ℕ) → out ++ a ++ 32 ∷ b ++ 32 ∷ c ++ 32 ∷ d ++ 10 ∷ [] ≡ out ++ (a ++ 32 ∷ (b ++ 32 ∷ (c ++ 32 ∷ d)) ++ 10 ∷ [])
+words_in_turn : (out a b c d : List ℕ) → out ++ a ++ 32 ∷ b ++ 32 ∷ c ++ 32 ∷ d ++ 10 ∷ []
+    ≡ out ++ (a ++ 32 ∷ (b ++ 32 ∷ (c ++ 32 ∷ d)) ++ 10 ∷ [])
 words_in_turn out a b c d = simp (append_assoc, byte_before) refl
 
 -- an event at its time, what happens then, and the end of the line
 pub event_written : (number : ℕ) (e : TimedEvent) (out moment words line : List ℕ)
-    → moment ≡ out ++ codes "event" ++ 32 ∷ decimal number ++ 32 ∷ decimal e.time → words ≡ moment ++ 32 ∷ spaced (event_words e.event)
+    → moment ≡ out ++ codes "event" ++ 32 ∷ decimal number ++ 32 ∷ decimal e.time
+    → words ≡ moment ++ 32 ∷ spaced (event_words e.event)
     → line ≡ words ++ 10 ∷ [] → line ≡ out ++ text_of (edit.Event number e)
 unfolding line_of text_of words_of
 event_written number e out moment words line begun said ended =
-    rw (ended, said, begun) (words_in_turn out (codes "event") (decimal number) (decimal e.time) (spaced (event_words e.event)))
-    ∙ ap (λ words. out ++ (codes "event" ++ 32 ∷ (decimal number ++ 32 ∷ words) ++ 10 ∷ [])) (sym (event_last (decimal e.time) e.event))
+    rw (ended, said, begun) (words_in_turn out (codes "event") (decimal number) (decimal e.time)
+    (spaced (event_words e.event)))
+    ∙ ap (λ words. out ++ (codes "event" ++ 32 ∷ (decimal number ++ 32 ∷ words) ++ 10 ∷ []))
+    (sym (event_last (decimal e.time) e.event))

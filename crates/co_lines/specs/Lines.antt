@@ -17,7 +17,8 @@ spaced (word ∷ next ∷ words) = word ++ byte " " ∷ spaced (next ∷ words)
 
 -- what happens to a node
 unfoldable pub event_words : Event → List (List ℕ)
-event_words (event.Set node index sub text) = codes "set" ∷ decimal node ∷ index_digits index ∷ byte_digits sub ∷ text ∷ []
+event_words (event.Set node index sub text) = codes "set" ∷ decimal node ∷ index_digits index ∷ byte_digits sub ∷ text
+    ∷ []
 event_words (event.Power node on) = codes "power" ∷ decimal node ∷ (if on then codes "on" else codes "off") ∷ []
 event_words (event.Nmt node command) = codes "nmt" ∷ decimal (number_of command) ∷ decimal node ∷ []
 
@@ -25,7 +26,8 @@ event_words (event.Nmt node command) = codes "nmt" ∷ decimal (number_of comman
 unfoldable pub words_of : Edit → List (List ℕ)
 words_of (edit.Bitrate rate) = codes "bitrate" ∷ decimal rate ∷ []
 words_of (edit.Horizon time) = codes "horizon" ∷ decimal time ∷ []
-words_of (edit.Manager m) = codes "manager" ∷ decimal m.id ∷ decimal m.sync_us ∷ decimal m.heartbeat_ms ∷ decimal m.timeout_ms ∷ []
+words_of (edit.Manager m) = codes "manager" ∷ decimal m.id ∷ decimal m.sync_us ∷ decimal m.heartbeat_ms
+    ∷ decimal m.timeout_ms ∷ []
 words_of (edit.Eds name text) = codes "eds" ∷ name ∷ decimal (line_count text) ∷ []
 words_of (edit.DropEds name) = codes "drop-eds" ∷ name ∷ []
 words_of (edit.Node id name eds) = codes "node" ∷ decimal id ∷ name ∷ eds ∷ []
@@ -33,9 +35,11 @@ words_of (edit.DropNode id) = codes "drop-node" ∷ decimal id ∷ []
 words_of (edit.Param id index sub text) = codes "param" ∷ decimal id ∷ index_digits index ∷ byte_digits sub ∷ text ∷ []
 words_of (edit.Unparam id index sub) = codes "unparam" ∷ decimal id ∷ index_digits index ∷ byte_digits sub ∷ []
 words_of (edit.Message name m) =
-    codes "message" ∷ name ∷ decimal m.node ∷ decimal m.tpdo ∷ decimal m.transmission ∷ decimal m.inhibit ∷ decimal m.event ∷ identifier_digits m.cob ∷ []
+    codes "message" ∷ name ∷ decimal m.node ∷ decimal m.tpdo ∷ decimal m.transmission ∷ decimal m.inhibit
+    ∷ decimal m.event ∷ identifier_digits m.cob ∷ []
 words_of (edit.DropMessage name) = codes "drop-message" ∷ name ∷ []
-words_of (edit.Source message position index sub) = codes "source" ∷ message ∷ decimal position ∷ index_digits index ∷ byte_digits sub ∷ []
+words_of (edit.Source message position index sub) = codes "source" ∷ message ∷ decimal position ∷ index_digits index
+    ∷ byte_digits sub ∷ []
 words_of (edit.Unsource message position) = codes "unsource" ∷ message ∷ decimal position ∷ []
 words_of (edit.Sink message position node index sub) =
     codes "sink" ∷ message ∷ decimal position ∷ decimal node ∷ index_digits index ∷ byte_digits sub ∷ []

@@ -20,7 +20,8 @@ fn write_set(
     sub: u8,
     text: &[u8],
 ) -> Result<(), AllocError>
-    ensures { OnOk result (out.new.items ≡ out.old.items ++ byte " " ∷ spaced (event_words (event.Set node index sub text.now))) }
+    ensures { OnOk result (out.new.items ≡ out.old.items ++ byte " "
+        ∷ spaced (event_words (event.Set node index sub text.now))) }
 {
     write_word(out, b"set")?;
     write_number(out, alloc, u64::from(node))?;
@@ -73,7 +74,8 @@ fn write_words(out: &mut Vec<u8>, alloc: Global, event: &Event) -> Result<(), Al
 
 /// Writes `event K TIME`.
 fn write_moment(out: &mut Vec<u8>, alloc: Global, number: u16, time: u32) -> Result<(), AllocError>
-    ensures { OnOk result (out.new.items ≡ out.old.items ++ codes "event" ++ byte " " ∷ decimal number ++ byte " " ∷ decimal time) }
+    ensures { OnOk result (out.new.items ≡ out.old.items ++ codes "event" ++ byte " " ∷ decimal number ++ byte " "
+        ∷ decimal time) }
 {
     out.extend_from_slice(b"event")?;
     write_number(out, alloc, u64::from(number))?;

@@ -1,5 +1,6 @@
 -- Bits of numbers, put side by side.
-use Rattle.std.proofs.Common.{◌≡◌, ℕ, zero, suc, ◌+◌, ◌*◌, ◌/◌, ◌%◌, ◌^◌, ◌<◌, ◌≤◌, List, [], ◌∷◌, ◌++◌, length, map, refl, ap, ◌∙◌, arith}
+use Rattle.std.proofs.Common.{◌≡◌, ℕ, zero, suc, ◌+◌, ◌*◌, ◌/◌, ◌%◌, ◌^◌, ◌<◌, ◌≤◌, List, [], ◌∷◌, ◌++◌, length, map}
+use Rattle.std.proofs.Common.{refl, ap, ◌∙◌, arith}
 use Rattle.std.specs.Int.{bit_at}
 use Rattle.std.specs.List.{range_with_len}
 use Rattle.std.proofs.Math.Nat.{mod-eq_of_lt, mod-lt, mul-le-mul_right, mul_assoc, mul_comm, one-le-pow, pow-succ'}
@@ -11,7 +12,8 @@ use Rattle.co_mapping.specs.Bits.{low_bits, number_of}
 -- ---- the lowest bits
 
 -- bit i + 1 of a number is bit i of its half
-halved : (n i j count : ℕ) → j ≡ i + 1 → map (bit_at n) (range_with_len j count) ≡ map (bit_at (n / 2)) (range_with_len i count)
+halved : (n i j count : ℕ) → j ≡ i + 1 → map (bit_at n) (range_with_len j count)
+    ≡ map (bit_at (n / 2)) (range_with_len i count)
 halved n i j zero e = refl
 halved n i j (suc count) e =
     let next : j ≡ suc i = omega arith in
@@ -49,7 +51,9 @@ unfolding number_of
 number-append [] ys = omega arith
 number-append (x ∷ xs) ys =
     let rest = number-append xs ys in
-    let above : 2 ^ suc (length xs) * number_of ys ≡ 2 * (2 ^ length xs * number_of ys) = ap (λ (k : ℕ). k * number_of ys) (pow-succ' 2 (length xs)) ∙ mul_assoc 2 (2 ^ length xs) (number_of ys) in
+    let above : 2 ^ suc (length xs) * number_of ys
+    ≡ 2 * (2 ^ length xs * number_of ys) = ap (λ (k : ℕ). k * number_of ys) (pow-succ' 2 (length xs))
+    ∙ mul_assoc 2 (2 ^ length xs) (number_of ys) in
     omega (arith, rest, above)
 
 -- ---- bits moved up
@@ -79,6 +83,7 @@ module _ (n count position : ℕ) (within : position + count ≤ 64) where
       let less : count ≤ 64 = omega arith in
       let few : 2 ^ count ≤ 2 ^ 64 = pow_mono less in
       let mask : 1 * 2 ^ count % 2 ^ 128 ≡ 2 ^ count = mod-eq_of_lt (omega (arith, few)) ∙ omega arith in
-      let turned : n % 2 ^ count * 2 ^ position ≡ 2 ^ position * (n % 2 ^ count) = mul_comm (n % 2 ^ count) (2 ^ position) in
+      let turned : n % 2 ^ count * 2 ^ position ≡ 2 ^ position * (n % 2 ^ count) = mul_comm (n % 2 ^ count)
+      (2 ^ position) in
       let small : n % 2 ^ count * 2 ^ position < 2 ^ 128 = omega (arith, turned, moved_fits) in
       ap (λ (m : ℕ). n % m * 2 ^ position % 2 ^ 128) mask ∙ mod-eq_of_lt small ∙ turned

@@ -1,5 +1,6 @@
 -- Bits of a frame, entry by entry.
-use Rattle.std.proofs.Common.{◌≡◌, ℕ, zero, suc, ◌+◌, ◌/◌, ◌%◌, ◌^◌, ◌-◌, ◌<◌, ◌≤◌, List, ◌∷◌, length, get_or, take, drop, sym, ap, ◌∙◌, arith}
+use Rattle.std.proofs.Common.{◌≡◌, ℕ, zero, suc, ◌+◌, ◌/◌, ◌%◌, ◌^◌, ◌-◌, ◌<◌, ◌≤◌, List, ◌∷◌, length, get_or, take}
+use Rattle.std.proofs.Common.{drop, sym, ap, ◌∙◌, arith}
 use Rattle.std.proofs.Math.Nat.{div-div-eq-div-mul, pow-succ'}
 use Rattle.std.proofs.lemmas.List.{drop_all}
 use Rattle.byteorder.proofs.Bytes.{take-bytes_low_first}
@@ -19,7 +20,8 @@ behind zero count n =
     ap (λ m. low_bits m n) none ∙ ap (low_bits count) (sym same)
 behind (suc position) count n =
     let one : suc position + count ≡ suc (position + count) = omega arith in
-    let halves : n / 2 / 2 ^ position ≡ n / 2 ^ suc position = div-div-eq-div-mul n 2 (2 ^ position) ∙ ap (λ (m : ℕ). n / m) (sym (pow-succ' 2 position)) in
+    let halves : n / 2 / 2 ^ position ≡ n / 2 ^ suc position = div-div-eq-div-mul n 2 (2 ^ position)
+    ∙ ap (λ (m : ℕ). n / m) (sym (pow-succ' 2 position)) in
     ap (λ m. drop (suc position) (low_bits m n)) one
     ∙ ap (drop (suc position)) (low_bits-suc (position + count) n)
     ∙ behind position count (n / 2)
@@ -35,7 +37,8 @@ front (suc count) more n =
     ∙ sym (low_bits-suc count n)
 
 -- the bits of a mapping entry at a position are those of the number there
-pub bits_there : (entry position n : ℕ) → position + mapped_length entry ≤ 64 → bits_for entry position (low_bits 64 n) ≡ low_bits (mapped_length entry) (n / 2 ^ position)
+pub bits_there : (entry position n : ℕ) → position + mapped_length entry ≤ 64
+    → bits_for entry position (low_bits 64 n) ≡ low_bits (mapped_length entry) (n / 2 ^ position)
 unfolding bits_for
 bits_there entry position n within =
     let count : ℕ = mapped_length entry in
@@ -46,15 +49,18 @@ bits_there entry position n within =
     ∙ front count more (n / 2 ^ position)
 
 -- and their value that of this number
-pub value_there : (entry position n : ℕ) (bytes : List ℕ) → position + mapped_length entry ≤ 64 → bytes ≡ little_bytes 8 (n / 2 ^ position % 2 ^ mapped_length entry)
+pub value_there : (entry position n : ℕ) (bytes : List ℕ) → position + mapped_length entry ≤ 64
+    → bytes ≡ little_bytes 8 (n / 2 ^ position % 2 ^ mapped_length entry)
     → take (bytes_begun (mapped_length entry)) bytes ≡ value_of_bits (bits_for entry position (low_bits 64 n))
 value_there entry position n bytes within are =
     let count : ℕ = mapped_length entry in
     let x : ℕ = n / 2 ^ position % 2 ^ count in
     let bits = bits_there entry position n within in
     let few : bytes_begun count ≤ 8 = omega arith in
-    let size : length (bits_for entry position (low_bits 64 n)) ≡ count = ap length bits ∙ length-low_bits count (n / 2 ^ position) in
-    let number : number_of (bits_for entry position (low_bits 64 n)) ≡ x = ap number_of bits ∙ number-low_bits count (n / 2 ^ position) in
+    let size : length (bits_for entry position (low_bits 64 n)) ≡ count = ap length bits
+    ∙ length-low_bits count (n / 2 ^ position) in
+    let number : number_of (bits_for entry position (low_bits 64 n)) ≡ x = ap number_of bits
+    ∙ number-low_bits count (n / 2 ^ position) in
     ap (take (bytes_begun count)) are
     ∙ take-bytes_low_first 0 8 (bytes_begun count) x few
     ∙ ap (λ m. little_bytes (bytes_begun m) x) (sym size)

@@ -28,7 +28,10 @@ packed_bits values mapping = flat_map (entry_bits values) mapping
 
 -- eight bits to a byte, the lowest first, up to eight bytes; and how many of them the PDO has
 unfoldable pub packed : Values → List ℕ → List ℕ × ℕ
-packed values mapping = (little_bytes 8 (number_of (packed_bits values mapping)), bytes_begun (length (packed_bits values mapping)))
+packed values mapping = (
+  little_bytes 8 (number_of (packed_bits values mapping)),
+  bytes_begun (length (packed_bits values mapping)),
+)
 
 -- ---- out of a frame
 
@@ -55,7 +58,8 @@ takes shape entry bits values =
 
 -- where it does, the entry gets the value
 unfoldable pub with_bits : Shaped → ℕ → List ℕ → Values → Values
-with_bits shape entry bits values = if takes shape entry bits values then insert values (mapped_place entry) (value_of_bits bits) else values
+with_bits shape entry bits values = if takes shape entry bits values
+    then insert values (mapped_place entry) (value_of_bits bits) else values
 
 -- what stands after each entry of a mapping had its turn, with the bits behind those of the entries before it
 abbrev pub after_entries : {S : Type 0} → (ℕ → List ℕ → S → S) → ℕ → List ℕ → List ℕ → S → S

@@ -31,8 +31,10 @@ pub fn a_pdo_has_the_bytes_that_its_mapping_begins()
 /// Each mapped entry has its bits in the frame behind those of the entries before it.
 #[tactic(auto, using(crate::proofs::CarriedLaws::bits_at_position))]
 pub fn each_entry_has_its_bits_at_its_position()
-    ensures { (values : Values) (mapping : List ℕ) (i entry : ℕ) → mapping_bits mapping ≤ 64 → slice_get mapping i ≡ Some entry
-        → bits_for entry (mapping_bits (take i mapping)) (frame_bits (packed values mapping).0) ≡ entry_bits values entry }
+    ensures { (values : Values) (mapping : List ℕ) (i entry : ℕ) → mapping_bits mapping ≤ 64
+        → slice_get mapping i ≡ Some entry
+        → bits_for entry (mapping_bits (take i mapping)) (frame_bits (packed values mapping).0)
+        ≡ entry_bits values entry }
 {}
 
 /// Each entry of a mapping gets the bits at its position, where the device takes them, and keeps its

@@ -13,7 +13,8 @@ use std::alloc::AllocError;
 /// The bytes of the value that a frame has for a mapping entry at a position, and behind them zeros.
 fn value_for(entry: u32, position: u32, bytes: &[u8]) -> [u8; 8]
     requires { position + length_mapped entry ≤ 64 }
-    ensures { take (bytes_begun (length_mapped entry)) result ≡ value_of_bits (bits_for entry position (frame_bits bytes.now)) }
+    ensures { take (bytes_begun (length_mapped entry)) result
+        ≡ value_of_bits (bits_for entry position (frame_bits bytes.now)) }
 {
     to_le(moved_down(number_64(bytes), mapped_length(entry), position))
 }
@@ -44,8 +45,10 @@ pub fn unpack_entry(
     bytes: &[u8],
 ) -> Result<bool, AllocError>
     requires { position + length_mapped entry ≤ 64 }
-    ensures wrote { IfOk result (λ wrote. wrote ≡ takes shape.now entry (bits_for entry position (frame_bits bytes.now)) dict.old) }
-    ensures ok { OnOk result (dict.new ≡ with_bits shape.now entry (bits_for entry position (frame_bits bytes.now)) dict.old) }
+    ensures wrote { IfOk result (λ wrote. wrote
+        ≡ takes shape.now entry (bits_for entry position (frame_bits bytes.now)) dict.old) }
+    ensures ok { OnOk result (dict.new
+        ≡ with_bits shape.now entry (bits_for entry position (frame_bits bytes.now)) dict.old) }
     ensures err { OnErr result (dict.new ≡ dict.old) }
 {
     if !names_entry(shape, entry) {

@@ -15,7 +15,9 @@ use Rattle.co_base.proofs.EachLemmas.{all_entries, each_empty, each_found, each_
 use Rattle.co_base.proofs.EntryLemmas.{All-left, All-put, strict-left, strict-put}
 use Rattle.co_messages.specs.declared.linked.Linked.{Linked}
 use Rattle.co_messages.specs.declared.message.Message.{Message}
-use Rattle.co_messages.specs.Messages.{changed, is_position, linked_to, seat_cmp, with_sink, with_source, without_sink, without_source, AreMessages, AreSinks, AreSources, IsLinked, IsMessage, IsSink, Named}
+use Rattle.co_messages.specs.Messages.{with_changed, is_position, linked_to, seat_cmp, with_sink, with_source}
+use Rattle.co_messages.specs.Messages.{without_sink, without_source, AreMessages, AreSinks, AreSources, IsLinked}
+use Rattle.co_messages.specs.Messages.{IsMessage, IsSink, Named}
 
 -- the order of sinks
 pub seats_exact : CmpEqualImpliesEq seat_cmp
@@ -35,13 +37,15 @@ unfolding AreSinks IsStrictlySortedBy
 no_sinks = (tt, All-nil _)
 
 -- a message, where a known one keeps its sources and sinks
-pub linked_message : (known : Option Linked) (message : Message) → IsMessage message → IfSome known IsLinked → IsLinked (linked_to known message)
+pub linked_message : (known : Option Linked) (message : Message) → IsMessage message → IfSome known IsLinked
+    → IsLinked (linked_to known message)
 unfolding IsLinked
 linked_message None message is known = (is, no_sources, no_sinks)
 linked_message (Some l) message is known = (is, known.1, known.2)
 
 -- with one source more, or another in its place
-pub source_put : (l : Linked) (position : ℕ) (place : ℕ × ℕ) → IsLinked l → is_position position ≡ true → AreIndices place.0 place.1 → IsLinked (with_source position place l)
+pub source_put : (l : Linked) (position : ℕ) (place : ℕ × ℕ) → IsLinked l → is_position position ≡ true
+    → AreIndices place.0 place.1 → IsLinked (with_source position place l)
 unfolding IsLinked AreSources
 source_put l position place is fits are =
     let IsSource : ℕ × (ℕ × ℕ) → Type 0 = λ e. is_position e.0 ≡ true in
@@ -61,11 +65,19 @@ unfolding IsLinked AreSources
 source_left l position is =
     let test = is_at (nat_cmp position) in
     let IsSource : ℕ × (ℕ × ℕ) → Type 0 = λ e. is_position e.0 ≡ true in
-    let IsPlace : ℕ × (ℕ × ℕ) → Type 0 = λ e. AreIndices e.1.0 e.1.1 in
-    (is.0, (strict-left test nat_cmp l.sources is.1.0, All-left test IsSource l.sources is.1.1, All-left test IsPlace l.sources is.1.2), is.2)
+    let IsPlace : ℕ × (ℕ × ℕ) → Type 0 = λ e. AreIndices e.1.0 e.1.1 in (
+      is.0,
+      (
+        strict-left test nat_cmp l.sources is.1.0,
+        All-left test IsSource l.sources is.1.1,
+        All-left test IsPlace l.sources is.1.2,
+      ),
+      is.2,
+    )
 
 -- with one sink more, or another in its place
-pub sink_put : (l : Linked) (position node : ℕ) (place : ℕ × ℕ) → IsLinked l → is_position position ≡ true → is_between 1 127 node ≡ true → AreIndices place.0 place.1 → IsLinked (with_sink position node place l)
+pub sink_put : (l : Linked) (position node : ℕ) (place : ℕ × ℕ) → IsLinked l → is_position position ≡ true
+    → is_between 1 127 node ≡ true → AreIndices place.0 place.1 → IsLinked (with_sink position node place l)
 unfolding IsLinked AreSinks
 sink_put l position node place is fits taker are = (
   is.0,
@@ -99,9 +111,11 @@ unfolding AreMessages
 limits_at ms name are = are name
 
 -- the message of a name keeps to the limits
-pub limits_behind : (ms : Named) (name : List ℕ) (o : Option (Bor Linked)) → AreMessages ms → option_copied o ≡ get ms name → IfSome o (λ l. IsLinked l.now)
+pub limits_behind : (ms : Named) (name : List ℕ) (o : Option (Bor Linked)) → AreMessages ms
+    → option_copied o ≡ get ms name → IfSome o (λ l. IsLinked l.now)
 limits_behind ms name None are found = tt
-limits_behind ms name (Some l) are found = subst (λ (x : Option Linked). IfSome x IsLinked) (sym found) (limits_at ms name are)
+limits_behind ms name (Some l) are found = subst (λ (x : Option Linked). IfSome x IsLinked) (sym found)
+    (limits_at ms name are)
 
 -- and so do all
 pub limits_of_all : (ms : Named) → AreMessages ms → All (λ e. IsLinked e.1) (entries ms)
@@ -109,7 +123,8 @@ unfolding AreMessages
 limits_of_all ms are = all_entries nat_list_cmp_total exact_bytes OfName ms are
 
 -- messages with one more, or another in its place
-pub messages_put : (ms : Named) (name : List ℕ) (l : Linked) → AreMessages ms → IsLinked l → AreMessages (insert ms name l)
+pub messages_put : (ms : Named) (name : List ℕ) (l : Linked) → AreMessages ms → IsLinked l
+    → AreMessages (insert ms name l)
 unfolding AreMessages
 messages_put ms name l are is = each_put nat_list_cmp_total exact_bytes OfName ms name l are is
 
@@ -119,9 +134,11 @@ unfolding AreMessages
 messages_left ms name are = each_removed nat_list_cmp_total exact_bytes OfName ms name are
 
 -- messages of which one is changed
-pub messages_changed : (change : Linked → Linked) (ms : Named) (name : List ℕ) → ((l : Linked) → IsLinked l → IsLinked (change l)) → AreMessages ms → AreMessages (changed change ms name)
+pub messages_changed : (change : Linked → Linked) (ms : Named) (name : List ℕ)
+    → ((l : Linked) → IsLinked l → IsLinked (change l)) → AreMessages ms → AreMessages (with_changed change ms name)
 messages_changed change ms name keeps are = by (get ms name) (limits_at ms name are)
   where
-    by : (found : Option Linked) → IfSome found IsLinked → AreMessages (option_map_or (λ known. insert ms name (change known)) found ms)
+    by : (found : Option Linked) → IfSome found IsLinked
+        → AreMessages (option_map_or (λ known. insert ms name (change known)) found ms)
     by None is = are
     by (Some l) is = messages_put ms name (change l) are (keeps l is)

@@ -1,5 +1,6 @@
 -- The map that a tree by names makes.
-use Rattle.std.proofs.Common.{◌≡◌, ℕ, Vec, sym, ◌∙◌, List, [], ◌∷◌, length, suc, Bool, true, false, cond, ◌⊎◌, Option, Some, None, inl, inr, refl, ap, subst}
+use Rattle.std.proofs.Common.{◌≡◌, ℕ, Vec, sym, ◌∙◌, List, [], ◌∷◌, length, suc, Bool, true, false, cond, ◌⊎◌, Option}
+use Rattle.std.proofs.Common.{Some, None, inl, inr, refl, ap, subst}
 use Rattle.std.specs.declared.cmp.Ordering.{Ordering}
 use Rattle.std.specs.declared.cmp.Ordering.TheVariants.{Less}
 use Rattle.std.specs.List.{AllByRecursion}
@@ -36,11 +37,13 @@ module _ {A X : Type 0} where
   value_found es name = get_made nat_list_cmp_total exact_bytes (by_name es) name ∙ by_bytes name es
 
   -- a name that has a value is that of a key
-  pub key_of : (es : List (Vec ℕ A × X)) (name : List ℕ) (value : X) → value_in es name ≡ Some value → (key : Vec ℕ A) × (key.items ≡ name)
+  pub key_of : (es : List (Vec ℕ A × X)) (name : List ℕ) (value : X) → value_in es name ≡ Some value
+      → (key : Vec ℕ A) × (key.items ≡ name)
   key_of [] name value is = cc
   key_of (e ∷ es) name value is = by (is_at (name_cmp name) e.0.items) refl is (key_of es name value)
     where
-      by : (t : Bool) → is_at (name_cmp name) e.0.items ≡ t → cond t (Some e.1) (value_in es name) ≡ Some value → (value_in es name ≡ Some value → (key : Vec ℕ A) × (key.items ≡ name))
+      by : (t : Bool) → is_at (name_cmp name) e.0.items ≡ t → cond t (Some e.1) (value_in es name) ≡ Some value
+          → (value_in es name ≡ Some value → (key : Vec ℕ A) × (key.items ≡ name))
           → (key : Vec ℕ A) × (key.items ≡ name)
       by true same is rest = (e.0, sym (tells_apart exact_bytes name e.0.items same))
       by false other is rest = rest is
@@ -48,37 +51,45 @@ module _ {A X : Type 0} where
   module _ (es fs : List (Vec ℕ A × X)) (name : List ℕ) (value : Option X) where
     -- trees that differ at the keys of a name
     abbrev pub DifferAtKeys : Type 0
-    DifferAtKeys = (q : Vec ℕ A) → value_in fs q.items ≡ cond (is_at (name_cmp name) q.items) value (value_in es q.items)
+    DifferAtKeys = (q : Vec ℕ A) → value_in fs q.items
+        ≡ cond (is_at (name_cmp name) q.items) value (value_in es q.items)
 
     abbrev pub DifferAt : List ℕ → Type 0
     DifferAt q = value_in fs q ≡ cond (is_at (name_cmp name) q) value (value_in es q)
 
     -- differ there alone, if names that no key has make no difference
     differ : DifferAtKeys → ((q : List ℕ) → cond (is_at (name_cmp name) q) value None ≡ None ⊎ DifferAt q)
-        → (q : List ℕ) → lookup (is_at (name_cmp q)) (by_name fs) ≡ cond (is_at (name_cmp name) q) value (lookup (is_at (name_cmp q)) (by_name es))
-    differ h others q = by_bytes q fs ∙ by (value_in es q) (value_in fs q) refl refl (others q) ∙ ap (cond (is_at (name_cmp name) q) value) (sym (by_bytes q es))
+        → (q : List ℕ) → lookup (is_at (name_cmp q)) (by_name fs)
+        ≡ cond (is_at (name_cmp name) q) value (lookup (is_at (name_cmp q)) (by_name es))
+    differ h others q = by_bytes q fs ∙ by (value_in es q) (value_in fs q) refl refl (others q)
+        ∙ ap (cond (is_at (name_cmp name) q) value) (sym (by_bytes q es))
       where
         at : (key : Vec ℕ A) × (key.items ≡ q) → DifferAt q
         at key = subst DifferAt key.1 (h key.0)
 
-        by : (old new : Option X) → value_in es q ≡ old → value_in fs q ≡ new → cond (is_at (name_cmp name) q) value None ≡ None ⊎ DifferAt q → DifferAt q
+        by : (old new : Option X) → value_in es q ≡ old → value_in fs q ≡ new
+            → cond (is_at (name_cmp name) q) value None ≡ None ⊎ DifferAt q → DifferAt q
         by (Some v) new e g other = at (key_of es q v e)
         by None (Some v) e g other = at (key_of fs q v g)
         by None None e g (inl none) = g ∙ sym none ∙ ap (cond (is_at (name_cmp name) q) value) (sym e)
         by None None e g (inr differs) = differs
 
   -- a value that is put
-  pub value_put : (es fs : List (Vec ℕ A × X)) (key : Vec ℕ A) (value : X) → DifferAtKeys es fs key.items (Some value) → made fs ≡ insert (made es) key.items value
+  pub value_put : (es fs : List (Vec ℕ A × X)) (key : Vec ℕ A) (value : X) → DifferAtKeys es fs key.items (Some value)
+      → made fs ≡ insert (made es) key.items value
   value_put es fs key value h =
       made_put nat_list_cmp_total exact_bytes (by_name es) (by_name fs) key.items value
       (differ es fs key.items (Some value) h (λ q. by q (is_at (name_cmp key.items) q) refl))
     where
-      by : (q : List ℕ) (t : Bool) → is_at (name_cmp key.items) q ≡ t → cond t (Some value) None ≡ None ⊎ DifferAt es fs key.items (Some value) q
-      by q true same = inr (subst (DifferAt es fs key.items (Some value)) (tells_apart exact_bytes key.items q same) (h key))
+      by : (q : List ℕ) (t : Bool) → is_at (name_cmp key.items) q ≡ t
+          → cond t (Some value) None ≡ None ⊎ DifferAt es fs key.items (Some value) q
+      by q true same = inr (subst (DifferAt es fs key.items (Some value)) (tells_apart exact_bytes key.items q same)
+          (h key))
       by q false other = inl refl
 
   -- a value that is changed at a name that has one
-  pub value_changed : (es fs : List (Vec ℕ A × X)) (name : List ℕ) (old value : X) → Some old ≡ value_in es name → DifferAtKeys es fs name (Some value) → made fs ≡ insert (made es) name value
+  pub value_changed : (es fs : List (Vec ℕ A × X)) (name : List ℕ) (old value : X) → Some old ≡ value_in es name
+      → DifferAtKeys es fs name (Some value) → made fs ≡ insert (made es) name value
   value_changed es fs name old value found h = by (key_of es name old (sym found))
     where
       by : (key : Vec ℕ A) × (key.items ≡ name) → made fs ≡ insert (made es) name value
@@ -87,18 +98,22 @@ module _ {A X : Type 0} where
           ∙ ap (λ n. insert (made es) n value) key.1
 
   -- a value that is taken away
-  pub value_removed : (es fs : List (Vec ℕ A × X)) (name : List ℕ) → DifferAtKeys es fs name None → made fs ≡ remove (made es) name
-  value_removed es fs name h = made_removed nat_list_cmp_total exact_bytes (by_name es) (by_name fs) name (differ es fs name None h (λ q. inl (by (is_at (name_cmp name) q))))
+  pub value_removed : (es fs : List (Vec ℕ A × X)) (name : List ℕ) → DifferAtKeys es fs name None
+      → made fs ≡ remove (made es) name
+  value_removed es fs name h = made_removed nat_list_cmp_total exact_bytes (by_name es)
+      (by_name fs) name (differ es fs name None h (λ q. inl (by (is_at (name_cmp name) q))))
     where
       by : (t : Bool) → ◌≡◌ {A = Option X} (cond t None None) None
       by true = refl
       by false = refl
 
-  below : (k : Vec ℕ A) (es : List (Vec ℕ A × X)) → AllByRecursion (λ x. key_cmp k x ≡ Less) (keys_of es) → AllByRecursion (λ x. name_cmp k.items x ≡ Less) (keys_of (by_name es))
+  below : (k : Vec ℕ A) (es : List (Vec ℕ A × X)) → AllByRecursion (λ x. key_cmp k x ≡ Less) (keys_of es)
+      → AllByRecursion (λ x. name_cmp k.items x ≡ Less) (keys_of (by_name es))
   below k [] h = tt
   below k (e ∷ es) h = (h.0, below k es h.1)
 
-  in_order : (es : List (Vec ℕ A × X)) → IsStrictlySortedBy key_cmp (keys_of es) → IsStrictlySortedBy name_cmp (keys_of (by_name es))
+  in_order : (es : List (Vec ℕ A × X)) → IsStrictlySortedBy key_cmp (keys_of es)
+      → IsStrictlySortedBy name_cmp (keys_of (by_name es))
   unfolding IsStrictlySortedBy
   in_order [] h = tt
   in_order (e ∷ es) h = (below e.0 es h.0, in_order es h.1)

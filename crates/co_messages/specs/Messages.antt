@@ -1,5 +1,6 @@
 -- The messages of a project: what each sends, and who takes it (this profile's own).
-use Rattle.std.specs.Prelude.{◌≡◌, ℕ, Bool, true, not, ◌&&◌, ◌||◌, ◌==◌, nat_le, All, List, [], ◌∷◌, map, Option, Some, None, is_some, option_and_then, Vec}
+use Rattle.std.specs.Prelude.{◌≡◌, ℕ, Bool, true, not, ◌&&◌, ◌||◌, ◌==◌, nat_le, All, List, [], ◌∷◌, map, Option, Some}
+use Rattle.std.specs.Prelude.{None, is_some, option_and_then, Vec}
 use Rattle.std.specs.declared.cmp.Ordering.{Ordering}
 use Rattle.std.specs.Ordering.{nat_cmp, ordering_then}
 use Rattle.std.specs.Cmp.Lexicographic.{slice_cmp}
@@ -40,23 +41,25 @@ sink_at sinks position node = lookup (is_at (seat_cmp (position, node))) sinks
 
 -- a message of a name has a source at a position
 abbrev pub has_source : Named → List ℕ → ℕ → Bool
-has_source messages name position = is_some (option_and_then (λ (l : Linked). source_at l.sources position) (get messages name))
+has_source messages name position = is_some (option_and_then (λ (l : Linked). source_at l.sources position)
+    (get messages name))
 
 -- and a sink of a node there
 abbrev pub has_sink : Named → List ℕ → ℕ → ℕ → Bool
-has_sink messages name position node = is_some (option_and_then (λ (l : Linked). sink_at l.sinks position node) (get messages name))
+has_sink messages name position node = is_some (option_and_then (λ (l : Linked). sink_at l.sinks position node)
+    (get messages name))
 
 -- there are at most 1,024 messages: no new name can have one
 abbrev pub is_full_for : Named → List ℕ → Bool
 is_full_for messages name = nat_le 1024 (len messages) && not (contains_key messages name)
 
 -- a node sends a message, or takes a part of it
-abbrev pub concerns : ℕ → Linked → Bool
-concerns node linked = (linked.message.node == node) || list_any (λ s. s.0.1 == node) linked.sinks
+abbrev pub is_of_message : ℕ → Linked → Bool
+is_of_message node linked = (linked.message.node == node) || list_any (λ s. s.0.1 == node) linked.sinks
 
 -- some message does
-abbrev pub concern : ℕ → Named → Bool
-concern node messages = list_any (λ e. concerns node e.1) (entries messages)
+abbrev pub is_of_messages : ℕ → Named → Bool
+is_of_messages node messages = list_any (λ e. is_of_message node e.1) (entries messages)
 
 -- ---- changes
 
@@ -69,8 +72,9 @@ abbrev pub with_message : Named → List ℕ → Message → Named
 with_message messages name message = insert messages name (linked_to (message_at messages name) message)
 
 -- the messages, where that of a name, if it is there, is another one
-abbrev pub changed : (Linked → Linked) → Named → List ℕ → Named
-changed change messages name = option_map_or (λ known. insert messages name (change known)) (get messages name) messages
+abbrev pub with_changed : (Linked → Linked) → Named → List ℕ → Named
+with_changed change messages name = option_map_or (λ known. insert messages name (change known))
+    (get messages name) messages
 
 -- it gets a source, in place of the one that stands there
 abbrev pub with_source : ℕ → ℕ × ℕ → Linked → Linked
@@ -82,11 +86,17 @@ without_source position linked = record linked { sources = remove_entry (is_at (
 
 -- it gets a sink of a node, in place of the one that the node has there
 abbrev pub with_sink : ℕ → ℕ → ℕ × ℕ → Linked → Linked
-with_sink position node place linked = record linked { sinks = insert_entry seat_cmp linked.sinks (position, node) place }
+with_sink position node place linked = record linked {
+  sinks =
+      insert_entry seat_cmp linked.sinks (position, node) place;
+}
 
 -- it loses a sink
 abbrev pub without_sink : ℕ → ℕ → Linked → Linked
-without_sink position node linked = record linked { sinks = remove_entry (is_at (seat_cmp (position, node))) linked.sinks }
+without_sink position node linked = record linked {
+  sinks =
+      remove_entry (is_at (seat_cmp (position, node))) linked.sinks;
+}
 
 module _ {A X : Type 0} where
   -- a map by names as contracts see it
@@ -95,11 +105,13 @@ module _ {A X : Type 0} where
 
 -- ---- what every message keeps to
 
--- its sender's number is 1 to 127, its TPDO 1 to 512, its identifier at most 7FFh; its type has 8 bits, its inhibit time and its event timer have 16
+-- its sender's number is 1 to 127, its TPDO 1 to 512, its identifier at most 7FFh; its type has 8 bits, its inhibit
+-- time and its event timer have 16
 unfoldable pub IsMessage : Message → Type 0
 IsMessage m =
     (is_between 1 127 m.node ≡ true) × (is_between 1 512 m.tpdo ≡ true) × (is_between 0 0x7FF m.cob ≡ true)
-    × (is_between 0 0xFF m.transmission ≡ true) × (is_between 0 0xFFFF m.inhibit ≡ true) × (is_between 0 0xFFFF m.event ≡ true)
+    × (is_between 0 0xFF m.transmission ≡ true) × (is_between 0 0xFFFF m.inhibit ≡ true)
+    × (is_between 0 0xFFFF m.event ≡ true)
 
 -- a position of a source or sink: 1 to 64
 abbrev pub is_position : ℕ → Bool
@@ -107,7 +119,8 @@ is_position n = is_between 1 64 n
 
 -- sources by position, each once
 unfoldable pub AreSources : List (ℕ × (ℕ × ℕ)) → Type 0
-AreSources sources = IsStrictlySortedBy nat_cmp (keys_of sources) × All (λ e. is_position e.0 ≡ true) sources × All (λ e. AreIndices e.1.0 e.1.1) sources
+AreSources sources = IsStrictlySortedBy nat_cmp (keys_of sources) × All (λ e. is_position e.0 ≡ true) sources
+    × All (λ e. AreIndices e.1.0 e.1.1) sources
 
 -- a sink: the position, the number of its node, and its entry
 abbrev pub IsSink : (ℕ × ℕ) × (ℕ × ℕ) → Type 0

@@ -1,7 +1,7 @@
 //! A message with its sources and sinks.
 
 ghost use Rattle.std.specs.Prelude.{◌≡◌};
-ghost use Rattle.co_messages.specs.Messages.{concerns};
+ghost use Rattle.co_messages.specs.Messages.{is_of_message};
 
 use crate::message::Message;
 use crate::sinks::Sinks;
@@ -21,7 +21,7 @@ pub struct Linked {
 impl Linked {
     /// Whether a node sends the message or takes a part of it.
     pub fn concerns(&self, node: u8) -> bool
-        ensures { result ≡ concerns node self.now }
+        ensures { result ≡ is_of_message node self.now }
     {
         self.message.node == node || self.sinks.has_node(node)
     }

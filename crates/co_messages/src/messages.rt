@@ -3,7 +3,9 @@ ghost use Rattle.std.specs.Prelude.{◌≡◌, ◌==◌, true, All, IfSome, None
 ghost use Rattle.std.specs.FinMap as map;
 ghost use Rattle.std.specs.Option.{option_copied};
 ghost use Rattle.co_base.specs.Ranges.{is_between, AreIndices};
-ghost use Rattle.co_messages.specs.Messages.{by_name, changed, concern, has_sink, has_source, is_full_for, is_position, message_at, with_message, with_sink, with_source, without_sink, without_source, IsLinked, IsMessage};
+ghost use Rattle.co_messages.specs.Messages.{by_name, with_changed, is_of_messages, has_sink, has_source, is_full_for};
+ghost use Rattle.co_messages.specs.Messages.{is_position, message_at, with_message, with_sink, with_source};
+ghost use Rattle.co_messages.specs.Messages.{without_sink, without_source, IsLinked, IsMessage};
 
 use crate::linked::Linked;
 use crate::message::Message;
@@ -109,7 +111,7 @@ impl Messages {
     /// Whether a node sends a message or takes a part of one. Takes time by the number of messages
     /// and sinks.
     pub fn concern(&self, node: u8) -> bool
-        ensures { result ≡ concern node self.now }
+        ensures { result ≡ is_of_messages node self.now }
     {
         for (_name, linked) in self.iter() {
             if linked.concerns(node) {
@@ -167,7 +169,7 @@ impl Messages {
     ) -> Result<(), AllocError>
         requires place { is_position position ≡ true }
         requires entry { AreIndices index sub }
-        ensures ok { OnOk result (self.new ≡ changed (with_source position (index, sub)) self.old name.now) }
+        ensures ok { OnOk result (self.new ≡ with_changed (with_source position (index, sub)) self.old name.now) }
         ensures err { OnErr result (self.new ≡ self.old) }
         ensures absent { OnErr result (has_source self.old name.now position ≡ false) }
     {
@@ -180,7 +182,7 @@ impl Messages {
 
     /// Takes the source at a position of the message of a name away, if it is there.
     pub fn remove_source(&mut self, name: &[u8], position: u8)
-        ensures { self.new ≡ changed (without_source position) self.old name.now }
+        ensures { self.new ≡ with_changed (without_source position) self.old name.now }
     {
         let Some(linked) = self.linked.get_mut(name) else {
             return;
@@ -202,7 +204,7 @@ impl Messages {
         requires place { is_position position ≡ true }
         requires taker { is_between 1 127 node ≡ true }
         requires entry { AreIndices index sub }
-        ensures ok { OnOk result (self.new ≡ changed (with_sink position node (index, sub)) self.old name.now) }
+        ensures ok { OnOk result (self.new ≡ with_changed (with_sink position node (index, sub)) self.old name.now) }
         ensures err { OnErr result (self.new ≡ self.old) }
         ensures absent { OnErr result (has_sink self.old name.now position node ≡ false) }
     {
@@ -215,7 +217,7 @@ impl Messages {
 
     /// Takes the sink of a node at a position of the message of a name away, if it is there.
     pub fn remove_sink(&mut self, name: &[u8], position: u8, node: u8)
-        ensures { self.new ≡ changed (without_sink position node) self.old name.now }
+        ensures { self.new ≡ with_changed (without_sink position node) self.old name.now }
     {
         let Some(linked) = self.linked.get_mut(name) else {
             return;

@@ -1,5 +1,6 @@
 -- The writes of a list of places, one for each where there is one.
-use Rattle.std.proofs.Common.{◌≡◌, zero, suc, ◌≤◌, cond, List, [], ◌∷◌, length, map, filter, filter_map, All, Contains, Option, Some, None, is_some, refl, sym, ap, subst, ◌∙◌, arith}
+use Rattle.std.proofs.Common.{◌≡◌, zero, suc, ◌≤◌, cond, List, [], ◌∷◌, length, map, filter, filter_map, All, Contains}
+use Rattle.std.proofs.Common.{Option, Some, None, is_some, refl, sym, ap, subst, ◌∙◌, arith}
 use Rattle.std.specs.List.{cons_option}
 use Rattle.std.proofs.lemmas.List.Elements.{All-nil, All-cons}
 
@@ -14,7 +15,8 @@ Contains-head x xs = (zero, omega arith, refl)
 module _ {X Y : Type 0} (h : X → Option Y) where
   pub Contains-filter_map : (xs : List X) (x : X) (y : Y) → Contains xs x → h x ≡ Some y → Contains (filter_map h xs) y
   Contains-filter_map [] x y (k, below, is) e = absurd (omega arith)
-  Contains-filter_map (z ∷ xs) x y (zero, below, is) e = subst (λ o. Contains (cons_option o (filter_map h xs)) y) (sym (ap h is ∙ e)) (Contains-head y (filter_map h xs))
+  Contains-filter_map (z ∷ xs) x y (zero, below, is) e = subst (λ o. Contains (cons_option o (filter_map h xs)) y)
+      (sym (ap h is ∙ e)) (Contains-head y (filter_map h xs))
   Contains-filter_map (z ∷ xs) x y (suc k, below, is) e = by (h z) (Contains-filter_map xs x y (k, omega arith, is) e)
     where
       by : (o : Option Y) → Contains (filter_map h xs) y → Contains (cons_option o (filter_map h xs)) y
@@ -38,20 +40,25 @@ module _ {X Y : Type 0} (h : X → Option Y) where
   length-filter_map [] = omega arith
   length-filter_map (x ∷ xs) = by (h x) (length-filter_map xs)
     where
-      by : (o : Option Y) → length (filter_map h xs) ≤ length xs → length (cons_option o (filter_map h xs)) ≤ length (x ∷ xs)
+      by : (o : Option Y) → length (filter_map h xs) ≤ length xs
+          → length (cons_option o (filter_map h xs)) ≤ length (x ∷ xs)
       by None le = omega arith
       by (Some y) le = omega arith
 
   -- what names its place: the places of what is given are those at which something is given
-  pub places_given : (place_of : Y → X) → ((x : X) (y : Y) → h x ≡ Some y → place_of y ≡ x) → (xs : List X) → map place_of (filter_map h xs) ≡ filter (λ x. is_some (h x)) xs
+  pub places_given : (place_of : Y → X) → ((x : X) (y : Y) → h x ≡ Some y → place_of y ≡ x) → (xs : List X)
+      → map place_of (filter_map h xs) ≡ filter (λ x. is_some (h x)) xs
   places_given place_of names [] = refl
   places_given place_of names (x ∷ xs) = by (h x) refl (places_given place_of names xs)
     where
-      by : (o : Option Y) → h x ≡ o → map place_of (filter_map h xs) ≡ filter (λ x. is_some (h x)) xs → map place_of (cons_option o (filter_map h xs)) ≡ cond (is_some o) (x ∷ filter (λ x. is_some (h x)) xs) (filter (λ x. is_some (h x)) xs)
+      by : (o : Option Y) → h x ≡ o → map place_of (filter_map h xs) ≡ filter (λ x. is_some (h x)) xs
+          → map place_of (cons_option o (filter_map h xs)) ≡ cond (is_some o) (x ∷ filter (λ x. is_some (h x)) xs)
+          (filter (λ x. is_some (h x)) xs)
       by None e same = same
       by (Some y) e same = rw (names x y e, same) refl
 
-  pub All-filter_map : (P : Y → Type 0) → ((x : X) (y : Y) → h x ≡ Some y → P y) → (xs : List X) → All P (filter_map h xs)
+  pub All-filter_map : (P : Y → Type 0) → ((x : X) (y : Y) → h x ≡ Some y → P y) → (xs : List X)
+      → All P (filter_map h xs)
   All-filter_map P holds [] = All-nil P
   All-filter_map P holds (x ∷ xs) = by (h x) refl (All-filter_map P holds xs)
     where

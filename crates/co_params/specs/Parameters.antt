@@ -1,4 +1,5 @@
--- The parameters of a node, and the writes that they are. CiA 306 gives an entry its ParameterValue; which text counts and what isn't written is this profile's own.
+-- The parameters of a node, and the writes that they are. CiA 306 gives an entry its ParameterValue; which text counts
+-- and what isn't written is this profile's own.
 use Rattle.std.specs.Prelude.{ℕ, if◌then◌else◌, List, Option, None, option_map, option_and_then, filter_map}
 use Rattle.std.specs.FinMap.{get}
 use Rattle.std.specs.Option.{option_or}
@@ -10,7 +11,7 @@ use Rattle.eds_device.specs.Entries.{entry_at}
 use Rattle.eds_device.specs.Places.{pairs_of}
 use Rattle.co_dict.specs.Pdos.{is_of_pdos}
 use Rattle.co_params.specs.Params.{Texts}
-use Rattle.co_params.specs.Judgement.{judged}
+use Rattle.co_params.specs.Judgement.{parameter_bytes}
 
 -- the ParameterValue of the device's text
 abbrev pub given_text : List Section → ℕ × ℕ → Option (List ℕ)
@@ -27,7 +28,8 @@ write_to place bytes = record { index = place.0; sub = place.1; bytes = bytes }
 abbrev pub parameter_write : List Section → Texts → ℕ → ℕ × ℕ → Option Write
 parameter_write ss params node place =
     option_map (write_to place)
-    (option_and_then (λ text. result_ok (judged (entry_at ss node place.0 place.1) text node)) (parameter_text ss params place))
+    (option_and_then (λ text. result_ok (parameter_bytes (entry_at ss node place.0 place.1) text node))
+    (parameter_text ss params place))
 
 -- THE WRITES of a node's parameters, by index and sub-index
 unfoldable pub parameter_writes : List Section → Texts → ℕ → List Write

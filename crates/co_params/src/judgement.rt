@@ -3,7 +3,8 @@ ghost use Rattle.std.specs.Prelude.{◌≡◌, IfOk, IfSome};
 ghost use Rattle.co_values.specs.Values.{Fits, value};
 ghost use Rattle.eds_device.specs.Described.{kind_at};
 ghost use Rattle.eds_device.specs.Entries.{entry_at};
-ghost use Rattle.co_params.specs.Judgement.{is_outside, breaks_limit, judged_at, judged, set_at, judged_set};
+ghost use Rattle.co_params.specs.Judgement.{is_outside, breaks_limit, parameter_bytes_at, parameter_bytes};
+ghost use Rattle.co_params.specs.Judgement.{set_bytes_at, set_bytes};
 
 use crate::parameter_fault::ParameterFault;
 use co_base::Octets;
@@ -65,7 +66,7 @@ fn judge_at(
     text: &[u8],
     node: u8,
 ) -> Result<Result<Octets, ParameterFault>, AllocError>
-    ensures given { IfOk result (λ given. given ≡ judged_at entry.now text.now node) }
+    ensures given { IfOk result (λ given. given ≡ parameter_bytes_at entry.now text.now node) }
     ensures fits { IfOk result (λ given. IfOk given (Fits entry.now.kind)) }
 {
     if !entry.kind.is_modelled() {
@@ -86,7 +87,7 @@ fn judge_at(
 /// The bytes that a text gives an entry of a device at a node, as its parameter; or the first fault
 /// that holds: there is no such entry, its type is not modelled, it is read-only or constant, the
 /// text spells no value of its type, the value is outside its limits.
-#[tactic(auto, unfolding(crate::specs::Judgement::judged))]
+#[tactic(auto, unfolding(crate::specs::Judgement::parameter_bytes))]
 pub fn judge(
     alloc: Global,
     device: &Device,
@@ -95,7 +96,8 @@ pub fn judge(
     sub: u8,
     text: &[u8],
 ) -> Result<Result<Octets, ParameterFault>, AllocError>
-    ensures given { IfOk result (λ given. given ≡ judged (entry_at device.now.sections node index sub) text.now node) }
+    ensures given { IfOk result (λ given. given
+        ≡ parameter_bytes (entry_at device.now.sections node index sub) text.now node) }
     ensures fits { IfOk result (λ given. IfOk given (Fits (kind_at device.now.sections (index, sub)))) }
 {
     let Some(entry) = device.entry(node, index, sub) else {
@@ -112,7 +114,7 @@ fn judge_set_at(
     text: &[u8],
     node: u8,
 ) -> Result<Result<Octets, ParameterFault>, AllocError>
-    ensures given { IfOk result (λ given. given ≡ set_at entry.now text.now node) }
+    ensures given { IfOk result (λ given. given ≡ set_bytes_at entry.now text.now node) }
     ensures fits { IfOk result (λ given. IfOk given (Fits entry.now.kind)) }
 {
     if !entry.kind.is_modelled() {
@@ -127,7 +129,7 @@ fn judge_set_at(
 /// The bytes that a text gives an entry of a device at a node where the node's own application sets
 /// it, whatever its access and limits; or the first fault that holds: there is no such entry, its
 /// type is not modelled, the text spells no value of its type.
-#[tactic(auto, unfolding(crate::specs::Judgement::judged_set))]
+#[tactic(auto, unfolding(crate::specs::Judgement::set_bytes))]
 pub fn judge_set(
     alloc: Global,
     device: &Device,
@@ -136,7 +138,8 @@ pub fn judge_set(
     sub: u8,
     text: &[u8],
 ) -> Result<Result<Octets, ParameterFault>, AllocError>
-    ensures given { IfOk result (λ given. given ≡ judged_set (entry_at device.now.sections node index sub) text.now node) }
+    ensures given { IfOk result (λ given. given
+        ≡ set_bytes (entry_at device.now.sections node index sub) text.now node) }
     ensures fits { IfOk result (λ given. IfOk given (Fits (kind_at device.now.sections (index, sub)))) }
 {
     let Some(entry) = device.entry(node, index, sub) else {

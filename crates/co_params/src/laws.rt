@@ -10,13 +10,14 @@ ghost use Rattle.eds_device.specs.Entries.{entry_at};
 ghost use Rattle.co_dict.specs.Places.{place_cmp};
 ghost use Rattle.co_dict.specs.Pdos.{is_of_pdos};
 ghost use Rattle.co_params.specs.Params.{Texts};
-ghost use Rattle.co_params.specs.Judgement.{judged, Suits};
+ghost use Rattle.co_params.specs.Judgement.{parameter_bytes, Suits};
 ghost use Rattle.co_params.specs.Parameters.{parameter_text, write_to, place_of, parameter_writes};
 
 /// A text gives an entry the bytes that suit it: those that it spells as a value of the entry's
 /// type, where the type is modelled, the entry may be written, and the number is within its limits.
 pub fn bytes_are_given_where_they_suit()
-    ensures { (entry : Entry) (text bytes : List ℕ) (node : ℕ) → (judged (Some entry) text node ≡ Ok bytes) ↔ Suits entry text bytes node }
+    ensures { (entry : Entry) (text bytes : List ℕ) (node : ℕ) → (parameter_bytes (Some entry) text node ≡ Ok bytes)
+        ↔ Suits entry text bytes node }
 {}
 
 /// The text of a parameter is the node's own, else the ParameterValue of the device's text, but
@@ -26,7 +27,8 @@ pub fn the_nodes_own_text_counts()
     ensures own { (ss : List Section) (params : Texts) (place : ℕ × ℕ) (text : List ℕ)
         → map.get params place ≡ Some text → parameter_text ss params place ≡ unless_empty text }
     ensures given { (ss : List Section) (params : Texts) (place : ℕ × ℕ)
-        → map.get params place ≡ None → IsFalse (is_of_pdos place.0) → parameter_text ss params place ≡ value_text ss place.0 place.1 }
+        → map.get params place ≡ None → IsFalse (is_of_pdos place.0)
+        → parameter_text ss params place ≡ value_text ss place.0 place.1 }
     ensures of_pdos { (ss : List Section) (params : Texts) (place : ℕ × ℕ)
         → map.get params place ≡ None → IsTrue (is_of_pdos place.0) → parameter_text ss params place ≡ None }
 {}
@@ -36,12 +38,13 @@ pub fn the_nodes_own_text_counts()
 #[tactic(auto, using(crate::proofs::ParameterLemmas::written, crate::proofs::ParameterLemmas::nothing_else))]
 pub fn what_has_no_fault_is_written()
     ensures written { (ss : List Section) (params : Texts) (node : ℕ) (place : ℕ × ℕ) (text bytes : List ℕ)
-        → parameter_text ss params place ≡ Some text → judged (entry_at ss node place.0 place.1) text node ≡ Ok bytes
+        → parameter_text ss params place ≡ Some text
+        → parameter_bytes (entry_at ss node place.0 place.1) text node ≡ Ok bytes
         → Contains (parameter_writes ss params node) (write_to place bytes) }
     ensures nothing_else { (ss : List Section) (params : Texts) (node : ℕ) (write : written)
         → Contains (parameter_writes ss params node) write
         → (text : List ℕ) × (parameter_text ss params (place_of write) ≡ Some text)
-        × (judged (entry_at ss node write.index write.sub) text node ≡ Ok write.bytes) }
+        × (parameter_bytes (entry_at ss node write.index write.sub) text node ≡ Ok write.bytes) }
 {}
 
 /// The writes are in the order of index and sub-index, so each entry is written at most once.

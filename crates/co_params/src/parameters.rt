@@ -41,7 +41,8 @@ fn parameter_write(
     sub: u8,
 ) -> Result<Option<Write>, AllocError>
     ensures write { IfOk result (λ write. write ≡ parameter_write device.now.sections params.now node (index, sub)) }
-    ensures fits { IfOk result (λ write. IfSome write (λ w. Fits (kind_at device.now.sections (w.index, w.sub)) w.bytes)) }
+    ensures fits { IfOk result (λ write. IfSome write
+        (λ w. Fits (kind_at device.now.sections (w.index, w.sub)) w.bytes)) }
 {
     let Some(text) = parameter_text(params, device, index, sub) else {
         return Ok(None);
@@ -65,7 +66,8 @@ pub fn writes(
     ensures writes { IfOk result (λ writes. writes.items ≡ parameter_writes device.now.sections params.now node) }
 
     // Each is a value of its entry, of from 1 to 512 bytes, and they are at most as many as a device has entries.
-    ensures fits { IfOk result (λ writes. All (λ w. Fits (kind_at device.now.sections (w.index, w.sub)) w.bytes) writes.items) }
+    ensures fits { IfOk result (λ writes. All (λ w. Fits (kind_at device.now.sections (w.index, w.sub)) w.bytes)
+        writes.items) }
     ensures sizes { IfOk result (λ writes. All (λ w. (1 ≤ length w.bytes) × (length w.bytes ≤ 512)) writes.items) }
     ensures count { IfOk result (λ writes. length writes.items ≤ most_entries) }
 {

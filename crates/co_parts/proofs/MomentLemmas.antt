@@ -1,16 +1,19 @@
 -- The earliest of moments.
-use Rattle.std.proofs.Common.{◌≡◌, ◌↔◌, ℕ, zero, ◌≤◌, Bool, true, false, List, [], ◌∷◌, Option, Some, None, IfSome, ◌⊎◌, inl, inr, refl, ap, subst, arith}
+use Rattle.std.proofs.Common.{◌≡◌, ◌↔◌, ℕ, zero, ◌≤◌, Bool, true, false, List, [], ◌∷◌, Option, Some, None, IfSome, ◌⊎◌}
+use Rattle.std.proofs.Common.{inl, inr, refl, ap, subst, arith}
 use Rattle.std.specs.Prelude.{All, Contains, min, nat_le}
 use Rattle.std.proofs.lemmas.Bool.Decides.{nat_tests}
 use Rattle.std.proofs.lemmas.List.Elements.{All-cons, All-head, All-nil, All-tail, Contains-append_right}
 use Rattle.co_parts.specs.Moments.{earlier, earliest}
 
-earlier_splits : (t : ℕ) (a b : Option ℕ) → IfSome (earlier a b) (λ d. t ≤ d) → IfSome a (λ d. t ≤ d) × IfSome b (λ d. t ≤ d)
+earlier_splits : (t : ℕ) (a b : Option ℕ) → IfSome (earlier a b) (λ d. t ≤ d)
+    → IfSome a (λ d. t ≤ d) × IfSome b (λ d. t ≤ d)
 earlier_splits t None b h = (tt, h)
 earlier_splits t (Some a) None h = (h, tt)
 earlier_splits t (Some a) (Some b) h = (omega (arith, h), omega (arith, h))
 
-earlier_joins : (t : ℕ) (a b : Option ℕ) → IfSome a (λ d. t ≤ d) → IfSome b (λ d. t ≤ d) → IfSome (earlier a b) (λ d. t ≤ d)
+earlier_joins : (t : ℕ) (a b : Option ℕ) → IfSome a (λ d. t ≤ d) → IfSome b (λ d. t ≤ d)
+    → IfSome (earlier a b) (λ d. t ≤ d)
 earlier_joins t None b h k = k
 earlier_joins t (Some a) None h k = h
 earlier_joins t (Some a) (Some b) h k = omega (arith, h, k)
@@ -26,7 +29,8 @@ all_from t (m ∷ ms) h =
 pub earliest_from : (t : ℕ) (moments : List ℕ) → All (λ d. t ≤ d) moments → IfSome (earliest moments) (λ d. t ≤ d)
 earliest_from t [] h = tt
 earliest_from t (m ∷ ms) h =
-    earlier_joins t (Some m) (earliest ms) (All-head (λ d. t ≤ d) m ms h) (earliest_from t ms (All-tail (λ d. t ≤ d) m ms h))
+    earlier_joins t (Some m) (earliest ms) (All-head (λ d. t ≤ d) m ms h)
+    (earliest_from t ms (All-tail (λ d. t ≤ d) m ms h))
 
 pub from_earliest : (t : ℕ) (moments : List ℕ) → IfSome (earliest moments) (λ d. t ≤ d) ↔ All (λ d. t ≤ d) moments
 from_earliest t moments = (all_from t moments, earliest_from t moments)
@@ -53,7 +57,8 @@ first_is : (m : ℕ) (ms : List ℕ) → Contains (m ∷ ms) m
 first_is m ms = (zero, omega arith, refl)
 
 -- the earlier of a moment and one of others is one of all
-one_of_more : (m : ℕ) (ms : List ℕ) (o : Option ℕ) → IfSome o (Contains ms) → IfSome (earlier (Some m) o) (Contains (m ∷ ms))
+one_of_more : (m : ℕ) (ms : List ℕ) (o : Option ℕ) → IfSome o (Contains ms)
+    → IfSome (earlier (Some m) o) (Contains (m ∷ ms))
 one_of_more m ms None h = first_is m ms
 one_of_more m ms (Some n) h = by (min_is m n)
   where

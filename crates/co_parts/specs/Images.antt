@@ -1,5 +1,6 @@
 -- What holds of every image, and which images are coherent.
-use Rattle.std.specs.Prelude.{◌≡◌, ◌≢◌, ℕ, ◌+◌, ◌*◌, ◌<◌, ◌≤◌, ◌⊎◌, ◌^◌, true, false, Contains, List, [], ◌∷◌, length, Some, IfSome}
+use Rattle.std.specs.Prelude.{◌≡◌, ◌≢◌, ℕ, ◌+◌, ◌*◌, ◌<◌, ◌≤◌, ◌⊎◌, ◌^◌, true, false, Contains, List, [], ◌∷◌, length}
+use Rattle.std.specs.Prelude.{Some, IfSome}
 use Rattle.std.specs.FinMap.{get}
 use Rattle.std.specs.List.{AllByRecursion}
 use Rattle.co_base.specs.Ranges.{is_between}
@@ -31,7 +32,8 @@ Rise [] = Unit {0}
 Rise (a ∷ []) = Unit {0}
 Rise (a ∷ b ∷ rest) = (a < b) × Rise (b ∷ rest)
 
--- a roster has a bit rate and numbers of the manager within their limits, and node numbers that differ from one another and from the manager's
+-- a roster has a bit rate and numbers of the manager within their limits, and node numbers that differ from one
+-- another and from the manager's
 pub record IsRoster (roster : Roster) : Type 0 where
   pub bit_rate : Contains bit_rates roster.bit_rate
   pub manager : (1 ≤ roster.manager) × (roster.manager ≤ 127)
@@ -68,15 +70,19 @@ abbrev pub FitsShape : Image → TimedStep → Type 0
 FitsShape image step = Sets image step.step
   where
     Sets : Image → Step → Type 0
-    Sets image (Set node index sub bytes) = (entry : Entry) → get (shape_of (image (part.Shape node))).entries (index, sub) ≡ Some entry → is_modelled entry.kind ≡ true → HasLength entry.kind bytes
+    Sets image (Set node index sub bytes) = (entry : Entry)
+        → get (shape_of (image (part.Shape node))).entries (index, sub) ≡ Some entry → is_modelled entry.kind ≡ true
+        → HasLength entry.kind bytes
     Sets image (Power node on) = Unit {0}
     Sets image (Nmt node command) = Unit {0}
 
--- AN IMAGE IS COHERENT: its parts are what those of an image are, and each modelled entry of a node's shape has by its defaults, and gets by each event, a value of its type's length
+-- AN IMAGE IS COHERENT: its parts are what those of an image are, and each modelled entry of a node's shape has by its
+-- defaults, and gets by each event, a value of its type's length
 pub record IsCoherent (image : Image) : Type 0 where
   pub roster : IsRoster (roster_of (image part.Roster))
   pub writes : (node place : ℕ) → IfSome (write_of (image (part.Boot node place))) IsBootWrite
   pub within : (i : ℕ) → AllByRecursion (IsWithin i) (steps_of (image (part.Events i)))
   pub ordered : (i : ℕ) → AreInOrder (steps_of (image (part.Events i)))
-  pub defaults : (node : ℕ) → HoldEach (shape_of (image (part.Shape node))).entries (values_of (image (part.Defaults node)))
+  pub defaults : (node : ℕ)
+      → HoldEach (shape_of (image (part.Shape node))).entries (values_of (image (part.Defaults node)))
   pub steps : (i : ℕ) → AllByRecursion (FitsShape image) (steps_of (image (part.Events i)))

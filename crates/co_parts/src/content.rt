@@ -39,7 +39,11 @@ impl Model for PartContent {
 
     ghost Value = { Content };
 
-    ghost coded = { Prim.hlevel (codes, map.code {R = place_cmp} (coded× coded_ℕ coded_ℕ) (coded_list coded_ℕ), shaped_code described.the_row.coded) };
+    ghost coded = { Prim.hlevel (
+      codes,
+      map.code {R = place_cmp} (coded× coded_ℕ coded_ℕ) (coded_list coded_ℕ),
+      shaped_code described.the_row.coded,
+    ) };
 
     ghost view = { λ content. content_of content.handed };
 }

@@ -13,5 +13,6 @@ pub fn the_earliest_is_one_of_them()
 /// The earliest of moments lies from the moment t on where all of them do, and only there.
 #[tactic(auto, using(crate::proofs::MomentLemmas::from_earliest))]
 pub fn no_moment_lies_before_the_earliest()
-    ensures { (t : ℕ) (moments : List ℕ) → IfSome (earliest moments) (λ moment. t ≤ moment) ↔ All (λ moment. t ≤ moment) moments }
+    ensures { (t : ℕ) (moments : List ℕ) → IfSome (earliest moments) (λ moment. t ≤ moment)
+        ↔ All (λ moment. t ≤ moment) moments }
 {}

@@ -24,7 +24,11 @@ impl Model for Read {
 
     ghost Value = { Name × Content };
 
-    ghost coded = { Prim.hlevel (codes, map.code {R = place_cmp} (coded× coded_ℕ coded_ℕ) (coded_list coded_ℕ), shaped_code described.the_row.coded) };
+    ghost coded = { Prim.hlevel (
+      codes,
+      map.code {R = place_cmp} (coded× coded_ℕ coded_ℕ) (coded_list coded_ℕ),
+      shaped_code described.the_row.coded,
+    ) };
 
     ghost view = { λ read. (read.part, read.content) };
 }

@@ -8,7 +8,8 @@ use Rattle.co_pdos.specs.Payloads.{IsStored}
 
 -- bytes that are written over the first of eight zeros
 pub stored_over_zeros : (bytes written : List ℕ) → length bytes ≤ 8 → AreBytes bytes → written ≡ bytes
-    → IsStored (take (length bytes) (written ++ drop (length bytes) (replicate 8 0))) (written ++ drop (length bytes) (replicate 8 0)) (length bytes)
+    → IsStored (take (length bytes) (written ++ drop (length bytes) (replicate 8 0)))
+    (written ++ drop (length bytes) (replicate 8 0)) (length bytes)
 stored_over_zeros bytes written short are_bytes same =
     rw (same, drop-replicate {X = ℕ} (length bytes) 8 0, take-append_seam bytes (replicate (8 - length bytes) 0))
     (record { short = short; are_bytes = are_bytes; filled = refl; counted = refl })

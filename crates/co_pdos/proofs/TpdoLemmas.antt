@@ -1,11 +1,15 @@
 -- When a TPDO is sent, and what it remembers then.
-use Rattle.std.proofs.Common.{◌≡◌, ℕ, zero, suc, ◌+◌, ◌<◌, ◌≤◌, ◌==◌, ◌&&◌, ◌||◌, not, Bool, true, false, List, Option, Some, None, IfSome, refl, ap, sym, ◌∙◌, arith}
+use Rattle.std.proofs.Common.{◌≡◌, ℕ, zero, suc, ◌+◌, ◌<◌, ◌≤◌, ◌==◌, ◌&&◌, ◌||◌, not, Bool, true, false, List, Option}
+use Rattle.std.proofs.Common.{Some, None, IfSome, refl, ap, sym, ◌∙◌, arith}
 use Rattle.std.specs.Prelude.{if◌then◌else◌, nat_le, nat_lt}
 use Rattle.std.proofs.lemmas.Bool.Decides.{nat_tests}
 use Rattle.co_pdos.specs.declared.communication.Communication.{Communication}
 use Rattle.co_pdos.specs.declared.transmission_type.TransmissionType.{TransmissionType}
-use Rattle.co_pdos.specs.declared.transmission_type.TransmissionType.TheVariants.{Acyclic, Cyclic, EventDriven, Reserved}
-use Rattle.co_pdos.specs.Tpdo.{Remembered, acyclic_turn, cyclic_turn, differs, event_moment, event_turn, has_come, inhibit_over, is_ahead, later, moment_from, sent, turn_by_type, unsent}
+use Rattle.co_pdos.specs.declared.transmission_type.TransmissionType.TheVariants.{Acyclic, Cyclic, EventDriven}
+use Rattle.co_pdos.specs.declared.transmission_type.TransmissionType.TheVariants.{Reserved}
+use Rattle.co_pdos.specs.Tpdo.{Remembered, acyclic_turn, cyclic_turn, differs, event_moment, event_turn, has_come}
+use Rattle.co_pdos.specs.Tpdo.{without_past_inhibit, is_ahead, later, moment_from, turn_with_frame, turn_by_type}
+use Rattle.co_pdos.specs.Tpdo.{turn_without_frame}
 
 lies_ahead : (t m : ℕ) → t < m → nat_lt t m ≡ true
 lies_ahead t m h = grind (arith, nat_tests)
@@ -23,19 +27,25 @@ is_wanted_at t bytes r = not (is_ahead t r.inhibit) && (differs bytes r || has_c
 abbrev pub moments_set : Communication → ℕ → Remembered → Remembered
 moments_set c t r = record r { inhibit = moment_from t c.inhibit_time; event = event_moment t c }
 
-pub event_unsent : (c : Communication) (t : ℕ) (bytes : List ℕ) (r : Remembered) → is_wanted_at t bytes r ≡ false → event_turn c t bytes r ≡ unsent r
+pub event_unsent : (c : Communication) (t : ℕ) (bytes : List ℕ) (r : Remembered) → is_wanted_at t bytes r ≡ false
+    → event_turn c t bytes r ≡ turn_without_frame r
 unfolding event_turn
-event_unsent c t bytes r e = ap (λ (test : Bool). if test then sent bytes (moments_set c t r) else unsent r) e
+event_unsent c t bytes r e = ap (λ (test : Bool). if test then turn_with_frame bytes (moments_set c t r)
+    else turn_without_frame r) e
 
-pub event_sent : (c : Communication) (t : ℕ) (bytes : List ℕ) (r : Remembered) → is_wanted_at t bytes r ≡ true → event_turn c t bytes r ≡ sent bytes (moments_set c t r)
+pub event_sent : (c : Communication) (t : ℕ) (bytes : List ℕ) (r : Remembered) → is_wanted_at t bytes r ≡ true
+    → event_turn c t bytes r ≡ turn_with_frame bytes (moments_set c t r)
 unfolding event_turn
-event_sent c t bytes r e = ap (λ (test : Bool). if test then sent bytes (moments_set c t r) else unsent r) e
+event_sent c t bytes r e = ap (λ (test : Bool). if test then turn_with_frame bytes (moments_set c t r)
+    else turn_without_frame r) e
 
-sent_by_test : (test : Bool) (bytes : List ℕ) (r s : Remembered) → (if test then sent bytes r else unsent s).is_sent ≡ test
+sent_by_test : (test : Bool) (bytes : List ℕ) (r s : Remembered)
+    → (if test then turn_with_frame bytes r else turn_without_frame s).is_sent ≡ test
 sent_by_test true bytes r s = refl
 sent_by_test false bytes r s = refl
 
-pub event_is_sent : (c : Communication) (t : ℕ) (bytes : List ℕ) (r : Remembered) → (event_turn c t bytes r).is_sent ≡ is_wanted_at t bytes r
+pub event_is_sent : (c : Communication) (t : ℕ) (bytes : List ℕ) (r : Remembered)
+    → (event_turn c t bytes r).is_sent ≡ is_wanted_at t bytes r
 unfolding event_turn
 event_is_sent c t bytes r = sent_by_test (is_wanted_at t bytes r) bytes (moments_set c t r) r
 
@@ -44,18 +54,21 @@ event_is_sent c t bytes r = sent_by_test (is_wanted_at t bytes r) bytes (moments
 held_back : (held differ come : Bool) → held ≡ true → (not held && (differ || come)) ≡ false
 held_back held differ come h = rw h refl
 
-pub held : (c : Communication) (t m : ℕ) (bytes : List ℕ) (r : Remembered) → r.inhibit ≡ Some m → t < m → event_turn c t bytes r ≡ unsent r
+pub held : (c : Communication) (t m : ℕ) (bytes : List ℕ) (r : Remembered) → r.inhibit ≡ Some m → t < m
+    → event_turn c t bytes r ≡ turn_without_frame r
 held c t m bytes r e h =
-    event_unsent c t bytes r (held_back (is_ahead t r.inhibit) (differs bytes r) (has_come t r.event) (ap (is_ahead t) e ∙ lies_ahead t m h))
+    event_unsent c t bytes r (held_back (is_ahead t r.inhibit) (differs bytes r) (has_come t r.event)
+    (ap (is_ahead t) e ∙ lies_ahead t m h))
 
-pub held_by_type : (c : Communication) (at_sync : Bool) (t m : ℕ) (bytes : List ℕ) (r : Remembered) → r.inhibit ≡ Some m → t < m
-    → turn_by_type (Some EventDriven) c at_sync t bytes r ≡ unsent r
+pub held_by_type : (c : Communication) (at_sync : Bool) (t m : ℕ) (bytes : List ℕ) (r : Remembered) → r.inhibit ≡ Some m
+    → t < m
+    → turn_by_type (Some EventDriven) c at_sync t bytes r ≡ turn_without_frame r
 unfolding turn_by_type
 held_by_type c at_sync t m bytes r e h = held c t m bytes r e h
 
 -- an inhibit moment that is ahead isn't over
-pub still_held : (t m : ℕ) (r : Remembered) → r.inhibit ≡ Some m → t < m → inhibit_over t r ≡ r
-unfolding inhibit_over
+pub still_held : (t m : ℕ) (r : Remembered) → r.inhibit ≡ Some m → t < m → without_past_inhibit t r ≡ r
+unfolding without_past_inhibit
 still_held t m r e h = rw (e, not_come t m h) refl
 
 -- ---- the moments that are set
@@ -72,7 +85,8 @@ of_other_test a b true e = omega arith
 of_other_test a b false e = grind (arith, nat_tests)
 
 -- a time that isn't 0 ends later
-set_ahead : (t time : ℕ) (none : Bool) → (time == 0) ≡ none → IfSome (if none then None else Some (t + time)) (λ m. t < m)
+set_ahead : (t time : ℕ) (none : Bool) → (time == 0) ≡ none
+    → IfSome (if none then None else Some (t + time)) (λ m. t < m)
 set_ahead t time true e = tt
 set_ahead t zero false e = absurd (grind (arith, nat_tests))
 set_ahead t (suc time) false e = omega arith
@@ -83,17 +97,20 @@ first_not_after a b = of_test a b (nat_le a b) refl
 second_not_after : (a b : ℕ) → b ≤ later a b
 second_not_after a b = of_other_test a b (nat_le a b) refl
 
-later_ahead : (t event inhibit : ℕ) (none : Bool) → (event == 0) ≡ none → IfSome (if none then None else Some (later (t + event) (t + inhibit))) (λ m. t < m)
+later_ahead : (t event inhibit : ℕ) (none : Bool) → (event == 0) ≡ none
+    → IfSome (if none then None else Some (later (t + event) (t + inhibit))) (λ m. t < m)
 later_ahead t event inhibit true e = tt
 later_ahead t zero inhibit false e = absurd (grind (arith, nat_tests))
 later_ahead t (suc event) inhibit false e = let h = first_not_after (t + suc event) (t + inhibit) in omega (arith, h)
 
-not_before : (t event inhibit : ℕ) (none : Bool) → IfSome (if none then None else Some (later (t + event) (t + inhibit))) (λ m. t + inhibit ≤ m)
+not_before : (t event inhibit : ℕ) (none : Bool)
+    → IfSome (if none then None else Some (later (t + event) (t + inhibit))) (λ m. t + inhibit ≤ m)
 not_before t event inhibit true = tt
 not_before t event inhibit false = second_not_after (t + event) (t + inhibit)
 
 -- what an event-driven TPDO remembers that was sent
-module _ (c : Communication) (at_sync : Bool) (t : ℕ) (bytes : List ℕ) (r : Remembered) (sends : (turn_by_type (Some EventDriven) c at_sync t bytes r).is_sent ≡ true) where
+module _ (c : Communication) (at_sync : Bool) (t : ℕ) (bytes : List ℕ) (r : Remembered)
+    (sends : (turn_by_type (Some EventDriven) c at_sync t bytes r).is_sent ≡ true) where
   abbrev Now : Remembered
   Now = (turn_by_type (Some EventDriven) c at_sync t bytes r).remembered
 
@@ -105,7 +122,7 @@ module _ (c : Communication) (at_sync : Bool) (t : ℕ) (bytes : List ℕ) (r : 
   inhibited h = ap (λ (s : Remembered). s.inhibit) now_is ∙ (rw (test_some c.inhibit_time h) refl)
 
   pub silent : (next : Bool) (u : ℕ) (others : List ℕ) → 0 < c.inhibit_time → u < t + c.inhibit_time
-      → turn_by_type (Some EventDriven) c next u others (inhibit_over u Now) ≡ unsent Now
+      → turn_by_type (Some EventDriven) c next u others (without_past_inhibit u Now) ≡ turn_without_frame Now
   silent next u others some h =
       ap (turn_by_type (Some EventDriven) c next u others) (still_held u (t + c.inhibit_time) Now (inhibited some) h)
       ∙ held_by_type c next u (t + c.inhibit_time) others Now (inhibited some) h
@@ -123,19 +140,24 @@ module _ (c : Communication) (at_sync : Bool) (t : ℕ) (bytes : List ℕ) (r : 
 
 module _ (bytes : List ℕ) (last : Option (List ℕ)) where
   last_of : (test : Bool) (r s : Remembered) → s.last ≡ last
-      → (if test then sent bytes r else unsent s).remembered.last ≡ (if (if test then sent bytes r else unsent s).is_sent then Some bytes else last)
+      → (if test then turn_with_frame bytes r else turn_without_frame s).remembered.last
+      ≡ (if (if test then turn_with_frame bytes r else turn_without_frame s).is_sent then Some bytes else last)
   last_of true r s e = refl
   last_of false r s e = e
 
-pub last_is : (transmission : Option TransmissionType) (c : Communication) (at_sync : Bool) (t : ℕ) (bytes : List ℕ) (r : Remembered)
-    → (turn_by_type transmission c at_sync t bytes r).remembered.last ≡ (if (turn_by_type transmission c at_sync t bytes r).is_sent then Some bytes else r.last)
+pub last_is : (transmission : Option TransmissionType) (c : Communication) (at_sync : Bool) (t : ℕ) (bytes : List ℕ)
+    (r : Remembered)
+    → (turn_by_type transmission c at_sync t bytes r).remembered.last
+    ≡ (if (turn_by_type transmission c at_sync t bytes r).is_sent then Some bytes else r.last)
 unfolding turn_by_type acyclic_turn cyclic_turn event_turn
 last_is None c at_sync t bytes r = refl
 last_is (Some Acyclic) c at_sync t bytes r = last_of bytes r.last (at_sync && differs bytes r) r r refl
 last_is (Some (Cyclic n)) c false t bytes r = refl
-last_is (Some (Cyclic n)) c true t bytes r = last_of bytes r.last (nat_le n (r.syncs + 1)) (record r { syncs = 0 }) (record r { syncs = r.syncs + 1 }) refl
+last_is (Some (Cyclic n)) c true t bytes r = last_of bytes r.last (nat_le n (r.syncs + 1)) (record r { syncs = 0 })
+    (record r { syncs = r.syncs + 1 }) refl
 last_is (Some Reserved) c at_sync t bytes r = refl
-last_is (Some EventDriven) c at_sync t bytes r = last_of bytes r.last (is_wanted_at t bytes r) (moments_set c t r) r refl
+last_is (Some EventDriven) c at_sync t bytes r = last_of bytes r.last (is_wanted_at t bytes r)
+    (moments_set c t r) r refl
 
 -- ---- each n-th SYNC
 
@@ -148,21 +170,25 @@ reached_by syncs n false true h e f = absurd (grind (arith, nat_tests))
 reached : (syncs n : ℕ) → syncs < n → nat_le n (syncs + 1) ≡ (syncs + 1 == n)
 reached syncs n h = reached_by syncs n (nat_le n (syncs + 1)) (syncs + 1 == n) h refl refl
 
-syncs_of : (test : Bool) (bytes : List ℕ) (r s : Remembered) → (if test then sent bytes r else unsent s).remembered.syncs ≡ (if test then r.syncs else s.syncs)
+syncs_of : (test : Bool) (bytes : List ℕ) (r s : Remembered)
+    → (if test then turn_with_frame bytes r else turn_without_frame s).remembered.syncs
+    ≡ (if test then r.syncs else s.syncs)
 syncs_of true bytes r s = refl
 syncs_of false bytes r s = refl
 
 module _ (c : Communication) (n t : ℕ) (bytes : List ℕ) (r : Remembered) where
   pub nth_sent : r.syncs < n → (turn_by_type (Some (Cyclic n)) c true t bytes r).is_sent ≡ (r.syncs + 1 == n)
   unfolding turn_by_type cyclic_turn
-  nth_sent h = sent_by_test (nat_le n (r.syncs + 1)) bytes (record r { syncs = 0 }) (record r { syncs = r.syncs + 1 }) ∙ reached r.syncs n h
+  nth_sent h = sent_by_test (nat_le n (r.syncs + 1)) bytes (record r { syncs = 0 }) (record r { syncs = r.syncs + 1 })
+      ∙ reached r.syncs n h
 
-  pub nth_counted : r.syncs < n → (turn_by_type (Some (Cyclic n)) c true t bytes r).remembered.syncs ≡ (if r.syncs + 1 == n then 0 else r.syncs + 1)
+  pub nth_counted : r.syncs < n → (turn_by_type (Some (Cyclic n)) c true t bytes r).remembered.syncs
+      ≡ (if r.syncs + 1 == n then 0 else r.syncs + 1)
   unfolding turn_by_type cyclic_turn
   nth_counted h = syncs_of (nat_le n (r.syncs + 1)) bytes (record r { syncs = 0 }) (record r { syncs = r.syncs + 1 })
       ∙ ap (λ (test : Bool). if test then 0 else r.syncs + 1) (reached r.syncs n h)
 
-  pub nth_unsent : turn_by_type (Some (Cyclic n)) c false t bytes r ≡ unsent r
+  pub nth_unsent : turn_by_type (Some (Cyclic n)) c false t bytes r ≡ turn_without_frame r
   unfolding turn_by_type cyclic_turn
   nth_unsent = refl
 

@@ -9,7 +9,8 @@ use Rattle.co_dict.specs.Shapes.{Shaped}
 use Rattle.co_dict.specs.Values.{Values}
 use Rattle.co_dict.proofs.CheckLaws.{mapping_fits}
 use Rattle.co_dict.proofs.CheckLemmas.{no_more, none_holds}
-use Rattle.co_pdos.specs.Working.{cob_id_of, count_of, has_frames, has_mapping, identifier_of, is_of_base_frames, is_pdo, mapping_object, works}
+use Rattle.co_pdos.specs.Working.{cob_id_of, count_of, has_frames, has_mapping, identifier_of, is_of_base_frames}
+use Rattle.co_pdos.specs.Working.{is_pdo, mapping_object, works}
 
 left_of : (a b : Bool) → (a && b) ≡ true → a ≡ true
 left_of true b e = refl
@@ -57,4 +58,5 @@ module _ (shape : Shaped) (values : Values) (object : ℕ) (e : works shape valu
   unfolding has_mapping mapping_check
   few =
       let count = count_of values object in
-      no_more 64 count (none_holds (count_lines shape values (mapping_object object) count) (right_of (nat_lt 0 count) _ mapped)).0
+      no_more 64 count (none_holds (count_lines shape values (mapping_object object) count)
+      (right_of (nat_lt 0 count) _ mapped)).0

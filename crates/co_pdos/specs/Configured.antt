@@ -5,7 +5,8 @@ use Rattle.co_dict.specs.Shapes.{Shaped}
 use Rattle.co_dict.specs.Values.{Values}
 use Rattle.co_pdos.specs.declared.communication.Communication.{Communication}
 use Rattle.co_pdos.specs.declared.configuration.Configuration.{Configuration}
-use Rattle.co_pdos.specs.Working.{count_of, event_time, identifier_of, inhibit_time, mapping_object, transmission_type, works}
+use Rattle.co_pdos.specs.Working.{count_of, event_time, identifier_of, inhibit_time, mapping_object, transmission_type}
+use Rattle.co_pdos.specs.Working.{works}
 
 -- its communication parameters
 abbrev pub communication_of : Shaped → Values → ℕ → Communication
@@ -19,8 +20,14 @@ communication_of shape values object = record {
 abbrev pub mapping_now : Values → ℕ → List ℕ
 mapping_now values object = mapping_of values (mapping_object object) (count_of values object)
 
--- THE PDO OF A COMMUNICATION OBJECT, if it works: the identifier of its frames, its communication parameters and its mapping
+-- THE PDO OF A COMMUNICATION OBJECT, if it works: the identifier of its frames, its communication parameters and its
+-- mapping
 unfoldable pub configuration_of : Shaped → Values → ℕ → Option Configuration
 configuration_of shape values object =
-    if works shape values object then Some (record { identifier = identifier_of values object; communication = communication_of shape values object; mapping = mapping_now values object })
+    if works shape values object
+    then Some (record {
+      identifier = identifier_of values object;
+      communication = communication_of shape values object;
+      mapping = mapping_now values object;
+    })
     else None

@@ -6,12 +6,12 @@ use Rattle.co_pdos.specs.declared.transmission_type.TransmissionType.{Transmissi
 use Rattle.co_pdos.specs.declared.transmission_type.TransmissionType.TheVariants.{Acyclic, Cyclic, EventDriven}
 
 -- by the transmission type: a synchronous one has it wait for the next SYNC, an event-driven one takes it at once
-abbrev pub received_by_type : Option TransmissionType → Receipt
-received_by_type (Some Acyclic) = Kept
-received_by_type (Some (Cyclic n)) = Kept
-received_by_type (Some EventDriven) = AtOnce
-received_by_type other = Ignored
+abbrev pub receipt_by_type : Option TransmissionType → Receipt
+receipt_by_type (Some Acyclic) = Kept
+receipt_by_type (Some (Cyclic n)) = Kept
+receipt_by_type (Some EventDriven) = AtOnce
+receipt_by_type other = Ignored
 
 -- A FRAME OF A WORKING RPDO: one with fewer bytes than the mapping begins is short, whatever the transmission type
-unfoldable pub received : Option TransmissionType → ℕ → ℕ → Receipt
-received transmission mapped count = if nat_lt count mapped then Short else received_by_type transmission
+unfoldable pub frame_receipt : Option TransmissionType → ℕ → ℕ → Receipt
+frame_receipt transmission mapped count = if nat_lt count mapped then Short else receipt_by_type transmission

@@ -1,20 +1,22 @@
 -- When a TPDO is sent (CiA 301). All moments are absolute, and all times are in microseconds.
-use Rattle.std.specs.Prelude.{ℕ, ◌+◌, nat_le, nat_lt, ◌==◌, not, ◌&&◌, ◌||◌, Bool, true, false, List, Option, Some, None, if◌then◌else◌}
+use Rattle.std.specs.Prelude.{ℕ, ◌+◌, nat_le, nat_lt, ◌==◌, not, ◌&&◌, ◌||◌, Bool, true, false, List, Option, Some}
+use Rattle.std.specs.Prelude.{None, if◌then◌else◌}
 use Rattle.std.specs.Option.{option_map_or}
 use Rattle.std.specs.Str.{bytes_eq}
 use Rattle.co_pdos.specs.declared.communication.Communication.{Communication}
 use Rattle.co_pdos.specs.declared.transmission_type.TransmissionType.{TransmissionType}
 use Rattle.co_pdos.specs.declared.transmission_type.TransmissionType.TheVariants.{Acyclic, Cyclic, EventDriven}
 
--- what a TPDO remembers: the bytes that were last queued, its inhibit and event moments, and the SYNCs since it was last sent at one
+-- what a TPDO remembers: the bytes that were last queued, its inhibit and event moments, and the SYNCs since it was
+-- last sent at one
 pub record Remembered : Type 0 where
   pub last : Option (List ℕ)
   pub inhibit : Option ℕ
   pub event : Option ℕ
   pub syncs : ℕ
 
-abbrev pub forgotten : Remembered
-forgotten = record { last = None; inhibit = None; event = None; syncs = 0 }
+abbrev pub remembering_nothing : Remembered
+remembering_nothing = record { last = None; inhibit = None; event = None; syncs = 0 }
 
 -- ---- moments
 
@@ -27,8 +29,8 @@ abbrev pub is_ahead : ℕ → Option ℕ → Bool
 is_ahead t moment = option_map_or (λ m. nat_lt t m) moment false
 
 -- an inhibit moment that has come is forgotten
-unfoldable pub inhibit_over : ℕ → Remembered → Remembered
-inhibit_over t r = if has_come t r.inhibit then record r { inhibit = None } else r
+unfoldable pub without_past_inhibit : ℕ → Remembered → Remembered
+without_past_inhibit t r = if has_come t r.inhibit then record r { inhibit = None } else r
 
 -- the moment a time from t; none where the time is 0
 abbrev pub moment_from : ℕ → ℕ → Option ℕ
@@ -48,12 +50,12 @@ pub record Turn : Type 0 where
   pub is_sent : Bool
 
 -- it isn't sent
-abbrev pub unsent : Remembered → Turn
-unsent r = record { remembered = r; is_sent = false }
+abbrev pub turn_without_frame : Remembered → Turn
+turn_without_frame r = record { remembered = r; is_sent = false }
 
 -- it is sent with these bytes
-abbrev pub sent : List ℕ → Remembered → Turn
-sent bytes r = record { remembered = record r { last = Some bytes }; is_sent = true }
+abbrev pub turn_with_frame : List ℕ → Remembered → Turn
+turn_with_frame bytes r = record { remembered = record r { last = Some bytes }; is_sent = true }
 
 -- the bytes differ from those last queued; none queued counts as different
 unfoldable pub differs : List ℕ → Remembered → Bool
@@ -61,22 +63,22 @@ differs bytes r = option_map_or (λ last. not (bytes_eq last bytes)) r.last true
 
 -- acyclic synchronous: at a SYNC where the bytes differ
 unfoldable pub acyclic_turn : Bool → List ℕ → Remembered → Turn
-acyclic_turn at_sync bytes r = if at_sync && differs bytes r then sent bytes r else unsent r
+acyclic_turn at_sync bytes r = if at_sync && differs bytes r then turn_with_frame bytes r else turn_without_frame r
 
 -- cyclic synchronous: at each n-th SYNC; the SYNCs are counted, anew from each at which it is sent
 unfoldable pub cyclic_turn : ℕ → Bool → List ℕ → Remembered → Turn
 cyclic_turn n at_sync bytes r =
-    if not at_sync then unsent r
-    else if nat_le n (r.syncs + 1) then sent bytes (record r { syncs = 0 })
-    else unsent (record r { syncs = r.syncs + 1 })
+    if not at_sync then turn_without_frame r
+    else if nat_le n (r.syncs + 1) then turn_with_frame bytes (record r { syncs = 0 })
+    else turn_without_frame (record r { syncs = r.syncs + 1 })
 
 -- event-driven: where the bytes differ or the event moment has come, unless the inhibit moment is ahead; both moments
 -- are then set from now
 unfoldable pub event_turn : Communication → ℕ → List ℕ → Remembered → Turn
 event_turn c t bytes r =
     if not (is_ahead t r.inhibit) && (differs bytes r || has_come t r.event)
-    then sent bytes (record r { inhibit = moment_from t c.inhibit_time; event = event_moment t c })
-    else unsent r
+    then turn_with_frame bytes (record r { inhibit = moment_from t c.inhibit_time; event = event_moment t c })
+    else turn_without_frame r
 
 -- THE TURN AT THE MOMENT t of one of a transmission type that has these bytes, at a SYNC or not: one of another type,
 -- or of none, is never sent
@@ -84,4 +86,4 @@ unfoldable pub turn_by_type : Option TransmissionType → Communication → Bool
 turn_by_type (Some Acyclic) c at_sync t bytes r = acyclic_turn at_sync bytes r
 turn_by_type (Some (Cyclic n)) c at_sync t bytes r = cyclic_turn n at_sync bytes r
 turn_by_type (Some EventDriven) c at_sync t bytes r = event_turn c t bytes r
-turn_by_type other c at_sync t bytes r = unsent r
+turn_by_type other c at_sync t bytes r = turn_without_frame r

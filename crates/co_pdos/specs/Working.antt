@@ -1,5 +1,7 @@
--- The PDOs of a device (CiA 301): their objects, which of them work, and their communication parameters. All times are in microseconds.
-use Rattle.std.specs.Prelude.{ℕ, ◌+◌, ◌*◌, ◌/◌, ◌%◌, ◌==◌, not, ◌&&◌, nat_lt, Bool, true, false, Option, Some, None, is_ok, if◌then◌else◌}
+-- The PDOs of a device (CiA 301): their objects, which of them work, and their communication parameters. All times are
+-- in microseconds.
+use Rattle.std.specs.Prelude.{ℕ, ◌+◌, ◌*◌, ◌/◌, ◌%◌, ◌==◌, not, ◌&&◌, nat_lt, Bool, true, false, Option, Some, None}
+use Rattle.std.specs.Prelude.{is_ok, if◌then◌else◌}
 use Rattle.co_values.specs.declared.form.Form.{Form}
 use Rattle.co_values.specs.declared.form.Form.TheVariants.{Unsigned}
 use Rattle.co_values.specs.declared.form.Width.TheVariants.{Bits16}
@@ -53,11 +55,13 @@ count_of values object = number_at 1 values (mapping_object object, 0)
 -- something is mapped, and a PDO can carry it
 unfoldable pub has_mapping : Shaped → Values → ℕ → Bool
 has_mapping shape values object =
-    nat_lt 0 (count_of values object) && is_ok (mapping_check shape values (mapping_object object) (count_of values object))
+    nat_lt 0 (count_of values object) && is_ok (mapping_check shape values (mapping_object object)
+    (count_of values object))
 
 -- THE PDO WORKS
 unfoldable pub works : Shaped → Values → ℕ → Bool
-works shape values object = is_pdo shape object && has_frames (cob_id_of values object) && has_mapping shape values object
+works shape values object = is_pdo shape object && has_frames (cob_id_of values object)
+    && has_mapping shape values object
 
 -- ---- its communication parameters
 

@@ -2,7 +2,8 @@
 
 ghost use Rattle.std.specs.Prelude.{◌≡◌, ◌≤◌};
 ghost use Rattle.co_dict.specs.PdoChecks.{has_type};
-ghost use Rattle.co_pdos.specs.Working.{event_time, inhibit_time, is_unsigned16, number_of_unsigned16, transmission_type as type_of};
+ghost use Rattle.co_pdos.specs.Working.{event_time, inhibit_time, is_unsigned16, number_of_unsigned16};
+ghost use Rattle.co_pdos.specs.Working.{transmission_type as type_of};
 
 use crate::transmission_type::TransmissionType;
 use crate::working::has_unsigned_8;

@@ -7,7 +7,7 @@ ghost use Rattle.co_dict.specs.Pdos.{is_restricted};
 ghost use Rattle.co_dict.specs.Shapes.{Shaped};
 ghost use Rattle.co_dict.specs.Values.{Values};
 ghost use Rattle.co_pdos.specs.declared.communication.Communication.{Communication as Parameters};
-ghost use Rattle.co_pdos.specs.Tpdo.{Remembered, inhibit_over, turn_by_type, unsent};
+ghost use Rattle.co_pdos.specs.Tpdo.{Remembered, without_past_inhibit, turn_by_type, turn_without_frame};
 ghost use Rattle.co_pdos.specs.Working.{count_of, identifier_of, is_pdo, mapping_object, works};
 
 use crate::transmission_type::TransmissionType;
@@ -15,8 +15,10 @@ use crate::transmission_type::TransmissionType;
 /// A PDO that works is one, has an identifier that a PDO may have, and a mapping that fits a frame.
 #[tactic(auto, using(crate::proofs::WorkingLemmas::is_one, crate::proofs::WorkingLemmas::allowed, crate::proofs::WorkingLemmas::fits))]
 pub fn a_pdo_that_works_fits_a_frame()
-    ensures one { (shape : Shaped) (values : Values) (object : ℕ) → works shape values object ≡ true → is_pdo shape object ≡ true }
-    ensures allowed { (shape : Shaped) (values : Values) (object : ℕ) → works shape values object ≡ true → is_restricted (identifier_of values object) ≡ false }
+    ensures one { (shape : Shaped) (values : Values) (object : ℕ) → works shape values object ≡ true
+        → is_pdo shape object ≡ true }
+    ensures allowed { (shape : Shaped) (values : Values) (object : ℕ) → works shape values object ≡ true
+        → is_restricted (identifier_of values object) ≡ false }
     ensures fits { (shape : Shaped) (values : Values) (object : ℕ) → works shape values object ≡ true
         → mapping_bits (mapping_of values (mapping_object object) (count_of values object)) ≤ 64 }
 {}
@@ -24,7 +26,8 @@ pub fn a_pdo_that_works_fits_a_frame()
 /// An event-driven TPDO whose inhibit moment is ahead isn't sent, and remembers what it did.
 pub fn an_inhibited_tpdo_is_not_sent()
     ensures { (c : Parameters) (at_sync : Bool) (t m : ℕ) (bytes : List ℕ) (r : Remembered)
-        → r.inhibit ≡ Some m → t < m → turn_by_type (Some TransmissionType.EventDriven) c at_sync t bytes r ≡ unsent r }
+        → r.inhibit ≡ Some m → t < m → turn_by_type (Some TransmissionType.EventDriven) c at_sync t bytes r
+        ≡ turn_without_frame r }
 {}
 
 /// Once an event-driven TPDO was sent it isn't again before its inhibit time has passed.
@@ -34,7 +37,7 @@ pub fn a_sent_tpdo_is_inhibited()
         → (turn_by_type (Some TransmissionType.EventDriven) c at_sync t bytes r).is_sent ≡ true
         → (next : Bool) (u : ℕ) (others : List ℕ) → 0 < c.inhibit_time → u < t + c.inhibit_time
         → (let now = (turn_by_type (Some TransmissionType.EventDriven) c at_sync t bytes r).remembered in
-        turn_by_type (Some TransmissionType.EventDriven) c next u others (inhibit_over u now) ≡ unsent now) }
+        turn_by_type (Some TransmissionType.EventDriven) c next u others (without_past_inhibit u now) ≡ turn_without_frame now) }
 {}
 
 /// The moments that an event-driven TPDO sets lie after now, and its event moment isn't before its inhibit
@@ -70,5 +73,5 @@ pub fn a_cyclic_tpdo_is_sent_at_each_nth_sync()
         → (turn_by_type (Some (TransmissionType.Cyclic n)) c true t bytes r).remembered.syncs
         ≡ (if r.syncs + 1 == n then 0 else r.syncs + 1) }
     ensures unsent { (c : Parameters) (n t : ℕ) (bytes : List ℕ) (r : Remembered)
-        → turn_by_type (Some (TransmissionType.Cyclic n)) c false t bytes r ≡ unsent r }
+        → turn_by_type (Some (TransmissionType.Cyclic n)) c false t bytes r ≡ turn_without_frame r }
 {}

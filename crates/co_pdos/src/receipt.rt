@@ -1,7 +1,7 @@
 //! What becomes of a frame that an RPDO receives.
 
 ghost use Rattle.std.specs.Prelude.{◌≡◌};
-ghost use Rattle.co_pdos.specs.Rpdo.{received as receipt_of_frame};
+ghost use Rattle.co_pdos.specs.Rpdo.{frame_receipt as receipt_of_frame};
 
 use crate::transmission_type::TransmissionType;
 
@@ -21,7 +21,7 @@ pub enum Receipt {
 /// What becomes of a frame of so many bytes at a working RPDO of a transmission type, where its
 /// mapping begins `mapped` bytes. `Short` where the frame has fewer, whatever the type is; else `Kept`
 /// for the synchronous types, `AtOnce` for the event-driven one, and `Ignored` for others and none.
-#[tactic(auto, unfolding(crate::specs::Rpdo::received))]
+#[tactic(auto, unfolding(crate::specs::Rpdo::frame_receipt))]
 pub fn received(transmission: Option<TransmissionType>, mapped: usize, count: usize) -> Receipt
     ensures { result ≡ receipt_of_frame transmission mapped count }
 {

@@ -2,8 +2,8 @@
 
 ghost use Rattle.std.specs.Prelude.{◌≡◌, ◌↔◌, ◌≤◌, ◌<◌, ◌^◌, length, IsTrue};
 ghost use Rattle.co_pdos.specs.Tpdo.{acyclic_turn, cyclic_turn, event_turn, turn_by_type};
-ghost use Rattle.co_pdos.specs.Tpdo.{differs, event_moment, forgotten as nothing_remembered, has_come};
-ghost use Rattle.co_pdos.specs.Tpdo.{inhibit_over, is_ahead, moment_from};
+ghost use Rattle.co_pdos.specs.Tpdo.{differs, event_moment, remembering_nothing as nothing_remembered, has_come};
+ghost use Rattle.co_pdos.specs.Tpdo.{without_past_inhibit, is_ahead, moment_from};
 
 use crate::communication::Communication;
 use crate::payload::Payload;
@@ -128,9 +128,9 @@ impl Tpdo {
     }
 
     /// Forgets the inhibit moment if it has come at the moment t, in microseconds.
-    #[tactic(auto, unfolding(crate::specs::Tpdo::inhibit_over))]
+    #[tactic(auto, unfolding(crate::specs::Tpdo::without_past_inhibit))]
     pub fn end_inhibit(&mut self, t: u64)
-        ensures { self.new ≡ inhibit_over t self.old }
+        ensures { self.new ≡ without_past_inhibit t self.old }
     {
         if has_come(t, self.inhibit) {
             self.inhibit = None;

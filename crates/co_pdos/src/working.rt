@@ -2,7 +2,9 @@
 
 ghost use Rattle.std.specs.Prelude.{◌≡◌, ◌<◌, ◌≤◌};
 ghost use Rattle.co_dict.specs.PdoChecks.{has_type, is_unsigned8, is_unsigned32};
-ghost use Rattle.co_pdos.specs.Working.{has_frames, has_mapping, identifier_of, is_pdo as is_object_of_pdo, mapping_object, rpdo_object as object_of_rpdo, tpdo_object as object_of_tpdo, works as works_now};
+ghost use Rattle.co_pdos.specs.Working.{has_frames, has_mapping, identifier_of, is_pdo as is_object_of_pdo};
+ghost use Rattle.co_pdos.specs.Working.{mapping_object, rpdo_object as object_of_rpdo, tpdo_object as object_of_tpdo};
+ghost use Rattle.co_pdos.specs.Working.{works as works_now};
 
 use co_dict::{Dict, Shape, check_mapping, is_restricted};
 use co_values::DataType;

@@ -1,5 +1,6 @@
 -- The messages of a project, where an edit changes them or the nodes.
-use Rattle.std.proofs.Common.{◌≡◌, ℕ, ◌+◌, sym, ◌∙◌, List, [], ◌∷◌, true, false, cond, ◌==◌, Option, Some, None, IfSome, All, is_some, refl, ap}
+use Rattle.std.proofs.Common.{◌≡◌, ℕ, ◌+◌, sym, ◌∙◌, List, [], ◌∷◌, true, false, cond, ◌==◌, Option, Some, None, IfSome}
+use Rattle.std.proofs.Common.{All, is_some, refl, ap}
 use Rattle.std.proofs.lemmas.Bool.{true≢false, or_parts, eq-eqb}
 use Rattle.std.proofs.lemmas.Cmp.{nat_cmp_total, nat_list_cmp_total}
 use Rattle.std.proofs.lemmas.List.Elements.{All-nil, All-cons, All-head, All-tail, All-weaker}
@@ -16,7 +17,8 @@ use Rattle.co_base.proofs.EntryLemmas.{All-left, All-put}
 use Rattle.co_base.proofs.TableLemmas.{removed_elsewhere}
 use Rattle.co_messages.specs.declared.linked.Linked.{Linked}
 use Rattle.co_messages.specs.declared.message.Message.{Message}
-use Rattle.co_messages.specs.Messages.{changed, concern, concerns, is_position, linked_to, seat_cmp, with_message, with_sink, with_source, without_sink, without_source, Named}
+use Rattle.co_messages.specs.Messages.{with_changed, is_of_messages, is_of_message, is_position, linked_to, seat_cmp}
+use Rattle.co_messages.specs.Messages.{with_message, with_sink, with_source, without_sink, without_source, Named}
 use Rattle.co_messages.proofs.LimitLemmas.{linked_message, seats_exact, sink_left, sink_put, source_left, source_put}
 use Rattle.co_edits.specs.declared.edit.Edit.TheVariants as edit
 use Rattle.co_edits.specs.Edits.{IsEdit}
@@ -29,14 +31,16 @@ use Rattle.co_project.specs.Sound.{IsMessageOf}
 
 -- another number is left where one is taken away
 pub still_there : {X : Type 0} (m : FinMap nat_cmp X) (id n : ℕ) → (n == id) ≡ false → get (remove m id) n ≡ get m n
-still_there m id n other = removed_elsewhere nat_cmp_total exact_unsigned m id n (λ same. true≢false (sym (eq-eqb n id same) ∙ other))
+still_there m id n other =
+    removed_elsewhere nat_cmp_total exact_unsigned m id n (λ same. true≢false (sym (eq-eqb n id same) ∙ other))
 
 -- sinks whose nodes are there
 abbrev HaveNodes : Nodes → List ((ℕ × ℕ) × (ℕ × ℕ)) → Type 0
 HaveNodes nodes sinks = All (λ s. contains_key nodes s.0.1 ≡ true) sinks
 
 -- sinks of other nodes than one that goes
-sinks_stay : (nodes : Nodes) (id : ℕ) (sinks : List ((ℕ × ℕ) × (ℕ × ℕ))) → list_any (λ s. s.0.1 == id) sinks ≡ false → HaveNodes nodes sinks → HaveNodes (remove nodes id) sinks
+sinks_stay : (nodes : Nodes) (id : ℕ) (sinks : List ((ℕ × ℕ) × (ℕ × ℕ))) → list_any (λ s. s.0.1 == id) sinks ≡ false
+    → HaveNodes nodes sinks → HaveNodes (remove nodes id) sinks
 sinks_stay nodes id [] others have = All-nil _
 sinks_stay nodes id (s ∷ sinks) others have =
     let parts = or_parts (s.0.1 == id) (list_any (λ x. x.0.1 == id) sinks) others in
@@ -56,72 +60,111 @@ module _ (p : Content) (id : ℕ) (each : Each (IsMessageOf p) p.messages) where
       known : (n : ℕ) → contains_key p.nodes n ≡ true → contains_key with.nodes n ≡ true
       known n = known_after_put nat_cmp_total p.nodes id n node
 
-      stays : (name : List ℕ) (l : Linked) → get p.messages name ≡ Some l → IsMessageOf p name l → IsMessageOf with name l
-      stays name l found is =
-          (is.0, is.1, known l.message.node is.2, All-weaker (λ s. contains_key p.nodes s.0.1 ≡ true) (λ s. contains_key with.nodes s.0.1 ≡ true) (λ s. known s.0.1) l.sinks is.3)
+      stays : (name : List ℕ) (l : Linked) → get p.messages name ≡ Some l → IsMessageOf p name l
+          → IsMessageOf with name l
+      stays name l found is = (
+        is.0,
+        is.1,
+        known l.message.node is.2,
+        All-weaker (λ s. contains_key p.nodes s.0.1 ≡ true)
+            (λ s. contains_key with.nodes s.0.1 ≡ true) (λ s. known s.0.1) l.sinks is.3,
+      )
 
   -- and where one goes that they don't concern
-  pub messages_without_node : concern id p.messages ≡ false → Each (IsMessageOf (record p { nodes = remove p.nodes id })) p.messages
+  pub messages_without_node : is_of_messages id p.messages ≡ false
+      → Each (IsMessageOf (record p { nodes = remove p.nodes id })) p.messages
   unfolding IsMessageOf
   messages_without_node none = each_weaker (IsMessageOf p) (IsMessageOf without) p.messages stays each
     where
       without : Content
       without = record p { nodes = remove p.nodes id }
 
-      stays : (name : List ℕ) (l : Linked) → get p.messages name ≡ Some l → IsMessageOf p name l → IsMessageOf without name l
+      stays : (name : List ℕ) (l : Linked) → get p.messages name ≡ Some l → IsMessageOf p name l
+          → IsMessageOf without name l
       stays name l found is =
-          let other : concerns id l ≡ false = each_found (λ k v. concerns id v ≡ false) p.messages name l (each_fails nat_list_cmp_total exact_bytes (λ e. concerns id e.1) p.messages none) found in
-          let parts = or_parts (l.message.node == id) (list_any (λ s. s.0.1 == id) l.sinks) other in
-          (is.0, is.1, ap is_some (still_there p.nodes id l.message.node parts.0) ∙ is.2, sinks_stay p.nodes id l.sinks parts.1 is.3)
+          let other : is_of_message id l ≡ false =
+          each_found (λ k v. is_of_message id v ≡ false) p.messages name l
+          (each_fails nat_list_cmp_total exact_bytes (λ e. is_of_message id e.1) p.messages none) found in
+          let parts = or_parts (l.message.node == id) (list_any (λ s. s.0.1 == id) l.sinks) other in (
+            is.0,
+            is.1,
+            ap is_some (still_there p.nodes id l.message.node parts.0)
+                ∙ is.2,
+            sinks_stay p.nodes id l.sinks parts.1 is.3,
+          )
 
 -- ---- other messages
 
 module _ (p : Content) (name : List ℕ) where
   -- a message, new or sent in another way
-  pub message_sent : (m : Message) → IsEdit (edit.Message name m) → contains_key p.nodes m.node ≡ true → Each (IsMessageOf p) p.messages → Each (IsMessageOf p) (with_message p.messages name m)
+  pub message_sent : (m : Message) → IsEdit (edit.Message name m) → contains_key p.nodes m.node ≡ true
+      → Each (IsMessageOf p) p.messages → Each (IsMessageOf p) (with_message p.messages name m)
   unfolding IsEdit IsMessageOf
-  message_sent m h there each = each_put nat_list_cmp_total exact_bytes (IsMessageOf p) p.messages name (linked_to (get p.messages name) m) each (by (get p.messages name) (each name))
+  message_sent m h there each =
+      each_put nat_list_cmp_total exact_bytes (IsMessageOf p) p.messages name (linked_to (get p.messages name) m) each
+      (by (get p.messages name) (each name))
     where
       by : (known : Option Linked) → IfSome known (IsMessageOf p name) → IsMessageOf p name (linked_to known m)
       by None is = (h.0, linked_message None m h.1 tt, there, All-nil _)
       by (Some l) is = (h.0, linked_message (Some l) m h.1 is.1, there, is.3)
 
   -- one with one source more, or another in its place
-  pub source_kept : (position : ℕ) (place : ℕ × ℕ) → is_position position ≡ true → AreIndices place.0 place.1 → (l : Linked) → IsMessageOf p name l → IsMessageOf p name (with_source position place l)
+  pub source_kept : (position : ℕ) (place : ℕ × ℕ) → is_position position ≡ true → AreIndices place.0 place.1
+      → (l : Linked) → IsMessageOf p name l → IsMessageOf p name (with_source position place l)
   unfolding IsMessageOf
   source_kept position place fits are l is = (is.0, source_put l position place is.1 fits are, is.2, is.3)
 
   -- with one less
-  pub unsource_kept : (position : ℕ) (l : Linked) → IsMessageOf p name l → IsMessageOf p name (without_source position l)
+  pub unsource_kept : (position : ℕ) (l : Linked) → IsMessageOf p name l
+      → IsMessageOf p name (without_source position l)
   unfolding IsMessageOf
   unsource_kept position l is = (is.0, source_left l position is.1, is.2, is.3)
 
   -- with one sink more of a node that is there, or another in its place
-  pub sink_kept : (position node : ℕ) (place : ℕ × ℕ) → is_position position ≡ true → is_between 1 127 node ≡ true → AreIndices place.0 place.1 → contains_key p.nodes node ≡ true
+  pub sink_kept : (position node : ℕ) (place : ℕ × ℕ) → is_position position ≡ true → is_between 1 127 node ≡ true
+      → AreIndices place.0 place.1 → contains_key p.nodes node ≡ true
       → (l : Linked) → IsMessageOf p name l → IsMessageOf p name (with_sink position node place l)
   unfolding IsMessageOf
-  sink_kept position node place fits taker are there l is =
-      (is.0, sink_put l position node place is.1 fits taker are, is.2, All-put seat_cmp (λ s. contains_key p.nodes s.0.1 ≡ true) l.sinks (position, node) place seats_exact is.3 there)
+  sink_kept position node place fits taker are there l is = (
+    is.0,
+    sink_put l position node place is.1 fits taker are,
+    is.2,
+    All-put seat_cmp (λ s. contains_key p.nodes s.0.1 ≡ true) l.sinks (
+      position,
+      node,
+    ) place seats_exact is.3 there,
+  )
 
   -- with one less
-  pub unsink_kept : (position node : ℕ) (l : Linked) → IsMessageOf p name l → IsMessageOf p name (without_sink position node l)
+  pub unsink_kept : (position node : ℕ) (l : Linked) → IsMessageOf p name l
+      → IsMessageOf p name (without_sink position node l)
   unfolding IsMessageOf
-  unsink_kept position node l is =
-      (is.0, sink_left l position node is.1, is.2, All-left (is_at (seat_cmp (position, node))) (λ s. contains_key p.nodes s.0.1 ≡ true) l.sinks is.3)
+  unsink_kept position node l is = (
+    is.0,
+    sink_left l position node is.1,
+    is.2,
+    All-left (is_at (seat_cmp (position, node)))
+        (λ s. contains_key p.nodes s.0.1 ≡ true) l.sinks is.3,
+  )
 
   module _ (change : Linked → Linked) where
     -- messages of which one is changed
-    pub messages_changed : ((l : Linked) → IsMessageOf p name l → IsMessageOf p name (change l)) → Each (IsMessageOf p) p.messages → Each (IsMessageOf p) (changed change p.messages name)
+    pub messages_changed : ((l : Linked) → IsMessageOf p name l → IsMessageOf p name (change l))
+        → Each (IsMessageOf p) p.messages → Each (IsMessageOf p) (with_changed change p.messages name)
     messages_changed keeps each = by (get p.messages name) (each name)
       where
-        by : (found : Option Linked) → IfSome found (IsMessageOf p name) → Each (IsMessageOf p) (option_map_or (λ known. insert p.messages name (change known)) found p.messages)
+        by : (found : Option Linked) → IfSome found (IsMessageOf p name)
+            → Each (IsMessageOf p) (option_map_or (λ known. insert p.messages name (change known)) found p.messages)
         by None is = each
-        by (Some l) is = each_put nat_list_cmp_total exact_bytes (IsMessageOf p) p.messages name (change l) each (keeps l is)
+        by (Some l) is = each_put nat_list_cmp_total exact_bytes (IsMessageOf p) p.messages name (change l) each
+            (keeps l is)
 
     -- are as many
-    pub as_many : (messages : Named) → len (changed change messages name) ≡ len messages
+    pub as_many : (messages : Named) → len (with_changed change messages name) ≡ len messages
     as_many messages = by (get messages name) refl
       where
-        by : (found : Option Linked) → get messages name ≡ found → len (option_map_or (λ known. insert messages name (change known)) found messages) ≡ len messages
+        by : (found : Option Linked) → get messages name ≡ found
+            → len (option_map_or (λ known. insert messages name (change known)) found messages) ≡ len messages
         by None none = refl
-        by (Some l) found = len-insert nat_list_cmp_total messages name (change l) ∙ ap (λ o. cond (is_some o) (len messages) (len messages + 1)) found
+        by (Some l) found = len-insert nat_list_cmp_total messages name (change l)
+            ∙ ap (λ o. cond (is_some o) (len messages) (len messages + 1)) found

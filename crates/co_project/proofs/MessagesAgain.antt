@@ -1,5 +1,6 @@
 -- The messages of a project come again by the edits of its script.
-use Rattle.std.proofs.Common.{◌≡◌, ℕ, ◌+◌, ◌≤◌, ◌∙◌, List, [], ◌∷◌, ◌++◌, length, map, true, false, not, ◌||◌, T, Option, Some, None, Ok, IfSome, All, is_some, refl, ap, arith}
+use Rattle.std.proofs.Common.{◌≡◌, ℕ, ◌+◌, ◌≤◌, ◌∙◌, List, [], ◌∷◌, ◌++◌, length, map, true, false, not, ◌||◌, T}
+use Rattle.std.proofs.Common.{Option, Some, None, Ok, IfSome, All, is_some, refl, ap, arith}
 use Rattle.std.proofs.lemmas.Cmp.{nat_cmp_total, nat_list_cmp_total}
 use Rattle.std.proofs.lemmas.List.Elements.{All-head, All-tail}
 use Rattle.std.proofs.lemmas.Map.Lookups.{exact_unsigned, exact_bytes}
@@ -13,7 +14,8 @@ use Rattle.co_base.proofs.EntryLemmas.{entries_again, put_entries}
 use Rattle.co_base.proofs.TableLemmas.{put_there, put_twice}
 use Rattle.co_messages.specs.declared.linked.Linked.{Linked}
 use Rattle.co_messages.specs.declared.message.Message.{Message}
-use Rattle.co_messages.specs.Messages.{changed, is_full_for, linked_to, name_cmp, seat_cmp, with_sink, with_source, AreSinks, AreSources, IsLinked, Named}
+use Rattle.co_messages.specs.Messages.{with_changed, is_full_for, linked_to, name_cmp, seat_cmp, with_sink, with_source}
+use Rattle.co_messages.specs.Messages.{AreSinks, AreSources, IsLinked, Named}
 use Rattle.co_messages.proofs.LimitLemmas.{seats_exact, seats_total}
 use Rattle.co_edits.specs.declared.edit.Edit.TheVariants as edit
 use Rattle.co_edits.specs.declared.fault.EditFault.TheVariants.{Limit, Unknown}
@@ -40,52 +42,64 @@ module _ (p : Content) (messages : Named) (name : List ℕ) where
   linked_there l = put_there nat_list_cmp_total exact_bytes messages name l
 
   -- where it is changed, the name has the changed one
-  linked_changed : (change : Linked → Linked) (l : Linked) → changed change (insert messages name l) name ≡ insert messages name (change l)
+  linked_changed : (change : Linked → Linked) (l : Linked)
+      → with_changed change (insert messages name l) name ≡ insert messages name (change l)
   linked_changed change l =
-      ap (λ o. option_map_or (λ known. insert (insert messages name l) name (change known)) o (insert messages name l)) (linked_there l)
+      ap (λ o. option_map_or (λ known. insert (insert messages name l) name (change known)) o (insert messages name l))
+      (linked_there l)
       ∙ put_twice nat_list_cmp_total exact_bytes messages name l (change l)
 
   -- a new message has no sources and no sinks
-  message_taken : (m : Message) → contains_key p.nodes m.node ≡ true → is_full_for messages name ≡ false → get messages name ≡ None
+  message_taken : (m : Message) → contains_key p.nodes m.node ≡ true → is_full_for messages name ≡ false
+      → get messages name ≡ None
       → accept (with_messages p messages) (edit.Message name m) ≡ Ok (with_linked (linked_to None m))
   unfolding accept
   message_taken m there free new =
-      ap (λ t. unless ((not t, Unknown) ∷ (is_full_for messages name, Limit) ∷ []) (with_linked (linked_to (get messages name) m))) there
+      ap (λ t. unless ((not t, Unknown) ∷ (is_full_for messages name, Limit) ∷ [])
+      (with_linked (linked_to (get messages name) m))) there
       ∙ ap (λ t. unless ((t, Limit) ∷ []) (with_linked (linked_to (get messages name) m))) free
       ∙ ap (λ o. Ok (with_linked (linked_to o m))) new
 
   -- one source more
-  source_taken : (l : Linked) (e : ℕ × (ℕ × ℕ)) → accept (with_linked l) (source_edit name e) ≡ Ok (with_linked (with_source e.0 e.1 l))
+  source_taken : (l : Linked) (e : ℕ × (ℕ × ℕ))
+      → accept (with_linked l) (source_edit name e) ≡ Ok (with_linked (with_source e.0 e.1 l))
   unfolding accept
   source_taken l e =
-      ap (λ o. unless ((not (is_some o), Unknown) ∷ []) (with_messages p (changed (with_source e.0 e.1) (insert messages name l) name))) (linked_there l)
+      ap (λ o. unless ((not (is_some o), Unknown) ∷ [])
+      (with_messages p (with_changed (with_source e.0 e.1) (insert messages name l) name))) (linked_there l)
       ∙ ap (λ m. Ok (with_messages p m)) (linked_changed (with_source e.0 e.1) l)
 
   -- the sources that are still to come
   sources_again : (l : Linked) (back : List (ℕ × (ℕ × ℕ)))
-      → accept_all (Ok (with_linked l)) (map (source_edit name) back) ≡ Ok (with_linked (record l { sources = put_entries nat_cmp nat_cmp_total exact_unsigned l.sources back }))
+      → accept_all (Ok (with_linked l)) (map (source_edit name) back)
+      ≡ Ok (with_linked (record l { sources = put_entries nat_cmp nat_cmp_total exact_unsigned l.sources back }))
   unfolding accept_all
   sources_again l [] = refl
   sources_again l (e ∷ back) =
-      one_then (with_linked l) (source_edit name e) (map (source_edit name) back) (with_linked (with_source e.0 e.1 l)) (source_taken l e) (sources_again (with_source e.0 e.1 l) back)
+      one_then (with_linked l) (source_edit name e) (map (source_edit name) back) (with_linked (with_source e.0 e.1 l))
+      (source_taken l e) (sources_again (with_source e.0 e.1 l) back)
 
   -- one sink more of a node that is there
-  sink_taken : (l : Linked) (e : (ℕ × ℕ) × (ℕ × ℕ)) → contains_key p.nodes e.0.1 ≡ true → accept (with_linked l) (sink_edit name e) ≡ Ok (with_linked (with_sink e.0.0 e.0.1 e.1 l))
+  sink_taken : (l : Linked) (e : (ℕ × ℕ) × (ℕ × ℕ)) → contains_key p.nodes e.0.1 ≡ true
+      → accept (with_linked l) (sink_edit name e) ≡ Ok (with_linked (with_sink e.0.0 e.0.1 e.1 l))
   unfolding accept
   sink_taken l e there =
       let change : Linked → Linked = with_sink e.0.0 e.0.1 e.1 in
       let put : Named = insert messages name l in
-      ap (λ o. unless ((not (is_some o) || not (contains_key p.nodes e.0.1), Unknown) ∷ []) (with_messages p (changed change put name))) (linked_there l)
-      ∙ ap (λ t. unless ((not t, Unknown) ∷ []) (with_messages p (changed change put name))) there
+      ap (λ o. unless ((not (is_some o) || not (contains_key p.nodes e.0.1), Unknown) ∷ [])
+      (with_messages p (with_changed change put name))) (linked_there l)
+      ∙ ap (λ t. unless ((not t, Unknown) ∷ []) (with_messages p (with_changed change put name))) there
       ∙ ap (λ m. Ok (with_messages p m)) (linked_changed change l)
 
   -- the sinks that are still to come
   sinks_again : (l : Linked) (back : List ((ℕ × ℕ) × (ℕ × ℕ))) → All (λ s. contains_key p.nodes s.0.1 ≡ true) back
-      → accept_all (Ok (with_linked l)) (map (sink_edit name) back) ≡ Ok (with_linked (record l { sinks = put_entries seat_cmp seats_total seats_exact l.sinks back }))
+      → accept_all (Ok (with_linked l)) (map (sink_edit name) back)
+      ≡ Ok (with_linked (record l { sinks = put_entries seat_cmp seats_total seats_exact l.sinks back }))
   unfolding accept_all
   sinks_again l [] there = refl
   sinks_again l (e ∷ back) there =
-      one_then (with_linked l) (sink_edit name e) (map (sink_edit name) back) (with_linked (with_sink e.0.0 e.0.1 e.1 l))
+      one_then (with_linked l) (sink_edit name e) (map (sink_edit name) back)
+      (with_linked (with_sink e.0.0 e.0.1 e.1 l))
       (sink_taken l e (All-head (λ s. contains_key p.nodes s.0.1 ≡ true) e back there))
       (sinks_again (with_sink e.0.0 e.0.1 e.1 l) back (All-tail (λ s. contains_key p.nodes s.0.1 ≡ true) e back there))
 
@@ -98,10 +112,13 @@ module _ (p : Content) (messages : Named) (name : List ℕ) where
       let sinks = map (sink_edit name) l.sinks in
       let sent : Linked = linked_to None l.message in
       let carrying : Linked = record sent { sources = l.sources } in
-      one_then (with_messages p messages) (edit.Message name l.message) (sources ++ sinks) (with_linked sent) (message_taken l.message is.2 free new)
+      one_then (with_messages p messages) (edit.Message name l.message) (sources ++ sinks) (with_linked sent)
+      (message_taken l.message is.2 free new)
       (then (Ok (with_linked sent)) sources sinks (with_linked carrying)
-      (sources_again sent l.sources ∙ ap (λ es. Ok (with_linked (record sent { sources = es }))) (entries_again nat_cmp nat_cmp_total exact_unsigned l.sources is.1.1.0))
-      (sinks_again carrying l.sinks is.3 ∙ ap (λ es. Ok (with_linked (record carrying { sinks = es }))) (entries_again seat_cmp seats_total seats_exact l.sinks is.1.2.0)))
+      (sources_again sent l.sources ∙ ap (λ es. Ok (with_linked (record sent { sources = es })))
+      (entries_again nat_cmp nat_cmp_total exact_unsigned l.sources is.1.1.0))
+      (sinks_again carrying l.sinks is.3 ∙ ap (λ es. Ok (with_linked (record carrying { sinks = es })))
+      (entries_again seat_cmp seats_total seats_exact l.sinks is.1.2.0)))
 
 -- ---- all messages
 
@@ -110,15 +127,22 @@ abbrev IsNew : Linked → Option Linked → Type 0
 IsNew l found = found ≡ None
 
 -- the messages that are still to come
-messages_again : (p : Content) (messages : Named) (back : List (List ℕ × Linked)) → len messages + length back ≤ 1024 → T (is_sorted name_cmp back) → AreToCome IsNew messages back
-    → All (λ e. IsMessageOf p e.0 e.1) back → accept_all (Ok (with_messages p messages)) (flat_map message_edits back) ≡ Ok (with_messages p (put_all messages back))
+messages_again : (p : Content) (messages : Named) (back : List (List ℕ × Linked)) → len messages + length back ≤ 1024
+    → T (is_sorted name_cmp back) → AreToCome IsNew messages back
+    → All (λ e. IsMessageOf p e.0 e.1) back → accept_all (Ok (with_messages p messages)) (flat_map message_edits back)
+    ≡ Ok (with_messages p (put_all messages back))
 unfolding accept_all put_all
 messages_again p messages [] small sorted come all = refl
 messages_again p messages (e ∷ back) small sorted come all =
-    then (Ok (with_messages p messages)) (message_edits e) (flat_map message_edits back) (with_messages p (insert messages e.0 e.1))
-    (message_made p messages e.0 e.1 (All-head (λ x. IsMessageOf p x.0 x.1) e back all) (room 1024 (len messages) (length back) _ small) (first_to_come IsNew nat_list_cmp_total exact_bytes messages e back come))
-    (messages_again p (insert messages e.0 e.1) back (let more = one_more nat_list_cmp_total messages e.0 e.1 in omega arith) (second_part _ _ sorted)
-    (others_to_come IsNew nat_list_cmp_total exact_bytes messages e back come sorted) (All-tail (λ x. IsMessageOf p x.0 x.1) e back all))
+    then (Ok (with_messages p messages)) (message_edits e) (flat_map message_edits back)
+    (with_messages p (insert messages e.0 e.1))
+    (message_made p messages e.0 e.1 (All-head (λ x. IsMessageOf p x.0 x.1) e back all)
+    (room 1024 (len messages) (length back) _ small)
+    (first_to_come IsNew nat_list_cmp_total exact_bytes messages e back come))
+    (messages_again p (insert messages e.0 e.1) back (let more = one_more nat_list_cmp_total messages e.0 e.1
+    in omega arith) (second_part _ _ sorted)
+    (others_to_come IsNew nat_list_cmp_total exact_bytes messages e back come sorted)
+    (All-tail (λ x. IsMessageOf p x.0 x.1) e back all))
 
 -- none is there at first
 all_new : (messages : Named) → AreToCome {R = name_cmp} IsNew empty (entries messages)
@@ -130,7 +154,9 @@ all_new messages name = by (find name_cmp name (entries messages))
 
 -- all messages of a project
 pub messages_come_again : (p : Content) (messages : Named) → len messages ≤ 1024 → Each (IsMessageOf p) messages
-    → accept_all (Ok (with_messages p empty)) (flat_map message_edits (entries messages)) ≡ Ok (with_messages p messages)
+    → accept_all (Ok (with_messages p empty)) (flat_map message_edits (entries messages))
+    ≡ Ok (with_messages p messages)
 messages_come_again p messages few each =
-    messages_again p empty (entries messages) (whole_small 1024 messages few) (entries_sorted messages) (all_new messages) (all_entries nat_list_cmp_total exact_bytes (IsMessageOf p) messages each)
+    messages_again p empty (entries messages) (whole_small 1024 messages few) (entries_sorted messages)
+    (all_new messages) (all_entries nat_list_cmp_total exact_bytes (IsMessageOf p) messages each)
     ∙ ap (λ m. Ok (with_messages p m)) (made_again nat_list_cmp_total exact_bytes messages)

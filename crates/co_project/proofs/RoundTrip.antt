@@ -1,5 +1,7 @@
 -- The edits of a project's script make the project again.
-use Rattle.std.proofs.Common.{◌≡◌, ℕ, ◌+◌, ◌≤◌, sym, ◌∙◌, List, [], ◌∷◌, length, map, Bool, true, false, cond, not, ◌&&◌, ◌||◌, ◌==◌, T, Option, Some, None, Ok, IfSome, All, option_map, is_some, refl, ap, arith}
+use Rattle.std.proofs.Common.{◌≡◌, ℕ, ◌+◌, ◌≤◌, sym, ◌∙◌, List, [], ◌∷◌, length, map, Bool, true, false, cond, not}
+use Rattle.std.proofs.Common.{◌&&◌, ◌||◌, ◌==◌, T, Option, Some, None, Ok, IfSome, All, option_map, is_some, refl, ap}
+use Rattle.std.proofs.Common.{arith}
 use Rattle.std.proofs.lemmas.Bool.{or_from}
 use Rattle.std.proofs.lemmas.Cmp.{nat_cmp_total, nat_list_cmp_total}
 use Rattle.std.proofs.lemmas.List.Elements.{All-head, All-tail}
@@ -8,7 +10,8 @@ use Rattle.std.specs.List.{flat_map}
 use Rattle.std.specs.Option.{option_or}
 use Rattle.std.specs.Ordering.{nat_cmp, eq_by_cmp}
 use Rattle.std.specs.Str.{bytes_eq}
-use Rattle.std.specs.FinMap.{empty, entries, entries_sorted, find, get, get-empty, get-entries, insert, is_sorted, len, same_map}
+use Rattle.std.specs.FinMap.{empty, entries, entries_sorted, find, get, get-empty, get-entries, insert, is_sorted, len}
+use Rattle.std.specs.FinMap.{same_map}
 use Rattle.std.specs.FinMap.Entries.{below_all}
 use Rattle.co_scenario.specs.declared.timed_event.TimedEvent.{TimedEvent}
 use Rattle.co_scenario.specs.Scenario.{Events}
@@ -19,12 +22,14 @@ use Rattle.co_edits.specs.Accepts.{unless}
 use Rattle.co_dict.proofs.PlaceLemmas.{places_exact, places_total}
 use Rattle.co_params.specs.Params.{Texts as Params, is_full_for}
 use Rattle.co_project.specs.declared.node.Node.{Node}
-use Rattle.co_project.specs.Tables.{Texts, Nodes, name_taken, has_no_room, renamed, with_param}
+use Rattle.co_project.specs.Tables.{Texts, Nodes, name_taken, has_no_room, node_after_put, with_param}
 use Rattle.co_project.specs.Project.{Content, first, accept, accept_all, with_nodes}
 use Rattle.co_project.specs.Script.{edits, event_edit, message_edits, node_edit, param_edit, param_edits, text_edit}
 use Rattle.co_base.specs.Tables.{Each}
 use Rattle.co_project.specs.Sound.{AreTexts, AreParams, IsNodeOf, IsMessageOf, IsEventOf, IsSound}
-use Rattle.co_base.proofs.EachLemmas.{all_entries, both, each_empty, each_fails, each_found, each_put, each_there, each_weaker, first_part, get-put_all, made_again, none_pass, one_more, put_all, second_part}
+use Rattle.co_base.proofs.EachLemmas.{all_entries, both, each_empty, each_fails, each_found, each_put, each_there}
+use Rattle.co_base.proofs.EachLemmas.{each_weaker, first_part, get-put_all, made_again, none_pass, one_more, put_all}
+use Rattle.co_base.proofs.EachLemmas.{second_part}
 use Rattle.co_project.proofs.NodeLemmas.{same_put}
 use Rattle.co_project.proofs.ScriptEdits.{settings}
 use Rattle.co_project.proofs.EditsInTurn.{one_then, room, then, whole_small}
@@ -34,7 +39,8 @@ use Rattle.co_project.proofs.ToCome.{AreToCome, first_to_come, others_to_come}
 -- ---- texts
 
 -- one text more
-text_taken : (p : Content) (texts : Texts) (e : List ℕ × List ℕ) → has_no_room texts e.0 ≡ false → accept (record p { texts = texts }) (text_edit e) ≡ Ok (record p { texts = insert texts e.0 e.1 })
+text_taken : (p : Content) (texts : Texts) (e : List ℕ × List ℕ) → has_no_room texts e.0 ≡ false
+    → accept (record p { texts = texts }) (text_edit e) ≡ Ok (record p { texts = insert texts e.0 e.1 })
 unfolding accept
 text_taken p texts e free = ap (λ t. unless ((t, Limit) ∷ []) (record p { texts = insert texts e.0 e.1 })) free
 
@@ -67,9 +73,11 @@ module _ (p : Content) where
   IsBare id node = (whole : Node) × ((get p.nodes id ≡ Some whole) × (node ≡ bare whole))
 
   -- their names are free as in the project
-  name_free : (nodes : Nodes) → Each IsBare nodes → (id : ℕ) (name : List ℕ) → name_taken p.nodes id name ≡ false → name_taken nodes id name ≡ false
+  name_free : (nodes : Nodes) → Each IsBare nodes → (id : ℕ) (name : List ℕ) → name_taken p.nodes id name ≡ false
+      → name_taken nodes id name ≡ false
   name_free nodes are id name free =
-      none_pass nat_cmp_total exact_unsigned clashes nodes (each_weaker IsBare (λ k v. clashes (k, v) ≡ false) nodes other are)
+      none_pass nat_cmp_total exact_unsigned clashes nodes (each_weaker IsBare (λ k v. clashes (k, v)
+      ≡ false) nodes other are)
     where
       clashes : ℕ × Node → Bool
       clashes e = not (e.0 == id) && bytes_eq e.1.name name
@@ -77,12 +85,15 @@ module _ (p : Content) where
       other : (k : ℕ) (v : Node) → get nodes k ≡ Some v → IsBare k v → clashes (k, v) ≡ false
       other k v there is =
           ap (λ (node : Node). clashes (k, node)) is.1.1
-          ∙ each_found (λ n node. clashes (n, node) ≡ false) p.nodes k is.0 (each_fails nat_cmp_total exact_unsigned clashes p.nodes free) is.1.0
+          ∙ each_found (λ n node. clashes (n, node)
+          ≡ false) p.nodes k is.0 (each_fails nat_cmp_total exact_unsigned clashes p.nodes free) is.1.0
 
   -- a node that is put is without parameters
-  still_bare : (id : ℕ) (node : Node) → get p.nodes id ≡ Some node → (known : Option Node) → IfSome known (IsBare id) → renamed node.name node.eds known ≡ bare node
+  still_bare : (id : ℕ) (node : Node) → get p.nodes id ≡ Some node → (known : Option Node) → IfSome known (IsBare id)
+      → node_after_put node.name node.eds known ≡ bare node
   still_bare id node there None is = refl
-  still_bare id node there (Some known) is = ap (λ (n : Node). record { name = node.name; eds = node.eds; params = n.params }) is.1.1
+  still_bare id node there (Some known) is =
+      ap (λ (n : Node). record { name = node.name; eds = node.eds; params = n.params }) is.1.1
 
   -- one node more
   node_taken : (nodes : Nodes) (e : ℕ × Node) → Each IsBare nodes → get p.nodes e.0 ≡ Some e.1 → IsNodeOf p e.0 e.1
@@ -91,18 +102,23 @@ module _ (p : Content) where
   node_taken nodes e are there is =
       let put : Node → Content = λ node. with_nodes_alone p (insert nodes e.0 node) in
       let known = get nodes e.0 in
-      ap (λ t. unless ((not t, Unknown) ∷ (e.0 == p.manager.id || name_taken nodes e.0 e.1.name, Taken) ∷ []) (put (renamed e.1.name e.1.eds known))) is.5
-      ∙ ap (λ t. unless ((t, Taken) ∷ []) (put (renamed e.1.name e.1.eds known))) (or_from _ _ is.1 (name_free nodes are e.0 e.1.name is.3))
+      ap (λ t. unless ((not t, Unknown) ∷ (e.0 == p.manager.id || name_taken nodes e.0 e.1.name, Taken) ∷ [])
+      (put (node_after_put e.1.name e.1.eds known))) is.5
+      ∙ ap (λ t. unless ((t, Taken) ∷ []) (put (node_after_put e.1.name e.1.eds known)))
+      (or_from _ _ is.1 (name_free nodes are e.0 e.1.name is.3))
       ∙ ap (λ node. Ok (put node)) (still_bare e.0 e.1 there known (are e.0))
 
   -- the nodes that are still to come
-  nodes_again : (nodes : Nodes) (back : List (ℕ × Node)) → Each IsBare nodes → All (λ e. get p.nodes e.0 ≡ Some e.1) back → All (λ e. IsNodeOf p e.0 e.1) back
-      → accept_all (Ok (with_nodes_alone p nodes)) (map node_edit back) ≡ Ok (with_nodes_alone p (put_all nodes (map bare_entry back)))
+  nodes_again : (nodes : Nodes) (back : List (ℕ × Node)) → Each IsBare nodes
+      → All (λ e. get p.nodes e.0 ≡ Some e.1) back → All (λ e. IsNodeOf p e.0 e.1) back
+      → accept_all (Ok (with_nodes_alone p nodes)) (map node_edit back)
+      ≡ Ok (with_nodes_alone p (put_all nodes (map bare_entry back)))
   unfolding accept_all put_all
   nodes_again nodes [] are there is = refl
   nodes_again nodes (e ∷ back) are there is =
       let here : get p.nodes e.0 ≡ Some e.1 = All-head (λ x. get p.nodes x.0 ≡ Some x.1) e back there in
-      one_then (with_nodes_alone p nodes) (node_edit e) (map node_edit back) (with_nodes_alone p (insert nodes e.0 (bare e.1)))
+      one_then (with_nodes_alone p nodes) (node_edit e) (map node_edit back)
+      (with_nodes_alone p (insert nodes e.0 (bare e.1)))
       (node_taken nodes e are here (All-head (λ x. IsNodeOf p x.0 x.1) e back is))
       (nodes_again (insert nodes e.0 (bare e.1)) back
       (each_put nat_cmp_total exact_unsigned IsBare nodes e.0 (bare e.1) are (e.1, (here, refl)))
@@ -117,13 +133,18 @@ module _ (p : Content) (nodes : Nodes) (id : ℕ) (node : Node) where
   with_params params = record p { nodes = insert nodes id (record node { params = params }) }
 
   -- one parameter more
-  param_taken : (params : Params) (e : (ℕ × ℕ) × List ℕ) → is_full_for params e.0 ≡ false → accept (with_params params) (param_edit id e) ≡ Ok (with_params (insert params e.0 e.1))
+  param_taken : (params : Params) (e : (ℕ × ℕ) × List ℕ) → is_full_for params e.0 ≡ false
+      → accept (with_params params) (param_edit id e) ≡ Ok (with_params (insert params e.0 e.1))
   unfolding accept
   param_taken params e free =
       let now : Nodes = insert nodes id (record node { params = params }) in
-      ap (λ found. with_nodes (with_params params) (with_param now id e.0 e.1 found)) (put_there nat_cmp_total exact_unsigned nodes id (record node { params = params }))
-      ∙ ap (λ t. with_nodes (with_params params) (unless ((t, Limit) ∷ []) (insert now id (record node { params = insert params e.0 e.1 })))) free
-      ∙ ap (λ m. Ok (record p { nodes = m })) (put_twice nat_cmp_total exact_unsigned nodes id (record node { params = params }) (record node { params = insert params e.0 e.1 }))
+      ap (λ found. with_nodes (with_params params) (with_param now id e.0 e.1 found))
+      (put_there nat_cmp_total exact_unsigned nodes id (record node { params = params }))
+      ∙ ap (λ t. with_nodes (with_params params)
+      (unless ((t, Limit) ∷ []) (insert now id (record node { params = insert params e.0 e.1 })))) free
+      ∙ ap (λ m. Ok (record p { nodes = m }))
+      (put_twice nat_cmp_total exact_unsigned nodes id (record node { params = params })
+      (record node { params = insert params e.0 e.1 }))
 
   -- the parameters that are still to come
   params_again : (params : Params) (back : List ((ℕ × ℕ) × List ℕ)) → len params + length back ≤ 4096
@@ -136,11 +157,14 @@ module _ (p : Content) (nodes : Nodes) (id : ℕ) (node : Node) where
       (params_again (insert params e.0 e.1) back (let more = one_more places_total params e.0 e.1 in omega arith))
 
 -- all parameters of a node
-node_filled : (p q : Content) (nodes : Nodes) (id : ℕ) (node : Node) → get nodes id ≡ Some (bare node) → IsNodeOf q id node
-    → accept_all (Ok (record p { nodes = nodes })) (param_edits (id, node)) ≡ Ok (record p { nodes = insert nodes id node })
+node_filled : (p q : Content) (nodes : Nodes) (id : ℕ) (node : Node) → get nodes id ≡ Some (bare node)
+    → IsNodeOf q id node
+    → accept_all (Ok (record p { nodes = nodes })) (param_edits (id, node))
+    ≡ Ok (record p { nodes = insert nodes id node })
 unfolding IsNodeOf AreParams
 node_filled p q nodes id node there is =
-    ap (λ m. accept_all (Ok (record p { nodes = m })) (param_edits (id, node))) (sym (same_put nodes id (bare node) there))
+    ap (λ m. accept_all (Ok (record p { nodes = m })) (param_edits (id, node)))
+    (sym (same_put nodes id (bare node) there))
     ∙ params_again p nodes id node empty (entries node.params) (whole_small 4096 node.params is.6.0)
     ∙ ap (λ params. Ok (with_params p nodes id node params)) (made_again places_total places_exact node.params)
 
@@ -149,14 +173,20 @@ abbrev IsBareThere : Node → Option Node → Type 0
 IsBareThere node found = found ≡ Some (bare node)
 
 -- the parameters of the nodes that are still to come
-nodes_filled : (p q : Content) (nodes : Nodes) (back : List (ℕ × Node)) → T (is_sorted nat_cmp back) → AreToCome IsBareThere nodes back → All (λ e. IsNodeOf q e.0 e.1) back
-    → accept_all (Ok (record p { nodes = nodes })) (flat_map param_edits back) ≡ Ok (record p { nodes = put_all nodes back })
+nodes_filled : (p q : Content) (nodes : Nodes) (back : List (ℕ × Node)) → T (is_sorted nat_cmp back)
+    → AreToCome IsBareThere nodes back → All (λ e. IsNodeOf q e.0 e.1) back
+    → accept_all (Ok (record p { nodes = nodes })) (flat_map param_edits back)
+    ≡ Ok (record p { nodes = put_all nodes back })
 unfolding accept_all put_all
 nodes_filled p q nodes [] sorted come all = refl
 nodes_filled p q nodes (e ∷ back) sorted come all =
-    then (Ok (record p { nodes = nodes })) (param_edits e) (flat_map param_edits back) (record p { nodes = insert nodes e.0 e.1 })
-    (node_filled p q nodes e.0 e.1 (first_to_come IsBareThere nat_cmp_total exact_unsigned nodes e back come) (All-head (λ x. IsNodeOf q x.0 x.1) e back all))
-    (nodes_filled p q (insert nodes e.0 e.1) back (second_part _ _ sorted) (others_to_come IsBareThere nat_cmp_total exact_unsigned nodes e back come sorted) (All-tail (λ x. IsNodeOf q x.0 x.1) e back all))
+    then (Ok (record p { nodes = nodes })) (param_edits e) (flat_map param_edits back)
+    (record p { nodes = insert nodes e.0 e.1 })
+    (node_filled p q nodes e.0 e.1 (first_to_come IsBareThere nat_cmp_total exact_unsigned nodes e back come)
+    (All-head (λ x. IsNodeOf q x.0 x.1) e back all))
+    (nodes_filled p q (insert nodes e.0 e.1) back (second_part _ _ sorted)
+    (others_to_come IsBareThere nat_cmp_total exact_unsigned nodes e back come sorted)
+    (All-tail (λ x. IsNodeOf q x.0 x.1) e back all))
 
 -- ---- all nodes
 
@@ -165,7 +195,9 @@ find-bare : (q : ℕ) (es : List (ℕ × Node)) → find nat_cmp q (map bare_ent
 find-bare q [] = refl
 find-bare q (e ∷ es) = by (eq_by_cmp nat_cmp q e.0) (find-bare q es)
   where
-    by : (t : Bool) → find nat_cmp q (map bare_entry es) ≡ option_map bare (find nat_cmp q es) → cond t (Some (bare e.1)) (find nat_cmp q (map bare_entry es)) ≡ option_map bare (cond t (Some e.1) (find nat_cmp q es))
+    by : (t : Bool) → find nat_cmp q (map bare_entry es) ≡ option_map bare (find nat_cmp q es)
+        → cond t (Some (bare e.1)) (find nat_cmp q (map bare_entry es))
+        ≡ option_map bare (cond t (Some e.1) (find nat_cmp q es))
     by true rest = refl
     by false rest = rest
 
@@ -185,7 +217,8 @@ module _ (nodes : Nodes) where
 
   get-bare : (q : ℕ) → get all_bare q ≡ option_or (option_map bare (find nat_cmp q (entries nodes))) None
   get-bare q =
-      get-put_all nat_cmp_total exact_unsigned empty (map bare_entry (entries nodes)) (sorted-bare (entries nodes) (entries_sorted nodes)) q
+      get-put_all nat_cmp_total exact_unsigned empty (map bare_entry (entries nodes))
+      (sorted-bare (entries nodes) (entries_sorted nodes)) q
       ∙ ap (option_or (find nat_cmp q (map bare_entry (entries nodes)))) (get-empty nat_cmp q)
       ∙ ap (λ o. option_or o None) (find-bare q (entries nodes))
 
@@ -193,7 +226,8 @@ module _ (nodes : Nodes) where
   bare_come : AreToCome IsBareThere all_bare (entries nodes)
   bare_come q = by (find nat_cmp q (entries nodes)) (get-bare q)
     where
-      by : (o : Option Node) → get all_bare q ≡ option_or (option_map bare o) None → IfSome o (λ node. get all_bare q ≡ Some (bare node))
+      by : (o : Option Node) → get all_bare q ≡ option_or (option_map bare o) None
+          → IfSome o (λ node. get all_bare q ≡ Some (bare node))
       by None is = tt
       by (Some node) is = is
 
@@ -201,7 +235,8 @@ module _ (nodes : Nodes) where
   all_filled : put_all all_bare (entries nodes) ≡ nodes
   all_filled = same_map nat_cmp_total exact_unsigned _ _ (λ q.
       get-put_all nat_cmp_total exact_unsigned all_bare (entries nodes) (entries_sorted nodes) q
-      ∙ ap (option_or (find nat_cmp q (entries nodes))) (get-bare q) ∙ by (find nat_cmp q (entries nodes)) ∙ sym (get-entries nodes q))
+      ∙ ap (option_or (find nat_cmp q (entries nodes))) (get-bare q) ∙ by (find nat_cmp q (entries nodes))
+      ∙ sym (get-entries nodes q))
     where
       by : (o : Option Node) → option_or o (option_or (option_map bare o) None) ≡ o
       by None = refl
@@ -210,17 +245,20 @@ module _ (nodes : Nodes) where
 -- ---- events
 
 -- one event more
-event_taken : (p : Content) (events : Events) (e : ℕ × TimedEvent) → IsEventOf p e.0 e.1 → accept (record p { events = events }) (event_edit e) ≡ Ok (record p { events = insert events e.0 e.1 })
+event_taken : (p : Content) (events : Events) (e : ℕ × TimedEvent) → IsEventOf p e.0 e.1
+    → accept (record p { events = events }) (event_edit e) ≡ Ok (record p { events = insert events e.0 e.1 })
 unfolding accept IsEventOf
 event_taken p events e is = ap (λ t. unless ((not t, Unknown) ∷ []) (record p { events = insert events e.0 e.1 })) is.3
 
 -- the events that are still to come
 events_again : (p : Content) (events : Events) (back : List (ℕ × TimedEvent)) → All (λ e. IsEventOf p e.0 e.1) back
-    → accept_all (Ok (record p { events = events })) (map event_edit back) ≡ Ok (record p { events = put_all events back })
+    → accept_all (Ok (record p { events = events })) (map event_edit back)
+    ≡ Ok (record p { events = put_all events back })
 unfolding accept_all put_all
 events_again p events [] all = refl
 events_again p events (e ∷ back) all =
-    one_then (record p { events = events }) (event_edit e) (map event_edit back) (record p { events = insert events e.0 e.1 })
+    one_then (record p { events = events }) (event_edit e) (map event_edit back)
+    (record p { events = insert events e.0 e.1 })
     (event_taken p events e (All-head (λ x. IsEventOf p x.0 x.1) e back all))
     (events_again p (insert events e.0 e.1) back (All-tail (λ x. IsEventOf p x.0 x.1) e back all))
 
@@ -228,7 +266,15 @@ events_again p events (e ∷ back) all =
 
 -- the first project with the settings of another
 abbrev set_up : Content → Content
-set_up p = record { bitrate = p.bitrate; horizon = p.horizon; manager = p.manager; texts = empty; nodes = empty; messages = empty; events = empty }
+set_up p = record {
+  bitrate = p.bitrate;
+  horizon = p.horizon;
+  manager = p.manager;
+  texts = empty;
+  nodes = empty;
+  messages = empty;
+  events = empty;
+}
 
 -- the settings
 settings_again : (p : Content) → accept_all (Ok first) (settings p) ≡ Ok (set_up p)
@@ -238,17 +284,21 @@ settings_again p =
     let timed : Content = record rated { horizon = p.horizon } in
     one_then first (edit.Bitrate p.bitrate) (edit.Horizon p.horizon ∷ edit.Manager p.manager ∷ []) rated refl
     (one_then rated (edit.Horizon p.horizon) (edit.Manager p.manager ∷ []) timed refl
-    (one_then timed (edit.Manager p.manager) [] (set_up p) (ap (λ o. unless ((is_some o, Taken) ∷ []) (set_up p)) (get-empty {X = Node} nat_cmp p.manager.id)) refl))
+    (one_then timed (edit.Manager p.manager) [] (set_up p)
+    (ap (λ o. unless ((is_some o, Taken) ∷ []) (set_up p)) (get-empty {X = Node} nat_cmp p.manager.id)) refl))
 
 -- all texts
-all_texts : (p : Content) → IsSound p → accept_all (Ok (set_up p)) (map text_edit (entries p.texts)) ≡ Ok (with_nodes_alone p empty)
+all_texts : (p : Content) → IsSound p → accept_all (Ok (set_up p)) (map text_edit (entries p.texts))
+    ≡ Ok (with_nodes_alone p empty)
 unfolding AreTexts
 all_texts p sound =
     texts_again (set_up p) empty (entries p.texts) (whole_small 64 p.texts sound.texts.0)
     ∙ ap (λ texts. Ok (record (set_up p) { texts = texts })) (made_again nat_list_cmp_total exact_bytes p.texts)
 
 -- all messages
-all_messages : (p : Content) → IsSound p → accept_all (Ok (with_nodes_alone p p.nodes)) (flat_map message_edits (entries p.messages)) ≡ Ok (record p { events = empty })
+all_messages : (p : Content) → IsSound p
+    → accept_all (Ok (with_nodes_alone p p.nodes)) (flat_map message_edits (entries p.messages))
+    ≡ Ok (record p { events = empty })
 unfolding IsMessageOf
 all_messages p sound = messages_come_again (with_nodes_alone p p.nodes) p.messages sound.count sound.messages
 
@@ -258,15 +308,24 @@ unfolding edits
 script_again p sound =
     let nodes = map node_edit (entries p.nodes) in
     let params = flat_map param_edits (entries p.nodes) in
-    let each_node : All (λ e. IsNodeOf p e.0 e.1) (entries p.nodes) = all_entries nat_cmp_total exact_unsigned (IsNodeOf p) p.nodes sound.nodes in
-    let there : All (λ e. get p.nodes e.0 ≡ Some e.1) (entries p.nodes) = all_entries nat_cmp_total exact_unsigned (λ id node. get p.nodes id ≡ Some node) p.nodes (each_there p.nodes) in
-    let each_event : All (λ e. IsEventOf p e.0 e.1) (entries p.events) = all_entries nat_cmp_total exact_unsigned (IsEventOf p) p.events sound.events in
-    let text_made = then (Ok first) (settings p) (map text_edit (entries p.texts)) (set_up p) (settings_again p) (all_texts p sound) in
-    let nodes_made = then (Ok first) _ nodes (with_nodes_alone p empty) text_made (nodes_again p empty (entries p.nodes) (each_empty (IsBare p) empty refl) there each_node) in
+    let each_node : All (λ e. IsNodeOf p e.0 e.1)
+    (entries p.nodes) = all_entries nat_cmp_total exact_unsigned (IsNodeOf p) p.nodes sound.nodes in
+    let there : All (λ e. get p.nodes e.0 ≡ Some e.1)
+    (entries p.nodes) = all_entries nat_cmp_total exact_unsigned (λ id node. get p.nodes id
+    ≡ Some node) p.nodes (each_there p.nodes) in
+    let each_event : All (λ e. IsEventOf p e.0 e.1)
+    (entries p.events) = all_entries nat_cmp_total exact_unsigned (IsEventOf p) p.events sound.events in
+    let text_made = then (Ok first) (settings p) (map text_edit (entries p.texts)) (set_up p) (settings_again p)
+    (all_texts p sound) in
+    let nodes_made = then (Ok first) _ nodes (with_nodes_alone p empty) text_made (nodes_again p empty (entries p.nodes)
+    (each_empty (IsBare p) empty refl) there each_node) in
     let params_made =
     then (Ok first) _ params (with_nodes_alone p (all_bare p.nodes)) nodes_made
-    (nodes_filled (with_nodes_alone p empty) p (all_bare p.nodes) (entries p.nodes) (entries_sorted p.nodes) (bare_come p.nodes) each_node ∙ ap (λ m. Ok (with_nodes_alone p m)) (all_filled p.nodes))
+    (nodes_filled (with_nodes_alone p empty) p (all_bare p.nodes) (entries p.nodes) (entries_sorted p.nodes)
+    (bare_come p.nodes) each_node ∙ ap (λ m. Ok (with_nodes_alone p m)) (all_filled p.nodes))
     in
-    let messages_made = then (Ok first) _ (flat_map message_edits (entries p.messages)) (with_nodes_alone p p.nodes) params_made (all_messages p sound) in
+    let messages_made = then (Ok first) _ (flat_map message_edits (entries p.messages))
+    (with_nodes_alone p p.nodes) params_made (all_messages p sound) in
     then (Ok first) _ (map event_edit (entries p.events)) (record p { events = empty }) messages_made
-    (events_again p empty (entries p.events) each_event ∙ ap (λ events. Ok (record p { events = events })) (made_again nat_cmp_total exact_unsigned p.events))
+    (events_again p empty (entries p.events) each_event ∙ ap (λ events. Ok (record p { events = events }))
+    (made_again nat_cmp_total exact_unsigned p.events))

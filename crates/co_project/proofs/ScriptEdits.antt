@@ -1,6 +1,7 @@
 -- The edits of a project's script are edits.
 use Rattle.std.proofs.Common.{ℕ, List, [], ◌∷◌, ◌++◌, map}
-use Rattle.std.proofs.lemmas.List.Elements.{All-nil, All-cons, All-from_recursion, All-head, All-tail, All-append, All-map, All-weaker}
+use Rattle.std.proofs.lemmas.List.Elements.{All-nil, All-cons, All-from_recursion, All-head, All-tail, All-append}
+use Rattle.std.proofs.lemmas.List.Elements.{All-map, All-weaker}
 use Rattle.std.specs.Prelude.{All}
 use Rattle.std.specs.FinMap.{entries}
 use Rattle.std.specs.List.{flat_map}
@@ -16,7 +17,8 @@ use Rattle.co_edits.specs.Eds.{IsEds}
 use Rattle.co_edits.specs.Edits.{IsEdit, IsSetting}
 use Rattle.co_project.specs.declared.node.Node.{Node}
 use Rattle.co_project.specs.Project.{Content}
-use Rattle.co_project.specs.Script.{edits, event_edit, message_edits, node_edit, param_edit, param_edits, sink_edit, source_edit, text_edit}
+use Rattle.co_project.specs.Script.{edits, event_edit, message_edits, node_edit, param_edit, param_edits, sink_edit}
+use Rattle.co_project.specs.Script.{source_edit, text_edit}
 use Rattle.co_project.specs.Sound.{AreTexts, AreParams, IsNodeOf, IsMessageOf, IsEventOf, IsSound}
 use Rattle.co_base.proofs.EachLemmas.{all_entries}
 
@@ -24,12 +26,14 @@ module _ {X Y : Type 0} (P : Y → Type 0) (f : X → List Y) where
   -- what holds of each element of each list holds of each of them all
   All-flat_map : (xs : List X) → All (λ x. All P (f x)) xs → All P (flat_map f xs)
   All-flat_map [] h = All-nil P
-  All-flat_map (x ∷ xs) h = All-append P (f x) (flat_map f xs) (All-head (λ y. All P (f y)) x xs h) (All-flat_map xs (All-tail (λ y. All P (f y)) x xs h))
+  All-flat_map (x ∷ xs) h = All-append P (f x) (flat_map f xs) (All-head (λ y. All P (f y)) x xs h)
+      (All-flat_map xs (All-tail (λ y. All P (f y)) x xs h))
 
 -- those of the texts
 the_text_edits : (p : Content) → IsSound p → All IsEdit (map text_edit (entries p.texts))
 unfolding AreTexts IsEdit
-the_text_edits p sound = All-map IsEdit text_edit (entries p.texts) (all_entries nat_list_cmp_total exact_bytes IsEds p.texts sound.texts.1)
+the_text_edits p sound = All-map IsEdit text_edit (entries p.texts)
+    (all_entries nat_list_cmp_total exact_bytes IsEds p.texts sound.texts.1)
 
 -- that of a node
 the_node_edit : (p : Content) (id : ℕ) (node : Node) → IsNodeOf p id node → IsEdit (node_edit (id, node))
@@ -41,10 +45,13 @@ the_param_edits : (p : Content) (id : ℕ) (node : Node) → IsNodeOf p id node 
 unfolding IsNodeOf AreParams IsEdit
 the_param_edits p id node is =
     All-map IsEdit (param_edit id) (entries node.params)
-    (All-weaker (λ e. IsSetting e.0.0 e.0.1 e.1) (λ e. IsEdit (param_edit id e)) (λ e set. (is.0, set)) (entries node.params) (all_entries places_total places_exact (λ place text. IsSetting place.0 place.1 text) node.params is.6.1))
+    (All-weaker (λ e. IsSetting e.0.0 e.0.1 e.1) (λ e. IsEdit (param_edit id e)) (λ e set. (is.0, set))
+    (entries node.params)
+    (all_entries places_total places_exact (λ place text. IsSetting place.0 place.1 text) node.params is.6.1))
 
 -- those of a message, its sources and its sinks
-the_message_edits : (p : Content) (name : List ℕ) (l : Linked) → IsMessageOf p name l → All IsEdit (message_edits (name, l))
+the_message_edits : (p : Content) (name : List ℕ) (l : Linked) → IsMessageOf p name l
+    → All IsEdit (message_edits (name, l))
 unfolding IsMessageOf IsLinked AreSources AreSinks IsEdit
 the_message_edits p name l is =
     let sources = map (source_edit name) l.sources in
@@ -52,7 +59,8 @@ the_message_edits p name l is =
     All-cons IsEdit (edit.Message name l.message) (sources ++ sinks) (is.0, is.1.0)
     (All-append IsEdit sources sinks
     (All-map IsEdit (source_edit name) l.sources (λ k d within. (is.0, is.1.1.1 k d within, is.1.1.2 k d within)))
-    (All-map IsEdit (sink_edit name) l.sinks (All-weaker IsSink (λ s. IsEdit (sink_edit name s)) (λ s sink. (is.0, sink.0, sink.1, sink.2)) l.sinks is.1.2.1)))
+    (All-map IsEdit (sink_edit name) l.sinks (All-weaker IsSink (λ s. IsEdit (sink_edit name s))
+    (λ s sink. (is.0, sink.0, sink.1, sink.2)) l.sinks is.1.2.1)))
 
 -- that of an event
 the_event_edit : (p : Content) (number : ℕ) (e : TimedEvent) → IsEventOf p number e → IsEdit (event_edit (number, e))
@@ -66,7 +74,8 @@ settings p = edit.Bitrate p.bitrate ∷ edit.Horizon p.horizon ∷ edit.Manager 
 -- those of the settings
 the_settings_edits : (p : Content) → IsSound p → All IsEdit (settings p)
 unfolding IsEdit
-the_settings_edits p sound = All-from_recursion IsEdit (settings p) (sound.bitrate, (sound.horizon, (sound.manager, tt)))
+the_settings_edits p sound = All-from_recursion IsEdit (settings p)
+    (sound.bitrate, (sound.horizon, (sound.manager, tt)))
 
 -- the edits of a project's script are edits
 pub script_edits : (p : Content) → IsSound p → All IsEdit (edits p)
@@ -77,21 +86,29 @@ script_edits p sound =
     let params = flat_map param_edits (entries p.nodes) in
     let messages = flat_map message_edits (entries p.messages) in
     let events = map event_edit (entries p.events) in
-    let each_node : All (λ e. IsNodeOf p e.0 e.1) (entries p.nodes) = all_entries nat_cmp_total exact_unsigned (IsNodeOf p) p.nodes sound.nodes in
-    let node_edits = All-map IsEdit node_edit (entries p.nodes) (All-weaker (λ e. IsNodeOf p e.0 e.1) (λ e. IsEdit (node_edit e)) (λ e. the_node_edit p e.0 e.1) (entries p.nodes) each_node) in
-    let params_edits = All-flat_map IsEdit param_edits (entries p.nodes) (All-weaker (λ e. IsNodeOf p e.0 e.1) (λ e. All IsEdit (param_edits e)) (λ e. the_param_edits p e.0 e.1) (entries p.nodes) each_node) in
+    let each_node : All (λ e. IsNodeOf p e.0 e.1)
+    (entries p.nodes) = all_entries nat_cmp_total exact_unsigned (IsNodeOf p) p.nodes sound.nodes in
+    let node_edits = All-map IsEdit node_edit (entries p.nodes)
+    (All-weaker (λ e. IsNodeOf p e.0 e.1) (λ e. IsEdit (node_edit e)) (λ e. the_node_edit p e.0 e.1)
+    (entries p.nodes) each_node) in
+    let params_edits = All-flat_map IsEdit param_edits (entries p.nodes)
+    (All-weaker (λ e. IsNodeOf p e.0 e.1) (λ e. All IsEdit (param_edits e)) (λ e. the_param_edits p e.0 e.1)
+    (entries p.nodes) each_node) in
     let messages_edits =
     All-flat_map IsEdit message_edits (entries p.messages)
-    (All-weaker (λ e. IsMessageOf p e.0 e.1) (λ e. All IsEdit (message_edits e)) (λ e. the_message_edits p e.0 e.1) (entries p.messages)
+    (All-weaker (λ e. IsMessageOf p e.0 e.1) (λ e. All IsEdit (message_edits e)) (λ e. the_message_edits p e.0 e.1)
+    (entries p.messages)
     (all_entries nat_list_cmp_total exact_bytes (IsMessageOf p) p.messages sound.messages))
     in
     let event_edits =
     All-map IsEdit event_edit (entries p.events)
-    (All-weaker (λ e. IsEventOf p e.0 e.1) (λ e. IsEdit (event_edit e)) (λ e. the_event_edit p e.0 e.1) (entries p.events) (all_entries nat_cmp_total exact_unsigned (IsEventOf p) p.events sound.events))
+    (All-weaker (λ e. IsEventOf p e.0 e.1) (λ e. IsEdit (event_edit e)) (λ e. the_event_edit p e.0 e.1)
+    (entries p.events) (all_entries nat_cmp_total exact_unsigned (IsEventOf p) p.events sound.events))
     in
     All-append IsEdit (settings p ++ texts ++ nodes ++ params ++ messages) events
     (All-append IsEdit (settings p ++ texts ++ nodes ++ params) messages
     (All-append IsEdit (settings p ++ texts ++ nodes) params
-    (All-append IsEdit (settings p ++ texts) nodes (All-append IsEdit (settings p) texts (the_settings_edits p sound) (the_text_edits p sound)) node_edits) params_edits)
+    (All-append IsEdit (settings p ++ texts) nodes (All-append IsEdit (settings p) texts (the_settings_edits p sound)
+    (the_text_edits p sound)) node_edits) params_edits)
     messages_edits)
     event_edits

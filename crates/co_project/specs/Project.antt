@@ -10,11 +10,14 @@ use Rattle.co_edits.specs.declared.manager_settings.ManagerSettings.{ManagerSett
 use Rattle.co_edits.specs.declared.edit.Edit.{Edit}
 use Rattle.co_edits.specs.declared.edit.Edit.TheVariants as edit
 use Rattle.co_edits.specs.Accepts.{unless}
-use Rattle.co_messages.specs.Messages.{Named, changed, concern, has_sink, has_source, is_full_for, with_message, with_sink, with_source, without_sink, without_source}
+use Rattle.co_messages.specs.Messages.{Named, with_changed, is_of_messages, has_sink, has_source, is_full_for}
+use Rattle.co_messages.specs.Messages.{with_message, with_sink, with_source, without_sink, without_source}
 use Rattle.co_project.specs.declared.node.Node.{Node}
-use Rattle.co_project.specs.Tables.{Texts, Nodes, has_no_room, name_taken, is_used, is_named, is_of_known, adds_param, put_node, put_param, drop_param}
+use Rattle.co_project.specs.Tables.{Texts, Nodes, has_no_room, name_taken, is_used, is_named, is_of_known, adds_param}
+use Rattle.co_project.specs.Tables.{put_node, put_param, drop_param}
 
--- a project: bit rate in kbit/s, horizon in microseconds, the manager, the texts of EDS by name, the nodes by number, the messages by name, and the events by number
+-- a project: bit rate in kbit/s, horizon in microseconds, the manager, the texts of EDS by name, the nodes by number,
+-- the messages by name, and the events by number
 pub record Content : Type 0 where
   pub bitrate : ℕ
   pub horizon : ℕ
@@ -28,13 +31,30 @@ pub record Content : Type 0 where
 abbrev pub content_code : Coded ManagerSettings → Coded Node → Coded Named → Coded TimedEvent → Coded Content
 content_code manager_code node_code messages_code event_code =
     code_by (ℕ × (ℕ × (ManagerSettings × (Texts × (Nodes × (Named × Events))))))
-    (coded× coded_ℕ (coded× coded_ℕ (coded× manager_code (coded× (code (coded_list coded_ℕ) (coded_list coded_ℕ)) (coded× (code coded_ℕ node_code) (coded× messages_code (code coded_ℕ event_code)))))))
+    (coded× coded_ℕ (coded× coded_ℕ (coded× manager_code (coded× (code (coded_list coded_ℕ) (coded_list coded_ℕ))
+    (coded× (code coded_ℕ node_code) (coded× messages_code (code coded_ℕ event_code)))))))
     (λ p. (p.bitrate, (p.horizon, (p.manager, (p.texts, (p.nodes, (p.messages, p.events)))))))
-    (λ t. record { bitrate = t.0; horizon = t.1.0; manager = t.1.1.0; texts = t.1.1.1.0; nodes = t.1.1.1.1.0; messages = t.1.1.1.1.1.0; events = t.1.1.1.1.1.1 }) (λ _. refl)
+    (λ t. record {
+      bitrate = t.0;
+      horizon = t.1.0;
+      manager = t.1.1.0;
+      texts = t.1.1.1.0;
+      nodes = t.1.1.1.1.0;
+      messages = t.1.1.1.1.1.0;
+      events = t.1.1.1.1.1.1;
+    }) (λ _. refl)
 
 -- the project that each session begins with
 abbrev pub first : Content
-first = record { bitrate = 1000; horizon = 1000000; manager = record { id = 127; sync_us = 0; heartbeat_ms = 0; timeout_ms = 500 }; texts = empty; nodes = empty; messages = empty; events = empty }
+first = record {
+  bitrate = 1000;
+  horizon = 1000000;
+  manager = record { id = 127; sync_us = 0; heartbeat_ms = 0; timeout_ms = 500 };
+  texts = empty;
+  nodes = empty;
+  messages = empty;
+  events = empty;
+}
 
 -- a project with other nodes, or the fault in their place
 abbrev pub with_nodes : Content → Result Nodes EditFault → Result Content EditFault
@@ -58,7 +78,8 @@ accept p (edit.Node id name eds) =
     unless ((not (contains_key p.texts eds), Unknown) ∷ (id == p.manager.id || name_taken p.nodes id name, Taken) ∷ [])
     (record p { nodes = put_node p.nodes id name eds })
 accept p (edit.DropNode id) =
-    unless ((not (contains_key p.nodes id), Unknown) ∷ (concern id p.messages || is_named p.events id, InUse) ∷ [])
+    unless ((not (contains_key p.nodes id), Unknown) ∷ (is_of_messages id p.messages || is_named p.events id, InUse)
+    ∷ [])
     (record p { nodes = remove p.nodes id })
 accept p (edit.Param id index sub text) = with_nodes p (put_param p.nodes id (index, sub) text)
 accept p (edit.Unparam id index sub) = with_nodes p (drop_param p.nodes id (index, sub))
@@ -70,16 +91,16 @@ accept p (edit.DropMessage name) =
     (record p { messages = remove p.messages name })
 accept p (edit.Source name position index sub) =
     unless ((not (contains_key p.messages name), Unknown) ∷ [])
-    (record p { messages = changed (with_source position (index, sub)) p.messages name })
+    (record p { messages = with_changed (with_source position (index, sub)) p.messages name })
 accept p (edit.Unsource name position) =
     unless ((not (has_source p.messages name position), Unknown) ∷ [])
-    (record p { messages = changed (without_source position) p.messages name })
+    (record p { messages = with_changed (without_source position) p.messages name })
 accept p (edit.Sink name position node index sub) =
     unless ((not (contains_key p.messages name) || not (contains_key p.nodes node), Unknown) ∷ [])
-    (record p { messages = changed (with_sink position node (index, sub)) p.messages name })
+    (record p { messages = with_changed (with_sink position node (index, sub)) p.messages name })
 accept p (edit.Unsink name position node) =
     unless ((not (has_sink p.messages name position node), Unknown) ∷ [])
-    (record p { messages = changed (without_sink position node) p.messages name })
+    (record p { messages = with_changed (without_sink position node) p.messages name })
 accept p (edit.Event number e) =
     unless ((not (is_of_known p.nodes e.event), Unknown) ∷ [])
     (record p { events = insert p.events number e })
@@ -87,7 +108,8 @@ accept p (edit.DropEvent number) =
     unless ((not (contains_key p.events number), Unknown) ∷ [])
     (record p { events = remove p.events number })
 
--- the edit gives a text, a node, a parameter, a message, a source, a sink or an event where there is none: no other takes memory
+-- the edit gives a text, a node, a parameter, a message, a source, a sink or an event where there is none: no other
+-- takes memory
 unfoldable pub adds : Content → Edit → Bool
 adds p (edit.Eds name text) = not (contains_key p.texts name)
 adds p (edit.Node id name eds) = not (contains_key p.nodes id)

@@ -35,7 +35,8 @@ message_edits e = edit.Message e.0 e.1.message ∷ (map (source_edit e.0) e.1.so
 abbrev pub event_edit : ℕ × TimedEvent → Edit
 event_edit e = edit.Event e.0 e.1
 
--- the edits that make a project of the first one: its settings, the texts by name, the nodes by number, their parameters by node and entry, the messages by name, each with its sources and sinks, and the events by number
+-- the edits that make a project of the first one: its settings, the texts by name, the nodes by number, their
+-- parameters by node and entry, the messages by name, each with its sources and sinks, and the events by number
 unfoldable pub edits : Content → List Edit
 edits p =
     (edit.Bitrate p.bitrate ∷ edit.Horizon p.horizon ∷ edit.Manager p.manager ∷ [])

@@ -1,5 +1,7 @@
--- The tables of a project: texts of EDS by name, nodes by number and their parameters by entry, events by number (this profile's own).
-use Rattle.std.specs.Prelude.{ℕ, Bool, true, false, not, ◌&&◌, ◌==◌, nat_le, List, [], ◌∷◌, map, Option, Some, None, Result, Err, Vec}
+-- The tables of a project: texts of EDS by name, nodes by number and their parameters by entry, events by number (this
+-- profile's own).
+use Rattle.std.specs.Prelude.{ℕ, Bool, true, false, not, ◌&&◌, ◌==◌, nat_le, List, [], ◌∷◌, map, Option, Some, None}
+use Rattle.std.specs.Prelude.{Result, Err, Vec}
 use Rattle.std.specs.List.{list_any}
 use Rattle.std.specs.Str.{bytes_eq}
 use Rattle.std.specs.Ordering.{nat_cmp}
@@ -60,13 +62,13 @@ abbrev pub is_of_known : Nodes → Event → Bool
 is_of_known nodes event = option_map_or (contains_key nodes) (node_of event) true
 
 -- a node with another name and EDS; a new one has no parameters
-abbrev pub renamed : List ℕ → List ℕ → Option Node → Node
-renamed name eds None = record { name = name; eds = eds; params = empty }
-renamed name eds (Some known) = record known { name = name; eds = eds }
+abbrev pub node_after_put : List ℕ → List ℕ → Option Node → Node
+node_after_put name eds None = record { name = name; eds = eds; params = empty }
+node_after_put name eds (Some known) = record known { name = name; eds = eds }
 
 -- the nodes, where that of a number gets a name and an EDS
 abbrev pub put_node : Nodes → ℕ → List ℕ → List ℕ → Nodes
-put_node nodes id name eds = insert nodes id (renamed name eds (get nodes id))
+put_node nodes id name eds = insert nodes id (node_after_put name eds (get nodes id))
 
 -- a node with the text of a parameter
 abbrev pub with_param : Nodes → ℕ → ℕ × ℕ → List ℕ → Option Node → Result Nodes EditFault

@@ -52,7 +52,8 @@ impl Contents {
     ) -> Result<(), EditFault>
         requires { IsEdit (edit.Source name.now position index sub) }
         ensures accepts { Accepts self.old self.new result (accept self.old (edit.Source name.now position index sub)) }
-        ensures memory { IsErrOf result EditFault.Memory → IsTrue (adds self.old (edit.Source name.now position index sub)) }
+        ensures memory { IsErrOf result EditFault.Memory
+            → IsTrue (adds self.old (edit.Source name.now position index sub)) }
     {
         if !self.messages.contains(name) {
             return Err(EditFault::Unknown);
@@ -86,8 +87,10 @@ impl Contents {
         sub: u8,
     ) -> Result<(), EditFault>
         requires { IsEdit (edit.Sink name.now position node index sub) }
-        ensures accepts { Accepts self.old self.new result (accept self.old (edit.Sink name.now position node index sub)) }
-        ensures memory { IsErrOf result EditFault.Memory → IsTrue (adds self.old (edit.Sink name.now position node index sub)) }
+        ensures accepts { Accepts self.old self.new result
+            (accept self.old (edit.Sink name.now position node index sub)) }
+        ensures memory { IsErrOf result EditFault.Memory
+            → IsTrue (adds self.old (edit.Sink name.now position node index sub)) }
     {
         if !self.messages.contains(name) || !self.nodes.contains(node) {
             return Err(EditFault::Unknown);

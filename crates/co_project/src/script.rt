@@ -4,7 +4,8 @@ ghost use Rattle.std.specs.FinMap.{entries};
 ghost use Rattle.std.specs.List.{flat_map};
 ghost use Rattle.co_lines.specs.Lines.{text_of};
 ghost use Rattle.co_messages.specs.Messages.{IsLinked};
-ghost use Rattle.co_project.specs.Script.{event_edit, message_edits, node_edit, param_edit, param_edits, script, sink_edit, source_edit, text_edit};
+ghost use Rattle.co_project.specs.Script.{event_edit, message_edits, node_edit, param_edit, param_edits, script};
+ghost use Rattle.co_project.specs.Script.{sink_edit, source_edit, text_edit};
 
 use crate::contents::Contents;
 use crate::nodes::Nodes;
@@ -40,7 +41,8 @@ fn write_nodes(out: &mut Vec<u8>, alloc: Global, nodes: &Nodes) -> Result<(), Al
 
 /// Writes the commands that make the parameters of a node, by entry.
 fn write_params(out: &mut Vec<u8>, alloc: Global, id: u8, params: &Params) -> Result<(), AllocError>
-    ensures { OnOk result (out.new.items ≡ out.old.items ++ flat_map text_of (map (param_edit id) (entries params.now))) }
+    ensures { OnOk result (out.new.items ≡ out.old.items
+        ++ flat_map text_of (map (param_edit id) (entries params.now))) }
 {
     for ((index, sub), text) in params.iter() {
         write_param(out, alloc, id, *index, *sub, text.as_slice())?;

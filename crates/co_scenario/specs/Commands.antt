@@ -1,7 +1,8 @@
 -- The commands of the network management (CiA 301) and their numbers.
 use Rattle.std.specs.Prelude.{ℕ, ◌==◌, if◌then◌else◌, Option, Some, None}
 use Rattle.co_scenario.specs.declared.nmt_command.NmtCommand.{NmtCommand}
-use Rattle.co_scenario.specs.declared.nmt_command.NmtCommand.TheVariants.{Start, Stop, EnterPreOperational, ResetNode, ResetCommunication}
+use Rattle.co_scenario.specs.declared.nmt_command.NmtCommand.TheVariants.{Start, Stop, EnterPreOperational, ResetNode}
+use Rattle.co_scenario.specs.declared.nmt_command.NmtCommand.TheVariants.{ResetCommunication}
 
 -- the number of a command in its message
 abbrev pub number_of : NmtCommand → ℕ

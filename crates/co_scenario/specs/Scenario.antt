@@ -42,4 +42,5 @@ events_between first last events = keys (moments_between first last events)
 
 -- a number has an event with this time, and the time is from first to last
 abbrev pub HasEventBetween : ℕ → ℕ → Events → ℕ × ℕ → Type 0
-HasEventBetween first last events moment = (event : TimedEvent) × ((get events moment.1 ≡ Some event) × (event.time ≡ moment.0) × (is_between first last moment.0 ≡ true))
+HasEventBetween first last events moment = (event : TimedEvent)
+    × ((get events moment.1 ≡ Some event) × (event.time ≡ moment.0) × (is_between first last moment.0 ≡ true))

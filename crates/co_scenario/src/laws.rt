@@ -8,7 +8,8 @@ ghost use Rattle.co_scenario.specs.declared.timed_event.TimedEvent.{TimedEvent};
 
 /// A number that is given an event has this event, and every other number keeps its own.
 pub fn put_changes_its_number_alone()
-    ensures there { (events : Events) (number : ℕ) (event : TimedEvent) → map.get (map.insert events number event) number ≡ Some event }
+    ensures there { (events : Events) (number : ℕ) (event : TimedEvent)
+        → map.get (map.insert events number event) number ≡ Some event }
     ensures elsewhere { (events : Events) (number other : ℕ) (event : TimedEvent) → other ≢ number
         → map.get (map.insert events number event) other ≡ map.get events other }
 {}
@@ -29,7 +30,8 @@ pub fn last_put_counts()
 /// Different numbers may be given their events in any order.
 pub fn puts_come_in_any_order()
     ensures { (events : Events) (one other : ℕ) (event another : TimedEvent) → one ≢ other
-        → map.insert (map.insert events one event) other another ≡ map.insert (map.insert events other another) one event }
+        → map.insert (map.insert events one event) other another
+        ≡ map.insert (map.insert events other another) one event }
 {}
 
 /// A moment is among the events between two times exactly if its number has an event with its time, and

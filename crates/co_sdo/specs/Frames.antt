@@ -1,18 +1,20 @@
--- The frames of SDO transfers (CiA 301): eight bytes each, zeros where a frame uses none. Numbers travel with the lowest byte first.
-use Rattle.std.specs.Prelude.{ℕ, ◌+◌, ◌-◌, ◌*◌, ◌/◌, ◌%◌, ◌==◌, nat_le, nat_lt, ◌||◌, Bool, ◌&&◌, if◌then◌else◌, List, [], ◌∷◌, ◌++◌, length, take, drop, map, replicate, slice_index}
+-- The frames of SDO transfers (CiA 301): eight bytes each, zeros where a frame uses none. Numbers travel with the
+-- lowest byte first.
+use Rattle.std.specs.Prelude.{ℕ, ◌+◌, ◌-◌, ◌*◌, ◌/◌, ◌%◌, ◌==◌, nat_le, nat_lt, ◌||◌, Bool, ◌&&◌, if◌then◌else◌, List}
+use Rattle.std.specs.Prelude.{[], ◌∷◌, ◌++◌, length, take, drop, map, replicate, slice_index}
 use Rattle.std.specs.List.{range_with_len}
 use Rattle.byteorder.specs.Endian.{little_bytes, little_number}
 use Rattle.co_dict.specs.declared.abort.Abort.{Abort}
 
 -- bytes, and zeros up to a count
-abbrev pub padded : ℕ → List ℕ → List ℕ
-padded count bytes = bytes ++ replicate (count - length bytes) 0
+abbrev pub with_zeros : ℕ → List ℕ → List ℕ
+with_zeros count bytes = bytes ++ replicate (count - length bytes) 0
 
 -- ---- frames that name an entry
 
 -- the command byte, the entry's index and sub-index, and up to four bytes
 abbrev pub entry_frame : ℕ → ℕ × ℕ → List ℕ → List ℕ
-entry_frame command place bytes = command ∷ little_bytes 2 place.0 ++ place.1 ∷ padded 4 bytes
+entry_frame command place bytes = command ∷ little_bytes 2 place.0 ++ place.1 ∷ with_zeros 4 bytes
 
 -- a value of one to four bytes is expedited: it travels in the initiate frame itself
 abbrev pub is_expedited : List ℕ → Bool
@@ -47,15 +49,17 @@ abort_frame place abort = entry_frame 0x80 place (little_bytes 4 abort.0)
 
 -- the command byte, and up to seven bytes
 abbrev pub command_frame : ℕ → List ℕ → List ℕ
-command_frame command bytes = command ∷ padded 7 bytes
+command_frame command bytes = command ∷ with_zeros 7 bytes
 
 -- the toggle bit, in its place in a command byte
 abbrev pub toggle_bit : Bool → ℕ
 toggle_bit toggle = if toggle then 0x10 else 0
 
--- a segment of up to seven bytes: its command byte tells the toggle, how many bytes are unused, and whether it is the last
+-- a segment of up to seven bytes: its command byte tells the toggle, how many bytes are unused, and whether it is the
+-- last
 abbrev pub segment : Bool → Bool → List ℕ → List ℕ
-segment toggle is_last piece = command_frame (toggle_bit toggle + 2 * (7 - length piece) + (if is_last then 1 else 0)) piece
+segment toggle is_last piece = command_frame (toggle_bit toggle + 2 * (7 - length piece) + (if is_last then 1
+    else 0)) piece
 
 abbrev pub segment_confirmed : Bool → List ℕ
 segment_confirmed toggle = command_frame (0x20 + toggle_bit toggle) []
@@ -117,10 +121,12 @@ abbrev pub toggle_of : ℕ → Bool
 toggle_of k = k % 2 == 1
 
 abbrev pub download_segments : List ℕ → List (List ℕ × List ℕ)
-download_segments value = map (λ k. (next_segment (toggle_of k) (from_piece value k), segment_confirmed (toggle_of k))) (range_with_len 0 (count_of_pieces value))
+download_segments value = map (λ k. (next_segment (toggle_of k) (from_piece value k), segment_confirmed (toggle_of k)))
+    (range_with_len 0 (count_of_pieces value))
 
 abbrev pub upload_segments : List ℕ → List (List ℕ × List ℕ)
-upload_segments value = map (λ k. (segment_request (toggle_of k), next_segment (toggle_of k) (from_piece value k))) (range_with_len 0 (count_of_pieces value))
+upload_segments value = map (λ k. (segment_request (toggle_of k), next_segment (toggle_of k) (from_piece value k)))
+    (range_with_len 0 (count_of_pieces value))
 
 -- the frames of the download of a value
 unfoldable pub download_frames : ℕ × ℕ → List ℕ → List (List ℕ × List ℕ)

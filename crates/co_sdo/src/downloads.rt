@@ -2,7 +2,9 @@
 
 ghost use Rattle.std.specs.Prelude.{◌≡◌, ◌≤◌, IfOk, OnErr};
 ghost use Rattle.co_dict.specs.Values.{HoldEach, Values};
-ghost use Rattle.co_sdo.specs.Server.{download_begun as is_begun, download_segment as is_segment, expedited_taken as is_taken, segment_taken as is_segment_taken, written as is_written};
+ghost use Rattle.co_sdo.specs.Server.{download_answer as is_begun, download_segment as is_segment};
+ghost use Rattle.co_sdo.specs.Server.{expedited_answer as is_taken, download_segment_answer as is_segment_taken};
+ghost use Rattle.co_sdo.specs.Server.{write_answer as is_written};
 
 use crate::frames::{
     download_confirmed, has_toggle, is_last, is_wrong_length, number_told, piece, place_named,
@@ -15,7 +17,7 @@ use co_dict::{Abort, Dict, Shape, check_access, check_length, check_write};
 use std::alloc::{AllocError, Global};
 
 /// The whole write check, and the write.
-#[tactic(auto, unfolding(crate::specs::Server::written), using(crate::proofs::WriteLemmas::taken_is_short, crate::proofs::WriteLemmas::each_held))]
+#[tactic(auto, unfolding(crate::specs::Server::write_answer), using(crate::proofs::WriteLemmas::taken_is_short, crate::proofs::WriteLemmas::each_held))]
 fn written(
     shape: &Shape,
     dict: &mut Dict,
@@ -23,7 +25,8 @@ fn written(
     bytes: &[u8],
     frame: [u8; 8],
 ) -> Result<Step, AllocError>
-    ensures ok { IfOk result (λ step. is_written shape.now dict.old place bytes.now frame ≡ record { answer = step.answer; values = dict.new; transfer = step.transfer; wrote = step.wrote }) }
+    ensures ok { IfOk result (λ step. is_written shape.now dict.old place bytes.now frame
+        ≡ record { answer = step.answer; values = dict.new; transfer = step.transfer; wrote = step.wrote }) }
     ensures held { HoldEach shape.now.entries dict.old → HoldEach shape.now.entries dict.new }
     ensures err { OnErr result (dict.new ≡ dict.old) }
 {
@@ -46,7 +49,8 @@ pub fn expedited_taken(
     count: usize,
 ) -> Result<Step, AllocError>
     requires { count ≤ 4 }
-    ensures ok { IfOk result (λ step. is_taken count shape.now dict.old request.now ≡ record { answer = step.answer; values = dict.new; transfer = step.transfer; wrote = step.wrote }) }
+    ensures ok { IfOk result (λ step. is_taken count shape.now dict.old request.now
+        ≡ record { answer = step.answer; values = dict.new; transfer = step.transfer; wrote = step.wrote }) }
     ensures held { HoldEach shape.now.entries dict.old → HoldEach shape.now.entries dict.new }
     ensures err { OnErr result (dict.new ≡ dict.old) }
 {
@@ -56,9 +60,10 @@ pub fn expedited_taken(
 }
 
 /// An initiate with the size of the value, whose segments follow.
-#[tactic(auto, unfolding(crate::specs::Server::download_begun))]
+#[tactic(auto, unfolding(crate::specs::Server::download_answer))]
 pub fn download_begun(alloc: Global, shape: &Shape, request: &[u8; 8]) -> Step
-    ensures { (values : Values) → is_begun shape.now values request.now ≡ record { answer = result.answer; values = values; transfer = result.transfer; wrote = result.wrote } }
+    ensures { (values : Values) → is_begun shape.now values request.now
+        ≡ record { answer = result.answer; values = values; transfer = result.transfer; wrote = result.wrote } }
 {
     let place = place_named(request);
     let size = number_told(request);
@@ -79,7 +84,7 @@ pub fn download_begun(alloc: Global, shape: &Shape, request: &[u8; 8]) -> Step
 }
 
 /// A segment of the open download.
-#[tactic(auto, unfolding(crate::specs::Server::segment_taken))]
+#[tactic(auto, unfolding(crate::specs::Server::download_segment_answer))]
 fn segment_taken(
     shape: &Shape,
     dict: &mut Dict,
@@ -89,7 +94,8 @@ fn segment_taken(
     toggle: bool,
     request: &[u8; 8],
 ) -> Result<Step, AllocError>
-    ensures ok { IfOk result (λ step. is_segment_taken shape.now dict.old place size taken toggle request.now ≡ record { answer = step.answer; values = dict.new; transfer = step.transfer; wrote = step.wrote }) }
+    ensures ok { IfOk result (λ step. is_segment_taken shape.now dict.old place size taken toggle request.now
+        ≡ record { answer = step.answer; values = dict.new; transfer = step.transfer; wrote = step.wrote }) }
     ensures held { HoldEach shape.now.entries dict.old → HoldEach shape.now.entries dict.new }
     ensures err { OnErr result (dict.new ≡ dict.old) }
 {
@@ -122,7 +128,8 @@ pub fn download_segment(
     transfer: Transfer,
     request: &[u8; 8],
 ) -> Result<Step, AllocError>
-    ensures ok { IfOk result (λ step. is_segment shape.now dict.old transfer request.now ≡ record { answer = step.answer; values = dict.new; transfer = step.transfer; wrote = step.wrote }) }
+    ensures ok { IfOk result (λ step. is_segment shape.now dict.old transfer request.now
+        ≡ record { answer = step.answer; values = dict.new; transfer = step.transfer; wrote = step.wrote }) }
     ensures held { HoldEach shape.now.entries dict.old → HoldEach shape.now.entries dict.new }
     ensures err { OnErr result (dict.new ≡ dict.old) }
 {

@@ -3,7 +3,7 @@
 ghost use Rattle.std.specs.Prelude.{◌≡◌, ◌↔◌, Option, Some, None, ℕ, IsTrue, IsErr, IfOk, OnErr, option_map};
 ghost use Rattle.co_dict.specs.Values.{HoldEach};
 ghost use Rattle.co_sdo.specs.declared.transfer.Transfer.TheVariants.{Idle as idle};
-ghost use Rattle.co_sdo.specs.Server.{Serves, answered as is_answered};
+ghost use Rattle.co_sdo.specs.Server.{Serves, server_answer as is_answered};
 
 use crate::downloads::{download_begun, download_segment, expedited_taken};
 use crate::step::{Step, not_understood};
@@ -42,7 +42,7 @@ pub struct Reply {
 /// What a request makes a server do that has a transfer open, over values of the entries of `shape`; an entry
 /// without a value counts as one that holds no bytes. Want of memory leaves the values as they were. Takes
 /// time as `Server::serve`.
-#[tactic(auto, unfolding(crate::specs::Server::answered))]
+#[tactic(auto, unfolding(crate::specs::Server::server_answer))]
 pub fn answered(
     alloc: Global,
     transfer: Transfer,
@@ -50,7 +50,8 @@ pub fn answered(
     shape: &Shape,
     dict: &mut Dict,
 ) -> Result<Step, AllocError>
-    ensures ok { IfOk result (λ step. is_answered shape.now dict.old transfer request.now ≡ record { answer = step.answer; values = dict.new; transfer = step.transfer; wrote = step.wrote }) }
+    ensures ok { IfOk result (λ step. is_answered shape.now dict.old transfer request.now
+        ≡ record { answer = step.answer; values = dict.new; transfer = step.transfer; wrote = step.wrote }) }
     ensures held { HoldEach shape.now.entries dict.old → HoldEach shape.now.entries dict.new }
     ensures err { OnErr result (dict.new ≡ dict.old) }
 {
@@ -136,7 +137,8 @@ impl Server {
         shape: &Shape,
         dict: &mut Dict,
     ) -> Result<Reply, AllocError>
-        ensures serves { IfOk result (λ reply. Serves self.old shape.now dict.old request.now reply.answer reply.wrote dict.new self.new) }
+        ensures serves { IfOk result (λ reply. Serves self.old shape.now dict.old request.now reply.answer reply.wrote
+            dict.new self.new) }
         ensures held { HoldEach shape.now.entries dict.old → HoldEach shape.now.entries dict.new }
         ensures err { OnErr result ((self.new ≡ None) × (dict.new ≡ dict.old)) }
         ensures spent { self.old ≡ None → IsErr result }
@@ -159,7 +161,8 @@ impl Server {
         shape: &Shape,
         dict: &mut Dict,
     ) -> Result<Option<[u8; 8]>, AllocError>
-        ensures serves { IfOk result (λ answer. (wrote : Option (ℕ × ℕ)) × Serves self.old shape.now dict.old request.now answer wrote dict.new self.new) }
+        ensures serves { IfOk result (λ answer. (wrote : Option (ℕ × ℕ))
+            × Serves self.old shape.now dict.old request.now answer wrote dict.new self.new) }
         ensures held { HoldEach shape.now.entries dict.old → HoldEach shape.now.entries dict.new }
         ensures err { OnErr result ((self.new ≡ None) × (dict.new ≡ dict.old)) }
         ensures spent { self.old ≡ None → IsErr result }

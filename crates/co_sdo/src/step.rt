@@ -53,7 +53,11 @@ fn place_of(transfer: &Transfer) -> (u16, u8)
 
 /// The abort of a request that doesn't fit the open transfer, or that no server knows.
 pub fn not_understood(transfer: &Transfer) -> Step
-    ensures { result ≡ record { answer = Some (frame_of (place_open transfer.now) unknown_command); transfer = idle; wrote = None } }
+    ensures { result ≡ record {
+      answer = Some (frame_of (place_open transfer.now) unknown_command);
+      transfer = idle;
+      wrote = None;
+    } }
 {
     aborted(place_of(transfer), Abort::UNKNOWN_COMMAND)
 }

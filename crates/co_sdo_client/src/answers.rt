@@ -2,12 +2,13 @@
 
 ghost use Rattle.std.specs.Prelude.{◌≡◌, ◌≤◌, IfOk, drop, take};
 ghost use Rattle.co_sdo_client.specs.declared.progress.Progress.TheVariants.{Read as read};
-ghost use Rattle.co_sdo_client.specs.declared.stage.Stage.TheVariants.{Downloading as downloading, Offering as offering};
+ghost use Rattle.co_sdo_client.specs.declared.client_transfer.ClientTransfer.TheVariants.{Downloading as downloading};
+ghost use Rattle.co_sdo_client.specs.declared.client_transfer.ClientTransfer.TheVariants.{Offering as offering};
 ghost use Rattle.co_sdo_client.specs.Client as client;
 
 use crate::advance::{Advance, asks, ends, fails, ignored, not_awaited};
+use crate::client_transfer::{ClientTransfer, is_idle};
 use crate::progress::Progress;
-use crate::stage::{Stage, is_idle};
 use co_base::Octets;
 use co_dict::Abort;
 use co_sdo::Rest;
@@ -19,7 +20,7 @@ use std::alloc::{AllocError, Global};
 
 /// The confirmation of an expedited download.
 fn downloaded(place: (u16, u8), answer: &[u8; 8]) -> Advance
-    ensures { result ≡ client.awaited (downloading place) answer.now }
+    ensures { result ≡ client.after_awaited (downloading place) answer.now }
 {
     if answer[0] == 0x60 && names(place, answer) {
         return ends(Progress::Written);
@@ -29,14 +30,14 @@ fn downloaded(place: (u16, u8), answer: &[u8; 8]) -> Advance
 
 /// The confirmation of the initiate of a segmented download.
 fn offered(place: (u16, u8), rest: Rest, answer: &[u8; 8]) -> Advance
-    ensures { result ≡ client.awaited (offering place rest) answer.now }
+    ensures { result ≡ client.after_awaited (offering place rest) answer.now }
 {
     if answer[0] == 0x60 && names(place, answer) {
         let frame = next_segment(false, rest.as_slice());
         let toggle = false;
         return asks(
             frame,
-            Stage::SendingSegments {
+            ClientTransfer::SendingSegments {
                 place,
                 rest,
                 toggle,
@@ -47,9 +48,9 @@ fn offered(place: (u16, u8), rest: Rest, answer: &[u8; 8]) -> Advance
 }
 
 /// The confirmation of a segment.
-#[tactic(auto, unfolding(crate::specs::Client::segment_sent))]
+#[tactic(auto, unfolding(crate::specs::Client::after_segment_confirmed))]
 fn segment_sent(place: (u16, u8), rest: Rest, toggle: bool, answer: &[u8; 8]) -> Advance
-    ensures { result ≡ client.segment_sent place rest toggle answer.now }
+    ensures { result ≡ client.after_segment_confirmed place rest toggle answer.now }
 {
     if answer[0] != 0x20 && answer[0] != 0x30 {
         return not_awaited(place);
@@ -65,7 +66,7 @@ fn segment_sent(place: (u16, u8), rest: Rest, toggle: bool, answer: &[u8; 8]) ->
     let frame = next_segment(toggle, rest.as_slice());
     asks(
         frame,
-        Stage::SendingSegments {
+        ClientTransfer::SendingSegments {
             place,
             rest,
             toggle,
@@ -76,16 +77,16 @@ fn segment_sent(place: (u16, u8), rest: Rest, toggle: bool, answer: &[u8; 8]) ->
 /// The value in an answer to an upload request, of so many bytes.
 fn value_read(alloc: Global, answer: &[u8; 8], count: usize) -> Result<Advance, AllocError>
     requires { count ≤ 4 }
-    ensures { IfOk result (λ advance. advance ≡ client.ends (read (take count (drop 4 answer.now)))) }
+    ensures { IfOk result (λ advance. advance ≡ client.end_of_transfer (read (take count (drop 4 answer.now)))) }
 {
     let value = Octets::from_slice(alloc, &answer[4..4 + count])?;
     Ok(ends(Progress::Read(value)))
 }
 
 /// The answer to an upload request.
-#[tactic(auto, unfolding(crate::specs::Client::upload_answered))]
+#[tactic(auto, unfolding(crate::specs::Client::after_upload_answer))]
 fn upload_answered(alloc: Global, place: (u16, u8), answer: &[u8; 8]) -> Result<Advance, AllocError>
-    ensures { IfOk result (λ advance. advance ≡ client.upload_answered place answer.now) }
+    ensures { IfOk result (λ advance. advance ≡ client.after_upload_answer place answer.now) }
 {
     if !names(place, answer) {
         return Ok(not_awaited(place));
@@ -99,7 +100,7 @@ fn upload_answered(alloc: Global, place: (u16, u8), answer: &[u8; 8]) -> Result<
             let size = number_told(answer);
             let taken = Octets::from_vec(Vec::new(alloc));
             let toggle = false;
-            let stage = Stage::TakingSegments {
+            let stage = ClientTransfer::TakingSegments {
                 place,
                 size,
                 taken,
@@ -112,7 +113,7 @@ fn upload_answered(alloc: Global, place: (u16, u8), answer: &[u8; 8]) -> Result<
 }
 
 /// A segment of an upload.
-#[tactic(auto, unfolding(crate::specs::Client::segment_read))]
+#[tactic(auto, unfolding(crate::specs::Client::after_upload_segment))]
 fn segment_read(
     place: (u16, u8),
     size: u32,
@@ -120,7 +121,7 @@ fn segment_read(
     toggle: bool,
     answer: &[u8; 8],
 ) -> Result<Advance, AllocError>
-    ensures { IfOk result (λ advance. advance ≡ client.segment_read place size taken toggle answer.now) }
+    ensures { IfOk result (λ advance. advance ≡ client.after_upload_segment place size taken toggle answer.now) }
 {
     if answer[0] >= 0x20 {
         return Ok(not_awaited(place));
@@ -138,7 +139,7 @@ fn segment_read(
         return Ok(ends(Progress::Read(taken)));
     }
     let toggle = !toggle;
-    let stage = Stage::TakingSegments {
+    let stage = ClientTransfer::TakingSegments {
         place,
         size,
         taken,
@@ -148,20 +149,20 @@ fn segment_read(
 }
 
 /// An answer other than an abort, by what is awaited.
-fn awaited(alloc: Global, stage: Stage, answer: &[u8; 8]) -> Result<Advance, AllocError>
-    ensures { IfOk result (λ advance. advance ≡ client.awaited stage answer.now) }
+fn awaited(alloc: Global, stage: ClientTransfer, answer: &[u8; 8]) -> Result<Advance, AllocError>
+    ensures { IfOk result (λ advance. advance ≡ client.after_awaited stage answer.now) }
 {
     match stage {
-        Stage::Idle => Ok(ignored()),
-        Stage::Downloading { place } => Ok(downloaded(place, answer)),
-        Stage::Offering { place, rest } => Ok(offered(place, rest, answer)),
-        Stage::SendingSegments {
+        ClientTransfer::Idle => Ok(ignored()),
+        ClientTransfer::Downloading { place } => Ok(downloaded(place, answer)),
+        ClientTransfer::Offering { place, rest } => Ok(offered(place, rest, answer)),
+        ClientTransfer::SendingSegments {
             place,
             rest,
             toggle,
         } => Ok(segment_sent(place, rest, toggle, answer)),
-        Stage::Uploading { place } => upload_answered(alloc, place, answer),
-        Stage::TakingSegments {
+        ClientTransfer::Uploading { place } => upload_answered(alloc, place, answer),
+        ClientTransfer::TakingSegments {
             place,
             size,
             taken,
@@ -171,9 +172,13 @@ fn awaited(alloc: Global, stage: Stage, answer: &[u8; 8]) -> Result<Advance, All
 }
 
 /// What an answer makes the client do.
-#[tactic(auto, unfolding(crate::specs::Client::advanced))]
-pub fn advanced(alloc: Global, stage: Stage, answer: &[u8; 8]) -> Result<Advance, AllocError>
-    ensures { IfOk result (λ advance. advance ≡ client.advanced stage answer.now) }
+#[tactic(auto, unfolding(crate::specs::Client::after_answer))]
+pub fn advanced(
+    alloc: Global,
+    stage: ClientTransfer,
+    answer: &[u8; 8],
+) -> Result<Advance, AllocError>
+    ensures { IfOk result (λ advance. advance ≡ client.after_answer stage answer.now) }
 {
     if is_idle(&stage) {
         return Ok(ignored());

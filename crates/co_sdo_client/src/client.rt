@@ -2,13 +2,15 @@
 
 ghost use Rattle.std.specs.Prelude.{◌≡◌, ◌≤◌, ◌↔◌, Some, None, IsTrue, IsErr, IfOk, OnErr, length, option_map};
 ghost use Rattle.co_values.specs.Values.{longest_value};
-ghost use Rattle.co_sdo_client.specs.declared.stage.Stage.TheVariants.{Idle as idle};
-ghost use Rattle.co_sdo_client.specs.Client.{Advances, Starts, advanced as is_advanced, download_started as is_download_started, timed_out_at, upload_started as is_upload_started};
+ghost use Rattle.co_sdo_client.specs.declared.client_transfer.ClientTransfer.TheVariants.{Idle as idle};
+ghost use Rattle.co_sdo_client.specs.Client.{Advances, Starts, after_answer as is_advanced};
+ghost use Rattle.co_sdo_client.specs.Client.{download_start as is_download_started, timed_out_at};
+ghost use Rattle.co_sdo_client.specs.Client.{upload_start as is_upload_started};
 
 use crate::advance::timed_out;
 use crate::answers::advanced;
+use crate::client_transfer::{ClientTransfer, copy, same};
 use crate::progress::Progress;
-use crate::stage::{Stage, copy, same};
 use co_base::Octets;
 use co_sdo::Rest;
 use co_sdo::frames::{expedited_download, is_expedited, segmented_download, upload_request};
@@ -20,12 +22,12 @@ use std::marker::Model;
 #[derive(Drop)]
 pub struct Client {
     alloc: Global,
-    stage: Option<Stage>,
+    stage: Option<ClientTransfer>,
 }
 
 impl Model for Client {
     ghost use Rattle.std.specs.Prelude.{Option};
-    ghost use Rattle.co_sdo_client.specs.declared.stage.Stage.{Stage as awaited};
+    ghost use Rattle.co_sdo_client.specs.declared.client_transfer.ClientTransfer.{ClientTransfer as awaited};
 
     ghost Value = { Option awaited };
 
@@ -33,29 +35,29 @@ impl Model for Client {
 }
 
 /// The first frame of the download of a value, and what is awaited then.
-#[tactic(auto, unfolding(crate::specs::Client::download_started))]
+#[tactic(auto, unfolding(crate::specs::Client::download_start))]
 pub fn download_started(
     alloc: Global,
     place: (u16, u8),
     value: &[u8],
-) -> Result<([u8; 8], Stage), AllocError>
+) -> Result<([u8; 8], ClientTransfer), AllocError>
     requires { length value.now ≤ longest_value }
     ensures { IfOk result (λ start. start ≡ is_download_started place value.now) }
 {
     if is_expedited(value) {
         let frame = expedited_download(place, value);
-        return Ok((frame, Stage::Downloading { place }));
+        return Ok((frame, ClientTransfer::Downloading { place }));
     }
     let frame = segmented_download(place, value.len() as u32);
     let rest = Rest::new(Octets::from_slice(alloc, value)?);
-    Ok((frame, Stage::Offering { place, rest }))
+    Ok((frame, ClientTransfer::Offering { place, rest }))
 }
 
 /// The frame of the upload of an entry, and what is awaited then.
-pub fn upload_started(place: (u16, u8)) -> ([u8; 8], Stage)
+pub fn upload_started(place: (u16, u8)) -> ([u8; 8], ClientTransfer)
     ensures { result ≡ is_upload_started place }
 {
-    (upload_request(place), Stage::Uploading { place })
+    (upload_request(place), ClientTransfer::Uploading { place })
 }
 
 impl Client {
@@ -65,7 +67,7 @@ impl Client {
     {
         Client {
             alloc,
-            stage: Some(Stage::Idle),
+            stage: Some(ClientTransfer::Idle),
         }
     }
 
@@ -81,7 +83,7 @@ impl Client {
         ensures { self.new ≡ option_map (λ stage. idle) self.old }
     {
         if self.stage.is_some() {
-            self.stage = Some(Stage::Idle);
+            self.stage = Some(ClientTransfer::Idle);
         }
     }
 
@@ -114,7 +116,8 @@ impl Client {
     /// of memory leaves the client spent, and each later call answers `AllocError`.
     pub fn start_write(&mut self, index: u16, sub: u8, value: &[u8]) -> Result<[u8; 8], AllocError>
         requires { length value.now ≤ longest_value }
-        ensures starts { IfOk result (λ frame. Starts self.old (is_download_started (index, sub) value.now) frame self.new) }
+        ensures starts { IfOk result (λ frame. Starts self.old (is_download_started (index, sub) value.now) frame
+            self.new) }
         ensures err { OnErr result (self.new ≡ None) }
         ensures spent { self.old ≡ None → IsErr result }
     {
@@ -144,7 +147,8 @@ impl Client {
     /// Takes an answer of the server: how the open transfer goes on. It is none where no transfer is
     /// open. Want of memory leaves the client spent, and each later call answers `AllocError`.
     pub fn on_answer(&mut self, answer: &[u8; 8]) -> Result<Option<Progress>, AllocError>
-        ensures advances { IfOk result (λ progress. Advances (λ stage. is_advanced stage answer.now) self.old progress self.new) }
+        ensures advances { IfOk result (λ progress. Advances (λ stage. is_advanced stage answer.now) self.old progress
+            self.new) }
         ensures err { OnErr result (self.new ≡ None) }
         ensures spent { self.old ≡ None → IsErr result }
     {

@@ -4,12 +4,12 @@
 mod advance;
 mod answers;
 mod client;
+pub mod client_transfer;
 pub mod laws;
 mod progress;
-pub mod stage;
 
 pub use advance::{Advance, timed_out};
 pub use answers::advanced;
 pub use client::{Client, download_started, upload_started};
+pub use client_transfer::ClientTransfer;
 pub use progress::Progress;
-pub use stage::Stage;

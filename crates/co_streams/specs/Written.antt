@@ -6,6 +6,7 @@ use Rattle.std.specs.Io.KnownBytes.{Appends}
 abbrev pub Took : Option (List ℕ) → Option (List ℕ) → List ℕ → Type 0
 Took old new text = (front : List ℕ) × (rest : List ℕ) × (text ≡ front ++ rest) × Appends old new front
 
--- this text was posted, behind the text that waited: what was written, and then what waits now, is what waited before, and then this text
+-- this text was posted, behind the text that waited: what was written, and then what waits now, is what waited before,
+-- and then this text
 abbrev pub Posts : Option (List ℕ) → List ℕ → Option (List ℕ) → List ℕ → List ℕ → Type 0
 Posts old waited new waits text = (sent : List ℕ) × (waited ++ text ≡ sent ++ waits) × Appends old new sent

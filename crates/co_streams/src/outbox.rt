@@ -39,7 +39,8 @@ impl Outbox {
     /// nothing of it.
     pub fn put<W: Outlet>(&mut self, writer: &mut W, text: &[u8]) -> Result<(), SessionFault>
         ensures ok { OnOk result (Posts (W.contents writer.old) self.old (W.contents writer.new) self.new text.now) }
-        ensures memory { IsErrOf result SessionFault.Memory → Posts (W.contents writer.old) self.old (W.contents writer.new) self.new [] }
+        ensures memory { IsErrOf result SessionFault.Memory
+            → Posts (W.contents writer.old) self.old (W.contents writer.new) self.new [] }
         ensures write { IsErrOf result SessionFault.Write → (W.failures writer.new ≢ W.failures writer.old)
             × Took (W.contents writer.old) (W.contents writer.new) (self.old ++ text.now) }
         ensures quiet { result ≢ Err SessionFault.Write → W.failures writer.new ≡ W.failures writer.old }

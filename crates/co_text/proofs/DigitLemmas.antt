@@ -1,5 +1,6 @@
 -- Digits that are written, each read again.
-use Rattle.std.proofs.Common.{◌≡◌, ℕ, suc, ◌+◌, ◌/◌, ◌%◌, ◌^◌, ◌<◌, ◌≤◌, Bool, true, List, [], ◌∷◌, Some, None, refl, ap, ◌∙◌, inl, inr, lit<, arith}
+use Rattle.std.proofs.Common.{◌≡◌, ℕ, suc, ◌+◌, ◌/◌, ◌%◌, ◌^◌, ◌<◌, ◌≤◌, Bool, true, List, [], ◌∷◌, Some, None, refl}
+use Rattle.std.proofs.Common.{ap, ◌∙◌, inl, inr, lit<, arith}
 use Rattle.std.specs.Prelude.{if◌then◌else◌, decimal}
 use Rattle.std.specs.Char.{digit_value, is_digit}
 use Rattle.std.specs.Fmt.{digit_glyph}
@@ -37,30 +38,49 @@ all_digits base [] h = refl
 all_digits base (c ∷ cs) h = rw (lt-ltb (digit_value c) base h.0) (all_digits base cs h.1)
 
 -- digits write their number
-pub digits_number-numeral : (base : ℕ) (cs : List ℕ) → IsNumeral base cs → digits_number base cs ≡ Some (digits_value base cs)
+pub digits_number-numeral : (base : ℕ) (cs : List ℕ) → IsNumeral base cs
+    → digits_number base cs ≡ Some (digits_value base cs)
 digits_number-numeral base [] h = absurd (omega (arith, h.0))
-digits_number-numeral base (c ∷ cs) h = ap (λ (b : Bool). if b then Some (digits_value base (c ∷ cs)) else None) (all_digits base (c ∷ cs) h.1)
+digits_number-numeral base (c ∷ cs) h = ap (λ (b : Bool). if b then Some (digits_value base (c ∷ cs)) else None)
+    (all_digits base (c ∷ cs) h.1)
 
 pub byte_is_digits : (n : ℕ) → n ≤ 255 → AllDigits 16 (byte_digits n)
 byte_is_digits n h = (digit_value-glyph-lt (n / 16) (omega arith), (digit_value-glyph-lt (n % 16) (omega arith), tt))
 
 pub index_is_digits : (n : ℕ) → n ≤ 65535 → AllDigits 16 (index_digits n)
-index_is_digits n h =
-    (digit_value-glyph-lt (n / 4096) (omega arith), (digit_value-glyph-lt (n / 256 % 16) (omega arith), (digit_value-glyph-lt (n / 16 % 16) (omega arith), (digit_value-glyph-lt (n % 16) (omega arith), tt))))
+index_is_digits n h = (
+  digit_value-glyph-lt (n / 4096) (omega arith),
+  (
+    digit_value-glyph-lt (n / 256 % 16) (omega arith),
+    (digit_value-glyph-lt (n / 16 % 16) (omega arith), (digit_value-glyph-lt (n % 16) (omega arith), tt)),
+  ),
+)
 
 pub identifier_is_digits : (n : ℕ) → n ≤ 4095 → AllDigits 16 (identifier_digits n)
-identifier_is_digits n h = (digit_value-glyph-lt (n / 256) (omega arith), (digit_value-glyph-lt (n / 16 % 16) (omega arith), (digit_value-glyph-lt (n % 16) (omega arith), tt)))
+identifier_is_digits n h = (
+  digit_value-glyph-lt (n / 256) (omega arith),
+  (digit_value-glyph-lt (n / 16 % 16) (omega arith), (digit_value-glyph-lt (n % 16) (omega arith), tt)),
+)
 
 byte_value : (n : ℕ) → n ≤ 255 → digits_value 16 (byte_digits n) ≡ n
 byte_value n h = rw (digit_value-glyph (n / 16) (omega arith), digit_value-glyph (n % 16) (omega arith)) (omega arith)
 
 index_value : (n : ℕ) → n ≤ 65535 → digits_value 16 (index_digits n) ≡ n
 index_value n h =
-    rw (digit_value-glyph (n / 4096) (omega arith), digit_value-glyph (n / 256 % 16) (omega arith), digit_value-glyph (n / 16 % 16) (omega arith), digit_value-glyph (n % 16) (omega arith)) (omega arith)
+    rw (
+      digit_value-glyph (n / 4096) (omega arith),
+      digit_value-glyph (n / 256 % 16) (omega arith),
+      digit_value-glyph (n / 16 % 16) (omega arith),
+      digit_value-glyph (n % 16) (omega arith),
+    ) (omega arith)
 
 identifier_value : (n : ℕ) → n ≤ 4095 → digits_value 16 (identifier_digits n) ≡ n
 identifier_value n h =
-    rw (digit_value-glyph (n / 256) (omega arith), digit_value-glyph (n / 16 % 16) (omega arith), digit_value-glyph (n % 16) (omega arith)) (omega arith)
+    rw (
+      digit_value-glyph (n / 256) (omega arith),
+      digit_value-glyph (n / 16 % 16) (omega arith),
+      digit_value-glyph (n % 16) (omega arith),
+    ) (omega arith)
 
 -- the digits of a byte, an index, an identifier or a number are read as that
 pub byte_again : (n : ℕ) → n ≤ 255 → digits_number 16 (byte_digits n) ≡ Some n
@@ -70,7 +90,8 @@ pub index_again : (n : ℕ) → n ≤ 65535 → digits_number 16 (index_digits n
 index_again n h = digits_number-numeral 16 (index_digits n) (lit< tt, index_is_digits n h) ∙ ap Some (index_value n h)
 
 pub identifier_again : (n : ℕ) → n ≤ 4095 → digits_number 16 (identifier_digits n) ≡ Some n
-identifier_again n h = digits_number-numeral 16 (identifier_digits n) (lit< tt, identifier_is_digits n h) ∙ ap Some (identifier_value n h)
+identifier_again n h = digits_number-numeral 16 (identifier_digits n) (lit< tt, identifier_is_digits n h)
+    ∙ ap Some (identifier_value n h)
 
 pub decimal_again : (n : ℕ) → n < 10 ^ 64 → digits_number 10 (decimal n) ≡ Some n
 decimal_again n h = let is = decimal_is_IsNumeral_wide n h in digits_number-numeral 10 (decimal n) is.0 ∙ ap Some is.1

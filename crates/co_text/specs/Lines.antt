@@ -17,7 +17,8 @@ is_cr b = b == carriage_return
 -- what stands before the first b and what stands after it, where there is one
 unfoldable pub split_once : ℕ → List ℕ → Option (List ℕ × List ℕ)
 split_once b text =
-    if nat_lt (position_or_len (λ c. c == b) text) (length text) then Some (before_first (λ c. c == b) text, after_first (λ c. c == b) text)
+    if nat_lt (position_or_len (λ c. c == b) text) (length text)
+    then Some (before_first (λ c. c == b) text, after_first (λ c. c == b) text)
     else None
 
 -- the lines, each without its LF; what follows the last LF is a line where it isn't empty

@@ -1,5 +1,6 @@
 -- What the decimal digits of a number spell.
-use Rattle.std.proofs.Common.{◌≡◌, ℕ, zero, suc, ◌^◌, ◌<◌, ◌≤◌, Bool, true, false, List, [], ◌∷◌, get_or, Option, Some, None, refl, ap, lit<, lit≤, arith, pos, negsuc}
+use Rattle.std.proofs.Common.{◌≡◌, ℕ, zero, suc, ◌^◌, ◌<◌, ◌≤◌, Bool, true, false, List, [], ◌∷◌, get_or, Option, Some}
+use Rattle.std.proofs.Common.{None, refl, ap, lit<, lit≤, arith, pos, negsuc}
 use Rattle.std.specs.Prelude.{◌&&◌, ◌==◌, if◌then◌else◌, option_map, neg_ℤ, decimal}
 use Rattle.std.specs.Char.{digit_value}
 use Rattle.std.specs.Fmt.{signed_decimal}
@@ -28,7 +29,8 @@ hexadecimal-numeral (a ∷ x ∷ cs) h =
 
 octal-numeral : (cs : List ℕ) → 48 < get_or cs 0 0 → octal cs ≡ None
 octal-numeral [] h = refl
-octal-numeral (a ∷ cs) h = ap (λ (b : Bool). if b then digits_number 8 cs else None) (ne_eqb a 48 (λ (same : a ≡ 48). omega arith))
+octal-numeral (a ∷ cs) h = ap (λ (b : Bool). if b then digits_number 8 cs else None)
+    (ne_eqb a 48 (λ (same : a ≡ 48). omega arith))
 
 -- the digits of a number spell it
 pub unsigned_number-decimal : (n : ℕ) → n < 2 ^ 64 → unsigned_number (decimal n) ≡ Some n
@@ -42,7 +44,8 @@ unsigned_number-decimal (suc n) h =
 -- digits have no sign in front
 signed_number-numeral : (cs : List ℕ) → IsNumeral 10 cs → signed_number cs ≡ option_map pos (unsigned_number cs)
 signed_number-numeral [] h = absurd (omega (arith, h.0))
-signed_number-numeral (c ∷ cs) h = ap (λ (b : Bool). if b then option_map (λ n. neg_ℤ (pos n)) (unsigned_number cs) else option_map pos (unsigned_number (c ∷ cs))) (other c 45 h.1.0 (lit≤ tt))
+signed_number-numeral (c ∷ cs) h = ap (λ (b : Bool). if b then option_map (λ n. neg_ℤ (pos n)) (unsigned_number cs)
+    else option_map pos (unsigned_number (c ∷ cs))) (other c 45 h.1.0 (lit≤ tt))
 
 -- the decimal text of a number spells it, to 2^64 - 1 and from -2^63
 pub number-decimal : (n : ℕ) → n < 2 ^ 64 → number (decimal n) ≡ Some (pos n)

@@ -12,7 +12,8 @@ unfolding formula number
 formula-node_id node = refl
 
 -- `$NODEID+` and a term
-pub formula-sum : (text : List ℕ) (node : ℕ) → formula (codes "$NODEID+" ++ text) node ≡ node_plus node (without_first_blanks text)
+pub formula-sum : (text : List ℕ) (node : ℕ)
+    → formula (codes "$NODEID+" ++ text) node ≡ node_plus node (without_first_blanks text)
 unfolding formula number
 formula-sum text node =
     let behind : 7 < length (codes "$NODEID+" ++ text) = omega arith in

@@ -1,5 +1,6 @@
 -- What a text spells as a value fits the type.
-use Rattle.std.proofs.Common.{◌≡◌, ℕ, zero, suc, ◌%◌, ◌<◌, ◌≤◌, Bool, true, false, List, [], ◌∷◌, length, get_or, Option, Some, None, refl, sym, ap, subst, ◌∙◌, lit<, arith, ℤ, pos, negsuc}
+use Rattle.std.proofs.Common.{◌≡◌, ℕ, zero, suc, ◌%◌, ◌<◌, ◌≤◌, Bool, true, false, List, [], ◌∷◌, length, get_or}
+use Rattle.std.proofs.Common.{Option, Some, None, refl, sym, ap, subst, ◌∙◌, lit<, arith, ℤ, pos, negsuc}
 use Rattle.std.specs.Prelude.{nat_lt, nat_le, if◌then◌else◌, ◌&&◌, unwrap_or, option_map, option_and_then, IfSome}
 use Rattle.std.specs.Char.{digit_value, is_digit}
 use Rattle.std.specs.Int.{byte_at, bytes_low_first}
@@ -12,7 +13,8 @@ use Rattle.co_values.specs.declared.form.Form.{Form}
 use Rattle.co_values.specs.declared.form.Form.TheVariants.{Flag, Signed, Unsigned, Characters, HexPairs, Unmodelled}
 use Rattle.co_values.specs.Number.{formula}
 use Rattle.co_values.specs.Types.{form, octets}
-use Rattle.co_values.specs.Values.{value, value_in, Fits, FitsForm, flag_bits, unsigned_bits, signed_text_bits, pair_number, paired, longest_value, if_not_too_long}
+use Rattle.co_values.specs.Values.{value, value_in, Fits, FitsForm, flag_bits, unsigned_bits, signed_text_bits}
+use Rattle.co_values.specs.Values.{pair_number, paired, longest_value, if_not_too_long}
 
 -- two lists that are both given are one
 given_same : (xs ys : List ℕ) → Some xs ≡ Some ys → xs ≡ ys
@@ -29,39 +31,49 @@ AreBytes-bytes_low_first i zero x k = lit< tt
 AreBytes-bytes_low_first i (suc n) x zero = byte_at-lt i x
 AreBytes-bytes_low_first i (suc n) x (suc k) = AreBytes-bytes_low_first (suc i) n x k
 
-pub number_fits : (n : ℕ) (o : Option ℕ) (bytes : List ℕ) → option_map (little_bytes n) o ≡ Some bytes → AreBytes bytes × (length bytes ≡ n)
+pub number_fits : (n : ℕ) (o : Option ℕ) (bytes : List ℕ) → option_map (little_bytes n) o ≡ Some bytes
+    → AreBytes bytes × (length bytes ≡ n)
 number_fits n None bytes e = cc
 number_fits n (Some x) bytes e =
-    let is : little_bytes n x ≡ bytes = given_same (little_bytes n x) bytes e in
-    (subst (λ (xs : List ℕ). AreBytes xs) is (AreBytes-bytes_low_first 0 n x), ap length (sym is) ∙ length-bytes_low_first 0 n x)
+    let is : little_bytes n x ≡ bytes = given_same (little_bytes n x) bytes e in (
+      subst (λ (xs : List ℕ). AreBytes xs) is (AreBytes-bytes_low_first 0 n x),
+      ap length (sym is)
+          ∙ length-bytes_low_first 0 n x,
+    )
 
-flag_fits_at : (n : ℕ) (b : Bool) (bytes : List ℕ) → nat_lt n 2 ≡ b → option_map (little_bytes 1) (if b then Some n else None) ≡ Some bytes → get_or bytes 0 0 < 2
+flag_fits_at : (n : ℕ) (b : Bool) (bytes : List ℕ) → nat_lt n 2 ≡ b
+    → option_map (little_bytes 1) (if b then Some n else None) ≡ Some bytes → get_or bytes 0 0 < 2
 flag_fits_at n true bytes test e =
-    let is : get_or bytes 0 0 ≡ n % 256 = ap (λ (xs : List ℕ). get_or xs 0 0) (sym (given_same (little_bytes 1 n) bytes e)) in
+    let is : get_or bytes 0 0 ≡ n % 256 = ap (λ (xs : List ℕ). get_or xs 0 0)
+    (sym (given_same (little_bytes 1 n) bytes e)) in
     let low : n < 2 = ltb-true n 2 test in
     omega arith
 flag_fits_at n false bytes test e = cc
 
-pub flag_fits : (o : Option ℤ) (bytes : List ℕ) → option_map (little_bytes 1) (option_and_then flag_bits o) ≡ Some bytes → get_or bytes 0 0 < 2
+pub flag_fits : (o : Option ℤ) (bytes : List ℕ) → option_map (little_bytes 1) (option_and_then flag_bits o) ≡ Some bytes
+    → get_or bytes 0 0 < 2
 flag_fits None bytes e = cc
 flag_fits (Some (pos n)) bytes e = flag_fits_at n (nat_lt n 2) bytes refl e
 flag_fits (Some (negsuc n)) bytes e = cc
 
 -- ---- bytes
 
-pub short_at : (text bytes : List ℕ) (b : Bool) → nat_le (length text) longest_value ≡ b → (if b then Some text else None) ≡ Some bytes → (text ≡ bytes) × (length bytes ≤ longest_value)
+pub short_at : (text bytes : List ℕ) (b : Bool) → nat_le (length text) longest_value ≡ b
+    → (if b then Some text else None) ≡ Some bytes → (text ≡ bytes) × (length bytes ≤ longest_value)
 short_at text bytes true test e =
     let is : text ≡ bytes = given_same text bytes e in
     let few : length text ≤ longest_value = leb-true (length text) longest_value test in
     (is, omega (arith, ap length is))
 short_at text bytes false test e = cc
 
-short_fits : (text bytes : List ℕ) → AreBytes text → if_not_too_long text ≡ Some bytes → AreBytes bytes × (length bytes ≤ longest_value)
+short_fits : (text bytes : List ℕ) → AreBytes text → if_not_too_long text ≡ Some bytes
+    → AreBytes bytes × (length bytes ≤ longest_value)
 short_fits text bytes h e =
     let is = short_at text bytes (nat_le (length text) longest_value) refl e in
     (subst (λ (xs : List ℕ). AreBytes xs) is.0 h, is.1)
 
-pair_fits : (a b : ℕ) (x y : Bool) (o : Option (List ℕ)) → is_digit a 16 ≡ x → is_digit b 16 ≡ y → IfSome o AreBytes → IfSome (if x && y then option_map (λ bytes. pair_number a b ∷ bytes) o else None) AreBytes
+pair_fits : (a b : ℕ) (x y : Bool) (o : Option (List ℕ)) → is_digit a 16 ≡ x → is_digit b 16 ≡ y → IfSome o AreBytes
+    → IfSome (if x && y then option_map (λ bytes. pair_number a b ∷ bytes) o else None) AreBytes
 pair_fits a b true true None high low h = tt
 pair_fits a b true true (Some bytes) high low h = both
   where
@@ -82,23 +94,27 @@ paired_fits [] = λ k. lit< tt
 paired_fits (a ∷ []) = tt
 paired_fits (a ∷ b ∷ text) = pair_fits a b (is_digit a 16) (is_digit b 16) (paired text) refl refl (paired_fits text)
 
-pub pairs_fit : (o : Option (List ℕ)) (bytes : List ℕ) → IfSome o AreBytes → option_and_then if_not_too_long o ≡ Some bytes → AreBytes bytes × (length bytes ≤ longest_value)
+pub pairs_fit : (o : Option (List ℕ)) (bytes : List ℕ) → IfSome o AreBytes
+    → option_and_then if_not_too_long o ≡ Some bytes → AreBytes bytes × (length bytes ≤ longest_value)
 pairs_fit None bytes h e = cc
 pairs_fit (Some given) bytes h e = short_fits given bytes h e
 
 -- ---- the forms
 
-form_fits : (f : Form) (text bytes : List ℕ) (node : ℕ) → AreBytes text → value_in f text node ≡ Some bytes → AreBytes bytes × FitsForm f bytes
+form_fits : (f : Form) (text bytes : List ℕ) (node : ℕ) → AreBytes text → value_in f text node ≡ Some bytes
+    → AreBytes bytes × FitsForm f bytes
 form_fits Flag text bytes node h e =
     let is = number_fits 1 (option_and_then flag_bits (formula text node)) bytes e in
     (is.0, (is.1, flag_fits (formula text node) bytes e))
 form_fits (Signed width) text bytes node h e = number_fits (octets width) (signed_text_bits width text node) bytes e
-form_fits (Unsigned width) text bytes node h e = number_fits (octets width) (option_and_then (unsigned_bits width) (formula text node)) bytes e
+form_fits (Unsigned width) text bytes node h e = number_fits (octets width)
+    (option_and_then (unsigned_bits width) (formula text node)) bytes e
 form_fits Characters text bytes node h e = short_fits text bytes h e
 form_fits HexPairs text bytes node h e = pairs_fit (paired text) bytes (paired_fits text) e
 form_fits Unmodelled text bytes node h e = cc
 
 -- the bytes that a text spells fit the type
-pub Fits-value : (kind : DataType) (text bytes : List ℕ) (node : ℕ) → AreBytes text → value kind text node ≡ Some bytes → Fits kind bytes
+pub Fits-value : (kind : DataType) (text bytes : List ℕ) (node : ℕ) → AreBytes text → value kind text node ≡ Some bytes
+    → Fits kind bytes
 unfolding value
 Fits-value kind text bytes node h e = form_fits (form kind) text bytes node h e

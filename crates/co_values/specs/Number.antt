@@ -1,5 +1,8 @@
--- Numbers and formulas as the texts of an EDS or DCF spell them (CiA 306). The spellings that are taken are this profile's own choice.
-use Rattle.std.specs.Prelude.{ℕ, ◌+◌, ◌^◌, ◌==◌, ℤ, pos, neg_ℤ, negsuc, Bool, ◌||◌, ◌&&◌, nat_lt, if◌then◌else◌, List, [], ◌∷◌, take, drop, map, Option, Some, None, option_map, option_and_then, position, codes, bytes_eq}
+-- Numbers and formulas as the texts of an EDS or DCF spell them (CiA 306). The spellings that are taken are this
+-- profile's own choice.
+use Rattle.std.specs.Prelude.{ℕ, ◌+◌, ◌^◌, ◌==◌, ℤ, pos, neg_ℤ, negsuc, Bool, ◌||◌, ◌&&◌, nat_lt, if◌then◌else◌, List}
+use Rattle.std.specs.Prelude.{[], ◌∷◌, take, drop, map, Option, Some, None, option_map, option_and_then, position}
+use Rattle.std.specs.Prelude.{codes, bytes_eq}
 use Rattle.std.specs.Char.{to_ascii_lowercase}
 use Rattle.std.specs.Option.{option_or}
 use Rattle.std.specs.Str.{byte}
@@ -12,7 +15,8 @@ use Rattle.co_text.specs.Digits.{digits_number}
 abbrev pub hexadecimal : List ℕ → Option ℕ
 hexadecimal [] = None
 hexadecimal (a ∷ []) = None
-hexadecimal (a ∷ x ∷ digits) = if (a == byte "0") && ((x == byte "x") || (x == byte "X")) then digits_number 16 digits else None
+hexadecimal (a ∷ x ∷ digits) = if (a == byte "0") && ((x == byte "x") || (x == byte "X")) then digits_number 16 digits
+    else None
 
 -- a 0, and octal digits
 abbrev pub octal : List ℕ → Option ℕ
@@ -26,7 +30,8 @@ unsigned_number text = option_or (hexadecimal text) (option_or (octal text) (dig
 -- with a `-` in front or none
 abbrev pub signed_number : List ℕ → Option ℤ
 signed_number [] = None
-signed_number (c ∷ cs) = if c == byte "-" then option_map (λ n. neg_ℤ (pos n)) (unsigned_number cs) else option_map pos (unsigned_number (c ∷ cs))
+signed_number (c ∷ cs) = if c == byte "-" then option_map (λ n. neg_ℤ (pos n)) (unsigned_number cs)
+    else option_map pos (unsigned_number (c ∷ cs))
 
 -- the number itself, from -2^63 to 2^64 - 1
 abbrev pub in_range : ℤ → Option ℤ

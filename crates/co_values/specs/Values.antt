@@ -1,6 +1,8 @@
 -- The values of the data types of CiA 301, as the texts of an EDS or DCF (CiA 306) spell and print them.
 -- A value is the list of its bytes as they travel: numbers little-endian, negative ones by two's complement.
-use Rattle.std.specs.Prelude.{◌≡◌, ℕ, ◌+◌, ◌-◌, ◌*◌, ◌^◌, ◌<◌, ◌≤◌, suc, ℤ, pos, negsuc, ◌&&◌, nat_lt, nat_le, if◌then◌else◌, List, [], ◌∷◌, ◌++◌, length, get_or, reverse, replicate, Option, Some, None, option_map, option_and_then, flat_map, codes, decimal}
+use Rattle.std.specs.Prelude.{◌≡◌, ℕ, ◌+◌, ◌-◌, ◌*◌, ◌^◌, ◌<◌, ◌≤◌, suc, ℤ, pos, negsuc, ◌&&◌, nat_lt, nat_le}
+use Rattle.std.specs.Prelude.{if◌then◌else◌, List, [], ◌∷◌, ◌++◌, length, get_or, reverse, replicate, Option, Some}
+use Rattle.std.specs.Prelude.{None, option_map, option_and_then, flat_map, codes, decimal}
 use Rattle.std.specs.Char.{digit_value, is_digit}
 use Rattle.std.specs.Fmt.{signed_decimal}
 use Rattle.std.specs.Option.{option_or}
@@ -29,9 +31,11 @@ unsigned_bits width (negsuc n) = None
 -- INTEGERn: from -2^(n - 1) to 2^(n - 1) - 1, a negative number as its two's complement
 abbrev pub signed_bits : Width → ℤ → Option ℕ
 signed_bits width (pos n) = if nat_lt n (2 ^ (8 * octets width - 1)) then Some n else None
-signed_bits width (negsuc n) = if nat_lt n (2 ^ (8 * octets width - 1)) then Some (2 ^ (8 * octets width) - suc n) else None
+signed_bits width (negsuc n) = if nat_lt n (2 ^ (8 * octets width - 1)) then Some (2 ^ (8 * octets width) - suc n)
+    else None
 
--- a formula in the range of INTEGERn; a hexadecimal number without sign may also be the two's complement itself, a sum may not (own)
+-- a formula in the range of INTEGERn; a hexadecimal number without sign may also be the two's complement itself, a sum
+-- may not (own)
 abbrev pub signed_text_bits : Width → List ℕ → ℕ → Option ℕ
 signed_text_bits width text node =
     option_or (option_and_then (signed_bits width) (formula text node))
@@ -61,7 +65,8 @@ paired (a ∷ b ∷ text) =
 abbrev pub value_in : Form → List ℕ → ℕ → Option (List ℕ)
 value_in Flag text node = option_map (little_bytes 1) (option_and_then flag_bits (formula text node))
 value_in (Signed width) text node = option_map (little_bytes (octets width)) (signed_text_bits width text node)
-value_in (Unsigned width) text node = option_map (little_bytes (octets width)) (option_and_then (unsigned_bits width) (formula text node))
+value_in (Unsigned width) text node = option_map (little_bytes (octets width))
+    (option_and_then (unsigned_bits width) (formula text node))
 value_in Characters text node = if_not_too_long text
 value_in HexPairs text node = option_and_then if_not_too_long (paired text)
 value_in Unmodelled text node = None
@@ -118,15 +123,17 @@ abbrev pub pairs_of : List ℕ → List ℕ
 pairs_of bytes = flat_map byte_digits bytes
 
 -- the text of a value laid out so
-abbrev pub printed_in : Form → List ℕ → List ℕ
-printed_in Flag bytes = decimal (little_number 1 bytes)
-printed_in (Signed width) bytes = signed_decimal (twos_complement (octets width) (little_number (octets width) bytes))
+abbrev pub text_of_value_in : Form → List ℕ → List ℕ
+text_of_value_in Flag bytes = decimal (little_number 1 bytes)
+text_of_value_in (Signed width) bytes = signed_decimal (twos_complement (octets width)
+    (little_number (octets width) bytes))
 -- the pairs of the bytes, the highest first, are the number's 2, 4, 8 or 16 digits
-printed_in (Unsigned width) bytes = codes "0x" ++ pairs_of (reverse bytes)
-printed_in Characters bytes = bytes
-printed_in HexPairs bytes = pairs_of bytes
-printed_in Unmodelled bytes = []
+text_of_value_in (Unsigned width) bytes = codes "0x" ++ pairs_of (reverse bytes)
+text_of_value_in Characters bytes = bytes
+text_of_value_in HexPairs bytes = pairs_of bytes
+text_of_value_in Unmodelled bytes = []
 
--- the text of a value in a DCF (CiA 306): 0 or 1, decimal for INTEGERn, `0x` and all digits for UNSIGNEDn, upper-case pairs for bytes (own)
-unfoldable pub printed : DataType → List ℕ → List ℕ
-printed kind bytes = printed_in (form kind) bytes
+-- the text of a value in a DCF (CiA 306): 0 or 1, decimal for INTEGERn, `0x` and all digits for UNSIGNEDn, upper-case
+-- pairs for bytes (own)
+unfoldable pub text_of_value : DataType → List ℕ → List ℕ
+text_of_value kind bytes = text_of_value_in (form kind) bytes

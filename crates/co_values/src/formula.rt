@@ -2,7 +2,8 @@
 
 ghost use Rattle.std.specs.Prelude.{◌≡◌, ◌==◌, position};
 ghost use Rattle.std.specs.Str.{byte};
-ghost use Rattle.co_values.specs.Number.{formula, is_node_id as is_node_id_text, node_plus as node_plus_number, sum_of_terms as terms_sum, node_sum};
+ghost use Rattle.co_values.specs.Number.{formula, is_node_id as is_node_id_text, node_plus as node_plus_number};
+ghost use Rattle.co_values.specs.Number.{sum_of_terms as terms_sum, node_sum};
 
 use crate::number::{in_range, read_number, unsigned};
 use co_text::{without_first_blanks, without_last_blanks};

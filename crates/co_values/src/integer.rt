@@ -22,7 +22,8 @@ fn unsigned_number(len: usize, bits: u64) -> i128
 
 /// The number that the low bytes of `bits` are in two's complement.
 fn signed_number(width: Width, bits: u64) -> i128
-    ensures { result ≡ twos_complement (octets width) (little_number (octets width) (little_bytes (octets width) bits)) }
+    ensures { result ≡ twos_complement (octets width)
+        (little_number (octets width) (little_bytes (octets width) bits)) }
 {
     let len = width.octets();
     i128::from(LittleEndian::read_int(&to_le(bits)[..len], len))

@@ -1,12 +1,13 @@
 //! Laws of numbers and values, each a function whose contract is the law.
 
-ghost use Rattle.std.specs.Prelude.{◌≡◌, ◌^◌, ◌<◌, ◌≤◌, ◌++◌, ◌*◌, ℕ, Some, decimal, pos, negsuc, List, length, codes, reverse, ℤ, option_map, option_and_then};
+ghost use Rattle.std.specs.Prelude.{◌≡◌, ◌^◌, ◌<◌, ◌≤◌, ◌++◌, ◌*◌, ℕ, Some, decimal, pos, negsuc, List, length, codes};
+ghost use Rattle.std.specs.Prelude.{reverse, ℤ, option_map, option_and_then};
 ghost use Rattle.std.specs.Fmt.{signed_decimal};
 ghost use Rattle.byteorder.specs.Endian.{little_bytes, little_number};
 ghost use Rattle.co_base.specs.Bytes.{AreBytes};
 ghost use Rattle.co_text.specs.Blanks.{without_first_blanks};
 ghost use Rattle.co_values.specs.Number.{number, formula, in_range, hexadecimal, node_plus};
-ghost use Rattle.co_values.specs.Values.{paired, pairs_of, value, printed, Fits, signed_bits};
+ghost use Rattle.co_values.specs.Values.{paired, pairs_of, value, text_of_value, Fits, signed_bits};
 ghost use Rattle.co_values.specs.Types.{form, octets};
 ghost use Rattle.co_values.specs.declared.form.Form.TheVariants.{Signed};
 ghost use Rattle.co_values.specs.declared.form.Width.{Width};
@@ -31,7 +32,7 @@ pub fn hexadecimal_spells()
 #[tactic(auto, using(crate::proofs::Printed::printed_laws))]
 pub fn printed_is_read()
     ensures { (kind : DataType) (bytes : List ℕ) (node : ℕ) → Fits kind bytes
-        → value kind (printed kind bytes) node ≡ Some bytes }
+        → value kind (text_of_value kind bytes) node ≡ Some bytes }
 {}
 
 /// What a text spells as a value fits the type.

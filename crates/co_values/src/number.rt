@@ -2,7 +2,8 @@
 
 ghost use Rattle.std.specs.Prelude.{◌≡◌, ℕ, pos, neg_ℤ, Option, option_map, option_and_then};
 ghost use Rattle.co_text.specs.Digits.{capped};
-ghost use Rattle.co_values.specs.Number.{number, in_range as in_range_number, hexadecimal as hexadecimal_number, octal as octal_number, unsigned_number};
+ghost use Rattle.co_values.specs.Number.{number, in_range as in_range_number, hexadecimal as hexadecimal_number};
+ghost use Rattle.co_values.specs.Number.{octal as octal_number, unsigned_number};
 
 use co_text::read_digits;
 

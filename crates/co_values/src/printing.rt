@@ -1,7 +1,7 @@
 //! The text of a value.
 
 ghost use Rattle.std.specs.Prelude.{◌≡◌, ◌++◌, IfOk, codes, reverse};
-ghost use Rattle.co_values.specs.Values.{printed, printed_in, pairs_of, Fits, FitsForm};
+ghost use Rattle.co_values.specs.Values.{text_of_value, text_of_value_in, pairs_of, Fits, FitsForm};
 
 use crate::form::Form;
 use crate::hex::push_pairs;
@@ -21,7 +21,7 @@ fn unsigned_text(alloc: Global, bytes: &[u8]) -> Result<Vec<u8>, AllocError>
 /// The text of a value in a form.
 fn text_in(alloc: Global, form: Form, bytes: &[u8]) -> Result<Vec<u8>, AllocError>
     requires { FitsForm form bytes.now }
-    ensures { IfOk result (λ text. text.items ≡ printed_in form bytes.now) }
+    ensures { IfOk result (λ text. text.items ≡ text_of_value_in form bytes.now) }
 {
     match form {
         Form::Flag => Ok(
@@ -45,10 +45,10 @@ fn text_in(alloc: Global, form: Form, bytes: &[u8]) -> Result<Vec<u8>, AllocErro
 /// `0x` and 2, 4, 8 or 16 upper-case digits for UNSIGNEDn, the bytes of a VISIBLE_STRING, and pairs
 /// of upper-case digits for OCTET_STRING and DOMAIN. `value_of` reads it back at every node. Takes
 /// time and memory linear in the value.
-#[tactic(auto, unfolding(crate::specs::Values::printed))]
+#[tactic(auto, unfolding(crate::specs::Values::text_of_value))]
 pub fn hex_text(alloc: Global, value: &Value) -> Result<Vec<u8>, AllocError>
     requires { Fits value.now.kind value.now.bytes }
-    ensures { IfOk result (λ text. text.items ≡ printed value.now.kind value.now.bytes) }
+    ensures { IfOk result (λ text. text.items ≡ text_of_value value.now.kind value.now.bytes) }
 {
     text_in(alloc, value.kind.form(), value.bytes.as_slice())
 }

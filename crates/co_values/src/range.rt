@@ -2,7 +2,8 @@
 
 ghost use Rattle.std.specs.Prelude.{◌≡◌, ◌*◌, ◌-◌, ◌^◌};
 ghost use Rattle.co_values.specs.Types.{octets};
-ghost use Rattle.co_values.specs.Values.{flag_bits as bits_of_flag, unsigned_bits as bits_of_unsigned, signed_bits as bits_of_signed};
+ghost use Rattle.co_values.specs.Values.{flag_bits as bits_of_flag, unsigned_bits as bits_of_unsigned};
+ghost use Rattle.co_values.specs.Values.{signed_bits as bits_of_signed};
 
 use crate::form::Width;
 

@@ -3,7 +3,8 @@
 ghost use Rattle.std.specs.Prelude.{◌≡◌, ◌≤◌, None, Ok, IfOk, IfSome, is_some, option_map, option_and_then};
 ghost use Rattle.byteorder.specs.Endian.{little_bytes};
 ghost use Rattle.co_values.specs.Number.{formula};
-ghost use Rattle.co_values.specs.Values.{value, value_in, paired, if_not_too_long, flag_bits as bits_of_flag, unsigned_bits as bits_of_unsigned, signed_text_bits as bits_of_signed_text};
+ghost use Rattle.co_values.specs.Values.{value, value_in, paired, if_not_too_long, flag_bits as bits_of_flag};
+ghost use Rattle.co_values.specs.Values.{unsigned_bits as bits_of_unsigned, signed_text_bits as bits_of_signed_text};
 
 use crate::data_type::DataType;
 use crate::form::{Form, Width};

@@ -1,7 +1,10 @@
 -- One entry: what is read is spelled so, and what is spelled so is read.
-use Rattle.std.proofs.Common.{◌≡◌, ℕ, ◌+◌, ◌<◌, ◌≤◌, Bool, true, false, cond, ltb, eqb, List, [], ◌∷◌, ◌++◌, length, slice_index, take, drop, Result, Ok, Err, refl, sym, ap, ◌∙◌, append_assoc, arith, inl, inr}
+use Rattle.std.proofs.Common.{◌≡◌, ℕ, ◌+◌, ◌<◌, ◌≤◌, Bool, true, false, cond, ltb, eqb, List, [], ◌∷◌, ◌++◌, length}
+use Rattle.std.proofs.Common.{slice_index, take, drop, Result, Ok, Err, refl, sym, ap, ◌∙◌, append_assoc, arith, inl}
+use Rattle.std.proofs.Common.{inr}
 use Rattle.std.proofs.lemmas.Bool.{cond_both, ltb-true, ltb-false, eqb-true, eqb-false, lt-ltb, le-ltb, ne_eqb}
-use Rattle.std.proofs.lemmas.List.{take_at, drop_at, take-append-drop, length-append, length-take, length-drop, get_or-drop}
+use Rattle.std.proofs.lemmas.List.{take_at, drop_at, take-append-drop, length-append, length-take, length-drop}
+use Rattle.std.proofs.lemmas.List.{get_or-drop}
 use Rattle.byteorder.specs.Endian.{little_bytes, little_number}
 use Rattle.byteorder.specs.Numbers.{little_number-reads_back, little_from-lt}
 use Rattle.concise_dcf.specs.declared.write.Write.{Write}
@@ -21,7 +24,10 @@ pub record Takes (bytes text rest : List ℕ) : Type 0 where
   pub rest_fits : AreBytes rest
 
 pub Takes-then : (a x b y c : List ℕ) → Takes a x b → Takes b y c → Takes a (x ++ y) c
-Takes-then a x b y c p q = record { parts = p.parts ∙ ap (λ (t : List ℕ). x ++ t) q.parts ∙ sym (append_assoc x y c); rest_fits = q.rest_fits }
+Takes-then a x b y c p q = record {
+  parts = p.parts ∙ ap (λ (t : List ℕ). x ++ t) q.parts ∙ sym (append_assoc x y c);
+  rest_fits = q.rest_fits;
+}
 
 -- the fault of the entry at the front
 abbrev pub EntryFault : ConciseFault → List ℕ → Type 0
@@ -34,7 +40,8 @@ abbrev pub EntryAnswer : List ℕ → Result (Write × List ℕ) ConciseFault �
 EntryAnswer bytes (Ok x) = Takes bytes (entry_of x.0) x.1 × Fits x.0
 EntryAnswer bytes (Err f) = EntryFault f bytes
 
-header_cut : (bytes : List ℕ) → 7 ≤ length bytes → take 2 bytes ++ (slice_index bytes 2 ∷ take 4 (drop 3 bytes)) ≡ take 7 bytes
+header_cut : (bytes : List ℕ) → 7 ≤ length bytes
+    → take 2 bytes ++ (slice_index bytes 2 ∷ take 4 (drop 3 bytes)) ≡ take 7 bytes
 header_cut [] h = absurd (omega arith)
 header_cut (a ∷ []) h = absurd (omega arith)
 header_cut (a ∷ b ∷ []) h = absurd (omega arith)
@@ -45,16 +52,22 @@ header_cut (a ∷ b ∷ c ∷ d ∷ e ∷ f ∷ []) h = absurd (omega arith)
 header_cut (a ∷ b ∷ c ∷ d ∷ e ∷ f ∷ g ∷ rest) h = refl
 
 made : List ℕ → Write
-made bytes = record { index = little_number 2 bytes; sub = slice_index bytes 2; bytes = take (size_at bytes) (drop 7 bytes) }
+made bytes = record {
+  index = little_number 2 bytes;
+  sub = slice_index bytes 2;
+  bytes = take (size_at bytes) (drop 7 bytes);
+}
 
 taken : (bytes : List ℕ) → AreBytes bytes → 7 ≤ length bytes → 0 < size_at bytes → 7 + size_at bytes ≤ length bytes
     → EntryAnswer bytes (Ok (made bytes, drop (size_at bytes) (drop 7 bytes)))
 unfolding made
 taken bytes fits long some whole =
     let size = size_at bytes in
-    let len : length (take (size_at bytes) (drop 7 bytes)) ≡ size_at bytes = omega (arith, length-take (size_at bytes) (drop 7 bytes), length-drop 7 bytes) in
+    let len : length (take (size_at bytes) (drop 7 bytes))
+    ≡ size_at bytes = omega (arith, length-take (size_at bytes) (drop 7 bytes), length-drop 7 bytes) in
     let i : little_bytes 2 (little_number 2 bytes) ≡ take 2 bytes = spelled_again 2 bytes (omega arith) fits in
-    let s : little_bytes 4 (size_at bytes) ≡ take 4 (drop 3 bytes) = spelled_again 4 (drop 3 bytes) (omega (arith, length-drop 3 bytes)) (AreBytes-drop 3 bytes fits) in
+    let s : little_bytes 4 (size_at bytes) ≡ take 4 (drop 3 bytes) = spelled_again 4 (drop 3 bytes)
+    (omega (arith, length-drop 3 bytes)) (AreBytes-drop 3 bytes fits) in
     let header : header_of (made bytes) ≡ take 7 bytes =
     ap (λ (n : ℕ). little_bytes 2 (little_number 2 bytes) ++ (slice_index bytes 2 ∷ little_bytes 4 n)) len
     ∙ ap (λ (x : List ℕ). x ++ (slice_index bytes 2 ∷ little_bytes 4 (size_at bytes))) i
@@ -91,15 +104,27 @@ entry_answer bytes fits =
     (λ whole. taken bytes fits long above (ltb-false _ _ whole))))
 
 -- what an entry's bytes say, whatever follows them
-entry_is : (bytes : List ℕ) (w : Write) (rest : List ℕ) → 7 ≤ length bytes → 0 < length w.bytes → little_number 2 bytes ≡ w.index → slice_index bytes 2 ≡ w.sub → size_at bytes ≡ length w.bytes
+entry_is : (bytes : List ℕ) (w : Write) (rest : List ℕ) → 7 ≤ length bytes → 0 < length w.bytes
+    → little_number 2 bytes ≡ w.index → slice_index bytes 2 ≡ w.sub → size_at bytes ≡ length w.bytes
     → drop 7 bytes ≡ w.bytes ++ rest → entry_at bytes ≡ Ok (w, rest)
 unfolding entry_at
 entry_is bytes w rest long some index sub size behind =
-    let whole : 7 + length w.bytes ≤ length bytes = omega (arith, length-drop 7 bytes, ap length behind, length-append w.bytes rest) in
+    let whole : 7 + length w.bytes ≤ length bytes =
+    omega (arith, length-drop 7 bytes, ap length behind, length-append w.bytes rest) in
     let e1 : ltb (length bytes) 7 ≡ false = le-ltb _ _ long in
     let e2 : eqb (length w.bytes) 0 ≡ false = ne_eqb _ _ (λ e. omega arith) in
     let e3 : ltb (length bytes) (7 + length w.bytes) ≡ false = le-ltb _ _ whole in
-    rw (e1, size, e2, e3, index, sub, behind, take_at w.bytes rest (length w.bytes) refl, drop_at w.bytes rest (length w.bytes) refl) refl
+    rw (
+      e1,
+      size,
+      e2,
+      e3,
+      index,
+      sub,
+      behind,
+      take_at w.bytes rest (length w.bytes) refl,
+      drop_at w.bytes rest (length w.bytes) refl,
+    ) refl
 
 pub entry_again : (w : Write) (rest : List ℕ) → Fits w → entry_at (entry_of w ++ rest) ≡ Ok (w, rest)
 entry_again w rest fits =
@@ -110,7 +135,8 @@ entry_again w rest fits =
     (little_number-reads_back 4 (length w.bytes) tail fits.size)
     refl
 
-cut_is : (a b c : Bool) (read : Result (Write × List ℕ) ConciseFault) → b ≡ false → c ≡ true → cond a (Err Short) (cond b (Err Empty) (cond c (Err Short) read)) ≡ Err Short
+cut_is : (a b c : Bool) (read : Result (Write × List ℕ) ConciseFault) → b ≡ false → c ≡ true
+    → cond a (Err Short) (cond b (Err Empty) (cond c (Err Short) read)) ≡ Err Short
 cut_is true b c read p q = refl
 cut_is false b c read p q = rw (p, q) refl
 
@@ -121,4 +147,5 @@ entry_fault_again Extra bytes h = absurd h
 entry_fault_again Empty bytes h = rw (le-ltb (length bytes) 7 h.0, h.1) refl
 entry_fault_again Short bytes (inl h) = rw (lt-ltb (length bytes) 7 h) refl
 entry_fault_again Short bytes (inr h) =
-    cut_is (ltb (length bytes) 7) (eqb (size_at bytes) 0) (ltb (length bytes) (7 + size_at bytes)) (Ok (made bytes, drop (size_at bytes) (drop 7 bytes))) (ne_eqb _ _ (λ e. omega arith)) (lt-ltb _ _ h.1)
+    cut_is (ltb (length bytes) 7) (eqb (size_at bytes) 0) (ltb (length bytes) (7 + size_at bytes))
+    (Ok (made bytes, drop (size_at bytes) (drop 7 bytes))) (ne_eqb _ _ (λ e. omega arith)) (lt-ltb _ _ h.1)

@@ -55,14 +55,17 @@ IsHollow rest = (7 ≤ length rest) × (size_at rest ≡ 0)
 
 -- after whole entries, fewer than the count, comes one of which P holds
 abbrev pub StopsAt : (List ℕ → Type 0) → List ℕ → Type 0
-StopsAt P bytes = (count : ℕ) × (writes : List Write) × (rest : List ℕ) × Begins bytes count writes rest × (length writes < count) × P rest
+StopsAt P bytes = (count : ℕ) × (writes : List Write) × (rest : List ℕ) × Begins bytes count writes rest
+    × (length writes < count) × P rest
 
--- the fault of the first place from the front: they end inside the count or an entry; an entry has no data; a list's text has at least one byte more
+-- the fault of the first place from the front: they end inside the count or an entry; an entry has no data; a list's
+-- text has at least one byte more
 abbrev pub HasFault : ConciseFault → List ℕ → Type 0
 HasFault Memory bytes = ⊥
 HasFault Short bytes = (length bytes < 4) ⊎ StopsAt IsCut bytes
 HasFault Empty bytes = StopsAt IsHollow bytes
-HasFault Extra bytes = (writes : List Write) × (byte : ℕ) × (more : List ℕ) × Begins bytes (length writes) writes (byte ∷ more)
+HasFault Extra bytes = (writes : List Write) × (byte : ℕ) × (more : List ℕ)
+    × Begins bytes (length writes) writes (byte ∷ more)
 
 -- want of memory, which can come in place of any answer
 abbrev pub is_memory : ConciseFault → Bool

@@ -1,5 +1,7 @@
--- How this program reads a concise DCF: from the front, with the first fault that it meets. These steps are its own, and private; the clauses of `decode` join them to the relation in Concise.
-use Rattle.std.specs.Prelude.{ℕ, zero, suc, List, [], ◌∷◌, ◌+◌, length, take, drop, slice_index, Result, Ok, Err, nat_lt, ◌==◌, if◌then◌else◌}
+-- How this program reads a concise DCF: from the front, with the first fault that it meets. These steps are its own,
+-- and private; the clauses of `decode` join them to the relation in Concise.
+use Rattle.std.specs.Prelude.{ℕ, zero, suc, List, [], ◌∷◌, ◌+◌, length, take, drop, slice_index, Result, Ok, Err}
+use Rattle.std.specs.Prelude.{nat_lt, ◌==◌, if◌then◌else◌}
 use Rattle.byteorder.specs.Endian.{little_number}
 use Rattle.concise_dcf.specs.declared.write.Write.{Write}
 use Rattle.concise_dcf.specs.declared.fault.ConciseFault.{ConciseFault}
@@ -18,7 +20,14 @@ entry_at bytes =
     if nat_lt (length bytes) 7 then Err Short
     else if size_at bytes == 0 then Err Empty
     else if nat_lt (length bytes) (7 + size_at bytes) then Err Short
-    else Ok (record { index = little_number 2 bytes; sub = slice_index bytes 2; bytes = take (size_at bytes) (drop 7 bytes) }, drop (size_at bytes) (drop 7 bytes))
+    else Ok (
+      record {
+        index = little_number 2 bytes;
+        sub = slice_index bytes 2;
+        bytes = take (size_at bytes) (drop 7 bytes);
+      },
+      drop (size_at bytes) (drop 7 bytes),
+    )
 
 -- that many entries from the front, and what stands behind them
 unfoldable pub entries_at : ℕ → List ℕ → Result (List Write × List ℕ) ConciseFault

@@ -1,9 +1,10 @@
 -- What an agenda says of the moments, and the agendas of one device.
-use Rattle.std.proofs.Common.{◌≡◌, ℕ, ◌<◌, Bool, false, List, [], ◌∷◌, Option, Some, None, is_some, append-nil, refl, sym, ap, ◌∙◌, arith, inl, inr}
+use Rattle.std.proofs.Common.{◌≡◌, ℕ, ◌<◌, Bool, false, List, [], ◌∷◌, Option, Some, None, is_some, append-nil, refl}
+use Rattle.std.proofs.Common.{sym, ap, ◌∙◌, arith, inl, inr}
 use Rattle.std.specs.Prelude.{min, nat_le}
 use Rattle.std.specs.List.{AllByRecursion}
 use Rattle.std.proofs.lemmas.Bool.Decides.{nat_tests}
-use Rattle.asking.specs.Asking.{Asking, Answer, Seen, followed, outcome}
+use Rattle.asking.specs.Asking.{Asking, Answer, Seen, after_reads, outcome}
 use Rattle.can_frame.specs.Frames.{BaseFrame}
 use Rattle.can_frame.specs.Winner.{contenders_of, IsWinner}
 use Rattle.can_frame.specs.declared.contender.Contender.{Contender}
@@ -12,7 +13,7 @@ use Rattle.co_parts.specs.Contents.{Content, Image}
 use Rattle.co_parts.specs.Moments.{earlier, earliest}
 use Rattle.co_parts.specs.declared.part.Part.{Part}
 use Rattle.co_device.specs.Device.{Device, moments, next_due}
-use Rattle.co_device.specs.Receiving.{ignored}
+use Rattle.co_device.specs.Receiving.{is_ignored}
 use Rattle.device_laws.specs.Deaf.{IsDeafTo, IsIdleSync}
 use Rattle.device_laws.proofs.RestLemmas.{sent_rests}
 use Rattle.device_agenda.specs.Agenda.{has_come, IsAgendaOf, Sleeps}
@@ -33,7 +34,8 @@ first_later t m n h = omega arith
 second_later : (t m n : ℕ) → t < min m n → t < n
 second_later t m n h = omega arith
 
-both_later : (t m : ℕ) (rest : Option ℕ) → has_come t (earlier (Some m) rest) ≡ false → (t < m) × (has_come t rest ≡ false)
+both_later : (t m : ℕ) (rest : Option ℕ) → has_come t (earlier (Some m) rest) ≡ false
+    → (t < m) × (has_come t rest ≡ false)
 both_later t m None e = (not_yet t m e, refl)
 both_later t m (Some n) e =
     let first : t < min m n = not_yet t (min m n) e in
@@ -45,19 +47,22 @@ all_later t (m ∷ ms) e = let both = both_later t m (earliest ms) e in (both.0,
 
 -- ---- the agenda of a device
 
-none_waits : (node : ℕ) (frames : List Waiting) (found : Option Contender) → IsWinner (contenders_of (node, frames)) found → is_some found ≡ false → frames ≡ []
+none_waits : (node : ℕ) (frames : List Waiting) (found : Option Contender)
+    → IsWinner (contenders_of (node, frames)) found → is_some found ≡ false → frames ≡ []
 none_waits node [] found h e = refl
 none_waits node (w ∷ frames) None h e = absurd cc
 none_waits node (w ∷ frames) (Some c) h e = absurd cc
 
-pub silent_where_none : (d : Device) (found : Option Contender) → IsWinner (contenders_of (d.number, d.waiting)) found → is_some found ≡ false → d.waiting ≡ []
+pub silent_where_none : (d : Device) (found : Option Contender) → IsWinner (contenders_of (d.number, d.waiting)) found
+    → is_some found ≡ false → d.waiting ≡ []
 silent_where_none d found h e = none_waits d.number d.waiting found h e
 
 pub due_of : (a : Plan) (d : Device) → IsAgendaOf a (d ∷ []) → a.awake ≡ false → a.due ≡ next_due d
 unfolding next_due
 due_of a d plan e = plan.due e ∙ ap earliest (append-nil (moments d))
 
-pub plan_of : (a : Plan) (d : Device) → Sleeps a.groups d → a.due ≡ next_due d → (a.waits ≡ false → d.waiting ≡ []) → IsAgendaOf a (d ∷ [])
+pub plan_of : (a : Plan) (d : Device) → Sleeps a.groups d → a.due ≡ next_due d → (a.waits ≡ false → d.waiting ≡ [])
+    → IsAgendaOf a (d ∷ [])
 unfolding next_due
 plan_of a d sleeps due silent = record {
   due = λ e. due ∙ ap earliest (sym (append-nil (moments d)));
@@ -71,8 +76,8 @@ not_spent a d plan e = (plan.asleep e).0.unspent
 -- ---- once a frame is sent
 
 module _ (frames : List Waiting) (d : Device) where
-  sent_ignored : (frame : BaseFrame) → ignored frame (record d { waiting = frames }) ≡ ignored frame d
-  unfolding ignored
+  sent_ignored : (frame : BaseFrame) → is_ignored frame (record d { waiting = frames }) ≡ is_ignored frame d
+  unfolding is_ignored
   sent_ignored frame = refl
 
   sent_idle : (frame : BaseFrame) → IsIdleSync frame d → IsIdleSync frame (record d { waiting = frames })
@@ -93,27 +98,31 @@ module _ (frames : List Waiting) (d : Device) where
     deaf = λ frame bound e. sent_deaf frame (h.deaf frame bound e);
   }
 
-  pub sent_plan : (a : Plan) (waits : Bool) → IsAgendaOf a (d ∷ []) → (waits ≡ false → frames ≡ []) → IsAgendaOf (record a { waits = waits }) (record d { waiting = frames } ∷ [])
+  pub sent_plan : (a : Plan) (waits : Bool) → IsAgendaOf a (d ∷ []) → (waits ≡ false → frames ≡ [])
+      → IsAgendaOf (record a { waits = waits }) (record d { waiting = frames } ∷ [])
   sent_plan a waits plan silent = record {
     due = plan.due;
     asleep = λ e. (sent_sleeps a.groups (plan.asleep e).0, tt);
     silent = λ e. (silent e, tt);
   }
 
-pub sent_agenda : (a : Plan) (d e : Device) (frames : List Waiting) (found : Option Contender) (waits : Bool) → IsAgendaOf a (d ∷ []) → e ≡ record d { waiting = frames }
-    → IsWinner (contenders_of (e.number, e.waiting)) found → waits ≡ is_some found → IsAgendaOf (record a { waits = waits }) (e ∷ [])
+pub sent_agenda : (a : Plan) (d e : Device) (frames : List Waiting) (found : Option Contender) (waits : Bool)
+    → IsAgendaOf a (d ∷ []) → e ≡ record d { waiting = frames }
+    → IsWinner (contenders_of (e.number, e.waiting)) found → waits ≡ is_some found
+    → IsAgendaOf (record a { waits = waits }) (e ∷ [])
 sent_agenda a d e frames found waits plan is wins w =
     rw is
-    (sent_plan frames d a waits plan (λ f. sym (ap (λ (x : Device). x.waiting) is) ∙ silent_where_none e found wins (sym w ∙ f)))
+    (sent_plan frames d a waits plan (λ f. sym (ap (λ (x : Device). x.waiting) is)
+    ∙ silent_where_none e found wins (sym w ∙ f)))
 
 -- ---- where nothing is read
 
-nothing_followed : (d : Device) (seen : Seen Part Content) → followed {V = Content} (Answer d) seen ≡ seen
+nothing_followed : (d : Device) (seen : Seen Part Content) → after_reads {V = Content} (Answer d) seen ≡ seen
 nothing_followed d seen = rw append-nil refl
 
 module _ (m : Asking Part Content Device) (d : Device) (e : m ≡ Answer d) where
   pub same_state : (image : Image) → d ≡ outcome m image
   same_state image = sym (ap (λ (m : Asking Part Content Device). outcome m image) e)
 
-  pub none_noted : (seen : Seen Part Content) → seen ≡ followed m seen
-  none_noted seen = sym (ap (λ (m : Asking Part Content Device). followed m seen) e ∙ nothing_followed d seen)
+  pub none_noted : (seen : Seen Part Content) → seen ≡ after_reads m seen
+  none_noted seen = sym (ap (λ (m : Asking Part Content Device). after_reads m seen) e ∙ nothing_followed d seen)

@@ -1,5 +1,6 @@
 -- Sets of groups of identifiers.
-use Rattle.std.proofs.Common.{◌≡◌, ℕ, zero, suc, ◌*◌, ◌<◌, ◌%◌, ◌==◌, ◌||◌, Bool, true, false, refl, sym, ap, ◌∙◌, arith, bit_or, w64}
+use Rattle.std.proofs.Common.{◌≡◌, ℕ, zero, suc, ◌*◌, ◌<◌, ◌%◌, ◌==◌, ◌||◌, Bool, true, false, refl, sym, ap, ◌∙◌}
+use Rattle.std.proofs.Common.{arith, bit_or, w64}
 use Rattle.std.specs.Prelude.{◌^◌, max}
 use Rattle.std.specs.Int.{bit_at}
 use Rattle.std.proofs.lemmas.Bool.{eqb-false, eqb-true}
@@ -23,27 +24,40 @@ either_bit (suc zero) (suc (suc n)) h k = absurd (omega arith)
 either_bit (suc (suc n)) y h k = absurd (omega arith)
 
 pub both_sets : (a b i : ℕ) → (bit_at (bit_or a b) i == 1) ≡ (bit_at a i == 1) || (bit_at b i == 1)
-both_sets a b i = ap (λ n. n == 1) (bit_at_or a b i) ∙ either_bit (bit_at a i) (bit_at b i) (bit_at-lt a i) (bit_at-lt b i)
+both_sets a b i = ap (λ n. n == 1) (bit_at_or a b i) ∙ either_bit (bit_at a i) (bit_at b i) (bit_at-lt a i)
+    (bit_at-lt b i)
 
-pub one_more : (bits k : ℕ) → k < 64 → (i : ℕ) → (bit_at (bit_or bits (1 * 2 ^ k % 18446744073709551616)) i == 1) ≡ (i == k) || (bit_at bits i == 1)
+pub one_more : (bits k : ℕ) → k < 64 → (i : ℕ)
+    → (bit_at (bit_or bits (1 * 2 ^ k % 18446744073709551616)) i == 1) ≡ (i == k) || (bit_at bits i == 1)
 one_more bits k within i = by (i == k) refl
   where
-    by : (t : Bool) → (i == k) ≡ t → (bit_at (bit_or bits (1 * 2 ^ k % 18446744073709551616)) i == 1) ≡ t || (bit_at bits i == 1)
-    by true e = ap (λ n. bit_at (bit_or bits (1 * 2 ^ k % 18446744073709551616)) n == 1) (eqb-true i k e) ∙ ap (λ n. n == 1) (bit_at_set_same w64 bits k within)
+    by : (t : Bool) → (i == k) ≡ t → (bit_at (bit_or bits (1 * 2 ^ k % 18446744073709551616)) i == 1) ≡ t
+        || (bit_at bits i == 1)
+    by true e = ap (λ n. bit_at (bit_or bits (1 * 2 ^ k % 18446744073709551616)) n == 1) (eqb-true i k e)
+        ∙ ap (λ n. n == 1) (bit_at_set_same w64 bits k within)
     by false e = ap (λ n. n == 1) (bit_at_set_other w64 bits k within i (eqb-false i k e))
 
 -- ---- sets that grow
 
-module _ (old new : Groups) (id : ℕ) (is : (other : ℕ) → other < 0x800 → includes new other ≡ (group_of other == group_of id) || includes old other) where
+module _ (old new : Groups) (id : ℕ) (is : (other : ℕ) → other < 0x800
+    → includes new other ≡ (group_of other == group_of id) || includes old other) where
   pub with_extends : Extends old new
-  with_extends = record { kept = λ other within out. (neither (group_of other == group_of id) (includes old other) (sym (is other within) ∙ out)).1 }
+  with_extends =
+      record {
+        kept = λ other within out. (neither (group_of other == group_of id) (includes old other)
+            (sym (is other within) ∙ out)).1;
+      }
 
   pub left_out : (other : ℕ) → other < 0x800 → includes new other ≡ false → (other == id) ≡ false
   left_out other within out = by (other == id) refl
     where
       by : (t : Bool) → (other == id) ≡ t → t ≡ false
-      by true e = absurd (eqb-false (group_of other) (group_of id) (neither (group_of other == group_of id) (includes old other) (sym (is other within) ∙ out)).0 (ap group_of (eqb-true other id e)))
+      by true e = absurd (eqb-false (group_of other) (group_of id)
+          (neither (group_of other == group_of id) (includes old other)
+          (sym (is other within) ∙ out)).0 (ap group_of (eqb-true other id e)))
       by false e = refl
 
-pub never : (old new : Groups) (id other : ℕ) → id ≡ other → other < 0x800 → ((other : ℕ) → other < 0x800 → includes new other ≡ (group_of other == group_of id) || includes old other) → includes new other ≡ false → ⊥
+pub never : (old new : Groups) (id other : ℕ) → id ≡ other → other < 0x800
+    → ((other : ℕ) → other < 0x800 → includes new other ≡ (group_of other == group_of id) || includes old other)
+    → includes new other ≡ false → ⊥
 never old new id other same within is out = eqb-false other id (left_out old new id is other within out) (sym same)

@@ -1,11 +1,12 @@
 -- That nothing happens to devices that sleep.
-use Rattle.std.proofs.Common.{◌≡◌, ℕ, ◌<◌, ◌==◌, Bool, true, false, not, ◌&&◌, List, [], ◌∷◌, Option, Some, None, IfSome, flat_map, refl, sym, ap, ◌∙◌, inl}
+use Rattle.std.proofs.Common.{◌≡◌, ℕ, ◌<◌, ◌==◌, Bool, true, false, not, ◌&&◌, List, [], ◌∷◌, Option, Some, None}
+use Rattle.std.proofs.Common.{IfSome, flat_map, refl, sym, ap, ◌∙◌, inl}
 use Rattle.std.specs.Prelude.{if◌then◌else◌}
 use Rattle.std.specs.List.{AllByRecursion}
 use Rattle.asking.specs.Asking.{Answer, bind}
 use Rattle.can_frame.specs.Frames.{BaseFrame}
-use Rattle.co_device.specs.Device.{Device, moments, ran}
-use Rattle.co_device.specs.Receiving.{ignored, received}
+use Rattle.co_device.specs.Device.{Device, moments, after_instant}
+use Rattle.co_device.specs.Receiving.{is_ignored, after_frame}
 use Rattle.device_laws.specs.Deaf.{IsDeafTo}
 use Rattle.device_laws.specs.Rest.{Rests}
 use Rattle.device_laws.proofs.DeafLemmas.{nothing_comes_of_it}
@@ -21,15 +22,17 @@ use Rattle.device_agenda.proofs.AgendaLemmas.{all_later}
 -- ---- one device
 
 module _ (t : ℕ) (d : Device) (rests : Rests d) (later : AllByRecursion (λ m. t < m) (moments d)) where
-  alone : ran t d ≡ d
+  alone : after_instant t d ≡ d
   alone = quiet_at_rest t d rests later
 
   told : (delivered : Delivered) → IsDeafTo delivered.frame d → (own : Bool)
-      → bind (if own then Answer d else received t delivered.frame d) (λ heard. Answer (ran t heard)) ≡ Answer d
+      → bind (if own then Answer d else after_frame t delivered.frame d) (λ heard. Answer (after_instant t heard))
+      ≡ Answer d
   told delivered deaf true = ap (λ (x : Device). Answer x) alone
   told delivered deaf false = nothing_comes_of_it t delivered.frame d rests later deaf
 
-  one_quiet : (delivered : Option Delivered) → IfSome delivered (λ x. IsDeafTo x.frame d) → at_instant t delivered d ≡ Answer d
+  one_quiet : (delivered : Option Delivered) → IfSome delivered (λ x. IsDeafTo x.frame d)
+      → at_instant t delivered d ≡ Answer d
   unfolding at_instant hears
   one_quiet None deaf = ap (λ (x : Device). Answer x) alone
   one_quiet (Some delivered) deaf = told delivered deaf (d.number == delivered.sender)
@@ -42,13 +45,16 @@ deaf_to : (groups : Groups) (d : Device) (delivered : Option Delivered) → IfSo
 deaf_to groups d None bound deaf e = tt
 deaf_to groups d (Some delivered) bound deaf e = deaf delivered.frame bound e
 
-module _ (t : ℕ) (groups : Groups) (delivered : Option Delivered) (bound : IfSome delivered (λ x. x.frame.id < 0x800)) (e : stirs groups delivered ≡ false) where
+module _ (t : ℕ) (groups : Groups) (delivered : Option Delivered) (bound : IfSome delivered (λ x. x.frame.id < 0x800))
+    (e : stirs groups delivered ≡ false) where
   all_quiet : (ds : List Device) → AllByRecursion (Sleeps groups) ds → AllByRecursion (λ m. t < m) (flat_map moments ds)
       → AllByRecursion (λ d. at_instant t delivered d ≡ Answer d) ds
   all_quiet [] asleep later = tt
   all_quiet (d ∷ ds) asleep later =
-      let split = all_parts (λ m. t < m) (moments d) (flat_map moments ds) later in
-      (one_quiet t d asleep.0.rests split.0 delivered (deaf_to groups d delivered bound asleep.0.deaf e), all_quiet ds asleep.1 split.1)
+      let split = all_parts (λ m. t < m) (moments d) (flat_map moments ds) later in (
+        one_quiet t d asleep.0.rests split.0 delivered (deaf_to groups d delivered bound asleep.0.deaf e),
+        all_quiet ds asleep.1 split.1,
+      )
 
 first_not : (x y : Bool) → not x && y ≡ true → (x ≡ false) × (y ≡ true)
 first_not true y h = absurd cc
@@ -58,31 +64,39 @@ is_not : (x : Bool) → not x ≡ true → x ≡ false
 is_not true h = absurd cc
 is_not false h = refl
 
-moments_later : (a : Plan) (ds : List Device) (t : ℕ) → IsAgendaOf a ds → a.awake ≡ false → has_come t a.due ≡ false → AllByRecursion (λ m. t < m) (flat_map moments ds)
+moments_later : (a : Plan) (ds : List Device) (t : ℕ) → IsAgendaOf a ds → a.awake ≡ false → has_come t a.due ≡ false
+    → AllByRecursion (λ m. t < m) (flat_map moments ds)
 moments_later a ds t plan asleep e = all_later t (flat_map moments ds) (ap (has_come t) (sym (plan.due asleep)) ∙ e)
 
 -- what sleeps isn't awake
-pub not_awake : (a : Plan) (t : ℕ) (delivered : Option Delivered) → sleeps_through t delivered a ≡ true → a.awake ≡ false
+pub not_awake : (a : Plan) (t : ℕ) (delivered : Option Delivered) → sleeps_through t delivered a ≡ true
+    → a.awake ≡ false
 not_awake a t delivered e = (first_not a.awake (not (has_come t a.due) && not (stirs a.groups delivered)) e).0
 
-pub nothing_happens : (a : Plan) (ds : List Device) (t : ℕ) (delivered : Option Delivered) → IfSome delivered (λ d. d.frame.id < 0x800)
-    → IsAgendaOf a ds → sleeps_through t delivered a ≡ true → AllByRecursion (λ d. at_instant t delivered d ≡ Answer d) ds
+pub nothing_happens : (a : Plan) (ds : List Device) (t : ℕ) (delivered : Option Delivered)
+    → IfSome delivered (λ d. d.frame.id < 0x800)
+    → IsAgendaOf a ds → sleeps_through t delivered a ≡ true
+    → AllByRecursion (λ d. at_instant t delivered d ≡ Answer d) ds
 nothing_happens a ds t delivered bound plan e =
     let asleep = first_not a.awake (not (has_come t a.due) && not (stirs a.groups delivered)) e in
     let early = first_not (has_come t a.due) (not (stirs a.groups delivered)) asleep.1 in
-    all_quiet t a.groups delivered bound (is_not (stirs a.groups delivered) early.1) ds (plan.asleep asleep.0) (moments_later a ds t plan asleep.0 early.0)
+    all_quiet t a.groups delivered bound (is_not (stirs a.groups delivered) early.1) ds (plan.asleep asleep.0)
+    (moments_later a ds t plan asleep.0 early.0)
 
 -- ---- the one device of an agenda
 
 module _ (a : Plan) (d : Device) (t : ℕ) (delivered : Option Delivered) (plan : IsAgendaOf a (d ∷ [])) where
-  pub one_sleeps : IfSome delivered (λ x. x.frame.id < 0x800) → sleeps_through t delivered a ≡ true → at_instant t delivered d ≡ Answer d
+  pub one_sleeps : IfSome delivered (λ x. x.frame.id < 0x800) → sleeps_through t delivered a ≡ true
+      → at_instant t delivered d ≡ Answer d
   one_sleeps bound e = (nothing_happens a (d ∷ []) t delivered bound plan e).0
 
-  deaf_where_ignored : (told : Option Delivered) → IfSome told (λ x. ignored x.frame d ≡ true) → IfSome told (λ x. IsDeafTo x.frame d)
+  deaf_where_ignored : (told : Option Delivered) → IfSome told (λ x. is_ignored x.frame d ≡ true)
+      → IfSome told (λ x. IsDeafTo x.frame d)
   deaf_where_ignored None h = tt
   deaf_where_ignored (Some x) h = inl h
 
-  pub one_takes_nothing : a.awake ≡ false → has_come t a.due ≡ false → IfSome delivered (λ x. ignored x.frame d ≡ true) → at_instant t delivered d ≡ Answer d
+  pub one_takes_nothing : a.awake ≡ false → has_come t a.due ≡ false
+      → IfSome delivered (λ x. is_ignored x.frame d ≡ true) → at_instant t delivered d ≡ Answer d
   one_takes_nothing asleep early h =
       let split = all_parts (λ m. t < m) (moments d) [] (moments_later a (d ∷ []) t plan asleep early) in
       one_quiet t d (plan.asleep asleep).0.rests split.0 delivered (deaf_where_ignored delivered h)

@@ -1,5 +1,6 @@
 -- The frames that are something to a device.
-use Rattle.std.proofs.Common.{◌≡◌, ℕ, ◌-◌, ◌<◌, ◌≤◌, ◌%◌, ◌==◌, Bool, true, false, not, ◌&&◌, ◌||◌, List, [], ◌∷◌, Option, Some, None, inl, inr, refl, sym, ap, ◌∙◌, arith, length}
+use Rattle.std.proofs.Common.{◌≡◌, ℕ, ◌-◌, ◌<◌, ◌≤◌, ◌%◌, ◌==◌, Bool, true, false, not, ◌&&◌, ◌||◌, List, [], ◌∷◌}
+use Rattle.std.proofs.Common.{Option, Some, None, inl, inr, refl, sym, ap, ◌∙◌, arith, length}
 use Rattle.std.specs.Prelude.{if◌then◌else◌, is_some}
 use Rattle.std.specs.List.{AllByRecursion, list_any}
 use Rattle.std.proofs.lemmas.Bool.{eqb-true}
@@ -9,16 +10,16 @@ use Rattle.can_frame.specs.Identifiers.{error_control_id, nmt_id, sdo_request_id
 use Rattle.co_base.specs.Ranges.{is_between}
 use Rattle.co_dict.specs.Pdos.{identifier}
 use Rattle.co_dict.specs.Values.{Values, number_at}
-use Rattle.co_profile.specs.Consumers.{any_expects, expects}
-use Rattle.co_profile.specs.Profile.{sync_identifier}
-use Rattle.co_profile.specs.declared.learnt.Learnt.{Learnt}
+use Rattle.device_objects.specs.Consumers.{any_expects, expects}
+use Rattle.device_objects.specs.Profile.{sync_identifier}
+use Rattle.device_objects.specs.declared.learnt.Learnt.{Learnt}
 use Rattle.device_laws.specs.Deaf.{AwaitsNoSync, IsDeafTo}
 use Rattle.device_pdos.specs.Rpdos.{any_has_identifier, has_identifier}
 use Rattle.device_pdos.specs.Tpdos.{goes_by_sync}
 use Rattle.device_pdos.specs.declared.rpdo_state.RpdoState.{RpdoState}
 use Rattle.device_pdos.specs.declared.tpdo_state.TpdoState.{TpdoState}
 use Rattle.co_device.specs.Device.{Device, is_error_control, is_in}
-use Rattle.co_device.specs.Receiving.{ignored}
+use Rattle.co_device.specs.Receiving.{is_ignored}
 use Rattle.co_device.specs.declared.nmt_state.NmtState.TheVariants.{Operational}
 use Rattle.device_agenda.specs.Groups.{Extends, group_of, includes}
 use Rattle.device_agenda.specs.declared.groups.Groups.{Groups}
@@ -47,46 +48,58 @@ none_keeps (p ∷ ps) e =
     let parts = neither (is_some p.kept) (list_any (λ p. is_some p.kept) ps) e in
     (keeps_none p.kept parts.0, none_keeps ps parts.1)
 
-none_goes : (ps : List TpdoState) → list_any (λ p. goes_by_sync p.configuration) ps ≡ false → AllByRecursion (λ p. goes_by_sync p.configuration ≡ false) ps
+none_goes : (ps : List TpdoState) → list_any (λ p. goes_by_sync p.configuration) ps ≡ false
+    → AllByRecursion (λ p. goes_by_sync p.configuration ≡ false) ps
 none_goes [] e = tt
 none_goes (p ∷ ps) e =
     let parts = neither (goes_by_sync p.configuration) (list_any (λ p. goes_by_sync p.configuration) ps) e in
     (parts.0, none_goes ps parts.1)
 
-pub awaits_none : (d : Device) → list_any (λ p. is_some p.kept) d.rpdos || list_any (λ p. goes_by_sync p.configuration) d.tpdos ≡ false → AwaitsNoSync d
+pub awaits_none : (d : Device) → list_any (λ p. is_some p.kept) d.rpdos
+    || list_any (λ p. goes_by_sync p.configuration) d.tpdos ≡ false → AwaitsNoSync d
 awaits_none d e =
-    let parts = neither (list_any (λ p. is_some p.kept) d.rpdos) (list_any (λ p. goes_by_sync p.configuration) d.tpdos) e in
+    let parts = neither (list_any (λ p. is_some p.kept) d.rpdos)
+    (list_any (λ p. goes_by_sync p.configuration) d.tpdos) e in
     record { nothing_kept = none_keeps d.rpdos parts.0; no_tpdo = none_goes d.tpdos parts.1 }
 
 -- ---- frames
 
 pub dark_deaf : (frame : BaseFrame) (d : Device) → d.has_power ≡ false → IsDeafTo frame d
-unfolding ignored
+unfolding is_ignored
 dark_deaf frame d e = inl (rw e refl)
 
 past : (b : Bool) (x y : Bool) → b ≡ false → y ≡ true → (if b then x else y) ≡ true
 past true x y e h = absurd cc
 past false x y e h = h
 
-last : (control on expected has : Bool) → (control ≡ true → expected ≡ false) → has ≡ false → (if control then not expected else not (on && has)) ≡ true
+last : (control on expected has : Bool) → (control ≡ true → expected ≡ false) → has ≡ false
+    → (if control then not expected else not (on && has)) ≡ true
 last true on expected has h e = rw (h refl) refl
 last false true expected has h e = rw e refl
 last false false expected has h e = refl
 
-module _ (frame : BaseFrame) (d : Device) (no_command : (frame.id == nmt_id) ≡ false) (no_request : (frame.id == sdo_request_id d.number) ≡ false) (awaits : (frame.id == sync_identifier d.learnt d.values) ≡ true → AwaitsNoSync d) (unheard : is_error_control frame ≡ true → any_expects (frame.id - error_control_id 0) d.consumers ≡ false) (unkept : any_has_identifier frame.id d.rpdos ≡ false) where
-  taken_by_none : d.has_power ≡ true → (frame.id == sync_identifier d.learnt d.values) ≡ false → ignored frame d ≡ true
-  unfolding ignored
+module _ (frame : BaseFrame) (d : Device) (no_command : (frame.id == nmt_id) ≡ false)
+    (no_request : (frame.id == sdo_request_id d.number) ≡ false)
+    (awaits : (frame.id == sync_identifier d.learnt d.values) ≡ true → AwaitsNoSync d)
+    (unheard : is_error_control frame ≡ true → any_expects (frame.id - error_control_id 0) d.consumers ≡ false)
+    (unkept : any_has_identifier frame.id d.rpdos ≡ false) where
+  taken_by_none : d.has_power ≡ true → (frame.id == sync_identifier d.learnt d.values) ≡ false
+      → is_ignored frame d ≡ true
+  unfolding is_ignored
   taken_by_none power other =
       past (not d.has_power) _ _ (ap not power)
       (past (frame.id == nmt_id) _ _ no_command
       (past (frame.id == sync_identifier d.learnt d.values) _ _ other
-      (past ((frame.id == sdo_request_id d.number) && (length frame.bytes == 8)) _ _ (ap (λ b. b && (length frame.bytes == 8)) no_request)
-      (last (is_error_control frame) (is_in Operational d) (any_expects (frame.id - error_control_id 0) d.consumers) (any_has_identifier frame.id d.rpdos) unheard unkept))))
+      (past ((frame.id == sdo_request_id d.number)
+      && (length frame.bytes == 8)) _ _ (ap (λ b. b && (length frame.bytes == 8)) no_request)
+      (last (is_error_control frame) (is_in Operational d) (any_expects (frame.id - error_control_id 0) d.consumers)
+      (any_has_identifier frame.id d.rpdos) unheard unkept))))
 
   pub deaf : IsDeafTo frame d
   deaf = by d.has_power (frame.id == sync_identifier d.learnt d.values) refl refl
     where
-      by : (power sync : Bool) → d.has_power ≡ power → (frame.id == sync_identifier d.learnt d.values) ≡ sync → IsDeafTo frame d
+      by : (power sync : Bool) → d.has_power ≡ power → (frame.id == sync_identifier d.learnt d.values) ≡ sync
+          → IsDeafTo frame d
       by false sync e k = dark_deaf frame d e
       by true true e k = inr (record { no_command = no_command; is_sync = k; awaits_none = awaits k })
       by true false e k = inl (taken_by_none e k)
@@ -98,23 +111,39 @@ first_of_both false b e = absurd cc
 bounds : (lo hi n : ℕ) → is_between lo hi n ≡ true → (lo ≤ n) × (n ≤ hi)
 bounds lo hi n e = grind (arith, nat_tests)
 
-control_id : (frame : BaseFrame) → is_error_control frame ≡ true → (frame.id - error_control_id 0 < 0x100) × (frame.id ≡ error_control_id (frame.id - error_control_id 0))
+control_id : (frame : BaseFrame) → is_error_control frame ≡ true → (frame.id - error_control_id 0 < 0x100)
+    × (frame.id ≡ error_control_id (frame.id - error_control_id 0))
 control_id frame e =
-    let within = bounds 0x701 0x77F frame.id (first_of_both (is_between 0x701 0x77F frame.id) (length frame.bytes == 1) e) in
+    let within = bounds 0x701 0x77F frame.id (first_of_both (is_between 0x701 0x77F frame.id)
+    (length frame.bytes == 1) e) in
     let low : 0x701 ≤ frame.id = within.0 in
     let high : frame.id ≤ 0x77F = within.1 in
     (omega arith, omega arith)
 
 -- the groups of the commands of the network management and of the requests to the node's server are in the set
-pub no_service : (none first groups : Groups) (nmt request number : ℕ) → nmt ≡ nmt_id → request ≡ sdo_request_id number → ((other : ℕ) → other < 0x800 → includes first other ≡ (group_of other == group_of nmt) || includes none other) → ((other : ℕ) → other < 0x800 → includes groups other ≡ (group_of other == group_of request) || includes first other) → (id : ℕ) → id < 0x800 → includes groups id ≡ false → ((id == nmt_id) ≡ false) × ((id == sdo_request_id number) ≡ false)
+pub no_service : (none first groups : Groups) (nmt request number : ℕ) → nmt ≡ nmt_id → request ≡ sdo_request_id number
+    → ((other : ℕ) → other < 0x800 → includes first other ≡ (group_of other == group_of nmt) || includes none other)
+    → ((other : ℕ) → other < 0x800 → includes groups other ≡ (group_of other == group_of request)
+    || includes first other) → (id : ℕ) → id < 0x800 → includes groups id ≡ false
+    → ((id == nmt_id) ≡ false) × ((id == sdo_request_id number) ≡ false)
 no_service none first groups nmt request number nmt_is request_is first_is groups_are id within out = (
-  ap (λ n. id == n) (sym nmt_is) ∙ left_out none first nmt first_is id within ((with_extends first groups request groups_are).kept id within out),
+  ap (λ n. id == n) (sym nmt_is)
+      ∙ left_out none first nmt first_is id within ((with_extends first groups request groups_are).kept id within out),
   ap (λ n. id == n) (sym request_is) ∙ left_out first groups request groups_are id within out,
 )
 
 -- a frame outside a set that grew by the groups of each service is nothing to the device
-module _ (d : Device) (groups first second last : Groups) (commands : (id : ℕ) → id < 0x800 → includes groups id ≡ false → ((id == nmt_id) ≡ false) × ((id == sdo_request_id d.number) ≡ false)) (first_more : Extends groups first) (syncs : includes first (sync_identifier d.learnt d.values) ≡ false → AwaitsNoSync d) (second_more : Extends first second) (producers : (producer : ℕ) → producer < 0x100 → includes second (error_control_id producer) ≡ false → list_any (λ c. expects producer c.entry) d.consumers ≡ false) (last_more : Extends second last) (rpdos : (id : ℕ) → id < 0x800 → includes last id ≡ false → list_any (λ p. has_identifier id p.configuration) d.rpdos ≡ false) where
-  unheard_of : (id producer : ℕ) → id ≡ error_control_id producer → producer < 0x100 → includes second id ≡ false → any_expects producer d.consumers ≡ false
+module _ (d : Device) (groups first second last : Groups)
+    (commands : (id : ℕ) → id < 0x800 → includes groups id ≡ false
+    → ((id == nmt_id) ≡ false) × ((id == sdo_request_id d.number) ≡ false)) (first_more : Extends groups first)
+    (syncs : includes first (sync_identifier d.learnt d.values) ≡ false → AwaitsNoSync d)
+    (second_more : Extends first second) (producers : (producer : ℕ) → producer < 0x100
+    → includes second (error_control_id producer) ≡ false
+    → list_any (λ c. expects producer c.entry) d.consumers ≡ false) (last_more : Extends second last)
+    (rpdos : (id : ℕ) → id < 0x800 → includes last id ≡ false
+    → list_any (λ p. has_identifier id p.configuration) d.rpdos ≡ false) where
+  unheard_of : (id producer : ℕ) → id ≡ error_control_id producer → producer < 0x100 → includes second id ≡ false
+      → any_expects producer d.consumers ≡ false
   unfolding any_expects
   unheard_of id producer is within out = producers producer within (ap (includes second) (sym is) ∙ out)
 
@@ -130,5 +159,6 @@ module _ (d : Device) (groups first second last : Groups) (commands : (id : ℕ)
       let none = commands frame.id within first_out in
       deaf frame d none.0 none.1
       (λ e. syncs (ap (includes first) (sym (eqb-true frame.id (sync_identifier d.learnt d.values) e)) ∙ second_out))
-      (λ e. let control = control_id frame e in unheard_of frame.id (frame.id - error_control_id 0) control.1 control.0 third_out)
+      (λ e. let control = control_id frame e
+      in unheard_of frame.id (frame.id - error_control_id 0) control.1 control.0 third_out)
       (unkept_of frame.id within out)

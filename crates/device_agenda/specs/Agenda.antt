@@ -1,10 +1,11 @@
 -- What a device does in an instant, and when it does nothing.
-use Rattle.std.specs.Prelude.{◌≡◌, ◌<◌, ℕ, ◌==◌, not, ◌&&◌, nat_le, Bool, false, List, [], flat_map, Option, Some, None, if◌then◌else◌}
+use Rattle.std.specs.Prelude.{◌≡◌, ◌<◌, ℕ, ◌==◌, not, ◌&&◌, nat_le, Bool, false, List, [], flat_map, Option, Some, None}
+use Rattle.std.specs.Prelude.{if◌then◌else◌}
 use Rattle.std.specs.List.{AllByRecursion}
 use Rattle.asking.specs.Asking.{Asking, Answer, bind}
 use Rattle.can_frame.specs.Frames.{BaseFrame}
-use Rattle.co_device.specs.Device.{Device, moments, ran}
-use Rattle.co_device.specs.Receiving.{received}
+use Rattle.co_device.specs.Device.{Device, moments, after_instant}
+use Rattle.co_device.specs.Receiving.{after_frame}
 use Rattle.co_parts.specs.Contents.{Content}
 use Rattle.co_parts.specs.Moments.{earliest}
 use Rattle.co_parts.specs.declared.part.Part.{Part}
@@ -17,12 +18,12 @@ use Rattle.device_agenda.specs.declared.groups.Groups.{Groups}
 
 -- each node but its sender hears what is delivered
 unfoldable pub hears : ℕ → Delivered → Device → Asking Part Content Device
-hears t delivered d = if d.number == delivered.sender then Answer d else received t delivered.frame d
+hears t delivered d = if d.number == delivered.sender then Answer d else after_frame t delivered.frame d
 
 -- WHAT A DEVICE DOES IN AN INSTANT: it hears what is delivered, if anything is, and then runs what is due
 unfoldable pub at_instant : ℕ → Option Delivered → Device → Asking Part Content Device
-at_instant t None d = Answer (ran t d)
-at_instant t (Some delivered) d = bind (hears t delivered d) (λ heard. Answer (ran t heard))
+at_instant t None d = Answer (after_instant t d)
+at_instant t (Some delivered) d = bind (hears t delivered d) (λ heard. Answer (after_instant t heard))
 
 -- a moment is there that has come at t
 abbrev pub has_come : ℕ → Option ℕ → Bool
@@ -37,7 +38,8 @@ pub record Sleeps (groups : Groups) (d : Device) : Type 0 where
   pub unspent : d.spent ≡ false
   pub deaf : (frame : BaseFrame) → frame.id < 0x800 → includes groups frame.id ≡ false → IsDeafTo frame d
 
--- an agenda of devices: where they aren't awake, they sleep until it is due or a frame of its groups comes; where none waits, no frame waits at them
+-- an agenda of devices: where they aren't awake, they sleep until it is due or a frame of its groups comes; where none
+-- waits, no frame waits at them
 pub record IsAgendaOf (a : Agenda) (ds : List Device) : Type 0 where
   pub due : a.awake ≡ false → a.due ≡ earliest (flat_map moments ds)
   pub asleep : a.awake ≡ false → AllByRecursion (Sleeps a.groups) ds

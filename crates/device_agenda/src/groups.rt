@@ -30,7 +30,8 @@ impl Groups {
     /// These groups and that of an identifier from 0 to 7FFh.
     pub(crate) fn with(self, id: u16) -> Groups
         requires { id < 0x800 }
-        ensures { (other : ℕ) → other < 0x800 → includes result other ≡ (group_of other == group_of id) || includes self other }
+        ensures { (other : ℕ) → other < 0x800 → includes result other ≡ (group_of other == group_of id)
+            || includes self other }
     {
         Groups {
             bits: self.bits | 1 << group_of(id),

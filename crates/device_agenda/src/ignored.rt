@@ -1,18 +1,18 @@
 //! Frames of which a device takes nothing.
 
 ghost use Rattle.std.specs.Prelude.{◌≡◌};
-ghost use Rattle.co_device.specs.Receiving.{ignored};
+ghost use Rattle.co_device.specs.Receiving.{is_ignored};
 
 use can_frame::{Frame, identifiers};
 use co_device::{DeviceState, NmtState};
-use co_profile::{any_expects, is_addressed, producer_of, sync_identifier};
+use device_objects::{any_expects, is_addressed, producer_of, sync_identifier};
 use device_pdos::any_has_identifier;
 
 /// Whether a device takes nothing of a frame: none of its services expects it in its NMT state. Takes time by
 /// its consumers or its RPDOs, and by the logarithm of the number of entries.
-#[tactic(auto, unfolding(co_device::specs::Receiving::ignored))]
+#[tactic(auto, unfolding(co_device::specs::Receiving::is_ignored))]
 pub(crate) fn ignores(device: &DeviceState, frame: &Frame) -> bool
-    ensures { result ≡ ignored frame.now device.now }
+    ensures { result ≡ is_ignored frame.now device.now }
 {
     if !device.has_power() {
         return true;

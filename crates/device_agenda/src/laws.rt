@@ -12,6 +12,8 @@ ghost use Rattle.device_agenda.specs.declared.agenda.Agenda.{Agenda as Plan};
 /// nothing is read.
 #[tactic(auto, using(crate::proofs::SleepLemmas::nothing_happens))]
 pub fn devices_that_sleep_do_nothing()
-    ensures { (a : Plan) (ds : List Device) (t : ℕ) (delivered : Option Delivered) → IfSome delivered (λ d. d.frame.id < 0x800)
-        → IsAgendaOf a ds → sleeps_through t delivered a ≡ true → AllByRecursion (λ d. at_instant t delivered d ≡ Answer d) ds }
+    ensures { (a : Plan) (ds : List Device) (t : ℕ) (delivered : Option Delivered)
+        → IfSome delivered (λ d. d.frame.id < 0x800)
+        → IsAgendaOf a ds → sleeps_through t delivered a ≡ true
+        → AllByRecursion (λ d. at_instant t delivered d ≡ Answer d) ds }
 {}

@@ -1,12 +1,13 @@
 //! A device that runs only when it has to.
 
-ghost use Rattle.std.specs.Prelude.{◌≡◌, ◌↔◌, ◌<◌, ◌≤◌, ◌+◌, ◌∷◌, [], Some, true, false, length, remove, slice_get, IfOk, IfSome, OnOk, OnErr, IsErr, IsTrue};
-ghost use Rattle.asking.specs.Asking.{Answer, followed, outcome, reads};
+ghost use Rattle.std.specs.Prelude.{◌≡◌, ◌↔◌, ◌<◌, ◌≤◌, ◌+◌, ◌∷◌, [], Some, true, false, length, remove, slice_get};
+ghost use Rattle.std.specs.Prelude.{IfOk, IfSome, OnOk, OnErr, IsErr, IsTrue};
+ghost use Rattle.asking.specs.Asking.{Answer, after_reads, outcome, reads};
 ghost use Rattle.can_frame.specs.Winner.{contenders_of, IsWinner};
 ghost use Rattle.co_base.specs.Ranges.{is_between};
 ghost use Rattle.co_values.specs.Values.{longest_value};
-ghost use Rattle.co_device.specs.Device.{next_due, powered, ran, was_set, without_power};
-ghost use Rattle.co_device.specs.Receiving.{ignored};
+ghost use Rattle.co_device.specs.Device.{next_due, after_power, after_instant, after_set, without_power};
+ghost use Rattle.co_device.specs.Receiving.{is_ignored};
 ghost use Rattle.device_agenda.specs.Agenda.{at_instant, hears, IsAgendaOf};
 ghost use Rattle.device_laws.specs.Rest.{Rests};
 
@@ -65,7 +66,7 @@ fn agenda_of(device: &DeviceState) -> Agenda
 
 /// Whether what is delivered is nothing that a device takes.
 fn takes_nothing(device: &DeviceState, delivery: &Option<Delivery>) -> bool
-    ensures { IsTrue result → IfSome delivery.now (λ d. ignored d.frame device.now ≡ true) }
+    ensures { IsTrue result → IfSome delivery.now (λ d. is_ignored d.frame device.now ≡ true) }
 {
     match delivery {
         None => true,
@@ -83,8 +84,10 @@ fn hear<P: Shapes>(
 ) -> Result<(), AllocError>
     requires { t < END }
     ensures state { OnOk result (device.new ≡ outcome (hears t delivery.now device.old) (P.seen shapes.old).image) }
-    ensures noted { OnOk result (P.seen shapes.new ≡ followed (hears t delivery.now device.old) (P.seen shapes.old)) }
-    ensures counted { OnOk result (P.asks shapes.new ≤ P.asks shapes.old + length (reads (hears t delivery.now device.old) (P.seen shapes.old).image)) }
+    ensures noted { OnOk result (P.seen shapes.new ≡ after_reads (hears t delivery.now device.old)
+        (P.seen shapes.old)) }
+    ensures counted { OnOk result (P.asks shapes.new
+        ≤ P.asks shapes.old + length (reads (hears t delivery.now device.old) (P.seen shapes.old).image)) }
     ensures kept { (P.seen shapes.new).image ≡ (P.seen shapes.old).image }
     ensures still { OnOk result (IsTrue device.old.spent → IsTrue device.new.spent) }
     ensures spent { OnErr result (IsTrue device.new.spent) }
@@ -98,7 +101,7 @@ fn hear<P: Shapes>(
 /// Runs what is due at the moment t.
 fn run_due(device: &mut DeviceState, t: u64) -> Result<(), AllocError>
     requires { t < END }
-    ensures state { OnOk result (device.new ≡ ran t device.old) }
+    ensures state { OnOk result (device.new ≡ after_instant t device.old) }
     ensures refused { IsTrue device.old.spent → IsErr result }
     ensures spent { OnErr result (IsTrue device.new.spent) }
     ensures rests { OnOk result (Rests device.new) }
@@ -120,9 +123,12 @@ fn run<P: Shapes>(
     shapes: &mut P,
 ) -> Result<(), AllocError>
     requires { t < END }
-    ensures state { OnOk result (device.new ≡ outcome (at_instant t delivery.now device.old) (P.seen shapes.old).image) }
-    ensures noted { OnOk result (P.seen shapes.new ≡ followed (at_instant t delivery.now device.old) (P.seen shapes.old)) }
-    ensures counted { OnOk result (P.asks shapes.new ≤ P.asks shapes.old + length (reads (at_instant t delivery.now device.old) (P.seen shapes.old).image)) }
+    ensures state { OnOk result (device.new ≡ outcome (at_instant t delivery.now device.old)
+        (P.seen shapes.old).image) }
+    ensures noted { OnOk result (P.seen shapes.new ≡ after_reads (at_instant t delivery.now device.old)
+        (P.seen shapes.old)) }
+    ensures counted { OnOk result (P.asks shapes.new
+        ≤ P.asks shapes.old + length (reads (at_instant t delivery.now device.old) (P.seen shapes.old).image)) }
     ensures kept { (P.seen shapes.new).image ≡ (P.seen shapes.old).image }
     ensures refused { IsTrue device.old.spent → IsErr result }
     ensures spent { OnErr result (IsTrue device.new.spent) }
@@ -232,9 +238,10 @@ impl ScheduledDevice {
     /// Switches the power of the device at the moment t. Where it is as it was, nothing changes.
     pub fn power<P: Shapes>(&mut self, on: bool, t: u64, shapes: &mut P) -> Result<(), AllocError>
         requires { t < END }
-        ensures state { OnOk result (self.new ≡ outcome (powered on t self.old) (P.seen shapes.old).image) }
-        ensures noted { OnOk result (P.seen shapes.new ≡ followed (powered on t self.old) (P.seen shapes.old)) }
-        ensures counted { OnOk result (P.asks shapes.new ≤ P.asks shapes.old + length (reads (powered on t self.old) (P.seen shapes.old).image)) }
+        ensures state { OnOk result (self.new ≡ outcome (after_power on t self.old) (P.seen shapes.old).image) }
+        ensures noted { OnOk result (P.seen shapes.new ≡ after_reads (after_power on t self.old) (P.seen shapes.old)) }
+        ensures counted { OnOk result (P.asks shapes.new ≤ P.asks shapes.old + length (reads (after_power on t self.old)
+            (P.seen shapes.old).image)) }
         ensures kept { (P.seen shapes.new).image ≡ (P.seen shapes.old).image }
         ensures refused { IsTrue self.old.spent → IsErr result }
         ensures spent { OnErr result (IsTrue self.new.spent) }
@@ -249,7 +256,7 @@ impl ScheduledDevice {
         requires soon { t < END }
         requires own { is_between 0x1400 0x1BFF index ≡ false }
         requires short { length bytes.now ≤ longest_value }
-        ensures state { OnOk result (self.new ≡ was_set t (index, sub) bytes.now self.old) }
+        ensures state { OnOk result (self.new ≡ after_set t (index, sub) bytes.now self.old) }
         ensures refused { IsTrue self.old.spent → IsErr result }
         ensures spent { OnErr result (IsTrue self.new.spent) }
     {
@@ -267,9 +274,12 @@ impl ScheduledDevice {
         shapes: &mut P,
     ) -> Result<(), AllocError>
         requires { t < END }
-        ensures state { OnOk result (self.new ≡ outcome (at_instant t delivery.now self.old) (P.seen shapes.old).image) }
-        ensures noted { OnOk result (P.seen shapes.new ≡ followed (at_instant t delivery.now self.old) (P.seen shapes.old)) }
-        ensures counted { OnOk result (P.asks shapes.new ≤ P.asks shapes.old + length (reads (at_instant t delivery.now self.old) (P.seen shapes.old).image)) }
+        ensures state { OnOk result (self.new ≡ outcome (at_instant t delivery.now self.old)
+            (P.seen shapes.old).image) }
+        ensures noted { OnOk result (P.seen shapes.new ≡ after_reads (at_instant t delivery.now self.old)
+            (P.seen shapes.old)) }
+        ensures counted { OnOk result (P.asks shapes.new
+            ≤ P.asks shapes.old + length (reads (at_instant t delivery.now self.old) (P.seen shapes.old).image)) }
         ensures kept { (P.seen shapes.new).image ≡ (P.seen shapes.old).image }
         ensures refused { IsTrue self.old.spent → IsErr result }
         ensures spent { OnErr result (IsTrue self.new.spent) }

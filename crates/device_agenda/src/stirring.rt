@@ -4,8 +4,8 @@ ghost use Rattle.std.specs.Prelude.{◌≡◌, ◌<◌, ℕ, false, is_some};
 ghost use Rattle.std.specs.List.{list_any};
 ghost use Rattle.can_frame.specs.Frames.{BaseFrame};
 ghost use Rattle.can_frame.specs.Identifiers.{error_control_id};
-ghost use Rattle.co_profile.specs.Consumers.{expects, producer_of};
-ghost use Rattle.co_profile.specs.Profile.{sync_identifier as identifier_of_sync};
+ghost use Rattle.device_objects.specs.Consumers.{expects, producer_of};
+ghost use Rattle.device_objects.specs.Profile.{sync_identifier as identifier_of_sync};
 ghost use Rattle.device_agenda.specs.Groups.{Extends, includes};
 ghost use Rattle.device_laws.specs.Deaf.{AwaitsNoSync, IsDeafTo};
 ghost use Rattle.device_pdos.specs.Rpdos.{has_identifier};
@@ -16,7 +16,7 @@ use crate::groups::Groups;
 use can_frame::identifiers;
 use co_device::DeviceState;
 use co_pdos::Configuration;
-use co_profile::{Consumer, sync_identifier};
+use device_objects::{Consumer, sync_identifier};
 use device_pdos::{RpdoState, TpdoState};
 
 /// Whether one of the RPDOs keeps a frame.
@@ -43,7 +43,8 @@ fn awaits_sync(device: &DeviceState) -> bool
 /// Adds the group of SYNC, where something of a device may wait for one.
 fn with_sync(groups: Groups, device: &DeviceState) -> Groups
     ensures kept { Extends groups result }
-    ensures sync { includes result (identifier_of_sync device.now.learnt device.now.values) ≡ false → AwaitsNoSync device.now }
+    ensures sync { includes result (identifier_of_sync device.now.learnt device.now.values) ≡ false
+        → AwaitsNoSync device.now }
 {
     if awaits_sync(device) {
         groups.with(sync_identifier(device.learnt(), device.values()))
@@ -62,7 +63,8 @@ fn expected(consumer: &Consumer) -> u8
 /// Adds the group of the heartbeats that a consumer may expect.
 fn with_producer(groups: Groups, consumer: &Consumer) -> Groups
     ensures kept { Extends groups result }
-    ensures producer { (producer : ℕ) → producer < 0x100 → includes result (error_control_id producer) ≡ false → expects producer consumer.now.entry ≡ false }
+    ensures producer { (producer : ℕ) → producer < 0x100 → includes result (error_control_id producer) ≡ false
+        → expects producer consumer.now.entry ≡ false }
 {
     if consumer.entry % 0x1_0000 > 0 {
         groups.with(identifiers::error_control(expected(consumer)))
@@ -74,7 +76,8 @@ fn with_producer(groups: Groups, consumer: &Consumer) -> Groups
 /// Adds the groups of the heartbeats that consumers may expect.
 fn with_producers(groups: Groups, consumers: &[Consumer]) -> Groups
     ensures kept { Extends groups result }
-    ensures producers { (producer : ℕ) → producer < 0x100 → includes result (error_control_id producer) ≡ false → list_any (λ c. expects producer c.entry) consumers.now ≡ false }
+    ensures producers { (producer : ℕ) → producer < 0x100 → includes result (error_control_id producer) ≡ false
+        → list_any (λ c. expects producer c.entry) consumers.now ≡ false }
 {
     let mut groups = groups;
     for consumer in consumers {
@@ -97,7 +100,8 @@ fn with_rpdo(groups: Groups, configuration: &Option<Configuration>) -> Groups
 /// Adds the groups of the frames of RPDOs that work.
 fn with_rpdos(groups: Groups, rpdos: &[RpdoState]) -> Groups
     ensures kept { Extends groups result }
-    ensures rpdos { (id : ℕ) → id < 0x800 → includes result id ≡ false → list_any (λ p. has_identifier id p.configuration) rpdos.now ≡ false }
+    ensures rpdos { (id : ℕ) → id < 0x800 → includes result id ≡ false
+        → list_any (λ p. has_identifier id p.configuration) rpdos.now ≡ false }
 {
     let mut groups = groups;
     for rpdo in rpdos {

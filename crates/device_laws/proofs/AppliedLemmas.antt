@@ -1,5 +1,6 @@
 -- The values that a frame leaves in a device: those that are unpacked of it, but for the error register.
-use Rattle.std.proofs.Common.{◌≡◌, ◌≢◌, ℕ, ◌+◌, ◌-◌, ◌==◌, Bool, true, false, not, ◌&&◌, List, [], ◌∷◌, Some, cond, refl, sym, ap, ◌∙◌, arith}
+use Rattle.std.proofs.Common.{◌≡◌, ◌≢◌, ℕ, ◌+◌, ◌-◌, ◌==◌, Bool, true, false, not, ◌&&◌, List, [], ◌∷◌, Some, cond}
+use Rattle.std.proofs.Common.{refl, sym, ap, ◌∙◌, arith}
 use Rattle.std.specs.Prelude.{if◌then◌else◌, map, nat_lt}
 use Rattle.std.specs.FinMap.{get, get-insert, insert}
 use Rattle.std.specs.List.{list_any, range_with_len}
@@ -25,12 +26,14 @@ use Rattle.co_mapping.specs.Packing.{after_entries, bits_for, frame_bits, takes,
 use Rattle.co_parts.specs.Contents.{Image, shape_of}
 use Rattle.co_parts.specs.declared.part.Part.TheVariants.{Shape}
 use Rattle.co_pdos.specs.declared.receipt.Receipt.TheVariants.{AtOnce}
-use Rattle.co_profile.specs.Profile.{error_cleared}
-use Rattle.co_profile.specs.declared.learnt.Learnt.{Learnt}
+use Rattle.device_objects.specs.Profile.{without_error_bits}
+use Rattle.device_objects.specs.declared.learnt.Learnt.{Learnt}
 use Rattle.device_pdos.specs.Objects.{is_of_rpdos, is_of_tpdos}
 use Rattle.device_pdos.specs.Rpdos.{mapping_of_rpdo, receipt_of, rpdo_at}
-use Rattle.co_device.specs.Device.{Device, after_own_write, after_write, consumer_written, is_producer_time, without_error}
-use Rattle.co_device.specs.Receiving.{applied, entry_taken, kept_applied, rpdo_received, rpdo_synced, taken_by}
+use Rattle.co_device.specs.Device.{Device, after_own_write, after_write, after_write_of_consumer, is_producer_time}
+use Rattle.co_device.specs.Device.{without_error_if}
+use Rattle.co_device.specs.Receiving.{after_mapping, after_entry, after_kept_frame, after_rpdo, after_sync_at}
+use Rattle.co_device.specs.Receiving.{after_receipt}
 use Rattle.device_laws.proofs.CaseLemmas.{one_of}
 
 abbrev register : ℕ × ℕ
@@ -59,13 +62,20 @@ module _ (shape : Shaped) (one other : Values) (agree : Agree one other) where
     cob_id_alike = rw (number_alike 4 place (not_the_register place.0 place.1 of_pdos)) refl
 
     mapping_alike : mapping_lines shape one place ≡ mapping_lines shape other place
-    mapping_alike = rw (number_alike 4 (place.0 - 0x200, 1) (no_sub_0 (place.0 - 0x200)), number_alike 1 (place.0, 0) (not_the_register place.0 0 of_pdos)) refl
+    mapping_alike = rw (
+      number_alike 4 (place.0 - 0x200, 1) (no_sub_0 (place.0 - 0x200)),
+      number_alike 1 (place.0, 0) (not_the_register place.0 0 of_pdos),
+    ) refl
 
     -- the lines of a count, by the numbers of the mapping's entries
     abbrev lines_by : ℕ → (ℕ → ℕ) → List (Bool × Abort)
     lines_by count entry =
         (nat_lt 64 count, pdo_length_exceeded)
-        ∷ (list_any (λ sub. not (has_type is_unsigned32 shape (place.0, sub) && can_be_mapped (direction_of place.0) shape (entry sub))) (range_with_len 1 count), cannot_be_mapped)
+        ∷ (
+          list_any (λ sub. not (has_type is_unsigned32 shape (place.0, sub)
+              && can_be_mapped (direction_of place.0) shape (entry sub))) (range_with_len 1 count),
+          cannot_be_mapped,
+        )
         ∷ (nat_lt 64 (mapping_bits (map entry (range_with_len 1 count))), pdo_length_exceeded)
         ∷ []
 
@@ -79,12 +89,20 @@ module _ (shape : Shaped) (one other : Values) (agree : Agree one other) where
     new_count_alike = rw (count_alike (little_number 1 bytes)) refl
 
     of_pdos_alike : write_check shape one place bytes ≡ write_check shape other place bytes
-    of_pdos_alike = rw (write_check_in_turn shape one place bytes, write_check_in_turn shape other place bytes, cob_id_alike, mapping_alike, new_count_alike) refl
+    of_pdos_alike = rw (
+      write_check_in_turn shape one place bytes,
+      write_check_in_turn shape other place bytes,
+      cob_id_alike,
+      mapping_alike,
+      new_count_alike,
+    ) refl
 
-  check_alike : (place : ℕ × ℕ) (bytes : List ℕ) → write_check shape one place bytes ≡ write_check shape other place bytes
+  check_alike : (place : ℕ × ℕ) (bytes : List ℕ)
+      → write_check shape one place bytes ≡ write_check shape other place bytes
   check_alike place bytes = by (is_of_pdos place.0) refl
     where
-      by : (of_pdos : Bool) → is_of_pdos place.0 ≡ of_pdos → write_check shape one place bytes ≡ write_check shape other place bytes
+      by : (of_pdos : Bool) → is_of_pdos place.0 ≡ of_pdos
+          → write_check shape one place bytes ≡ write_check shape other place bytes
       by true e = of_pdos_alike place bytes e
       by false e = checked_alike shape place bytes e one other
 
@@ -95,9 +113,11 @@ module _ (shape : Shaped) (entry : ℕ) (bits : List ℕ) where
   unfolding takes
   takes_alike one other agree = rw (check_alike shape one other agree (mapped_place entry) (value_of_bits bits)) refl
 
-  bits_agree : (one other : Values) → Agree one other → Agree (with_bits shape entry bits one) (with_bits shape entry bits other)
+  bits_agree : (one other : Values) → Agree one other
+      → Agree (with_bits shape entry bits one) (with_bits shape entry bits other)
   unfolding with_bits
-  bits_agree one other agree = by (takes shape entry bits one) (takes shape entry bits other) (takes_alike one other agree)
+  bits_agree one other agree = by (takes shape entry bits one) (takes shape entry bits other)
+      (takes_alike one other agree)
     where
       put : Values → Values
       put values = insert values (mapped_place entry) (value_of_bits bits)
@@ -112,23 +132,24 @@ module _ (shape : Shaped) (entry : ℕ) (bits : List ℕ) where
       by false true e q apart = absurd cc
 
 -- what a write brings about changes no value but the error register
-cleared_agree : (learnt : Learnt) (values : Values) → Agree (error_cleared learnt values) values
-unfolding error_cleared
+cleared_agree : (learnt : Learnt) (values : Values) → Agree (without_error_bits learnt values) values
+unfolding without_error_bits
 cleared_agree learnt values q apart = by learnt.has_error_register _
   where
     by : (has : Bool) (bytes : List ℕ) → get (if has then insert values register bytes else values) q ≡ get values q
     by true bytes = written_elsewhere values register q bytes apart
     by false bytes = refl
 
-without_agree : (is_over : Bool) (d : Device) → Agree (without_error is_over d).values d.values
+without_agree : (is_over : Bool) (d : Device) → Agree (without_error_if is_over d).values d.values
 without_agree true d q apart = cleared_agree d.learnt d.values q apart
 without_agree false d q apart = refl
 
-consumer_agree : (sub : ℕ) (d : Device) → Agree (consumer_written sub d).values d.values
-unfolding consumer_written
+consumer_agree : (sub : ℕ) (d : Device) → Agree (after_write_of_consumer sub d).values d.values
+unfolding after_write_of_consumer
 consumer_agree sub d = without_agree _ _
 
-write_agree : (t : ℕ) (shape : Shaped) (place : ℕ × ℕ) (d : Device) → Agree (after_write t shape place d).values d.values
+write_agree : (t : ℕ) (shape : Shaped) (place : ℕ × ℕ) (d : Device)
+    → Agree (after_write t shape place d).values d.values
 unfolding after_write after_own_write
 write_agree t shape place d =
     one_of (λ e. Agree e.values d.values) (is_of_rpdos place.0) _ _ (λ q apart. refl)
@@ -137,42 +158,55 @@ write_agree t shape place d =
     (one_of (λ e. Agree e.values d.values) (place.0 == 0x1016) _ _ (consumer_agree place.1 d) (λ q apart. refl))))
 
 module _ (t : ℕ) (shape : Shaped) where
-  entry_agree : (entry : ℕ) (bits : List ℕ) (d : Device) → Agree (entry_taken t shape entry bits d).values (with_bits shape entry bits d.values)
-  unfolding entry_taken with_bits
+  entry_agree : (entry : ℕ) (bits : List ℕ) (d : Device)
+      → Agree (after_entry t shape entry bits d).values (with_bits shape entry bits d.values)
+  unfolding after_entry with_bits
   entry_agree entry bits d = by (takes shape entry bits d.values) refl
     where
       by : (b : Bool) → takes shape entry bits d.values ≡ b
-          → Agree (if b then after_write t shape (mapped_place entry) (record d { values = with_bits shape entry bits d.values }) else d).values (with_bits shape entry bits d.values)
-      by true e q apart = write_agree t shape (mapped_place entry) (record d { values = with_bits shape entry bits d.values }) q apart
+          → Agree (if b then after_write t shape (mapped_place entry)
+          (record d { values = with_bits shape entry bits d.values })
+          else d).values (with_bits shape entry bits d.values)
+      by true e q apart = write_agree t shape (mapped_place entry)
+          (record d { values = with_bits shape entry bits d.values }) q apart
       by false e q apart = rw e refl
 
   entries_agree : (position : ℕ) (mapping bits : List ℕ) (d : Device) (values : Values) → Agree d.values values
-      → Agree (after_entries (entry_taken t shape) position mapping bits d).values (after_entries (with_bits shape) position mapping bits values)
+      → Agree (after_entries (after_entry t shape) position mapping bits d).values
+      (after_entries (with_bits shape) position mapping bits values)
   entries_agree position [] bits d values agree = agree
   entries_agree position (entry ∷ mapping) bits d values agree =
       let own : List ℕ = bits_for entry position bits in
-      entries_agree (position + mapped_length entry) mapping bits (entry_taken t shape entry own d) (with_bits shape entry own values)
+      entries_agree (position + mapped_length entry) mapping bits (after_entry t shape entry own d)
+      (with_bits shape entry own values)
       (λ q apart. entry_agree entry own d q apart ∙ bits_agree shape entry own d.values values agree q apart)
 
 -- ---- a frame that an RPDO applies
 
 module _ (image : Image) (t : ℕ) (frame : BaseFrame) where
-  applied_agree : (mapping : List ℕ) (d : Device) → Agree (outcome (applied t mapping frame d) image).values (unpacked (shape_of (image (Shape d.number))) mapping frame.bytes d.values)
-  unfolding applied
-  applied_agree mapping d = entries_agree t (shape_of (image (Shape d.number))) 0 mapping (frame_bits frame.bytes) d d.values (λ q apart. refl)
+  applied_agree : (mapping : List ℕ) (d : Device)
+      → Agree (outcome (after_mapping t mapping frame d) image).values
+      (unpacked (shape_of (image (Shape d.number))) mapping frame.bytes d.values)
+  unfolding after_mapping
+  applied_agree mapping d = entries_agree t (shape_of (image (Shape d.number))) 0 mapping (frame_bits frame.bytes) d
+      d.values (λ q apart. refl)
 
   module _ (i : ℕ) (d : Device) where
     abbrev Unpacked : Values
-    Unpacked = unpacked (shape_of (image (Shape d.number))) (mapping_of_rpdo (rpdo_at d.rpdos i).configuration) frame.bytes d.values
+    Unpacked = unpacked (shape_of (image (Shape d.number)))
+        (mapping_of_rpdo (rpdo_at d.rpdos i).configuration) frame.bytes d.values
 
-    pub received_is_unpacked : (place : ℕ × ℕ) → receipt_of frame (rpdo_at d.rpdos i).configuration ≡ AtOnce → place ≢ register
-        → get (outcome (rpdo_received t frame i d) image).values place ≡ get Unpacked place
-    unfolding rpdo_received taken_by
-    received_is_unpacked place at_once apart = rw at_once (applied_agree (mapping_of_rpdo (rpdo_at d.rpdos i).configuration) d place apart)
+    pub received_is_unpacked : (place : ℕ × ℕ) → receipt_of frame (rpdo_at d.rpdos i).configuration ≡ AtOnce
+        → place ≢ register
+        → get (outcome (after_rpdo t frame i d) image).values place ≡ get Unpacked place
+    unfolding after_rpdo after_receipt
+    received_is_unpacked place at_once apart =
+        rw at_once (applied_agree (mapping_of_rpdo (rpdo_at d.rpdos i).configuration) d place apart)
 
     pub kept_is_unpacked : (place : ℕ × ℕ) → (rpdo_at d.rpdos i).kept ≡ Some frame → place ≢ register
-        → get (outcome (rpdo_synced t i d) image).values place ≡ get Unpacked place
-    unfolding rpdo_synced kept_applied
-    kept_is_unpacked place kept apart = rw kept (applied_agree (mapping_of_rpdo (rpdo_at d.rpdos i).configuration) _ place apart)
+        → get (outcome (after_sync_at t i d) image).values place ≡ get Unpacked place
+    unfolding after_sync_at after_kept_frame
+    kept_is_unpacked place kept apart =
+        rw kept (applied_agree (mapping_of_rpdo (rpdo_at d.rpdos i).configuration) _ place apart)
 
 pub ruleset what_is_applied = (received_is_unpacked, kept_is_unpacked)

@@ -1,5 +1,6 @@
 -- A frame of which a device takes nothing changes nothing, and nothing is read for it.
-use Rattle.std.proofs.Common.{◌≡◌, ℕ, zero, suc, ◌-◌, ◌==◌, Bool, true, false, not, ◌&&◌, ◌||◌, List, [], ◌∷◌, Option, Some, None, refl, ap, ◌∙◌}
+use Rattle.std.proofs.Common.{◌≡◌, ℕ, zero, suc, ◌-◌, ◌==◌, Bool, true, false, not, ◌&&◌, ◌||◌, List, [], ◌∷◌, Option}
+use Rattle.std.proofs.Common.{Some, None, refl, ap, ◌∙◌}
 use Rattle.std.specs.Prelude.{if◌then◌else◌, length}
 use Rattle.std.specs.List.{list_any}
 use Rattle.asking.specs.Asking.{Asking, Answer, bind}
@@ -9,13 +10,16 @@ use Rattle.co_parts.specs.Contents.{Content}
 use Rattle.co_parts.specs.declared.part.Part.{Part}
 use Rattle.co_pdos.specs.declared.configuration.Configuration.{Configuration}
 use Rattle.co_pdos.specs.declared.receipt.Receipt.TheVariants.{Ignored}
-use Rattle.co_profile.specs.Consumers.{all_heard, any_expects, any_failed, expects, heard, is_over}
-use Rattle.co_profile.specs.Profile.{sync_identifier}
-use Rattle.co_profile.specs.declared.consumer.Consumer.{Consumer}
+use Rattle.device_objects.specs.Consumers.{consumers_after_heartbeat, any_expects, any_failed, expects}
+use Rattle.device_objects.specs.Consumers.{consumer_after_heartbeat, is_last_failure_over}
+use Rattle.device_objects.specs.Profile.{sync_identifier}
+use Rattle.device_objects.specs.declared.consumer.Consumer.{Consumer}
 use Rattle.device_pdos.specs.Rpdos.{any_has_identifier, has_identifier, receipt_of, rpdo_at}
 use Rattle.device_pdos.specs.declared.rpdo_state.RpdoState.{RpdoState}
-use Rattle.co_device.specs.Device.{Device, error_control, is_addressed, is_error_control, is_in, sdo_request}
-use Rattle.co_device.specs.Receiving.{ignored, nmt_received, pdo_received, places, received, rpdo_received, sync_received, taken_by, walk}
+use Rattle.co_device.specs.Device.{Device, after_error_control, is_addressed, is_error_control, is_in}
+use Rattle.co_device.specs.Device.{after_sdo_request}
+use Rattle.co_device.specs.Receiving.{is_ignored, after_nmt_frame, after_pdo, rpdo_places, after_frame, after_rpdo}
+use Rattle.co_device.specs.Receiving.{after_sync, after_receipt, walk}
 use Rattle.co_device.specs.declared.nmt_state.NmtState.TheVariants.{Operational, Stopped}
 
 neither : (a b : Bool) → a || b ≡ false → (a ≡ false) × (b ≡ false)
@@ -28,83 +32,100 @@ unturned false h = refl
 
 -- ---- the consumers
 
-one_unheard : (t producer : ℕ) (c : Consumer) → expects producer c.entry ≡ false → heard t producer c ≡ c
+one_unheard : (t producer : ℕ) (c : Consumer) → expects producer c.entry ≡ false
+    → consumer_after_heartbeat t producer c ≡ c
 one_unheard t producer c e = rw e refl
 
-unheard : (t producer : ℕ) (cs : List Consumer) → any_expects producer cs ≡ false → all_heard t producer cs ≡ cs
-unfolding any_expects all_heard
+unheard : (t producer : ℕ) (cs : List Consumer) → any_expects producer cs ≡ false
+    → consumers_after_heartbeat t producer cs ≡ cs
+unfolding any_expects consumers_after_heartbeat
 unheard t producer [] h = refl
 unheard t producer (c ∷ cs) h =
     let parts = neither (expects producer c.entry) (list_any (λ c. expects producer c.entry) cs) h in
-    ap (λ (x : Consumer). x ∷ all_heard t producer cs) (one_unheard t producer c parts.0) ∙ ap (λ xs. c ∷ xs) (unheard t producer cs parts.1)
+    ap (λ (x : Consumer). x ∷ consumers_after_heartbeat t producer cs) (one_unheard t producer c parts.0)
+    ∙ ap (λ xs. c ∷ xs) (unheard t producer cs parts.1)
 
-not_over : (cs : List Consumer) → is_over cs cs ≡ false
-unfolding is_over
+not_over : (cs : List Consumer) → is_last_failure_over cs cs ≡ false
+unfolding is_last_failure_over
 not_over cs = by (any_failed cs)
   where
     by : (b : Bool) → b && not b ≡ false
     by true = refl
     by false = refl
 
-control_ignored : (t producer : ℕ) (d : Device) → any_expects producer d.consumers ≡ false → error_control t producer d ≡ d
-unfolding error_control
+control_ignored : (t producer : ℕ) (d : Device) → any_expects producer d.consumers ≡ false
+    → after_error_control t producer d ≡ d
+unfolding after_error_control
 control_ignored t producer d h = rw (unheard t producer d.consumers h, not_over d.consumers) refl
 
 -- ---- the RPDOs
 
-another : (frame : BaseFrame) (configuration : Option Configuration) → has_identifier frame.id configuration ≡ false → receipt_of frame configuration ≡ Ignored
+another : (frame : BaseFrame) (configuration : Option Configuration) → has_identifier frame.id configuration ≡ false
+    → receipt_of frame configuration ≡ Ignored
 unfolding receipt_of
 another frame None e = refl
 another frame (Some c) e = rw e refl
 
 module _ (frame : BaseFrame) where
-  none_takes : (rpdos : List RpdoState) → any_has_identifier frame.id rpdos ≡ false → (i : ℕ) → receipt_of frame (rpdo_at rpdos i).configuration ≡ Ignored
+  none_takes : (rpdos : List RpdoState) → any_has_identifier frame.id rpdos ≡ false → (i : ℕ)
+      → receipt_of frame (rpdo_at rpdos i).configuration ≡ Ignored
   unfolding any_has_identifier
   none_takes [] h i = another frame None refl
-  none_takes (p ∷ rpdos) h zero = another frame p.configuration (neither (has_identifier frame.id p.configuration) (list_any (λ p. has_identifier frame.id p.configuration) rpdos) h).0
-  none_takes (p ∷ rpdos) h (suc i) = none_takes rpdos (neither (has_identifier frame.id p.configuration) (list_any (λ p. has_identifier frame.id p.configuration) rpdos) h).1 i
+  none_takes (p ∷ rpdos) h zero = another frame p.configuration (neither (has_identifier frame.id p.configuration)
+      (list_any (λ p. has_identifier frame.id p.configuration) rpdos) h).0
+  none_takes (p ∷ rpdos) h (suc i) = none_takes rpdos (neither (has_identifier frame.id p.configuration)
+      (list_any (λ p. has_identifier frame.id p.configuration) rpdos) h).1 i
 
-  one_untaken : (t : ℕ) (d : Device) → any_has_identifier frame.id d.rpdos ≡ false → (i : ℕ) → rpdo_received t frame i d ≡ Answer d
-  unfolding rpdo_received taken_by
+  one_untaken : (t : ℕ) (d : Device) → any_has_identifier frame.id d.rpdos ≡ false → (i : ℕ)
+      → after_rpdo t frame i d ≡ Answer d
+  unfolding after_rpdo after_receipt
   one_untaken t d h i = rw (none_takes d.rpdos h i) refl
 
-  walk_untaken : (t : ℕ) (d : Device) → any_has_identifier frame.id d.rpdos ≡ false → (numbers : List ℕ) → walk (rpdo_received t frame) numbers d ≡ Answer d
+  walk_untaken : (t : ℕ) (d : Device) → any_has_identifier frame.id d.rpdos ≡ false → (numbers : List ℕ)
+      → walk (after_rpdo t frame) numbers d ≡ Answer d
   walk_untaken t d h [] = refl
-  walk_untaken t d h (i ∷ numbers) = ap (λ (m : Asking Part Content Device). bind m (walk (rpdo_received t frame) numbers)) (one_untaken t d h i) ∙ walk_untaken t d h numbers
+  walk_untaken t d h (i ∷ numbers) = ap (λ (m : Asking Part Content Device). bind m (walk (after_rpdo t frame) numbers))
+      (one_untaken t d h i) ∙ walk_untaken t d h numbers
 
-  pdo_untaken : (t : ℕ) (d : Device) → not (is_in Operational d && any_has_identifier frame.id d.rpdos) ≡ true → pdo_received t frame d ≡ Answer d
-  unfolding pdo_received
+  pdo_untaken : (t : ℕ) (d : Device) → not (is_in Operational d && any_has_identifier frame.id d.rpdos) ≡ true
+      → after_pdo t frame d ≡ Answer d
+  unfolding after_pdo
   pdo_untaken t d h = by (is_in Operational d) (any_has_identifier frame.id d.rpdos) refl h
     where
-      by : (on has : Bool) → any_has_identifier frame.id d.rpdos ≡ has → not (on && has) ≡ true → (if on then walk (rpdo_received t frame) (places d) d else Answer d) ≡ Answer d
+      by : (on has : Bool) → any_has_identifier frame.id d.rpdos ≡ has → not (on && has) ≡ true
+          → (if on then walk (after_rpdo t frame) (rpdo_places d) d else Answer d) ≡ Answer d
       by true true e k = absurd cc
-      by true false e k = walk_untaken t d e (places d)
+      by true false e k = walk_untaken t d e (rpdo_places d)
       by false has e k = refl
 
 -- ---- any frame
 
-chosen : (b : Bool) (x y : Bool) (m n k : Asking Part Content Device) → (if b then x else y) ≡ true → (x ≡ true → m ≡ k) → (y ≡ true → n ≡ k) → (if b then m else n) ≡ k
+chosen : (b : Bool) (x y : Bool) (m n k : Asking Part Content Device) → (if b then x else y) ≡ true → (x ≡ true → m ≡ k)
+    → (y ≡ true → n ≡ k) → (if b then m else n) ≡ k
 chosen true x y m n k h p q = p h
 chosen false x y m n k h p q = q h
 
-unaddressed : (t : ℕ) (frame : BaseFrame) (d : Device) → not (is_addressed d.number frame.bytes) ≡ true → nmt_received t frame.bytes d ≡ Answer d
+unaddressed : (t : ℕ) (frame : BaseFrame) (d : Device) → not (is_addressed d.number frame.bytes) ≡ true
+    → after_nmt_frame t frame.bytes d ≡ Answer d
 unaddressed t frame d h = rw (unturned (is_addressed d.number frame.bytes) h) refl
 
-unsynced : (t : ℕ) (d : Device) → not (is_in Operational d) ≡ true → sync_received t d ≡ Answer d
-unfolding sync_received
+unsynced : (t : ℕ) (d : Device) → not (is_in Operational d) ≡ true → after_sync t d ≡ Answer d
+unfolding after_sync
 unsynced t d h = rw (unturned (is_in Operational d) h) refl
 
-unasked : (t : ℕ) (request : List ℕ) (d : Device) → is_in Stopped d ≡ true → sdo_request t request d ≡ Answer d
-unfolding sdo_request
+unasked : (t : ℕ) (request : List ℕ) (d : Device) → is_in Stopped d ≡ true → after_sdo_request t request d ≡ Answer d
+unfolding after_sdo_request
 unasked t request d h = rw h refl
 
-pub ignored_changes_nothing : (t : ℕ) (frame : BaseFrame) (d : Device) → ignored frame d ≡ true → received t frame d ≡ Answer d
-unfolding ignored received
+pub ignored_changes_nothing : (t : ℕ) (frame : BaseFrame) (d : Device) → is_ignored frame d ≡ true
+    → after_frame t frame d ≡ Answer d
+unfolding is_ignored after_frame
 ignored_changes_nothing t frame d h =
     chosen (not d.has_power) _ _ _ _ (Answer d) h (λ e. refl)
     (λ h. chosen (frame.id == nmt_id) _ _ _ _ (Answer d) h (unaddressed t frame d)
     (λ h. chosen (frame.id == sync_identifier d.learnt d.values) _ _ _ _ (Answer d) h (unsynced t d)
-    (λ h. chosen ((frame.id == sdo_request_id d.number) && (length frame.bytes == 8)) _ _ _ _ (Answer d) h (unasked t frame.bytes d)
+    (λ h. chosen ((frame.id == sdo_request_id d.number)
+    && (length frame.bytes == 8)) _ _ _ _ (Answer d) h (unasked t frame.bytes d)
     (λ h. chosen (is_error_control frame) _ _ _ _ (Answer d) h
     (λ e. ap (λ (x : Device). Answer x) (control_ignored t (frame.id - error_control_id 0) d (unturned _ e)))
     (pdo_untaken frame t d)))))

@@ -1,5 +1,6 @@
 -- What frames and writes keep, but for the NMT services.
-use Rattle.std.proofs.Common.{◌≡◌, ℕ, ◌+◌, ◌-◌, ◌==◌, Bool, true, false, not, ◌&&◌, List, [], ◌∷◌, ◌++◌, Option, Some, None}
+use Rattle.std.proofs.Common.{◌≡◌, ℕ, ◌+◌, ◌-◌, ◌==◌, Bool, true, false, not, ◌&&◌, List, [], ◌∷◌, ◌++◌, Option, Some}
+use Rattle.std.proofs.Common.{None}
 use Rattle.std.specs.Prelude.{length, slice_index_or}
 use Rattle.asking.specs.Asking.{outcome}
 use Rattle.can_frame.specs.Frames.{BaseFrame}
@@ -13,28 +14,43 @@ use Rattle.co_parts.specs.Contents.{Image, shape_of}
 use Rattle.co_parts.specs.declared.part.Part.TheVariants.{Shape}
 use Rattle.co_pdos.specs.declared.receipt.Receipt.{Receipt}
 use Rattle.co_pdos.specs.declared.receipt.Receipt.TheVariants.{Short, Kept, AtOnce, Ignored}
-use Rattle.co_profile.specs.Consumers.{all_heard, consumers_written, is_over}
-use Rattle.co_profile.specs.Profile.{sync_identifier}
+use Rattle.device_objects.specs.Consumers.{consumers_after_heartbeat, consumers_after_write, is_last_failure_over}
+use Rattle.device_objects.specs.Profile.{sync_identifier}
 use Rattle.co_scenario.specs.Commands.{command_of}
 use Rattle.co_scenario.specs.declared.nmt_command.NmtCommand.{NmtCommand}
-use Rattle.co_sdo.specs.Server.{Answered, answered}
+use Rattle.co_sdo.specs.Server.{AfterRequest, server_answer}
 use Rattle.co_sdo.specs.declared.transfer.Transfer.{Transfer}
 use Rattle.device_pdos.specs.Objects.{is_of_rpdos, is_of_tpdos}
 use Rattle.device_pdos.specs.Rpdos.{mapping_of_rpdo, receipt_of, rpdo_at, with_kept}
 use Rattle.device_pdos.specs.declared.rpdo_state.RpdoState.{RpdoState}
 use Rattle.device_pdos.specs.declared.tpdo_state.TpdoState.{TpdoState}
-use Rattle.co_device.specs.Device.{Device, after_own_write, after_write, after_wrote, answer_frames, consumer_written, error_control, heartbeat_started, is_addressed, is_error_control, is_in, is_producer_time, nmt_service, sdo_request, was_set, with_emergency, without_error}
-use Rattle.co_device.specs.Receiving.{applied, entry_taken, kept_applied, pdo_received, places, received, rpdo_received, rpdo_synced, sync_received, taken_by}
+use Rattle.co_device.specs.Device.{Device, after_own_write, after_write, after_server_write, answer_frames}
+use Rattle.co_device.specs.Device.{after_write_of_consumer, after_error_control, with_heartbeat_start, is_addressed}
+use Rattle.co_device.specs.Device.{is_error_control, is_in, is_producer_time, nmt_service, after_sdo_request, after_set}
+use Rattle.co_device.specs.Device.{with_emergency, without_error_if}
+use Rattle.co_device.specs.Receiving.{after_mapping, after_entry, after_kept_frame, after_pdo, rpdo_places, after_frame}
+use Rattle.co_device.specs.Receiving.{after_rpdo, after_sync_at, after_sync, after_receipt}
 use Rattle.co_device.specs.declared.nmt_state.NmtState.TheVariants.{Operational, Stopped}
 use Rattle.device_laws.proofs.CaseLemmas.{one_of, picked, turned, walk_keeps}
 
--- it holds whatever the values, the PDOs, the frames that wait and the transfer are, and is kept where the heartbeat starts at t, a consumer is forgotten, and consumers hear a node at t
+-- it holds whatever the values, the PDOs, the frames that wait and the transfer are, and is kept where the heartbeat
+-- starts at t, a consumer is forgotten, and consumers hear a node at t
 pub record IsKept (t : ℕ) (P : Device → Type 0) : Type 0 where
-  pub others : (d : Device) (values : Values) (rpdos : List RpdoState) (tpdos : List TpdoState) (synced : Bool) (frames : List Waiting) (transfer : Transfer)
-      → P d → P (record d { values = values; rpdos = rpdos; tpdos = tpdos; synced = synced; waiting = frames; transfer = transfer })
-  pub started : (d : Device) → P d → P (heartbeat_started t d)
-  pub forgotten : (d : Device) (sub : ℕ) → P d → P (record d { consumers = consumers_written sub d.values d.consumers })
-  pub heard : (d : Device) (producer : ℕ) → P d → P (record d { consumers = all_heard t producer d.consumers })
+  pub others : (d : Device) (values : Values) (rpdos : List RpdoState) (tpdos : List TpdoState) (synced : Bool)
+      (frames : List Waiting) (transfer : Transfer)
+      → P d → P (record d {
+        values = values;
+        rpdos = rpdos;
+        tpdos = tpdos;
+        synced = synced;
+        waiting = frames;
+        transfer = transfer;
+      })
+  pub started : (d : Device) → P d → P (with_heartbeat_start t d)
+  pub forgotten : (d : Device) (sub : ℕ) → P d
+      → P (record d { consumers = consumers_after_write sub d.values d.consumers })
+  pub heard : (d : Device) (producer : ℕ) → P d
+      → P (record d { consumers = consumers_after_heartbeat t producer d.consumers })
 
 module _ (t : ℕ) (P : Device → Type 0) (k : IsKept t P) where
   with_values : (d : Device) (values : Values) → P d → P (record d { values = values })
@@ -54,20 +70,22 @@ module _ (t : ℕ) (P : Device → Type 0) (k : IsKept t P) where
 
   -- ---- writes
 
-  cleared : (b : Bool) (d : Device) → P d → P (without_error b d)
+  cleared : (b : Bool) (d : Device) → P d → P (without_error_if b d)
   cleared true d h = with_values d _ h
   cleared false d h = h
 
-  consumer_kept : (sub : ℕ) (d : Device) → P d → P (consumer_written sub d)
-  unfolding consumer_written
-  consumer_kept sub d h = cleared (is_over d.consumers (consumers_written sub d.values d.consumers)) _ (k.forgotten d sub h)
+  consumer_kept : (sub : ℕ) (d : Device) → P d → P (after_write_of_consumer sub d)
+  unfolding after_write_of_consumer
+  consumer_kept sub d h = cleared (is_last_failure_over d.consumers (consumers_after_write sub d.values d.consumers)) _
+      (k.forgotten d sub h)
 
   own_kept : (place : ℕ × ℕ) (d : Device) → P d → P (after_own_write t place d)
   unfolding after_own_write
-  own_kept place d h = one_of P (is_producer_time place) _ _ (k.started d h) (one_of P (place.0 == 0x1016) _ _ (consumer_kept place.1 d h) h)
+  own_kept place d h = one_of P (is_producer_time place) _ _ (k.started d h)
+      (one_of P (place.0 == 0x1016) _ _ (consumer_kept place.1 d h) h)
 
-  pub set_kept : (place : ℕ × ℕ) (bytes : List ℕ) (d : Device) → P d → P (was_set t place bytes d)
-  unfolding was_set
+  pub set_kept : (place : ℕ × ℕ) (bytes : List ℕ) (d : Device) → P d → P (after_set t place bytes d)
+  unfolding after_set
   set_kept place bytes d h = one_of P d.has_power _ _ (own_kept place _ (with_values d _ h)) h
 
   write_kept : (shape : Shaped) (place : ℕ × ℕ) (d : Device) → P d → P (after_write t shape place d)
@@ -76,7 +94,7 @@ module _ (t : ℕ) (P : Device → Type 0) (k : IsKept t P) where
       one_of P (is_of_rpdos place.0) _ _ (with_rpdos d _ h)
       (one_of P (is_of_tpdos place.0) _ _ (with_tpdos d _ h) (own_kept place d h))
 
-  pub wrote_kept : (shape : Shaped) (wrote : Option (ℕ × ℕ)) (d : Device) → P d → P (after_wrote t shape wrote d)
+  pub wrote_kept : (shape : Shaped) (wrote : Option (ℕ × ℕ)) (d : Device) → P d → P (after_server_write t shape wrote d)
   wrote_kept shape None d h = h
   wrote_kept shape (Some place) d h = write_kept shape place d h
 
@@ -86,70 +104,88 @@ module _ (t : ℕ) (P : Device → Type 0) (k : IsKept t P) where
   unfolding with_emergency
   emergency_kept code d h = one_of P (is_in Stopped d) _ _ h (with_frames d _ h)
 
-  pub control_kept : (producer : ℕ) (d : Device) → P d → P (error_control t producer d)
-  unfolding error_control
+  pub control_kept : (producer : ℕ) (d : Device) → P d → P (after_error_control t producer d)
+  unfolding after_error_control
   control_kept producer d h =
-      let after : Device = record d { consumers = all_heard t producer d.consumers } in
-      one_of P (is_over d.consumers after.consumers) _ after (emergency_kept 0x0000 _ (cleared true after (k.heard d producer h))) (k.heard d producer h)
+      let after : Device = record d { consumers = consumers_after_heartbeat t producer d.consumers } in
+      one_of P (is_last_failure_over d.consumers after.consumers) _ after
+      (emergency_kept 0x0000 _ (cleared true after (k.heard d producer h))) (k.heard d producer h)
 
-  entry_kept : (shape : Shaped) (entry : ℕ) (bits : List ℕ) (d : Device) → P d → P (entry_taken t shape entry bits d)
-  unfolding entry_taken
+  entry_kept : (shape : Shaped) (entry : ℕ) (bits : List ℕ) (d : Device) → P d → P (after_entry t shape entry bits d)
+  unfolding after_entry
   entry_kept shape entry bits d h =
-      one_of P (takes shape entry bits d.values) _ d (write_kept shape (mapped_place entry) _ (with_values d (with_bits shape entry bits d.values) h)) h
+      one_of P (takes shape entry bits d.values) _ d
+      (write_kept shape (mapped_place entry) _ (with_values d (with_bits shape entry bits d.values) h)) h
 
   entries_kept : (shape : Shaped) (position : ℕ) (mapping bits : List ℕ) (d : Device) → P d
-      → P (after_entries (entry_taken t shape) position mapping bits d)
+      → P (after_entries (after_entry t shape) position mapping bits d)
   entries_kept shape position [] bits d h = h
   entries_kept shape position (entry ∷ mapping) bits d h =
-      entries_kept shape (position + mapped_length entry) mapping bits _ (entry_kept shape entry (bits_for entry position bits) d h)
+      entries_kept shape (position + mapped_length entry) mapping bits _
+      (entry_kept shape entry (bits_for entry position bits) d h)
 
   module _ (image : Image) where
-    pub request_kept : (request : List ℕ) (d : Device) → P d → P (outcome (sdo_request t request d) image)
-    unfolding sdo_request
+    pub request_kept : (request : List ℕ) (d : Device) → P d → P (outcome (after_sdo_request t request d) image)
+    unfolding after_sdo_request
     request_kept request d h =
-        let s : Answered = answered (shape_of (image (Shape d.number))) d.values d.transfer request in
+        let s : AfterRequest = server_answer (shape_of (image (Shape d.number))) d.values d.transfer request in
         picked image P (is_in Stopped d) _ _ (λ e. h)
-        (λ e. wrote_kept (shape_of (image (Shape d.number))) s.wrote _ (k.others d s.values d.rpdos d.tpdos d.synced (d.waiting ++ answer_frames d.number s.answer) s.transfer h))
+        (λ e. wrote_kept (shape_of (image (Shape d.number))) s.wrote _
+        (k.others d s.values d.rpdos d.tpdos d.synced (d.waiting ++ answer_frames d.number s.answer) s.transfer h))
 
-    applied_kept : (mapping : List ℕ) (frame : BaseFrame) (d : Device) → P d → P (outcome (applied t mapping frame d) image)
-    unfolding applied
-    applied_kept mapping frame d h = entries_kept (shape_of (image (Shape d.number))) 0 mapping (frame_bits frame.bytes) d h
+    applied_kept : (mapping : List ℕ) (frame : BaseFrame) (d : Device) → P d
+        → P (outcome (after_mapping t mapping frame d) image)
+    unfolding after_mapping
+    applied_kept mapping frame d h = entries_kept (shape_of (image (Shape d.number))) 0 mapping (frame_bits frame.bytes)
+        d h
 
-    taken_kept : (receipt : Receipt) (frame : BaseFrame) (i : ℕ) (d : Device) → P d → P (outcome (taken_by receipt t frame i d) image)
-    unfolding taken_by
+    taken_kept : (receipt : Receipt) (frame : BaseFrame) (i : ℕ) (d : Device) → P d
+        → P (outcome (after_receipt receipt t frame i d) image)
+    unfolding after_receipt
     taken_kept Short frame i d h = emergency_kept 0x8210 d h
     taken_kept Kept frame i d h = with_rpdos d _ h
     taken_kept AtOnce frame i d h = applied_kept (mapping_of_rpdo (rpdo_at d.rpdos i).configuration) frame d h
     taken_kept Ignored frame i d h = h
 
-    pub rpdo_kept : (frame : BaseFrame) (i : ℕ) (d : Device) → P d → P (outcome (rpdo_received t frame i d) image)
-    unfolding rpdo_received
+    pub rpdo_kept : (frame : BaseFrame) (i : ℕ) (d : Device) → P d → P (outcome (after_rpdo t frame i d) image)
+    unfolding after_rpdo
     rpdo_kept frame i d h = taken_kept (receipt_of frame (rpdo_at d.rpdos i).configuration) frame i d h
 
-    pub pdo_kept : (frame : BaseFrame) (d : Device) → P d → P (outcome (pdo_received t frame d) image)
-    unfolding pdo_received
-    pdo_kept frame d h = picked image P (is_in Operational d) _ _ (λ e. walk_keeps image P (rpdo_received t frame) (rpdo_kept frame) (places d) d h) (λ e. h)
+    pub pdo_kept : (frame : BaseFrame) (d : Device) → P d → P (outcome (after_pdo t frame d) image)
+    unfolding after_pdo
+    pdo_kept frame d h = picked image P (is_in Operational d) _ _ (λ e. walk_keeps image P (after_rpdo t frame)
+        (rpdo_kept frame) (rpdo_places d) d h) (λ e. h)
 
-    stored_kept : (frame : Option BaseFrame) (i : ℕ) (d : Device) → P d → P (outcome (kept_applied t frame i d) image)
-    unfolding kept_applied
+    stored_kept : (frame : Option BaseFrame) (i : ℕ) (d : Device) → P d
+        → P (outcome (after_kept_frame t frame i d) image)
+    unfolding after_kept_frame
     stored_kept None i d h = h
-    stored_kept (Some frame) i d h = applied_kept (mapping_of_rpdo (rpdo_at d.rpdos i).configuration) frame _ (with_rpdos d (with_kept d.rpdos i None) h)
+    stored_kept (Some frame) i d h =
+        applied_kept (mapping_of_rpdo (rpdo_at d.rpdos i).configuration) frame _
+        (with_rpdos d (with_kept d.rpdos i None) h)
 
-    pub synced_kept : (i : ℕ) (d : Device) → P d → P (outcome (rpdo_synced t i d) image)
-    unfolding rpdo_synced
+    pub synced_kept : (i : ℕ) (d : Device) → P d → P (outcome (after_sync_at t i d) image)
+    unfolding after_sync_at
     synced_kept i d h = stored_kept (rpdo_at d.rpdos i).kept i d h
 
-    pub sync_kept : (d : Device) → P d → P (outcome (sync_received t d) image)
-    unfolding sync_received
-    sync_kept d h = picked image P (is_in Operational d) _ _ (λ e. walk_keeps image P (rpdo_synced t) synced_kept (places d) _ (with_sync d true h)) (λ e. h)
+    pub sync_kept : (d : Device) → P d → P (outcome (after_sync t d) image)
+    unfolding after_sync
+    sync_kept d h =
+        picked image P (is_in Operational d) _ _
+        (λ e. walk_keeps image P (after_sync_at t) synced_kept (rpdo_places d) _ (with_sync d true h)) (λ e. h)
 
     -- what the NMT services keep of a device with power, each frame does
-    pub frame_kept : (frame : BaseFrame) (d : Device) → ((command : Option NmtCommand) → d.has_power ≡ true → P (outcome (nmt_service command t d) image)) → P d → P (outcome (received t frame d) image)
-    unfolding received
+    pub frame_kept : (frame : BaseFrame) (d : Device)
+        → ((command : Option NmtCommand) → d.has_power ≡ true → P (outcome (nmt_service command t d) image)) → P d
+        → P (outcome (after_frame t frame d) image)
+    unfolding after_frame
     frame_kept frame d service h =
         picked image P (not d.has_power) _ _ (λ e. h)
         (λ on. picked image P (frame.id == nmt_id) _ _
-        (λ e. picked image P (is_addressed d.number frame.bytes) _ _ (λ e. service (command_of (slice_index_or frame.bytes 0 0)) (turned d.has_power on)) (λ e. h))
+        (λ e. picked image P (is_addressed d.number frame.bytes) _ _
+        (λ e. service (command_of (slice_index_or frame.bytes 0 0)) (turned d.has_power on)) (λ e. h))
         (λ e. picked image P (frame.id == sync_identifier d.learnt d.values) _ _ (λ e. sync_kept d h)
-        (λ e. picked image P ((frame.id == sdo_request_id d.number) && (length frame.bytes == 8)) _ _ (λ e. request_kept frame.bytes d h)
-        (λ e. picked image P (is_error_control frame) _ _ (λ e. control_kept (frame.id - error_control_id 0) d h) (λ e. pdo_kept frame d h)))))
+        (λ e. picked image P ((frame.id == sdo_request_id d.number)
+        && (length frame.bytes == 8)) _ _ (λ e. request_kept frame.bytes d h)
+        (λ e. picked image P (is_error_control frame) _ _ (λ e. control_kept (frame.id - error_control_id 0) d h)
+        (λ e. pdo_kept frame d h)))))

@@ -1,5 +1,6 @@
 -- The values after a reset, and the heartbeat after a write.
-use Rattle.std.proofs.Common.{◌≡◌, ◌≢◌, ℕ, ◌==◌, Bool, true, false, ◌&&◌, List, ◌++◌, Option, Some, None, refl, ap, arith}
+use Rattle.std.proofs.Common.{◌≡◌, ◌≢◌, ℕ, ◌==◌, Bool, true, false, ◌&&◌, List, ◌++◌, Option, Some, None, refl, ap}
+use Rattle.std.proofs.Common.{arith}
 use Rattle.std.specs.Prelude.{if◌then◌else◌}
 use Rattle.std.specs.FinMap as map
 use Rattle.std.proofs.lemmas.Bool.Decides.{nat_tests}
@@ -9,32 +10,40 @@ use Rattle.co_dict.proofs.RestoredLemmas.{restored_at}
 use Rattle.co_dict.specs.Shapes.{Shaped}
 use Rattle.co_parts.specs.Contents.{Image, shape_of, values_of}
 use Rattle.co_parts.specs.declared.part.Part.TheVariants.{Defaults, Shape}
-use Rattle.co_profile.specs.Profile.{next_heartbeat}
-use Rattle.co_sdo.specs.Server.{Answered, answered}
+use Rattle.device_objects.specs.Profile.{next_heartbeat}
+use Rattle.co_sdo.specs.Server.{AfterRequest, server_answer}
 use Rattle.device_pdos.specs.Objects.{is_of_rpdos, is_of_tpdos}
-use Rattle.co_device.specs.Device.{Device, after_own_write, after_write, after_wrote, answer_frames, consumer_written, initialised, is_in, is_producer_time, reset_communication, reset_node, sdo_request, was_set, without_error}
+use Rattle.co_device.specs.Device.{Device, after_own_write, after_write, after_server_write, answer_frames}
+use Rattle.co_device.specs.Device.{after_write_of_consumer, after_initialisation, is_in, is_producer_time}
+use Rattle.co_device.specs.Device.{reset_communication, after_reset_node, after_sdo_request, after_set}
+use Rattle.co_device.specs.Device.{without_error_if}
 use Rattle.co_device.specs.declared.nmt_state.NmtState.TheVariants.{Stopped}
 use Rattle.device_laws.proofs.CaseLemmas.{either, not_both, one_of, picked}
 
 module _ (image : Image) (t : ℕ) (d : Device) where
-  pub node_values : (outcome (reset_node t d) image).values ≡ values_of (image (Defaults d.number))
-  unfolding reset_node initialised
+  pub node_values : (outcome (after_reset_node t d) image).values ≡ values_of (image (Defaults d.number))
+  unfolding after_reset_node after_initialisation
   node_values = refl
 
   pub communication_values : (place : ℕ × ℕ) → map.get (outcome (reset_communication t d) image).values place
-      ≡ (if is_between 0x1000 0x1FFF place.0 then map.get (values_of (image (Defaults d.number))) place else map.get d.values place)
-  unfolding reset_communication initialised
+      ≡ (if is_between 0x1000 0x1FFF place.0 then map.get (values_of (image (Defaults d.number))) place
+      else map.get d.values place)
+  unfolding reset_communication after_initialisation
   communication_values place = restored_at 0x1000 0x1FFF (values_of (image (Defaults d.number))) d.values place
 
 -- ---- what a write starts
 
 -- what the server does with a request
-abbrev served : Image → List ℕ → Device → Answered
-served image request d = answered (shape_of (image (Shape d.number))) d.values d.transfer request
+abbrev served : Image → List ℕ → Device → AfterRequest
+served image request d = server_answer (shape_of (image (Shape d.number))) d.values d.transfer request
 
 -- the device before what the write brings about
-abbrev with_answer : Answered → Device → Device
-with_answer s d = record d { values = s.values; transfer = s.transfer; waiting = d.waiting ++ answer_frames d.number s.answer }
+abbrev with_answer : AfterRequest → Device → Device
+with_answer s d = record d {
+  values = s.values;
+  transfer = s.transfer;
+  waiting = d.waiting ++ answer_frames d.number s.answer;
+}
 
 abbrev producer_time : ℕ × ℕ
 producer_time = (0x1017, 0)
@@ -47,7 +56,8 @@ own_starts : (t : ℕ) (d : Device) → StartsHeartbeat t (after_own_write t pro
 unfolding after_own_write
 own_starts t d = refl
 
-started : (t : ℕ) (shape : Shaped) (wrote : Option (ℕ × ℕ)) (d : Device) → wrote ≡ Some producer_time → StartsHeartbeat t (after_wrote t shape wrote d)
+started : (t : ℕ) (shape : Shaped) (wrote : Option (ℕ × ℕ)) (d : Device) → wrote ≡ Some producer_time
+    → StartsHeartbeat t (after_server_write t shape wrote d)
 unfolding after_write
 started t shape wrote d e = rw e (own_starts t d)
 
@@ -57,46 +67,60 @@ is_1017h index sub h =
     let j : sub ≡ 0 = grind (arith, nat_tests) in
     rw (i, j) refl
 
-cleared_leaves : (over : Bool) (d : Device) → (without_error over d).heartbeat ≡ d.heartbeat
+cleared_leaves : (over : Bool) (d : Device) → (without_error_if over d).heartbeat ≡ d.heartbeat
 cleared_leaves true d = refl
 cleared_leaves false d = refl
 
-consumer_leaves : (sub : ℕ) (d : Device) → (consumer_written sub d).heartbeat ≡ d.heartbeat
-unfolding consumer_written
+consumer_leaves : (sub : ℕ) (d : Device) → (after_write_of_consumer sub d).heartbeat ≡ d.heartbeat
+unfolding after_write_of_consumer
 consumer_leaves sub d = cleared_leaves _ _
 
-own_leaves : (t : ℕ) (place : ℕ × ℕ) (d : Device) → place ≢ producer_time → (after_own_write t place d).heartbeat ≡ d.heartbeat
+own_leaves : (t : ℕ) (place : ℕ × ℕ) (d : Device) → place ≢ producer_time
+    → (after_own_write t place d).heartbeat ≡ d.heartbeat
 unfolding after_own_write
 own_leaves t place d other =
-    either (λ e. e.heartbeat ≡ d.heartbeat) (is_producer_time place) _ _ (λ e. absurd (other (is_1017h place.0 place.1 e)))
+    either (λ e. e.heartbeat ≡ d.heartbeat)
+    (is_producer_time place) _ _ (λ e. absurd (other (is_1017h place.0 place.1 e)))
     (λ e. one_of (λ e. e.heartbeat ≡ d.heartbeat) (place.0 == 0x1016) _ d (consumer_leaves place.1 d) refl)
 
-write_leaves : (t : ℕ) (shape : Shaped) (place : ℕ × ℕ) (d : Device) → place ≢ producer_time → (after_write t shape place d).heartbeat ≡ d.heartbeat
+write_leaves : (t : ℕ) (shape : Shaped) (place : ℕ × ℕ) (d : Device) → place ≢ producer_time
+    → (after_write t shape place d).heartbeat ≡ d.heartbeat
 unfolding after_write
 write_leaves t shape place d other =
-    one_of (λ e. e.heartbeat ≡ d.heartbeat) (is_of_rpdos place.0) _ _ refl (one_of (λ e. e.heartbeat ≡ d.heartbeat) (is_of_tpdos place.0) _ _ refl (own_leaves t place d other))
+    one_of (λ e. e.heartbeat ≡ d.heartbeat) (is_of_rpdos place.0) _ _ refl (one_of (λ e. e.heartbeat ≡ d.heartbeat)
+    (is_of_tpdos place.0) _ _ refl (own_leaves t place d other))
 
-left : (t : ℕ) (shape : Shaped) (wrote : Option (ℕ × ℕ)) (d : Device) → wrote ≢ Some producer_time → (after_wrote t shape wrote d).heartbeat ≡ d.heartbeat
+left : (t : ℕ) (shape : Shaped) (wrote : Option (ℕ × ℕ)) (d : Device) → wrote ≢ Some producer_time
+    → (after_server_write t shape wrote d).heartbeat ≡ d.heartbeat
 left t shape None d other = refl
 left t shape (Some place) d other = write_leaves t shape place d (λ e. other (ap Some e))
 
 module _ (image : Image) (t : ℕ) (request : List ℕ) (d : Device) where
-  pub write_starts : is_in Stopped d ≡ false → (served image request d).wrote ≡ Some producer_time → StartsHeartbeat t (outcome (sdo_request t request d) image)
-  unfolding sdo_request
+  pub write_starts : is_in Stopped d ≡ false → (served image request d).wrote ≡ Some producer_time
+      → StartsHeartbeat t (outcome (after_sdo_request t request d) image)
+  unfolding after_sdo_request
   write_starts awake wrote =
-      let s : Answered = served image request d in
-      picked image (StartsHeartbeat t) (is_in Stopped d) _ _ (not_both _ awake) (λ e. started t (shape_of (image (Shape d.number))) s.wrote (with_answer s d) wrote)
+      let s : AfterRequest = served image request d in
+      picked image (StartsHeartbeat t) (is_in Stopped d) _ _ (not_both _ awake)
+      (λ e. started t (shape_of (image (Shape d.number))) s.wrote (with_answer s d) wrote)
 
-  pub others_leave : (served image request d).wrote ≢ Some producer_time → (outcome (sdo_request t request d) image).heartbeat ≡ d.heartbeat
-  unfolding sdo_request
+  pub others_leave : (served image request d).wrote ≢ Some producer_time
+      → (outcome (after_sdo_request t request d) image).heartbeat ≡ d.heartbeat
+  unfolding after_sdo_request
   others_leave other =
-      let s : Answered = served image request d in
-      picked image (λ e. e.heartbeat ≡ d.heartbeat) (is_in Stopped d) _ _ (λ e. refl) (λ e. left t (shape_of (image (Shape d.number))) s.wrote (with_answer s d) other)
+      let s : AfterRequest = served image request d in
+      picked image (λ e. e.heartbeat ≡ d.heartbeat) (is_in Stopped d) _ _ (λ e. refl)
+      (λ e. left t (shape_of (image (Shape d.number))) s.wrote (with_answer s d) other)
 
-pub set_starts : (t : ℕ) (bytes : List ℕ) (d : Device) → d.has_power ≡ true → (was_set t producer_time bytes d).heartbeat ≡ next_heartbeat t d.learnt (was_set t producer_time bytes d).values
-unfolding was_set after_own_write
+pub set_starts : (t : ℕ) (bytes : List ℕ) (d : Device) → d.has_power ≡ true
+    → (after_set t producer_time bytes d).heartbeat
+    ≡ next_heartbeat t d.learnt (after_set t producer_time bytes d).values
+unfolding after_set after_own_write
 set_starts t bytes d on = rw on refl
 
-pub other_sets_leave : (t : ℕ) (place : ℕ × ℕ) (bytes : List ℕ) (d : Device) → place ≢ producer_time → (was_set t place bytes d).heartbeat ≡ d.heartbeat
-unfolding was_set
-other_sets_leave t place bytes d other = one_of (λ e. e.heartbeat ≡ d.heartbeat) d.has_power _ d (own_leaves t place (record d { values = map.insert d.values place bytes }) other) refl
+pub other_sets_leave : (t : ℕ) (place : ℕ × ℕ) (bytes : List ℕ) (d : Device) → place ≢ producer_time
+    → (after_set t place bytes d).heartbeat ≡ d.heartbeat
+unfolding after_set
+other_sets_leave t place bytes d other =
+    one_of (λ e. e.heartbeat ≡ d.heartbeat) d.has_power _ d
+    (own_leaves t place (record d { values = map.insert d.values place bytes }) other) refl

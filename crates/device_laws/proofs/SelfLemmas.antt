@@ -5,13 +5,17 @@ use Rattle.asking.specs.Asking.{outcome}
 use Rattle.can_frame.specs.Frames.{BaseFrame}
 use Rattle.co_parts.specs.Contents.{Image}
 use Rattle.co_parts.specs.Moments.{is_due}
-use Rattle.co_profile.specs.Consumers.{all_expired, failures}
-use Rattle.co_profile.specs.Profile.{error_set}
+use Rattle.device_objects.specs.Consumers.{consumers_after_time, failures_at}
+use Rattle.device_objects.specs.Profile.{with_error_bits}
 use Rattle.co_scenario.specs.declared.nmt_command.NmtCommand.{NmtCommand}
-use Rattle.co_scenario.specs.declared.nmt_command.NmtCommand.TheVariants.{Start, Stop, EnterPreOperational, ResetNode, ResetCommunication}
-use Rattle.device_pdos.specs.Tpdos.{tpdos_freed}
-use Rattle.co_device.specs.Device.{Device, after_failures, consumers_run, enter_pre_operational, heartbeat_run, initialised, is_in, next_due, nmt_service, out_of_operational, powered, ran, reset_communication, reset_node, timers, tpdos_run, was_set, with_emergencies, without_power}
-use Rattle.co_device.specs.Receiving.{received}
+use Rattle.co_scenario.specs.declared.nmt_command.NmtCommand.TheVariants.{Start, Stop, EnterPreOperational, ResetNode}
+use Rattle.co_scenario.specs.declared.nmt_command.NmtCommand.TheVariants.{ResetCommunication}
+use Rattle.device_pdos.specs.Tpdos.{without_past_inhibits}
+use Rattle.co_device.specs.Device.{Device, after_failures, after_consumers, enter_pre_operational, after_heartbeat}
+use Rattle.co_device.specs.Device.{after_initialisation, is_in, next_due, nmt_service, out_of_operational, after_power}
+use Rattle.co_device.specs.Device.{after_instant, reset_communication, after_reset_node, after_timers, after_tpdos}
+use Rattle.co_device.specs.Device.{after_set, with_emergencies, without_power}
+use Rattle.co_device.specs.Receiving.{after_frame}
 use Rattle.co_device.specs.declared.nmt_state.NmtState.TheVariants.{Operational, Stopped}
 use Rattle.device_laws.specs.States.{IsDark, StaysItself}
 use Rattle.device_laws.proofs.CaseLemmas.{either, not_both, one_of, picked}
@@ -30,8 +34,13 @@ number_kept t number = record {
 
 -- ---- number, power, and whether it is spent
 
-same : (d e f : Device) → f.number ≡ e.number → f.has_power ≡ e.has_power → f.spent ≡ e.spent → StaysItself d e → StaysItself d f
-same d e f number has_power spent h = record { number = number ∙ h.number; has_power = has_power ∙ h.has_power; spent = spent ∙ h.spent }
+same : (d e f : Device) → f.number ≡ e.number → f.has_power ≡ e.has_power → f.spent ≡ e.spent → StaysItself d e
+    → StaysItself d f
+same d e f number has_power spent h = record {
+  number = number ∙ h.number;
+  has_power = has_power ∙ h.has_power;
+  spent = spent ∙ h.spent;
+}
 
 itself : (d : Device) → StaysItself d d
 itself d = record { number = refl; has_power = refl; spent = refl }
@@ -52,39 +61,47 @@ entered_stays : (d e : Device) → StaysItself d e → StaysItself d (enter_pre_
 entered_stays d e h = same d (out_of_operational e) _ refl refl refl (out_stays d e h)
 
 module _ (image : Image) (t : ℕ) (d : Device) where
-  node_stays : d.has_power ≡ true → StaysItself d (outcome (reset_node t d) image)
-  unfolding reset_node initialised
+  node_stays : d.has_power ≡ true → StaysItself d (outcome (after_reset_node t d) image)
+  unfolding after_reset_node after_initialisation
   node_stays on = record { number = refl; has_power = sym on; spent = refl }
 
   communication_stays : d.has_power ≡ true → StaysItself d (outcome (reset_communication t d) image)
-  unfolding reset_communication initialised
+  unfolding reset_communication after_initialisation
   communication_stays on = record { number = refl; has_power = sym on; spent = refl }
 
-  service_stays : (command : Option NmtCommand) → d.has_power ≡ true → StaysItself d (outcome (nmt_service command t d) image)
+  service_stays : (command : Option NmtCommand) → d.has_power ≡ true
+      → StaysItself d (outcome (nmt_service command t d) image)
   unfolding nmt_service
   service_stays None on = itself d
   service_stays (Some Start) on = same d d _ refl refl refl (itself d)
-  service_stays (Some Stop) on = one_of (StaysItself d) (is_in Stopped d) d _ (itself d) (same d (out_of_operational d) _ refl refl refl (out_stays d d (itself d)))
+  service_stays (Some Stop) on = one_of (StaysItself d) (is_in Stopped d) d _ (itself d)
+      (same d (out_of_operational d) _ refl refl refl (out_stays d d (itself d)))
   service_stays (Some EnterPreOperational) on = entered_stays d d (itself d)
   service_stays (Some ResetNode) on = node_stays on
   service_stays (Some ResetCommunication) on = communication_stays on
 
-  pub frame_stays : (frame : BaseFrame) → StaysItself d (outcome (received t frame d) image)
+  pub frame_stays : (frame : BaseFrame) → StaysItself d (outcome (after_frame t frame d) image)
   frame_stays frame = frame_kept t (StaysItself d) (self_kept t d) image frame d service_stays (itself d)
 
   off_switches : StaysItself (record d { has_power = false }) (without_power d.spent d.number)
   off_switches = record { number = refl; has_power = refl; spent = refl }
 
-  node_switches : StaysItself (record d { has_power = true }) (outcome (reset_node t d) image)
-  unfolding reset_node initialised
+  node_switches : StaysItself (record d { has_power = true }) (outcome (after_reset_node t d) image)
+  unfolding after_reset_node after_initialisation
   node_switches = record { number = refl; has_power = refl; spent = refl }
 
-  pub power_switches : (on : Bool) → StaysItself (record d { has_power = on }) (outcome (powered on t d) image)
-  unfolding powered
-  power_switches true = picked image (StaysItself (record d { has_power = true })) d.has_power _ _ (λ b. record { number = refl; has_power = b; spent = refl }) (λ b. node_switches)
-  power_switches false = either (StaysItself (record d { has_power = false })) d.has_power _ d (λ b. off_switches) (λ b. record { number = refl; has_power = b; spent = refl })
+  pub power_switches : (on : Bool) → StaysItself (record d { has_power = on }) (outcome (after_power on t d) image)
+  unfolding after_power
+  power_switches true =
+      picked image (StaysItself (record d { has_power = true })) d.has_power _ _ (λ b. record {
+        number = refl;
+        has_power = b;
+        spent = refl;
+      }) (λ b. node_switches)
+  power_switches false = either (StaysItself (record d { has_power = false })) d.has_power _ d (λ b. off_switches)
+      (λ b. record { number = refl; has_power = b; spent = refl })
 
-pub set_stays : (t : ℕ) (place : ℕ × ℕ) (bytes : List ℕ) (d : Device) → StaysItself d (was_set t place bytes d)
+pub set_stays : (t : ℕ) (place : ℕ × ℕ) (bytes : List ℕ) (d : Device) → StaysItself d (after_set t place bytes d)
 set_stays t place bytes d = set_kept t (StaysItself d) (self_kept t d) place bytes d (itself d)
 
 -- ---- what a device does of itself
@@ -94,35 +111,42 @@ told_stays count code d e h = one_of (StaysItself d) (is_in Stopped e) e _ h (sa
 
 failed_stays : (t count : ℕ) (d e : Device) → StaysItself d e → StaysItself d (after_failures t count e)
 failed_stays t count d e h =
-    let failed : Device = record e { consumers = all_expired t e.consumers; values = error_set e.learnt e.values } in
+    let failed : Device = record e {
+      consumers = consumers_after_time t e.consumers;
+      values = with_error_bits e.learnt e.values;
+    } in
     let told : Device = with_emergencies count 0x8130 failed in
     let now : StaysItself d told = told_stays count 0x8130 d failed (same d e _ refl refl refl h) in
     one_of (StaysItself d) (is_in Operational told) _ told (entered_stays d told now) now
 
-consumers_stay : (t : ℕ) (d e : Device) → StaysItself d e → StaysItself d (consumers_run t e)
-unfolding consumers_run
-consumers_stay t d e h = one_of (StaysItself d) (nat_lt 0 (failures t e.consumers)) _ e (failed_stays t (failures t e.consumers) d e h) h
+consumers_stay : (t : ℕ) (d e : Device) → StaysItself d e → StaysItself d (after_consumers t e)
+unfolding after_consumers
+consumers_stay t d e h = one_of (StaysItself d)
+    (nat_lt 0 (failures_at t e.consumers)) _ e (failed_stays t (failures_at t e.consumers) d e h) h
 
-heartbeat_stays : (t : ℕ) (d e : Device) → StaysItself d e → StaysItself d (heartbeat_run t e)
-unfolding heartbeat_run
+heartbeat_stays : (t : ℕ) (d e : Device) → StaysItself d e → StaysItself d (after_heartbeat t e)
+unfolding after_heartbeat
 heartbeat_stays t d e h = one_of (StaysItself d) (is_due t e.heartbeat) _ e (same d e _ refl refl refl h) h
 
-tpdos_stay : (t : ℕ) (d e : Device) → StaysItself d e → StaysItself d (tpdos_run t e)
-unfolding tpdos_run
-tpdos_stay t d e h = one_of (StaysItself d) (is_in Operational e) _ _ (same d e _ refl refl refl h) (same d e _ refl refl refl h)
+tpdos_stay : (t : ℕ) (d e : Device) → StaysItself d e → StaysItself d (after_tpdos t e)
+unfolding after_tpdos
+tpdos_stay t d e h = one_of (StaysItself d) (is_in Operational e) _ _ (same d e _ refl refl refl h)
+    (same d e _ refl refl refl h)
 
-pub instant_stays : (t : ℕ) (d : Device) → StaysItself d (ran t d)
-unfolding ran timers
+pub instant_stays : (t : ℕ) (d : Device) → StaysItself d (after_instant t d)
+unfolding after_instant after_timers
 instant_stays t d = tpdos_stay t d _ (heartbeat_stays t d _ (consumers_stay t d d (itself d)))
 
 -- ---- without power
 
-pub frame_untaken : (image : Image) (t : ℕ) (frame : BaseFrame) (d : Device) → d.has_power ≡ false → outcome (received t frame d) image ≡ d
-unfolding received
+pub frame_untaken : (image : Image) (t : ℕ) (frame : BaseFrame) (d : Device) → d.has_power ≡ false
+    → outcome (after_frame t frame d) image ≡ d
+unfolding after_frame
 frame_untaken image t frame d off = rw off refl
 
-pub set_untaken : (t : ℕ) (place : ℕ × ℕ) (bytes : List ℕ) (d : Device) → d.has_power ≡ false → was_set t place bytes d ≡ d
-unfolding was_set
+pub set_untaken : (t : ℕ) (place : ℕ × ℕ) (bytes : List ℕ) (d : Device) → d.has_power ≡ false
+    → after_set t place bytes d ≡ d
+unfolding after_set
 set_untaken t place bytes d off = rw off refl
 
 -- what stays as it was stays dark
@@ -131,27 +155,31 @@ dark_still d e stays untaken h off =
     let was_off : d.has_power ≡ false = sym stays.has_power ∙ off in
     rw (untaken was_off) (h was_off)
 
-pub frame_is_dark : (image : Image) (t : ℕ) (frame : BaseFrame) (d : Device) → IsDark d → IsDark (outcome (received t frame d) image)
+pub frame_is_dark : (image : Image) (t : ℕ) (frame : BaseFrame) (d : Device) → IsDark d
+    → IsDark (outcome (after_frame t frame d) image)
 frame_is_dark image t frame d h = dark_still d _ (frame_stays image t d frame) (frame_untaken image t frame d) h
 
 off_is_dark : (spent : Bool) (number : ℕ) → IsDark (without_power spent number)
 off_is_dark spent number off = refl
 
-node_is_dark : (image : Image) (t : ℕ) (d : Device) → IsDark (outcome (reset_node t d) image)
-unfolding reset_node initialised
+node_is_dark : (image : Image) (t : ℕ) (d : Device) → IsDark (outcome (after_reset_node t d) image)
+unfolding after_reset_node after_initialisation
 node_is_dark image t d off = not_both true off refl
 
-pub power_is_dark : (image : Image) (t : ℕ) (on : Bool) (d : Device) → IsDark d → IsDark (outcome (powered on t d) image)
-unfolding powered
+pub power_is_dark : (image : Image) (t : ℕ) (on : Bool) (d : Device) → IsDark d
+    → IsDark (outcome (after_power on t d) image)
+unfolding after_power
 power_is_dark image t true d h = picked image IsDark d.has_power _ _ (λ b. h) (λ b. node_is_dark image t d)
 power_is_dark image t false d h = either IsDark d.has_power _ d (λ b. off_is_dark d.spent d.number) (λ b. h)
 
-nothing_runs : (t : ℕ) (spent : Bool) (number : ℕ) → ran t (without_power spent number) ≡ without_power spent number
-unfolding ran timers consumers_run heartbeat_run tpdos_run failures tpdos_freed
+nothing_runs : (t : ℕ) (spent : Bool) (number : ℕ)
+    → after_instant t (without_power spent number) ≡ without_power spent number
+unfolding after_instant after_timers after_consumers after_heartbeat after_tpdos failures_at without_past_inhibits
 nothing_runs t spent number = refl
 
-pub instant_is_dark : (t : ℕ) (d : Device) → IsDark d → IsDark (ran t d)
-instant_is_dark t d h = dark_still d (ran t d) (instant_stays t d) (λ off. ap (ran t) (h off) ∙ nothing_runs t d.spent d.number ∙ sym (h off)) h
+pub instant_is_dark : (t : ℕ) (d : Device) → IsDark d → IsDark (after_instant t d)
+instant_is_dark t d h = dark_still d (after_instant t d) (instant_stays t d)
+    (λ off. ap (after_instant t) (h off) ∙ nothing_runs t d.spent d.number ∙ sym (h off)) h
 
 pub nothing_due : (spent : Bool) (number : ℕ) → next_due (without_power spent number) ≡ None
 unfolding next_due

@@ -3,7 +3,7 @@ use Rattle.std.specs.Prelude.{◌≡◌, ◌≤◌, ◌⊎◌, ℕ, List, Option
 use Rattle.std.specs.List.{AllByRecursion}
 use Rattle.co_parts.specs.declared.part.Part.{Part}
 use Rattle.co_parts.specs.declared.part.Part.TheVariants.{Defaults, Shape}
-use Rattle.co_profile.specs.declared.consumer.Consumer.{Consumer}
+use Rattle.device_objects.specs.declared.consumer.Consumer.{Consumer}
 use Rattle.co_device.specs.Device.{Device}
 
 -- the moment, if there is one, doesn't lie before t

@@ -4,8 +4,8 @@ use Rattle.std.specs.List.{AllByRecursion}
 use Rattle.can_frame.specs.Frames.{BaseFrame}
 use Rattle.can_frame.specs.Identifiers.{nmt_id}
 use Rattle.co_device.specs.Device.{Device}
-use Rattle.co_device.specs.Receiving.{ignored}
-use Rattle.co_profile.specs.Profile.{sync_identifier}
+use Rattle.co_device.specs.Receiving.{is_ignored}
+use Rattle.device_objects.specs.Profile.{sync_identifier}
 use Rattle.device_pdos.specs.Tpdos.{goes_by_sync}
 
 -- no RPDO keeps a frame for the next SYNC, and no TPDO goes by it
@@ -21,4 +21,4 @@ pub record IsIdleSync (frame : BaseFrame) (d : Device) : Type 0 where
 
 -- THE FRAME IS NOTHING TO THE DEVICE: it takes nothing of it, or it is a SYNC that it doesn't await
 abbrev pub IsDeafTo : BaseFrame → Device → Type 0
-IsDeafTo frame d = (ignored frame d ≡ true) ⊎ IsIdleSync frame d
+IsDeafTo frame d = (is_ignored frame d ≡ true) ⊎ IsIdleSync frame d

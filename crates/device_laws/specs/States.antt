@@ -5,21 +5,22 @@ use Rattle.can_frame.specs.Identifiers.{nmt_id}
 use Rattle.can_frame.specs.WaitingFrames.{is_unwanted}
 use Rattle.can_frame.specs.declared.unwanted.Unwanted.{Unwanted}
 use Rattle.can_frame.specs.declared.unwanted.Unwanted.TheVariants.{Emergencies, Sdos, Tpdos}
-use Rattle.co_pdos.specs.Tpdo.{forgotten}
+use Rattle.co_pdos.specs.Tpdo.{remembering_nothing}
 use Rattle.co_sdo.specs.declared.transfer.Transfer.TheVariants.{Idle}
 use Rattle.std.specs.List.{AllByRecursion}
-use Rattle.co_device.specs.Device.{Device, boot_up, is_in, without_power}
+use Rattle.co_device.specs.Device.{Device, boot_up_frame, is_in, without_power}
 use Rattle.co_device.specs.declared.nmt_state.NmtState.TheVariants.{PreOperational, Stopped}
 
 -- the message of an NMT service: its command, and the number of a node or 0 for all
 abbrev pub nmt_message : ℕ → ℕ → BaseFrame
 nmt_message command node = record { id = nmt_id; bytes = command ∷ node ∷ [] }
 
--- Initialisation has ended: the device is in Pre-operational, its boot-up message waits and no other frame, and no transfer is open
+-- Initialisation has ended: the device is in Pre-operational, its boot-up message waits and no other frame, and no
+-- transfer is open
 pub record HasBooted (number : ℕ) (d : Device) : Type 0 where
   pub has_power : d.has_power ≡ true
   pub in_state : d.state ≡ PreOperational
-  pub waits : d.waiting ≡ boot_up number ∷ []
+  pub waits : d.waiting ≡ boot_up_frame number ∷ []
   pub closed : d.transfer ≡ Idle
 
 -- no frame of this kind waits
@@ -39,7 +40,7 @@ IsSilent d = is_in Stopped d ≡ true → SaysNothing d
 -- no TPDO waits, none remembers anything, and no RPDO keeps a frame
 pub record HasNoPdo (d : Device) : Type 0 where
   pub no_tpdo : NoneWaits Tpdos d
-  pub nothing_remembered : AllByRecursion (λ p. p.remembered ≡ forgotten) d.tpdos
+  pub nothing_remembered : AllByRecursion (λ p. p.remembered ≡ remembering_nothing) d.tpdos
   pub nothing_kept : AllByRecursion (λ p. p.kept ≡ None) d.rpdos
 
 -- the number is as before, and so are power and whether it is spent

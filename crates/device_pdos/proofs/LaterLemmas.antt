@@ -1,5 +1,6 @@
 -- After a look at the TPDOs every moment of theirs lies later.
-use Rattle.std.proofs.Common.{◌≡◌, ℕ, zero, suc, ◌+◌, ◌==◌, ◌<◌, Bool, true, false, List, [], ◌∷◌, Option, Some, None, refl, ap, arith}
+use Rattle.std.proofs.Common.{◌≡◌, ℕ, zero, suc, ◌+◌, ◌==◌, ◌<◌, Bool, true, false, List, [], ◌∷◌, Option, Some, None}
+use Rattle.std.proofs.Common.{refl, ap, arith}
 use Rattle.std.specs.Prelude.{if◌then◌else◌, nat_le, not, ◌&&◌, ◌||◌}
 use Rattle.std.specs.List.{AllByRecursion}
 use Rattle.std.specs.Option.{option_map_or}
@@ -9,11 +10,15 @@ use Rattle.co_parts.specs.Moments.{moments_of}
 use Rattle.co_pdos.specs.declared.communication.Communication.{Communication}
 use Rattle.co_pdos.specs.declared.configuration.Configuration.{Configuration}
 use Rattle.co_pdos.specs.declared.transmission_type.TransmissionType.{TransmissionType}
-use Rattle.co_pdos.specs.declared.transmission_type.TransmissionType.TheVariants.{Acyclic, Cyclic, EventDriven, Reserved}
-use Rattle.co_pdos.specs.Tpdo.{Remembered, acyclic_turn, cyclic_turn, differs, event_moment, event_turn, has_come, inhibit_over, is_ahead, later, moment_from, sent, turn_by_type, unsent}
+use Rattle.co_pdos.specs.declared.transmission_type.TransmissionType.TheVariants.{Acyclic, Cyclic, EventDriven}
+use Rattle.co_pdos.specs.declared.transmission_type.TransmissionType.TheVariants.{Reserved}
+use Rattle.co_pdos.specs.Tpdo.{Remembered, acyclic_turn, cyclic_turn, differs, event_moment, event_turn, has_come}
+use Rattle.co_pdos.specs.Tpdo.{without_past_inhibit, is_ahead, later, moment_from, turn_with_frame, turn_by_type}
+use Rattle.co_pdos.specs.Tpdo.{turn_without_frame}
 use Rattle.co_pdos.specs.TransmissionTypes.{is_event_driven}
 use Rattle.co_pdos.proofs.TpdoLemmas.{event_sent, event_unsent, is_wanted_at}
-use Rattle.device_pdos.specs.Tpdos.{bytes_now, due_of, freed, looked, moments, tpdo_moment, tpdos_freed, tpdos_looked, turn, waits_for_event}
+use Rattle.device_pdos.specs.Tpdos.{bytes_now, due_of, without_past_inhibit, tpdo_after_turn, moments, tpdo_moment}
+use Rattle.device_pdos.specs.Tpdos.{without_past_inhibits, tpdos_after_turns, turn, waits_for_event}
 use Rattle.device_pdos.specs.declared.tpdo_state.TpdoState.{TpdoState}
 use Rattle.device_pdos.proofs.LookLemmas.{Ahead, all_both}
 
@@ -27,11 +32,12 @@ still_later : (t : ℕ) (moment : Option ℕ) → has_come t moment ≡ false �
 still_later t None e = tt
 still_later t (Some m) e = (not_come t m e, tt)
 
-pub freed_later : (t : ℕ) (r : Remembered) → IsLater t (inhibit_over t r).inhibit
-unfolding inhibit_over
+pub freed_later : (t : ℕ) (r : Remembered) → IsLater t (without_past_inhibit t r).inhibit
+unfolding without_past_inhibit
 freed_later t r = by (has_come t r.inhibit) refl
   where
-    by : (test : Bool) → has_come t r.inhibit ≡ test → IsLater t (if test then record r { inhibit = None } else r).inhibit
+    by : (test : Bool) → has_come t r.inhibit ≡ test
+        → IsLater t (if test then record r { inhibit = None } else r).inhibit
     by true e = tt
     by false e = still_later t r.inhibit e
 
@@ -42,18 +48,22 @@ inhibit_alone t (Some m) event h = h
 
 -- ---- the synchronous types
 
-inhibit_of : (test : Bool) (bytes : List ℕ) (r s : Remembered) → r.inhibit ≡ s.inhibit → (if test then sent bytes r else unsent s).remembered.inhibit ≡ s.inhibit
+inhibit_of : (test : Bool) (bytes : List ℕ) (r s : Remembered) → r.inhibit ≡ s.inhibit
+    → (if test then turn_with_frame bytes r else turn_without_frame s).remembered.inhibit ≡ s.inhibit
 inhibit_of true bytes r s e = e
 inhibit_of false bytes r s e = refl
 
-acyclic_inhibit : (at_sync : Bool) (bytes : List ℕ) (r : Remembered) → (acyclic_turn at_sync bytes r).remembered.inhibit ≡ r.inhibit
+acyclic_inhibit : (at_sync : Bool) (bytes : List ℕ) (r : Remembered)
+    → (acyclic_turn at_sync bytes r).remembered.inhibit ≡ r.inhibit
 unfolding acyclic_turn
 acyclic_inhibit at_sync bytes r = inhibit_of (at_sync && differs bytes r) bytes r r refl
 
-cyclic_inhibit : (n : ℕ) (at_sync : Bool) (bytes : List ℕ) (r : Remembered) → (cyclic_turn n at_sync bytes r).remembered.inhibit ≡ r.inhibit
+cyclic_inhibit : (n : ℕ) (at_sync : Bool) (bytes : List ℕ) (r : Remembered)
+    → (cyclic_turn n at_sync bytes r).remembered.inhibit ≡ r.inhibit
 unfolding cyclic_turn
 cyclic_inhibit n false bytes r = refl
-cyclic_inhibit n true bytes r = inhibit_of (nat_le n (r.syncs + 1)) bytes (record r { syncs = 0 }) (record r { syncs = r.syncs + 1 }) refl
+cyclic_inhibit n true bytes r = inhibit_of (nat_le n (r.syncs + 1)) bytes (record r { syncs = 0 })
+    (record r { syncs = r.syncs + 1 }) refl
 
 -- ---- the event-driven type
 
@@ -71,14 +81,16 @@ after_the_first t a b h = by (nat_le a b) refl
 events_later : (t : ℕ) (c : Communication) → IsLater t (event_moment t c)
 events_later t c = by (c.event_time == 0) refl
   where
-    by : (none : Bool) → (c.event_time == 0) ≡ none → IsLater t (if none then None else Some (later (t + c.event_time) (t + c.inhibit_time)))
+    by : (none : Bool) → (c.event_time == 0) ≡ none
+        → IsLater t (if none then None else Some (later (t + c.event_time) (t + c.inhibit_time)))
     by true e = tt
     by false e = (after_the_first t (t + c.event_time) (t + c.inhibit_time) (positive t c.event_time e), tt)
 
 set_later : (t : ℕ) (c : Communication) → IsLater t (due_of true (moment_from t c.inhibit_time) (event_moment t c))
 set_later t c = by (c.inhibit_time == 0) refl
   where
-    by : (none : Bool) → (c.inhibit_time == 0) ≡ none → IsLater t (due_of true (if none then None else Some (t + c.inhibit_time)) (event_moment t c))
+    by : (none : Bool) → (c.inhibit_time == 0) ≡ none
+        → IsLater t (due_of true (if none then None else Some (t + c.inhibit_time)) (event_moment t c))
     by true e = events_later t c
     by false e = (positive t c.inhibit_time e, tt)
 
@@ -87,14 +99,17 @@ no_event_yet true differ come e h = absurd cc
 no_event_yet false true come e h = absurd cc
 no_event_yet false false come e h = e
 
-unsent_later : (t : ℕ) (bytes : List ℕ) (r : Remembered) → is_wanted_at t bytes r ≡ false → IsLater t r.inhibit → Ahead t true r
-unsent_later t bytes r unsent held = by r.inhibit refl held
+unsent_later : (t : ℕ) (bytes : List ℕ) (r : Remembered) → is_wanted_at t bytes r ≡ false → IsLater t r.inhibit
+    → Ahead t true r
+unsent_later t bytes r turn_without_frame held = by r.inhibit refl held
   where
     by : (inhibit : Option ℕ) → r.inhibit ≡ inhibit → IsLater t inhibit → IsLater t (due_of true inhibit r.event)
-    by None e h = still_later t r.event (no_event_yet (is_ahead t r.inhibit) (differs bytes r) (has_come t r.event) unsent (ap (is_ahead t) e))
+    by None e h = still_later t r.event (no_event_yet (is_ahead t r.inhibit) (differs bytes r)
+        (has_come t r.event) turn_without_frame (ap (is_ahead t) e))
     by (Some m) e h = h
 
-event_later : (c : Communication) (t : ℕ) (bytes : List ℕ) (r : Remembered) → IsLater t r.inhibit → Ahead t true (event_turn c t bytes r).remembered
+event_later : (c : Communication) (t : ℕ) (bytes : List ℕ) (r : Remembered) → IsLater t r.inhibit
+    → Ahead t true (event_turn c t bytes r).remembered
 event_later c t bytes r h = by (is_wanted_at t bytes r) refl
   where
     by : (test : Bool) → is_wanted_at t bytes r ≡ test → Ahead t true (event_turn c t bytes r).remembered
@@ -103,15 +118,19 @@ event_later c t bytes r h = by (is_wanted_at t bytes r) refl
 
 -- ---- whatever the type
 
-later_by_type : (transmission : Option TransmissionType) (c : Communication) (at_sync : Bool) (t : ℕ) (bytes : List ℕ) (r : Remembered) → IsLater t r.inhibit
-    → Ahead t (option_map_or is_event_driven transmission false) (turn_by_type transmission c at_sync t bytes r).remembered
+later_by_type : (transmission : Option TransmissionType) (c : Communication) (at_sync : Bool) (t : ℕ) (bytes : List ℕ)
+    (r : Remembered) → IsLater t r.inhibit
+    → Ahead t (option_map_or is_event_driven transmission false)
+    (turn_by_type transmission c at_sync t bytes r).remembered
 unfolding turn_by_type
 later_by_type transmission c at_sync t bytes r h = by transmission
   where
     still : (s : Remembered) → s.inhibit ≡ r.inhibit → Ahead t false s
     still s e = inhibit_alone t s.inhibit s.event (rw e h)
 
-    by : (transmission : Option TransmissionType) → Ahead t (option_map_or is_event_driven transmission false) (turn_by_type transmission c at_sync t bytes r).remembered
+    by : (transmission : Option TransmissionType)
+        → Ahead t (option_map_or is_event_driven transmission false)
+        (turn_by_type transmission c at_sync t bytes r).remembered
     by None = still r refl
     by (Some Acyclic) = still (acyclic_turn at_sync bytes r).remembered (acyclic_inhibit at_sync bytes r)
     by (Some (Cyclic n)) = still (cyclic_turn n at_sync bytes r).remembered (cyclic_inhibit n at_sync bytes r)
@@ -123,20 +142,27 @@ later_by_type transmission c at_sync t bytes r h = by transmission
 later_by : (configuration : Option Configuration) (t : ℕ) (at_sync : Bool) (values : Values) (r : Remembered)
     → Ahead t (waits_for_event configuration) (turn configuration t at_sync values r).0
 unfolding turn
-later_by None t at_sync values r = inhibit_alone t (inhibit_over t r).inhibit (inhibit_over t r).event (freed_later t r)
+later_by None t at_sync values r = inhibit_alone t (without_past_inhibit t r).inhibit (without_past_inhibit t r).event
+    (freed_later t r)
 later_by (Some c) t at_sync values r =
-    later_by_type c.communication.transmission_type c.communication at_sync t (bytes_now values c) (inhibit_over t r) (freed_later t r)
+    later_by_type c.communication.transmission_type c.communication at_sync t (bytes_now values c)
+    (without_past_inhibit t r) (freed_later t r)
 
-pub looked_later : (t : ℕ) (at_sync : Bool) (values : Values) (tpdos : List TpdoState) → AllByRecursion (λ m. t < m) (moments true (tpdos_looked t at_sync values tpdos))
-unfolding tpdos_looked
+pub looked_later : (t : ℕ) (at_sync : Bool) (values : Values) (tpdos : List TpdoState)
+    → AllByRecursion (λ m. t < m) (moments true (tpdos_after_turns t at_sync values tpdos))
+unfolding tpdos_after_turns
 looked_later t at_sync values [] = tt
 looked_later t at_sync values (p ∷ tpdos) =
-    all_both (λ m. t < m) (moments_of (tpdo_moment true (looked t at_sync values p))) (moments true (tpdos_looked t at_sync values tpdos))
+    all_both (λ m. t < m) (moments_of (tpdo_moment true (tpdo_after_turn t at_sync values p)))
+    (moments true (tpdos_after_turns t at_sync values tpdos))
     (later_by p.configuration t at_sync values p.remembered) (looked_later t at_sync values tpdos)
 
-pub all_freed_later : (t : ℕ) (tpdos : List TpdoState) → AllByRecursion (λ m. t < m) (moments false (tpdos_freed t tpdos))
-unfolding tpdos_freed
+pub all_freed_later : (t : ℕ) (tpdos : List TpdoState)
+    → AllByRecursion (λ m. t < m) (moments false (without_past_inhibits t tpdos))
+unfolding without_past_inhibits
 all_freed_later t [] = tt
 all_freed_later t (p ∷ tpdos) =
-    all_both (λ m. t < m) (moments_of (tpdo_moment false (freed t p))) (moments false (tpdos_freed t tpdos))
-    (inhibit_alone t (inhibit_over t p.remembered).inhibit (inhibit_over t p.remembered).event (freed_later t p.remembered)) (all_freed_later t tpdos)
+    all_both (λ m. t < m) (moments_of (tpdo_moment false (without_past_inhibit t p)))
+    (moments false (without_past_inhibits t tpdos))
+    (inhibit_alone t (without_past_inhibit t p.remembered).inhibit (without_past_inhibit t p.remembered).event
+    (freed_later t p.remembered)) (all_freed_later t tpdos)

@@ -1,5 +1,6 @@
 -- The PDOs of a device, number by number.
-use Rattle.std.proofs.Common.{◌≡◌, ℕ, zero, suc, ◌+◌, ◌-◌, ◌≤◌, Bool, true, false, List, [], ◌∷◌, ◌++◌, filter, map, append-nil, refl, sym, ap, ◌∙◌, arith}
+use Rattle.std.proofs.Common.{◌≡◌, ℕ, zero, suc, ◌+◌, ◌-◌, ◌≤◌, Bool, true, false, List, [], ◌∷◌, ◌++◌, filter, map}
+use Rattle.std.proofs.Common.{append-nil, refl, sym, ap, ◌∙◌, arith}
 use Rattle.std.specs.List.{range_with_len}
 use Rattle.std.proofs.lemmas.List.{map-append}
 use Rattle.std.proofs.lemmas.List.Elements.{filter-append}
@@ -21,7 +22,8 @@ filter_more : (p : ℕ → Bool) (xs : List ℕ) (x : ℕ) → filter p (xs ++ x
 filter_more p xs x = filter-append p xs (x ∷ [])
 
 module _ (object_of : ℕ → ℕ) (shape : Shaped) where
-  next : (number : ℕ) → 1 ≤ number → numbers_to object_of shape (number + 1 - 1) ≡ numbers_to object_of shape (number - 1) ++ filter (λ n. is_pdo shape (object_of n)) (number ∷ [])
+  next : (number : ℕ) → 1 ≤ number → numbers_to object_of shape (number + 1 - 1)
+      ≡ numbers_to object_of shape (number - 1) ++ filter (λ n. is_pdo shape (object_of n)) (number ∷ [])
   unfolding numbers_to
   next number low =
       let p : ℕ → Bool = λ n. is_pdo shape (object_of n) in
@@ -34,16 +36,20 @@ module _ (object_of : ℕ → ℕ) (shape : Shaped) where
   unfolding numbers_to
   none_at_first f = refl
 
-  pub one_more : {X : Type 0} (f : ℕ → X) (number : ℕ) (before after : List X) → 1 ≤ number → is_pdo shape (object_of number) ≡ true
-      → before ≡ map f (numbers_to object_of shape (number - 1)) → after ≡ before ++ f number ∷ [] → after ≡ map f (numbers_to object_of shape (number + 1 - 1))
+  pub one_more : {X : Type 0} (f : ℕ → X) (number : ℕ) (before after : List X) → 1 ≤ number
+      → is_pdo shape (object_of number) ≡ true
+      → before ≡ map f (numbers_to object_of shape (number - 1)) → after ≡ before ++ f number ∷ []
+      → after ≡ map f (numbers_to object_of shape (number + 1 - 1))
   one_more f number before after low is so_far added =
       added
       ∙ ap (λ xs. xs ++ f number ∷ []) so_far
       ∙ sym (map-append f (numbers_to object_of shape (number - 1)) (number ∷ []))
       ∙ ap (map f) (sym (next number low ∙ (rw is refl)))
 
-  pub skipped : {X : Type 0} (f : ℕ → X) (number : ℕ) (before : List X) → 1 ≤ number → is_pdo shape (object_of number) ≡ false
-      → before ≡ map f (numbers_to object_of shape (number - 1)) → before ≡ map f (numbers_to object_of shape (number + 1 - 1))
+  pub skipped : {X : Type 0} (f : ℕ → X) (number : ℕ) (before : List X) → 1 ≤ number
+      → is_pdo shape (object_of number) ≡ false
+      → before ≡ map f (numbers_to object_of shape (number - 1))
+      → before ≡ map f (numbers_to object_of shape (number + 1 - 1))
   skipped f number before low not so_far =
       so_far ∙ ap (map f) (sym (next number low ∙ (rw (not, append-nil) refl)))
 

@@ -5,8 +5,8 @@ use Rattle.std.proofs.lemmas.Bool.Decides.{nat_tests}
 use Rattle.co_dict.specs.Shapes.{Shaped}
 use Rattle.co_dict.specs.Values.{Values}
 use Rattle.device_pdos.specs.Objects.{number_of_object}
-use Rattle.device_pdos.specs.Rpdos.{rpdo, rpdo_written, rpdos_written}
-use Rattle.device_pdos.specs.Tpdos.{tpdo, tpdo_written, tpdos_written}
+use Rattle.device_pdos.specs.Rpdos.{rpdo, rpdo_after_write, rpdos_after_write}
+use Rattle.device_pdos.specs.Tpdos.{tpdo, tpdo_after_write, tpdos_after_write}
 use Rattle.device_pdos.specs.declared.rpdo_state.RpdoState.{RpdoState}
 use Rattle.device_pdos.specs.declared.tpdo_state.TpdoState.{TpdoState}
 
@@ -24,24 +24,30 @@ other_test m n other = by (m == n) refl
     by true e = absurd (other (passed e))
 
 module _ (shape : Shaped) (values : Values) (index : ℕ) where
-  pub own_tpdo : (p : TpdoState) → p.number ≡ number_of_object index → tpdo_written shape values index p ≡ tpdo shape values p.number
+  pub own_tpdo : (p : TpdoState) → p.number ≡ number_of_object index
+      → tpdo_after_write shape values index p ≡ tpdo shape values p.number
   own_tpdo p e = rw (same_test p.number (number_of_object index) e) refl
 
-  pub other_tpdo : (p : TpdoState) → p.number ≢ number_of_object index → tpdo_written shape values index p ≡ p
+  pub other_tpdo : (p : TpdoState) → p.number ≢ number_of_object index → tpdo_after_write shape values index p ≡ p
   other_tpdo p other = rw (other_test p.number (number_of_object index) other) refl
 
-  pub own_rpdo : (p : RpdoState) → p.number ≡ number_of_object index → rpdo_written shape values index p ≡ rpdo shape values p.number
+  pub own_rpdo : (p : RpdoState) → p.number ≡ number_of_object index
+      → rpdo_after_write shape values index p ≡ rpdo shape values p.number
   own_rpdo p e = rw (same_test p.number (number_of_object index) e) refl
 
-  pub other_rpdo : (p : RpdoState) → p.number ≢ number_of_object index → rpdo_written shape values index p ≡ p
+  pub other_rpdo : (p : RpdoState) → p.number ≢ number_of_object index → rpdo_after_write shape values index p ≡ p
   other_rpdo p other = rw (other_test p.number (number_of_object index) other) refl
 
-  pub other_tpdos : (tpdos : List TpdoState) → AllByRecursion (λ p. p.number ≢ number_of_object index) tpdos → tpdos_written shape values index tpdos ≡ tpdos
-  unfolding tpdos_written
+  pub other_tpdos : (tpdos : List TpdoState) → AllByRecursion (λ p. p.number ≢ number_of_object index) tpdos
+      → tpdos_after_write shape values index tpdos ≡ tpdos
+  unfolding tpdos_after_write
   other_tpdos [] others = refl
-  other_tpdos (p ∷ tpdos) others = rw (other_test p.number (number_of_object index) others.0) (ap (λ ps. p ∷ ps) (other_tpdos tpdos others.1))
+  other_tpdos (p ∷ tpdos) others = rw (other_test p.number (number_of_object index) others.0)
+      (ap (λ ps. p ∷ ps) (other_tpdos tpdos others.1))
 
-  pub other_rpdos : (rpdos : List RpdoState) → AllByRecursion (λ p. p.number ≢ number_of_object index) rpdos → rpdos_written shape values index rpdos ≡ rpdos
-  unfolding rpdos_written
+  pub other_rpdos : (rpdos : List RpdoState) → AllByRecursion (λ p. p.number ≢ number_of_object index) rpdos
+      → rpdos_after_write shape values index rpdos ≡ rpdos
+  unfolding rpdos_after_write
   other_rpdos [] others = refl
-  other_rpdos (p ∷ rpdos) others = rw (other_test p.number (number_of_object index) others.0) (ap (λ ps. p ∷ ps) (other_rpdos rpdos others.1))
+  other_rpdos (p ∷ rpdos) others = rw (other_test p.number (number_of_object index) others.0)
+      (ap (λ ps. p ∷ ps) (other_rpdos rpdos others.1))

@@ -1,5 +1,6 @@
 -- The RPDOs of a device at a moment (CiA 301), by number.
-use Rattle.std.specs.Prelude.{ℕ, ◌==◌, Bool, false, List, [], length, map, slice_index_or, slice_set, Option, Some, None, if◌then◌else◌}
+use Rattle.std.specs.Prelude.{ℕ, ◌==◌, Bool, false, List, [], length, map, slice_index_or, slice_set, Option, Some}
+use Rattle.std.specs.Prelude.{None, if◌then◌else◌}
 use Rattle.std.specs.List.{list_any}
 use Rattle.can_frame.specs.Frames.{BaseFrame}
 use Rattle.co_dict.specs.Mappings.{mapping_bits}
@@ -7,7 +8,7 @@ use Rattle.co_dict.specs.Shapes.{Shaped}
 use Rattle.co_dict.specs.Values.{Values}
 use Rattle.co_mapping.specs.Packing.{bytes_begun}
 use Rattle.co_pdos.specs.Configured.{configuration_of}
-use Rattle.co_pdos.specs.Rpdo.{received}
+use Rattle.co_pdos.specs.Rpdo.{frame_receipt}
 use Rattle.co_pdos.specs.Working.{rpdo_object}
 use Rattle.co_pdos.specs.declared.configuration.Configuration.{Configuration}
 use Rattle.co_pdos.specs.declared.receipt.Receipt.{Receipt}
@@ -19,25 +20,29 @@ use Rattle.device_pdos.specs.declared.rpdo_state.RpdoState.{RpdoState}
 
 -- an RPDO that keeps no frame
 abbrev pub rpdo : Shaped → Values → ℕ → RpdoState
-rpdo shape values number = record { number = number; configuration = configuration_of shape values (rpdo_object number); kept = None }
+rpdo shape values number = record {
+  number = number;
+  configuration = configuration_of shape values (rpdo_object number);
+  kept = None;
+}
 
 -- all of a device
 unfoldable pub rpdos_of : Shaped → Values → List RpdoState
 rpdos_of shape values = map (rpdo shape values) (numbers_of rpdo_object shape)
 
 -- an entry of an object was written: the RPDO that it is of is judged anew, and keeps no frame
-abbrev pub rpdo_written : Shaped → Values → ℕ → RpdoState → RpdoState
-rpdo_written shape values index p = if p.number == number_of_object index then rpdo shape values p.number else p
+abbrev pub rpdo_after_write : Shaped → Values → ℕ → RpdoState → RpdoState
+rpdo_after_write shape values index p = if p.number == number_of_object index then rpdo shape values p.number else p
 
-unfoldable pub rpdos_written : Shaped → Values → ℕ → List RpdoState → List RpdoState
-rpdos_written shape values index rpdos = map (rpdo_written shape values index) rpdos
+unfoldable pub rpdos_after_write : Shaped → Values → ℕ → List RpdoState → List RpdoState
+rpdos_after_write shape values index rpdos = map (rpdo_after_write shape values index) rpdos
 
 -- the frames that they keep are dropped
-abbrev pub emptied : RpdoState → RpdoState
-emptied p = record p { kept = None }
+abbrev pub without_kept_frame : RpdoState → RpdoState
+without_kept_frame p = record p { kept = None }
 
-unfoldable pub rpdos_emptied : List RpdoState → List RpdoState
-rpdos_emptied rpdos = map emptied rpdos
+unfoldable pub without_kept_frames : List RpdoState → List RpdoState
+without_kept_frames rpdos = map without_kept_frame rpdos
 
 -- ---- one of them
 
@@ -56,7 +61,7 @@ unfoldable pub receipt_of : BaseFrame → Option Configuration → Receipt
 receipt_of frame None = receipt.Ignored
 receipt_of frame (Some c) =
     if c.identifier == frame.id
-    then received c.communication.transmission_type (bytes_begun (mapping_bits c.mapping)) (length frame.bytes)
+    then frame_receipt c.communication.transmission_type (bytes_begun (mapping_bits c.mapping)) (length frame.bytes)
     else receipt.Ignored
 
 -- it works, and its frames have this identifier

@@ -3,7 +3,7 @@ use Rattle.std.specs.Prelude.{ℕ, ◌==◌, ◌&&◌, true, false, Bool, List, 
 use Rattle.std.specs.Prelude.{None, is_none, if◌then◌else◌}
 use Rattle.std.specs.Option.{option_map_or}
 use Rattle.can_frame.specs.Frames.{BaseFrame}
-use Rattle.can_frame.specs.WaitingFrames.{replaced}
+use Rattle.can_frame.specs.WaitingFrames.{with_latest}
 use Rattle.can_frame.specs.declared.purpose.Purpose.TheVariants as purpose
 use Rattle.can_frame.specs.declared.waiting.Waiting.{Waiting}
 use Rattle.co_dict.specs.Shapes.{Shaped}
@@ -11,7 +11,7 @@ use Rattle.co_dict.specs.Values.{Values}
 use Rattle.co_mapping.specs.Packing.{packed}
 use Rattle.co_parts.specs.Moments.{moments_of}
 use Rattle.co_pdos.specs.Configured.{configuration_of}
-use Rattle.co_pdos.specs.Tpdo.{Remembered, Turn, differs, forgotten, inhibit_over, turn_by_type}
+use Rattle.co_pdos.specs.Tpdo.{Remembered, Turn, differs, remembering_nothing, without_past_inhibit, turn_by_type}
 use Rattle.co_pdos.specs.TransmissionTypes.{is_event_driven, is_synchronous}
 use Rattle.co_pdos.specs.Working.{tpdo_object}
 use Rattle.co_pdos.specs.declared.communication.Communication.{Communication}
@@ -24,25 +24,29 @@ use Rattle.device_pdos.specs.declared.tpdo_state.TpdoState.{TpdoState}
 
 -- a TPDO that remembers nothing
 abbrev pub tpdo : Shaped → Values → ℕ → TpdoState
-tpdo shape values number = record { number = number; configuration = configuration_of shape values (tpdo_object number); remembered = forgotten }
+tpdo shape values number = record {
+  number = number;
+  configuration = configuration_of shape values (tpdo_object number);
+  remembered = remembering_nothing;
+}
 
 -- all of a device
 unfoldable pub tpdos_of : Shaped → Values → List TpdoState
 tpdos_of shape values = map (tpdo shape values) (numbers_of tpdo_object shape)
 
 -- an entry of an object was written: the TPDO that it is of is judged anew, and remembers nothing
-abbrev pub tpdo_written : Shaped → Values → ℕ → TpdoState → TpdoState
-tpdo_written shape values index p = if p.number == number_of_object index then tpdo shape values p.number else p
+abbrev pub tpdo_after_write : Shaped → Values → ℕ → TpdoState → TpdoState
+tpdo_after_write shape values index p = if p.number == number_of_object index then tpdo shape values p.number else p
 
-unfoldable pub tpdos_written : Shaped → Values → ℕ → List TpdoState → List TpdoState
-tpdos_written shape values index tpdos = map (tpdo_written shape values index) tpdos
+unfoldable pub tpdos_after_write : Shaped → Values → ℕ → List TpdoState → List TpdoState
+tpdos_after_write shape values index tpdos = map (tpdo_after_write shape values index) tpdos
 
 -- all that they remember is forgotten
-abbrev pub reminded_of_nothing : TpdoState → TpdoState
-reminded_of_nothing p = record p { remembered = forgotten }
+abbrev pub without_memory : TpdoState → TpdoState
+without_memory p = record p { remembered = remembering_nothing }
 
-unfoldable pub tpdos_forgotten : List TpdoState → List TpdoState
-tpdos_forgotten tpdos = map reminded_of_nothing tpdos
+unfoldable pub without_memories : List TpdoState → List TpdoState
+without_memories tpdos = map without_memory tpdos
 
 -- ---- at a moment
 
@@ -51,11 +55,11 @@ unfoldable pub bytes_now : Values → Configuration → List ℕ
 bytes_now values c = take (packed values c.mapping).1 (packed values c.mapping).0
 
 -- an inhibit moment that has come is forgotten
-abbrev pub freed : ℕ → TpdoState → TpdoState
-freed t p = record p { remembered = inhibit_over t p.remembered }
+abbrev pub without_past_inhibit : ℕ → TpdoState → TpdoState
+without_past_inhibit t p = record p { remembered = without_past_inhibit t p.remembered }
 
-unfoldable pub tpdos_freed : ℕ → List TpdoState → List TpdoState
-tpdos_freed t tpdos = map (freed t) tpdos
+unfoldable pub without_past_inhibits : ℕ → List TpdoState → List TpdoState
+without_past_inhibits t tpdos = map (without_past_inhibit t) tpdos
 
 -- its frame, if it is sent
 abbrev pub frame_if : Bool → ℕ → List ℕ → Option BaseFrame
@@ -64,31 +68,32 @@ frame_if is_sent id bytes = if is_sent then Some (record { id = id; bytes = byte
 -- THE TURN OF A TPDO at the moment t, at a SYNC or not, by what it goes by: what it remembers then, and its frame if it
 -- is sent
 unfoldable pub turn : Option Configuration → ℕ → Bool → Values → Remembered → Remembered × Option BaseFrame
-turn None t at_sync values r = (inhibit_over t r, None)
+turn None t at_sync values r = (without_past_inhibit t r, None)
 turn (Some c) t at_sync values r =
     let bytes : List ℕ = bytes_now values c in
     let by : Communication = c.communication in
-    let own : Turn = turn_by_type by.transmission_type by at_sync t bytes (inhibit_over t r) in
+    let own : Turn = turn_by_type by.transmission_type by at_sync t bytes (without_past_inhibit t r) in
     (own.remembered, frame_if own.is_sent c.identifier bytes)
 
-abbrev pub looked : ℕ → Bool → Values → TpdoState → TpdoState
-looked t at_sync values p = record p { remembered = (turn p.configuration t at_sync values p.remembered).0 }
+abbrev pub tpdo_after_turn : ℕ → Bool → Values → TpdoState → TpdoState
+tpdo_after_turn t at_sync values p = record p { remembered = (turn p.configuration t at_sync values p.remembered).0 }
 
-abbrev pub frame_sent : ℕ → Bool → Values → TpdoState → Option BaseFrame
-frame_sent t at_sync values p = (turn p.configuration t at_sync values p.remembered).1
+abbrev pub frame_of_turn : ℕ → Bool → Values → TpdoState → Option BaseFrame
+frame_of_turn t at_sync values p = (turn p.configuration t at_sync values p.remembered).1
 
 -- it takes the place of a frame of the same TPDO that still waits
 abbrev pub with_frame : ℕ → Option BaseFrame → List Waiting → List Waiting
 with_frame number None frames = frames
-with_frame number (Some frame) frames = replaced (purpose.Tpdo number) frame frames
+with_frame number (Some frame) frames = with_latest (purpose.Tpdo number) frame frames
 
 -- EACH TPDO IN ITS TURN, by number: what they remember, and what waits
-unfoldable pub tpdos_looked : ℕ → Bool → Values → List TpdoState → List TpdoState
-tpdos_looked t at_sync values tpdos = map (looked t at_sync values) tpdos
+unfoldable pub tpdos_after_turns : ℕ → Bool → Values → List TpdoState → List TpdoState
+tpdos_after_turns t at_sync values tpdos = map (tpdo_after_turn t at_sync values) tpdos
 
 unfoldable pub with_tpdos : ℕ → Bool → Values → List TpdoState → List Waiting → List Waiting
 with_tpdos t at_sync values [] frames = frames
-with_tpdos t at_sync values (p ∷ tpdos) frames = with_tpdos t at_sync values tpdos (with_frame p.number (frame_sent t at_sync values p) frames)
+with_tpdos t at_sync values (p ∷ tpdos) frames =
+    with_tpdos t at_sync values tpdos (with_frame p.number (frame_of_turn t at_sync values p) frames)
 
 -- ---- what a TPDO waits for
 
@@ -121,7 +126,8 @@ due_of false None event = None
 
 -- event moments count of event-driven TPDOs, in Operational
 abbrev pub tpdo_moment : Bool → TpdoState → Option ℕ
-tpdo_moment operational p = due_of (operational && waits_for_event p.configuration) p.remembered.inhibit p.remembered.event
+tpdo_moment operational p = due_of (operational
+    && waits_for_event p.configuration) p.remembered.inhibit p.remembered.event
 
 abbrev pub moments : Bool → List TpdoState → List ℕ
 moments operational tpdos = flat_map (λ p. moments_of (tpdo_moment operational p)) tpdos

@@ -1,7 +1,8 @@
 //! The RPDOs of a device, by number.
 
 ghost use Rattle.std.specs.Prelude.{◌≡◌, ◌<◌, length, IfOk, ◌↔◌, IsTrue};
-ghost use Rattle.device_pdos.specs.Rpdos.{any_has_identifier, rpdos_emptied, rpdos_of as rpdos_now, rpdos_written, with_kept};
+ghost use Rattle.device_pdos.specs.Rpdos.{any_has_identifier, without_kept_frames, rpdos_of as rpdos_now};
+ghost use Rattle.device_pdos.specs.Rpdos.{rpdos_after_write, with_kept};
 
 use crate::numbers::{LAST_PDO, number_of_object};
 use crate::rpdo_state::RpdoState;
@@ -31,9 +32,9 @@ pub fn rpdos_of(alloc: Global, shape: &Shape, dict: &Dict) -> Result<Vec<RpdoSta
 
 /// What the write of an entry of an object of RPDOs brings about: its RPDO is judged anew, and keeps no
 /// frame. Walks the RPDOs.
-#[tactic(auto, unfolding(crate::specs::Rpdos::rpdos_written))]
+#[tactic(auto, unfolding(crate::specs::Rpdos::rpdos_after_write))]
 pub fn write_rpdos(rpdos: &mut [RpdoState], shape: &Shape, dict: &Dict, index: u16)
-    ensures { rpdos.new ≡ rpdos_written shape.now dict.now index rpdos.old }
+    ensures { rpdos.new ≡ rpdos_after_write shape.now dict.now index rpdos.old }
 {
     let number = number_of_object(index);
     for rpdo in rpdos.iter_mut() {
@@ -49,9 +50,9 @@ pub fn write_rpdos(rpdos: &mut [RpdoState], shape: &Shape, dict: &Dict, index: u
 }
 
 /// The frames that RPDOs keep are dropped.
-#[tactic(auto, unfolding(crate::specs::Rpdos::rpdos_emptied))]
+#[tactic(auto, unfolding(crate::specs::Rpdos::without_kept_frames))]
 pub fn empty_rpdos(rpdos: &mut [RpdoState])
-    ensures { rpdos.new ≡ rpdos_emptied rpdos.old }
+    ensures { rpdos.new ≡ without_kept_frames rpdos.old }
 {
     for rpdo in rpdos.iter_mut() {
         rpdo.kept = None;

@@ -1,8 +1,9 @@
 //! A TPDO of a device.
 
 ghost use Rattle.std.specs.Prelude.{◌≡◌, ◌↔◌, ◌<◌, ◌^◌, IsTrue, OnOk};
-ghost use Rattle.co_pdos.specs.Tpdo.{forgotten};
-ghost use Rattle.device_pdos.specs.Tpdos.{frame_sent, goes_by_sync, looked, tpdo_moment, waits_for_event, with_frame};
+ghost use Rattle.co_pdos.specs.Tpdo.{remembering_nothing};
+ghost use Rattle.device_pdos.specs.Tpdos.{frame_of_turn, goes_by_sync, tpdo_after_turn, tpdo_moment, waits_for_event};
+ghost use Rattle.device_pdos.specs.Tpdos.{with_frame};
 
 use can_frame::{Frame, Pending, Purpose};
 use co_dict::Dict;
@@ -24,7 +25,7 @@ pub struct TpdoState {
 impl TpdoState {
     /// A TPDO that goes by this, and remembers nothing.
     pub(crate) fn of(number: u16, configuration: Option<Configuration>) -> TpdoState
-        ensures { result ≡ record { number = number; configuration = configuration; remembered = forgotten } }
+        ensures { result ≡ record { number = number; configuration = configuration; remembered = remembering_nothing } }
     {
         TpdoState {
             number,
@@ -91,8 +92,8 @@ impl TpdoState {
     #[tactic(auto, using(crate::proofs::PackedLemmas::few), unfolding(crate::specs::Tpdos::bytes_now, crate::specs::Tpdos::turn))]
     fn look(&mut self, t: u64, at_sync: bool, dict: &Dict) -> Option<Frame>
         requires { t < 2 ^ 63 }
-        ensures state { self.new ≡ looked t at_sync dict.now self.old }
-        ensures frame { result ≡ frame_sent t at_sync dict.now self.old }
+        ensures state { self.new ≡ tpdo_after_turn t at_sync dict.now self.old }
+        ensures frame { result ≡ frame_of_turn t at_sync dict.now self.old }
     {
         self.remembered.end_inhibit(t);
         let configuration = self.configuration?;
@@ -118,8 +119,9 @@ impl TpdoState {
         waiting: &mut Pending,
     ) -> Result<(), AllocError>
         requires { t < 2 ^ 63 }
-        ensures state { OnOk result (self.new ≡ looked t at_sync dict.now self.old) }
-        ensures waiting { OnOk result (waiting.new ≡ with_frame self.old.number (frame_sent t at_sync dict.now self.old) waiting.old) }
+        ensures state { OnOk result (self.new ≡ tpdo_after_turn t at_sync dict.now self.old) }
+        ensures waiting { OnOk result (waiting.new
+            ≡ with_frame self.old.number (frame_of_turn t at_sync dict.now self.old) waiting.old) }
     {
         match self.look(t, at_sync, dict) {
             Some(frame) => waiting.replace(Purpose::Tpdo(self.number), frame),

@@ -2,7 +2,8 @@
 
 ghost use Rattle.std.specs.Prelude.{◌≡◌, ◌<◌, ◌^◌, IfOk, OnOk, ◌↔◌, IsTrue};
 ghost use Rattle.co_parts.specs.Moments.{earliest};
-ghost use Rattle.device_pdos.specs.Tpdos.{moments, tpdos_forgotten, tpdos_freed, tpdos_looked, tpdos_of as tpdos_now, tpdos_written, with_tpdos};
+ghost use Rattle.device_pdos.specs.Tpdos.{moments, without_memories, without_past_inhibits, tpdos_after_turns};
+ghost use Rattle.device_pdos.specs.Tpdos.{tpdos_of as tpdos_now, tpdos_after_write, with_tpdos};
 
 use crate::numbers::{LAST_PDO, number_of_object};
 use crate::tpdo_state::TpdoState;
@@ -30,9 +31,9 @@ pub fn tpdos_of(alloc: Global, shape: &Shape, dict: &Dict) -> Result<Vec<TpdoSta
 
 /// What the write of an entry of an object of TPDOs brings about: its TPDO is judged anew, and remembers
 /// nothing. Walks the TPDOs.
-#[tactic(auto, unfolding(crate::specs::Tpdos::tpdos_written))]
+#[tactic(auto, unfolding(crate::specs::Tpdos::tpdos_after_write))]
 pub fn write_tpdos(tpdos: &mut [TpdoState], shape: &Shape, dict: &Dict, index: u16)
-    ensures { tpdos.new ≡ tpdos_written shape.now dict.now index tpdos.old }
+    ensures { tpdos.new ≡ tpdos_after_write shape.now dict.now index tpdos.old }
 {
     let number = number_of_object(index);
     for tpdo in tpdos.iter_mut() {
@@ -44,9 +45,9 @@ pub fn write_tpdos(tpdos: &mut [TpdoState], shape: &Shape, dict: &Dict, index: u
 }
 
 /// All TPDOs forget what they remember.
-#[tactic(auto, unfolding(crate::specs::Tpdos::tpdos_forgotten))]
+#[tactic(auto, unfolding(crate::specs::Tpdos::without_memories))]
 pub fn forget_tpdos(tpdos: &mut [TpdoState])
-    ensures { tpdos.new ≡ tpdos_forgotten tpdos.old }
+    ensures { tpdos.new ≡ without_memories tpdos.old }
 {
     for tpdo in tpdos.iter_mut() {
         tpdo.remembered = Tpdo::forgotten();
@@ -54,9 +55,9 @@ pub fn forget_tpdos(tpdos: &mut [TpdoState])
 }
 
 /// The inhibit moments that have come at t are forgotten.
-#[tactic(auto, unfolding(crate::specs::Tpdos::tpdos_freed))]
+#[tactic(auto, unfolding(crate::specs::Tpdos::without_past_inhibits))]
 pub fn free_tpdos(tpdos: &mut [TpdoState], t: u64)
-    ensures { tpdos.new ≡ tpdos_freed t tpdos.old }
+    ensures { tpdos.new ≡ without_past_inhibits t tpdos.old }
 {
     for tpdo in tpdos.iter_mut() {
         tpdo.remembered.end_inhibit(t);
@@ -66,7 +67,7 @@ pub fn free_tpdos(tpdos: &mut [TpdoState], t: u64)
 /// Looks at each TPDO in its turn, at the moment t in microseconds, at a SYNC or not: one that is sent
 /// gets a frame that waits, in the place of one of its own that still waits. Takes time by the TPDOs
 /// that work, their mapping, and the logarithm of the number of entries.
-#[tactic(auto, unfolding(crate::specs::Tpdos::tpdos_looked, crate::specs::Tpdos::with_tpdos))]
+#[tactic(auto, unfolding(crate::specs::Tpdos::tpdos_after_turns, crate::specs::Tpdos::with_tpdos))]
 pub fn look_at_tpdos(
     tpdos: &mut [TpdoState],
     t: u64,
@@ -75,7 +76,7 @@ pub fn look_at_tpdos(
     waiting: &mut Pending,
 ) -> Result<(), AllocError>
     requires { t < 2 ^ 63 }
-    ensures tpdos { OnOk result (tpdos.new ≡ tpdos_looked t at_sync dict.now tpdos.old) }
+    ensures tpdos { OnOk result (tpdos.new ≡ tpdos_after_turns t at_sync dict.now tpdos.old) }
     ensures waiting { OnOk result (waiting.new ≡ with_tpdos t at_sync dict.now tpdos.old waiting.old) }
 {
     for tpdo in tpdos.iter_mut() {

@@ -10,7 +10,11 @@ use Rattle.std.proofs.lemmas.List.Kept.{IsStrictlySortedBy-dedup}
 use Rattle.std.proofs.lemmas.Map.Lookups.{CmpEqualImpliesEq, exact_unsigned, exact_bytes}
 use Rattle.std.specs.Cmp.Lexicographic.{slice_cmp}
 use Rattle.diag_lines.specs.declared.code.Code.{Code}
-use Rattle.diag_lines.specs.declared.code.Code.TheVariants.{NoEntry, Unreadable, OutsideLimits, NotWritable, NoObjects, TpdoTaken, TooManyBits, NotMappable, Mismatched, NoRpdo, NoDummy, BadIdentifier, NoIdentifier, ReservedType, SharedIdentifier, NotModelled, RemoteType, NoSync, UnfitConsumer, SkippedLine}
+use Rattle.diag_lines.specs.declared.code.Code.TheVariants.{NoEntry, Unreadable, OutsideLimits, NotWritable, NoObjects}
+use Rattle.diag_lines.specs.declared.code.Code.TheVariants.{TpdoTaken, TooManyBits, NotMappable, Mismatched, NoRpdo}
+use Rattle.diag_lines.specs.declared.code.Code.TheVariants.{NoDummy, BadIdentifier, NoIdentifier, ReservedType}
+use Rattle.diag_lines.specs.declared.code.Code.TheVariants.{SharedIdentifier, NotModelled, RemoteType, NoSync}
+use Rattle.diag_lines.specs.declared.code.Code.TheVariants.{UnfitConsumer, SkippedLine}
 use Rattle.diag_lines.specs.declared.subject.Subject.{Subject}
 use Rattle.diag_lines.specs.declared.subject.Subject.TheVariants.{Cob, Default, Eds, Event, Message, Node, Param}
 use Rattle.diag_lines.specs.declared.diag.Diag.{Diag}
@@ -28,12 +32,14 @@ then_equal Greater = refl
 
 subject_same : (a b : Subject) → (subject_ord.ghosts).cmp a b ≡ slice_cmp word_cmp (words_of a) (words_of b)
 subject_same (Cob a) (Cob b) = then_equal (nat_cmp a b)
-subject_same (Default a b c) (Default d e f) = ap (λ o. ordering_then (nat_cmp a d) (ordering_then (nat_cmp b e) o)) (then_equal (nat_cmp c f))
+subject_same (Default a b c) (Default d e f) = ap (λ o. ordering_then (nat_cmp a d) (ordering_then (nat_cmp b e) o))
+    (then_equal (nat_cmp c f))
 subject_same (Eds a m) (Eds b n) = ap (λ o. ordering_then (slice_cmp nat_cmp a b) o) (then_equal (nat_cmp m n))
 subject_same (Event a) (Event b) = then_equal (nat_cmp a b)
 subject_same (Message a) (Message b) = then_equal (slice_cmp nat_cmp a b)
 subject_same (Node a m) (Node b n) = ap (λ o. ordering_then (nat_cmp a b) o) (then_equal (nat_cmp m n))
-subject_same (Param a b c) (Param d e f) = ap (λ o. ordering_then (nat_cmp a d) (ordering_then (nat_cmp b e) o)) (then_equal (nat_cmp c f))
+subject_same (Param a b c) (Param d e f) = ap (λ o. ordering_then (nat_cmp a d) (ordering_then (nat_cmp b e) o))
+    (then_equal (nat_cmp c f))
 subject_same a b = refl
 
 -- the order of the type is that of the words
@@ -54,8 +60,10 @@ then_both Greater p e = cc
 -- the codes by their numbers
 all_codes : List Code
 all_codes =
-    NoEntry ∷ Unreadable ∷ OutsideLimits ∷ NotWritable ∷ NoObjects ∷ TpdoTaken ∷ TooManyBits ∷ NotMappable ∷ Mismatched ∷ NoRpdo
-    ∷ NoDummy ∷ BadIdentifier ∷ NoIdentifier ∷ ReservedType ∷ SharedIdentifier ∷ NotModelled ∷ RemoteType ∷ NoSync ∷ UnfitConsumer ∷ SkippedLine ∷ []
+    NoEntry ∷ Unreadable ∷ OutsideLimits ∷ NotWritable ∷ NoObjects ∷ TpdoTaken ∷ TooManyBits ∷ NotMappable ∷ Mismatched
+    ∷ NoRpdo
+    ∷ NoDummy ∷ BadIdentifier ∷ NoIdentifier ∷ ReservedType ∷ SharedIdentifier ∷ NotModelled ∷ RemoteType ∷ NoSync
+    ∷ UnfitConsumer ∷ SkippedLine ∷ []
 
 its_code : (a : Code) → get_or all_codes (number_of a - 1) NoEntry ≡ a
 unfolding number_of all_codes
@@ -63,9 +71,11 @@ its_code NoEntry = refl
 its_code other = refl
 
 code_exact : (a b : Code) → nat_cmp (number_of a) (number_of b) ≡ Equal → a ≡ b
-code_exact a b e = sym (its_code a) ∙ ap (λ n. get_or all_codes (n - 1) NoEntry) (exact_unsigned (number_of a) (number_of b) e) ∙ its_code b
+code_exact a b e = sym (its_code a) ∙ ap (λ n. get_or all_codes (n - 1) NoEntry)
+    (exact_unsigned (number_of a) (number_of b) e) ∙ its_code b
 
-three_exact : (a b c d e f : ℕ) → ordering_then (nat_cmp a d) (ordering_then (nat_cmp b e) (nat_cmp c f)) ≡ Equal → (a ≡ d) × (b ≡ e) × (c ≡ f)
+three_exact : (a b c d e f : ℕ) → ordering_then (nat_cmp a d) (ordering_then (nat_cmp b e) (nat_cmp c f)) ≡ Equal
+    → (a ≡ d) × (b ≡ e) × (c ≡ f)
 three_exact a b c d e f h =
     let one = then_both (nat_cmp a d) (ordering_then (nat_cmp b e) (nat_cmp c f)) h in
     let two = then_both (nat_cmp b e) (nat_cmp c f) one.1 in
@@ -73,19 +83,26 @@ three_exact a b c d e f h =
 
 subject_exact : (a b : Subject) → (subject_ord.ghosts).cmp a b ≡ Equal → a ≡ b
 subject_exact (Cob a) (Cob b) e = ap Cob (exact_unsigned a b e)
-subject_exact (Default a b c) (Default d e f) h = let same = three_exact a b c d e f h in λ i. Default (same.0 i) (same.1 i) (same.2 i)
-subject_exact (Eds a m) (Eds b n) e = let both = then_both (slice_cmp nat_cmp a b) (nat_cmp m n) e in λ i. Eds (exact_bytes a b both.0 i) (exact_unsigned m n both.1 i)
+subject_exact (Default a b c) (Default d e f) h = let same = three_exact a b c d e f h
+    in λ i. Default (same.0 i) (same.1 i) (same.2 i)
+subject_exact (Eds a m) (Eds b n) e = let both = then_both (slice_cmp nat_cmp a b) (nat_cmp m n) e
+    in λ i. Eds (exact_bytes a b both.0 i) (exact_unsigned m n both.1 i)
 subject_exact (Event a) (Event b) e = ap Event (exact_unsigned a b e)
 subject_exact (Message a) (Message b) e = ap Message (exact_bytes a b e)
-subject_exact (Node a m) (Node b n) e = let both = then_both (nat_cmp a b) (nat_cmp m n) e in λ i. Node (exact_unsigned a b both.0 i) (exact_unsigned m n both.1 i)
-subject_exact (Param a b c) (Param d e f) h = let same = three_exact a b c d e f h in λ i. Param (same.0 i) (same.1 i) (same.2 i)
+subject_exact (Node a m) (Node b n) e = let both = then_both (nat_cmp a b) (nat_cmp m n) e
+    in λ i. Node (exact_unsigned a b both.0 i) (exact_unsigned m n both.1 i)
+subject_exact (Param a b c) (Param d e f) h = let same = three_exact a b c d e f h
+    in λ i. Param (same.0 i) (same.1 i) (same.2 i)
 subject_exact a b e = cc
 
 pub diag_exact : CmpEqualImpliesEq diag_cmp
 unfolding diag_cmp
 diag_exact a b e =
     let both = then_both (nat_cmp (number_of a.code) (number_of b.code)) _ e in
-    λ i. record { code = code_exact a.code b.code both.0 i; subject = subject_exact a.subject b.subject (subject_same a.subject b.subject ∙ both.1) i }
+    λ i. record {
+      code = code_exact a.code b.code both.0 i;
+      subject = subject_exact a.subject b.subject (subject_same a.subject b.subject ∙ both.1) i;
+    }
 
 -- ---- diagnostics that are equal by the type's test are one
 
@@ -98,8 +115,12 @@ pub matches : (a b : Diag) → (diag_eq.ghosts).eq a b ≡ eq_by_cmp (diag_ord.g
 matches a b = matches_eq-law a b
 
 pub equal_exact : (a b : Diag) → (diag_eq.ghosts).eq a b ≡ true → a ≡ b
-equal_exact a b e = diag_exact a b (ap (λ (f : Diag → Diag → Ordering). f a b) (sym same_cmp) ∙ tied ((diag_ord.ghosts).cmp a b) (sym (matches a b) ∙ e))
+equal_exact a b e = diag_exact a b (ap (λ (f : Diag → Diag → Ordering). f a b) (sym same_cmp)
+    ∙ tied ((diag_ord.ghosts).cmp a b) (sym (matches a b) ∙ e))
 
 -- diagnostics that are sorted, each once
-pub once_in_order : (ds : List Diag) → IsSorted (diag_ord.ghosts).cmp ds → IsStrictlySortedBy diag_cmp (dedup (diag_eq.ghosts).eq ds)
-once_in_order ds sorted = subst (λ (cmp : Diag → Diag → Ordering). IsStrictlySortedBy cmp (dedup (diag_eq.ghosts).eq ds)) same_cmp (IsStrictlySortedBy-dedup total-law matches ds sorted)
+pub once_in_order : (ds : List Diag) → IsSorted (diag_ord.ghosts).cmp ds
+    → IsStrictlySortedBy diag_cmp (dedup (diag_eq.ghosts).eq ds)
+once_in_order ds sorted =
+    subst (λ (cmp : Diag → Diag → Ordering). IsStrictlySortedBy cmp (dedup (diag_eq.ghosts).eq ds)) same_cmp
+    (IsStrictlySortedBy-dedup total-law matches ds sorted)

@@ -12,7 +12,8 @@ use Rattle.diag_lines.specs.Codes.{number_of}
 
 -- E for an error, W for a warning, and the number in two digits
 abbrev pub code_word : Code → List ℕ
-code_word code = (if nat_le (number_of code) 16 then byte "E" else byte "W") ∷ (byte "0" + number_of code / 10) ∷ (byte "0" + number_of code % 10) ∷ []
+code_word code = (if nat_le (number_of code) 16 then byte "E" else byte "W") ∷ (byte "0" + number_of code / 10)
+    ∷ (byte "0" + number_of code % 10) ∷ []
 
 -- the words of a subject
 unfoldable pub subject_words : Subject → List (List ℕ)

@@ -1,4 +1,5 @@
--- The order of diagnostics (this profile's own): by the number of the code, then by the subject's words from left to right, numbers as numbers, names by their bytes.
+-- The order of diagnostics (this profile's own): by the number of the code, then by the subject's words from left to
+-- right, numbers as numbers, names by their bytes.
 use Rattle.std.specs.Prelude.{ℕ, List, [], ◌∷◌, codes}
 use Rattle.std.specs.declared.cmp.Ordering.{Ordering}
 use Rattle.std.specs.declared.cmp.Ordering.TheVariants.{Less, Greater}
@@ -31,4 +32,5 @@ words_of (Node node sub) = Name (codes "node") ∷ Number node ∷ Number sub �
 words_of (Param node index sub) = Name (codes "param") ∷ Number node ∷ Number index ∷ Number sub ∷ []
 
 unfoldable pub diag_cmp : Diag → Diag → Ordering
-diag_cmp a b = ordering_then (nat_cmp (number_of a.code) (number_of b.code)) (slice_cmp word_cmp (words_of a.subject) (words_of b.subject))
+diag_cmp a b = ordering_then (nat_cmp (number_of a.code) (number_of b.code))
+    (slice_cmp word_cmp (words_of a.subject) (words_of b.subject))

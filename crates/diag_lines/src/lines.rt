@@ -51,7 +51,8 @@ fn write_place(
     index: u16,
     sub: u8,
 ) -> Result<(), AllocError>
-    ensures { OnOk result (out.new.items ≡ out.old.items ++ byte " " ∷ decimal node ++ byte " " ∷ index_digits index ++ byte " " ∷ byte_digits sub) }
+    ensures { OnOk result (out.new.items ≡ out.old.items ++ byte " " ∷ decimal node ++ byte " " ∷ index_digits index
+        ++ byte " " ∷ byte_digits sub) }
 {
     write_number(out, alloc, u32::from(node))?;
     write_word(out, &index_digits(index))?;
@@ -61,7 +62,8 @@ fn write_place(
 
 /// Writes the words of a subject, each after a space.
 fn write_subject(out: &mut Vec<u8>, alloc: Global, subject: &Subject) -> Result<(), AllocError>
-    ensures { OnOk result (out.new.items ≡ out.old.items ++ flat_map (λ word. byte " " ∷ word) (subject_words subject.now)) }
+    ensures { OnOk result (out.new.items ≡ out.old.items ++ flat_map (λ word. byte " " ∷ word)
+        (subject_words subject.now)) }
 {
     match subject {
         Subject::Cob(identifier) => {

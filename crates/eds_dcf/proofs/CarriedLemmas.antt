@@ -1,5 +1,7 @@
 -- A DCF carries the parameters of its node: read as a device, it gives the same writes.
-use Rattle.std.proofs.Common.{◌≡◌, ◌==◌, ℕ, zero, suc, ◌<◌, ◌≤◌, Bool, true, false, cond, List, [], ◌∷◌, length, filter_map, reverse, Contains, IfSome, Option, None, Some, Result, Ok, Err, is_some, option_map, option_and_then, refl, sym, ap, ◌∙◌, arith}
+use Rattle.std.proofs.Common.{◌≡◌, ◌==◌, ℕ, zero, suc, ◌<◌, ◌≤◌, Bool, true, false, cond, List, [], ◌∷◌, length}
+use Rattle.std.proofs.Common.{filter_map, reverse, Contains, IfSome, Option, None, Some, Result, Ok, Err, is_some}
+use Rattle.std.proofs.Common.{option_map, option_and_then, refl, sym, ap, ◌∙◌, arith}
 use Rattle.std.proofs.lemmas.Bool.{eq-eqb, false≢true}
 use Rattle.std.proofs.lemmas.List.{reverse-append}
 use Rattle.std.proofs.lemmas.List.Elements.{All-contains, All-contains_itself, All-weaker, recursion_from_All}
@@ -11,11 +13,12 @@ use Rattle.std.specs.Result.{result_ok}
 use Rattle.ini_text.specs.Content.{Section}
 use Rattle.concise_dcf.specs.declared.write.Write.{Write}
 use Rattle.co_values.specs.Types.{is_modelled}
-use Rattle.co_values.specs.Values.{printed}
+use Rattle.co_values.specs.Values.{text_of_value}
 use Rattle.co_dict.specs.declared.entry.Entry.{Entry}
 use Rattle.co_dict.specs.Accesses.{is_writable}
 use Rattle.co_dict.specs.Pdos.{is_of_pdos}
-use Rattle.eds_device.specs.Described.{described, described_by, described_in, highest_sub, kind_at, unless_empty, value_text}
+use Rattle.eds_device.specs.Described.{description_of, description_by, description_in, highest_sub, kind_at}
+use Rattle.eds_device.specs.Described.{unless_empty, value_text}
 use Rattle.eds_device.specs.Entries.{entry_at, entry_by}
 use Rattle.eds_device.specs.Origins.{Origin, own, compact, origin_of}
 use Rattle.eds_device.specs.Places.{pairs_of}
@@ -27,10 +30,10 @@ use Rattle.co_params.proofs.JudgedLemmas.{judged_entry, judged_suits}
 use Rattle.co_params.proofs.ParameterLemmas.{behind, kind_of_entry, writes_sized}
 use Rattle.co_params.proofs.WrittenLemmas.{All-filter_map, Contains-filter_map}
 use Rattle.co_params.specs.declared.parameter_fault.ParameterFault.{ParameterFault}
-use Rattle.co_params.specs.Judgement.{Suits, judged}
+use Rattle.co_params.specs.Judgement.{Suits, parameter_bytes}
 use Rattle.co_params.specs.Parameters.{parameter_text, parameter_write, parameter_writes, place_of, write_to}
 use Rattle.eds_dcf.specs.Dcf.{dcf_sections}
-use Rattle.eds_dcf.specs.Standing.{is_typed, section_in, standing}
+use Rattle.eds_dcf.specs.Standing.{is_typed, section_in, value_that_stands}
 use Rattle.eds_dcf.specs.Writes.{is_to, last_of}
 use Rattle.eds_dcf.proofs.AgainLemmas.{printed_some, value_again}
 use Rattle.eds_dcf.proofs.AlikeLemmas.{entry_same}
@@ -44,27 +47,33 @@ Params = Texts
 
 module _ (ss : List Section) (node index sub : ℕ) where
   -- the section of an entry that may be written says its type
-  typed_by : (o : Option Origin) (entry : Entry) → option_map (entry_by node) (option_map (described_by sub) o) ≡ Some entry → is_modelled entry.kind ≡ true → is_writable entry.access ≡ true
+  typed_by : (o : Option Origin) (entry : Entry)
+      → option_map (entry_by node) (option_map (description_by sub) o) ≡ Some entry → is_modelled entry.kind ≡ true
+      → is_writable entry.access ≡ true
       → option_map_or (λ origin. is_modelled (kind_of (section_in origin))) o false ≡ true
   typed_by None entry e modelled writable = absurd (cc)
   typed_by (Some (own s)) entry e modelled writable =
-      let is : entry_by node (described_in s) ≡ entry = same_Some _ entry e in
+      let is : entry_by node (description_in s) ≡ entry = same_Some _ entry e in
       ap (λ (x : Entry). is_modelled x.kind) is ∙ modelled
   typed_by (Some (compact s n)) entry e modelled writable = by (sub == 0) (same_Some _ entry e)
     where
-      by : (t : Bool) → entry_by node (cond t (highest_sub n) (described_in s)) ≡ entry → is_modelled (kind_of s) ≡ true
+      by : (t : Bool) → entry_by node (cond t (highest_sub n) (description_in s)) ≡ entry
+          → is_modelled (kind_of s) ≡ true
       by true is = absurd (false≢true (ap (λ (x : Entry). is_writable x.access) is ∙ writable))
       by false is = ap (λ (x : Entry). is_modelled x.kind) is ∙ modelled
 
-  typed : (entry : Entry) → entry_at ss node index sub ≡ Some entry → is_modelled entry.kind ≡ true → is_writable entry.access ≡ true → is_typed ss (index, sub) ≡ true
-  unfolding entry_at described is_typed
+  typed : (entry : Entry) → entry_at ss node index sub ≡ Some entry → is_modelled entry.kind ≡ true
+      → is_writable entry.access ≡ true → is_typed ss (index, sub) ≡ true
+  unfolding entry_at description_of is_typed
   typed entry e modelled writable = typed_by (origin_of ss index sub) entry e modelled writable
 
   -- so no text gives another entry bytes
-  untyped : is_typed ss (index, sub) ≡ false → (text : List ℕ) → result_ok (judged (entry_at ss node index sub) text node) ≡ None
-  untyped h text = by (judged (entry_at ss node index sub) text node) refl
+  untyped : is_typed ss (index, sub) ≡ false → (text : List ℕ)
+      → result_ok (parameter_bytes (entry_at ss node index sub) text node) ≡ None
+  untyped h text = by (parameter_bytes (entry_at ss node index sub) text node) refl
     where
-      by : (r : Result (List ℕ) ParameterFault) → judged (entry_at ss node index sub) text node ≡ r → result_ok r ≡ None
+      by : (r : Result (List ℕ) ParameterFault) → parameter_bytes (entry_at ss node index sub) text node ≡ r
+          → result_ok r ≡ None
       by (Ok bytes) e =
           let j = judged_entry (entry_at ss node index sub) text bytes node e in
           absurd (false≢true (sym h ∙ typed j.0 j.1 j.2.modelled j.2.writable))
@@ -82,15 +91,20 @@ or_some (Some v) w = refl
 
 module _ (place : ℕ × ℕ) where
   -- where a write is to an entry there is a last one
-  found_last : (ws : List Write) (w : Write) → Contains ws w → is_to place w ≡ true → is_some (find (is_to place) (reverse ws)) ≡ true
+  found_last : (ws : List Write) (w : Write) → Contains ws w → is_to place w ≡ true
+      → is_some (find (is_to place) (reverse ws)) ≡ true
   found_last [] w (k, below, is) to = absurd (omega arith)
   found_last (v ∷ ws) w (zero, below, is) to =
-      ap is_some (ap (find (is_to place)) (reverse-append (v ∷ []) ws) ∙ find-append (is_to place) (reverse ws) (v ∷ []))
-      ∙ ap (λ t. is_some (option_or (find (is_to place) (reverse ws)) (cond t (Some v) None))) (ap (is_to place) is ∙ to)
+      ap is_some (ap (find (is_to place)) (reverse-append (v ∷ []) ws)
+      ∙ find-append (is_to place) (reverse ws) (v ∷ []))
+      ∙ ap (λ t. is_some (option_or (find (is_to place) (reverse ws)) (cond t (Some v) None)))
+      (ap (is_to place) is ∙ to)
       ∙ or_some (find (is_to place) (reverse ws)) v
   found_last (v ∷ ws) w (suc k, below, is) to =
-      ap is_some (ap (find (is_to place)) (reverse-append (v ∷ []) ws) ∙ find-append (is_to place) (reverse ws) (v ∷ []))
-      ∙ some_or (find (is_to place) (reverse ws)) (cond (is_to place v) (Some v) None) (found_last ws w (k, omega arith, is) to)
+      ap is_some (ap (find (is_to place)) (reverse-append (v ∷ []) ws)
+      ∙ find-append (is_to place) (reverse ws) (v ∷ []))
+      ∙ some_or (find (is_to place) (reverse ws)) (cond (is_to place v) (Some v) None)
+      (found_last ws w (k, omega arith, is) to)
 
   some_bytes : (o : Option Write) → is_some o ≡ true → is_some (option_map (λ (w : Write). w.bytes) o) ≡ true
   some_bytes None h = h
@@ -102,14 +116,20 @@ module _ (place : ℕ × ℕ) where
 
 module _ (ss : List Section) (params : Params) (node : ℕ) where
   -- a write is that of its own place
-  own_write : (place : ℕ × ℕ) (w : Write) → parameter_write ss params node place ≡ Some w → parameter_write ss params node (w.index, w.sub) ≡ Some (write_to (w.index, w.sub) w.bytes)
-  own_write place w e = let at : place_of w ≡ place = (behind ss params node place w e).at_place in ap (parameter_write ss params node) at ∙ e
+  own_write : (place : ℕ × ℕ) (w : Write) → parameter_write ss params node place ≡ Some w
+      → parameter_write ss params node (w.index, w.sub) ≡ Some (write_to (w.index, w.sub) w.bytes)
+  own_write place w e = let at : place_of w ≡ place = (behind ss params node place w e).at_place
+      in ap (parameter_write ss params node) at ∙ e
 
-  pub last_is : (place : ℕ × ℕ) → IfSome (last_of (parameter_writes ss params node) place) (λ bytes. parameter_write ss params node place ≡ Some (write_to place bytes))
+  pub last_is : (place : ℕ × ℕ) → IfSome (last_of (parameter_writes ss params node) place)
+      (λ bytes. parameter_write ss params node place ≡ Some (write_to place bytes))
   unfolding parameter_writes
   last_is place =
-      left_holds (λ place bytes. parameter_write ss params node place ≡ Some (write_to place bytes)) (filter_map (parameter_write ss params node) (pairs_of ss)) place
-      (All-filter_map (parameter_write ss params node) (λ w. parameter_write ss params node (w.index, w.sub) ≡ Some (write_to (w.index, w.sub) w.bytes)) own_write (pairs_of ss))
+      left_holds (λ place bytes. parameter_write ss params node place ≡ Some (write_to place bytes))
+      (filter_map (parameter_write ss params node) (pairs_of ss)) place
+      (All-filter_map (parameter_write ss params node)
+      (λ w. parameter_write ss params node (w.index, w.sub)
+      ≡ Some (write_to (w.index, w.sub) w.bytes)) own_write (pairs_of ss))
 
   to_itself : (place : ℕ × ℕ) (w : Write) → place_of w ≡ place → is_to place w ≡ true
   to_itself place w at =
@@ -117,24 +137,33 @@ module _ (ss : List Section) (params : Params) (node : ℕ) where
       let sub = eq-eqb place.1 w.sub (ap (λ (p : ℕ × ℕ). p.1) (sym at)) in
       rw (index, sub) refl
 
-  is_there : (place : ℕ × ℕ) (w : Write) → Contains (pairs_of ss) place → parameter_write ss params node place ≡ Some w → is_some (last_of (parameter_writes ss params node) place) ≡ true
+  is_there : (place : ℕ × ℕ) (w : Write) → Contains (pairs_of ss) place → parameter_write ss params node place ≡ Some w
+      → is_some (last_of (parameter_writes ss params node) place) ≡ true
   unfolding parameter_writes
   is_there place w there e =
-      last_there place (filter_map (parameter_write ss params node) (pairs_of ss)) w (Contains-filter_map (parameter_write ss params node) (pairs_of ss) place w there e)
+      last_there place (filter_map (parameter_write ss params node)
+      (pairs_of ss)) w (Contains-filter_map (parameter_write ss params node) (pairs_of ss) place w there e)
       (to_itself place w (behind ss params node place w e).at_place)
 
   -- the last write to an entry is its parameter's
-  pub last_write : (place : ℕ × ℕ) (w : Write) → Contains (pairs_of ss) place → parameter_write ss params node place ≡ Some w → last_of (parameter_writes ss params node) place ≡ Some w.bytes
-  last_write place w there e = by (last_of (parameter_writes ss params node) place) (last_is place) (is_there place w there e)
+  pub last_write : (place : ℕ × ℕ) (w : Write) → Contains (pairs_of ss) place
+      → parameter_write ss params node place ≡ Some w → last_of (parameter_writes ss params node) place ≡ Some w.bytes
+  last_write place w there e = by (last_of (parameter_writes ss params node) place) (last_is place)
+      (is_there place w there e)
     where
-      by : (o : Option (List ℕ)) → IfSome o (λ bytes. parameter_write ss params node place ≡ Some (write_to place bytes)) → is_some o ≡ true → o ≡ Some w.bytes
+      by : (o : Option (List ℕ))
+          → IfSome o (λ bytes. parameter_write ss params node place ≡ Some (write_to place bytes)) → is_some o ≡ true
+          → o ≡ Some w.bytes
       by None h some = absurd (false≢true some)
-      by (Some bytes) h some = let is : write_to place bytes ≡ w = same_Some (write_to place bytes) w (sym h ∙ e) in ap (λ (v : Write). Some v.bytes) is
+      by (Some bytes) h some = let is : write_to place bytes ≡ w = same_Some (write_to place bytes) w (sym h ∙ e)
+          in ap (λ (v : Write). Some v.bytes) is
 
-  pub no_last : (place : ℕ × ℕ) → parameter_write ss params node place ≡ None → last_of (parameter_writes ss params node) place ≡ None
+  pub no_last : (place : ℕ × ℕ) → parameter_write ss params node place ≡ None
+      → last_of (parameter_writes ss params node) place ≡ None
   no_last place e = by (last_of (parameter_writes ss params node) place) (last_is place)
     where
-      by : (o : Option (List ℕ)) → IfSome o (λ bytes. parameter_write ss params node place ≡ Some (write_to place bytes)) → o ≡ None
+      by : (o : Option (List ℕ))
+          → IfSome o (λ bytes. parameter_write ss params node place ≡ Some (write_to place bytes)) → o ≡ None
       by None h = refl
       by (Some bytes) h = absurd (cc)
 
@@ -144,17 +173,23 @@ keep_some : (text : List ℕ) → 0 < length text → unless_empty text ≡ Some
 keep_some [] some = absurd (omega arith)
 keep_some (c ∷ cs) some = refl
 
-and_none : {X : Type 0} (f : List ℕ → Option X) (o : Option (List ℕ)) → ((text : List ℕ) → f text ≡ None) → option_and_then f o ≡ None
+and_none : {X : Type 0} (f : List ℕ → Option X) (o : Option (List ℕ)) → ((text : List ℕ) → f text ≡ None)
+    → option_and_then f o ≡ None
 and_none f None h = refl
 and_none f (Some text) h = h text
 
-text_stands : (ss : List Section) (place : ℕ × ℕ) → value_text ss place.0 place.1 ≡ option_and_then unless_empty (standing ss place)
-unfolding value_text standing
+text_stands : (ss : List Section) (place : ℕ × ℕ)
+    → value_text ss place.0 place.1 ≡ option_and_then unless_empty (value_that_stands ss place)
+unfolding value_text value_that_stands
 text_stands ss place = refl
 
-unset_text : (ss : List Section) (place : ℕ × ℕ) → parameter_text ss empty place ≡ option_and_then unless_empty (cond (is_of_pdos place.0) None (value_text ss place.0 place.1))
+unset_text : (ss : List Section) (place : ℕ × ℕ)
+    → parameter_text ss empty place
+    ≡ option_and_then unless_empty (cond (is_of_pdos place.0) None (value_text ss place.0 place.1))
 unfolding parameter_text
-unset_text ss place = ap (λ (o : Option (List ℕ)). option_and_then unless_empty (option_or o (cond (is_of_pdos place.0) None (value_text ss place.0 place.1)))) (get-empty place_cmp place)
+unset_text ss place =
+    ap (λ (o : Option (List ℕ)). option_and_then unless_empty
+    (option_or o (cond (is_of_pdos place.0) None (value_text ss place.0 place.1)))) (get-empty place_cmp place)
 
 module _ (ss : List Section) (params : Params) (node : ℕ) (name : List ℕ) (bitrate : ℕ) where
   abbrev writes : List Write
@@ -169,21 +204,29 @@ module _ (ss : List Section) (params : Params) (node : ℕ) (name : List ℕ) (b
 
   -- a text that is read there
   dcf_text : (place : ℕ × ℕ) → is_of_pdos place.0 ≡ false → is_typed ss place ≡ true
-      → parameter_text dcf empty place ≡ option_and_then unless_empty (option_and_then unless_empty (option_map (printed (kind_at ss place)) (last_of writes place)))
+      → parameter_text dcf empty place
+      ≡ option_and_then unless_empty (option_and_then unless_empty (option_map (text_of_value (kind_at ss place))
+      (last_of writes place)))
   dcf_text place other typed =
       unset_text dcf place
       ∙ ap (λ (t : Bool). option_and_then unless_empty (cond t None (value_text dcf place.0 place.1))) other
-      ∙ ap (option_and_then unless_empty) (text_stands dcf place ∙ ap (option_and_then unless_empty) (dcf_stands ss node name bitrate writes place typed))
+      ∙ ap (option_and_then unless_empty) (text_stands dcf place
+      ∙ ap (option_and_then unless_empty) (dcf_stands ss node name bitrate writes place typed))
 
-  among_writes : (place : ℕ × ℕ) (w : Write) → Contains (pairs_of ss) place → parameter_write ss params node place ≡ Some w → Contains writes w
+  among_writes : (place : ℕ × ℕ) (w : Write) → Contains (pairs_of ss) place
+      → parameter_write ss params node place ≡ Some w → Contains writes w
   unfolding parameter_writes
   among_writes place w there e = Contains-filter_map (parameter_write ss params node) (pairs_of ss) place w there e
 
-  write_some : (place : ℕ × ℕ) (w : Write) → Contains (pairs_of ss) place → parameter_write ss params node place ≡ Some w → 0 < length w.bytes
-  write_some place w there e = let sized = All-contains (λ w. (1 ≤ length w.bytes) × (length w.bytes ≤ 512)) writes w (writes_sized ss params node) (among_writes place w there e) in omega (arith, sized.0)
+  write_some : (place : ℕ × ℕ) (w : Write) → Contains (pairs_of ss) place
+      → parameter_write ss params node place ≡ Some w → 0 < length w.bytes
+  write_some place w there e = let sized =
+      All-contains (λ w. (1 ≤ length w.bytes) × (length w.bytes ≤ 512)) writes w (writes_sized ss params node)
+      (among_writes place w there e) in omega (arith, sized.0)
 
   -- a parameter is read again
-  again : (place : ℕ × ℕ) (w : Write) → Contains (pairs_of ss) place → is_of_pdos place.0 ≡ false → parameter_write ss params node place ≡ Some w → parameter_write dcf empty node place ≡ Some w
+  again : (place : ℕ × ℕ) (w : Write) → Contains (pairs_of ss) place → is_of_pdos place.0 ≡ false
+      → parameter_write ss params node place ≡ Some w → parameter_write dcf empty node place ≡ Some w
   again place w there other e =
       let b = behind ss params node place w e in
       let j = judged_entry (entry_at ss node place.0 place.1) b.text w.bytes node b.judged_ok in
@@ -191,35 +234,53 @@ module _ (ss : List Section) (params : Params) (node : ℕ) (name : List ℕ) (b
       let s : Suits entry b.text w.bytes node = j.2 in
       let kind = kind_of_entry ss node place.0 place.1 entry j.1 in
       let spelled = value_again entry.kind b.text w.bytes node s.spelled in
-      let some : 0 < length (printed entry.kind w.bytes) = printed_some entry.kind w.bytes s.modelled (write_some place w there e) in
-      let text : parameter_text dcf empty place ≡ Some (printed entry.kind w.bytes) =
+      let some : 0 < length (text_of_value entry.kind w.bytes) =
+      printed_some entry.kind w.bytes s.modelled (write_some place w there e) in
+      let text : parameter_text dcf empty place ≡ Some (text_of_value entry.kind w.bytes) =
       dcf_text place other (typed ss node place.0 place.1 entry j.1 s.modelled s.writable)
-      ∙ ap (λ o. option_and_then unless_empty (option_and_then unless_empty (option_map (printed (kind_at ss place)) o))) (last_write ss params node place w there e)
-      ∙ ap (λ k. option_and_then unless_empty (unless_empty (printed k w.bytes))) kind
-      ∙ ap (option_and_then unless_empty) (keep_some (printed entry.kind w.bytes) some) ∙ keep_some (printed entry.kind w.bytes) some in
-      let ok : judged (entry_at dcf node place.0 place.1) (printed entry.kind w.bytes) node ≡ Ok w.bytes =
-      ap (λ o. judged o (printed entry.kind w.bytes) node) (dcf_entry place.0 place.1 ∙ j.1)
-      ∙ (judged_suits entry (printed entry.kind w.bytes) w.bytes node).1 (record { modelled = s.modelled; writable = s.writable; spelled = spelled; above_low = s.above_low; below_high = s.below_high }) in
+      ∙ ap (λ o. option_and_then unless_empty (option_and_then unless_empty
+      (option_map (text_of_value (kind_at ss place)) o))) (last_write ss params node place w there e)
+      ∙ ap (λ k. option_and_then unless_empty (unless_empty (text_of_value k w.bytes))) kind
+      ∙ ap (option_and_then unless_empty) (keep_some (text_of_value entry.kind w.bytes) some)
+      ∙ keep_some (text_of_value entry.kind w.bytes) some in
+      let ok : parameter_bytes (entry_at dcf node place.0 place.1) (text_of_value entry.kind w.bytes) node
+      ≡ Ok w.bytes =
+      ap (λ o. parameter_bytes o (text_of_value entry.kind w.bytes) node) (dcf_entry place.0 place.1 ∙ j.1)
+      ∙ (judged_suits entry (text_of_value entry.kind w.bytes) w.bytes node).1 (record {
+        modelled = s.modelled;
+        writable = s.writable;
+        spelled = spelled;
+        above_low = s.above_low;
+        below_high = s.below_high;
+      }) in
       rw (text, ok) (ap (λ p. Some (write_to p w.bytes)) (sym b.at_place))
 
   -- and an entry without one gives none
-  none_again : (place : ℕ × ℕ) → parameter_write ss params node place ≡ None → parameter_write dcf empty node place ≡ None
+  none_again : (place : ℕ × ℕ) → parameter_write ss params node place ≡ None
+      → parameter_write dcf empty node place ≡ None
   none_again place e = by (is_of_pdos place.0) refl (is_typed ss place) refl
     where
       nothing : parameter_text dcf empty place ≡ None → parameter_write dcf empty node place ≡ None
       nothing h = rw h refl
 
-      by : (t : Bool) → is_of_pdos place.0 ≡ t → (u : Bool) → is_typed ss place ≡ u → parameter_write dcf empty node place ≡ None
-      by true p u h = nothing (unset_text dcf place ∙ ap (λ (t : Bool). option_and_then unless_empty (cond t None (value_text dcf place.0 place.1))) p)
+      by : (t : Bool) → is_of_pdos place.0 ≡ t → (u : Bool) → is_typed ss place ≡ u
+          → parameter_write dcf empty node place ≡ None
+      by true p u h = nothing (unset_text dcf place
+          ∙ ap (λ (t : Bool). option_and_then unless_empty (cond t None (value_text dcf place.0 place.1))) p)
       by false p true h =
-          nothing (dcf_text place p h ∙ ap (λ o. option_and_then unless_empty (option_and_then unless_empty (option_map (printed (kind_at ss place)) o))) (no_last ss params node place e))
+          nothing (dcf_text place p h
+          ∙ ap (λ o. option_and_then unless_empty (option_and_then unless_empty
+          (option_map (text_of_value (kind_at ss place)) o))) (no_last ss params node place e))
       by false p false h =
           ap (option_map (write_to place))
-          (ap (λ o. option_and_then (λ text. result_ok (judged o text node)) (parameter_text dcf empty place)) (dcf_entry place.0 place.1)
-          ∙ and_none (λ text. result_ok (judged (entry_at ss node place.0 place.1) text node)) (parameter_text dcf empty place) (untyped ss node place.0 place.1 h))
+          (ap (λ o. option_and_then (λ text. result_ok (parameter_bytes o text node)) (parameter_text dcf empty place))
+          (dcf_entry place.0 place.1)
+          ∙ and_none (λ text. result_ok (parameter_bytes (entry_at ss node place.0 place.1) text node))
+          (parameter_text dcf empty place) (untyped ss node place.0 place.1 h))
 
   -- entry by entry
-  pub same_write : ((w : Write) → Contains writes w → is_of_pdos w.index ≡ false) → (place : ℕ × ℕ) → Contains (pairs_of ss) place → parameter_write dcf empty node place ≡ parameter_write ss params node place
+  pub same_write : ((w : Write) → Contains writes w → is_of_pdos w.index ≡ false) → (place : ℕ × ℕ)
+      → Contains (pairs_of ss) place → parameter_write dcf empty node place ≡ parameter_write ss params node place
   same_write outside place there = by (parameter_write ss params node place) refl
     where
       by : (o : Option Write) → parameter_write ss params node place ≡ o → parameter_write dcf empty node place ≡ o
@@ -228,18 +289,24 @@ module _ (ss : List Section) (params : Params) (node : ℕ) (name : List ℕ) (b
           let at = (behind ss params node place w e).at_place in
           again place w there (ap (λ (p : ℕ × ℕ). is_of_pdos p.0) (sym at) ∙ outside w (among_writes place w there e)) e
 
-filter_map_agree : {X Y : Type 0} (f g : X → Option Y) (xs : List X) → AllByRecursion (λ x. f x ≡ g x) xs → filter_map f xs ≡ filter_map g xs
+filter_map_agree : {X Y : Type 0} (f g : X → Option Y) (xs : List X) → AllByRecursion (λ x. f x ≡ g x) xs
+    → filter_map f xs ≡ filter_map g xs
 filter_map_agree f g [] h = refl
 filter_map_agree f g (x ∷ xs) h = λ i. cons_option (h.0 i) (filter_map_agree f g xs h.1 i)
 
 module _ (ss : List Section) (params : Params) (node : ℕ) (name : List ℕ) (bitrate : ℕ) where
   -- THE DCF CARRIES THE PARAMETERS
   pub carried : ((w : Write) → Contains (parameter_writes ss params node) w → is_of_pdos w.index ≡ false)
-      → parameter_writes (dcf_sections ss node name bitrate (parameter_writes ss params node)) empty node ≡ parameter_writes ss params node
+      → parameter_writes (dcf_sections ss node name bitrate (parameter_writes ss params node)) empty node
+      ≡ parameter_writes ss params node
   unfolding parameter_writes
   carried outside =
       let there = dcf_sections ss node name bitrate (filter_map (parameter_write ss params node) (pairs_of ss)) in
-      ap (filter_map (parameter_write there empty node)) (dcf_pairs ss node name bitrate (filter_map (parameter_write ss params node) (pairs_of ss)))
+      ap (filter_map (parameter_write there empty node))
+      (dcf_pairs ss node name bitrate (filter_map (parameter_write ss params node) (pairs_of ss)))
       ∙ filter_map_agree (parameter_write there empty node) (parameter_write ss params node) (pairs_of ss)
-      (recursion_from_All (λ place. parameter_write there empty node place ≡ parameter_write ss params node place) (pairs_of ss)
-      (All-weaker (Contains (pairs_of ss)) (λ place. parameter_write there empty node place ≡ parameter_write ss params node place) (same_write ss params node name bitrate outside) (pairs_of ss) (All-contains_itself (pairs_of ss))))
+      (recursion_from_All (λ place. parameter_write there empty node place ≡ parameter_write ss params node place)
+      (pairs_of ss)
+      (All-weaker (Contains (pairs_of ss)) (λ place. parameter_write there empty node place
+      ≡ parameter_write ss params node place) (same_write ss params node name bitrate outside) (pairs_of ss)
+      (All-contains_itself (pairs_of ss))))

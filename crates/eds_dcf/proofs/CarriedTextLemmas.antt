@@ -1,5 +1,6 @@
 -- The text of a DCF carries the parameters of its node.
-use Rattle.std.proofs.Common.{◌≡◌, ◌==◌, ℕ, Bool, true, false, cond, List, [], ◌∷◌, All, Contains, IfSome, Option, None, Some, option_map, option_and_then, codes, nat_le, sym, ap, subst, ◌∙◌}
+use Rattle.std.proofs.Common.{◌≡◌, ◌==◌, ℕ, Bool, true, false, cond, List, [], ◌∷◌, All, Contains, IfSome, Option, None}
+use Rattle.std.proofs.Common.{Some, option_map, option_and_then, codes, nat_le, sym, ap, subst, ◌∙◌}
 use Rattle.std.proofs.lemmas.List.Elements.{recursion_from_All}
 use Rattle.std.specs.BTreeMap.{is_at}
 use Rattle.std.specs.List.{AllByRecursion, find}
@@ -17,7 +18,8 @@ use Rattle.co_dict.specs.Places.{place_cmp}
 use Rattle.eds_device.specs.Described.{kind_at, listed_value, sub_listed, unless_empty, value_by, value_text}
 use Rattle.eds_device.specs.Entries.{entry_at}
 use Rattle.eds_device.specs.Names.{index_named, place_named, values_named}
-use Rattle.eds_device.specs.Origins.{Origin, own, compact, is_index, is_place, object_section, origin_of, sub_section, values_section}
+use Rattle.eds_device.specs.Origins.{Origin, own, compact, is_index, is_place, object_section, origin_of, sub_section}
+use Rattle.eds_device.specs.Origins.{values_section}
 use Rattle.eds_device.specs.Places.{pairs_of}
 use Rattle.eds_device.specs.Sections.{compact_count, is_plain}
 use Rattle.co_params.proofs.JudgedLemmas.{judged_entry}
@@ -49,7 +51,8 @@ value_all (p ∷ ps) key h = by (same key p.key) (value_all ps key h.1)
 
 -- the section of an entry is one of the sections
 module _ (P : Section → Type 0) (index sub : ℕ) where
-  counted_all : (s : Section) → P s → (c : Option ℕ) → IfSome (option_and_then (λ n. cond (nat_le sub n) (Some (compact s n)) None) c) (λ o. P (section_in o))
+  counted_all : (s : Section) → P s → (c : Option ℕ)
+      → IfSome (option_and_then (λ n. cond (nat_le sub n) (Some (compact s n)) None) c) (λ o. P (section_in o))
   counted_all s h None = tt
   counted_all s h (Some n) = by (nat_le sub n)
     where
@@ -58,46 +61,61 @@ module _ (P : Section → Type 0) (index sub : ℕ) where
       by false = tt
 
   origin_by : (t : Bool) (a b : Option Section) → IfSome a P → IfSome b P
-      → IfSome (option_or (option_map own a) (option_or (cond t (option_and_then (λ s. cond (is_plain s) (Some (own s)) None) b) None)
-      (option_and_then (λ s. option_and_then (λ n. cond (nat_le sub n) (Some (compact s n)) None) (compact_count s)) b))) (λ o. P (section_in o))
+      → IfSome (option_or (option_map own a)
+      (option_or (cond t (option_and_then (λ s. cond (is_plain s) (Some (own s)) None) b) None)
+      (option_and_then (λ s. option_and_then (λ n. cond (nat_le sub n) (Some (compact s n)) None)
+      (compact_count s)) b))) (λ o. P (section_in o))
   origin_by t (Some s) b ha hb = ha
   origin_by true None None ha hb = tt
   origin_by false None None ha hb = tt
   origin_by false None (Some s) ha hb = counted_all s hb (compact_count s)
   origin_by true None (Some s) ha hb = by (is_plain s)
     where
-      by : (u : Bool) → IfSome (option_or (cond u (Some (own s)) None) (option_and_then (λ n. cond (nat_le sub n) (Some (compact s n)) None) (compact_count s))) (λ o. P (section_in o))
+      by : (u : Bool)
+          → IfSome (option_or (cond u (Some (own s)) None)
+          (option_and_then (λ n. cond (nat_le sub n) (Some (compact s n)) None) (compact_count s)))
+          (λ o. P (section_in o))
       by true = hb
       by false = counted_all s hb (compact_count s)
 
   origin_all : (ss : List Section) → AllByRecursion P ss → IfSome (origin_of ss index sub) (λ o. P (section_in o))
   unfolding origin_of sub_section object_section
   origin_all ss h =
-      origin_by (sub == 0) (find (λ s. is_place (index, sub) (place_named s.name)) ss) (find (λ s. is_index index (index_named s.name)) ss)
-      (found_all P (λ s. is_place (index, sub) (place_named s.name)) ss h) (found_all P (λ s. is_index index (index_named s.name)) ss h)
+      origin_by (sub == 0) (find (λ s. is_place (index, sub) (place_named s.name)) ss)
+      (find (λ s. is_index index (index_named s.name)) ss)
+      (found_all P (λ s. is_place (index, sub) (place_named s.name)) ss h)
+      (found_all P (λ s. is_index index (index_named s.name)) ss h)
 
 found_value : (o : Option Pair) → IfSome o IsPrintablePair → IfSome (option_map (λ (p : Pair). p.value) o) IsValue
 found_value None h = tt
 found_value (Some p) h = h.value
 
-listed_all : (ss : List Section) (index sub : ℕ) → AllByRecursion IsPrintableSection ss → IfSome (listed_value ss index sub) IsValue
+listed_all : (ss : List Section) (index sub : ℕ) → AllByRecursion IsPrintableSection ss
+    → IfSome (listed_value ss index sub) IsValue
 unfolding listed_value values_section
-listed_all ss index sub h = by (find (λ s. is_index index (values_named s.name)) ss) (found_all IsPrintableSection (λ s. is_index index (values_named s.name)) ss h)
+listed_all ss index sub h = by (find (λ s. is_index index (values_named s.name)) ss)
+    (found_all IsPrintableSection (λ s. is_index index (values_named s.name)) ss h)
   where
-    by : (o : Option Section) → IfSome o IsPrintableSection → IfSome (option_and_then (λ (s : Section). option_map (λ (p : Pair). p.value) (find (λ p. is_index sub (sub_listed p.key)) s.pairs)) o) IsValue
+    by : (o : Option Section) → IfSome o IsPrintableSection
+        → IfSome (option_and_then (λ (s : Section). option_map (λ (p : Pair). p.value)
+        (find (λ p. is_index sub (sub_listed p.key)) s.pairs)) o) IsValue
     by None h = tt
-    by (Some s) h = found_value (find (λ p. is_index sub (sub_listed p.key)) s.pairs) (found_all IsPrintablePair (λ p. is_index sub (sub_listed p.key)) s.pairs h.pairs)
+    by (Some s) h = found_value (find (λ p. is_index sub (sub_listed p.key)) s.pairs)
+        (found_all IsPrintablePair (λ p. is_index sub (sub_listed p.key)) s.pairs h.pairs)
 
 left_some : (o : Option (List ℕ)) → IfSome o IsValue → IfSome (option_and_then unless_empty o) IsValue
 left_some None h = tt
 left_some (Some []) h = tt
 left_some (Some (c ∷ cs)) h = h
 
-given_all : (ss : List Section) (index sub : ℕ) → AllByRecursion IsPrintableSection ss → IfSome (value_text ss index sub) IsValue
+given_all : (ss : List Section) (index sub : ℕ) → AllByRecursion IsPrintableSection ss
+    → IfSome (value_text ss index sub) IsValue
 unfolding value_text
-given_all ss index sub h = left_some (option_and_then (value_by ss index sub) (origin_of ss index sub)) (by (origin_of ss index sub) (origin_all IsPrintableSection index sub ss h))
+given_all ss index sub h = left_some (option_and_then (value_by ss index sub) (origin_of ss index sub))
+    (by (origin_of ss index sub) (origin_all IsPrintableSection index sub ss h))
   where
-    by : (o : Option Origin) → IfSome o (λ o. IsPrintableSection (section_in o)) → IfSome (option_and_then (value_by ss index sub) o) IsValue
+    by : (o : Option Origin) → IfSome o (λ o. IsPrintableSection (section_in o))
+        → IfSome (option_and_then (value_by ss index sub) o) IsValue
     by None g = tt
     by (Some (own s)) g = value_all s.pairs (codes "ParameterValue") g.pairs
     by (Some (compact s n)) g = listed_all ss index sub h
@@ -110,19 +128,24 @@ unless_pdo : (t : Bool) (o : Option (List ℕ)) → IfSome o IsValue → IfSome 
 unless_pdo true o h = tt
 unless_pdo false o h = h
 
-module _ (ss : List Section) (params : Params) (node : ℕ) (printable : IsPrintable ss) (lines : (place : ℕ × ℕ) → IfSome (get params place) IsValue) where
+module _ (ss : List Section) (params : Params) (node : ℕ) (printable : IsPrintable ss)
+    (lines : (place : ℕ × ℕ) → IfSome (get params place) IsValue) where
   text_all : (place : ℕ × ℕ) → IfSome (parameter_text ss params place) IsValue
   unfolding parameter_text
   text_all place =
       left_some (option_or (get params place) (given_text ss place))
-      (either_value (get params place) (given_text ss place) (lines place) (unless_pdo (is_of_pdos place.0) (value_text ss place.0 place.1) (given_all ss place.0 place.1 printable.each)))
+      (either_value (get params place) (given_text ss place) (lines place)
+      (unless_pdo (is_of_pdos place.0) (value_text ss place.0 place.1)
+      (given_all ss place.0 place.1 printable.each)))
 
   write_stands : (place : ℕ × ℕ) (w : Write) → parameter_write ss params node place ≡ Some w → StandsInLine ss w
   write_stands place w e kind =
       let b = behind ss params node place w e in
       let j = judged_entry (entry_at ss node place.0 place.1) b.text w.bytes node b.judged_ok in
-      let of_entry : j.0.kind ≡ VisibleString = sym (kind_of_entry ss node place.0 place.1 j.0 j.1) ∙ ap (kind_at ss) (sym b.at_place) ∙ kind in
-      let spelled : value VisibleString b.text node ≡ Some w.bytes = subst (λ (k : DataType). value k b.text node ≡ Some w.bytes) of_entry j.2.spelled in
+      let of_entry : j.0.kind ≡ VisibleString = sym (kind_of_entry ss node place.0 place.1 j.0 j.1)
+      ∙ ap (kind_at ss) (sym b.at_place) ∙ kind in
+      let spelled : value VisibleString b.text node
+      ≡ Some w.bytes = subst (λ (k : DataType). value k b.text node ≡ Some w.bytes) of_entry j.2.spelled in
       let text : IsValue b.text = subst (λ (o : Option (List ℕ)). IfSome o IsValue) b.there (text_all place) in
       subst IsValue (characters b.text w.bytes node spelled) text
 
@@ -131,10 +154,14 @@ module _ (ss : List Section) (params : Params) (node : ℕ) (printable : IsPrint
   all_stand = All-filter_map (parameter_write ss params node) (StandsInLine ss) write_stands (pairs_of ss)
 
 -- reading its text gives the parameters again
-pub carried_text : (ss : List Section) (params : Params) (node : ℕ) (name : List ℕ) (bitrate : ℕ) → IsPrintable ss → IsValue name → ((place : ℕ × ℕ) → IfSome (get params place) IsValue)
+pub carried_text : (ss : List Section) (params : Params) (node : ℕ) (name : List ℕ) (bitrate : ℕ) → IsPrintable ss
+    → IsValue name → ((place : ℕ × ℕ) → IfSome (get params place) IsValue)
     → ((w : Write) → Contains (parameter_writes ss params node) w → is_of_pdos w.index ≡ false)
-    → parameter_writes (content_of (text_of (dcf_sections ss node name bitrate (parameter_writes ss params node)))).sections empty node ≡ parameter_writes ss params node
+    → parameter_writes
+    (content_of (text_of (dcf_sections ss node name bitrate (parameter_writes ss params node)))).sections empty node
+    ≡ parameter_writes ss params node
 carried_text ss params node name bitrate printable label lines outside =
     let all = all_stand ss params node printable lines in
-    ap (λ sections. parameter_writes sections empty node) (dcf_again ss node name bitrate (parameter_writes ss params node) printable label all)
+    ap (λ sections. parameter_writes sections empty node)
+    (dcf_again ss node name bitrate (parameter_writes ss params node) printable label all)
     ∙ carried ss params node name bitrate outside

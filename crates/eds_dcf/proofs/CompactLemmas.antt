@@ -1,5 +1,8 @@
 -- What a section `[xxxxValue]` has at the key of a sub.
-use Rattle.std.proofs.Common.{◌≡◌, ◌==◌, ℕ, zero, suc, ◌+◌, ◌^◌, ◌<◌, ◌≤◌, Bool, true, false, cond, not, ◌&&◌, ◌||◌, List, [], ◌∷◌, ◌++◌, length, filter, filter_map, option_to_list, codes, decimal, Option, None, Some, option_map, option_and_then, ℤ, pos, negsuc, nat_lt, nat_le, refl, sym, ap, subst, ◌∙◌, arith}
+use Rattle.std.proofs.Common.{◌≡◌, ◌==◌, ℕ, zero, suc, ◌+◌, ◌^◌, ◌<◌, ◌≤◌, Bool, true, false, cond, not, ◌&&◌, ◌||◌}
+use Rattle.std.proofs.Common.{List, [], ◌∷◌, ◌++◌, length, filter, filter_map, option_to_list, codes, decimal, Option}
+use Rattle.std.proofs.Common.{None, Some, option_map, option_and_then, ℤ, pos, negsuc, nat_lt, nat_le, refl, sym, ap}
+use Rattle.std.proofs.Common.{subst, ◌∙◌, arith}
 use Rattle.std.proofs.lemmas.Bool.{false≢true}
 use Rattle.std.proofs.lemmas.Bool.Decides.{nat_tests}
 use Rattle.std.proofs.lemmas.Fmt.{decimal_injective, decimal_is_IsNumeral}
@@ -14,12 +17,13 @@ use Rattle.ini_text.specs.Change.{put_value}
 use Rattle.ini_text.specs.Content.{Pair, Section, folded, same, value_at}
 use Rattle.co_values.specs.declared.data_type.DataType.{DataType}
 use Rattle.co_values.specs.Types.{is_modelled}
-use Rattle.co_values.specs.Values.{printed}
+use Rattle.co_values.specs.Values.{text_of_value}
 use Rattle.eds_device.specs.Described.{kind_at}
 use Rattle.eds_device.specs.Places.{first_subs}
 use Rattle.eds_device.specs.Sections.{compact_count, in_subs, is_compact_type, kind_of, number_at, object_type}
 use Rattle.eds_device.specs.Origins.{object_section, origin_of}
-use Rattle.eds_dcf.specs.Compact.{compact_object, is_compact, is_decimal, value_pair, values_pairs, values_pairs_at, values_set, with_count}
+use Rattle.eds_dcf.specs.Compact.{compact_object, is_compact, is_decimal, value_pair, values_pairs, values_pairs_at}
+use Rattle.eds_dcf.specs.Compact.{values_set, with_count}
 use Rattle.eds_dcf.proofs.LawLemmas.{or_none, value_append}
 use Rattle.eds_dcf.proofs.TextLemmas.{filter_map-push}
 
@@ -37,7 +41,9 @@ below_test a b h = grind (arith, nat_tests)
 decimal_folded : (a : List ℕ) → is_decimal (folded a) ≡ is_decimal a
 decimal_folded a =
     ap (λ n. not (n == 0) && list_all (λ c. is_digit c 10) (folded a)) (length-map a to_ascii_lowercase)
-    ∙ ap (λ t. not (length a == 0) && t) (list_all-map (λ c. is_digit c 10) to_ascii_lowercase a ∙ (let q : (λ (c : ℕ). is_digit (to_ascii_lowercase c) 10) ≡ (λ (c : ℕ). is_digit c 10) = λ i c. lower_digit c i in ap (λ (p : ℕ → Bool). list_all p a) q))
+    ∙ ap (λ t. not (length a == 0) && t) (list_all-map (λ c. is_digit c 10) to_ascii_lowercase a
+    ∙ (let q : (λ (c : ℕ). is_digit (to_ascii_lowercase c) 10) ≡ (λ (c : ℕ). is_digit c 10) = λ i c. lower_digit c i
+    in ap (λ (p : ℕ → Bool). list_all p a) q))
 
 -- keys that are equal without case are decimal together
 pub decimal_same : (a b : List ℕ) → same a b ≡ true → is_decimal a ≡ is_decimal b
@@ -57,11 +63,13 @@ some_digit n h = grind (arith, nat_tests)
 decimal_is : (n : ℕ) → n < 2 ^ 64 → is_decimal (decimal n) ≡ true
 decimal_is n h =
     let numeral = decimal_is_IsNumeral n h in
-    ap (λ t. t && list_all (λ c. is_digit c 10) (decimal n)) (some_digit (length (decimal n)) numeral.0.0) ∙ all_digits (decimal n) numeral.0.1
+    ap (λ t. t && list_all (λ c. is_digit c 10) (decimal n)) (some_digit (length (decimal n)) numeral.0.0)
+    ∙ all_digits (decimal n) numeral.0.1
 
 pub same_decimal : (j k : ℕ) → j < 2 ^ 64 → k < 2 ^ 64 → same (decimal j) (decimal k) ≡ true → j ≡ k
 same_decimal j k hj hk h =
-    decimal_injective j k hj hk (sym (folded_digits (decimal j) (decimal_is_IsNumeral j hj).0.1) ∙ same_folded (decimal j) (decimal k) h ∙ folded_digits (decimal k) (decimal_is_IsNumeral k hk).0.1)
+    decimal_injective j k hj hk (sym (folded_digits (decimal j) (decimal_is_IsNumeral j hj).0.1)
+    ∙ same_folded (decimal j) (decimal k) h ∙ folded_digits (decimal k) (decimal_is_IsNumeral k hk).0.1)
 
 pub untrue : (t : Bool) → (t ≡ true → ⊥) → t ≡ false
 untrue true denied = absurd (denied refl)
@@ -70,63 +78,87 @@ untrue false denied = refl
 -- ---- pairs that stay and go
 
 module _ (key : List ℕ) where
-  kept_others : is_decimal key ≡ false → (ps : List Pair) → value_at (filter (λ p. not (is_decimal p.key)) ps) key ≡ value_at ps key
+  kept_others : is_decimal key ≡ false → (ps : List Pair)
+      → value_at (filter (λ p. not (is_decimal p.key)) ps) key ≡ value_at ps key
   kept_others is [] = refl
   kept_others is (p ∷ ps) = by (is_decimal p.key) (same key p.key) refl refl (kept_others is ps)
     where
-      by : (t u : Bool) → is_decimal p.key ≡ t → same key p.key ≡ u → value_at (filter (λ p. not (is_decimal p.key)) ps) key ≡ value_at ps key
-          → value_at (cond (not t) (p ∷ filter (λ p. not (is_decimal p.key)) ps) (filter (λ p. not (is_decimal p.key)) ps)) key ≡ cond u (Some p.value) (value_at ps key)
+      by : (t u : Bool) → is_decimal p.key ≡ t → same key p.key ≡ u
+          → value_at (filter (λ p. not (is_decimal p.key)) ps) key ≡ value_at ps key
+          → value_at (cond (not t) (p ∷ filter (λ p. not (is_decimal p.key)) ps)
+          (filter (λ p. not (is_decimal p.key)) ps)) key ≡ cond u (Some p.value) (value_at ps key)
       by true true e f ih = absurd (false≢true (sym is ∙ decimal_same key p.key f ∙ e))
       by true false e f ih = ih
       by false true e f ih = rw f refl
       by false false e f ih = rw f ih
 
 -- another key has what it had
-put_aside : (ps : List Pair) (key value k : List ℕ) → same key k ≡ false → value_at (put_value ps key value) k ≡ value_at ps k
+put_aside : (ps : List Pair) (key value k : List ℕ) → same key k ≡ false
+    → value_at (put_value ps key value) k ≡ value_at ps k
 put_aside [] key value k other = ap (λ t. cond t (Some value) None) (same_sym k key ∙ other)
 put_aside (p ∷ ps) key value k other = by (same key p.key) (same k p.key) refl refl (put_aside ps key value k other)
   where
     by : (t u : Bool) → same key p.key ≡ t → same k p.key ≡ u → value_at (put_value ps key value) k ≡ value_at ps k
-        → value_at (cond t (record { key = p.key; value = value } ∷ ps) (p ∷ put_value ps key value)) k ≡ cond u (Some p.value) (value_at ps k)
+        → value_at (cond t (record { key = p.key; value = value } ∷ ps) (p ∷ put_value ps key value)) k
+        ≡ cond u (Some p.value) (value_at ps k)
     by true true e f ih = absurd (false≢true (sym other ∙ same_as key p.key k e ∙ same_sym p.key k ∙ f))
     by true false e f ih = rw f refl
     by false true e f ih = rw f refl
     by false false e f ih = rw f ih
 
 pub count_is_no_number : (key : List ℕ) → is_decimal key ≡ true → same (codes "NrOfEntries") key ≡ false
-count_is_no_number key is = untrue (same (codes "NrOfEntries") key) (λ h. false≢true (decimal_same (codes "NrOfEntries") key h ∙ is))
+count_is_no_number key is = untrue (same (codes "NrOfEntries") key)
+    (λ h. false≢true (decimal_same (codes "NrOfEntries") key h ∙ is))
 
 -- ---- the set values
 
-module _ (h : ℕ × ℕ → Option Pair) (keyed : (place : ℕ × ℕ) (p : Pair) → h place ≡ Some p → p.key ≡ decimal place.1) (index : ℕ) where
-  pushed : (n : ℕ) (key : List ℕ) → value_at (filter_map h (first_subs index (suc n))) key ≡ option_or (value_at (filter_map h (first_subs index n)) key) (value_at (option_to_list (h (index, n))) key)
-  pushed n key = ap (λ ps. value_at ps key) (filter_map-push h (first_subs index n) (index, n)) ∙ value_append (filter_map h (first_subs index n)) (option_to_list (h (index, n))) key
+module _ (h : ℕ × ℕ → Option Pair) (keyed : (place : ℕ × ℕ) (p : Pair) → h place ≡ Some p → p.key ≡ decimal place.1)
+    (index : ℕ) where
+  pushed : (n : ℕ) (key : List ℕ) → value_at (filter_map h (first_subs index (suc n))) key
+      ≡ option_or (value_at (filter_map h (first_subs index n)) key) (value_at (option_to_list (h (index, n))) key)
+  pushed n key = ap (λ ps. value_at ps key) (filter_map-push h (first_subs index n) (index, n))
+      ∙ value_append (filter_map h (first_subs index n)) (option_to_list (h (index, n))) key
 
-  none_elsewhere : (n : ℕ) (key : List ℕ) → is_decimal key ≡ false → n ≤ 2 ^ 64 → value_at (filter_map h (first_subs index n)) key ≡ None
+  none_elsewhere : (n : ℕ) (key : List ℕ) → is_decimal key ≡ false → n ≤ 2 ^ 64
+      → value_at (filter_map h (first_subs index n)) key ≡ None
   none_elsewhere zero key is hn = refl
   none_elsewhere (suc n) key is hn =
       pushed n key
       ∙ ap (λ o. option_or o (value_at (option_to_list (h (index, n))) key)) (none_elsewhere n key is (omega arith))
-      ∙ by (h (index, n)) refl (λ p e. untrue (same key p.key) (λ f. false≢true (sym is ∙ decimal_same key p.key f ∙ ap is_decimal (keyed (index, n) p e) ∙ decimal_is n (omega arith))))
+      ∙ by (h (index, n)) refl (λ p e. untrue (same key p.key)
+      (λ f. false≢true (sym is ∙ decimal_same key p.key f ∙ ap is_decimal (keyed (index, n) p e)
+      ∙ decimal_is n (omega arith))))
     where
-      by : (o : Option Pair) → h (index, n) ≡ o → ((p : Pair) → h (index, n) ≡ Some p → same key p.key ≡ false) → value_at (option_to_list o) key ≡ None
+      by : (o : Option Pair) → h (index, n) ≡ o → ((p : Pair) → h (index, n) ≡ Some p → same key p.key ≡ false)
+          → value_at (option_to_list o) key ≡ None
       by None e other = refl
       by (Some p) e other = rw (other p e) refl
 
-keyed_value : (values : Option (List ℕ)) (t : Bool) (key : List ℕ) (kind : DataType) (p : Pair) → cond t (option_map (λ bytes. record { key = key; value = printed kind bytes }) values) None ≡ Some p → p.key ≡ key
+keyed_value : (values : Option (List ℕ)) (t : Bool) (key : List ℕ) (kind : DataType) (p : Pair)
+    → cond t (option_map (λ bytes. record { key = key; value = text_of_value kind bytes }) values) None ≡ Some p
+    → p.key ≡ key
 keyed_value None true key kind p e = absurd (cc)
-keyed_value (Some bytes) true key kind p e = let is : record { key = key; value = printed kind bytes } ≡ p = cc in ap (λ (q : Pair). q.key) (sym is)
+keyed_value (Some bytes) true key kind p e = let is : record { key = key; value = text_of_value kind bytes } ≡ p = cc
+    in ap (λ (q : Pair). q.key) (sym is)
 keyed_value values false key kind p e = absurd (cc)
 
-pub value_pair_keyed : (ss : List Section) (values : ℕ × ℕ → Option (List ℕ)) (place : ℕ × ℕ) (p : Pair) → value_pair ss values place ≡ Some p → p.key ≡ decimal place.1
+pub value_pair_keyed : (ss : List Section) (values : ℕ × ℕ → Option (List ℕ)) (place : ℕ × ℕ) (p : Pair)
+    → value_pair ss values place ≡ Some p → p.key ≡ decimal place.1
 unfolding value_pair
-value_pair_keyed ss values place p e = keyed_value (values place) (is_compact (origin_of ss place.0 place.1)) (decimal place.1) (kind_at ss place) p e
+value_pair_keyed ss values place p e = keyed_value (values place) (is_compact (origin_of ss place.0 place.1))
+    (decimal place.1) (kind_at ss place) p e
 
-value_of_pair : (values : Option (List ℕ)) (key : List ℕ) (kind : DataType) → option_map (λ (p : Pair). p.value) (option_map (λ bytes. record { key = key; value = printed kind bytes }) values) ≡ option_map (printed kind) values
+value_of_pair : (values : Option (List ℕ)) (key : List ℕ) (kind : DataType)
+    → option_map (λ (p : Pair). p.value)
+    (option_map (λ bytes. record { key = key; value = text_of_value kind bytes }) values)
+    ≡ option_map (text_of_value kind) values
 value_of_pair None key kind = refl
 value_of_pair (Some bytes) key kind = refl
 
-pub value_pair_value : (ss : List Section) (values : ℕ × ℕ → Option (List ℕ)) (place : ℕ × ℕ) → is_compact (origin_of ss place.0 place.1) ≡ true → option_map (λ (p : Pair). p.value) (value_pair ss values place) ≡ option_map (printed (kind_at ss place)) (values place)
+pub value_pair_value : (ss : List Section) (values : ℕ × ℕ → Option (List ℕ)) (place : ℕ × ℕ)
+    → is_compact (origin_of ss place.0 place.1) ≡ true
+    → option_map (λ (p : Pair). p.value) (value_pair ss values place) ≡ option_map (text_of_value (kind_at ss place))
+    (values place)
 unfolding value_pair
 value_pair_value ss values place is = rw is (value_of_pair (values place) (decimal place.1) (kind_at ss place))
 
@@ -142,11 +174,13 @@ module _ (pairs set : List Pair) (key : List ℕ) where
       ∙ or_none (value_at (filter (λ p. not (is_decimal p.key)) pairs) key)
       ∙ kept_others key is pairs
 
-  other_value : is_decimal key ≡ false → same (codes "NrOfEntries") key ≡ false → value_at set key ≡ None → value_at (values_pairs true pairs set) key ≡ value_at pairs key
+  other_value : is_decimal key ≡ false → same (codes "NrOfEntries") key ≡ false → value_at set key ≡ None
+      → value_at (values_pairs true pairs set) key ≡ value_at pairs key
   unfolding values_pairs
   other_value is other unset = by ((true && list_any (λ p. is_decimal p.key) pairs) || not (length set == 0))
     where
-      by : (t : Bool) → value_at (cond t (with_count (filter (λ p. not (is_decimal p.key)) pairs ++ set)) pairs) key ≡ value_at pairs key
+      by : (t : Bool) → value_at (cond t (with_count (filter (λ p. not (is_decimal p.key)) pairs ++ set)) pairs) key
+          ≡ value_at pairs key
       by true = changed_others is other unset
       by false = refl
 
@@ -154,7 +188,8 @@ highest_bound : (z : ℤ) (n : ℕ) → in_subs z ≡ Some n → n ≤ 254
 highest_bound (pos m) n e = by (nat_le m 254) refl (nat_lt 0 m) e
   where
     by : (t : Bool) → nat_le m 254 ≡ t → (u : Bool) → cond (u && t) (Some m) None ≡ Some n → n ≤ 254
-    by true h true e = let le : m ≤ 254 = grind (arith, nat_tests) in let is : m ≡ n = cc in subst (λ (k : ℕ). k ≤ 254) is le
+    by true h true e = let le : m ≤ 254 = grind (arith, nat_tests) in let is : m ≡ n = cc
+        in subst (λ (k : ℕ). k ≤ 254) is le
     by true h false e = absurd (cc)
     by false h true e = absurd (cc)
     by false h false e = absurd (cc)
@@ -169,29 +204,37 @@ count_bound s n e = by (is_compact_type (object_type s)) (number_at s (codes "Co
     by true (Some z) e = highest_bound z n e
     by false o e = absurd (cc)
 
-pub object_bound : (ss : List Section) (index : ℕ) (object : Section) (highest : ℕ) → compact_object ss index ≡ Some (object, highest) → highest ≤ 254
+pub object_bound : (ss : List Section) (index : ℕ) (object : Section) (highest : ℕ)
+    → compact_object ss index ≡ Some (object, highest) → highest ≤ 254
 unfolding compact_object
 object_bound ss index object highest e = by (object_section ss index) e
   where
-    one : (s : Section) (o : Option ℕ) → compact_count s ≡ o → option_map {T = ℕ} {U = Section × ℕ} (λ n. (s, n)) o ≡ Some (object, highest) → highest ≤ 254
+    one : (s : Section) (o : Option ℕ) → compact_count s ≡ o
+        → option_map {T = ℕ} {U = Section × ℕ} (λ n. (s, n)) o ≡ Some (object, highest) → highest ≤ 254
     one s None h e = absurd (cc)
     one s (Some n) h e =
         let given : Section × ℕ = (s, n) in
         let is : given ≡ (object, highest) = ap (λ (o : Option (Section × ℕ)). unwrap_or o given) e in
         subst (λ (k : ℕ). k ≤ 254) (ap (λ (p : Section × ℕ). p.1) is) (count_bound s n h)
 
-    by : (o : Option Section) → option_and_then (λ s. option_map {T = ℕ} {U = Section × ℕ} (λ n. (s, n)) (compact_count s)) o ≡ Some (object, highest) → highest ≤ 254
+    by : (o : Option Section)
+        → option_and_then (λ s. option_map {T = ℕ} {U = Section × ℕ} (λ n. (s, n)) (compact_count s)) o
+        ≡ Some (object, highest) → highest ≤ 254
     by None e = absurd (cc)
     by (Some s) e = one s (compact_count s) refl e
 
 -- every key that is no number, but NrOfEntries, has what it had
-pub others_there : (ss : List Section) (values : ℕ × ℕ → Option (List ℕ)) (index : ℕ) (object : Section) (highest : ℕ) (pairs : List Pair) (key : List ℕ) → compact_object ss index ≡ Some (object, highest)
+pub others_there : (ss : List Section) (values : ℕ × ℕ → Option (List ℕ)) (index : ℕ) (object : Section) (highest : ℕ)
+    (pairs : List Pair) (key : List ℕ) → compact_object ss index ≡ Some (object, highest)
     → is_modelled (kind_of object) ≡ true → is_decimal key ≡ false → same (codes "NrOfEntries") key ≡ false
     → value_at (values_pairs_at ss values index pairs) key ≡ value_at pairs key
 unfolding values_pairs_at values_set
 others_there ss values index object highest pairs key is modelled plain other =
     let bound : highest ≤ 254 = object_bound ss index object highest is in
-    ap (λ (o : Option (Section × ℕ)). value_at (option_map_or (λ c. values_pairs (is_modelled (kind_of c.0)) pairs (filter_map (value_pair ss values) (first_subs index (c.1 + 1)))) o pairs) key) is
-    ∙ ap (λ t. value_at (values_pairs t pairs (filter_map (value_pair ss values) (first_subs index (highest + 1)))) key) modelled
+    ap (λ (o : Option (Section × ℕ)). value_at
+    (option_map_or (λ c. values_pairs (is_modelled (kind_of c.0)) pairs (filter_map (value_pair ss values)
+    (first_subs index (c.1 + 1)))) o pairs) key) is
+    ∙ ap (λ t. value_at (values_pairs t pairs (filter_map (value_pair ss values) (first_subs index (highest + 1)))) key)
+    modelled
     ∙ other_value pairs (filter_map (value_pair ss values) (first_subs index (highest + 1))) key plain other
     (none_elsewhere (value_pair ss values) (value_pair_keyed ss values) index (highest + 1) key plain (omega arith))

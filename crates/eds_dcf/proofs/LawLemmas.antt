@@ -1,5 +1,7 @@
 -- What the sections of a DCF have at a key.
-use Rattle.std.proofs.Common.{◌≡◌, ◌==◌, ℕ, Bool, true, false, cond, not, ◌&&◌, List, [], ◌∷◌, ◌++◌, length, drop, option_to_list, slice_get, codes, Option, None, Some, option_map, option_and_then, nat_le, refl, sym, ap, subst, ◌∙◌, arith}
+use Rattle.std.proofs.Common.{◌≡◌, ◌==◌, ℕ, Bool, true, false, cond, not, ◌&&◌, List, [], ◌∷◌, ◌++◌, length, drop}
+use Rattle.std.proofs.Common.{option_to_list, slice_get, codes, Option, None, Some, option_map, option_and_then, nat_le}
+use Rattle.std.proofs.Common.{refl, sym, ap, subst, ◌∙◌, arith}
 use Rattle.std.proofs.lemmas.Bool.{false≢true}
 use Rattle.std.proofs.lemmas.Bool.Decides.{nat_tests}
 use Rattle.std.proofs.lemmas.List.{drop_all}
@@ -12,7 +14,7 @@ use Rattle.ini_text.specs.Content.{Pair, Section, same, value_at}
 use Rattle.co_values.specs.declared.data_type.DataType.{DataType}
 use Rattle.co_text.specs.Digits.{digits_number}
 use Rattle.co_values.specs.Types.{is_modelled}
-use Rattle.co_values.specs.Values.{printed}
+use Rattle.co_values.specs.Values.{text_of_value}
 use Rattle.eds_device.specs.Described.{kind_at}
 use Rattle.eds_device.specs.Names.{index_named, place_named, values_named}
 use Rattle.eds_device.specs.Sections.{compact_count, is_plain}
@@ -24,11 +26,14 @@ use Rattle.eds_dcf.proofs.EntryLemmas.{with_none, with_parameter}
 
 -- ---- pairs
 
-pub value_append : (ps qs : List Pair) (key : List ℕ) → value_at (ps ++ qs) key ≡ option_or (value_at ps key) (value_at qs key)
+pub value_append : (ps qs : List Pair) (key : List ℕ)
+    → value_at (ps ++ qs) key ≡ option_or (value_at ps key) (value_at qs key)
 value_append [] qs key = refl
 value_append (p ∷ ps) qs key = by (same key p.key) (value_append ps qs key)
   where
-    by : (t : Bool) → value_at (ps ++ qs) key ≡ option_or (value_at ps key) (value_at qs key) → cond t (Some p.value) (value_at (ps ++ qs) key) ≡ option_or (cond t (Some p.value) (value_at ps key)) (value_at qs key)
+    by : (t : Bool) → value_at (ps ++ qs) key ≡ option_or (value_at ps key) (value_at qs key)
+        → cond t (Some p.value) (value_at (ps ++ qs) key) ≡ option_or (cond t (Some p.value) (value_at ps key))
+        (value_at qs key)
     by true ih = refl
     by false ih = ih
 
@@ -37,7 +42,8 @@ gone : (key : List ℕ) (ps : List Pair) → value_at (without key ps) key ≡ N
 gone key [] = refl
 gone key (p ∷ ps) = by (same key p.key) refl (gone key ps)
   where
-    by : (t : Bool) → same key p.key ≡ t → value_at (without key ps) key ≡ None → value_at (cond (not t) (p ∷ without key ps) (without key ps)) key ≡ None
+    by : (t : Bool) → same key p.key ≡ t → value_at (without key ps) key ≡ None
+        → value_at (cond (not t) (p ∷ without key ps) (without key ps)) key ≡ None
     by true e ih = ih
     by false e ih = rw e ih
 
@@ -46,7 +52,8 @@ stays : (key q : List ℕ) (ps : List Pair) → same key q ≡ false → value_a
 stays key q [] other = refl
 stays key q (p ∷ ps) other = by (same key p.key) (same q p.key) refl refl (stays key q ps other)
   where
-    by : (t u : Bool) → same key p.key ≡ t → same q p.key ≡ u → value_at (without key ps) q ≡ value_at ps q → value_at (cond (not t) (p ∷ without key ps) (without key ps)) q ≡ cond u (Some p.value) (value_at ps q)
+    by : (t u : Bool) → same key p.key ≡ t → same q p.key ≡ u → value_at (without key ps) q ≡ value_at ps q
+        → value_at (cond (not t) (p ∷ without key ps) (without key ps)) q ≡ cond u (Some p.value) (value_at ps q)
     by true true e f ih = absurd (false≢true (sym other ∙ same_as key p.key q e ∙ same_sym p.key q ∙ f))
     by true false e f ih = ih
     by false true e f ih = rw f refl
@@ -60,36 +67,50 @@ abbrev parameter_key : List ℕ
 parameter_key = codes "ParameterValue"
 
 abbrev set_pairs : DataType → Option (List ℕ) → List Pair
-set_pairs kind value = option_to_list (option_map (λ bytes. record { key = codes "ParameterValue"; value = printed kind bytes }) value)
+set_pairs kind value =
+    option_to_list (option_map (λ bytes. record { key = codes "ParameterValue"; value = text_of_value kind bytes })
+    value)
 
-set_there : (kind : DataType) (value : Option (List ℕ)) → value_at (set_pairs kind value) (codes "ParameterValue") ≡ option_map (printed kind) value
+set_there : (kind : DataType) (value : Option (List ℕ))
+    → value_at (set_pairs kind value) (codes "ParameterValue") ≡ option_map (text_of_value kind) value
 set_there kind None = refl
 set_there kind (Some bytes) = refl
 
-set_nowhere_else : (kind : DataType) (value : Option (List ℕ)) (key : List ℕ) → same (codes "ParameterValue") key ≡ false → value_at (set_pairs kind value) key ≡ None
+set_nowhere_else : (kind : DataType) (value : Option (List ℕ)) (key : List ℕ)
+    → same (codes "ParameterValue") key ≡ false → value_at (set_pairs kind value) key ≡ None
 set_nowhere_else kind None key other = refl
-set_nowhere_else kind (Some bytes) key other = ap (λ t. cond t (Some (printed kind bytes)) None) (same_sym key (codes "ParameterValue") ∙ other)
+set_nowhere_else kind (Some bytes) key other = ap (λ t. cond t (Some (text_of_value kind bytes)) None)
+    (same_sym key (codes "ParameterValue") ∙ other)
 
 -- the section of an entry has its value as ParameterValue, and its other keys as they were
-module _ (ss : List Section) (values : ℕ × ℕ → Option (List ℕ)) (s : Section) (place : ℕ × ℕ) (is : parameter_place ss s.name ≡ Some place) where
-  pub parameter_there : value_at (with_values ss values s).pairs (codes "ParameterValue") ≡ option_map (printed (kind_at ss place)) (values place)
+module _ (ss : List Section) (values : ℕ × ℕ → Option (List ℕ)) (s : Section) (place : ℕ × ℕ)
+    (is : parameter_place ss s.name ≡ Some place) where
+  pub parameter_there : value_at (with_values ss values s).pairs (codes "ParameterValue")
+      ≡ option_map (text_of_value (kind_at ss place)) (values place)
   parameter_there =
-      ap (λ ps. value_at ps (codes "ParameterValue")) (sym (with_parameter ss values s place (kind_at ss place) (values place) is refl refl))
-      ∙ value_append (without (codes "ParameterValue") s.pairs) (set_pairs (kind_at ss place) (values place)) (codes "ParameterValue")
-      ∙ ap (λ o. option_or o (value_at (set_pairs (kind_at ss place) (values place)) (codes "ParameterValue"))) (gone (codes "ParameterValue") s.pairs)
+      ap (λ ps. value_at ps (codes "ParameterValue"))
+      (sym (with_parameter ss values s place (kind_at ss place) (values place) is refl refl))
+      ∙ value_append (without (codes "ParameterValue") s.pairs) (set_pairs (kind_at ss place) (values place))
+      (codes "ParameterValue")
+      ∙ ap (λ o. option_or o (value_at (set_pairs (kind_at ss place) (values place)) (codes "ParameterValue")))
+      (gone (codes "ParameterValue") s.pairs)
       ∙ set_there (kind_at ss place) (values place)
 
-  pub parameter_others : (key : List ℕ) → same (codes "ParameterValue") key ≡ false → value_at (with_values ss values s).pairs key ≡ value_at s.pairs key
+  pub parameter_others : (key : List ℕ) → same (codes "ParameterValue") key ≡ false
+      → value_at (with_values ss values s).pairs key ≡ value_at s.pairs key
   parameter_others key other =
       ap (λ ps. value_at ps key) (sym (with_parameter ss values s place (kind_at ss place) (values place) is refl refl))
       ∙ value_append (without (codes "ParameterValue") s.pairs) (set_pairs (kind_at ss place) (values place)) key
-      ∙ ap (λ o. option_or o (value_at (set_pairs (kind_at ss place) (values place)) key)) (stays (codes "ParameterValue") key s.pairs other)
+      ∙ ap (λ o. option_or o (value_at (set_pairs (kind_at ss place) (values place)) key))
+      (stays (codes "ParameterValue") key s.pairs other)
       ∙ ap (option_or (value_at s.pairs key)) (set_nowhere_else (kind_at ss place) (values place) key other)
       ∙ or_none (value_at s.pairs key)
 
 -- a section of neither an entry nor values stays
-pub section_stays : (ss : List Section) (values : ℕ × ℕ → Option (List ℕ)) (s : Section) → parameter_place ss s.name ≡ None → values_named s.name ≡ None → with_values ss values s ≡ s
-section_stays ss values s none unnamed = ap (λ (ps : List Pair). record { name = s.name; pairs = ps }) (sym (with_none ss values s none unnamed))
+pub section_stays : (ss : List Section) (values : ℕ × ℕ → Option (List ℕ)) (s : Section)
+    → parameter_place ss s.name ≡ None → values_named s.name ≡ None → with_values ss values s ≡ s
+section_stays ss values s none unnamed = ap (λ (ps : List Pair). record { name = s.name; pairs = ps })
+    (sym (with_none ss values s none unnamed))
 
 -- ---- the section of an entry
 
@@ -139,15 +160,19 @@ module _ (ss : List Section) (index sub : ℕ) where
   unfolding own_place sub_section
   named_by_sub s e =
       let here : ℕ × ℕ = (index, sub) in
-      rw (place_of_test here (place_named s.name) (find_passes (λ t. is_place (index, sub) (place_named t.name)) ss s e)) refl
+      rw (place_of_test here (place_named s.name)
+      (find_passes (λ t. is_place (index, sub) (place_named t.name)) ss s e)) refl
 
   named_by_index : (s : Section) → object_section ss index ≡ Some s → sub ≡ 0 → own_place s.name ≡ Some (index, sub)
   unfolding own_place object_section
   named_by_index s e zeroth =
-      let named : index_named s.name ≡ Some index = index_of_test index (index_named s.name) (find_passes (λ t. is_index index (index_named t.name)) ss s e) in
+      let named : index_named s.name ≡ Some index = index_of_test index (index_named s.name)
+      (find_passes (λ t. is_index index (index_named t.name)) ss s e) in
       rw (no_sub s.name (four_digits s.name index named), named, zeroth) refl
 
-  from_compact_not_own : (s : Section) (o : Option Section) → option_and_then (λ t. option_and_then (λ n. cond (nat_le sub n) (Some (compact t n)) None) (compact_count t)) o ≡ Some (own s) → ⊥
+  from_compact_not_own : (s : Section) (o : Option Section)
+      → option_and_then (λ t. option_and_then (λ n. cond (nat_le sub n) (Some (compact t n)) None) (compact_count t)) o
+      ≡ Some (own s) → ⊥
   from_compact_not_own s None e = cc
   from_compact_not_own s (Some t) e = by (compact_count t) e
     where
@@ -162,33 +187,48 @@ module _ (ss : List Section) (index sub : ℕ) where
   stands : (p : Section → Bool) (s : Section) → find p ss ≡ Some s → (i : ℕ) × (slice_get ss i ≡ Some s)
   stands p s e = (position_or_len p ss, sym (find_at p ss) ∙ e)
 
-  named_so : (x s : Section) → x ≡ s → (own_place x.name ≡ Some (index, sub)) × ((i : ℕ) × (slice_get ss i ≡ Some x)) → (own_place s.name ≡ Some (index, sub)) × ((i : ℕ) × (slice_get ss i ≡ Some s))
-  named_so x s is h = subst (λ (t : Section). (own_place t.name ≡ Some (index, sub)) × ((i : ℕ) × (slice_get ss i ≡ Some t))) is h
+  named_so : (x s : Section) → x ≡ s → (own_place x.name ≡ Some (index, sub)) × ((i : ℕ) × (slice_get ss i ≡ Some x))
+      → (own_place s.name ≡ Some (index, sub)) × ((i : ℕ) × (slice_get ss i ≡ Some s))
+  named_so x s is h = subst (λ (t : Section). (own_place t.name ≡ Some (index, sub))
+      × ((i : ℕ) × (slice_get ss i ≡ Some t))) is h
 
-  by_object : (s : Section) (rest : Option Origin) → (rest ≡ Some (own s) → ⊥) → (t : Bool) → (sub == 0) ≡ t → (o : Option Section) → object_section ss index ≡ o
-      → option_or (cond t (option_and_then (λ x. cond (is_plain x) (Some (own x)) None) o) None) rest ≡ Some (own s) → (own_place s.name ≡ Some (index, sub)) × ((i : ℕ) × (slice_get ss i ≡ Some s))
+  by_object : (s : Section) (rest : Option Origin) → (rest ≡ Some (own s) → ⊥) → (t : Bool) → (sub == 0) ≡ t
+      → (o : Option Section) → object_section ss index ≡ o
+      → option_or (cond t (option_and_then (λ x. cond (is_plain x) (Some (own x)) None) o) None) rest ≡ Some (own s)
+      → (own_place s.name ≡ Some (index, sub)) × ((i : ℕ) × (slice_get ss i ≡ Some s))
   unfolding object_section
   by_object s rest none true zeroth None at e = absurd (none e)
   by_object s rest none true zeroth (Some x) at e = by (is_plain x) e
     where
-      by : (u : Bool) → option_or (cond u (Some (own x)) None) rest ≡ Some (own s) → (own_place s.name ≡ Some (index, sub)) × ((i : ℕ) × (slice_get ss i ≡ Some s))
-      by true e = let is : x ≡ s = cc in named_so x s is (named_by_index x at (number_of_test sub 0 zeroth), stands (λ t. is_index index (index_named t.name)) x at)
+      by : (u : Bool) → option_or (cond u (Some (own x)) None) rest ≡ Some (own s)
+          → (own_place s.name ≡ Some (index, sub)) × ((i : ℕ) × (slice_get ss i ≡ Some s))
+      by true e = let is : x ≡ s = cc in named_so x s is (
+        named_by_index x at (number_of_test sub 0 zeroth),
+        stands (λ t. is_index index (index_named t.name)) x at,
+      )
       by false e = absurd (none e)
   by_object s rest none false zeroth o at e = absurd (none e)
 
   by_sub : (s : Section) (a : Option Section) → sub_section ss index sub ≡ a
-      → option_or (option_map own a) (option_or (cond (sub == 0) (option_and_then (λ x. cond (is_plain x) (Some (own x)) None) (object_section ss index)) None)
-      (option_and_then (λ t. option_and_then (λ n. cond (nat_le sub n) (Some (compact t n)) None) (compact_count t)) (object_section ss index))) ≡ Some (own s)
+      → option_or (option_map own a)
+      (option_or (cond (sub == 0) (option_and_then (λ x. cond (is_plain x) (Some (own x)) None)
+      (object_section ss index)) None)
+      (option_and_then (λ t. option_and_then (λ n. cond (nat_le sub n) (Some (compact t n)) None) (compact_count t))
+      (object_section ss index))) ≡ Some (own s)
       → (own_place s.name ≡ Some (index, sub)) × ((i : ℕ) × (slice_get ss i ≡ Some s))
   unfolding sub_section
-  by_sub s None at e = by_object s _ (from_compact_not_own s (object_section ss index)) (sub == 0) refl (object_section ss index) refl e
-  by_sub s (Some x) at e = let is : x ≡ s = cc in named_so x s is (named_by_sub x at, stands (λ t. is_place (index, sub) (place_named t.name)) x at)
+  by_sub s None at e = by_object s _ (from_compact_not_own s (object_section ss index))
+      (sub == 0) refl (object_section ss index) refl e
+  by_sub s (Some x) at e = let is : x ≡ s = cc
+      in named_so x s is (named_by_sub x at, stands (λ t. is_place (index, sub) (place_named t.name)) x at)
 
   -- an entry with a section of its own is the one that the section is named for, and the section stands in the text
-  own_named : (s : Section) → origin_of ss index sub ≡ Some (own s) → (own_place s.name ≡ Some (index, sub)) × ((i : ℕ) × (slice_get ss i ≡ Some s))
+  own_named : (s : Section) → origin_of ss index sub ≡ Some (own s) → (own_place s.name ≡ Some (index, sub))
+      × ((i : ℕ) × (slice_get ss i ≡ Some s))
   unfolding origin_of
   own_named s e = by_sub s (sub_section ss index sub) refl e
 
-  pub entry_placed : (s : Section) → origin_of ss index sub ≡ Some (own s) → is_modelled (kind_at ss (index, sub)) ≡ true → parameter_place ss s.name ≡ Some (index, sub)
+  pub entry_placed : (s : Section) → origin_of ss index sub ≡ Some (own s)
+      → is_modelled (kind_at ss (index, sub)) ≡ true → parameter_place ss s.name ≡ Some (index, sub)
   unfolding parameter_place
   entry_placed s e modelled = rw ((own_named s e).0, e, (bytes_eq-Decides s.name s.name).1 refl, modelled) refl

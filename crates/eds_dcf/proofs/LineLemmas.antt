@@ -1,5 +1,7 @@
 -- Keys and values that can stand in a line of INI text.
-use Rattle.std.proofs.Common.{◌≡◌, ◌==◌, ℕ, zero, suc, ◌/◌, ◌%◌, ◌<◌, ◌≤◌, Bool, true, false, cond, not, ◌&&◌, List, [], ◌∷◌, ◌++◌, length, reverse, codes, decimal, refl, sym, ap, subst, ◌∙◌, lit<, arith, ℤ, pos, negsuc, ◌⊎◌, inl, inr, None}
+use Rattle.std.proofs.Common.{◌≡◌, ◌==◌, ℕ, zero, suc, ◌/◌, ◌%◌, ◌<◌, ◌≤◌, Bool, true, false, cond, not, ◌&&◌, List, []}
+use Rattle.std.proofs.Common.{◌∷◌, ◌++◌, length, reverse, codes, decimal, refl, sym, ap, subst, ◌∙◌, lit<, arith, ℤ}
+use Rattle.std.proofs.Common.{pos, negsuc, ◌⊎◌, inl, inr, None}
 use Rattle.std.proofs.lemmas.Bool.{or_from, lt-ltb}
 use Rattle.std.proofs.lemmas.Bool.Decides.{nat_tests}
 use Rattle.std.proofs.lemmas.List.{reverse-append}
@@ -36,7 +38,8 @@ plain_push (c ∷ cs) b h g = (h.0, plain_push cs b h.1 g)
 
 plain_reverse : (bs : List ℕ) → IsPlain bs → IsPlain (reverse bs)
 plain_reverse [] h = tt
-plain_reverse (b ∷ bs) h = subst IsPlain (sym (reverse-append (b ∷ []) bs)) (plain_push (reverse bs) b (plain_reverse bs h.1) h.0)
+plain_reverse (b ∷ bs) h = subst IsPlain (sym (reverse-append (b ∷ []) bs))
+    (plain_push (reverse bs) b (plain_reverse bs h.1) h.0)
 
 plain_trim : (bs : List ℕ) → IsPlain bs → trimmed bs ≡ bs
 plain_trim bs h = trimmed_sharp bs (sharp_plain bs h) (sharp_plain (reverse bs) (plain_reverse bs h))
@@ -50,7 +53,12 @@ plain_value bs h = record { trim = plain_trim bs h; on_one_line = plain_line bs 
 
 -- a name of such bytes, none of them `]`
 pub plain_name : (bs : List ℕ) → 0 < length bs → IsPlain bs → has_byte (byte "]") bs ≡ false → IsName bs
-plain_name bs some h closed = record { some = some; trim = plain_trim bs h; on_one_line = plain_line bs h; unclosed = closed }
+plain_name bs some h closed = record {
+  some = some;
+  trim = plain_trim bs h;
+  on_one_line = plain_line bs h;
+  unclosed = closed;
+}
 
 pub plain_append : (bs cs : List ℕ) → IsPlain bs → IsPlain cs → IsPlain (bs ++ cs)
 plain_append [] cs h g = g
@@ -69,10 +77,12 @@ numeral_glyph n = by (n % 10) (omega arith)
 
 onto_all : (k n : ℕ) (acc : List ℕ) → AreNumerals acc → AreNumerals (digits_onto k 10 false n acc)
 onto_all zero n acc h = h
-onto_all (suc k) n acc h = by (n / 10 == 0) (onto_all k (n / 10) (digit_glyph false (n % 10) ∷ acc) (numeral_glyph n, h))
+onto_all (suc k) n acc h = by (n / 10 == 0)
+    (onto_all k (n / 10) (digit_glyph false (n % 10) ∷ acc) (numeral_glyph n, h))
   where
     by : (t : Bool) → AreNumerals (digits_onto k 10 false (n / 10) (digit_glyph false (n % 10) ∷ acc))
-        → AreNumerals (cond t (digit_glyph false (n % 10) ∷ acc) (digits_onto k 10 false (n / 10) (digit_glyph false (n % 10) ∷ acc)))
+        → AreNumerals (cond t (digit_glyph false (n % 10) ∷ acc)
+        (digits_onto k 10 false (n / 10) (digit_glyph false (n % 10) ∷ acc)))
     by true rest = (numeral_glyph n, h)
     by false rest = rest
 
@@ -80,8 +90,11 @@ onto_longer : (k n : ℕ) (acc : List ℕ) → length acc ≤ length (digits_ont
 onto_longer zero n acc = omega arith
 onto_longer (suc k) n acc = by (n / 10 == 0) (onto_longer k (n / 10) (digit_glyph false (n % 10) ∷ acc))
   where
-    by : (t : Bool) → length (digit_glyph false (n % 10) ∷ acc) ≤ length (digits_onto k 10 false (n / 10) (digit_glyph false (n % 10) ∷ acc))
-        → length acc ≤ length (cond t (digit_glyph false (n % 10) ∷ acc) (digits_onto k 10 false (n / 10) (digit_glyph false (n % 10) ∷ acc)))
+    by : (t : Bool)
+        → length (digit_glyph false (n % 10) ∷ acc) ≤ length (digits_onto k 10 false (n / 10)
+        (digit_glyph false (n % 10) ∷ acc))
+        → length acc ≤ length (cond t (digit_glyph false (n % 10) ∷ acc)
+        (digits_onto k 10 false (n / 10) (digit_glyph false (n % 10) ∷ acc)))
     by true rest = omega arith
     by false rest = omega arith
 
@@ -89,7 +102,8 @@ onto_some : (k n : ℕ) → 0 < length (digits_onto (suc k) 10 false n [])
 onto_some k n = by (n / 10 == 0) (onto_longer k (n / 10) (digit_glyph false (n % 10) ∷ []))
   where
     by : (t : Bool) → 1 ≤ length (digits_onto k 10 false (n / 10) (digit_glyph false (n % 10) ∷ []))
-        → 0 < length (cond t (digit_glyph false (n % 10) ∷ []) (digits_onto k 10 false (n / 10) (digit_glyph false (n % 10) ∷ [])))
+        → 0 < length (cond t (digit_glyph false (n % 10) ∷ [])
+        (digits_onto k 10 false (n / 10) (digit_glyph false (n % 10) ∷ [])))
     by true rest = omega arith
     by false rest = omega arith
 
@@ -129,7 +143,8 @@ some_test : (n : ℕ) → 0 < n → not (n == 0) ≡ true
 some_test n h = grind (arith, nat_tests)
 
 numerals_decimal : (bs : List ℕ) → 0 < length bs → AreNumerals bs → is_decimal bs ≡ true
-numerals_decimal bs some h = ap (λ t. t && list_all (λ c. is_digit c 10) bs) (some_test (length bs) some) ∙ all_numerals bs h
+numerals_decimal bs some h = ap (λ t. t && list_all (λ c. is_digit c 10) bs) (some_test (length bs) some)
+    ∙ all_numerals bs h
 
 pub decimal_is_decimal : (n : ℕ) → is_decimal (decimal n) ≡ true
 decimal_is_decimal n = numerals_decimal (decimal n) (decimal_some n) (decimal_numerals n)
@@ -151,11 +166,13 @@ no_header (c ∷ cs) value h = rw (open_first c h) refl
 pub open_same : (key k : List ℕ) → same key k ≡ true → IsOpen key → IsOpen k
 open_same key k h o = ap (begins_with (byte "[")) (sym (same_folded key k h)) ∙ o
 
-pub set_pair : (key value : List ℕ) → IsKey key → IsOpen key → IsValue value → IsPrintablePair (record { key = key; value = value })
+pub set_pair : (key value : List ℕ) → IsKey key → IsOpen key → IsValue value
+    → IsPrintablePair (record { key = key; value = value })
 set_pair key value k o v = record { key = k; value = v; no_header = no_header key value o }
 
 -- a key with another value
-pub pair_again : (p : Pair) (value : List ℕ) → IsPrintablePair p → IsOpen p.key → IsValue value → IsPrintablePair (record { key = p.key; value = value })
+pub pair_again : (p : Pair) (value : List ℕ) → IsPrintablePair p → IsOpen p.key → IsValue value
+    → IsPrintablePair (record { key = p.key; value = value })
 pair_again p value h o v = set_pair p.key value h.key o v
 
 no_numeral : (b c : ℕ) → (byte "0" ≤ c) × (c ≤ byte "9") → (b < byte "0") ⊎ (byte "9" < b) → (c == b) ≡ false
@@ -164,7 +181,8 @@ no_numeral b c h (inr high) = let last : c ≤ byte "9" = h.1 in grind (arith, n
 
 numerals_without : (b : ℕ) (bs : List ℕ) → AreNumerals bs → (b < byte "0") ⊎ (byte "9" < b) → has_byte b bs ≡ false
 numerals_without b [] h out = refl
-numerals_without b (c ∷ cs) h out = or_from (c == b) (has_byte b cs) (no_numeral b c h.0 out) (numerals_without b cs h.1 out)
+numerals_without b (c ∷ cs) h out = or_from (c == b) (has_byte b cs) (no_numeral b c h.0 out)
+    (numerals_without b cs h.1 out)
 
 numerals_begin : (b : ℕ) (bs : List ℕ) → AreNumerals bs → (b < byte "0") ⊎ (byte "9" < b) → begins_with b bs ≡ false
 numerals_begin b [] h out = refl

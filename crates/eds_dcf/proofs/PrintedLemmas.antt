@@ -1,5 +1,6 @@
 -- What is printed of a value can stand in a line.
-use Rattle.std.proofs.Common.{◌≡◌, ℕ, ◌+◌, ◌/◌, ◌%◌, ◌≤◌, Bool, true, false, cond, List, [], ◌∷◌, ◌++◌, reverse, codes, All, nat_lt, refl, lit≤, arith}
+use Rattle.std.proofs.Common.{◌≡◌, ℕ, ◌+◌, ◌/◌, ◌%◌, ◌≤◌, Bool, true, false, cond, List, [], ◌∷◌, ◌++◌, reverse, codes}
+use Rattle.std.proofs.Common.{All, nat_lt, refl, lit≤, arith}
 use Rattle.std.proofs.lemmas.List.Elements.{All-weaker}
 use Rattle.std.specs.Fmt.{digit_glyph}
 use Rattle.std.specs.Str.{byte}
@@ -9,8 +10,10 @@ use Rattle.ini_text.specs.Content.{Section, content_of}
 use Rattle.ini_text.specs.Printable.{IsPrintable, IsValue}
 use Rattle.concise_dcf.specs.declared.write.Write.{Write}
 use Rattle.co_values.specs.declared.data_type.DataType.{DataType}
-use Rattle.co_values.specs.declared.data_type.DataType.TheVariants.{Boolean, Integer8, Integer16, Integer32, Integer64, Unsigned8, Unsigned16, Unsigned32, Unsigned64, VisibleString, OctetString, Domain, NotModelled}
-use Rattle.co_values.specs.Values.{pairs_of, printed}
+use Rattle.co_values.specs.declared.data_type.DataType.TheVariants.{Boolean, Integer8, Integer16, Integer32, Integer64}
+use Rattle.co_values.specs.declared.data_type.DataType.TheVariants.{Unsigned8, Unsigned16, Unsigned32, Unsigned64}
+use Rattle.co_values.specs.declared.data_type.DataType.TheVariants.{VisibleString, OctetString, Domain, NotModelled}
+use Rattle.co_values.specs.Values.{pairs_of, text_of_value}
 use Rattle.eds_device.specs.Described.{kind_at}
 use Rattle.eds_dcf.specs.Dcf.{dcf_sections}
 use Rattle.eds_dcf.specs.Printable.{StandsInLine}
@@ -31,11 +34,13 @@ pairs_plain [] = tt
 pairs_plain (b ∷ bs) = (glyph_plain (b / 16), (glyph_plain (b % 16), pairs_plain bs))
 
 unsigned_value : (bytes : List ℕ) → IsValue (codes "0x" ++ pairs_of (reverse bytes))
-unsigned_value bytes = plain_value (codes "0x" ++ pairs_of (reverse bytes)) (plain_append (codes "0x") (pairs_of (reverse bytes)) (lit≤ tt, (lit≤ tt, tt)) (pairs_plain (reverse bytes)))
+unsigned_value bytes = plain_value (codes "0x" ++ pairs_of (reverse bytes))
+    (plain_append (codes "0x") (pairs_of (reverse bytes)) (lit≤ tt, (lit≤ tt, tt)) (pairs_plain (reverse bytes)))
 
 -- numbers and pairs of digits always, and a text where it is such
-pub printed_value : (kind : DataType) (bytes : List ℕ) → (kind ≡ VisibleString → IsValue bytes) → IsValue (printed kind bytes)
-unfolding printed
+pub printed_value : (kind : DataType) (bytes : List ℕ) → (kind ≡ VisibleString → IsValue bytes)
+    → IsValue (text_of_value kind bytes)
+unfolding text_of_value
 printed_value Boolean bytes h = decimal_value _
 printed_value Integer8 bytes h = signed_value _
 printed_value Integer16 bytes h = signed_value _
@@ -50,14 +55,19 @@ printed_value OctetString bytes h = plain_value (pairs_of bytes) (pairs_plain by
 printed_value Domain bytes h = plain_value (pairs_of bytes) (pairs_plain bytes)
 printed_value NotModelled bytes h = plain_value [] tt
 
-pub dcf_printable : (ss : List Section) (node : ℕ) (name : List ℕ) (bitrate : ℕ) (writes : List Write) → IsPrintable ss → IsValue name → All (StandsInLine ss) writes → IsPrintable (dcf_sections ss node name bitrate writes)
+pub dcf_printable : (ss : List Section) (node : ℕ) (name : List ℕ) (bitrate : ℕ) (writes : List Write) → IsPrintable ss
+    → IsValue name → All (StandsInLine ss) writes → IsPrintable (dcf_sections ss node name bitrate writes)
 unfolding dcf_sections
 dcf_printable ss node name bitrate writes h v all =
     sections_printable ss node name bitrate (last_of writes) h v
-    (λ place. left_holds (λ place bytes. IsValue (printed (kind_at ss place) bytes)) writes place
-    (All-weaker (StandsInLine ss) (λ w. IsValue (printed (kind_at ss (w.index, w.sub)) w.bytes)) (λ w stands. printed_value (kind_at ss (w.index, w.sub)) w.bytes stands) writes all))
+    (λ place. left_holds (λ place bytes. IsValue (text_of_value (kind_at ss place) bytes)) writes place
+    (All-weaker (StandsInLine ss) (λ w. IsValue (text_of_value (kind_at ss (w.index, w.sub)) w.bytes))
+    (λ w stands. printed_value (kind_at ss (w.index, w.sub)) w.bytes stands) writes all))
 
 -- reading the text gives the sections again
-pub dcf_again : (ss : List Section) (node : ℕ) (name : List ℕ) (bitrate : ℕ) (writes : List Write) → IsPrintable ss → IsValue name → All (StandsInLine ss) writes
-    → (content_of (text_of (dcf_sections ss node name bitrate writes))).sections ≡ dcf_sections ss node name bitrate writes
-dcf_again ss node name bitrate writes h v all = sections_again (dcf_sections ss node name bitrate writes) (dcf_printable ss node name bitrate writes h v all)
+pub dcf_again : (ss : List Section) (node : ℕ) (name : List ℕ) (bitrate : ℕ) (writes : List Write) → IsPrintable ss
+    → IsValue name → All (StandsInLine ss) writes
+    → (content_of (text_of (dcf_sections ss node name bitrate writes))).sections
+    ≡ dcf_sections ss node name bitrate writes
+dcf_again ss node name bitrate writes h v all = sections_again (dcf_sections ss node name bitrate writes)
+    (dcf_printable ss node name bitrate writes h v all)

@@ -1,5 +1,7 @@
 -- The names of the sections that are made, and what a name `xxxxValue` says.
-use Rattle.std.proofs.Common.{◌≡◌, ◌==◌, ℕ, ◌+◌, ◌*◌, ◌/◌, ◌%◌, ◌<◌, ◌≤◌, Bool, true, false, cond, ◌&&◌, List, [], ◌∷◌, ◌++◌, length, take, drop, map, codes, None, Some, refl, sym, ap, ◌∙◌, lit<, lit≤, nat_lt, bytes_eq, arith}
+use Rattle.std.proofs.Common.{◌≡◌, ◌==◌, ℕ, ◌+◌, ◌*◌, ◌/◌, ◌%◌, ◌<◌, ◌≤◌, Bool, true, false, cond, ◌&&◌, List, [], ◌∷◌}
+use Rattle.std.proofs.Common.{◌++◌, length, take, drop, map, codes, None, Some, refl, sym, ap, ◌∙◌, lit<, lit≤, nat_lt}
+use Rattle.std.proofs.Common.{bytes_eq, arith}
 use Rattle.std.proofs.lemmas.Bool.{lt-ltb, ltb-true}
 use Rattle.std.proofs.lemmas.Bool.Decides.{nat_tests}
 use Rattle.std.proofs.lemmas.Int.Digits.{digits_value_is}
@@ -27,10 +29,12 @@ glyph_digit : (d : ℕ) → d < 16 → is_digit (digit_glyph true d) 16 ≡ true
 glyph_digit d h = lt-ltb (digit_value (digit_glyph true d)) 16 (omega (arith, glyph_value d h))
 
 four_back : (a b c d : ℕ) → a < 16 → b < 16 → c < 16 → d < 16
-    → digits_number 16 (digit_glyph true a ∷ digit_glyph true b ∷ digit_glyph true c ∷ digit_glyph true d ∷ []) ≡ Some (4096 * a + 256 * b + 16 * c + d)
+    → digits_number 16 (digit_glyph true a ∷ digit_glyph true b ∷ digit_glyph true c ∷ digit_glyph true d ∷ [])
+    ≡ Some (4096 * a + 256 * b + 16 * c + d)
 four_back a b c d ha hb hc hd =
     let digits = digit_glyph true a ∷ digit_glyph true b ∷ digit_glyph true c ∷ digit_glyph true d ∷ [] in
-    let all : list_all (λ d. is_digit d 16) digits ≡ true = rw (glyph_digit a ha, glyph_digit b hb, glyph_digit c hc, glyph_digit d hd) refl in
+    let all : list_all (λ d. is_digit d 16) digits
+    ≡ true = rw (glyph_digit a ha, glyph_digit b hb, glyph_digit c hc, glyph_digit d hd) refl in
     ap (λ (t : Bool). cond t (Some (digits_value 16 digits)) None) all
     ∙ ap Some (omega (arith, glyph_value a ha, glyph_value b hb, glyph_value c hc, glyph_value d hd))
 
@@ -38,8 +42,10 @@ four_back a b c d ha hb hc hd =
 pub named_back : (index : ℕ) → index < 0x10000 → values_named (values_name index) ≡ Some index
 unfolding values_named index_named
 named_back index h =
-    let whole : 4096 * (index / 4096) + 256 * (index / 256 % 16) + 16 * (index / 16 % 16) + index % 16 ≡ index = omega arith in
-    four_back (index / 4096) (index / 256 % 16) (index / 16 % 16) (index % 16) (omega arith) (omega arith) (omega arith) (omega arith) ∙ ap Some whole
+    let whole : 4096 * (index / 4096) + 256 * (index / 256 % 16) + 16 * (index / 16 % 16) + index % 16
+    ≡ index = omega arith in
+    four_back (index / 4096) (index / 256 % 16) (index / 16 % 16) (index % 16) (omega arith) (omega arith) (omega arith)
+    (omega arith) ∙ ap Some whole
 
 glyph_bytes : (d : ℕ) → d < 16 → (byte "!" ≤ digit_glyph true d) × (digit_glyph true d ≤ byte "F")
 glyph_bytes d h = by (nat_lt d 10) refl
@@ -51,7 +57,8 @@ glyph_bytes d h = by (nat_lt d 10) refl
 not_closed : (c : ℕ) → c ≤ byte "F" → (c == byte "]") ≡ false
 not_closed c h = grind (arith, nat_tests)
 
-four_open : (a b c d : ℕ) → a ≤ byte "F" → b ≤ byte "F" → c ≤ byte "F" → d ≤ byte "F" → has_byte (byte "]") ((a ∷ b ∷ c ∷ d ∷ []) ++ codes "Value") ≡ false
+four_open : (a b c d : ℕ) → a ≤ byte "F" → b ≤ byte "F" → c ≤ byte "F" → d ≤ byte "F"
+    → has_byte (byte "]") ((a ∷ b ∷ c ∷ d ∷ []) ++ codes "Value") ≡ false
 four_open a b c d ha hb hc hd = rw (not_closed a ha, not_closed b hb, not_closed c hc, not_closed d hd) refl
 
 -- and it can be printed
@@ -67,7 +74,10 @@ values_name_is_name index h =
 
 -- it is no name of the node's section, which is longer
 pub not_the_node : (index : ℕ) → same first_spelling (values_name index) ≡ false
-not_the_node index = untrue (same first_spelling (values_name index)) (λ h. let long : length first_spelling ≡ length (values_name index) = sym (length-map first_spelling to_ascii_lowercase) ∙ ap length (same_folded first_spelling (values_name index) h) ∙ length-map (values_name index) to_ascii_lowercase in absurd (omega arith))
+not_the_node index = untrue (same first_spelling (values_name index))
+    (λ h. let long : length first_spelling ≡ length (values_name index) =
+    sym (length-map first_spelling to_ascii_lowercase) ∙ ap length (same_folded first_spelling (values_name index) h)
+    ∙ length-map (values_name index) to_ascii_lowercase in absurd (omega arith))
 
 -- ---- letters in any case
 
@@ -83,14 +93,16 @@ folded_folded (b ∷ bs) = λ i. lower_lower b i ∷ folded_folded bs i
 
 digits_folded : (cs : List ℕ) → list_all (λ d. is_digit d 16) (folded cs) ≡ list_all (λ d. is_digit d 16) cs
 digits_folded [] = refl
-digits_folded (c ∷ cs) = ap (λ v. nat_lt v 16 && list_all (λ d. is_digit d 16) (folded cs)) (lower_value c) ∙ ap (λ t. is_digit c 16 && t) (digits_folded cs)
+digits_folded (c ∷ cs) = ap (λ v. nat_lt v 16 && list_all (λ d. is_digit d 16) (folded cs)) (lower_value c)
+    ∙ ap (λ t. is_digit c 16 && t) (digits_folded cs)
 
 values_folded : (cs : List ℕ) → map digit_value (folded cs) ≡ map digit_value cs
 values_folded [] = refl
 values_folded (c ∷ cs) = λ i. lower_value c i ∷ values_folded cs i
 
 value_folded : (cs : List ℕ) → digits_value 16 (folded cs) ≡ digits_value 16 cs
-value_folded cs = digits_value_is 16 (folded cs) ∙ ap (number_from_digits 16) (values_folded cs) ∙ sym (digits_value_is 16 cs)
+value_folded cs = digits_value_is 16 (folded cs) ∙ ap (number_from_digits 16) (values_folded cs)
+    ∙ sym (digits_value_is 16 cs)
 
 number_folded : (cs : List ℕ) → digits_number 16 (folded cs) ≡ digits_number 16 cs
 number_folded [] = refl
@@ -110,9 +122,11 @@ same_fold a b = ap (λ f. bytes_eq f (folded b)) (folded_folded a)
 values_folded_name : (name : List ℕ) → values_named (folded name) ≡ values_named name
 unfolding values_named
 values_folded_name name =
-    ap (λ n. cond (same n (codes "Value")) (index_named (take 4 (folded name))) None) (drop-map to_ascii_lowercase 4 name)
+    ap (λ n. cond (same n (codes "Value")) (index_named (take 4 (folded name))) None)
+    (drop-map to_ascii_lowercase 4 name)
     ∙ ap (λ t. cond t (index_named (take 4 (folded name))) None) (same_fold (drop 4 name) (codes "Value"))
-    ∙ ap (λ o. cond (same (drop 4 name) (codes "Value")) o None) (ap index_named (take-map to_ascii_lowercase 4 name) ∙ index_folded (take 4 name))
+    ∙ ap (λ o. cond (same (drop 4 name) (codes "Value")) o None)
+    (ap index_named (take-map to_ascii_lowercase 4 name) ∙ index_folded (take 4 name))
 
 -- names that are equal without case say the same
 pub values_named_same : (a b : List ℕ) → same a b ≡ true → values_named a ≡ values_named b

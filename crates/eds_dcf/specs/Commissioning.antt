@@ -35,12 +35,14 @@ others_beside first pairs = filter (λ p. not (is_set_anew p.key) && is_none (va
 -- the node's number, its name and the bit rate in kbit/s
 abbrev pub node_pairs : ℕ → List ℕ → ℕ → List Pair
 node_pairs node name bitrate =
-    record { key = codes "NodeID"; value = decimal node } ∷ record { key = codes "NodeName"; value = name } ∷ record { key = codes "Baudrate"; value = decimal bitrate } ∷ []
+    record { key = codes "NodeID"; value = decimal node } ∷ record { key = codes "NodeName"; value = name }
+    ∷ record { key = codes "Baudrate"; value = decimal bitrate } ∷ []
 
 -- those first; then the other keys of the first spelling, and those that the second has beside
 unfoldable pub commissioning : List Section → ℕ → List ℕ → ℕ → Section
 commissioning ss node name bitrate = record {
   name = first_spelling;
   pairs = node_pairs node name bitrate
-      ++ (others (pairs_named ss first_spelling) ++ others_beside (pairs_named ss first_spelling) (pairs_named ss second_spelling));
+      ++ (others (pairs_named ss first_spelling) ++ others_beside (pairs_named ss first_spelling)
+      (pairs_named ss second_spelling));
 }

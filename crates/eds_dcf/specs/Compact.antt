@@ -1,5 +1,7 @@
 -- The sections `[xxxxValue]` of an EDS or DCF (CiA 306), which list the values of a compact object's subs.
-use Rattle.std.specs.Prelude.{ℕ, ◌+◌, ◌==◌, ◌||◌, ◌&&◌, ◌++◌, not, Bool, false, true, is_some, if◌then◌else◌, List, [], ◌∷◌, length, filter, filter_map, count_by, codes, decimal, Option, Some, None, option_map, option_and_then}
+use Rattle.std.specs.Prelude.{ℕ, ◌+◌, ◌==◌, ◌||◌, ◌&&◌, ◌++◌, not, Bool, false, true, is_some, if◌then◌else◌, List, []}
+use Rattle.std.specs.Prelude.{◌∷◌, length, filter, filter_map, count_by, codes, decimal, Option, Some, None, option_map}
+use Rattle.std.specs.Prelude.{option_and_then}
 use Rattle.std.specs.Char.{is_digit}
 use Rattle.std.specs.List.{list_all, list_any}
 use Rattle.std.specs.Option.{option_map_or}
@@ -7,7 +9,7 @@ use Rattle.co_text.specs.Digits.{index_digits}
 use Rattle.ini_text.specs.Content.{Pair, Section}
 use Rattle.ini_text.specs.Change.{put_value}
 use Rattle.co_values.specs.Types.{is_modelled}
-use Rattle.co_values.specs.Values.{printed}
+use Rattle.co_values.specs.Values.{text_of_value}
 use Rattle.eds_device.specs.Described.{kind_at}
 use Rattle.eds_device.specs.Places.{first_subs}
 use Rattle.eds_device.specs.Sections.{compact_count, kind_of}
@@ -27,7 +29,8 @@ is_compact (Some (compact section highest)) = true
 unfoldable pub value_pair : List Section → (ℕ × ℕ → Option (List ℕ)) → ℕ × ℕ → Option Pair
 value_pair ss values place =
     if is_compact (origin_of ss place.0 place.1)
-    then option_map (λ bytes. record { key = decimal place.1; value = printed (kind_at ss place) bytes }) (values place)
+    then option_map (λ bytes. record { key = decimal place.1; value = text_of_value (kind_at ss place) bytes })
+    (values place)
     else None
 
 -- the values that are set of an object's compact subs, by sub
@@ -61,7 +64,8 @@ values_pairs modelled pairs set =
 -- of a section `[xxxxValue]` of a compact object; that of another object stays
 unfoldable pub values_pairs_at : List Section → (ℕ × ℕ → Option (List ℕ)) → ℕ → List Pair → List Pair
 values_pairs_at ss values index pairs =
-    option_map_or (λ c. values_pairs (is_modelled (kind_of c.0)) pairs (values_set ss values index c.1)) (compact_object ss index) pairs
+    option_map_or (λ c. values_pairs (is_modelled (kind_of c.0)) pairs (values_set ss values index c.1))
+    (compact_object ss index) pairs
 
 -- `xxxxValue` with four upper-case digits
 abbrev pub values_name : ℕ → List ℕ
@@ -71,7 +75,10 @@ values_name index = index_digits index ++ codes "Value"
 abbrev pub new_values : ℕ → List Pair → Option Section
 new_values index set =
     if length set == 0 then None
-    else Some (record { name = values_name index; pairs = record { key = codes "NrOfEntries"; value = decimal (length set) } ∷ set })
+    else Some (record {
+      name = values_name index;
+      pairs = record { key = codes "NrOfEntries"; value = decimal (length set) } ∷ set;
+    })
 
 -- the section that is made for a compact object without one
 unfoldable pub made_section : List Section → (ℕ × ℕ → Option (List ℕ)) → ℕ → Option Section

@@ -25,15 +25,16 @@ with_values ss values s = record { name = s.name; pairs = pairs_with ss values s
 unfoldable pub indices : List ℕ
 indices = range_with_len 0 0x10000
 
--- the sections that are made, by index: for each compact object without its section of values, where values of its subs are set
-unfoldable pub made : List Section → (ℕ × ℕ → Option (List ℕ)) → List Section
-made ss values = filter_map (made_section ss values) indices
+-- the sections that are made, by index: for each compact object without its section of values, where values of its
+-- subs are set
+unfoldable pub made_sections : List Section → (ℕ × ℕ → Option (List ℕ)) → List Section
+made_sections ss values = filter_map (made_section ss values) indices
 
 -- the sections of the text with the values, those that are made, and the node's
 unfoldable pub sections_with : List Section → ℕ → List ℕ → ℕ → (ℕ × ℕ → Option (List ℕ)) → List Section
 sections_with ss node name bitrate values =
     map (with_values ss values) (filter (λ s. not (is_commissioning s.name)) ss)
-    ++ (made ss values ++ commissioning ss node name bitrate ∷ [])
+    ++ (made_sections ss values ++ commissioning ss node name bitrate ∷ [])
 
 -- the sections of the DCF: each entry has the value of its last write
 unfoldable pub dcf_sections : List Section → ℕ → List ℕ → ℕ → List Write → List Section

@@ -1,10 +1,11 @@
 -- The entry that stands in a section of its own (CiA 306).
-use Rattle.std.specs.Prelude.{ℕ, ◌&&◌, Bool, false, if◌then◌else◌, List, ◌++◌, bytes_eq, codes, Option, Some, None, option_map, option_and_then}
+use Rattle.std.specs.Prelude.{ℕ, ◌&&◌, Bool, false, if◌then◌else◌, List, ◌++◌, bytes_eq, codes, Option, Some, None}
+use Rattle.std.specs.Prelude.{option_map, option_and_then}
 use Rattle.std.specs.Option.{option_or, option_to_list}
 use Rattle.ini_text.specs.Content.{Pair, Section}
 use Rattle.co_values.specs.declared.data_type.DataType.{DataType}
 use Rattle.co_values.specs.Types.{is_modelled}
-use Rattle.co_values.specs.Values.{printed}
+use Rattle.co_values.specs.Values.{text_of_value}
 use Rattle.eds_device.specs.Described.{kind_at}
 use Rattle.eds_device.specs.Names.{index_named, place_named}
 use Rattle.eds_device.specs.Origins.{Origin, own, compact, origin_of}
@@ -30,4 +31,5 @@ parameter_place ss name = option_and_then
 abbrev pub parameter_pairs : List Pair → DataType → Option (List ℕ) → List Pair
 parameter_pairs pairs kind value =
     without (codes "ParameterValue") pairs
-    ++ option_to_list (option_map (λ bytes. record { key = codes "ParameterValue"; value = printed kind bytes }) value)
+    ++ option_to_list (option_map (λ bytes. record { key = codes "ParameterValue"; value = text_of_value kind bytes })
+    value)

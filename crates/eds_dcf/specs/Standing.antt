@@ -14,8 +14,9 @@ section_in (compact section highest) = section
 
 -- whether the section of an entry says a modelled type
 unfoldable pub is_typed : List Section → ℕ × ℕ → Bool
-is_typed ss place = option_map_or (λ origin. is_modelled (kind_of (section_in origin))) (origin_of ss place.0 place.1) false
+is_typed ss place = option_map_or (λ origin. is_modelled (kind_of (section_in origin)))
+    (origin_of ss place.0 place.1) false
 
 -- what stands as the value of an entry: ParameterValue in its own section, or its value in `[xxxxValue]`
-unfoldable pub standing : List Section → ℕ × ℕ → Option (List ℕ)
-standing ss place = option_and_then (value_by ss place.0 place.1) (origin_of ss place.0 place.1)
+unfoldable pub value_that_stands : List Section → ℕ × ℕ → Option (List ℕ)
+value_that_stands ss place = option_and_then (value_by ss place.0 place.1) (origin_of ss place.0 place.1)

@@ -4,7 +4,9 @@ ghost use Rattle.std.specs.List.{find, flat_map};
 ghost use Rattle.std.specs.Option.{option_copied, option_map_or};
 ghost use Rattle.ini_text.specs.Content.{same, value_at};
 ghost use Rattle.ini_text.specs.Change.{pair_text, section_text};
-ghost use Rattle.eds_dcf.specs.Commissioning.{commissioning, is_commissioning as is_commissioning_name, is_set_anew as is_set_anew_key, node_pairs, others, others_beside, pairs_named as pairs_of_name};
+ghost use Rattle.eds_dcf.specs.Commissioning.{commissioning, is_commissioning as is_commissioning_name};
+ghost use Rattle.eds_dcf.specs.Commissioning.{is_set_anew as is_set_anew_key, node_pairs, others, others_beside};
+ghost use Rattle.eds_dcf.specs.Commissioning.{pairs_named as pairs_of_name};
 
 use crate::printing::{is_key, put_line, put_name};
 use eds_device::{Pair, Section};
@@ -118,7 +120,8 @@ pub(crate) fn put_commissioning(
     name: &[u8],
     bitrate: u16,
 ) -> Result<(), AllocError>
-    ensures { OnOk result (out.new.items ≡ out.old.items ++ section_text (commissioning sections.now node name.now bitrate)) }
+    ensures { OnOk result (out.new.items ≡ out.old.items
+        ++ section_text (commissioning sections.now node name.now bitrate)) }
 {
     let first = section_named(sections, FIRST_SPELLING);
     put_name(out, FIRST_SPELLING)?;

@@ -5,8 +5,10 @@ ghost use Rattle.std.specs.List.{flat_map};
 ghost use Rattle.std.specs.Option.{option_to_list};
 ghost use Rattle.ini_text.specs.Change.{section_text};
 ghost use Rattle.co_values.specs.Values.{Fits};
-ghost use Rattle.eds_dcf.specs.Compact.{compact_object as object_of, is_compact as is_compact_origin, made_section, new_values, value_pair, values_set as values_set_of, values_name as name_of_values, values_pairs_at};
-ghost use Rattle.eds_device.specs.Shown.{shown};
+ghost use Rattle.eds_dcf.specs.Compact.{compact_object as object_of, is_compact as is_compact_origin, made_section};
+ghost use Rattle.eds_dcf.specs.Compact.{new_values, value_pair, values_set as values_set_of};
+ghost use Rattle.eds_dcf.specs.Compact.{values_name as name_of_values, values_pairs_at};
+ghost use Rattle.eds_device.specs.Shown.{origin_shown};
 ghost use Rattle.eds_device.specs.Described.{kind_at};
 
 use crate::entry::text_of;
@@ -30,7 +32,7 @@ fn compact_object(device: &Device, index: u16) -> Option<(&Section, u8)>
 
 /// Whether an entry stands in the section of a compact object.
 fn is_compact(origin: Option<Origin<'_>>) -> bool
-    ensures { result ≡ is_compact_origin (option_map shown origin.entry) }
+    ensures { result ≡ is_compact_origin (option_map origin_shown origin.entry) }
 {
     matches!(origin, Some(Origin::Compact(_, _)))
 }
@@ -99,7 +101,8 @@ fn values_name(alloc: Global, index: u16) -> Result<Vec<u8>, AllocError>
 
 /// Writes a new section of values, if there are any.
 fn put_new(out: &mut Vec<u8>, alloc: Global, index: u16, set: &[Setting]) -> Result<(), AllocError>
-    ensures { OnOk result (out.new.items ≡ out.old.items ++ flat_map section_text (option_to_list (new_values index set.now))) }
+    ensures { OnOk result (out.new.items ≡ out.old.items
+        ++ flat_map section_text (option_to_list (new_values index set.now))) }
 {
     if set.is_empty() {
         return Ok(());
@@ -147,7 +150,10 @@ pub(crate) fn put_values_section(
 ) -> Result<(), AllocError>
     requires { (place : ℕ × ℕ) → IfSome (get values.now place) (Fits (kind_at device.now.sections place)) }
     ensures { OnOk result (out.new.items ≡ out.old.items
-        ++ section_text (record { name = section.now.name; pairs = values_pairs_at device.now.sections (get values.now) index section.now.pairs })) }
+        ++ section_text (record {
+          name = section.now.name;
+          pairs = values_pairs_at device.now.sections (get values.now) index section.now.pairs;
+        })) }
 {
     put_name(out, section.name())?;
     let Some((object, highest)) = compact_object(device, index) else {

@@ -1,9 +1,10 @@
 //! Sections in which one entry stands.
 ghost use Rattle.std.specs.Prelude.{◌≡◌, ◌++◌, OnOk, IfSome, IfOk, option_copied, option_map};
 ghost use Rattle.ini_text.specs.Change.{section_text};
-ghost use Rattle.co_values.specs.Values.{Fits, printed};
-ghost use Rattle.eds_device.specs.Shown.{shown};
-ghost use Rattle.eds_dcf.specs.Entries.{is_in as is_in_section, own_place as place_owned, parameter_pairs, parameter_place};
+ghost use Rattle.co_values.specs.Values.{Fits, text_of_value};
+ghost use Rattle.eds_device.specs.Shown.{origin_shown};
+ghost use Rattle.eds_dcf.specs.Entries.{is_in as is_in_section, own_place as place_owned, parameter_pairs};
+ghost use Rattle.eds_dcf.specs.Entries.{parameter_place};
 
 use crate::printing::{put_line, put_name, put_pairs_without};
 use co_base::Octets;
@@ -27,7 +28,7 @@ fn own_place(name: &[u8]) -> Option<(u16, u8)>
 
 /// Whether an entry stands in the section of that name.
 fn is_in(name: &[u8], origin: Option<Origin<'_>>) -> bool
-    ensures { result ≡ is_in_section name.now (option_map shown origin.entry) }
+    ensures { result ≡ is_in_section name.now (option_map origin_shown origin.entry) }
 {
     match origin {
         Some(Origin::Own(section)) => section.name() == name,
@@ -51,7 +52,7 @@ pub(crate) fn parameter_place(device: &Device, name: &[u8]) -> Option<(u16, u8)>
 /// The text of bytes as a value of a type.
 pub(crate) fn text_of(alloc: Global, kind: DataType, bytes: &[u8]) -> Result<Vec<u8>, AllocError>
     requires { Fits kind bytes.now }
-    ensures { IfOk result (λ text. text.items ≡ printed kind bytes.now) }
+    ensures { IfOk result (λ text. text.items ≡ text_of_value kind bytes.now) }
 {
     let value = Value {
         kind,
@@ -70,7 +71,10 @@ pub(crate) fn put_entry(
 ) -> Result<(), AllocError>
     requires { IfSome value (λ bytes. Fits kind bytes.now) }
     ensures { OnOk result (out.new.items ≡ out.old.items
-        ++ section_text (record { name = section.now.name; pairs = parameter_pairs section.now.pairs kind (option_copied value.entry) })) }
+        ++ section_text (record {
+          name = section.now.name;
+          pairs = parameter_pairs section.now.pairs kind (option_copied value.entry);
+        })) }
 {
     put_name(out, section.name())?;
     put_pairs_without(out, section.pairs(), PARAMETER_VALUE)?;

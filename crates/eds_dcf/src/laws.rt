@@ -1,17 +1,18 @@
 //! Laws of the definitions: what stands in the sections of a DCF.
 
-ghost use Rattle.std.specs.Prelude.{◌≡◌, ◌⊎◌, All, IsFalse, IfSome, Contains, ℕ, List, None, Some, count_by, option_map, false, true, codes, decimal};
+ghost use Rattle.std.specs.Prelude.{◌≡◌, ◌⊎◌, All, IsFalse, IfSome, Contains, ℕ, List, None, Some, count_by};
+ghost use Rattle.std.specs.Prelude.{option_map, false, true, codes, decimal};
 ghost use Rattle.ini_text.specs.Change.{text_of};
 ghost use Rattle.ini_text.specs.Content.{Pair, Section, content_of, same, value_at};
 ghost use Rattle.ini_text.specs.Printable.{IsPrintable, IsValue};
 ghost use Rattle.co_values.specs.Types.{is_modelled};
-ghost use Rattle.co_values.specs.Values.{printed};
+ghost use Rattle.co_values.specs.Values.{text_of_value};
 ghost use Rattle.co_dict.specs.Pdos.{is_of_pdos};
 ghost use Rattle.std.specs.FinMap as map;
 ghost use Rattle.co_params.specs.Parameters.{parameter_writes};
 ghost use Rattle.co_params.specs.Params.{Texts};
 ghost use Rattle.concise_dcf.specs.declared.write.Write.{Write as written};
-ghost use Rattle.eds_device.specs.Described.{described, kind_at};
+ghost use Rattle.eds_device.specs.Described.{description_of, kind_at};
 ghost use Rattle.eds_device.specs.Names.{values_named};
 ghost use Rattle.eds_device.specs.Places.{pairs_of};
 ghost use Rattle.eds_device.specs.Sections.{kind_of};
@@ -19,39 +20,47 @@ ghost use Rattle.eds_dcf.specs.Compact.{compact_object, is_decimal, values_pairs
 ghost use Rattle.eds_dcf.specs.Dcf.{dcf_sections, with_values};
 ghost use Rattle.eds_dcf.specs.Entries.{parameter_place};
 ghost use Rattle.eds_dcf.specs.Printable.{StandsInLine};
-ghost use Rattle.eds_dcf.specs.Standing.{is_typed, standing};
+ghost use Rattle.eds_dcf.specs.Standing.{is_typed, value_that_stands};
 ghost use Rattle.eds_dcf.specs.Writes.{last_of};
 
 /// Reading the text of a DCF gives the sections that it was printed of: for sections that a text
 /// gave, a node's name without blanks at its ends and without an LF, and writes whose values can
 /// stand in a line, as those of numbers and of pairs of digits always can.
 pub fn a_dcf_reads_as_its_sections()
-    ensures { (ss : List Section) (node : ℕ) (name : List ℕ) (bitrate : ℕ) (writes : List written) → IsPrintable ss → IsValue name → All (StandsInLine ss) writes
-        → (content_of (text_of (dcf_sections ss node name bitrate writes))).sections ≡ dcf_sections ss node name bitrate writes }
+    ensures { (ss : List Section) (node : ℕ) (name : List ℕ) (bitrate : ℕ) (writes : List written) → IsPrintable ss
+        → IsValue name → All (StandsInLine ss) writes
+        → (content_of (text_of (dcf_sections ss node name bitrate writes))).sections
+        ≡ dcf_sections ss node name bitrate writes }
 {}
 
 /// A DCF has the entries of its EDS, and describes them alike: their types, accesses, limits and
 /// defaults.
 pub fn a_dcf_describes_its_entries()
-    ensures entries { (ss : List Section) (node : ℕ) (name : List ℕ) (bitrate : ℕ) (writes : List written) → pairs_of (dcf_sections ss node name bitrate writes) ≡ pairs_of ss }
-    ensures described { (ss : List Section) (node : ℕ) (name : List ℕ) (bitrate : ℕ) (writes : List written) (index sub : ℕ)
-        → described (dcf_sections ss node name bitrate writes) index sub ≡ described ss index sub }
+    ensures entries { (ss : List Section) (node : ℕ) (name : List ℕ) (bitrate : ℕ) (writes : List written)
+        → pairs_of (dcf_sections ss node name bitrate writes) ≡ pairs_of ss }
+    ensures described { (ss : List Section) (node : ℕ) (name : List ℕ) (bitrate : ℕ) (writes : List written)
+        (index sub : ℕ)
+        → description_of (dcf_sections ss node name bitrate writes) index sub ≡ description_of ss index sub }
 {}
 
 /// In a DCF each entry whose section says a modelled type has the bytes of its last write as its
 /// value, in its own section or in one `[xxxxValue]`, which is made where it isn't there; and it has
 /// no value where no write is to it.
 pub fn an_entry_has_its_last_value()
-    ensures { (ss : List Section) (node : ℕ) (name : List ℕ) (bitrate : ℕ) (writes : List written) (place : ℕ × ℕ) → is_typed ss place ≡ true
-        → standing (dcf_sections ss node name bitrate writes) place ≡ option_map (printed (kind_at ss place)) (last_of writes place) }
+    ensures { (ss : List Section) (node : ℕ) (name : List ℕ) (bitrate : ℕ) (writes : List written) (place : ℕ × ℕ)
+        → is_typed ss place ≡ true
+        → value_that_stands (dcf_sections ss node name bitrate writes) place
+        ≡ option_map (text_of_value (kind_at ss place)) (last_of writes place) }
 {}
 
 /// In a DCF each section `[xxxxValue]` stands as it was, or its NrOfEntries is the number of its keys
 /// that are decimal.
 pub fn values_are_counted()
-    ensures { (ss : List Section) (node : ℕ) (name : List ℕ) (bitrate : ℕ) (writes : List written) (section : Section) (index : ℕ)
+    ensures { (ss : List Section) (node : ℕ) (name : List ℕ) (bitrate : ℕ) (writes : List written) (section : Section)
+        (index : ℕ)
         → Contains (dcf_sections ss node name bitrate writes) section → values_named section.name ≡ Some index
-        → Contains ss section ⊎ (value_at section.pairs (codes "NrOfEntries") ≡ Some (decimal (count_by (λ p. is_decimal p.key) section.pairs))) }
+        → Contains ss section ⊎ (value_at section.pairs (codes "NrOfEntries")
+        ≡ Some (decimal (count_by (λ p. is_decimal p.key) section.pairs))) }
 {}
 
 /// A DCF carries the parameters of its node whole, where none is to an object of PDOs: read as a
@@ -60,28 +69,36 @@ pub fn values_are_counted()
 pub fn a_dcf_carries_the_parameters()
     ensures sections { (ss : List Section) (params : Texts) (node : ℕ) (name : List ℕ) (bitrate : ℕ)
         → ((write : written) → Contains (parameter_writes ss params node) write → IsFalse (is_of_pdos write.index))
-        → parameter_writes (dcf_sections ss node name bitrate (parameter_writes ss params node)) map.empty node ≡ parameter_writes ss params node }
+        → parameter_writes (dcf_sections ss node name bitrate (parameter_writes ss params node)) map.empty node
+        ≡ parameter_writes ss params node }
     ensures text { (ss : List Section) (params : Texts) (node : ℕ) (name : List ℕ) (bitrate : ℕ)
         → IsPrintable ss → IsValue name → ((place : ℕ × ℕ) → IfSome (map.get params place) IsValue)
         → ((write : written) → Contains (parameter_writes ss params node) write → IsFalse (is_of_pdos write.index))
-        → parameter_writes (content_of (text_of (dcf_sections ss node name bitrate (parameter_writes ss params node)))).sections map.empty node ≡ parameter_writes ss params node }
+        → parameter_writes
+        (content_of (text_of (dcf_sections ss node name bitrate (parameter_writes ss params node)))).sections
+        map.empty node ≡ parameter_writes ss params node }
 {}
 
 /// The other keys of the section of a modelled entry have what they had.
 pub fn other_keys_stay()
-    ensures { (ss : List Section) (writes : List written) (s : Section) (place : ℕ × ℕ) (key : List ℕ) → parameter_place ss s.name ≡ Some place
-        → same (codes "ParameterValue") key ≡ false → value_at (with_values ss (last_of writes) s).pairs key ≡ value_at s.pairs key }
+    ensures { (ss : List Section) (writes : List written) (s : Section) (place : ℕ × ℕ) (key : List ℕ)
+        → parameter_place ss s.name ≡ Some place
+        → same (codes "ParameterValue") key ≡ false
+        → value_at (with_values ss (last_of writes) s).pairs key ≡ value_at s.pairs key }
 {}
 
 /// The keys of a section `[xxxxValue]` that are no numbers, but NrOfEntries, have what they had.
 pub fn other_keys_of_values_stay()
-    ensures { (ss : List Section) (writes : List written) (index : ℕ) (object : Section) (highest : ℕ) (pairs : List Pair) (key : List ℕ)
-        → compact_object ss index ≡ Some (object, highest) → is_modelled (kind_of object) ≡ true → is_decimal key ≡ false → same (codes "NrOfEntries") key ≡ false
+    ensures { (ss : List Section) (writes : List written) (index : ℕ) (object : Section) (highest : ℕ)
+        (pairs : List Pair) (key : List ℕ)
+        → compact_object ss index ≡ Some (object, highest) → is_modelled (kind_of object) ≡ true
+        → is_decimal key ≡ false → same (codes "NrOfEntries") key ≡ false
         → value_at (values_pairs_at ss (last_of writes) index pairs) key ≡ value_at pairs key }
 {}
 
 /// A section that is neither that of a modelled entry nor one of compact values stands as it was.
 pub fn other_sections_stay()
-    ensures { (ss : List Section) (writes : List written) (s : Section) → parameter_place ss s.name ≡ None → values_named s.name ≡ None
+    ensures { (ss : List Section) (writes : List written) (s : Section) → parameter_place ss s.name ≡ None
+        → values_named s.name ≡ None
         → with_values ss (last_of writes) s ≡ s }
 {}

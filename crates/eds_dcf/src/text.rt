@@ -4,7 +4,7 @@ ghost use Rattle.std.specs.FinMap.{get};
 ghost use Rattle.ini_text.specs.Change.{section_text, text_of};
 ghost use Rattle.co_values.specs.Values.{Fits};
 ghost use Rattle.eds_dcf.specs.Commissioning.{is_commissioning as is_commissioning_name};
-ghost use Rattle.eds_dcf.specs.Dcf.{dcf_sections, made, with_values};
+ghost use Rattle.eds_dcf.specs.Dcf.{dcf_sections, made_sections, with_values};
 ghost use Rattle.eds_device.specs.Described.{kind_at};
 
 use crate::commissioning::{is_commissioning, put_commissioning};
@@ -26,7 +26,8 @@ fn put_with_values(
     section: &Section,
 ) -> Result<(), AllocError>
     requires { (place : ℕ × ℕ) → IfSome (get values.now place) (Fits (kind_at device.now.sections place)) }
-    ensures { OnOk result (out.new.items ≡ out.old.items ++ section_text (with_values device.now.sections (get values.now) section.now)) }
+    ensures { OnOk result (out.new.items ≡ out.old.items
+        ++ section_text (with_values device.now.sections (get values.now) section.now)) }
 {
     if let Some((index, sub)) = parameter_place(device, section.name()) {
         put_entry(
@@ -55,7 +56,8 @@ fn put_sections(
 ) -> Result<(), AllocError>
     requires { (place : ℕ × ℕ) → IfSome (get values.now place) (Fits (kind_at device.now.sections place)) }
     ensures { OnOk result (out.new.items ≡ out.old.items
-        ++ text_of (map (with_values device.now.sections (get values.now)) (filter (λ s. not (is_commissioning_name s.name)) device.now.sections))) }
+        ++ text_of (map (with_values device.now.sections (get values.now))
+        (filter (λ s. not (is_commissioning_name s.name)) device.now.sections))) }
 {
     for section in device.sections() {
         if !is_commissioning(section.name()) {
@@ -74,7 +76,8 @@ fn put_all_made(
     values: &Dict,
 ) -> Result<(), AllocError>
     requires { (place : ℕ × ℕ) → IfSome (get values.now place) (Fits (kind_at device.now.sections place)) }
-    ensures { OnOk result (out.new.items ≡ out.old.items ++ text_of (made device.now.sections (get values.now))) }
+    ensures { OnOk result (out.new.items ≡ out.old.items
+        ++ text_of (made_sections device.now.sections (get values.now))) }
 {
     for (index, sub) in device.pairs() {
         if *sub == 0 {
@@ -101,7 +104,8 @@ pub fn dcf_text(
     writes: &[Write],
 ) -> Result<Vec<u8>, AllocError>
     requires { All (λ w. Fits (kind_at device.now.sections (w.index, w.sub)) w.bytes) writes.now }
-    ensures { IfOk result (λ text. text.items ≡ text_of (dcf_sections device.now.sections node name.now bitrate writes.now)) }
+    ensures { IfOk result (λ text. text.items
+        ≡ text_of (dcf_sections device.now.sections node name.now bitrate writes.now)) }
 {
     let values = last_values(alloc, writes)?;
     let mut out = Vec::new(alloc);

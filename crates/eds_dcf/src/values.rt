@@ -3,7 +3,8 @@ ghost use Rattle.std.specs.Prelude.{◌≡◌, ◌++◌, not, IfOk, OnOk, count_
 ghost use Rattle.std.specs.Char.{is_digit};
 ghost use Rattle.std.specs.List.{flat_map, list_all, list_any};
 ghost use Rattle.ini_text.specs.Change.{pair_text};
-ghost use Rattle.eds_dcf.specs.Compact.{is_decimal as is_decimal_key, with_all, with_count, with_set as pairs_with_set, values_pairs};
+ghost use Rattle.eds_dcf.specs.Compact.{is_decimal as is_decimal_key, with_all, with_count, with_set as pairs_with_set};
+ghost use Rattle.eds_dcf.specs.Compact.{values_pairs};
 
 use crate::printing::{put_pairs, put_settings};
 use crate::setting::{Setting, put};
@@ -119,7 +120,8 @@ pub(crate) fn put_values(
     pairs: &[Pair],
     set: Vec<Setting>,
 ) -> Result<(), AllocError>
-    ensures { OnOk result (out.new.items ≡ out.old.items ++ flat_map pair_text (values_pairs modelled pairs.now set.items)) }
+    ensures { OnOk result (out.new.items ≡ out.old.items
+        ++ flat_map pair_text (values_pairs modelled pairs.now set.items)) }
 {
     if !(modelled && has_decimal(pairs)) && set.is_empty() {
         return put_pairs(out, pairs);

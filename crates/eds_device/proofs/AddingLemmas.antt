@@ -1,5 +1,7 @@
 -- Entries are put in order, and are refused where they are too many.
-use Rattle.std.proofs.Common.{◌≡◌, ℕ, zero, suc, ◌+◌, ◌<◌, ◌≤◌, Bool, true, false, List, [], ◌∷◌, ◌++◌, length, take, drop, get_or, Result, Ok, Err, refl, sym, ap, ◌∙◌, arith, add-one, inl, inr, ltb-true, append-nil, take-append-drop, take_all}
+use Rattle.std.proofs.Common.{◌≡◌, ℕ, zero, suc, ◌+◌, ◌<◌, ◌≤◌, Bool, true, false, List, [], ◌∷◌, ◌++◌, length, take}
+use Rattle.std.proofs.Common.{drop, get_or, Result, Ok, Err, refl, sym, ap, ◌∙◌, arith, add-one, inl, inr, ltb-true}
+use Rattle.std.proofs.Common.{append-nil, take-append-drop, take_all}
 use Rattle.std.specs.Prelude.{if◌then◌else◌, nat_lt}
 use Rattle.std.specs.declared.cmp.Ordering.{Ordering}
 use Rattle.std.specs.declared.cmp.Ordering.TheVariants.{Less, Equal, Greater}
@@ -25,7 +27,8 @@ insert_longer : (xs : List (ℕ × ℕ)) (k : ℕ × ℕ) → length xs ≤ leng
 insert_longer [] k = omega arith
 insert_longer (x ∷ xs) k = by (place_cmp k x) (insert_longer xs k)
   where
-    by : (o : Ordering) → length xs ≤ length (insert_key place_cmp xs k) → length (x ∷ xs) ≤ length (match_ordering o (k ∷ x ∷ xs) (x ∷ xs) (x ∷ insert_key place_cmp xs k))
+    by : (o : Ordering) → length xs ≤ length (insert_key place_cmp xs k)
+        → length (x ∷ xs) ≤ length (match_ordering o (k ∷ x ∷ xs) (x ∷ xs) (x ∷ insert_key place_cmp xs k))
     by Less h = omega arith
     by Equal h = omega arith
     by Greater h = omega arith
@@ -37,45 +40,59 @@ put_longer done (p ∷ ps) = omega (arith, insert_longer done p, put_longer (ins
 -- what isn't refused is all, and not too much
 pub not_refused : (all new : List (ℕ × ℕ)) → limited all all ≡ Ok new → (new ≡ all) × (length new ≤ most_entries)
 not_refused all new h = elim (cases_lt most_entries (length all)) [
-  | inl large ↦ let t : nat_lt most_entries (length all) ≡ true = lt-ltb most_entries (length all) large in absurd (refused (nat_lt most_entries (length all)) t h)
+  | inl large ↦ let t : nat_lt most_entries (length all) ≡ true = lt-ltb most_entries (length all) large
+      in absurd (refused (nat_lt most_entries (length all)) t h)
   | inr small ↦ by (nat_lt most_entries (length all)) small h
 ]
   where
-    refused : (b : Bool) → b ≡ true → let r : Result (List (ℕ × ℕ)) DeviceFault = if b then Err Limit else Ok all in r ≡ Ok new → ⊥
+    refused : (b : Bool) → b ≡ true → let r : Result (List (ℕ × ℕ)) DeviceFault = if b then Err Limit else Ok all
+        in r ≡ Ok new → ⊥
     refused true t e = cc
     refused false t e = cc
 
-    by : (b : Bool) → length all ≤ most_entries → (let r : Result (List (ℕ × ℕ)) DeviceFault = if b then Err Limit else Ok all in r ≡ Ok new) → (new ≡ all) × (length new ≤ most_entries)
+    by : (b : Bool) → length all ≤ most_entries
+        → (let r : Result (List (ℕ × ℕ)) DeviceFault = if b then Err Limit else Ok all in r ≡ Ok new)
+        → (new ≡ all) × (length new ≤ most_entries)
     by true s e = cc
     by false s e = let same : new ≡ all = cc in (same, rw same s)
 
 -- what was refused for too many is refused with more
-pub still_refused : (fault : DeviceFault) (some all : List (ℕ × ℕ)) → length some ≤ length all → OnFalse (is_memory fault) (limited some some ≡ Err fault) → OnFalse (is_memory fault) (limited all all ≡ Err fault)
+pub still_refused : (fault : DeviceFault) (some all : List (ℕ × ℕ)) → length some ≤ length all
+    → OnFalse (is_memory fault) (limited some some ≡ Err fault)
+    → OnFalse (is_memory fault) (limited all all ≡ Err fault)
 still_refused Memory some all le h = tt
 still_refused Range some all le h = by (nat_lt most_entries (length some)) h
   where
-    by : (b : Bool) → (let r : Result (List (ℕ × ℕ)) DeviceFault = if b then Err Limit else Ok some in r ≡ Err Range) → limited all all ≡ Err Range
+    by : (b : Bool) → (let r : Result (List (ℕ × ℕ)) DeviceFault = if b then Err Limit else Ok some in r ≡ Err Range)
+        → limited all all ≡ Err Range
     by true e = cc
     by false e = cc
 still_refused BadByte some all le h = by (nat_lt most_entries (length some)) h
   where
-    by : (b : Bool) → (let r : Result (List (ℕ × ℕ)) DeviceFault = if b then Err Limit else Ok some in r ≡ Err BadByte) → limited all all ≡ Err BadByte
+    by : (b : Bool) → (let r : Result (List (ℕ × ℕ)) DeviceFault = if b then Err Limit else Ok some in r ≡ Err BadByte)
+        → limited all all ≡ Err BadByte
     by true e = cc
     by false e = cc
 still_refused Limit some all le h = by (nat_lt most_entries (length some)) refl h
   where
     large : nat_lt most_entries (length some) ≡ true → limited all all ≡ Err Limit
-    large t = let more : nat_lt most_entries (length all) ≡ true = lt-ltb most_entries (length all) (omega (arith, ltb-true most_entries (length some) t)) in ap (λ (b : Bool). let r : Result (List (ℕ × ℕ)) DeviceFault = if b then Err Limit else Ok all in r) more
+    large t = let more : nat_lt most_entries (length all) ≡ true = lt-ltb most_entries (length all)
+        (omega (arith, ltb-true most_entries (length some) t))
+        in ap (λ (b : Bool). let r : Result (List (ℕ × ℕ)) DeviceFault = if b then Err Limit else Ok all in r) more
 
-    by : (b : Bool) → nat_lt most_entries (length some) ≡ b → (let r : Result (List (ℕ × ℕ)) DeviceFault = if b then Err Limit else Ok some in r ≡ Err Limit) → limited all all ≡ Err Limit
+    by : (b : Bool) → nat_lt most_entries (length some) ≡ b
+        → (let r : Result (List (ℕ × ℕ)) DeviceFault = if b then Err Limit else Ok some in r ≡ Err Limit)
+        → limited all all ≡ Err Limit
     by true t e = large t
     by false t e = cc
 
 -- one more sub
-pub subs_more : (done keys : List (ℕ × ℕ)) (index n : ℕ) → keys ≡ put_in_order done (first_subs index n) → put_in_order done (first_subs index (n + 1)) ≡ put_in_order keys ((index, n) ∷ [])
+pub subs_more : (done keys : List (ℕ × ℕ)) (index n : ℕ) → keys ≡ put_in_order done (first_subs index n)
+    → put_in_order done (first_subs index (n + 1)) ≡ put_in_order keys ((index, n) ∷ [])
 subs_more done keys index n h = rw (add-one, h) (put-append done (first_subs index n) ((index, n) ∷ []))
 
-pub subs_longer : (done : List (ℕ × ℕ)) (index k n : ℕ) → k ≤ n → length (put_in_order done (first_subs index k)) ≤ length (put_in_order done (first_subs index n))
+pub subs_longer : (done : List (ℕ × ℕ)) (index k n : ℕ) → k ≤ n
+    → length (put_in_order done (first_subs index k)) ≤ length (put_in_order done (first_subs index n))
 subs_longer done index zero zero h = omega arith
 subs_longer done index (suc k) zero h = absurd (omega arith)
 subs_longer done index k (suc n) h = elim (cases_lt k (suc n)) [
@@ -87,28 +104,38 @@ subs_longer done index k (suc n) h = elim (cases_lt k (suc n)) [
 ]
 
 -- one more section
-pub sections_more : (keys : List (ℕ × ℕ)) (ss : List Section) (i : ℕ) (s : Section) → i < length ss → s ≡ get_or ss i s → keys ≡ put_in_order [] (flat_map places_given (take i ss))
+pub sections_more : (keys : List (ℕ × ℕ)) (ss : List Section) (i : ℕ) (s : Section) → i < length ss → s ≡ get_or ss i s
+    → keys ≡ put_in_order [] (flat_map places_given (take i ss))
     → put_in_order [] (flat_map places_given (take (i + 1) ss)) ≡ put_in_order keys (places_given s)
 sections_more keys ss i s lt is h =
     let more : take (i + 1) ss ≡ take i ss ++ s ∷ [] = take_more ss i s lt ∙ ap (λ x. take i ss ++ x ∷ []) (sym is) in
-    rw (more, h) (ap (put_in_order []) (flat_map-append places_given (take i ss) (s ∷ []) ∙ ap (λ xs. flat_map places_given (take i ss) ++ xs) (append-nil (places_given s))) ∙ put-append [] (flat_map places_given (take i ss)) (places_given s))
+    rw (more, h)
+    (ap (put_in_order []) (flat_map-append places_given (take i ss) (s ∷ [])
+    ∙ ap (λ xs. flat_map places_given (take i ss) ++ xs) (append-nil (places_given s)))
+    ∙ put-append [] (flat_map places_given (take i ss)) (places_given s))
 
-pub sections_longer : (ss : List Section) (i : ℕ) → length (put_in_order [] (flat_map places_given (take i ss))) ≤ length (pairs_of ss)
+pub sections_longer : (ss : List Section) (i : ℕ)
+    → length (put_in_order [] (flat_map places_given (take i ss))) ≤ length (pairs_of ss)
 unfolding pairs_of
 sections_longer ss i =
-    let whole : put_in_order [] (flat_map places_given ss) ≡ put_in_order (put_in_order [] (flat_map places_given (take i ss))) (flat_map places_given (drop i ss)) =
-    ap (λ xs. put_in_order [] (flat_map places_given xs)) (sym (take-append-drop i ss)) ∙ ap (put_in_order []) (flat_map-append places_given (take i ss) (drop i ss)) ∙ put-append [] (flat_map places_given (take i ss)) (flat_map places_given (drop i ss)) in
+    let whole : put_in_order [] (flat_map places_given ss)
+    ≡ put_in_order (put_in_order [] (flat_map places_given (take i ss))) (flat_map places_given (drop i ss)) =
+    ap (λ xs. put_in_order [] (flat_map places_given xs)) (sym (take-append-drop i ss))
+    ∙ ap (put_in_order []) (flat_map-append places_given (take i ss) (drop i ss))
+    ∙ put-append [] (flat_map places_given (take i ss)) (flat_map places_given (drop i ss)) in
     rw whole (put_longer (put_in_order [] (flat_map places_given (take i ss))) (flat_map places_given (drop i ss)))
 
 -- what isn't too much is given
 pub none_refused : (all given : List (ℕ × ℕ)) → length all ≤ most_entries → given ≡ all → limited all all ≡ Ok given
 none_refused all given small same = rw same (by (nat_lt most_entries (length all)) refl)
   where
-    by : (b : Bool) → nat_lt most_entries (length all) ≡ b → (let r : Result (List (ℕ × ℕ)) DeviceFault = if b then Err Limit else Ok all in r ≡ Ok all)
+    by : (b : Bool) → nat_lt most_entries (length all) ≡ b
+        → (let r : Result (List (ℕ × ℕ)) DeviceFault = if b then Err Limit else Ok all in r ≡ Ok all)
     by true t = absurd (omega (arith, ltb-true most_entries (length all) t))
     by false t = refl
 
 -- all sections are seen
-pub all_sections : (keys : List (ℕ × ℕ)) (ss : List Section) (i : ℕ) → length ss ≤ i → keys ≡ put_in_order [] (flat_map places_given (take i ss)) → keys ≡ pairs_of ss
+pub all_sections : (keys : List (ℕ × ℕ)) (ss : List Section) (i : ℕ) → length ss ≤ i
+    → keys ≡ put_in_order [] (flat_map places_given (take i ss)) → keys ≡ pairs_of ss
 unfolding pairs_of
 all_sections keys ss i h is = is ∙ ap (λ xs. put_in_order [] (flat_map places_given xs)) (take_all i ss h)

@@ -1,21 +1,26 @@
 -- The numbers of an identity, which are those of the defaults, and the dummies of a shape.
-use Rattle.std.proofs.Common.{◌≡◌, ℕ, zero, suc, ◌-◌, ◌<◌, ◌≤◌, Bool, true, false, ◌&&◌, List, [], ◌∷◌, get_or, Option, None, Some, refl, sym, ap, ◌∙◌, arith}
+use Rattle.std.proofs.Common.{◌≡◌, ℕ, zero, suc, ◌-◌, ◌<◌, ◌≤◌, Bool, true, false, ◌&&◌, List, [], ◌∷◌, get_or, Option}
+use Rattle.std.proofs.Common.{None, Some, refl, sym, ap, ◌∙◌, arith}
 use Rattle.std.specs.Prelude.{if◌then◌else◌, pos, nat_le, option_map, option_and_then}
 use Rattle.std.specs.FinMap.{get}
 use Rattle.std.specs.Option.{option_map_or, unwrap_or}
 use Rattle.std.proofs.lemmas.Bool.{lt-ltb, leb-true}
 use Rattle.byteorder.specs.Endian.{little_bytes, little_number}
 use Rattle.co_values.specs.declared.data_type.DataType.{DataType}
-use Rattle.co_values.specs.declared.data_type.DataType.TheVariants.{Boolean, Integer8, Integer16, Integer32, Integer64, Unsigned8, Unsigned16, Unsigned32, Unsigned64, VisibleString, OctetString, Domain, NotModelled}
+use Rattle.co_values.specs.declared.data_type.DataType.TheVariants.{Boolean, Integer8, Integer16, Integer32, Integer64}
+use Rattle.co_values.specs.declared.data_type.DataType.TheVariants.{Unsigned8, Unsigned16, Unsigned32, Unsigned64}
+use Rattle.co_values.specs.declared.data_type.DataType.TheVariants.{VisibleString, OctetString, Domain, NotModelled}
 use Rattle.co_values.specs.declared.form.Width.TheVariants.{Bits8, Bits16, Bits32}
 use Rattle.co_values.specs.Number.{formula}
 use Rattle.co_values.specs.Types.{is_modelled}
 use Rattle.co_values.specs.Values.{value, number_in, unsigned_bits, zero_value}
 use Rattle.co_dict.specs.Shapes.{is_dummy_allowed}
 use Rattle.ini_text.specs.Content.{Section}
-use Rattle.eds_device.specs.Described.{Default, written, count, Described, described, kind_at}
-use Rattle.eds_device.specs.Entries.{number_spelled, default_bytes, default_by, default_at, defaults_of, dummies_of, dummy_allowed, shape_of}
-use Rattle.eds_device.specs.Identity.{is_identity_type, or_zero, four_bytes, default_number, identity_by, identity_number}
+use Rattle.eds_device.specs.Described.{Default, written, count, Described, description_of, kind_at}
+use Rattle.eds_device.specs.Entries.{number_spelled, default_bytes, default_by, default_at, defaults_of, dummies_of}
+use Rattle.eds_device.specs.Entries.{dummy_allowed, shape_of}
+use Rattle.eds_device.specs.Identity.{is_identity_type, or_zero, four_bytes, default_number, identity_by}
+use Rattle.eds_device.specs.Identity.{identity_number}
 use Rattle.eds_device.proofs.LawLemmas.{defaults_at}
 
 -- ---- what is read of a description
@@ -25,21 +30,28 @@ kept n h = ap (λ (b : Bool). if b then n else 0) (lt-ltb n 4294967296 h)
 
 -- a text's number is that of the default, which is 0 where the text spells none
 spelled : (kind : DataType) (text : List ℕ) (node : ℕ) → is_identity_type kind ≡ true
-    → option_map_or four_bytes (number_spelled kind text node) 0 ≡ or_zero (number_in kind (default_bytes kind (written text) node))
+    → option_map_or four_bytes (number_spelled kind text node) 0
+    ≡ or_zero (number_in kind (default_bytes kind (written text) node))
 unfolding value number_in
 spelled Unsigned8 text node h = by (option_and_then (unsigned_bits Bits8) (formula text node))
   where
-    by : (o : Option ℕ) → option_map_or four_bytes (option_and_then (number_in Unsigned8) (option_map (little_bytes 1) o)) 0 ≡ or_zero (number_in Unsigned8 (unwrap_or (option_map (little_bytes 1) o) (zero_value Unsigned8)))
+    by : (o : Option ℕ)
+        → option_map_or four_bytes (option_and_then (number_in Unsigned8) (option_map (little_bytes 1) o)) 0
+        ≡ or_zero (number_in Unsigned8 (unwrap_or (option_map (little_bytes 1) o) (zero_value Unsigned8)))
     by None = refl
     by (Some x) = kept (little_number 1 (little_bytes 1 x)) (omega arith)
 spelled Unsigned16 text node h = by (option_and_then (unsigned_bits Bits16) (formula text node))
   where
-    by : (o : Option ℕ) → option_map_or four_bytes (option_and_then (number_in Unsigned16) (option_map (little_bytes 2) o)) 0 ≡ or_zero (number_in Unsigned16 (unwrap_or (option_map (little_bytes 2) o) (zero_value Unsigned16)))
+    by : (o : Option ℕ)
+        → option_map_or four_bytes (option_and_then (number_in Unsigned16) (option_map (little_bytes 2) o)) 0
+        ≡ or_zero (number_in Unsigned16 (unwrap_or (option_map (little_bytes 2) o) (zero_value Unsigned16)))
     by None = refl
     by (Some x) = kept (little_number 2 (little_bytes 2 x)) (omega arith)
 spelled Unsigned32 text node h = by (option_and_then (unsigned_bits Bits32) (formula text node))
   where
-    by : (o : Option ℕ) → option_map_or four_bytes (option_and_then (number_in Unsigned32) (option_map (little_bytes 4) o)) 0 ≡ or_zero (number_in Unsigned32 (unwrap_or (option_map (little_bytes 4) o) (zero_value Unsigned32)))
+    by : (o : Option ℕ)
+        → option_map_or four_bytes (option_and_then (number_in Unsigned32) (option_map (little_bytes 4) o)) 0
+        ≡ or_zero (number_in Unsigned32 (unwrap_or (option_map (little_bytes 4) o) (zero_value Unsigned32)))
     by None = refl
     by (Some x) = kept (little_number 4 (little_bytes 4 x)) (omega arith)
 spelled Boolean text node h = cc
@@ -70,10 +82,13 @@ counted Domain n h = cc
 counted NotModelled n h = cc
 
 -- the types of an identity have values, which are numbers
-identity_bytes : (node : ℕ) (d : Described) → is_identity_type d.kind ≡ true → default_by node d ≡ Some (default_bytes d.kind d.default node)
+identity_bytes : (node : ℕ) (d : Described) → is_identity_type d.kind ≡ true
+    → default_by node d ≡ Some (default_bytes d.kind d.default node)
 identity_bytes node d h = by d.kind h
   where
-    by : (kind : DataType) → is_identity_type kind ≡ true → (if is_modelled kind then Some (default_bytes d.kind d.default node) else None) ≡ Some (default_bytes d.kind d.default node)
+    by : (kind : DataType) → is_identity_type kind ≡ true
+        → (if is_modelled kind then Some (default_bytes d.kind d.default node) else None)
+        ≡ Some (default_bytes d.kind d.default node)
     by Unsigned8 h = refl
     by Unsigned16 h = refl
     by Unsigned32 h = refl
@@ -88,7 +103,8 @@ identity_bytes node d h = by d.kind h
     by Domain h = refl
     by NotModelled h = cc
 
-number_is : (kind : DataType) (bytes : List ℕ) → is_identity_type kind ≡ true → number_in kind bytes ≡ Some (pos (or_zero (number_in kind bytes)))
+number_is : (kind : DataType) (bytes : List ℕ) → is_identity_type kind ≡ true
+    → number_in kind bytes ≡ Some (pos (or_zero (number_in kind bytes)))
 unfolding number_in
 number_is Unsigned8 bytes h = refl
 number_is Unsigned16 bytes h = refl
@@ -105,45 +121,58 @@ number_is Domain bytes h = cc
 number_is NotModelled bytes h = cc
 
 -- what is read of a description is the number of its default
-read_by : (node : ℕ) (d : Described) → identity_by node d ≡ (if is_identity_type d.kind then or_zero (option_and_then (number_in d.kind) (default_by node d)) else 0)
+read_by : (node : ℕ) (d : Described) → identity_by node d
+    ≡ (if is_identity_type d.kind then or_zero (option_and_then (number_in d.kind) (default_by node d)) else 0)
 read_by node d = by (is_identity_type d.kind) d.default refl refl
   where
     by : (t : Bool) (x : Default) → is_identity_type d.kind ≡ t → d.default ≡ x
-        → (if t then default_number d.kind node x else 0) ≡ (if t then or_zero (option_and_then (number_in d.kind) (default_by node d)) else 0)
+        → (if t then default_number d.kind node x else 0)
+        ≡ (if t then or_zero (option_and_then (number_in d.kind) (default_by node d)) else 0)
     by false x e f = refl
-    by true (written text) e f = spelled d.kind text node e ∙ ap (λ y. or_zero (number_in d.kind (default_bytes d.kind y node))) (sym f) ∙ ap (λ o. or_zero (option_and_then (number_in d.kind) o)) (sym (identity_bytes node d e))
-    by true (count n) e f = counted d.kind n e ∙ ap (λ y. or_zero (number_in d.kind (default_bytes d.kind y node))) (sym f) ∙ ap (λ o. or_zero (option_and_then (number_in d.kind) o)) (sym (identity_bytes node d e))
+    by true (written text) e f = spelled d.kind text node e
+        ∙ ap (λ y. or_zero (number_in d.kind (default_bytes d.kind y node))) (sym f)
+        ∙ ap (λ o. or_zero (option_and_then (number_in d.kind) o)) (sym (identity_bytes node d e))
+    by true (count n) e f = counted d.kind n e ∙ ap (λ y. or_zero (number_in d.kind (default_bytes d.kind y node)))
+        (sym f) ∙ ap (λ o. or_zero (option_and_then (number_in d.kind) o)) (sym (identity_bytes node d e))
 
-pub identity_read : (ss : List Section) (node index sub : ℕ) → option_map_or (identity_by node) (described ss index sub) 0 ≡ identity_number ss node index sub
+pub identity_read : (ss : List Section) (node index sub : ℕ)
+    → option_map_or (identity_by node) (description_of ss index sub) 0 ≡ identity_number ss node index sub
 unfolding identity_number kind_at default_at
-identity_read ss node index sub = by (described ss index sub)
+identity_read ss node index sub = by (description_of ss index sub)
   where
     by : (o : Option Described) → option_map_or (identity_by node) o 0
-        ≡ (let kind = option_map_or (λ (d : Described). d.kind) o NotModelled in if is_identity_type kind then or_zero (option_and_then (number_in kind) (option_and_then (default_by node) o)) else 0)
+        ≡ (let kind = option_map_or (λ (d : Described). d.kind) o NotModelled in if is_identity_type kind
+        then or_zero (option_and_then (number_in kind) (option_and_then (default_by node) o)) else 0)
     by None = refl
     by (Some d) = read_by node d
 
 -- ---- laws
 
 pub identity_has : (ss : List Section) (node index sub : ℕ) → is_identity_type (kind_at ss (index, sub)) ≡ true
-    → (bytes : List ℕ) × ((get (defaults_of ss node) (index, sub) ≡ Some bytes) × (number_in (kind_at ss (index, sub)) bytes ≡ Some (pos (identity_number ss node index sub))))
+    → (bytes : List ℕ) × ((get (defaults_of ss node) (index, sub) ≡ Some bytes)
+    × (number_in (kind_at ss (index, sub)) bytes ≡ Some (pos (identity_number ss node index sub))))
 unfolding identity_number kind_at default_at
-identity_has ss node index sub h = by (described ss index sub) h (defaults_at ss node index sub)
+identity_has ss node index sub h = by (description_of ss index sub) h (defaults_at ss node index sub)
   where
-    by : (o : Option Described) → let kind = option_map_or (λ (d : Described). d.kind) o NotModelled in is_identity_type kind ≡ true → get (defaults_of ss node) (index, sub) ≡ option_and_then (default_by node) o
+    by : (o : Option Described) → let kind = option_map_or (λ (d : Described). d.kind) o NotModelled
+        in is_identity_type kind ≡ true → get (defaults_of ss node) (index, sub) ≡ option_and_then (default_by node) o
         → (bytes : List ℕ) × ((get (defaults_of ss node) (index, sub) ≡ Some bytes)
-        × (number_in kind bytes ≡ Some (pos (if is_identity_type kind then or_zero (option_and_then (number_in kind) (option_and_then (default_by node) o)) else 0))))
+        × (number_in kind bytes
+        ≡ Some (pos (if is_identity_type kind
+        then or_zero (option_and_then (number_in kind) (option_and_then (default_by node) o)) else 0))))
     by None e g = cc
     by (Some d) e g =
         let bytes = default_bytes d.kind d.default node in
         let given : default_by node d ≡ Some bytes = identity_bytes node d e in
         (bytes, (g ∙ given, rw (e, given) (number_is d.kind bytes e)))
 
-pub identity_zero : (ss : List Section) (node index sub : ℕ) → is_identity_type (kind_at ss (index, sub)) ≡ false → identity_number ss node index sub ≡ 0
+pub identity_zero : (ss : List Section) (node index sub : ℕ) → is_identity_type (kind_at ss (index, sub)) ≡ false
+    → identity_number ss node index sub ≡ 0
 unfolding identity_number
 identity_zero ss node index sub h = rw h refl
 
-dummy_of : (ss : List Section) (kind : ℕ) → 1 ≤ kind → kind ≤ 7 → get_or (dummies_of ss) (kind - 1) false ≡ dummy_allowed ss kind
+dummy_of : (ss : List Section) (kind : ℕ) → 1 ≤ kind → kind ≤ 7
+    → get_or (dummies_of ss) (kind - 1) false ≡ dummy_allowed ss kind
 dummy_of ss zero h g = absurd (omega arith)
 dummy_of ss (suc zero) h g = refl
 dummy_of ss (suc (suc zero)) h g = refl
@@ -158,16 +187,19 @@ none_below : (ss : List Section) (kind : ℕ) → nat_le 1 kind ≡ false → du
 unfolding dummy_allowed
 none_below ss kind h = rw h refl
 
-none_above : (ss : List Section) (kind : ℕ) → nat_le 1 kind ≡ true → nat_le kind 7 ≡ false → dummy_allowed ss kind ≡ false
+none_above : (ss : List Section) (kind : ℕ) → nat_le 1 kind ≡ true → nat_le kind 7 ≡ false
+    → dummy_allowed ss kind ≡ false
 unfolding dummy_allowed
 none_above ss kind h g = rw (h, g) refl
 
 -- the dummies of a shape are those of the device
-pub shape_dummies : (ss : List Section) (node kind : ℕ) → is_dummy_allowed (shape_of ss node) kind ≡ dummy_allowed ss kind
+pub shape_dummies : (ss : List Section) (node kind : ℕ)
+    → is_dummy_allowed (shape_of ss node) kind ≡ dummy_allowed ss kind
 unfolding shape_of
 shape_dummies ss node kind = by (nat_le 1 kind) (nat_le kind 7) refl refl
   where
-    by : (t u : Bool) → nat_le 1 kind ≡ t → nat_le kind 7 ≡ u → (t && u && get_or (dummies_of ss) (kind - 1) false) ≡ dummy_allowed ss kind
+    by : (t u : Bool) → nat_le 1 kind ≡ t → nat_le kind 7 ≡ u
+        → (t && u && get_or (dummies_of ss) (kind - 1) false) ≡ dummy_allowed ss kind
     by false u e f = sym (none_below ss kind e)
     by true false e f = sym (none_above ss kind e f)
     by true true e f = dummy_of ss kind (leb-true 1 kind e) (leb-true kind 7 f)

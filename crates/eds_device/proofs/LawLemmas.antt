@@ -1,5 +1,6 @@
 -- What the definitions come to.
-use Rattle.std.proofs.Common.{◌≡◌, ℕ, zero, suc, ◌<◌, Bool, true, false, ◌||◌, List, [], ◌∷◌, length, get_or, Option, None, Some, ◌↔◌, refl, sym, ap, ◌∙◌, arith}
+use Rattle.std.proofs.Common.{◌≡◌, ℕ, zero, suc, ◌<◌, Bool, true, false, ◌||◌, List, [], ◌∷◌, length, get_or, Option}
+use Rattle.std.proofs.Common.{None, Some, ◌↔◌, refl, sym, ap, ◌∙◌, arith}
 use Rattle.std.specs.Prelude.{if◌then◌else◌, ◌==◌, option_map, option_and_then}
 use Rattle.std.specs.BTreeMap.{is_at}
 use Rattle.std.specs.FinMap.{from_entries, get}
@@ -12,8 +13,9 @@ use Rattle.co_dict.specs.declared.access.Access.TheVariants.{ReadOnly}
 use Rattle.co_dict.specs.declared.entry.Entry.{Entry}
 use Rattle.co_dict.specs.Places.{place_cmp}
 use Rattle.ini_text.specs.Content.{Section}
-use Rattle.eds_device.specs.Described.{Described, described, described_by, described_in, highest_sub}
-use Rattle.eds_device.specs.Entries.{limit_at, entry_by, entry_at, default_bytes, default_by, default_at, given_at, shape_of, defaults_of}
+use Rattle.eds_device.specs.Described.{Described, description_of, description_by, description_in, highest_sub}
+use Rattle.eds_device.specs.Entries.{limit_at, entry_by, entry_at, default_bytes, default_by, default_at, given_at}
+use Rattle.eds_device.specs.Entries.{shape_of, defaults_of}
 use Rattle.co_dict.specs.Values.{HasLength, HoldEach}
 use Rattle.eds_device.specs.Places.{places_given, pairs_of}
 use Rattle.eds_device.specs.Origins.{Origin, own, compact, origin_of}
@@ -30,18 +32,23 @@ or_true false = refl
 contains_more : {X : Type 0} (x y : X) (xs : List X) → Contains xs x → Contains (y ∷ xs) x
 contains_more x y xs h = (suc h.0, omega (arith, h.1), h.2)
 
-any_contains : {X : Type 0} (test : X → Bool) (xs : List X) → list_any test xs ≡ true → (x : X) × (Contains xs x × (test x ≡ true))
+any_contains : {X : Type 0} (test : X → Bool) (xs : List X) → list_any test xs ≡ true
+    → (x : X) × (Contains xs x × (test x ≡ true))
 any_contains test [] h = cc
 any_contains {X} test (y ∷ ys) h = by (test y) refl h (any_contains test ys)
   where
-    by : (t : Bool) → test y ≡ t → (t || list_any test ys) ≡ true → (list_any test ys ≡ true → (x : X) × (Contains ys x × (test x ≡ true))) → (x : X) × (Contains (y ∷ ys) x × (test x ≡ true))
+    by : (t : Bool) → test y ≡ t → (t || list_any test ys) ≡ true
+        → (list_any test ys ≡ true → (x : X) × (Contains ys x × (test x ≡ true)))
+        → (x : X) × (Contains (y ∷ ys) x × (test x ≡ true))
     by true e g ih = let first : Contains (y ∷ ys) y = (0, omega arith, refl) in (y, (first, e))
     by false e g ih = let found = ih g in (found.0, (contains_more found.0 y ys found.1.0, found.1.1))
 
-contains_any : {X : Type 0} (test : X → Bool) (xs : List X) (x : X) (k : ℕ) → k < length xs → get_or xs k x ≡ x → test x ≡ true → list_any test xs ≡ true
+contains_any : {X : Type 0} (test : X → Bool) (xs : List X) (x : X) (k : ℕ) → k < length xs → get_or xs k x ≡ x
+    → test x ≡ true → list_any test xs ≡ true
 contains_any test [] x k lt is p = absurd (omega arith)
 contains_any test (y ∷ ys) x zero lt is p = ap (λ z. test z || list_any test ys) is ∙ ap (λ b. b || list_any test ys) p
-contains_any test (y ∷ ys) x (suc k) lt is p = ap (λ b. test y || b) (contains_any test ys x k (omega arith) is p) ∙ or_true (test y)
+contains_any test (y ∷ ys) x (suc k) lt is p = ap (λ b. test y || b) (contains_any test ys x k (omega arith) is p)
+    ∙ or_true (test y)
 
 -- a list has a place where it contains it
 pub has_contains : (q : ℕ × ℕ) (ps : List (ℕ × ℕ)) → has_place q ps ≡ true → Contains ps q
@@ -54,26 +61,32 @@ pub contains_has : (q : ℕ × ℕ) (ps : List (ℕ × ℕ)) → Contains ps q �
 contains_has q ps h = contains_any (is_at (place_cmp q)) ps q h.0 h.1 h.2 (has_itself q)
 
 -- the entries are those that some section gives
-pub given_by_some : (ss : List Section) (place : ℕ × ℕ) → Contains (pairs_of ss) place ↔ ((s : Section) × (Contains ss s × Contains (places_given s) place))
+pub given_by_some : (ss : List Section) (place : ℕ × ℕ)
+    → Contains (pairs_of ss) place ↔ ((s : Section) × (Contains ss s × Contains (places_given s) place))
 given_by_some ss place = (there, back)
   where
     there : Contains (pairs_of ss) place → (s : Section) × (Contains ss s × Contains (places_given s) place)
     there h =
-        let found = any_contains (λ s. has_place place (places_given s)) ss (sym (pairs_given ss place) ∙ contains_has place (pairs_of ss) h) in
+        let found = any_contains (λ s. has_place place (places_given s)) ss (sym (pairs_given ss place)
+        ∙ contains_has place (pairs_of ss) h) in
         (found.0, (found.1.0, has_contains place (places_given found.0) found.1.1))
 
     back : ((s : Section) × (Contains ss s × Contains (places_given s) place)) → Contains (pairs_of ss) place
     back h =
         let has = contains_has place (places_given h.0) h.1.1 in
-        has_contains place (pairs_of ss) (pairs_given ss place ∙ contains_any (λ s. has_place place (places_given s)) ss h.0 h.1.0.0 h.1.0.1 h.1.0.2 has)
+        has_contains place (pairs_of ss) (pairs_given ss place
+        ∙ contains_any (λ s. has_place place (places_given s)) ss h.0 h.1.0.0 h.1.0.1 h.1.0.2 has)
 
 -- what a rule gives is an entry
-pub rules_give : (ss : List Section) (index sub : ℕ) (src : Origin) → origin_of ss index sub ≡ Some src → Contains (pairs_of ss) (index, sub)
+pub rules_give : (ss : List Section) (index sub : ℕ) (src : Origin) → origin_of ss index sub ≡ Some src
+    → Contains (pairs_of ss) (index, sub)
 rules_give ss index sub src h = has_contains (index, sub) (pairs_of ss) (origin_has ss index sub src h)
 
 -- ---- place by place
 
-at_places : {X : Type 0} (f : ℕ × ℕ → Option X) (ss : List Section) (index sub : ℕ) → (origin_of ss index sub ≡ None → f (index, sub) ≡ None) → get (from_entries {R = place_cmp} (given_at f (pairs_of ss))) (index, sub) ≡ f (index, sub)
+at_places : {X : Type 0} (f : ℕ × ℕ → Option X) (ss : List Section) (index sub : ℕ)
+    → (origin_of ss index sub ≡ None → f (index, sub) ≡ None)
+    → get (from_entries {R = place_cmp} (given_at f (pairs_of ss))) (index, sub) ≡ f (index, sub)
 at_places {X} f ss index sub none = get_given f (pairs_of ss) (index, sub) ∙ by (origin_of ss index sub) refl
   where
     same : (b : Bool) (o : Option X) → o ≡ None → (if b then o else None) ≡ o
@@ -82,39 +95,53 @@ at_places {X} f ss index sub none = get_given f (pairs_of ss) (index, sub) ∙ b
 
     by : (o : Option Origin) → origin_of ss index sub ≡ o → among f (index, sub) (pairs_of ss) ≡ f (index, sub)
     by None e = same (has_place (index, sub) (pairs_of ss)) (f (index, sub)) (none e)
-    by (Some src) e = ap (λ (b : Bool). let other : Option X = None in if b then f (index, sub) else other) (origin_has ss index sub src e)
+    by (Some src) e = ap (λ (b : Bool). let other : Option X = None in if b then f (index, sub) else other)
+        (origin_has ss index sub src e)
 
-pub shape_at : (ss : List Section) (node index sub : ℕ) → get (shape_of ss node).entries (index, sub) ≡ entry_at ss node index sub
-unfolding shape_of entry_at described
-shape_at ss node index sub = at_places (λ p. entry_at ss node p.0 p.1) ss index sub (λ e. ap (λ o. option_map (entry_by node) (option_map (described_by sub) o)) e)
+pub shape_at : (ss : List Section) (node index sub : ℕ)
+    → get (shape_of ss node).entries (index, sub) ≡ entry_at ss node index sub
+unfolding shape_of entry_at description_of
+shape_at ss node index sub =
+    at_places (λ p. entry_at ss node p.0 p.1) ss index sub
+    (λ e. ap (λ o. option_map (entry_by node) (option_map (description_by sub) o)) e)
 
-pub defaults_at : (ss : List Section) (node index sub : ℕ) → get (defaults_of ss node) (index, sub) ≡ default_at ss node index sub
-unfolding defaults_of default_at described
-defaults_at ss node index sub = at_places (λ p. default_at ss node p.0 p.1) ss index sub (λ e. ap (λ o. option_and_then (default_by node) (option_map (described_by sub) o)) e)
+pub defaults_at : (ss : List Section) (node index sub : ℕ)
+    → get (defaults_of ss node) (index, sub) ≡ default_at ss node index sub
+unfolding defaults_of default_at description_of
+defaults_at ss node index sub =
+    at_places (λ p. default_at ss node p.0 p.1) ss index sub
+    (λ e. ap (λ o. option_and_then (default_by node) (option_map (description_by sub) o)) e)
 
 -- ---- lengths
 
-described_length : (sub : ℕ) (src : Origin) (node : ℕ) → let d = described_by sub src in HasLength d.kind (default_bytes d.kind d.default node)
-described_length sub (own s) node = let d = described_in s in written_length d.kind _ node
+described_length : (sub : ℕ) (src : Origin) (node : ℕ) → let d = description_by sub src
+    in HasLength d.kind (default_bytes d.kind d.default node)
+described_length sub (own s) node = let d = description_in s in written_length d.kind _ node
 described_length sub (compact s n) node = by (sub == 0)
   where
-    by : (t : Bool) → let d : Described = if t then highest_sub n else described_in s in HasLength d.kind (default_bytes d.kind d.default node)
+    by : (t : Bool) → let d : Described = if t then highest_sub n else description_in s
+        in HasLength d.kind (default_bytes d.kind d.default node)
     by true = refl
-    by false = let d = described_in s in written_length d.kind _ node
+    by false = let d = description_in s in written_length d.kind _ node
 
-default_given : (node : ℕ) (d : Described) → HasLength d.kind (default_bytes d.kind d.default node) → is_modelled d.kind ≡ true → (bytes : List ℕ) × ((default_by node d ≡ Some bytes) × HasLength d.kind bytes)
+default_given : (node : ℕ) (d : Described) → HasLength d.kind (default_bytes d.kind d.default node)
+    → is_modelled d.kind ≡ true → (bytes : List ℕ) × ((default_by node d ≡ Some bytes) × HasLength d.kind bytes)
 default_given node d h m = (default_bytes d.kind d.default node, (rw m refl, h))
 
-pub default_has_length : (ss : List Section) (node index sub : ℕ) (e : Entry) → entry_at ss node index sub ≡ Some e → is_modelled e.kind ≡ true
+pub default_has_length : (ss : List Section) (node index sub : ℕ) (e : Entry) → entry_at ss node index sub ≡ Some e
+    → is_modelled e.kind ≡ true
     → (bytes : List ℕ) × ((default_at ss node index sub ≡ Some bytes) × HasLength e.kind bytes)
-unfolding entry_at default_at described
+unfolding entry_at default_at description_of
 default_has_length ss node index sub e h m = by (origin_of ss index sub) h
   where
-    by : (o : Option Origin) → option_map (entry_by node) (option_map (described_by sub) o) ≡ Some e → (bytes : List ℕ) × ((option_and_then (default_by node) (option_map (described_by sub) o) ≡ Some bytes) × HasLength e.kind bytes)
+    by : (o : Option Origin) → option_map (entry_by node) (option_map (description_by sub) o) ≡ Some e
+        → (bytes : List ℕ) × ((option_and_then (default_by node) (option_map (description_by sub) o) ≡ Some bytes)
+        × HasLength e.kind bytes)
     by None g = cc
     by (Some src) g =
-        let same : entry_by node (described_by sub src) ≡ e = cc in
-        rw (← same) (default_given node (described_by sub src) (described_length sub src node) (ap (λ (x : Entry). is_modelled x.kind) same ∙ m))
+        let same : entry_by node (description_by sub src) ≡ e = cc in
+        rw (← same) (default_given node (description_by sub src) (described_length sub src node)
+        (ap (λ (x : Entry). is_modelled x.kind) same ∙ m))
 
 pub values_have_lengths : (ss : List Section) (node : ℕ) → HoldEach (shape_of ss node).entries (defaults_of ss node)
 values_have_lengths ss node place e h m =
@@ -127,11 +154,21 @@ no_limit : (node : ℕ) → limit_at Unsigned8 [] node ≡ None
 unfolding limit_at value formula number
 no_limit node = refl
 
-pub compact_entry : (ss : List Section) (node index : ℕ) (s : Section) (n : ℕ) → origin_of ss index 0 ≡ Some (compact s n)
-    → entry_at ss node index 0 ≡ Some (record { kind = Unsigned8; access = ReadOnly; low = None; high = None; mappable = false })
-unfolding entry_at described
-compact_entry ss node index s n h = rw h (λ i. Some (record { kind = Unsigned8; access = ReadOnly; low = no_limit node i; high = no_limit node i; mappable = false }))
+pub compact_entry : (ss : List Section) (node index : ℕ) (s : Section) (n : ℕ)
+    → origin_of ss index 0 ≡ Some (compact s n)
+    → entry_at ss node index 0
+    ≡ Some (record { kind = Unsigned8; access = ReadOnly; low = None; high = None; mappable = false })
+unfolding entry_at description_of
+compact_entry ss node index s n h =
+    rw h (λ i. Some (record {
+      kind = Unsigned8;
+      access = ReadOnly;
+      low = no_limit node i;
+      high = no_limit node i;
+      mappable = false;
+    }))
 
-pub compact_default : (ss : List Section) (node index : ℕ) (s : Section) (n : ℕ) → origin_of ss index 0 ≡ Some (compact s n) → default_at ss node index 0 ≡ Some (n ∷ [])
-unfolding default_at described
+pub compact_default : (ss : List Section) (node index : ℕ) (s : Section) (n : ℕ)
+    → origin_of ss index 0 ≡ Some (compact s n) → default_at ss node index 0 ≡ Some (n ∷ [])
+unfolding default_at description_of
 compact_default ss node index s n h = rw h refl

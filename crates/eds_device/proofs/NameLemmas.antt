@@ -1,5 +1,6 @@
 -- Names that are too short for their form, and the numbers of their digits.
-use Rattle.std.proofs.Common.{◌≡◌, ℕ, ◌^◌, ◌<◌, ◌≤◌, Bool, true, false, List, [], ◌∷◌, length, drop, Option, Some, None, IsTrue, ◌↔◌, refl, lit<, arith}
+use Rattle.std.proofs.Common.{◌≡◌, ℕ, ◌^◌, ◌<◌, ◌≤◌, Bool, true, false, List, [], ◌∷◌, length, drop, Option, Some, None}
+use Rattle.std.proofs.Common.{IsTrue, ◌↔◌, refl, lit<, arith}
 use Rattle.std.specs.Prelude.{if◌then◌else◌}
 use Rattle.std.specs.Option.{option_zip}
 use Rattle.std.proofs.Math.Nat.{pow-le-pow_right}
@@ -47,8 +48,10 @@ short_for_values (a ∷ b ∷ c ∷ d ∷ rest) h = absurd (omega arith)
 
 -- what at most four hexadecimal digits write
 pub four_digits : (i n : ℕ) → i ≤ 4 → n < 16 ^ i → n < 65536
-four_digits i n few low = let most : 16 ^ i ≤ 16 ^ 4 = pow-le-pow_right {n = 16} (lit< tt) few in omega (arith, low, most)
+four_digits i n few low = let most : 16 ^ i ≤ 16 ^ 4 = pow-le-pow_right {n = 16} (lit< tt) few
+    in omega (arith, low, most)
 
 -- what at most two write
 pub two_digits : (i n : ℕ) → i ≤ 2 → n < 16 ^ i → n < 256
-two_digits i n few low = let most : 16 ^ i ≤ 16 ^ 2 = pow-le-pow_right {n = 16} (lit< tt) few in omega (arith, low, most)
+two_digits i n few low = let most : 16 ^ i ≤ 16 ^ 2 = pow-le-pow_right {n = 16} (lit< tt) few
+    in omega (arith, low, most)

@@ -5,5 +5,5 @@ use Rattle.eds_device.specs.Faults.{limited}
 use Rattle.eds_device.specs.Places.{put_in_order}
 
 -- the places after some more, unless they are too many
-abbrev pub added : List (ℕ × ℕ) → List (ℕ × ℕ) → Result (List (ℕ × ℕ)) DeviceFault
-added done ps = limited (put_in_order done ps) (put_in_order done ps)
+abbrev pub with_places : List (ℕ × ℕ) → List (ℕ × ℕ) → Result (List (ℕ × ℕ)) DeviceFault
+with_places done ps = limited (put_in_order done ps) (put_in_order done ps)

@@ -1,5 +1,6 @@
 -- What an EDS says of an entry (CiA 306), its texts as they stand.
-use Rattle.std.specs.Prelude.{ℕ, ◌==◌, nat_lt, ℤ, pos, negsuc, Bool, true, false, if◌then◌else◌, List, [], ◌∷◌, Option, Some, None, option_map, option_and_then, codes}
+use Rattle.std.specs.Prelude.{ℕ, ◌==◌, nat_lt, ℤ, pos, negsuc, Bool, true, false, if◌then◌else◌, List, [], ◌∷◌, Option}
+use Rattle.std.specs.Prelude.{Some, None, option_map, option_and_then, codes}
 use Rattle.std.specs.List.{find}
 use Rattle.std.specs.Option.{option_map_or, unwrap_or}
 use Rattle.ini_text.specs.Content.{Section, Pair, same, value_at}
@@ -7,7 +8,8 @@ use Rattle.co_values.specs.declared.data_type.DataType.{DataType}
 use Rattle.co_values.specs.declared.data_type.DataType.TheVariants.{Unsigned8, NotModelled}
 use Rattle.co_text.specs.Digits.{digits_number}
 use Rattle.co_dict.specs.declared.access.Access.{Access}
-use Rattle.co_dict.specs.declared.access.Access.TheVariants.{ReadOnly, WriteOnly, ReadWrite, ReadWriteOnInput, ReadWriteOnOutput, Constant}
+use Rattle.co_dict.specs.declared.access.Access.TheVariants.{ReadOnly, WriteOnly, ReadWrite, ReadWriteOnInput}
+use Rattle.co_dict.specs.declared.access.Access.TheVariants.{ReadWriteOnOutput, Constant}
 use Rattle.eds_device.specs.Sections.{number_at, kind_of}
 use Rattle.eds_device.specs.Origins.{Origin, own, compact, is_index, origin_of, values_section}
 
@@ -53,8 +55,8 @@ pub record Described : Type 0 where
   pub high : List ℕ
 
 -- what a section says of its own entry, and of all subs of a compact object but the first
-abbrev pub described_in : Section → Described
-described_in section = record {
+abbrev pub description_in : Section → Described
+description_in section = record {
   kind = kind_of section;
   access = access_of section;
   mappable = is_set section (codes "PDOMapping");
@@ -75,17 +77,17 @@ highest_sub n = record {
 }
 
 -- what the section says of an entry that stands there
-abbrev pub described_by : ℕ → Origin → Described
-described_by sub (own section) = described_in section
-described_by sub (compact section n) = if sub == 0 then highest_sub n else described_in section
+abbrev pub description_by : ℕ → Origin → Described
+description_by sub (own section) = description_in section
+description_by sub (compact section n) = if sub == 0 then highest_sub n else description_in section
 
 -- what is said of an entry
-unfoldable pub described : List Section → ℕ → ℕ → Option Described
-described ss index sub = option_map (described_by sub) (origin_of ss index sub)
+unfoldable pub description_of : List Section → ℕ → ℕ → Option Described
+description_of ss index sub = option_map (description_by sub) (origin_of ss index sub)
 
 -- the type of an entry, not modelled where there is none
 unfoldable pub kind_at : List Section → ℕ × ℕ → DataType
-kind_at ss place = option_map_or (λ (d : Described). d.kind) (described ss place.0 place.1) NotModelled
+kind_at ss place = option_map_or (λ (d : Described). d.kind) (description_of ss place.0 place.1) NotModelled
 
 -- the sub-index that a key of decimal digits alone spells
 unfoldable pub sub_listed : List ℕ → Option ℕ
@@ -94,7 +96,8 @@ sub_listed key = option_and_then (λ n. if nat_lt n 256 then Some n else None) (
 -- the value that `[xxxxValue]` lists for a sub: of two spellings of it the first counts
 unfoldable pub listed_value : List Section → ℕ → ℕ → Option (List ℕ)
 listed_value ss index sub =
-    option_and_then (λ s. option_map (λ (p : Pair). p.value) (find (λ p. is_index sub (sub_listed p.key)) s.pairs)) (values_section ss index)
+    option_and_then (λ s. option_map (λ (p : Pair). p.value) (find (λ p. is_index sub (sub_listed p.key)) s.pairs))
+    (values_section ss index)
 
 -- a text, unless it is empty
 abbrev pub unless_empty : List ℕ → Option (List ℕ)
@@ -108,7 +111,7 @@ written_text (count n) = None
 
 -- an entry's DefaultValue, unless it is empty; sub 0 of a compact object has none
 unfoldable pub default_text : List Section → ℕ → ℕ → Option (List ℕ)
-default_text ss index sub = option_and_then (λ (d : Described). written_text d.default) (described ss index sub)
+default_text ss index sub = option_and_then (λ (d : Described). written_text d.default) (description_of ss index sub)
 
 -- the value that is set where an entry stands: ParameterValue, and of a compact object's sub what `[xxxxValue]` lists
 abbrev pub value_by : List Section → ℕ → ℕ → Origin → Option (List ℕ)
@@ -117,4 +120,5 @@ value_by ss index sub (compact section n) = listed_value ss index sub
 
 -- the value that is set of an entry, unless it is empty
 unfoldable pub value_text : List Section → ℕ → ℕ → Option (List ℕ)
-value_text ss index sub = option_and_then unless_empty (option_and_then (value_by ss index sub) (origin_of ss index sub))
+value_text ss index sub = option_and_then unless_empty (option_and_then (value_by ss index sub)
+    (origin_of ss index sub))

@@ -1,5 +1,6 @@
 -- The entries of a device at a node (CiA 306): their limits and defaults as values of their types.
-use Rattle.std.specs.Prelude.{ℕ, ◌+◌, nat_le, ◌&&◌, ℤ, Bool, false, if◌then◌else◌, List, [], ◌∷◌, ◌++◌, Option, Some, None, option_map, option_and_then, map, codes}
+use Rattle.std.specs.Prelude.{ℕ, ◌+◌, nat_le, ◌&&◌, ℤ, Bool, false, if◌then◌else◌, List, [], ◌∷◌, ◌++◌, Option, Some}
+use Rattle.std.specs.Prelude.{None, option_map, option_and_then, map, codes}
 use Rattle.std.specs.Option.{option_map_or, unwrap_or}
 use Rattle.std.specs.FinMap.{from_entries}
 use Rattle.ini_text.specs.Content.{Section, content_at}
@@ -10,7 +11,7 @@ use Rattle.co_values.specs.Values.{value, number_in, zero_value}
 use Rattle.co_dict.specs.declared.entry.Entry.{Entry}
 use Rattle.co_dict.specs.Shapes.{Shaped}
 use Rattle.co_dict.specs.Values.{Values}
-use Rattle.eds_device.specs.Described.{Default, written, count, Described, described, is_not_zero}
+use Rattle.eds_device.specs.Described.{Default, written, count, Described, description_of, is_not_zero}
 use Rattle.eds_device.specs.Places.{pairs_of}
 
 -- the number of the value that a text spells
@@ -33,7 +34,7 @@ entry_by node d = record {
 
 -- an entry of the device at a node
 unfoldable pub entry_at : List Section → ℕ → ℕ → ℕ → Option Entry
-entry_at ss node index sub = option_map (entry_by node) (described ss index sub)
+entry_at ss node index sub = option_map (entry_by node) (description_of ss index sub)
 
 -- a text that spells no value of the type is 0 or the empty string
 abbrev pub default_bytes : DataType → Default → ℕ → List ℕ
@@ -46,7 +47,7 @@ default_by node d = if is_modelled d.kind then Some (default_bytes d.kind d.defa
 
 -- the default of an entry of a modelled type at a node
 unfoldable pub default_at : List Section → ℕ → ℕ → ℕ → Option (List ℕ)
-default_at ss node index sub = option_and_then (default_by node) (described ss index sub)
+default_at ss node index sub = option_and_then (default_by node) (description_of ss index sub)
 
 -- the key of a dummy's type, from 1 to 7
 abbrev pub dummy_key : ℕ → List ℕ
@@ -55,7 +56,10 @@ dummy_key kind = codes "Dummy000" ++ (48 + kind) ∷ []
 -- the dummy entry of a type: DummyUsage, a number other than 0
 unfoldable pub dummy_allowed : List Section → ℕ → Bool
 dummy_allowed ss kind =
-    nat_le 1 kind && (nat_le kind 7 && option_map_or is_not_zero (option_and_then number (content_at ss (codes "DummyUsage") (dummy_key kind))) false)
+    nat_le 1 kind
+    && (nat_le kind 7
+    && option_map_or is_not_zero (option_and_then number (content_at ss (codes "DummyUsage") (dummy_key kind)))
+    false)
 
 -- the same of each of them
 abbrev pub dummies_of : List Section → List Bool

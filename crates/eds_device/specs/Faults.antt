@@ -25,14 +25,16 @@ most_entries = 4096
 abbrev pub limited : {X : Type 0} → List (ℕ × ℕ) → X → Result X DeviceFault
 limited places x = if nat_lt most_entries (length places) then Err Limit else Ok x
 
--- the rules give too many entries: more places than a device may have, in order and none twice, each of which has an origin
+-- the rules give too many entries: more places than a device may have, in order and none twice, each of which has an
+-- origin
 pub record HasTooMany (ss : List Section) : Type 0 where
   pub places : List (ℕ × ℕ)
   pub in_order : IsStrictlySortedBy place_cmp places
   pub over : most_entries < length places
   pub given : (index sub : ℕ) → Contains places (index, sub) → IsSome (origin_of ss index sub)
 
--- the content of a text, where that is an INI text and has no more entries than a device may have, which a law counts by the rules
+-- the content of a text, where that is an INI text and has no more entries than a device may have, which a law counts
+-- by the rules
 unfoldable pub device_of : List ℕ → Result Content DeviceFault
 device_of text =
     if is_out_of_range text then Err Range

@@ -1,9 +1,12 @@
 -- The identity of a device (CiA 301): the defaults of the objects device type and identity.
-use Rattle.std.specs.Prelude.{ℕ, nat_lt, ℤ, pos, negsuc, Bool, true, false, if◌then◌else◌, List, [], ◌∷◌, Option, Some, None, option_and_then}
+use Rattle.std.specs.Prelude.{ℕ, nat_lt, ℤ, pos, negsuc, Bool, true, false, if◌then◌else◌, List, [], ◌∷◌, Option, Some}
+use Rattle.std.specs.Prelude.{None, option_and_then}
 use Rattle.std.specs.Option.{option_map_or}
 use Rattle.ini_text.specs.Content.{Section}
 use Rattle.co_values.specs.declared.data_type.DataType.{DataType}
-use Rattle.co_values.specs.declared.data_type.DataType.TheVariants.{Boolean, Integer8, Integer16, Integer32, Integer64, Unsigned8, Unsigned16, Unsigned32, Unsigned64, VisibleString, OctetString, Domain, NotModelled}
+use Rattle.co_values.specs.declared.data_type.DataType.TheVariants.{Boolean, Integer8, Integer16, Integer32, Integer64}
+use Rattle.co_values.specs.declared.data_type.DataType.TheVariants.{Unsigned8, Unsigned16, Unsigned32, Unsigned64}
+use Rattle.co_values.specs.declared.data_type.DataType.TheVariants.{VisibleString, OctetString, Domain, NotModelled}
 use Rattle.co_values.specs.Values.{number_in}
 use Rattle.eds_device.specs.Described.{Default, written, count, Described, kind_at}
 use Rattle.eds_device.specs.Entries.{number_spelled, default_at}
@@ -39,7 +42,8 @@ identity_number ss node index sub =
 -- device type, vendor, product, revision and serial number
 unfoldable pub identity : List Section → ℕ → List ℕ
 identity ss node =
-    identity_number ss node 0x1000 0 ∷ identity_number ss node 0x1018 1 ∷ identity_number ss node 0x1018 2 ∷ identity_number ss node 0x1018 3 ∷ identity_number ss node 0x1018 4 ∷ []
+    identity_number ss node 0x1000 0 ∷ identity_number ss node 0x1018 1 ∷ identity_number ss node 0x1018 2
+    ∷ identity_number ss node 0x1018 3 ∷ identity_number ss node 0x1018 4 ∷ []
 
 -- ---- the program's own reading of a description, which no contract of a public call shows
 

@@ -1,4 +1,5 @@
--- The program's own index of a content, which no contract of a public call shows: each table has the position of the first section of a name.
+-- The program's own index of a content, which no contract of a public call shows: each table has the position of the
+-- first section of a name.
 use Rattle.std.specs.Prelude.{◌≡◌, ℕ, Bool, List, ◌≤◌, length, Option, Some, None, option_map, MatchOption}
 use Rattle.std.specs.declared.cmp.Ordering.{Ordering}
 use Rattle.std.specs.BTreeMap.{is_at}
@@ -15,7 +16,8 @@ use Rattle.eds_device.specs.Origins.{is_index, is_place}
 use Rattle.eds_device.specs.Faults.{most_entries}
 
 -- the elements at the positions that a table has are the first ones, of those seen, that pass
-unfoldable pub FindsFirsts : {K X : Type 0} → (K → K → Ordering) → (K → X → Bool) → List (K × ℕ) → List X → List X → Type 0
+unfoldable pub FindsFirsts : {K X : Type 0} → (K → K → Ordering) → (K → X → Bool) → List (K × ℕ) → List X → List X
+    → Type 0
 FindsFirsts {K} {X} cmp test entries all seen =
     (key : K) → option_map (slice_get all) (lookup (is_at (cmp key)) entries) ≡ option_map Some (find (test key) seen)
 
@@ -24,15 +26,18 @@ pub record IsListed (listed : Listed) (first : Option Section) (all : List Secti
   pub section : Section
   pub named : first ≡ Some section
   pub there : slice_get all listed.position ≡ Some section
-  pub finds : FindsFirsts nat_cmp (λ key p. is_index key (sub_listed p.key)) listed.pairs.entries section.pairs section.pairs
+  pub finds : FindsFirsts nat_cmp (λ key p. is_index key (sub_listed p.key)) listed.pairs.entries section.pairs
+      section.pairs
 
 -- the same of each index
 unfoldable pub FindsListed : List (ℕ × Listed) → List Section → List Section → Type 0
 FindsListed entries all seen =
-    (key : ℕ) → let first = find (λ s. is_index key (values_named s.name)) seen in MatchOption (lookup (is_at (nat_cmp key)) entries) (first ≡ None) (λ listed. IsListed listed first all)
+    (key : ℕ) → let first = find (λ s. is_index key (values_named s.name)) seen
+    in MatchOption (lookup (is_at (nat_cmp key)) entries) (first ≡ None) (λ listed. IsListed listed first all)
 
 -- the tables and the list of entries are those of the sections
-pub record IsIndexed (sections : List Section) (subs : List ((ℕ × ℕ) × ℕ)) (objects : List (ℕ × ℕ)) (values : List (ℕ × Listed)) (places : List (ℕ × ℕ)) : Type 0 where
+pub record IsIndexed (sections : List Section) (subs : List ((ℕ × ℕ) × ℕ)) (objects : List (ℕ × ℕ))
+    (values : List (ℕ × Listed)) (places : List (ℕ × ℕ)) : Type 0 where
   pub finds_subs : FindsFirsts place_cmp (λ key s. is_place key (place_named s.name)) subs sections sections
   pub finds_objects : FindsFirsts nat_cmp (λ key s. is_index key (index_named s.name)) objects sections sections
   pub finds_values : FindsListed values sections sections

@@ -1,5 +1,6 @@
 -- Where an entry of a device stands (CiA 306): in an object section of its own, or in that of a compact object.
-use Rattle.std.specs.Prelude.{ℕ, ◌==◌, nat_le, ◌&&◌, Bool, false, if◌then◌else◌, List, Option, Some, None, option_map, option_and_then}
+use Rattle.std.specs.Prelude.{ℕ, ◌==◌, nat_le, ◌&&◌, Bool, false, if◌then◌else◌, List, Option, Some, None, option_map}
+use Rattle.std.specs.Prelude.{option_and_then}
 use Rattle.std.specs.List.{find}
 use Rattle.std.specs.Option.{option_or, option_map_or}
 use Rattle.ini_text.specs.Content.{Section}
@@ -38,13 +39,16 @@ from_sub ss index sub = option_map own (sub_section ss index sub)
 -- rule 2: `[xxxx]` of a VAR or DOMAIN gives sub 0
 abbrev pub from_object : List Section → ℕ → ℕ → Option Origin
 from_object ss index sub =
-    if sub == 0 then option_and_then (λ s. if is_plain s then Some (own s) else None) (object_section ss index) else None
+    if sub == 0 then option_and_then (λ s. if is_plain s then Some (own s) else None) (object_section ss index)
+    else None
 
 -- rule 3: `[xxxx]` with CompactSubObj n gives subs 0 to n
 abbrev pub from_compact : List Section → ℕ → ℕ → Option Origin
 from_compact ss index sub =
-    option_and_then (λ s. option_and_then (λ n. if nat_le sub n then Some (compact s n) else None) (compact_count s)) (object_section ss index)
+    option_and_then (λ s. option_and_then (λ n. if nat_le sub n then Some (compact s n) else None) (compact_count s))
+    (object_section ss index)
 
 -- the first of the rules that gives an entry
 unfoldable pub origin_of : List Section → ℕ → ℕ → Option Origin
-origin_of ss index sub = option_or (from_sub ss index sub) (option_or (from_object ss index sub) (from_compact ss index sub))
+origin_of ss index sub = option_or (from_sub ss index sub)
+    (option_or (from_object ss index sub) (from_compact ss index sub))

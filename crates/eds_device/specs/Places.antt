@@ -21,7 +21,8 @@ object_places section index =
 
 -- the entries that a section gives, wherever else they are given too
 unfoldable pub places_given : Section → List (ℕ × ℕ)
-places_given section = option_map_or (λ p. p ∷ []) (place_named section.name) (option_map_or (object_places section) (index_named section.name) [])
+places_given section = option_map_or (λ p. p ∷ []) (place_named section.name)
+    (option_map_or (object_places section) (index_named section.name) [])
 
 -- each put in by index and sub, unless it is there
 abbrev pub put_in_order : List (ℕ × ℕ) → List (ℕ × ℕ) → List (ℕ × ℕ)

@@ -1,5 +1,6 @@
 -- What one object section says (CiA 306).
-use Rattle.std.specs.Prelude.{ℕ, ◌==◌, nat_lt, nat_le, ◌&&◌, ℤ, pos, negsuc, Bool, true, false, if◌then◌else◌, List, Option, Some, None, option_and_then, codes}
+use Rattle.std.specs.Prelude.{ℕ, ◌==◌, nat_lt, nat_le, ◌&&◌, ℤ, pos, negsuc, Bool, true, false, if◌then◌else◌, List}
+use Rattle.std.specs.Prelude.{Option, Some, None, option_and_then, codes}
 use Rattle.std.specs.Option.{option_map_or}
 use Rattle.ini_text.specs.Content.{Section, value_at}
 use Rattle.co_values.specs.declared.data_type.DataType.{DataType}
@@ -29,7 +30,8 @@ object_of_number (negsuc n) = Other
 
 -- ObjectType: without the key VAR; a value that is no number is no object of these (own)
 unfoldable pub object_type : Section → ObjectType
-object_type section = option_map_or (λ text. option_map_or object_of_number (number text) Other) (value_at section.pairs (codes "ObjectType")) Variable
+object_type section = option_map_or (λ text. option_map_or object_of_number (number text) Other)
+    (value_at section.pairs (codes "ObjectType")) Variable
 
 -- an object of one entry
 abbrev pub is_plain_type : ObjectType → Bool
@@ -58,7 +60,8 @@ in_subs (negsuc n) = None
 
 -- CompactSubObj of an ARRAY or a RECORD: its highest sub-index
 unfoldable pub compact_count : Section → Option ℕ
-compact_count section = if is_compact_type (object_type section) then option_and_then in_subs (number_at section (codes "CompactSubObj")) else None
+compact_count section = if is_compact_type (object_type section)
+    then option_and_then in_subs (number_at section (codes "CompactSubObj")) else None
 
 -- the type of an object without DataType
 abbrev pub kind_without : ObjectType → DataType
@@ -70,4 +73,5 @@ kind_without Other = NotModelled
 
 -- DataType: without the key DOMAIN for an object DOMAIN, else not modelled; nor is a value that is no number (own)
 unfoldable pub kind_of : Section → DataType
-kind_of section = option_map_or (λ text. option_map_or type_of_code (number text) NotModelled) (value_at section.pairs (codes "DataType")) (kind_without (object_type section))
+kind_of section = option_map_or (λ text. option_map_or type_of_code (number text) NotModelled)
+    (value_at section.pairs (codes "DataType")) (kind_without (object_type section))

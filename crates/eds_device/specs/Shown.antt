@@ -8,22 +8,22 @@ use Rattle.eds_device.specs.Described.{Default, written, count, Described}
 use Rattle.eds_device.specs.Origins.{Origin, own, compact}
 
 -- where an entry stands
-abbrev pub shown : Read → Origin
-shown (Own section) = own section.now
-shown (Compact section highest) = compact section.now highest
+abbrev pub origin_shown : Read → Origin
+origin_shown (Own section) = own section.now
+origin_shown (Compact section highest) = compact section.now highest
 
 -- a default
-abbrev pub shown_default : DefaultText → Default
-shown_default (Written text) = written text.now
-shown_default (Count n) = count n
+abbrev pub default_shown : DefaultText → Default
+default_shown (Written text) = written text.now
+default_shown (Count n) = count n
 
 -- what is said of an entry
-abbrev pub shown_described : ReadDescribed → Described
-shown_described d = record {
+abbrev pub description_shown : ReadDescribed → Described
+description_shown d = record {
   kind = d.kind;
   access = d.access;
   mappable = d.mappable;
-  default = shown_default d.default;
+  default = default_shown d.default;
   low = d.low.now;
   high = d.high.now;
 }

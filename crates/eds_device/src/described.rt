@@ -1,8 +1,10 @@
 //! What an EDS says of an entry (CiA 306).
 ghost use Rattle.std.specs.Prelude.{◌≡◌, [], unwrap_or};
 ghost use Rattle.std.specs.Option.{option_copied, option_map};
-ghost use Rattle.eds_device.specs.Described.{text_at, access_named, access_of, is_not_zero, is_set, described_in, highest_sub, described, kind_at, listed_value, unless_empty, default_text, value_text};
-ghost use Rattle.eds_device.specs.Shown.{shown_described};
+ghost use Rattle.eds_device.specs.Described.{text_at, access_named, access_of, is_not_zero, is_set, description_in};
+ghost use Rattle.eds_device.specs.Described.{highest_sub, description_of, kind_at, listed_value, unless_empty};
+ghost use Rattle.eds_device.specs.Described.{default_text, value_text};
+ghost use Rattle.eds_device.specs.Shown.{description_shown};
 
 use crate::device::Device;
 use crate::name::same;
@@ -90,7 +92,7 @@ pub(crate) fn is_not_zero(number: i128) -> bool
 
 /// What a section says of its entry.
 fn described_in(section: &Section) -> Described<'_>
-    ensures { shown_described result ≡ described_in section.now }
+    ensures { description_shown result ≡ description_in section.now }
 {
     Described {
         kind: kind_of(section),
@@ -104,7 +106,7 @@ fn described_in(section: &Section) -> Described<'_>
 
 /// What is said of sub 0 of a compact object.
 fn highest_sub(count: u8) -> Described<'static>
-    ensures { shown_described result ≡ highest_sub count }
+    ensures { description_shown result ≡ highest_sub count }
 {
     Described {
         kind: DataType::Unsigned8,
@@ -125,9 +127,9 @@ fn unless_empty(text: &[u8]) -> Option<&[u8]>
 
 impl Device {
     /// What the EDS says of an entry; `None` where there is no such entry.
-    #[tactic(auto, unfolding(crate::specs::Described::described))]
+    #[tactic(auto, unfolding(crate::specs::Described::description_of))]
     pub(crate) fn described(&self, index: u16, sub: u8) -> Option<Described<'_>>
-        ensures { option_map shown_described result ≡ described self.now.sections index sub }
+        ensures { option_map description_shown result ≡ description_of self.now.sections index sub }
     {
         let origin = self.origin(index, sub)?;
         match origin {

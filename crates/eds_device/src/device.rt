@@ -11,7 +11,7 @@ ghost use Rattle.ini_text.specs.Text.{is_out_of_range, has_bad_byte};
 ghost use Rattle.co_base.specs.Gives.{Gives};
 ghost use Rattle.eds_device.specs.Faults.{is_memory, device_of, most_entries};
 ghost use Rattle.eds_device.specs.Places.{pairs_of};
-ghost use Rattle.eds_device.specs.Shown.{shown};
+ghost use Rattle.eds_device.specs.Shown.{origin_shown};
 ghost use Rattle.eds_device.specs.Origins.{is_index, sub_section, object_section, values_section, origin_of};
 
 use crate::fault::DeviceFault;
@@ -63,7 +63,8 @@ fn pair_at<'a>(pairs: &'a [Pair], position: Option<&usize>) -> Option<&'a Pair>
 
 /// The first pair whose key is a sub.
 fn listed_pair<'a>(section: &'a Section, listed: &Listed, sub: u8) -> Option<&'a Pair>
-    requires { FindsFirsts nat_cmp (λ key p. is_index key (sub_listed p.key)) listed.now.pairs.entries section.now.pairs section.now.pairs }
+    requires { FindsFirsts nat_cmp (λ key p. is_index key (sub_listed p.key)) listed.now.pairs.entries section.now.pairs
+        section.now.pairs }
     ensures { option_copied result ≡ find (λ p. is_index sub (sub_listed p.key)) section.now.pairs }
 {
     pair_at(section.pairs(), listed.pairs.get(&sub))
@@ -77,7 +78,8 @@ impl Device {
     pub fn read(alloc: Global, text: &[u8]) -> Result<Device, DeviceFault>
         ensures content { Gives is_memory (λ device. device) result (device_of text.now) }
         ensures range { IsErrOf result DeviceFault.Range ↔ IsTrue (is_out_of_range text.now) }
-        ensures bad_byte { IsErrOf result DeviceFault.BadByte ↔ (IsFalse (is_out_of_range text.now) × IsTrue (has_bad_byte text.now)) }
+        ensures bad_byte { IsErrOf result DeviceFault.BadByte
+            ↔ (IsFalse (is_out_of_range text.now) × IsTrue (has_bad_byte text.now)) }
     {
         let ini = Ini::read(alloc, text)?;
         let places = places_of(alloc, ini.sections())?;
@@ -165,7 +167,7 @@ impl Device {
     /// `[xxxx]` of a compact object. `None` where there is no such entry.
     #[tactic(auto, unfolding(crate::specs::Origins::origin_of))]
     pub fn origin(&self, index: u16, sub: u8) -> Option<Origin<'_>>
-        ensures { option_map shown result ≡ origin_of self.now.sections index sub }
+        ensures { option_map origin_shown result ≡ origin_of self.now.sections index sub }
     {
         if let Some(section) = self.sub_section(index, sub) {
             return Some(Origin::Own(section));

@@ -3,7 +3,7 @@ ghost use Rattle.std.specs.Prelude.{◌≡◌, ◌≤◌, IfOk, IfSome, length};
 ghost use Rattle.co_values.specs.Values.{longest_value};
 ghost use Rattle.std.specs.Option.{option_copied, option_map, option_map_or};
 ghost use Rattle.eds_device.specs.Entries.{limit_at, entry_at, default_bytes, default_at, dummy_allowed};
-ghost use Rattle.eds_device.specs.Shown.{shown_default};
+ghost use Rattle.eds_device.specs.Shown.{default_shown};
 
 use crate::described::{DefaultText, is_not_zero};
 use crate::device::Device;
@@ -31,7 +31,7 @@ fn default_bytes(
     default: DefaultText<'_>,
     node: u8,
 ) -> Result<Octets, AllocError>
-    ensures { IfOk result (λ bytes. bytes ≡ default_bytes kind (shown_default default.entry) node) }
+    ensures { IfOk result (λ bytes. bytes ≡ default_bytes kind (default_shown default.entry) node) }
 {
     match default {
         DefaultText::Written(text) => {

@@ -1,7 +1,7 @@
 //! The identity of a device (CiA 301).
 ghost use Rattle.std.specs.Prelude.{◌≡◌};
 ghost use Rattle.eds_device.specs.Identity.{four_bytes, is_identity_type, identity_by, identity_number, identity};
-ghost use Rattle.eds_device.specs.Shown.{shown_described};
+ghost use Rattle.eds_device.specs.Shown.{description_shown};
 
 use crate::described::{DefaultText, Described};
 use crate::device::Device;
@@ -30,7 +30,7 @@ fn is_identity_type(kind: DataType) -> bool
 /// The number of a description's default at a node, where its type is UNSIGNED8, UNSIGNED16 or
 /// UNSIGNED32, else 0.
 fn identity_by(node: u8, described: Described<'_>) -> u32
-    ensures { result ≡ identity_by node (shown_described described.entry) }
+    ensures { result ≡ identity_by node (description_shown described.entry) }
 {
     if !is_identity_type(described.kind) {
         return 0;

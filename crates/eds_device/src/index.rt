@@ -93,7 +93,8 @@ pub(crate) fn sub_positions(
     alloc: Global,
     sections: &[Section],
 ) -> Result<BTreeMap<(u16, u8), usize>, AllocError>
-    ensures { IfOk result (λ table. FindsFirsts place_cmp (λ key s. is_place key (place_named s.name)) table.entries sections.now sections.now) }
+    ensures { IfOk result (λ table. FindsFirsts place_cmp (λ key s. is_place key (place_named s.name)) table.entries
+        sections.now sections.now) }
 {
     let mut table = BTreeMap::new(alloc);
     for (position, section) in sections.iter().enumerate() {
@@ -107,7 +108,8 @@ pub(crate) fn object_positions(
     alloc: Global,
     sections: &[Section],
 ) -> Result<BTreeMap<u16, usize>, AllocError>
-    ensures { IfOk result (λ table. FindsFirsts nat_cmp (λ key s. is_index key (index_named s.name)) table.entries sections.now sections.now) }
+    ensures { IfOk result (λ table. FindsFirsts nat_cmp (λ key s. is_index key (index_named s.name)) table.entries
+        sections.now sections.now) }
 {
     let mut table = BTreeMap::new(alloc);
     for (position, section) in sections.iter().enumerate() {
@@ -118,7 +120,8 @@ pub(crate) fn object_positions(
 
 /// The positions of the first pairs whose keys are a sub.
 fn pair_positions(alloc: Global, pairs: &[Pair]) -> Result<BTreeMap<u8, usize>, AllocError>
-    ensures { IfOk result (λ table. FindsFirsts nat_cmp (λ key p. is_index key (sub_listed p.key)) table.entries pairs.now pairs.now) }
+    ensures { IfOk result (λ table. FindsFirsts nat_cmp (λ key p. is_index key (sub_listed p.key)) table.entries
+        pairs.now pairs.now) }
 {
     let mut table = BTreeMap::new(alloc);
     for (position, pair) in pairs.iter().enumerate() {

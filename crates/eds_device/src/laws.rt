@@ -25,13 +25,15 @@ ghost use Rattle.eds_device.specs.declared.fault.DeviceFault.TheVariants.{Limit}
 #[tactic(auto, using(crate::proofs::PlaceLemmas::pairs_sorted))]
 pub fn entries_are_those_given()
     ensures sorted { (ss : List Section) → IsStrictlySortedBy place_cmp (pairs_of ss) }
-    ensures given { (ss : List Section) (place : ℕ × ℕ) → Contains (pairs_of ss) place ↔ ((s : Section) × (Contains ss s × Contains (places_given s) place)) }
+    ensures given { (ss : List Section) (place : ℕ × ℕ)
+        → Contains (pairs_of ss) place ↔ ((s : Section) × (Contains ss s × Contains (places_given s) place)) }
 {}
 
 /// The entries of a text are those that one of the three rules gives.
 #[tactic(auto, using(crate::proofs::ConverseLemmas::given_by_rules))]
 pub fn entries_are_those_of_the_rules()
-    ensures { (text : List ℕ) (index sub : ℕ) → let ss = (content_of text).sections in Contains (pairs_of ss) (index, sub) ↔ IsSome (origin_of ss index sub) }
+    ensures { (text : List ℕ) (index sub : ℕ) → let ss = (content_of text).sections
+        in Contains (pairs_of ss) (index, sub) ↔ IsSome (origin_of ss index sub) }
 {}
 
 /// A text is refused by `Limit` exactly where it is an INI text and the rules give over 4,096 entries.
@@ -46,9 +48,12 @@ pub fn limit_counts_entries_of_the_rules()
 /// defaults likewise.
 #[tactic(auto, using(crate::proofs::LawLemmas::shape_at, crate::proofs::IdentityLemmas::shape_dummies, crate::proofs::LawLemmas::defaults_at))]
 pub fn shape_and_defaults_are_complete()
-    ensures shape { (ss : List Section) (node index sub : ℕ) → map.get (shape_of ss node).entries (index, sub) ≡ entry_at ss node index sub }
-    ensures dummies { (ss : List Section) (node kind : ℕ) → is_dummy_allowed (shape_of ss node) kind ≡ dummy_allowed ss kind }
-    ensures defaults { (ss : List Section) (node index sub : ℕ) → map.get (defaults_of ss node) (index, sub) ≡ default_at ss node index sub }
+    ensures shape { (ss : List Section) (node index sub : ℕ)
+        → map.get (shape_of ss node).entries (index, sub) ≡ entry_at ss node index sub }
+    ensures dummies { (ss : List Section) (node kind : ℕ)
+        → is_dummy_allowed (shape_of ss node) kind ≡ dummy_allowed ss kind }
+    ensures defaults { (ss : List Section) (node index sub : ℕ)
+        → map.get (defaults_of ss node) (index, sub) ≡ default_at ss node index sub }
 {}
 
 /// The defaults have, for each entry of a modelled type in the shape, a value of that type's length.
@@ -62,16 +67,21 @@ pub fn defaults_have_lengths()
 #[tactic(auto, using(crate::proofs::IdentityLemmas::identity_has, crate::proofs::IdentityLemmas::identity_zero))]
 pub fn identity_is_of_the_defaults()
     ensures number { (ss : List Section) (node index sub : ℕ) → is_identity_type (kind_at ss (index, sub)) ≡ true
-        → (bytes : List ℕ) × ((map.get (defaults_of ss node) (index, sub) ≡ Some bytes) × (number_in (kind_at ss (index, sub)) bytes ≡ Some (pos (identity_number ss node index sub)))) }
-    ensures zero { (ss : List Section) (node index sub : ℕ) → is_identity_type (kind_at ss (index, sub)) ≡ false → identity_number ss node index sub ≡ 0 }
+        → (bytes : List ℕ) × ((map.get (defaults_of ss node) (index, sub) ≡ Some bytes)
+        × (number_in (kind_at ss (index, sub)) bytes ≡ Some (pos (identity_number ss node index sub)))) }
+    ensures zero { (ss : List Section) (node index sub : ℕ) → is_identity_type (kind_at ss (index, sub)) ≡ false
+        → identity_number ss node index sub ≡ 0 }
 {}
 
 /// Sub 0 of a compact object is an UNSIGNED8 that nobody writes or maps, and its value is the
 /// highest sub-index.
 #[tactic(auto, using(crate::proofs::LawLemmas::compact_entry, crate::proofs::LawLemmas::compact_default))]
 pub fn sub_0_counts_compact_subs()
-    ensures entry { (ss : List Section) (node index : ℕ) (s : Section) (n : ℕ) → origin_of ss index 0 ≡ Some (compact s n)
-        → entry_at ss node index 0 ≡ Some (record { kind = Unsigned8; access = ReadOnly; low = None; high = None; mappable = false }) }
-    ensures value { (ss : List Section) (node index : ℕ) (s : Section) (n : ℕ) → origin_of ss index 0 ≡ Some (compact s n)
+    ensures entry { (ss : List Section) (node index : ℕ) (s : Section) (n : ℕ)
+        → origin_of ss index 0 ≡ Some (compact s n)
+        → entry_at ss node index 0
+        ≡ Some (record { kind = Unsigned8; access = ReadOnly; low = None; high = None; mappable = false }) }
+    ensures value { (ss : List Section) (node index : ℕ) (s : Section) (n : ℕ)
+        → origin_of ss index 0 ≡ Some (compact s n)
         → default_at ss node index 0 ≡ Some (n ∷ []) }
 {}

@@ -3,7 +3,7 @@ ghost use Rattle.std.specs.Prelude.{◌≡◌, ◌≤◌, [], ◌∷◌, length,
 ghost use Rattle.co_base.specs.Gives.{Gives};
 ghost use Rattle.eds_device.specs.Faults.{is_memory, limited, most_entries};
 ghost use Rattle.eds_device.specs.Places.{first_subs, object_places, places_given, pairs_of};
-ghost use Rattle.eds_device.specs.Adding.{added};
+ghost use Rattle.eds_device.specs.Adding.{with_places};
 
 use crate::fault::DeviceFault;
 use crate::name::{index_named, place_named};
@@ -17,7 +17,7 @@ const MAX_ENTRIES: usize = 4096;
 
 /// Adds an entry, and refuses one that is too many.
 fn add_place(places: &mut BTreeSet<(u16, u8)>, index: u16, sub: u8) -> Result<(), DeviceFault>
-    ensures { Gives is_memory (λ _. places.new.keys) result (added places.old.keys ((index, sub) ∷ [])) }
+    ensures { Gives is_memory (λ _. places.new.keys) result (with_places places.old.keys ((index, sub) ∷ [])) }
 {
     places.insert((index, sub))?;
     if places.len() > MAX_ENTRIES {
@@ -33,7 +33,7 @@ fn add_first_subs(
     count: u8,
 ) -> Result<(), DeviceFault>
     requires { length places.old.keys ≤ most_entries }
-    ensures { Gives is_memory (λ _. places.new.keys) result (added places.old.keys (first_subs index count)) }
+    ensures { Gives is_memory (λ _. places.new.keys) result (with_places places.old.keys (first_subs index count)) }
 {
     for sub in 0..count {
         add_place(places, index, sub)?;
@@ -48,7 +48,8 @@ fn add_object(
     index: u16,
 ) -> Result<(), DeviceFault>
     requires { length places.old.keys ≤ most_entries }
-    ensures { Gives is_memory (λ _. places.new.keys) result (added places.old.keys (object_places section.now index)) }
+    ensures { Gives is_memory (λ _. places.new.keys) result
+        (with_places places.old.keys (object_places section.now index)) }
 {
     if is_plain(section) {
         return add_first_subs(places, index, 1);
@@ -63,7 +64,7 @@ fn add_object(
 #[tactic(auto, unfolding(crate::specs::Places::places_given))]
 fn add_given(places: &mut BTreeSet<(u16, u8)>, section: &Section) -> Result<(), DeviceFault>
     requires { length places.old.keys ≤ most_entries }
-    ensures { Gives is_memory (λ _. places.new.keys) result (added places.old.keys (places_given section.now)) }
+    ensures { Gives is_memory (λ _. places.new.keys) result (with_places places.old.keys (places_given section.now)) }
 {
     if let Some((index, sub)) = place_named(section.name()) {
         return add_place(places, index, sub);

@@ -12,7 +12,11 @@ use std::alloc::AllocError;
 impl Device {
     /// Sets an entry of a shape, where the device has it.
     fn add_entry(&self, shape: &mut Shape, node: u8, index: u16, sub: u8) -> Result<(), AllocError>
-        ensures { OnOk result (shape.new ≡ record shape.old { entries = option_map_or (map.insert shape.old.entries (index, sub)) (entry_at self.now.sections node index sub) shape.old.entries }) }
+        ensures { OnOk result (shape.new
+            ≡ record shape.old {
+              entries = option_map_or (map.insert shape.old.entries (index, sub))
+                  (entry_at self.now.sections node index sub) shape.old.entries;
+            }) }
     {
         match self.entry(node, index, sub) {
             Some(entry) => shape.insert(index, sub, entry),
@@ -22,7 +26,8 @@ impl Device {
 
     /// Sets the default of an entry, where it has one.
     fn add_default(&self, dict: &mut Dict, node: u8, index: u16, sub: u8) -> Result<(), AllocError>
-        ensures { OnOk result (dict.new ≡ option_map_or (map.insert dict.old (index, sub)) (default_at self.now.sections node index sub) dict.old) }
+        ensures { OnOk result (dict.new ≡ option_map_or (map.insert dict.old (index, sub))
+            (default_at self.now.sections node index sub) dict.old) }
     {
         match self.default(node, index, sub)? {
             Some(bytes) => dict.write(index, sub, bytes.as_slice()),

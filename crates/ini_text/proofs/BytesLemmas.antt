@@ -1,5 +1,7 @@
 -- Bytes without blanks at their ends, and bytes around a separator.
-use Rattle.std.proofs.Common.{◌≡◌, ℕ, zero, suc, ◌+◌, ◌-◌, ◌<◌, ◌≤◌, ltb, Bool, true, false, cond, not, List, [], ◌∷◌, ◌++◌, reverse, length, take, drop, None, Some, eqb, refl, ap, ◌∙◌, sym, subst, length-drop, take_all, take-append-drop, arith}
+use Rattle.std.proofs.Common.{◌≡◌, ℕ, zero, suc, ◌+◌, ◌-◌, ◌<◌, ◌≤◌, ltb, Bool, true, false, cond, not, List, [], ◌∷◌}
+use Rattle.std.proofs.Common.{◌++◌, reverse, length, take, drop, None, Some, eqb, refl, ap, ◌∙◌, sym, subst}
+use Rattle.std.proofs.Common.{length-drop, take_all, take-append-drop, arith}
 use Rattle.std.specs.List.{list_any, prefix_len, suffix_len, position_or_len, AllByRecursion}
 use Rattle.std.specs.Option.{option_map}
 use Rattle.std.proofs.Math.Seq.{take-append_seam, drop-append-add}
@@ -44,7 +46,8 @@ sharp_start (b ∷ bs) = by (is_blank b) refl (sharp_start bs)
     one : (n : ℕ) → 1 + n ≡ suc n
     one n = omega arith
 
-    by : (t : Bool) → is_blank b ≡ t → IsSharp (drop (prefix_len is_blank bs) bs) → IsSharp (drop (cond t (1 + prefix_len is_blank bs) 0) (b ∷ bs))
+    by : (t : Bool) → is_blank b ≡ t → IsSharp (drop (prefix_len is_blank bs) bs)
+        → IsSharp (drop (cond t (1 + prefix_len is_blank bs) 0) (b ∷ bs))
     by true h ih = rw (one (prefix_len is_blank bs)) ih
     by false h ih = h
 
@@ -61,7 +64,8 @@ blank_prefix (b ∷ bs) = by (is_blank b) refl (blank_prefix bs)
     one : (n : ℕ) → 1 + n ≡ suc n
     one n = omega arith
 
-    by : (t : Bool) → is_blank b ≡ t → AreBlank (take (prefix_len is_blank bs) bs) → AreBlank (take (cond t (1 + prefix_len is_blank bs) 0) (b ∷ bs))
+    by : (t : Bool) → is_blank b ≡ t → AreBlank (take (prefix_len is_blank bs) bs)
+        → AreBlank (take (cond t (1 + prefix_len is_blank bs) 0) (b ∷ bs))
     by true h ih = rw (one (prefix_len is_blank bs)) (h, ih)
     by false h ih = tt
 
@@ -71,15 +75,19 @@ blank_append (a ∷ fs) bs h g = (h.0, blank_append fs bs h.1 g)
 
 blank_reverse : (bs : List ℕ) → AreBlank bs → AreBlank (reverse bs)
 blank_reverse [] h = tt
-blank_reverse (b ∷ bs) h = subst AreBlank (sym (reverse-append (b ∷ []) bs)) (blank_append (reverse bs) (b ∷ []) (blank_reverse bs h.1) (h.0, tt))
+blank_reverse (b ∷ bs) h = subst AreBlank (sym (reverse-append (b ∷ []) bs))
+    (blank_append (reverse bs) (b ∷ []) (blank_reverse bs h.1) (h.0, tt))
 
 -- a list, with some of its end cut off
-cut_end : (n : ℕ) (bs : List ℕ) → n ≤ length bs → (take (length bs - n) bs ≡ reverse (drop n (reverse bs))) × (drop (length bs - n) bs ≡ reverse (take n (reverse bs)))
+cut_end : (n : ℕ) (bs : List ℕ) → n ≤ length bs → (take (length bs - n) bs ≡ reverse (drop n (reverse bs)))
+    × (drop (length bs - n) bs ≡ reverse (take n (reverse bs)))
 cut_end n bs h =
     let fs = reverse (drop n (reverse bs)) in
     let cs = reverse (take n (reverse bs)) in
-    let whole : bs ≡ fs ++ cs = sym (reverse-reverse bs) ∙ ap reverse (sym (take-append-drop n (reverse bs))) ∙ reverse-append (take n (reverse bs)) (drop n (reverse bs)) in
-    let m : length fs ≡ length bs - n = length-reverse (drop n (reverse bs)) ∙ length-drop n (reverse bs) ∙ ap (λ k. k - n) (length-reverse bs) in
+    let whole : bs ≡ fs ++ cs = sym (reverse-reverse bs) ∙ ap reverse (sym (take-append-drop n (reverse bs)))
+    ∙ reverse-append (take n (reverse bs)) (drop n (reverse bs)) in
+    let m : length fs ≡ length bs - n = length-reverse (drop n (reverse bs)) ∙ length-drop n (reverse bs)
+    ∙ ap (λ k. k - n) (length-reverse bs) in
     let m' : length bs - n ≡ length fs + 0 = omega arith in (
       ap (λ k. take k bs) (sym m) ∙ ap (take (length fs)) whole ∙ take-append_seam fs cs,
       ap (λ k. drop k bs) m' ∙ ap (drop (length fs + 0)) whole ∙ drop-append-add fs cs 0,
@@ -104,7 +112,8 @@ end_trim bs =
       blanks = drop (length bs - n) bs;
       whole = sym (take-append-drop (length bs - n) bs);
       are_blank = subst AreBlank (sym cut.1) (blank_reverse (take n (reverse bs)) (blank_prefix (reverse bs)));
-      sharp = subst (λ xs. IsSharp (reverse xs)) (sym cut.0) (subst IsSharp (sym (reverse-reverse (drop n (reverse bs)))) (sharp_start (reverse bs)));
+      sharp = subst (λ xs. IsSharp (reverse xs)) (sym cut.0)
+          (subst IsSharp (sym (reverse-reverse (drop n (reverse bs)))) (sharp_start (reverse bs)));
     }
 
 -- what is left has no blank at its ends
@@ -153,13 +162,20 @@ keeps_first b bs h =
     first_blank [] e a = cc
     first_blank (c ∷ cs) e a = let f : b ≡ c = cc in false≢true (sym h ∙ ap is_blank f ∙ a.0)
 
-    by : (ts : List ℕ) → trim_end is_blank (b ∷ bs) ≡ ts → (blanks : List ℕ) → b ∷ bs ≡ trim_end is_blank (b ∷ bs) ++ blanks → AreBlank blanks → KeepsFirst b bs
+    by : (ts : List ℕ) → trim_end is_blank (b ∷ bs) ≡ ts → (blanks : List ℕ)
+        → b ∷ bs ≡ trim_end is_blank (b ∷ bs) ++ blanks → AreBlank blanks → KeepsFirst b bs
     by [] g blanks e a = absurd (first_blank blanks (e ∙ ap (λ ts. ts ++ blanks) g) a)
     by (c ∷ cs) g blanks e a =
         let f : b ∷ bs ≡ c ∷ (cs ++ blanks) = e ∙ ap (λ ts. ts ++ blanks) g in
         let same_first : c ≡ b = cc in
         let rest : bs ≡ cs ++ blanks = cc in
-        record { left = cs; blanks = blanks; is = same_trim ∙ g ∙ ap (λ x. x ∷ cs) same_first; whole = rest; are_blank = a }
+        record {
+          left = cs;
+          blanks = blanks;
+          is = same_trim ∙ g ∙ ap (λ x. x ∷ cs) same_first;
+          whole = rest;
+          are_blank = a;
+        }
 
 -- a byte that isn't among some isn't among fewer
 module _ (p : ℕ → Bool) where
@@ -171,7 +187,8 @@ module _ (p : ℕ → Bool) where
   pub none_taken : (n : ℕ) (bs : List ℕ) → list_any p bs ≡ false → list_any p (take n bs) ≡ false
   none_taken zero bs h = refl
   none_taken (suc n) [] h = h
-  none_taken (suc n) (b ∷ bs) h = rw (or_false_left (p b) (list_any p bs) h) (none_taken n bs (or_false_right (p b) (list_any p bs) h))
+  none_taken (suc n) (b ∷ bs) h = rw (or_false_left (p b) (list_any p bs) h)
+      (none_taken n bs (or_false_right (p b) (list_any p bs) h))
 
   pub none_trimmed : (bs : List ℕ) → list_any p bs ≡ false → list_any p (trimmed bs) ≡ false
   unfolding trimmed
@@ -194,12 +211,16 @@ onto c p = (c ∷ p.0, p.1)
 
 ltb-suc : (m n : ℕ) → ltb (suc m) (suc n) ≡ ltb m n
 ltb-suc m n =
-    same_from_decides {P = m < n} (ltb (suc m) (suc n)) (ltb m n)
-    (λ h. let l : suc m < suc n = (Decides-ltb (suc m) (suc n)).0 h in omega arith, λ h. let l : suc m < suc n = omega arith in (Decides-ltb (suc m) (suc n)).1 l)
+    same_from_decides {P = m < n} (ltb (suc m) (suc n)) (ltb m n) (
+      λ h. let l : suc m < suc n = (Decides-ltb (suc m) (suc n)).0 h
+          in omega arith,
+      λ h. let l : suc m < suc n = omega arith in (Decides-ltb (suc m) (suc n)).1 l,
+    )
     (Decides-ltb m n)
 
 -- the parts around the first byte b
-pub split_once-cons : (b c : ℕ) (cs : List ℕ) → split_once b (c ∷ cs) ≡ cond (eqb c b) (Some (parts [] cs)) (option_map (onto c) (split_once b cs))
+pub split_once-cons : (b c : ℕ) (cs : List ℕ)
+    → split_once b (c ∷ cs) ≡ cond (eqb c b) (Some (parts [] cs)) (option_map (onto c) (split_once b cs))
 unfolding split_once
 split_once-cons b c cs = by (eqb c b) (position_or_len (λ x. eqb x b) cs)
   where
@@ -209,24 +230,36 @@ split_once-cons b c cs = by (eqb c b) (position_or_len (λ x. eqb x b) cs)
     next : (m : ℕ) → suc m + 1 ≡ suc (m + 1)
     next m = omega arith
 
-    no : (m : ℕ) → cond (ltb (suc m) (suc (length cs))) (Some (parts (take (suc m) (c ∷ cs)) (drop (suc m + 1) (c ∷ cs)))) None ≡ option_map (onto c) (cond (ltb m (length cs)) (Some (parts (take m cs) (drop (m + 1) cs))) None)
-    no m = rw (ltb-suc m (length cs)) (rw (next m) (elim (ltb m (length cs)) as (λ t. cond t (Some (parts (c ∷ take m cs) (drop (m + 1) cs))) None ≡ option_map (onto c) (cond t (Some (parts (take m cs) (drop (m + 1) cs))) None)) [ true ↦ refl | false ↦ refl ]))
+    no : (m : ℕ) → cond (ltb (suc m) (suc (length cs)))
+        (Some (parts (take (suc m) (c ∷ cs)) (drop (suc m + 1) (c ∷ cs)))) None
+        ≡ option_map (onto c) (cond (ltb m (length cs)) (Some (parts (take m cs) (drop (m + 1) cs))) None)
+    no m = rw (ltb-suc m (length cs)) (rw (next m)
+        (elim (ltb m (length cs)) as (λ t. cond t (Some (parts (c ∷ take m cs) (drop (m + 1) cs))) None
+        ≡ option_map (onto c) (cond t (Some (parts (take m cs) (drop (m + 1) cs))) None))
+        [ true ↦ refl | false ↦ refl ]))
 
-    by : (t : Bool) (m : ℕ) → cond (ltb (cond (not t) (1 + m) 0) (length (c ∷ cs))) (Some (parts (take (cond (not t) (1 + m) 0) (c ∷ cs)) (drop (cond (not t) (1 + m) 0 + 1) (c ∷ cs)))) None ≡ cond t (Some (parts [] cs)) (option_map (onto c) (cond (ltb m (length cs)) (Some (parts (take m cs) (drop (m + 1) cs))) None))
-    by true m = let some : 0 < suc (length cs) = omega arith in ap (λ t. cond t (Some (parts [] cs)) None) ((Decides-ltb 0 (suc (length cs))).1 some)
+    by : (t : Bool) (m : ℕ) → cond (ltb (cond (not t) (1 + m) 0) (length (c ∷ cs)))
+        (Some (parts (take (cond (not t) (1 + m) 0) (c ∷ cs)) (drop (cond (not t) (1 + m) 0 + 1) (c ∷ cs)))) None
+        ≡ cond t (Some (parts [] cs)) (option_map (onto c)
+        (cond (ltb m (length cs)) (Some (parts (take m cs) (drop (m + 1) cs))) None))
+    by true m = let some : 0 < suc (length cs) = omega arith
+        in ap (λ t. cond t (Some (parts [] cs)) None) ((Decides-ltb 0 (suc (length cs))).1 some)
     by false m = rw (one m) (no m)
 
-pub split_once_at : (b : ℕ) (fs bs : List ℕ) → eqb b b ≡ true → has_byte b fs ≡ false → split_once b (fs ++ b ∷ bs) ≡ Some (parts fs bs)
+pub split_once_at : (b : ℕ) (fs bs : List ℕ) → eqb b b ≡ true → has_byte b fs ≡ false
+    → split_once b (fs ++ b ∷ bs) ≡ Some (parts fs bs)
 split_once_at b [] bs e h = split_once-cons b b bs ∙ rw e refl
 split_once_at b (a ∷ fs) bs e h =
     split_once-cons b a (fs ++ b ∷ bs)
-    ∙ rw (or_false_left (eqb a b) (has_byte b fs) h) (ap (option_map (onto a)) (split_once_at b fs bs e (or_false_right (eqb a b) (has_byte b fs) h)))
+    ∙ rw (or_false_left (eqb a b) (has_byte b fs) h)
+    (ap (option_map (onto a)) (split_once_at b fs bs e (or_false_right (eqb a b) (has_byte b fs) h)))
 
 pub split_once_none : (b : ℕ) (bs : List ℕ) → has_byte b bs ≡ false → split_once b bs ≡ None
 unfolding split_once
 split_once_none b [] h = refl
 split_once_none b (c ∷ cs) h =
-    split_once-cons b c cs ∙ rw (or_false_left (eqb c b) (has_byte b cs) h) (ap (option_map (onto c)) (split_once_none b cs (or_false_right (eqb c b) (has_byte b cs) h)))
+    split_once-cons b c cs ∙ rw (or_false_left (eqb c b) (has_byte b cs) h)
+    (ap (option_map (onto c)) (split_once_none b cs (or_false_right (eqb c b) (has_byte b cs) h)))
 
 -- where there is a first byte b, and where there is none
 pub data Split (b : ℕ) (bs : List ℕ) : Type 0 where
@@ -240,5 +273,6 @@ split b (c ∷ cs) = by (eqb c b) refl (split b cs)
   where
     by : (t : Bool) → eqb c b ≡ t → Split b cs → Split b (c ∷ cs)
     by true e s = at [] cs (split_once-cons b c cs ∙ rw e refl) (ap (λ x. x ∷ cs) ((Decides-eqb c b).0 e)) refl
-    by false e (at fs ds f w h) = at (c ∷ fs) ds (split_once-cons b c cs ∙ rw e (ap (option_map (onto c)) f)) (ap (λ xs. c ∷ xs) w) (rw e h)
+    by false e (at fs ds f w h) = at (c ∷ fs) ds (split_once-cons b c cs ∙ rw e (ap (option_map (onto c)) f))
+        (ap (λ xs. c ∷ xs) w) (rw e h)
     by false e (none f h) = none (split_once-cons b c cs ∙ rw e (ap (option_map (onto c)) f)) (rw e h)

@@ -1,5 +1,6 @@
 -- Tables whose keys are names without case.
-use Rattle.std.proofs.Common.{◌≡◌, ℕ, ◌+◌, ltb, length, not, None, Bool, true, false, cond, ◌||◌, List, [], ◌∷◌, ◌++◌, IsTrue, ◌↔◌, refl, ap, ◌∙◌, is_some, Some, eqb}
+use Rattle.std.proofs.Common.{◌≡◌, ℕ, ◌+◌, ltb, length, not, None, Bool, true, false, cond, ◌||◌, List, [], ◌∷◌, ◌++◌}
+use Rattle.std.proofs.Common.{IsTrue, ◌↔◌, refl, ap, ◌∙◌, is_some, Some, eqb}
 use Rattle.std.specs.List.{list_any, position, position_or_len}
 use Rattle.std.specs.Global.{Vec}
 use Rattle.std.specs.Cmp.Lexicographic.{pointwise}
@@ -29,14 +30,17 @@ vec_eq a b = pointwise eqb a.items b.items
 
 module _ {X : Type 0} (name : X → List ℕ) (q : List ℕ) (k : List ℕ) (is_folded : k ≡ folded q) where
   -- a folded name is a key where it is the name of a value
-  pub has_folded : (es : List (Vec ℕ × X)) → AreFolded name es → is_some (lookup (λ v. bytes_eq k v.items) es) ≡ list_any (λ x. same q (name x)) (values_of es)
+  pub has_folded : (es : List (Vec ℕ × X)) → AreFolded name es
+      → is_some (lookup (λ v. bytes_eq k v.items) es) ≡ list_any (λ x. same q (name x)) (values_of es)
   has_folded [] h = refl
   has_folded (e ∷ es) h =
       let t : bytes_eq k e.0.items ≡ same q (name e.1) = rw (is_folded, h.0) refl in
-      rw t (elim (same q (name e.1)) as (λ t. is_some (cond t (Some e.1) (lookup (λ v. bytes_eq k v.items) es)) ≡ (t || list_any (λ x. same q (name x)) (values_of es))) [ true ↦ refl | false ↦ has_folded es h.1 ])
+      rw t (elim (same q (name e.1)) as (λ t. is_some (cond t (Some e.1) (lookup (λ v. bytes_eq k v.items) es))
+      ≡ (t || list_any (λ x. same q (name x)) (values_of es))) [ true ↦ refl | false ↦ has_folded es h.1 ])
 
   -- and stands where the value stands
-  pub position_folded : (es : List (Vec ℕ × X)) → AreFolded name es → position_or_len (λ v. bytes_eq k v.items) (keys_of es) ≡ position_or_len (λ x. same q (name x)) (values_of es)
+  pub position_folded : (es : List (Vec ℕ × X)) → AreFolded name es
+      → position_or_len (λ v. bytes_eq k v.items) (keys_of es) ≡ position_or_len (λ x. same q (name x)) (values_of es)
   position_folded [] h = refl
   position_folded (e ∷ es) h =
       let t : bytes_eq k e.0.items ≡ same q (name e.1) = rw (is_folded, h.0) refl in
@@ -52,8 +56,10 @@ position_is p xs i h = by (ltb (position_or_len p xs) (length xs)) h
 
 module _ {X : Type 0} (name : X → List ℕ) (k : Vec ℕ) (x : X) (is_folded : k.items ≡ folded (name x)) where
   -- a value of a new name goes last, and the keys are still the names of their values
-  pub inserted : (es : List (Vec ℕ × X)) → AreFolded name es → list_any (λ y. same (name x) (name y)) (values_of es) ≡ false
-      → (AreFolded name (insert_entry vec_eq es k x)) × (values_of (insert_entry vec_eq es k x) ≡ values_of es ++ x ∷ [])
+  pub inserted : (es : List (Vec ℕ × X)) → AreFolded name es
+      → list_any (λ y. same (name x) (name y)) (values_of es) ≡ false
+      → (AreFolded name (insert_entry vec_eq es k x))
+      × (values_of (insert_entry vec_eq es k x) ≡ values_of es ++ x ∷ [])
   inserted [] h none = ((is_folded, tt), refl)
   inserted (e ∷ es) h none =
       let t : vec_eq k e.0 ≡ same (name x) (name e.1) = rw (is_folded, h.0) refl in

@@ -13,7 +13,8 @@ change_or_add p f new (x ∷ xs) = if p x then f x ∷ xs else x ∷ change_or_a
 
 -- with the value at the key: in its place, or last under this spelling
 abbrev pub put_value : List Pair → List ℕ → List ℕ → List Pair
-put_value ps key value = change_or_add (λ p. same key p.key) (λ p. record { key = p.key; value = value }) (record { key = key; value = value }) ps
+put_value ps key value = change_or_add (λ p. same key p.key) (λ p. record { key = p.key; value = value })
+    (record { key = key; value = value }) ps
 
 -- with the value at the key of this section
 abbrev pub put_in_section : Section → List ℕ → List ℕ → Section
@@ -21,7 +22,8 @@ put_in_section s key value = record { name = s.name; pairs = put_value s.pairs k
 
 -- with the value at the key of the section, which goes last where it is new
 abbrev pub with_value : List Section → List ℕ → List ℕ → List ℕ → List Section
-with_value ss name key value = change_or_add (λ s. same name s.name) (λ s. put_in_section s key value) (record { name = name; pairs = record { key = key; value = value } ∷ [] }) ss
+with_value ss name key value = change_or_add (λ s. same name s.name) (λ s. put_in_section s key value)
+    (record { name = name; pairs = record { key = key; value = value } ∷ [] }) ss
 
 -- `key=value` and an LF
 abbrev pub pair_text : Pair → List ℕ

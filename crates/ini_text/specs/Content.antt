@@ -1,6 +1,8 @@
 -- The content of INI text (CiA 306): its sections with their pairs, and its warned lines.
--- Own: sections of one name are one, the first of equal keys counts, the first spelling of a name is kept, and what is warned of.
-use Rattle.std.specs.Prelude.{ℕ, ◌+◌, Bool, true, false, List, [], ◌∷◌, ◌++◌, ◌||◌, if◌then◌else◌, length, map, filter, not, Option, Some, None}
+-- Own: sections of one name are one, the first of equal keys counts, the first spelling of a name is kept, and what is
+-- warned of.
+use Rattle.std.specs.Prelude.{ℕ, ◌+◌, Bool, true, false, List, [], ◌∷◌, ◌++◌, ◌||◌, if◌then◌else◌, length, map, filter}
+use Rattle.std.specs.Prelude.{not, Option, Some, None}
 use Rattle.std.specs.List.{list_any}
 use Rattle.std.specs.Option.{option_map_or}
 pub use Rattle.ini_text.specs.Name.{folded, same}
@@ -40,7 +42,8 @@ abbrev pub pairs_under : List ℕ → Bool → List Line → List Pair
 pairs_under name here [] = []
 pairs_under name here (header n ∷ ls) = pairs_under name (same name n) ls
 pairs_under name here (nothing ∷ ls) = pairs_under name here ls
-pairs_under name here (pair k v ∷ ls) = if here then record { key = k; value = v } ∷ pairs_under name here ls else pairs_under name here ls
+pairs_under name here (pair k v ∷ ls) = if here then record { key = k; value = v } ∷ pairs_under name here ls
+    else pairs_under name here ls
 pairs_under name here (other ∷ ls) = pairs_under name here ls
 
 -- each element that no earlier one equals
@@ -72,13 +75,15 @@ gives_key ls name key = list_any (λ p. same key p.key) (pairs_under name false 
 abbrev pub is_warned : List Line → Line → Bool
 is_warned before nothing = false
 is_warned before (header name) = false
-is_warned before (pair k v) = option_map_or (λ name. gives_key before name k || is_misused k v) (last_header before None) true
+is_warned before (pair k v) = option_map_or (λ name. gives_key before name k || is_misused k v)
+    (last_header before None) true
 is_warned before other = true
 
 -- the numbers of the warned lines, from 1, where some lines come before
 abbrev pub warned_after : List Line → List Line → List ℕ
 warned_after before [] = []
-warned_after before (l ∷ ls) = if is_warned before l then (length before + 1) ∷ warned_after (before ++ l ∷ []) ls else warned_after (before ++ l ∷ []) ls
+warned_after before (l ∷ ls) = if is_warned before l then (length before + 1) ∷ warned_after (before ++ l ∷ []) ls
+    else warned_after (before ++ l ∷ []) ls
 
 -- the numbers of the warned lines of a text
 unfoldable pub warnings_of : List Line → List ℕ
@@ -90,7 +95,8 @@ line_list text = map line_of (lines_of text)
 
 -- the content of a text
 unfoldable pub content_of : List ℕ → Content
-content_of text = let ls = line_list (without_mark text) in record { sections = sections_of ls; warnings = warnings_of ls }
+content_of text = let ls = line_list (without_mark text)
+    in record { sections = sections_of ls; warnings = warnings_of ls }
 
 -- the value at a key: that of the first pair whose key is equal
 abbrev pub value_at : List Pair → List ℕ → Option (List ℕ)

@@ -20,11 +20,13 @@ unless_empty (b ∷ bs) = Some (b ∷ bs)
 -- the name in a trimmed line that begins with `[`, has a `]`, and something but blanks between them
 unfoldable pub header_name : List ℕ → Option (List ℕ)
 header_name [] = None
-header_name (b ∷ bs) = if b == byte "[" then option_and_then (λ p. unless_empty (trimmed p.0)) (split_once (byte "]") bs) else None
+header_name (b ∷ bs) = if b == byte "[" then option_and_then (λ p. unless_empty (trimmed p.0))
+    (split_once (byte "]") bs) else None
 
 -- the key and the value in a trimmed line that has `=` with a key before the first one
 unfoldable pub key_value : List ℕ → Option (List ℕ × List ℕ)
-key_value line = option_and_then (λ p. option_and_then (λ k. Some (k, trimmed p.1)) (unless_empty (trimmed p.0))) (split_once (byte "=") line)
+key_value line = option_and_then (λ p. option_and_then (λ k. Some (k, trimmed p.1)) (unless_empty (trimmed p.0)))
+    (split_once (byte "=") line)
 
 -- a key and a value, or anything else
 abbrev pub pair_or_other : Option (List ℕ × List ℕ) → Line
@@ -39,7 +41,8 @@ header_or (Some name) line = header name
 -- what a trimmed line means
 abbrev pub meaning : List ℕ → Line
 meaning [] = nothing
-meaning (b ∷ bs) = if b == byte ";" then nothing else header_or (header_name (b ∷ bs)) (pair_or_other (key_value (b ∷ bs)))
+meaning (b ∷ bs) = if b == byte ";" then nothing
+    else header_or (header_name (b ∷ bs)) (pair_or_other (key_value (b ∷ bs)))
 
 -- what a line means
 unfoldable pub line_of : List ℕ → Line

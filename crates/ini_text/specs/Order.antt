@@ -4,7 +4,8 @@ use Rattle.std.specs.List.{list_any}
 use Rattle.ini_text.specs.Line.{Line, header, pair}
 use Rattle.ini_text.specs.Content.{Pair, same, headers, last_header, gives_key, section_of, sections_of}
 
--- a header gives the name, no header before it gives that name in any case, and the lines before it have as many sections as the position says
+-- a header gives the name, no header before it gives that name in any case, and the lines before it have as many
+-- sections as the position says
 pub record OpensAt (lines : List Line) (position : ℕ) (name : List ℕ) : Type 0 where
   pub before : List Line
   pub later : List Line
@@ -12,7 +13,8 @@ pub record OpensAt (lines : List Line) (position : ℕ) (name : List ℕ) : Type
   pub first : list_any (same name) (headers before) ≡ false
   pub counted : position ≡ length (sections_of before)
 
--- a line under a header of the section's name gives the pair, no line before it gives the key there, and the lines before it give the section as many pairs as the position says
+-- a line under a header of the section's name gives the pair, no line before it gives the key there, and the lines
+-- before it give the section as many pairs as the position says
 pub record GivesAt (lines : List Line) (name : List ℕ) (position : ℕ) (given : Pair) : Type 0 where
   pub before : List Line
   pub heading : List ℕ

@@ -63,4 +63,5 @@ pub record IsPrintable (sections : List Section) : Type 0 where
 
 -- CompactPDO has no other value than 0
 abbrev pub UsesNoCompactPdo : List Section → Type 0
-UsesNoCompactPdo sections = AllByRecursion (λ s. AllByRecursion (λ p. is_misused p.key p.value ≡ false) s.pairs) sections
+UsesNoCompactPdo sections = AllByRecursion (λ s. AllByRecursion (λ p. is_misused p.key p.value ≡ false) s.pairs)
+    sections

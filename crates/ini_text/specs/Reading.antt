@@ -1,5 +1,7 @@
--- Private machinery: what the program that reads knows after some lines, and after one more. `Content` says what they amount to.
-use Rattle.std.specs.Prelude.{ℕ, zero, suc, ◌+◌, Bool, true, false, List, [], ◌∷◌, ◌++◌, ◌||◌, if◌then◌else◌, slice_get, Option, None, Some}
+-- Private machinery: what the program that reads knows after some lines, and after one more. `Content` says what they
+-- amount to.
+use Rattle.std.specs.Prelude.{ℕ, zero, suc, ◌+◌, Bool, true, false, List, [], ◌∷◌, ◌++◌, ◌||◌, if◌then◌else◌, slice_get}
+use Rattle.std.specs.Prelude.{Option, None, Some}
 use Rattle.std.specs.List.{list_any, position_or_len}
 use Rattle.std.specs.Option.{option_map_or}
 use Rattle.ini_text.specs.Line.{Line, nothing, header, pair, other}
@@ -19,7 +21,8 @@ position_of ss name = position_or_len (λ s. same name s.name) ss
 
 -- with the pair last, unless the key is there
 abbrev pub with_pair : Section → List ℕ → List ℕ → Section
-with_pair s key value = if has_key s.pairs key then s else record { name = s.name; pairs = s.pairs ++ record { key = key; value = value } ∷ [] }
+with_pair s key value = if has_key s.pairs key then s
+    else record { name = s.name; pairs = s.pairs ++ record { key = key; value = value } ∷ [] }
 
 -- with a section of this name, last where it is new
 abbrev pub with_name : List Section → List ℕ → List Section
@@ -43,7 +46,11 @@ pub record State : Type 0 where
 
 -- the state of these parts
 abbrev pub state_of : List Section → List ℕ → Option ℕ → ℕ → State
-state_of ss warnings current count = record { content = record { sections = ss; warnings = warnings }; current = current; count = count }
+state_of ss warnings current count = record {
+  content = record { sections = ss; warnings = warnings };
+  current = current;
+  count = count;
+}
 
 -- the sections after one more line
 abbrev pub sections_after : List Section → Option ℕ → Line → List Section
@@ -71,7 +78,11 @@ warns ss o other = true
 -- the state after one more line
 abbrev pub step : State → Line → State
 step s l = record {
-  content = record { sections = sections_after s.content.sections s.current l; warnings = if warns s.content.sections s.current l then s.content.warnings ++ (s.count + 1) ∷ [] else s.content.warnings };
+  content = record {
+    sections = sections_after s.content.sections s.current l;
+    warnings = if warns s.content.sections s.current l then s.content.warnings ++ (s.count + 1) ∷ []
+        else s.content.warnings;
+  };
   current = current_after s.content.sections s.current l;
   count = s.count + 1;
 }

@@ -1,7 +1,9 @@
 -- The lines of INI text, as EDS and DCF files of CiA 306 are written, and what makes a text one that is refused.
 -- Own: the limits of 4,096 and 1,048,576 bytes, the bytes that are refused, and the byte order mark that is skipped.
-use Rattle.std.specs.Prelude.{ℕ, ◌-◌, Bool, List, [], ◌∷◌, ◌==◌, ◌||◌, ◌&&◌, nat_lt, if◌then◌else◌, length, take, drop, Option, Some, None, not}
-use Rattle.std.specs.List.{prefix_len, suffix_len, position_or_len, before_first, after_first, onto_first, list_any, starts_with}
+use Rattle.std.specs.Prelude.{ℕ, ◌-◌, Bool, List, [], ◌∷◌, ◌==◌, ◌||◌, ◌&&◌, nat_lt, if◌then◌else◌, length, take, drop}
+use Rattle.std.specs.Prelude.{Option, Some, None, not}
+use Rattle.std.specs.List.{prefix_len, suffix_len, position_or_len, before_first, after_first, onto_first, list_any}
+use Rattle.std.specs.List.{starts_with}
 use Rattle.std.specs.Bool.{nat_eq}
 use Rattle.std.specs.Str.{byte}
 pub use Rattle.co_text.specs.Blanks.{tab, trim_start, trim_end}

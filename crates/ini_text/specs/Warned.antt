@@ -10,9 +10,11 @@ pub data Reason (before : List Line) (line : Line) : Type 0 where
   -- it gives a key and a value, and no header came before
   early : (key value : List ℕ) → line ≡ pair key value → last_header before None ≡ None → Reason before line
   -- it gives a key that its section has
-  repeated : (name key value : List ℕ) → line ≡ pair key value → last_header before None ≡ Some name → gives_key before name key ≡ true → Reason before line
+  repeated : (name key value : List ℕ) → line ≡ pair key value → last_header before None ≡ Some name
+      → gives_key before name key ≡ true → Reason before line
   -- it gives CompactPDO another value than 0
-  misused : (name key value : List ℕ) → line ≡ pair key value → last_header before None ≡ Some name → is_misused key value ≡ true → Reason before line
+  misused : (name key value : List ℕ) → line ≡ pair key value → last_header before None ≡ Some name
+      → is_misused key value ≡ true → Reason before line
 
 -- the line with the number, from 1, is warned of
 pub record IsWarned (lines : List Line) (number : ℕ) : Type 0 where

@@ -1,5 +1,6 @@
 //! The content of an INI text.
-ghost use Rattle.std.specs.Prelude.{◌≡◌, ◌+◌, ◌<◌, ◌≤◌, ◌^◌, Bool, false, not, [], ◌∷◌, ◌++◌, IfOk, OnErr, OnOk, IsErrOf, IsTrue, ◌↔◌, length, List, ℕ, ◌&&◌, Some};
+ghost use Rattle.std.specs.Prelude.{◌≡◌, ◌+◌, ◌<◌, ◌≤◌, ◌^◌, Bool, false, not, [], ◌∷◌, ◌++◌, IfOk, OnErr, OnOk};
+ghost use Rattle.std.specs.Prelude.{IsErrOf, IsTrue, ◌↔◌, length, List, ℕ, ◌&&◌, Some};
 ghost use Rattle.std.specs.Option.{option_copied};
 ghost use Rattle.indexmap.specs.IndexMap.{values};
 ghost use Rattle.ini_text.specs.Keyed.{AreFolded};

@@ -4,7 +4,8 @@ ghost use Rattle.std.specs.Prelude.{◌≡◌, ◌↔◌, ℕ, List, [], false, 
 ghost use Rattle.std.specs.List.{Contains};
 ghost use Rattle.std.specs.List.Sorted.{IsStrictlyIncreasing};
 ghost use Rattle.ini_text.specs.Line.{Line};
-ghost use Rattle.ini_text.specs.Content.{Section, Pair, section_of, sections_of, warnings_of, content_of, content_at, pairs_under, value_at};
+ghost use Rattle.ini_text.specs.Content.{Section, Pair, section_of, sections_of, warnings_of, content_of, content_at};
+ghost use Rattle.ini_text.specs.Content.{pairs_under, value_at};
 ghost use Rattle.ini_text.specs.Change.{text_of};
 ghost use Rattle.ini_text.specs.First.{GivesFirst};
 ghost use Rattle.ini_text.specs.Order.{OpensAt, GivesAt};

@@ -3,7 +3,8 @@ ghost use Rattle.std.specs.Prelude.{◌≡◌, ℕ, ◌==◌, ◌<◌, ◌≤◌
 ghost use Rattle.std.specs.List.{position, list_any};
 ghost use Rattle.std.specs.Bool.{IsFalse};
 ghost use Rattle.std.specs.Option.{option_map};
-ghost use Rattle.ini_text.specs.Text.{is_blank, is_cr, trim_start, trim_end, trimmed, split_once, lines_of, without_mark, is_long_line, is_out_of_range, is_bad_byte, has_bad_byte};
+ghost use Rattle.ini_text.specs.Text.{is_blank, is_cr, trim_start, trim_end, trimmed, split_once, lines_of};
+ghost use Rattle.ini_text.specs.Text.{without_mark, is_long_line, is_out_of_range, is_bad_byte, has_bad_byte};
 
 use co_text::{next_line, without_crs};
 

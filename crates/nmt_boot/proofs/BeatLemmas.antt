@@ -1,11 +1,12 @@
 -- Heartbeats and SYNC come at the whole multiples of their periods.
-use Rattle.std.proofs.Common.{◌≡◌, ◌↔◌, ℕ, zero, suc, ◌+◌, ◌*◌, ◌<◌, ◌≤◌, Bool, true, false, Option, Some, None, ◌⊎◌, inl, inr, refl, ap, subst, arith}
+use Rattle.std.proofs.Common.{◌≡◌, ◌↔◌, ℕ, zero, suc, ◌+◌, ◌*◌, ◌<◌, ◌≤◌, Bool, true, false, Option, Some, None, ◌⊎◌}
+use Rattle.std.proofs.Common.{inl, inr, refl, ap, subst, arith}
 use Rattle.std.specs.Prelude.{if◌then◌else◌, ◌==◌}
 use Rattle.std.proofs.Math.Nat.{mul-le-mul_right}
 use Rattle.std.proofs.lemmas.Bool.Decides.{nat_tests}
 use Rattle.asking.specs.Asking.{outcome}
 use Rattle.can_frame.specs.Frames.{BaseFrame}
-use Rattle.can_frame.specs.WaitingFrames.{replaced}
+use Rattle.can_frame.specs.WaitingFrames.{with_latest}
 use Rattle.can_frame.specs.declared.purpose.Purpose.TheVariants.{Heartbeat, Sync}
 use Rattle.co_parts.specs.Contents.{Image}
 use Rattle.co_parts.specs.Moments.{is_due, moment_after}
@@ -13,7 +14,8 @@ use Rattle.co_parts.specs.declared.roster.Roster.{Roster}
 use Rattle.co_scenario.specs.declared.nmt_command.NmtCommand.{NmtCommand}
 use Rattle.nmt_boot.proofs.FrameLemmas.{received_holds}
 use Rattle.nmt_boot.specs.Beats.{IsFirstMultiple, IsMultiple, IsNextOf, IsOnTime}
-use Rattle.nmt_boot.specs.Manager.{Manager, commanded, heartbeat_frame, heartbeats, powered_on, received, sync_frame, syncs, time_outs, timers}
+use Rattle.nmt_boot.specs.Manager.{Manager, with_command, heartbeat_frame, heartbeats, manager_at_power_on, after_frame}
+use Rattle.nmt_boot.specs.Manager.{sync_frame, syncs, time_outs, timers}
 
 -- one number is below another, or not
 apart : (j k : ℕ) → (j ≤ k) ⊎ (suc k ≤ j)
@@ -45,7 +47,8 @@ first_of p = record {
   where
     least : (other : ℕ) → 1 ≤ other → (k : ℕ) → other ≡ k * suc p → 0 + suc p ≤ other
     least other above zero e = absurd (omega (arith, above, e))
-    least other above (suc k) e = let more = mul-le-mul_right {m = 1} {n = suc k} (suc p) (omega arith) in omega (arith, e, more)
+    least other above (suc k) e = let more = mul-le-mul_right {m = 1} {n = suc k} (suc p) (omega arith)
+        in omega (arith, e, more)
 
 first_by : (p : ℕ) (b : Bool) → (p == 0) ≡ b → IsNextOf 0 p (if b then None else Some (0 + p))
 first_by p true e = grind (arith, nat_tests)
@@ -55,8 +58,8 @@ first_by (suc p) false e = first_of p
 first_at : (p : ℕ) → IsNextOf 0 p (moment_after 0 p)
 first_at p = first_by p (p == 0) refl
 
-pub on_time_first : (roster : Roster) → IsOnTime 0 (powered_on roster)
-unfolding powered_on
+pub on_time_first : (roster : Roster) → IsOnTime 0 (manager_at_power_on roster)
+unfolding manager_at_power_on
 on_time_first roster = record { heartbeat = first_at (1000 * roster.heartbeat_ms); sync = first_at roster.sync_us }
 
 -- the next after one that came
@@ -86,7 +89,8 @@ is_the_moment t (Some moment) e = ap Some (grind (arith, nat_tests))
 not_the_moment : (t moment : ℕ) → is_due t (Some moment) ≡ false → t ≤ moment → t + 1 ≤ moment
 not_the_moment t moment e h = grind (arith, nat_tests)
 
-stays_next : (t period : ℕ) (next : Option ℕ) → is_due t next ≡ false → IsNextOf t period next → IsNextOf (t + 1) period next
+stays_next : (t period : ℕ) (next : Option ℕ) → is_due t next ≡ false → IsNextOf t period next
+    → IsNextOf (t + 1) period next
 stays_next t period None e h = h
 stays_next t period (Some moment) e h = record {
   multiple = h.multiple;
@@ -108,8 +112,16 @@ record IsBetween (t : ℕ) (m : Manager) : Type 0 where
   sync : IsNextOf t m.sync_period m.sync
 
 beats_by : (t : ℕ) (m : Manager) (b : Bool) → is_due t m.heartbeat ≡ b → IsOnTime t m
-    → IsBetween t (if b then record m { heartbeat = moment_after t m.period; waiting = replaced Heartbeat (heartbeat_frame m.number) m.waiting } else m)
-beats_by t m true e h = record { heartbeat = goes_on t m.period (subst (IsNextOf t m.period) (is_the_moment t m.heartbeat e) h.heartbeat); sync = h.sync }
+    → IsBetween t (if b
+    then record m {
+      heartbeat = moment_after t m.period;
+      waiting = with_latest Heartbeat (heartbeat_frame m.number) m.waiting;
+    } else m)
+beats_by t m true e h = record {
+  heartbeat =
+      goes_on t m.period (subst (IsNextOf t m.period) (is_the_moment t m.heartbeat e) h.heartbeat);
+  sync = h.sync;
+}
 beats_by t m false e h = record { heartbeat = stays_next t m.period m.heartbeat e h.heartbeat; sync = h.sync }
 
 beats_between : (t : ℕ) (m : Manager) → IsOnTime t m → IsBetween t (heartbeats t m)
@@ -117,8 +129,13 @@ unfolding heartbeats
 beats_between t m h = beats_by t m (is_due t m.heartbeat) refl h
 
 syncs_by : (t : ℕ) (m : Manager) (b : Bool) → is_due t m.sync ≡ b → IsBetween t m
-    → IsOnTime (t + 1) (if b then record m { sync = moment_after t m.sync_period; waiting = replaced Sync sync_frame m.waiting } else m)
-syncs_by t m true e h = record { heartbeat = h.heartbeat; sync = goes_on t m.sync_period (subst (IsNextOf t m.sync_period) (is_the_moment t m.sync e) h.sync) }
+    → IsOnTime (t + 1)
+    (if b then record m { sync = moment_after t m.sync_period; waiting = with_latest Sync sync_frame m.waiting }
+    else m)
+syncs_by t m true e h = record {
+  heartbeat = h.heartbeat;
+  sync = goes_on t m.sync_period (subst (IsNextOf t m.sync_period) (is_the_moment t m.sync e) h.sync);
+}
 syncs_by t m false e h = record { heartbeat = h.heartbeat; sync = stays_next t m.sync_period m.sync e h.sync }
 
 syncs_on_time : (t : ℕ) (m : Manager) → IsBetween t m → IsOnTime (t + 1) (syncs t m)
@@ -131,13 +148,20 @@ time_outs_on_time t m h = record { heartbeat = h.heartbeat; sync = h.sync }
 
 pub timers_on_time : (t : ℕ) (m : Manager) → IsOnTime t m → IsOnTime (t + 1) (timers t m).0
 unfolding timers
-timers_on_time t m h = syncs_on_time t (heartbeats t (time_outs t m).0) (beats_between t (time_outs t m).0 (time_outs_on_time t m h))
+timers_on_time t m h = syncs_on_time t (heartbeats t (time_outs t m).0)
+    (beats_between t (time_outs t m).0 (time_outs_on_time t m h))
 
-pub command_on_time : (t : ℕ) (command : NmtCommand) (node : ℕ) (m : Manager) → IsOnTime t m → IsOnTime t (commanded command node m)
+pub command_on_time : (t : ℕ) (command : NmtCommand) (node : ℕ) (m : Manager) → IsOnTime t m
+    → IsOnTime t (with_command command node m)
 command_on_time t command node m h = record { heartbeat = h.heartbeat; sync = h.sync }
 
-pub frame_on_time : (image : Image) (t : ℕ) (frame : BaseFrame) (m : Manager) → IsOnTime t m → IsOnTime t (outcome (received t frame m) image).0
-frame_on_time image t frame m h = received_holds image t frame m (λ r read. IsOnTime t r.0) h (λ i e. record { heartbeat = h.heartbeat; sync = h.sync }) (λ i e. record { heartbeat = h.heartbeat; sync = h.sync })
+pub frame_on_time : (image : Image) (t : ℕ) (frame : BaseFrame) (m : Manager) → IsOnTime t m
+    → IsOnTime t (outcome (after_frame t frame m) image).0
+frame_on_time image t frame m h =
+    received_holds image t frame m (λ r read. IsOnTime t r.0) h (λ i e. record {
+      heartbeat = h.heartbeat;
+      sync = h.sync;
+    }) (λ i e. record { heartbeat = h.heartbeat; sync = h.sync })
 
 itself_at : (t : ℕ) → is_due t (Some t) ≡ true
 itself_at t = grind (arith, nat_tests)

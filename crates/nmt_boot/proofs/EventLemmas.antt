@@ -1,15 +1,16 @@
 -- An event of one node, as the rule of that node and what it does to the manager.
 use Rattle.std.proofs.Common.{◌≡◌, ℕ, ◌+◌, List, ◌++◌, refl, ◌∙◌, append_assoc}
 use Rattle.std.proofs.lemmas.List.{append-nil}
-use Rattle.asking.specs.Asking.{Asking, Answer, Seen, outcome, reads, followed, bind}
+use Rattle.asking.specs.Asking.{Asking, Answer, Seen, outcome, reads, after_reads, bind}
 use Rattle.asking.proofs.QuestionLemmas.{outcome_bind, reads_bind, followed_last}
 use Rattle.co_parts.specs.Contents.{Content, Image}
 use Rattle.co_parts.specs.declared.part.Part.{Part}
 use Rattle.node_boot.specs.Boot.{boot_nmt_slave, sdo_answer}
-use Rattle.nmt_boot.specs.Manager.{Manager, node_at, turned, begun, boots_at, answered_at, with_stage, sdo_frames, start_frames, notes_of, lost}
-use Rattle.can_frame.specs.WaitingFrames.{without}
+use Rattle.nmt_boot.specs.Manager.{Manager, node_at, after_step, after_boot_start, after_boot_at, after_answer_at}
+use Rattle.nmt_boot.specs.Manager.{with_stage, sdo_frames, start_frames, notes_of, note_of_loss}
+use Rattle.can_frame.specs.WaitingFrames.{without_unwanted}
 use Rattle.can_frame.specs.declared.unwanted.Unwanted.TheVariants.{SdoOf}
-use Rattle.nmt_boot.specs.Sending.{sent_by}
+use Rattle.nmt_boot.specs.Sending.{sending_of}
 use Rattle.can_frame.specs.declared.waiting.Waiting.{Waiting}
 use Rattle.nmt_boot.specs.declared.sent.Sent.{Sent}
 use Rattle.nmt_boot.specs.declared.booting.Booting.{Booting}
@@ -23,51 +24,93 @@ module _ {A B : Type 0} (m : Asking Part Content A) (f : A → B) where
   reads_then image = reads_bind m (λ a. Answer (f a)) image ∙ append-nil (reads m image)
 
 module _ (t i : ℕ) (m : Manager) where
-  pub boots_outcome : (image : Image) → outcome (boots_at t i m) image ≡ begun i m (outcome (boot_nmt_slave (t + m.timeout) (node_at m.nodes i).number) image)
-  unfolding boots_at
-  boots_outcome image = outcome_then (boot_nmt_slave (t + m.timeout) (node_at m.nodes i).number) (begun i m) image
+  pub boots_outcome : (image : Image) → outcome (after_boot_at t i m) image
+      ≡ after_boot_start i m (outcome (boot_nmt_slave (t + m.timeout) (node_at m.nodes i).number) image)
+  unfolding after_boot_at
+  boots_outcome image = outcome_then (boot_nmt_slave (t + m.timeout) (node_at m.nodes i).number)
+      (after_boot_start i m) image
 
-  pub boots_reads : (image : Image) → reads (boots_at t i m) image ≡ reads (boot_nmt_slave (t + m.timeout) (node_at m.nodes i).number) image
-  unfolding boots_at
-  boots_reads image = reads_then (boot_nmt_slave (t + m.timeout) (node_at m.nodes i).number) (begun i m) image
+  pub boots_reads : (image : Image) → reads (after_boot_at t i m) image
+      ≡ reads (boot_nmt_slave (t + m.timeout) (node_at m.nodes i).number) image
+  unfolding after_boot_at
+  boots_reads image = reads_then (boot_nmt_slave (t + m.timeout) (node_at m.nodes i).number)
+      (after_boot_start i m) image
 
-  pub boots_followed : (seen : Seen Part Content) → followed (boots_at t i m) seen ≡ followed (boot_nmt_slave (t + m.timeout) (node_at m.nodes i).number) seen
-  unfolding boots_at
-  boots_followed seen = followed_last (boot_nmt_slave (t + m.timeout) (node_at m.nodes i).number) (begun i m) seen
+  pub boots_followed : (seen : Seen Part Content)
+      → after_reads (after_boot_at t i m) seen
+      ≡ after_reads (boot_nmt_slave (t + m.timeout) (node_at m.nodes i).number) seen
+  unfolding after_boot_at
+  boots_followed seen = followed_last (boot_nmt_slave (t + m.timeout) (node_at m.nodes i).number)
+      (after_boot_start i m) seen
 
 module _ (t : ℕ) (answer : List ℕ) (i : ℕ) (m : Manager) where
-  pub answered_outcome : (image : Image) → outcome (answered_at t answer i m) image ≡ turned i (outcome (sdo_answer (t + m.timeout) (node_at m.nodes i).number (node_at m.nodes i).stage answer) image) m
-  unfolding answered_at
-  answered_outcome image = outcome_then (sdo_answer (t + m.timeout) (node_at m.nodes i).number (node_at m.nodes i).stage answer) (λ turn. turned i turn m) image
+  pub answered_outcome : (image : Image) → outcome (after_answer_at t answer i m) image
+      ≡ after_step i (outcome (sdo_answer (t + m.timeout)
+      (node_at m.nodes i).number (node_at m.nodes i).stage answer) image) m
+  unfolding after_answer_at
+  answered_outcome image = outcome_then (sdo_answer (t + m.timeout)
+      (node_at m.nodes i).number (node_at m.nodes i).stage answer) (λ step. after_step i step m) image
 
-  pub answered_reads : (image : Image) → reads (answered_at t answer i m) image ≡ reads (sdo_answer (t + m.timeout) (node_at m.nodes i).number (node_at m.nodes i).stage answer) image
-  unfolding answered_at
-  answered_reads image = reads_then (sdo_answer (t + m.timeout) (node_at m.nodes i).number (node_at m.nodes i).stage answer) (λ turn. turned i turn m) image
+  pub answered_reads : (image : Image) → reads (after_answer_at t answer i m) image
+      ≡ reads (sdo_answer (t + m.timeout) (node_at m.nodes i).number (node_at m.nodes i).stage answer) image
+  unfolding after_answer_at
+  answered_reads image = reads_then (sdo_answer (t + m.timeout)
+      (node_at m.nodes i).number (node_at m.nodes i).stage answer) (λ step. after_step i step m) image
 
-  pub answered_followed : (seen : Seen Part Content) → followed (answered_at t answer i m) seen ≡ followed (sdo_answer (t + m.timeout) (node_at m.nodes i).number (node_at m.nodes i).stage answer) seen
-  unfolding answered_at
-  answered_followed seen = followed_last (sdo_answer (t + m.timeout) (node_at m.nodes i).number (node_at m.nodes i).stage answer) (λ turn. turned i turn m) seen
+  pub answered_followed : (seen : Seen Part Content)
+      → after_reads (after_answer_at t answer i m) seen
+      ≡ after_reads (sdo_answer (t + m.timeout) (node_at m.nodes i).number (node_at m.nodes i).stage answer) seen
+  unfolding after_answer_at
+  answered_followed seen = followed_last (sdo_answer (t + m.timeout)
+      (node_at m.nodes i).number (node_at m.nodes i).stage answer) (λ step. after_step i step m) seen
 
 -- what the calls left, put together
 module _ (t i : ℕ) (m : Manager) (image : Image) (sent : Sent) (nodes : List Booting) (waiting : List Waiting) where
   pub boots_state :
       nodes ≡ with_stage m.nodes i (outcome (boot_nmt_slave (t + m.timeout) (node_at m.nodes i).number) image).stage →
-      sent ≡ sent_by (outcome (boot_nmt_slave (t + m.timeout) (node_at m.nodes i).number) image) →
-      waiting ≡ (without (SdoOf (node_at m.nodes i).number) m.waiting ++ sdo_frames (node_at m.nodes i).number sent.request) ++ start_frames (node_at m.nodes i).number sent.word →
-      record { spent = m.spent; number = m.number; timeout = m.timeout; period = m.period; heartbeat = m.heartbeat; sync_period = m.sync_period; sync = m.sync; nodes = nodes; waiting = waiting } ≡ (outcome (boots_at t i m) image).0
+      sent ≡ sending_of (outcome (boot_nmt_slave (t + m.timeout) (node_at m.nodes i).number) image) →
+      waiting ≡ (without_unwanted (SdoOf (node_at m.nodes i).number) m.waiting
+      ++ sdo_frames (node_at m.nodes i).number sent.request) ++ start_frames (node_at m.nodes i).number sent.note →
+      record {
+        spent = m.spent;
+        number = m.number;
+        timeout = m.timeout;
+        period = m.period;
+        heartbeat = m.heartbeat;
+        sync_period = m.sync_period;
+        sync = m.sync;
+        nodes = nodes;
+        waiting = waiting;
+      }
+      ≡ (outcome (after_boot_at t i m) image).0
   boots_state e f h = rw (boots_outcome t i m image, e, h, f) refl
 
   pub boots_notes : (before after between : List Note) →
-      sent ≡ sent_by (outcome (boot_nmt_slave (t + m.timeout) (node_at m.nodes i).number) image) →
-      between ≡ before ++ notes_of (node_at m.nodes i).number (lost (node_at m.nodes i).stage) →
-      after ≡ between ++ notes_of (node_at m.nodes i).number sent.word →
-      after ≡ before ++ (outcome (boots_at t i m) image).1
+      sent ≡ sending_of (outcome (boot_nmt_slave (t + m.timeout) (node_at m.nodes i).number) image) →
+      between ≡ before ++ notes_of (node_at m.nodes i).number (note_of_loss (node_at m.nodes i).stage) →
+      after ≡ between ++ notes_of (node_at m.nodes i).number sent.note →
+      after ≡ before ++ (outcome (after_boot_at t i m) image).1
   boots_notes before after between f h k = rw (boots_outcome t i m image, k, h, f) (append_assoc before _ _)
 
-module _ (t : ℕ) (answer : List ℕ) (i : ℕ) (m : Manager) (image : Image) (sent : Sent) (nodes : List Booting) (waiting : List Waiting) where
+module _ (t : ℕ) (answer : List ℕ) (i : ℕ) (m : Manager) (image : Image) (sent : Sent) (nodes : List Booting)
+    (waiting : List Waiting) where
   pub answered_state :
-      nodes ≡ with_stage m.nodes i (outcome (sdo_answer (t + m.timeout) (node_at m.nodes i).number (node_at m.nodes i).stage answer) image).stage →
-      sent ≡ sent_by (outcome (sdo_answer (t + m.timeout) (node_at m.nodes i).number (node_at m.nodes i).stage answer) image) →
-      waiting ≡ (m.waiting ++ sdo_frames (node_at m.nodes i).number sent.request) ++ start_frames (node_at m.nodes i).number sent.word →
-      record { spent = m.spent; number = m.number; timeout = m.timeout; period = m.period; heartbeat = m.heartbeat; sync_period = m.sync_period; sync = m.sync; nodes = nodes; waiting = waiting } ≡ (outcome (answered_at t answer i m) image).0
+      nodes ≡ with_stage m.nodes i (outcome (sdo_answer (t + m.timeout)
+      (node_at m.nodes i).number (node_at m.nodes i).stage answer) image).stage →
+      sent ≡ sending_of (outcome (sdo_answer (t + m.timeout)
+      (node_at m.nodes i).number (node_at m.nodes i).stage answer) image) →
+      waiting ≡ (m.waiting ++ sdo_frames (node_at m.nodes i).number sent.request)
+      ++ start_frames (node_at m.nodes i).number sent.note →
+      record {
+        spent = m.spent;
+        number = m.number;
+        timeout = m.timeout;
+        period = m.period;
+        heartbeat = m.heartbeat;
+        sync_period = m.sync_period;
+        sync = m.sync;
+        nodes = nodes;
+        waiting = waiting;
+      }
+      ≡ (outcome (after_answer_at t answer i m) image).0
   answered_state e f h = rw (answered_outcome t answer i m image, e, h, f) refl

@@ -9,30 +9,40 @@ use Rattle.co_parts.specs.declared.part.Part.{Part}
 use Rattle.nmt_boot.proofs.EventLemmas.{boots_outcome, boots_reads, answered_outcome, answered_reads}
 use Rattle.node_boot.proofs.ChoiceLemmas.{picked}
 use Rattle.node_boot.specs.Boot.{boot_nmt_slave, sdo_answer}
-use Rattle.nmt_boot.specs.Manager.{Manager, node_at, begun, turned, boot_up_event, sdo_event, is_boot_up, place_of, received}
+use Rattle.nmt_boot.specs.Manager.{Manager, node_at, after_boot_start, after_step, after_boot_up, after_sdo_frame}
+use Rattle.nmt_boot.specs.Manager.{is_boot_up, place_of, after_frame}
 use Rattle.nmt_boot.specs.declared.note.Note.{Note}
 
-module _ (image : Image) (t : ℕ) (frame : BaseFrame) (m : Manager) (P : Manager × List Note → List (Part × Content) → Type 0)
+module _ (image : Image) (t : ℕ) (frame : BaseFrame) (m : Manager)
+    (P : Manager × List Note → List (Part × Content) → Type 0)
     (nothing : P (m, []) [])
     (boots : (i : ℕ) → place_of (error_control_id 0) frame.id m.nodes ≡ Some i
-    → P (begun i m (outcome (boot_nmt_slave (t + m.timeout) (node_at m.nodes i).number) image)) (reads (boot_nmt_slave (t + m.timeout) (node_at m.nodes i).number) image))
+    → P (after_boot_start i m (outcome (boot_nmt_slave (t + m.timeout) (node_at m.nodes i).number) image))
+    (reads (boot_nmt_slave (t + m.timeout) (node_at m.nodes i).number) image))
     (answers : (i : ℕ) → place_of (sdo_answer_id 0) frame.id m.nodes ≡ Some i
-    → P (turned i (outcome (sdo_answer (t + m.timeout) (node_at m.nodes i).number (node_at m.nodes i).stage frame.bytes) image) m) (reads (sdo_answer (t + m.timeout) (node_at m.nodes i).number (node_at m.nodes i).stage frame.bytes) image)) where
-  abbrev Holds : Asking Part Content (Manager × List Note) → Type 0
-  Holds a = P (outcome a image) (reads a image)
+    → P (after_step i (outcome (sdo_answer (t + m.timeout)
+    (node_at m.nodes i).number (node_at m.nodes i).stage frame.bytes) image) m)
+    (reads (sdo_answer (t + m.timeout) (node_at m.nodes i).number (node_at m.nodes i).stage frame.bytes) image))
+  where
+    abbrev Holds : Asking Part Content (Manager × List Note) → Type 0
+    Holds a = P (outcome a image) (reads a image)
 
-  boot_up_holds : (place : Option ℕ) → place_of (error_control_id 0) frame.id m.nodes ≡ place → Holds (boot_up_event t place m)
-  unfolding boot_up_event
-  boot_up_holds None e = nothing
-  boot_up_holds (Some i) e = rw (boots_outcome t i m image, boots_reads t i m image) (boots i e)
+    boot_up_holds : (place : Option ℕ) → place_of (error_control_id 0) frame.id m.nodes ≡ place
+        → Holds (after_boot_up t place m)
+    unfolding after_boot_up
+    boot_up_holds None e = nothing
+    boot_up_holds (Some i) e = rw (boots_outcome t i m image, boots_reads t i m image) (boots i e)
 
-  answer_holds : (place : Option ℕ) → place_of (sdo_answer_id 0) frame.id m.nodes ≡ place → Holds (sdo_event t frame.bytes place m)
-  unfolding sdo_event
-  answer_holds None e = nothing
-  answer_holds (Some i) e = rw (answered_outcome t frame.bytes i m image, answered_reads t frame.bytes i m image) (answers i e)
+    answer_holds : (place : Option ℕ) → place_of (sdo_answer_id 0) frame.id m.nodes ≡ place
+        → Holds (after_sdo_frame t frame.bytes place m)
+    unfolding after_sdo_frame
+    answer_holds None e = nothing
+    answer_holds (Some i) e = rw (answered_outcome t frame.bytes i m image, answered_reads t frame.bytes i m image)
+        (answers i e)
 
-  pub received_holds : Holds (received t frame m)
-  unfolding received
-  received_holds =
-      picked Holds (is_boot_up frame.bytes) _ _ (boot_up_holds (place_of (error_control_id 0) frame.id m.nodes) refl)
-      (picked Holds (length frame.bytes == 8) _ _ (answer_holds (place_of (sdo_answer_id 0) frame.id m.nodes) refl) nothing)
+    pub received_holds : Holds (after_frame t frame m)
+    unfolding after_frame
+    received_holds =
+        picked Holds (is_boot_up frame.bytes) _ _ (boot_up_holds (place_of (error_control_id 0) frame.id m.nodes) refl)
+        (picked Holds (length frame.bytes == 8) _ _ (answer_holds (place_of (sdo_answer_id 0) frame.id m.nodes) refl)
+        nothing)

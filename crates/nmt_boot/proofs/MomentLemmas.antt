@@ -1,16 +1,18 @@
 -- When the manager is due.
-use Rattle.std.proofs.Common.{◌≡◌, ℕ, ◌+◌, ◌≤◌, Bool, true, false, List, [], ◌∷◌, ◌++◌, map, Option, Some, None, IfSome, refl, ap, ◌∙◌, arith}
+use Rattle.std.proofs.Common.{◌≡◌, ℕ, ◌+◌, ◌≤◌, Bool, true, false, List, [], ◌∷◌, ◌++◌, map, Option, Some, None, IfSome}
+use Rattle.std.proofs.Common.{refl, ap, ◌∙◌, arith}
 use Rattle.std.specs.Prelude.{All, if◌then◌else◌, ◌==◌}
 use Rattle.std.proofs.lemmas.Bool.Decides.{nat_tests}
 use Rattle.std.proofs.lemmas.List.Elements.{All-append, All-cons, All-head, All-nil, All-tail}
-use Rattle.can_frame.specs.WaitingFrames.{replaced}
+use Rattle.can_frame.specs.WaitingFrames.{with_latest}
 use Rattle.can_frame.specs.declared.purpose.Purpose.TheVariants.{Heartbeat, Sync}
 use Rattle.can_frame.specs.declared.waiting.Waiting.{Waiting}
 use Rattle.co_scenario.specs.declared.nmt_command.NmtCommand.{NmtCommand}
 use Rattle.co_parts.specs.Moments.{is_due, moment_after, moments_of}
 use Rattle.nmt_boot.specs.Ahead.{IsAhead}
 use Rattle.node_boot.specs.Boot.{deadline_of, is_at, is_timed_out, sdo_time_out}
-use Rattle.nmt_boot.specs.Manager.{Manager, commanded, deadlines, heartbeat_frame, heartbeats, moments, node_after, notes_after_all, queue_after_all, sync_frame, syncs, time_outs, timers}
+use Rattle.nmt_boot.specs.Manager.{Manager, with_command, deadlines, heartbeat_frame, heartbeats, moments, node_after}
+use Rattle.nmt_boot.specs.Manager.{notes_after_all, queue_after_all, sync_frame, syncs, time_outs, timers}
 use Rattle.node_boot.specs.declared.boot_stage.BootStage.{BootStage}
 use Rattle.nmt_boot.specs.declared.booting.Booting.{Booting}
 use Rattle.nmt_boot.specs.declared.note.Note.{Note}
@@ -56,7 +58,8 @@ module _ (t : ℕ) where
   from_nodes : (ns : List Booting) → AreFrom t ns → AllFrom (deadlines ns)
   unfolding deadlines
   from_nodes [] h = All-nil (λ d. t ≤ d)
-  from_nodes (n ∷ ns) h = All-append (λ d. t ≤ d) (moments_of (deadline_of n.stage)) (deadlines ns) (from_some (deadline_of n.stage) h.0) (from_nodes ns h.1)
+  from_nodes (n ∷ ns) h = All-append (λ d. t ≤ d) (moments_of (deadline_of n.stage)) (deadlines ns)
+      (from_some (deadline_of n.stage) h.0) (from_nodes ns h.1)
 
   pub from_ahead : (m : Manager) → IsAhead t m → IsFrom t m
   unfolding moments
@@ -72,8 +75,10 @@ module _ (t : ℕ) where
   pub ahead_from : (m : Manager) → IsFrom t m → IsAhead t m
   unfolding moments
   ahead_from m h =
-      All-append (λ d. t ≤ d) (moments_of m.heartbeat) (moments_of m.sync ++ deadlines m.nodes) (from_some m.heartbeat h.heartbeat)
-      (All-append (λ d. t ≤ d) (moments_of m.sync) (deadlines m.nodes) (from_some m.sync h.sync) (from_nodes m.nodes h.nodes))
+      All-append (λ d. t ≤ d) (moments_of m.heartbeat) (moments_of m.sync ++ deadlines m.nodes)
+      (from_some m.heartbeat h.heartbeat)
+      (All-append (λ d. t ≤ d) (moments_of m.sync) (deadlines m.nodes) (from_some m.sync h.sync)
+      (from_nodes m.nodes h.nodes))
 
 -- ---- nothing happens before the first moment
 
@@ -99,7 +104,11 @@ quiet_notes t (n ∷ ns) h = rw (not_at t (deadline_of n.stage) h.0) (quiet_note
 
 quiet_time_outs : (t : ℕ) (m : Manager) → AreFrom (t + 1) m.nodes → time_outs t m ≡ (m, [])
 unfolding time_outs
-quiet_time_outs t m from = rw (quiet_nodes t m.nodes from, quiet_queue t m.nodes m.waiting from, quiet_notes t m.nodes from) refl
+quiet_time_outs t m from = rw (
+  quiet_nodes t m.nodes from,
+  quiet_queue t m.nodes m.waiting from,
+  quiet_notes t m.nodes from,
+) refl
 
 quiet_beats : (t : ℕ) (m : Manager) → IfSome m.heartbeat (λ d. t + 1 ≤ d) → heartbeats t m ≡ m
 unfolding heartbeats
@@ -127,7 +136,9 @@ stays_later : (t : ℕ) (o : Option ℕ) → is_due t o ≡ false → IfSome o (
 stays_later t None e h = tt
 stays_later t (Some d) e h = grind (arith, nat_tests)
 
-later_of : (t : ℕ) (b : Bool) (n : Booting) (s : BootStage) → is_at t (deadline_of n.stage) ≡ b → deadline_of s ≡ None → IfSome (deadline_of n.stage) (λ d. t ≤ d) → IfSome (deadline_of (if b then record n { stage = s } else n).stage) (λ d. t + 1 ≤ d)
+later_of : (t : ℕ) (b : Bool) (n : Booting) (s : BootStage) → is_at t (deadline_of n.stage) ≡ b → deadline_of s ≡ None
+    → IfSome (deadline_of n.stage) (λ d. t ≤ d)
+    → IfSome (deadline_of (if b then record n { stage = s } else n).stage) (λ d. t + 1 ≤ d)
 later_of t true n s e f h = rw f tt
 later_of t false n s e f h = waits_later t (deadline_of n.stage) e h
 
@@ -137,12 +148,16 @@ ended s = refl
 
 nodes_later : (t : ℕ) (ns : List Booting) → AreFrom t ns → AreFrom (t + 1) (map (node_after t) ns)
 nodes_later t [] h = tt
-nodes_later t (n ∷ ns) h = (later_of t (is_timed_out t n.stage) n (sdo_time_out n.stage).stage refl (ended n.stage) h.0, nodes_later t ns h.1)
+nodes_later t (n ∷ ns) h = (
+  later_of t (is_timed_out t n.stage) n (sdo_time_out n.stage).stage refl (ended n.stage) h.0,
+  nodes_later t ns h.1,
+)
 
 above_zero : (n : ℕ) → (n == 0) ≡ false → 1 ≤ n
 above_zero n e = grind (arith, nat_tests)
 
-period_by : (t period : ℕ) (b : Bool) → (period == 0) ≡ b → IfSome (if b then None else Some (t + period)) (λ d. t + 1 ≤ d)
+period_by : (t period : ℕ) (b : Bool) → (period == 0) ≡ b
+    → IfSome (if b then None else Some (t + period)) (λ d. t + 1 ≤ d)
 period_by t period true e = tt
 period_by t period false e = let h = above_zero period e in omega (arith, h)
 
@@ -155,17 +170,25 @@ record IsBetween (t : ℕ) (m : Manager) : Type 0 where
   sync : IfSome m.sync (λ d. t ≤ d)
   nodes : AreFrom (t + 1) m.nodes
 
-beats_by : (t : ℕ) (m : Manager) (b : Bool) → is_due t m.heartbeat ≡ b → IfSome m.heartbeat (λ d. t ≤ d) → IfSome m.sync (λ d. t ≤ d) → AreFrom (t + 1) m.nodes
-    → IsBetween t (if b then record m { heartbeat = moment_after t m.period; waiting = replaced Heartbeat (heartbeat_frame m.number) m.waiting } else m)
+beats_by : (t : ℕ) (m : Manager) (b : Bool) → is_due t m.heartbeat ≡ b → IfSome m.heartbeat (λ d. t ≤ d)
+    → IfSome m.sync (λ d. t ≤ d) → AreFrom (t + 1) m.nodes
+    → IsBetween t (if b
+    then record m {
+      heartbeat = moment_after t m.period;
+      waiting = with_latest Heartbeat (heartbeat_frame m.number) m.waiting;
+    } else m)
 beats_by t m true e h sync nodes = record { heartbeat = period_later t m.period; sync = sync; nodes = nodes }
 beats_by t m false e h sync nodes = record { heartbeat = stays_later t m.heartbeat e h; sync = sync; nodes = nodes }
 
-beats_later : (t : ℕ) (m : Manager) → IfSome m.heartbeat (λ d. t ≤ d) → IfSome m.sync (λ d. t ≤ d) → AreFrom (t + 1) m.nodes → IsBetween t (heartbeats t m)
+beats_later : (t : ℕ) (m : Manager) → IfSome m.heartbeat (λ d. t ≤ d) → IfSome m.sync (λ d. t ≤ d)
+    → AreFrom (t + 1) m.nodes → IsBetween t (heartbeats t m)
 unfolding heartbeats
 beats_later t m h sync nodes = beats_by t m (is_due t m.heartbeat) refl h sync nodes
 
 syncs_by : (t : ℕ) (m : Manager) (b : Bool) → is_due t m.sync ≡ b → IsBetween t m
-    → IsFrom (t + 1) (if b then record m { sync = moment_after t m.sync_period; waiting = replaced Sync sync_frame m.waiting } else m)
+    → IsFrom (t + 1)
+    (if b then record m { sync = moment_after t m.sync_period; waiting = with_latest Sync sync_frame m.waiting }
+    else m)
 syncs_by t m true e h = record { heartbeat = h.heartbeat; sync = period_later t m.sync_period; nodes = h.nodes }
 syncs_by t m false e h = record { heartbeat = h.heartbeat; sync = stays_later t m.sync e h.sync; nodes = h.nodes }
 
@@ -184,6 +207,7 @@ due_later t m h =
     ahead_from (t + 1) (timers t m).0 (syncs_later t (heartbeats t (time_outs t m).0) between)
 
 -- a command sets no moment
-pub command_ahead : (t : ℕ) (command : NmtCommand) (node : ℕ) (m : Manager) → IsAhead t m → IsAhead t (commanded command node m)
+pub command_ahead : (t : ℕ) (command : NmtCommand) (node : ℕ) (m : Manager) → IsAhead t m
+    → IsAhead t (with_command command node m)
 unfolding moments
 command_ahead t command node m h = h

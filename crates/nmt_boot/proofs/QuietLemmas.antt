@@ -12,7 +12,8 @@ use Rattle.nmt_boot.specs.declared.booting.Booting.{Booting}
 abbrev pub IsQuiet : ℕ → List Booting → Type 0
 IsQuiet t nodes = IfSome (earliest (deadlines nodes)) (λ first. t < first)
 
-both_later : (t : ℕ) (a b : Option ℕ) → IfSome (earlier a b) (λ d. t < d) → IfSome a (λ d. t + 1 ≤ d) × IfSome b (λ d. t < d)
+both_later : (t : ℕ) (a b : Option ℕ) → IfSome (earlier a b) (λ d. t < d)
+    → IfSome a (λ d. t + 1 ≤ d) × IfSome b (λ d. t < d)
 both_later t None b h = (tt, h)
 both_later t (Some a) None h = (omega (arith, h), tt)
 both_later t (Some a) (Some b) h = (omega (arith, h), omega (arith, h))
@@ -21,7 +22,8 @@ are_from : (t : ℕ) (ns : List Booting) → IsQuiet t ns → AreFrom (t + 1) ns
 unfolding deadlines
 are_from t [] h = tt
 are_from t (n ∷ ns) h =
-    let both = both_later t (deadline_of n.stage) (earliest (deadlines ns)) (subst (λ (o : Option ℕ). IfSome o (λ first. t < first)) (first_then (deadline_of n.stage) (deadlines ns)) h) in
+    let both = both_later t (deadline_of n.stage) (earliest (deadlines ns))
+    (subst (λ (o : Option ℕ). IfSome o (λ first. t < first)) (first_then (deadline_of n.stage) (deadlines ns)) h) in
     (both.0, are_from t ns both.1)
 
 pub nodes_stay : (t : ℕ) (ns : List Booting) → IsQuiet t ns → map (node_after t) ns ≡ ns

@@ -5,10 +5,10 @@ use Rattle.co_parts.specs.declared.part.Part.{Part}
 use Rattle.nmt_boot.specs.Manager.{Manager, node_at}
 use Rattle.nmt_boot.specs.declared.note.Note.{Note}
 use Rattle.node_boot.specs.Ends.{IsAbsent, IsAtLast}
-use Rattle.node_boot.specs.declared.word.Word.TheVariants as word
+use Rattle.node_boot.specs.declared.note_kind.NoteKind.TheVariants as kind
 
 abbrev pub configured_note : ℕ → Note
-configured_note node = record { node = node; word = word.Configured }
+configured_note node = record { node = node; kind = kind.Configured }
 
 -- the writes of a node end: one was asked for and is absent, or the one with the greatest number was under way
 abbrev pub WritesEnd : Image → Manager → ℕ → List (Part × Content) → Type 0

@@ -1,6 +1,6 @@
--- What a turn queues and notes.
+-- What a step queues and notes.
 use Rattle.nmt_boot.specs.declared.sent.Sent.{Sent}
-use Rattle.node_boot.specs.declared.turn.Turn.{Turn}
+use Rattle.node_boot.specs.declared.boot_step.BootStep.{BootStep}
 
-abbrev pub sent_by : Turn → Sent
-sent_by turn = record { request = turn.request; word = turn.word }
+abbrev pub sending_of : BootStep → Sent
+sending_of step = record { request = step.request; note = step.note }

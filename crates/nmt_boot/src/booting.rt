@@ -1,15 +1,17 @@
 //! A node and its boot.
 
 ghost use Rattle.std.specs.Prelude.{◌≡◌, ◌≤◌, ◌+◌, ◌++◌, ◌↔◌, length, IfOk, IsTrue, OnOk};
-ghost use Rattle.asking.specs.Asking.{followed, outcome, reads};
+ghost use Rattle.asking.specs.Asking.{after_reads, outcome, reads};
 ghost use Rattle.node_boot.specs.Boot as rules;
-ghost use Rattle.nmt_boot.specs.Manager.{lost as lost_by, node_after, notes_after, queue_after};
+ghost use Rattle.nmt_boot.specs.Manager.{note_of_loss as lost_by, node_after, notes_after, queue_after};
 
 use crate::notes::Notes;
 use crate::sent::Sent;
 use crate::telling::tell;
 use can_frame::{Pending, Unwanted};
-use node_boot::{BootStage, Boots, Word, boot_nmt_slave, is_timed_out, sdo_answer, sdo_time_out};
+use node_boot::{
+    BootStage, Boots, NoteKind, boot_nmt_slave, is_timed_out, sdo_answer, sdo_time_out,
+};
 use std::alloc::{AllocError, Global};
 use std::mem;
 
@@ -42,11 +44,11 @@ impl Booting {
     }
 
     /// What is noted where the node boots anew.
-    pub(crate) fn lost(&self) -> Option<Word>
+    pub(crate) fn lost(&self) -> Option<NoteKind>
         ensures { result ≡ lost_by self.now.stage }
     {
         match self.stage {
-            BootStage::Configured => Some(Word::Lost),
+            BootStage::Configured => Some(NoteKind::Lost),
             _ => None,
         }
     }
@@ -58,17 +60,21 @@ impl Booting {
         deadline: u64,
         boots: &mut P,
     ) -> Result<Sent, AllocError>
-        ensures state { IfOk result (λ sent. outcome (rules.boot_nmt_slave deadline self.old.number) (P.seen boots.old).image ≡ record { stage = self.new.stage; request = sent.request; word = sent.word }) }
+        ensures state { IfOk result (λ sent. outcome (rules.boot_nmt_slave deadline self.old.number)
+            (P.seen boots.old).image ≡ record { stage = self.new.stage; request = sent.request; note = sent.note }) }
         ensures number { OnOk result (self.new.number ≡ self.old.number) }
-        ensures noted { OnOk result (P.seen boots.new ≡ followed (rules.boot_nmt_slave deadline self.old.number) (P.seen boots.old)) }
-        ensures counted { OnOk result (P.asks boots.new ≤ P.asks boots.old + length (reads (rules.boot_nmt_slave deadline self.old.number) (P.seen boots.old).image)) }
+        ensures noted { OnOk result (P.seen boots.new ≡ after_reads (rules.boot_nmt_slave deadline self.old.number)
+            (P.seen boots.old)) }
+        ensures counted { OnOk result (P.asks boots.new
+            ≤ P.asks boots.old + length (reads (rules.boot_nmt_slave deadline self.old.number)
+            (P.seen boots.old).image)) }
         ensures kept { (P.seen boots.new).image ≡ (P.seen boots.old).image }
     {
-        let turn = boot_nmt_slave(alloc, deadline, self.number, boots)?;
-        self.stage = turn.stage;
+        let step = boot_nmt_slave(alloc, deadline, self.number, boots)?;
+        self.stage = step.stage;
         Ok(Sent {
-            request: turn.request,
-            word: turn.word,
+            request: step.request,
+            note: step.note,
         })
     }
 
@@ -80,18 +86,23 @@ impl Booting {
         answer: &[u8; 8],
         boots: &mut P,
     ) -> Result<Sent, AllocError>
-        ensures state { IfOk result (λ sent. outcome (rules.sdo_answer deadline self.old.number self.old.stage answer.now) (P.seen boots.old).image ≡ record { stage = self.new.stage; request = sent.request; word = sent.word }) }
+        ensures state { IfOk result (λ sent. outcome
+            (rules.sdo_answer deadline self.old.number self.old.stage answer.now) (P.seen boots.old).image
+            ≡ record { stage = self.new.stage; request = sent.request; note = sent.note }) }
         ensures number { OnOk result (self.new.number ≡ self.old.number) }
-        ensures noted { OnOk result (P.seen boots.new ≡ followed (rules.sdo_answer deadline self.old.number self.old.stage answer.now) (P.seen boots.old)) }
-        ensures counted { OnOk result (P.asks boots.new ≤ P.asks boots.old + length (reads (rules.sdo_answer deadline self.old.number self.old.stage answer.now) (P.seen boots.old).image)) }
+        ensures noted { OnOk result (P.seen boots.new
+            ≡ after_reads (rules.sdo_answer deadline self.old.number self.old.stage answer.now) (P.seen boots.old)) }
+        ensures counted { OnOk result (P.asks boots.new
+            ≤ P.asks boots.old + length (reads (rules.sdo_answer deadline self.old.number self.old.stage answer.now)
+            (P.seen boots.old).image)) }
         ensures kept { (P.seen boots.new).image ≡ (P.seen boots.old).image }
     {
         let stage = mem::replace(&mut self.stage, BootStage::Unseen);
-        let turn = sdo_answer(alloc, deadline, self.number, stage, answer, boots)?;
-        self.stage = turn.stage;
+        let step = sdo_answer(alloc, deadline, self.number, stage, answer, boots)?;
+        self.stage = step.stage;
         Ok(Sent {
-            request: turn.request,
-            word: turn.word,
+            request: step.request,
+            note: step.note,
         })
     }
 
@@ -110,11 +121,11 @@ impl Booting {
             return Ok(());
         }
         waiting.drop_of(Unwanted::SdoOf(self.number));
-        let turn = sdo_time_out(&self.stage);
-        self.stage = turn.stage;
+        let step = sdo_time_out(&self.stage);
+        self.stage = step.stage;
         let sent = Sent {
-            request: turn.request,
-            word: turn.word,
+            request: step.request,
+            note: step.note,
         };
         tell(waiting, notes, self.number, sent)
     }

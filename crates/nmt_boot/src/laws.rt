@@ -12,7 +12,8 @@ ghost use Rattle.co_scenario.specs.declared.nmt_command.NmtCommand.{NmtCommand};
 ghost use Rattle.nmt_boot.specs.Ahead.{IsAhead};
 ghost use Rattle.nmt_boot.specs.Beats.{IsMultiple, IsOnTime};
 ghost use Rattle.nmt_boot.specs.Ends.{configured_note, WritesEnd};
-ghost use Rattle.nmt_boot.specs.Manager.{Manager as State, commanded, node_at, powered_on, received, timers};
+ghost use Rattle.nmt_boot.specs.Manager.{Manager as State, with_command, node_at, manager_at_power_on, after_frame};
+ghost use Rattle.nmt_boot.specs.Manager.{timers};
 
 /// Before the first of its moments nothing happens to the manager, and nothing is noted.
 #[tactic(auto, using(crate::proofs::MomentLemmas::quiet))]
@@ -30,14 +31,17 @@ pub fn due_after()
 /// A frame that comes at a moment sets no moment before it, and nor does a command.
 #[tactic(auto, using(crate::proofs::AheadLemmas::frame_ahead, crate::proofs::MomentLemmas::command_ahead))]
 pub fn a_frame_sets_no_earlier_moment()
-    ensures frames { (image : Image) (t : ℕ) (frame : BaseFrame) (m : State) → IsAhead t m → IsAhead t (outcome (received t frame m) image).0 }
-    ensures commands { (t : ℕ) (command : NmtCommand) (node : ℕ) (m : State) → IsAhead t m → IsAhead t (commanded command node m) }
+    ensures frames { (image : Image) (t : ℕ) (frame : BaseFrame) (m : State) → IsAhead t m
+        → IsAhead t (outcome (after_frame t frame m) image).0 }
+    ensures commands { (t : ℕ) (command : NmtCommand) (node : ℕ) (m : State) → IsAhead t m
+        → IsAhead t (with_command command node m) }
 {}
 
 /// Under two images that agree on what is read under the first, a frame does the same.
 #[tactic(auto, using(asking::proofs::QuestionLemmas::two_images))]
 pub fn two_images()
-    ensures { (first second : Image) (t : ℕ) (frame : BaseFrame) (m : State) → Agrees second (reads (received t frame m) first) → AreAlike (received t frame m) first second }
+    ensures { (first second : Image) (t : ℕ) (frame : BaseFrame) (m : State)
+        → Agrees second (reads (after_frame t frame m) first) → AreAlike (after_frame t frame m) first second }
 {}
 
 /// A frame changes the boot of no node but that whose boot-up or SDO answer it is.
@@ -45,7 +49,7 @@ pub fn two_images()
 pub fn a_frame_changes_its_node_alone()
     ensures { (image : Image) (t : ℕ) (frame : BaseFrame) (m : State) (j : ℕ)
         → error_control_id (node_at m.nodes j).number ≢ frame.id → sdo_answer_id (node_at m.nodes j).number ≢ frame.id
-        → node_at (outcome (received t frame m) image).0.nodes j ≡ node_at m.nodes j }
+        → node_at (outcome (after_frame t frame m) image).0.nodes j ≡ node_at m.nodes j }
 {}
 
 /// Heartbeats come at the whole multiples of their period above 0, and at no other moment, and so does SYNC:
@@ -53,9 +57,11 @@ pub fn a_frame_changes_its_node_alone()
 /// timers of each moment.
 #[tactic(auto, using(crate::proofs::BeatLemmas::on_time_first, crate::proofs::BeatLemmas::frame_on_time, crate::proofs::BeatLemmas::command_on_time, crate::proofs::BeatLemmas::timers_on_time, crate::proofs::BeatLemmas::beat_at_multiples, crate::proofs::BeatLemmas::sync_at_multiples))]
 pub fn heartbeats_and_sync_come_at_whole_multiples()
-    ensures first { (network : Network) → IsOnTime 0 (powered_on network) }
-    ensures frames { (image : Image) (t : ℕ) (frame : BaseFrame) (m : State) → IsOnTime t m → IsOnTime t (outcome (received t frame m) image).0 }
-    ensures commands { (t : ℕ) (command : NmtCommand) (node : ℕ) (m : State) → IsOnTime t m → IsOnTime t (commanded command node m) }
+    ensures first { (network : Network) → IsOnTime 0 (manager_at_power_on network) }
+    ensures frames { (image : Image) (t : ℕ) (frame : BaseFrame) (m : State) → IsOnTime t m
+        → IsOnTime t (outcome (after_frame t frame m) image).0 }
+    ensures commands { (t : ℕ) (command : NmtCommand) (node : ℕ) (m : State) → IsOnTime t m
+        → IsOnTime t (with_command command node m) }
     ensures timers { (t : ℕ) (m : State) → IsOnTime t m → IsOnTime (t + 1) (timers t m).0 }
     ensures heartbeat { (t : ℕ) (m : State) → IsOnTime t m → (is_due t m.heartbeat ≡ true) ↔ IsMultiple t m.period }
     ensures sync { (t : ℕ) (m : State) → IsOnTime t m → (is_due t m.sync ≡ true) ↔ IsMultiple t m.sync_period }
@@ -65,6 +71,7 @@ pub fn heartbeats_and_sync_come_at_whole_multiples()
 /// the write with the greatest number was under way; never by timers.
 pub fn a_boot_ends_with_its_writes()
     ensures frames { (image : Image) (t : ℕ) (frame : BaseFrame) (m : State) (node : ℕ)
-        → Contains (outcome (received t frame m) image).1 (configured_note node) → WritesEnd image m node (reads (received t frame m) image) }
+        → Contains (outcome (after_frame t frame m) image).1 (configured_note node)
+        → WritesEnd image m node (reads (after_frame t frame m) image) }
     ensures timers { (t : ℕ) (m : State) (node : ℕ) → Contains (timers t m).1 (configured_note node) → ⊥ }
 {}

@@ -1,7 +1,8 @@
 //! The manager at a moment.
 
-ghost use Rattle.std.specs.Prelude.{◌≡◌, ◌<◌, ◌≤◌, ◌+◌, ◌*◌, ◌^◌, ◌++◌, ◌↔◌, Some, length, remove, slice_get, IfOk, IfSome, OnOk, OnErr, IsErr, IsTrue};
-ghost use Rattle.asking.specs.Asking.{followed, outcome, reads};
+ghost use Rattle.std.specs.Prelude.{◌≡◌, ◌<◌, ◌≤◌, ◌+◌, ◌*◌, ◌^◌, ◌++◌, ◌↔◌, Some, length, remove, slice_get, IfOk};
+ghost use Rattle.std.specs.Prelude.{IfSome, OnOk, OnErr, IsErr, IsTrue};
+ghost use Rattle.asking.specs.Asking.{after_reads, outcome, reads};
 ghost use Rattle.can_frame.specs.Winner.{contenders_of, IsWinner};
 ghost use Rattle.nmt_boot.specs.Manager as rules;
 
@@ -40,7 +41,17 @@ impl Model for Manager {
 
     ghost Value = { State };
 
-    ghost view = { λ m. record { spent = m.spent; number = m.number; timeout = m.timeout; period = m.period; heartbeat = m.heartbeat; sync_period = m.sync_period; sync = m.sync; nodes = m.nodes; waiting = m.waiting } };
+    ghost view = { λ m. record {
+      spent = m.spent;
+      number = m.number;
+      timeout = m.timeout;
+      period = m.period;
+      heartbeat = m.heartbeat;
+      sync_period = m.sync_period;
+      sync = m.sync;
+      nodes = m.nodes;
+      waiting = m.waiting;
+    } };
 
     ghost invariant = { λ m. (m.timeout < 1000 * 2 ^ 16) × (m.period < 1000 * 2 ^ 16) × (m.sync_period < 2 ^ 32) };
 }
@@ -113,9 +124,9 @@ impl Manager {
     }
 
     /// The manager of a network as the power comes on, at time 0. Takes time by the number of nodes.
-    #[tactic(auto, unfolding(crate::specs::Manager::powered_on))]
+    #[tactic(auto, unfolding(crate::specs::Manager::manager_at_power_on))]
     pub fn powered_on(alloc: Global, roster: &Roster) -> Result<Manager, AllocError>
-        ensures { IfOk result (λ manager. manager ≡ rules.powered_on roster.now) }
+        ensures { IfOk result (λ manager. manager ≡ rules.manager_at_power_on roster.now) }
     {
         let period = microseconds(roster.heartbeat_ms);
         let sync_period = sync_time(roster);
@@ -163,7 +174,8 @@ impl Manager {
 
     /// Whether heartbeat and SYNC of two managers come at the same moments.
     fn has_times_of(&self, other: &Manager) -> bool
-        ensures { IsTrue result ↔ ((self.now.period ≡ other.now.period) × (self.now.heartbeat ≡ other.now.heartbeat) × (self.now.sync_period ≡ other.now.sync_period) × (self.now.sync ≡ other.now.sync)) }
+        ensures { IsTrue result ↔ ((self.now.period ≡ other.now.period) × (self.now.heartbeat ≡ other.now.heartbeat)
+            × (self.now.sync_period ≡ other.now.sync_period) × (self.now.sync ≡ other.now.sync)) }
     {
         self.period == other.period
             && self.heartbeat == other.heartbeat
@@ -259,10 +271,14 @@ impl Manager {
     ) -> Result<(), AllocError>
         requires soon { t < END }
         requires within { i < length self.now.nodes }
-        ensures state { OnOk result (self.new ≡ (outcome (rules.boots_at t i self.old) (P.seen boots.old).image).0) }
-        ensures notes { OnOk result (notes.new ≡ notes.old ++ (outcome (rules.boots_at t i self.old) (P.seen boots.old).image).1) }
-        ensures noted { OnOk result (P.seen boots.new ≡ followed (rules.boots_at t i self.old) (P.seen boots.old)) }
-        ensures counted { OnOk result (P.asks boots.new ≤ P.asks boots.old + length (reads (rules.boots_at t i self.old) (P.seen boots.old).image)) }
+        ensures state { OnOk result (self.new ≡ (outcome (rules.after_boot_at t i self.old)
+            (P.seen boots.old).image).0) }
+        ensures notes { OnOk result (notes.new ≡ notes.old
+            ++ (outcome (rules.after_boot_at t i self.old) (P.seen boots.old).image).1) }
+        ensures noted { OnOk result (P.seen boots.new ≡ after_reads (rules.after_boot_at t i self.old)
+            (P.seen boots.old)) }
+        ensures counted { OnOk result (P.asks boots.new
+            ≤ P.asks boots.old + length (reads (rules.after_boot_at t i self.old) (P.seen boots.old).image)) }
         ensures kept { (P.seen boots.new).image ≡ (P.seen boots.old).image }
     {
         let deadline = t + self.timeout();
@@ -286,10 +302,15 @@ impl Manager {
     ) -> Result<(), AllocError>
         requires soon { t < END }
         requires within { i < length self.now.nodes }
-        ensures state { OnOk result (self.new ≡ (outcome (rules.answered_at t answer.now i self.old) (P.seen boots.old).image).0) }
-        ensures notes { OnOk result (notes.new ≡ notes.old ++ (outcome (rules.answered_at t answer.now i self.old) (P.seen boots.old).image).1) }
-        ensures noted { OnOk result (P.seen boots.new ≡ followed (rules.answered_at t answer.now i self.old) (P.seen boots.old)) }
-        ensures counted { OnOk result (P.asks boots.new ≤ P.asks boots.old + length (reads (rules.answered_at t answer.now i self.old) (P.seen boots.old).image)) }
+        ensures state { OnOk result (self.new ≡ (outcome (rules.after_answer_at t answer.now i self.old)
+            (P.seen boots.old).image).0) }
+        ensures notes { OnOk result (notes.new ≡ notes.old
+            ++ (outcome (rules.after_answer_at t answer.now i self.old) (P.seen boots.old).image).1) }
+        ensures noted { OnOk result (P.seen boots.new ≡ after_reads (rules.after_answer_at t answer.now i self.old)
+            (P.seen boots.old)) }
+        ensures counted { OnOk result (P.asks boots.new
+            ≤ P.asks boots.old + length (reads (rules.after_answer_at t answer.now i self.old)
+            (P.seen boots.old).image)) }
         ensures kept { (P.seen boots.new).image ≡ (P.seen boots.old).image }
     {
         let deadline = t + self.timeout();
@@ -302,7 +323,7 @@ impl Manager {
     }
 
     /// The boot-up of the node at a place of the table, if there is one.
-    #[tactic(auto, unfolding(crate::specs::Manager::boot_up_event))]
+    #[tactic(auto, unfolding(crate::specs::Manager::after_boot_up))]
     fn take_boot_up<P: Boots>(
         &mut self,
         t: u64,
@@ -312,10 +333,14 @@ impl Manager {
     ) -> Result<(), AllocError>
         requires soon { t < END }
         requires within { IfSome place (λ i. i < length self.now.nodes) }
-        ensures state { OnOk result (self.new ≡ (outcome (rules.boot_up_event t place self.old) (P.seen boots.old).image).0) }
-        ensures notes { OnOk result (notes.new ≡ notes.old ++ (outcome (rules.boot_up_event t place self.old) (P.seen boots.old).image).1) }
-        ensures noted { OnOk result (P.seen boots.new ≡ followed (rules.boot_up_event t place self.old) (P.seen boots.old)) }
-        ensures counted { OnOk result (P.asks boots.new ≤ P.asks boots.old + length (reads (rules.boot_up_event t place self.old) (P.seen boots.old).image)) }
+        ensures state { OnOk result (self.new ≡ (outcome (rules.after_boot_up t place self.old)
+            (P.seen boots.old).image).0) }
+        ensures notes { OnOk result (notes.new ≡ notes.old
+            ++ (outcome (rules.after_boot_up t place self.old) (P.seen boots.old).image).1) }
+        ensures noted { OnOk result (P.seen boots.new ≡ after_reads (rules.after_boot_up t place self.old)
+            (P.seen boots.old)) }
+        ensures counted { OnOk result (P.asks boots.new
+            ≤ P.asks boots.old + length (reads (rules.after_boot_up t place self.old) (P.seen boots.old).image)) }
         ensures kept { (P.seen boots.new).image ≡ (P.seen boots.old).image }
     {
         match place {
@@ -325,7 +350,7 @@ impl Manager {
     }
 
     /// The SDO answer of the node at a place of the table, if there is one.
-    #[tactic(auto, unfolding(crate::specs::Manager::sdo_event))]
+    #[tactic(auto, unfolding(crate::specs::Manager::after_sdo_frame))]
     fn take_answer<P: Boots>(
         &mut self,
         t: u64,
@@ -336,10 +361,15 @@ impl Manager {
     ) -> Result<(), AllocError>
         requires soon { t < END }
         requires within { IfSome place (λ i. i < length self.now.nodes) }
-        ensures state { OnOk result (self.new ≡ (outcome (rules.sdo_event t answer.now place self.old) (P.seen boots.old).image).0) }
-        ensures notes { OnOk result (notes.new ≡ notes.old ++ (outcome (rules.sdo_event t answer.now place self.old) (P.seen boots.old).image).1) }
-        ensures noted { OnOk result (P.seen boots.new ≡ followed (rules.sdo_event t answer.now place self.old) (P.seen boots.old)) }
-        ensures counted { OnOk result (P.asks boots.new ≤ P.asks boots.old + length (reads (rules.sdo_event t answer.now place self.old) (P.seen boots.old).image)) }
+        ensures state { OnOk result (self.new ≡ (outcome (rules.after_sdo_frame t answer.now place self.old)
+            (P.seen boots.old).image).0) }
+        ensures notes { OnOk result (notes.new ≡ notes.old
+            ++ (outcome (rules.after_sdo_frame t answer.now place self.old) (P.seen boots.old).image).1) }
+        ensures noted { OnOk result (P.seen boots.new ≡ after_reads (rules.after_sdo_frame t answer.now place self.old)
+            (P.seen boots.old)) }
+        ensures counted { OnOk result (P.asks boots.new
+            ≤ P.asks boots.old + length (reads (rules.after_sdo_frame t answer.now place self.old)
+            (P.seen boots.old).image)) }
         ensures kept { (P.seen boots.new).image ≡ (P.seen boots.old).image }
     {
         match place {
@@ -349,7 +379,7 @@ impl Manager {
     }
 
     /// A frame comes, where there was memory before.
-    #[tactic(auto, unfolding(crate::specs::Manager::received))]
+    #[tactic(auto, unfolding(crate::specs::Manager::after_frame))]
     fn receive<P: Boots>(
         &mut self,
         t: u64,
@@ -358,10 +388,14 @@ impl Manager {
         notes: &mut Notes,
     ) -> Result<(), AllocError>
         requires soon { t < END }
-        ensures state { OnOk result (self.new ≡ (outcome (rules.received t frame.now self.old) (P.seen boots.old).image).0) }
-        ensures notes { OnOk result (notes.new ≡ notes.old ++ (outcome (rules.received t frame.now self.old) (P.seen boots.old).image).1) }
-        ensures noted { OnOk result (P.seen boots.new ≡ followed (rules.received t frame.now self.old) (P.seen boots.old)) }
-        ensures counted { OnOk result (P.asks boots.new ≤ P.asks boots.old + length (reads (rules.received t frame.now self.old) (P.seen boots.old).image)) }
+        ensures state { OnOk result (self.new ≡ (outcome (rules.after_frame t frame.now self.old)
+            (P.seen boots.old).image).0) }
+        ensures notes { OnOk result (notes.new ≡ notes.old
+            ++ (outcome (rules.after_frame t frame.now self.old) (P.seen boots.old).image).1) }
+        ensures noted { OnOk result (P.seen boots.new ≡ after_reads (rules.after_frame t frame.now self.old)
+            (P.seen boots.old)) }
+        ensures counted { OnOk result (P.asks boots.new
+            ≤ P.asks boots.old + length (reads (rules.after_frame t frame.now self.old) (P.seen boots.old).image)) }
         ensures kept { (P.seen boots.new).image ≡ (P.seen boots.old).image }
     {
         let bytes = frame.bytes();
@@ -436,10 +470,14 @@ impl Manager {
         notes: &mut Notes,
     ) -> Result<(), AllocError>
         requires { t < END }
-        ensures state { OnOk result (self.new ≡ (outcome (rules.received t frame.now self.old) (P.seen boots.old).image).0) }
-        ensures notes { OnOk result (notes.new ≡ notes.old ++ (outcome (rules.received t frame.now self.old) (P.seen boots.old).image).1) }
-        ensures noted { OnOk result (P.seen boots.new ≡ followed (rules.received t frame.now self.old) (P.seen boots.old)) }
-        ensures counted { OnOk result (P.asks boots.new ≤ P.asks boots.old + length (reads (rules.received t frame.now self.old) (P.seen boots.old).image)) }
+        ensures state { OnOk result (self.new ≡ (outcome (rules.after_frame t frame.now self.old)
+            (P.seen boots.old).image).0) }
+        ensures notes { OnOk result (notes.new ≡ notes.old
+            ++ (outcome (rules.after_frame t frame.now self.old) (P.seen boots.old).image).1) }
+        ensures noted { OnOk result (P.seen boots.new ≡ after_reads (rules.after_frame t frame.now self.old)
+            (P.seen boots.old)) }
+        ensures counted { OnOk result (P.asks boots.new
+            ≤ P.asks boots.old + length (reads (rules.after_frame t frame.now self.old) (P.seen boots.old).image)) }
         ensures kept { (P.seen boots.new).image ≡ (P.seen boots.old).image }
         ensures refused { IsTrue self.old.spent → IsErr result }
         ensures spent { OnErr result (IsTrue self.new.spent) }
@@ -476,7 +514,7 @@ impl Manager {
     /// Queues a command of the network management (CiA 301) to a node, 0 for all nodes, behind the frames
     /// that wait.
     pub fn command(&mut self, command: NmtCommand, node: u8) -> Result<(), AllocError>
-        ensures state { OnOk result (self.new ≡ rules.commanded command node self.old) }
+        ensures state { OnOk result (self.new ≡ rules.with_command command node self.old) }
         ensures refused { IsTrue self.old.spent → IsErr result }
         ensures spent { OnErr result (IsTrue self.new.spent) }
     {

@@ -1,18 +1,19 @@
 //! The table of the manager's nodes.
 
 ghost use Rattle.std.specs.Prelude.{◌≡◌, ◌≤◌, ◌<◌, ◌+◌, ◌++◌, ◌↔◌, [], length, map, IfOk, IfSome, IsTrue, OnOk};
-ghost use Rattle.asking.specs.Asking.{followed, outcome, reads};
+ghost use Rattle.asking.specs.Asking.{after_reads, outcome, reads};
 ghost use Rattle.co_parts.specs.Moments.{earliest};
 ghost use Rattle.node_boot.specs.Boot.{boot_nmt_slave, sdo_answer};
-ghost use Rattle.nmt_boot.specs.Manager.{deadlines, lost, node_after, node_at, notes_after_all, place_of as is_place_of, queue_after_all, unseen, with_stage};
-ghost use Rattle.nmt_boot.specs.Sending.{sent_by};
+ghost use Rattle.nmt_boot.specs.Manager.{deadlines, note_of_loss, node_after, node_at, notes_after_all};
+ghost use Rattle.nmt_boot.specs.Manager.{place_of as is_place_of, queue_after_all, unseen_node, with_stage};
+ghost use Rattle.nmt_boot.specs.Sending.{sending_of};
 
 use crate::booting::Booting;
 use crate::notes::Notes;
 use crate::sent::Sent;
 use can_frame::Pending;
 use co_parts::earlier;
-use node_boot::{BootStage, Boots, Word, deadline_of};
+use node_boot::{BootStage, Boots, NoteKind, deadline_of};
 use std::alloc::{AllocError, Global};
 use std::marker::Model;
 
@@ -42,7 +43,7 @@ impl Model for NodeTable {
 
 /// Nodes of which no boot-up came yet.
 fn unseen_nodes(alloc: Global, numbers: &[u8]) -> Result<Vec<Booting>, AllocError>
-    ensures { IfOk result (λ nodes. nodes.items ≡ map unseen numbers.now) }
+    ensures { IfOk result (λ nodes. nodes.items ≡ map unseen_node numbers.now) }
 {
     let mut nodes = Vec::new(alloc);
     for number in numbers {
@@ -101,10 +102,16 @@ fn boot_in<P: Boots>(
     boots: &mut P,
 ) -> Result<Sent, AllocError>
     requires { i < length nodes.now }
-    ensures nodes { OnOk result (nodes.new ≡ with_stage nodes.old i (outcome (boot_nmt_slave deadline (node_at nodes.old i).number) (P.seen boots.old).image).stage) }
-    ensures sent { IfOk result (λ sent. sent ≡ sent_by (outcome (boot_nmt_slave deadline (node_at nodes.old i).number) (P.seen boots.old).image)) }
-    ensures noted { OnOk result (P.seen boots.new ≡ followed (boot_nmt_slave deadline (node_at nodes.old i).number) (P.seen boots.old)) }
-    ensures counted { OnOk result (P.asks boots.new ≤ P.asks boots.old + length (reads (boot_nmt_slave deadline (node_at nodes.old i).number) (P.seen boots.old).image)) }
+    ensures nodes { OnOk result (nodes.new
+        ≡ with_stage nodes.old i (outcome (boot_nmt_slave deadline (node_at nodes.old i).number)
+        (P.seen boots.old).image).stage) }
+    ensures sent { IfOk result (λ sent. sent
+        ≡ sending_of (outcome (boot_nmt_slave deadline (node_at nodes.old i).number) (P.seen boots.old).image)) }
+    ensures noted { OnOk result (P.seen boots.new ≡ after_reads (boot_nmt_slave deadline (node_at nodes.old i).number)
+        (P.seen boots.old)) }
+    ensures counted { OnOk result (P.asks boots.new
+        ≤ P.asks boots.old + length (reads (boot_nmt_slave deadline (node_at nodes.old i).number)
+        (P.seen boots.old).image)) }
     ensures kept { (P.seen boots.new).image ≡ (P.seen boots.old).image }
 {
     nodes[i].boot(alloc, deadline, boots)
@@ -120,10 +127,20 @@ fn answer_in<P: Boots>(
     boots: &mut P,
 ) -> Result<Sent, AllocError>
     requires { i < length nodes.now }
-    ensures nodes { OnOk result (nodes.new ≡ with_stage nodes.old i (outcome (sdo_answer deadline (node_at nodes.old i).number (node_at nodes.old i).stage answer.now) (P.seen boots.old).image).stage) }
-    ensures sent { IfOk result (λ sent. sent ≡ sent_by (outcome (sdo_answer deadline (node_at nodes.old i).number (node_at nodes.old i).stage answer.now) (P.seen boots.old).image)) }
-    ensures noted { OnOk result (P.seen boots.new ≡ followed (sdo_answer deadline (node_at nodes.old i).number (node_at nodes.old i).stage answer.now) (P.seen boots.old)) }
-    ensures counted { OnOk result (P.asks boots.new ≤ P.asks boots.old + length (reads (sdo_answer deadline (node_at nodes.old i).number (node_at nodes.old i).stage answer.now) (P.seen boots.old).image)) }
+    ensures nodes { OnOk result (nodes.new
+        ≡ with_stage nodes.old i
+        (outcome (sdo_answer deadline (node_at nodes.old i).number (node_at nodes.old i).stage answer.now)
+        (P.seen boots.old).image).stage) }
+    ensures sent { IfOk result (λ sent. sent
+        ≡ sending_of (outcome (sdo_answer deadline (node_at nodes.old i).number (node_at nodes.old i).stage answer.now)
+        (P.seen boots.old).image)) }
+    ensures noted { OnOk result (P.seen boots.new
+        ≡ after_reads (sdo_answer deadline (node_at nodes.old i).number (node_at nodes.old i).stage answer.now)
+        (P.seen boots.old)) }
+    ensures counted { OnOk result (P.asks boots.new
+        ≤ P.asks boots.old
+        + length (reads (sdo_answer deadline (node_at nodes.old i).number (node_at nodes.old i).stage answer.now)
+        (P.seen boots.old).image)) }
     ensures kept { (P.seen boots.new).image ≡ (P.seen boots.old).image }
 {
     nodes[i].take_answer(alloc, deadline, answer, boots)
@@ -182,7 +199,7 @@ impl NodeTable {
 
     /// Nodes of which no boot-up came yet.
     pub(crate) fn unseen(alloc: Global, numbers: &[u8]) -> Result<NodeTable, AllocError>
-        ensures { IfOk result (λ table. table ≡ map unseen numbers.now) }
+        ensures { IfOk result (λ table. table ≡ map unseen_node numbers.now) }
     {
         let nodes = unseen_nodes(alloc, numbers)?;
         let deadline = first_of(&nodes);
@@ -230,9 +247,9 @@ impl NodeTable {
     }
 
     /// What is noted where a node of the table boots anew.
-    pub(crate) fn lost_at(&self, i: usize) -> Option<Word>
+    pub(crate) fn lost_at(&self, i: usize) -> Option<NoteKind>
         requires { i < length self.now }
-        ensures { result ≡ lost (node_at self.now i).stage }
+        ensures { result ≡ note_of_loss (node_at self.now i).stage }
     {
         self.nodes[i].lost()
     }
@@ -273,10 +290,16 @@ impl NodeTable {
         boots: &mut P,
     ) -> Result<Sent, AllocError>
         requires { i < length self.now }
-        ensures nodes { OnOk result (self.new ≡ with_stage self.old i (outcome (boot_nmt_slave deadline (node_at self.old i).number) (P.seen boots.old).image).stage) }
-        ensures sent { IfOk result (λ sent. sent ≡ sent_by (outcome (boot_nmt_slave deadline (node_at self.old i).number) (P.seen boots.old).image)) }
-        ensures noted { OnOk result (P.seen boots.new ≡ followed (boot_nmt_slave deadline (node_at self.old i).number) (P.seen boots.old)) }
-        ensures counted { OnOk result (P.asks boots.new ≤ P.asks boots.old + length (reads (boot_nmt_slave deadline (node_at self.old i).number) (P.seen boots.old).image)) }
+        ensures nodes { OnOk result (self.new
+            ≡ with_stage self.old i (outcome (boot_nmt_slave deadline (node_at self.old i).number)
+            (P.seen boots.old).image).stage) }
+        ensures sent { IfOk result (λ sent. sent
+            ≡ sending_of (outcome (boot_nmt_slave deadline (node_at self.old i).number) (P.seen boots.old).image)) }
+        ensures noted { OnOk result (P.seen boots.new
+            ≡ after_reads (boot_nmt_slave deadline (node_at self.old i).number) (P.seen boots.old)) }
+        ensures counted { OnOk result (P.asks boots.new
+            ≤ P.asks boots.old + length (reads (boot_nmt_slave deadline (node_at self.old i).number)
+            (P.seen boots.old).image)) }
         ensures kept { (P.seen boots.new).image ≡ (P.seen boots.old).image }
     {
         self.known = false;
@@ -295,10 +318,21 @@ impl NodeTable {
         boots: &mut P,
     ) -> Result<Sent, AllocError>
         requires { i < length self.now }
-        ensures nodes { OnOk result (self.new ≡ with_stage self.old i (outcome (sdo_answer deadline (node_at self.old i).number (node_at self.old i).stage answer.now) (P.seen boots.old).image).stage) }
-        ensures sent { IfOk result (λ sent. sent ≡ sent_by (outcome (sdo_answer deadline (node_at self.old i).number (node_at self.old i).stage answer.now) (P.seen boots.old).image)) }
-        ensures noted { OnOk result (P.seen boots.new ≡ followed (sdo_answer deadline (node_at self.old i).number (node_at self.old i).stage answer.now) (P.seen boots.old)) }
-        ensures counted { OnOk result (P.asks boots.new ≤ P.asks boots.old + length (reads (sdo_answer deadline (node_at self.old i).number (node_at self.old i).stage answer.now) (P.seen boots.old).image)) }
+        ensures nodes { OnOk result (self.new
+            ≡ with_stage self.old i
+            (outcome (sdo_answer deadline (node_at self.old i).number (node_at self.old i).stage answer.now)
+            (P.seen boots.old).image).stage) }
+        ensures sent { IfOk result (λ sent. sent
+            ≡ sending_of
+            (outcome (sdo_answer deadline (node_at self.old i).number (node_at self.old i).stage answer.now)
+            (P.seen boots.old).image)) }
+        ensures noted { OnOk result (P.seen boots.new
+            ≡ after_reads (sdo_answer deadline (node_at self.old i).number (node_at self.old i).stage answer.now)
+            (P.seen boots.old)) }
+        ensures counted { OnOk result (P.asks boots.new
+            ≤ P.asks boots.old
+            + length (reads (sdo_answer deadline (node_at self.old i).number (node_at self.old i).stage answer.now)
+            (P.seen boots.old).image)) }
         ensures kept { (P.seen boots.new).image ≡ (P.seen boots.old).image }
     {
         self.known = false;

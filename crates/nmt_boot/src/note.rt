@@ -1,6 +1,6 @@
 //! A note of a node.
 
-use node_boot::Word;
+use node_boot::NoteKind;
 
 /// What the manager notes of a node.
 #[derive(Clone, Copy, Debug, PartialEq, Eq)]
@@ -8,5 +8,5 @@ pub struct Note {
     /// The number of the node.
     pub node: u8,
     /// What is noted.
-    pub word: Word,
+    pub kind: NoteKind,
 }

@@ -1,6 +1,6 @@
 //! What a rule of a boot queues and notes.
 
-use node_boot::Word;
+use node_boot::NoteKind;
 
 /// What a rule queues and notes, without the stage after it.
 #[derive(Clone, Copy, Debug)]
@@ -8,5 +8,5 @@ pub(crate) struct Sent {
     /// The SDO frame to the node, if there is one.
     pub(crate) request: Option<[u8; 8]>,
     /// What is noted of the node, if anything.
-    pub(crate) word: Option<Word>,
+    pub(crate) note: Option<NoteKind>,
 }

@@ -10,7 +10,7 @@ use crate::notes::Notes;
 use crate::sent::Sent;
 use can_frame::{Frame, Pending, Purpose, identifiers};
 use co_scenario::NmtCommand;
-use node_boot::Word;
+use node_boot::NoteKind;
 use std::alloc::AllocError;
 
 /// Queues an SDO frame to a node, if there is one.
@@ -43,21 +43,21 @@ pub(crate) fn send_command(
 }
 
 /// Queues the start of a node that is configured.
-fn start(waiting: &mut Pending, node: u8, word: Option<Word>) -> Result<(), AllocError>
-    ensures { OnOk result (waiting.new ≡ waiting.old ++ start_frames node word) }
+fn start(waiting: &mut Pending, node: u8, note: Option<NoteKind>) -> Result<(), AllocError>
+    ensures { OnOk result (waiting.new ≡ waiting.old ++ start_frames node note) }
 {
-    match word {
-        Some(Word::Configured) => send_command(waiting, NmtCommand::Start, node),
+    match note {
+        Some(NoteKind::Configured) => send_command(waiting, NmtCommand::Start, node),
         _ => Ok(()),
     }
 }
 
-/// Notes a word of a node, if there is one.
-pub(crate) fn note(notes: &mut Notes, node: u8, word: Option<Word>) -> Result<(), AllocError>
-    ensures { OnOk result (notes.new ≡ notes.old ++ notes_of node word) }
+/// Notes what there is to note of a node, if there is one.
+pub(crate) fn note(notes: &mut Notes, node: u8, note: Option<NoteKind>) -> Result<(), AllocError>
+    ensures { OnOk result (notes.new ≡ notes.old ++ notes_of node note) }
 {
-    if let Some(word) = word {
-        notes.add(Note { node, word })?;
+    if let Some(kind) = note {
+        notes.add(Note { node, kind })?;
     }
     Ok(())
 }
@@ -69,10 +69,11 @@ pub(crate) fn tell(
     node: u8,
     sent: Sent,
 ) -> Result<(), AllocError>
-    ensures queued { OnOk result (waiting.new ≡ (waiting.old ++ sdo_frames node sent.request) ++ start_frames node sent.word) }
-    ensures notes { OnOk result (notes.new ≡ notes.old ++ notes_of node sent.word) }
+    ensures queued { OnOk result (waiting.new ≡ (waiting.old ++ sdo_frames node sent.request)
+        ++ start_frames node sent.note) }
+    ensures notes { OnOk result (notes.new ≡ notes.old ++ notes_of node sent.note) }
 {
     send_request(waiting, node, sent.request)?;
-    start(waiting, node, sent.word)?;
-    note(notes, node, sent.word)
+    start(waiting, node, sent.note)?;
+    note(notes, node, sent.note)
 }

@@ -5,6 +5,7 @@ use Rattle.asking.specs.Asking.{Asking}
 use Rattle.co_parts.specs.Contents.{Content}
 use Rattle.co_parts.specs.declared.part.Part.{Part}
 
-pub picked : {A : Type 0} (P : Asking Part Content A → Type 0) (b : Bool) (m n : Asking Part Content A) → P m → P n → P (if b then m else n)
+pub picked : {A : Type 0} (P : Asking Part Content A → Type 0) (b : Bool) (m n : Asking Part Content A) → P m → P n
+    → P (if b then m else n)
 picked P true m n p q = p
 picked P false m n p q = q

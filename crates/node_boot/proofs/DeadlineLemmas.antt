@@ -2,31 +2,33 @@
 use Rattle.std.proofs.Common.{ℕ, ◌+◌, ◌≤◌, List, Option, Some, None, IfSome}
 use Rattle.std.specs.Prelude.{◌==◌}
 use Rattle.asking.specs.Asking.{Asking, outcome}
-use Rattle.co_sdo_client.specs.Client.{advanced}
+use Rattle.co_sdo_client.specs.Client.{after_answer}
 use Rattle.co_sdo_client.specs.declared.progress.Progress.{Progress}
 use Rattle.co_sdo_client.specs.declared.progress.Progress.TheVariants as progress
-use Rattle.co_sdo_client.specs.declared.stage.Stage.{Stage as Transfer}
+use Rattle.co_sdo_client.specs.declared.client_transfer.ClientTransfer.{ClientTransfer as Transfer}
 use Rattle.concise_dcf.specs.declared.write.Write.{Write}
 use Rattle.co_parts.specs.Contents.{Content, Image, identity_of, write_of}
 use Rattle.co_parts.specs.declared.identity.Identity.{Identity}
 use Rattle.co_parts.specs.declared.part.Part.{Part}
 use Rattle.co_parts.specs.declared.part.Part.TheVariants.{Expect, Boot}
 use Rattle.node_boot.proofs.ChoiceLemmas.{picked}
-use Rattle.node_boot.specs.Boot.{deadline_of, last_write, written, download_configuration, download_next, compared, check_identity, next_compared, boot_nmt_slave, is_as_expected, after_compare, after_write, sdo_answer}
+use Rattle.node_boot.specs.Boot.{deadline_of, last_write, write_started, download_configuration, download_next}
+use Rattle.node_boot.specs.Boot.{comparison_started, check_identity, next_compared, boot_nmt_slave, is_as_expected}
+use Rattle.node_boot.specs.Boot.{after_compare, after_write, sdo_answer}
 use Rattle.node_boot.specs.declared.boot_stage.BootStage.{BootStage}
 use Rattle.node_boot.specs.declared.boot_stage.BootStage.TheVariants.{Unseen, Comparing, Writing, Configured, Failed}
-use Rattle.node_boot.specs.declared.turn.Turn.{Turn}
+use Rattle.node_boot.specs.declared.boot_step.BootStep.{BootStep}
 
 -- the stage has no deadline before t
 abbrev pub IsOpenFrom : ℕ → BootStage → Type 0
 IsOpenFrom t stage = IfSome (deadline_of stage) (λ d. t ≤ d)
 
 module _ (image : Image) (t deadline node : ℕ) (ahead : t ≤ deadline) where
-  abbrev Holds : Asking Part Content Turn → Type 0
+  abbrev Holds : Asking Part Content BootStep → Type 0
   Holds a = IsOpenFrom t (outcome a image).stage
 
-  written_from : (place : ℕ) (w : Option Write) → IsOpenFrom t (written deadline place w).stage
-  unfolding written
+  written_from : (place : ℕ) (w : Option Write) → IsOpenFrom t (write_started deadline place w).stage
+  unfolding write_started
   written_from place None = tt
   written_from place (Some w) = ahead
 
@@ -37,36 +39,44 @@ module _ (image : Image) (t deadline node : ℕ) (ahead : t ≤ deadline) where
   next_from : (place : ℕ) → IsOpenFrom t (outcome (download_next deadline node place) image).stage
   next_from place = picked Holds (place == last_write) _ _ tt (download_from (place + 1))
 
-  compared_from : (expected : Identity) (place : ℕ) → IsOpenFrom t (compared deadline expected place).stage
-  unfolding compared
+  compared_from : (expected : Identity) (place : ℕ) → IsOpenFrom t (comparison_started deadline expected place).stage
+  unfolding comparison_started
   compared_from expected place = ahead
 
-  check_from : (expected : Identity) (place : ℕ) → IsOpenFrom t (outcome (check_identity deadline node expected place) image).stage
+  check_from : (expected : Identity) (place : ℕ)
+      → IsOpenFrom t (outcome (check_identity deadline node expected place) image).stage
   unfolding check_identity
-  check_from expected place = picked Holds (next_compared expected place == 5) _ _ (download_from 0) (compared_from expected (next_compared expected place))
+  check_from expected place = picked Holds (next_compared expected place == 5) _ _ (download_from 0)
+      (compared_from expected (next_compared expected place))
 
   pub boot_from : IsOpenFrom t (outcome (boot_nmt_slave deadline node) image).stage
   unfolding boot_nmt_slave
   boot_from = check_from (identity_of (image (Expect node))) 0
 
-  compare_from : (old place : ℕ) (expected : Identity) (transfer : Transfer) (p : Option Progress) → t ≤ old → Holds (after_compare deadline old node place expected transfer p)
+  compare_from : (old place : ℕ) (expected : Identity) (transfer : Transfer) (p : Option Progress) → t ≤ old
+      → Holds (after_compare deadline old node place expected transfer p)
   compare_from old place expected transfer None h = h
   compare_from old place expected transfer (Some (progress.Ask request)) h = ahead
   compare_from old place expected transfer (Some progress.Written) h = h
-  compare_from old place expected transfer (Some (progress.Read bytes)) h = picked Holds (is_as_expected expected place bytes) _ _ (check_from expected (place + 1)) tt
+  compare_from old place expected transfer (Some (progress.Read bytes)) h =
+      picked Holds (is_as_expected expected place bytes) _ _ (check_from expected (place + 1)) tt
   compare_from old place expected transfer (Some (progress.Failed abort frame)) h = tt
 
-  write_from : (old place : ℕ) (transfer : Transfer) (p : Option Progress) → t ≤ old → Holds (after_write deadline old node place transfer p)
+  write_from : (old place : ℕ) (transfer : Transfer) (p : Option Progress) → t ≤ old
+      → Holds (after_write deadline old node place transfer p)
   write_from old place transfer None h = h
   write_from old place transfer (Some (progress.Ask request)) h = ahead
   write_from old place transfer (Some progress.Written) h = next_from place
   write_from old place transfer (Some (progress.Read bytes)) h = h
   write_from old place transfer (Some (progress.Failed abort frame)) h = tt
 
-  pub answer_from : (stage : BootStage) (answer : List ℕ) → IsOpenFrom t stage → Holds (sdo_answer deadline node stage answer)
+  pub answer_from : (stage : BootStage) (answer : List ℕ) → IsOpenFrom t stage
+      → Holds (sdo_answer deadline node stage answer)
   unfolding sdo_answer
   answer_from Unseen answer h = tt
-  answer_from (Comparing place expected transfer old) answer h = compare_from old place expected (advanced transfer answer).stage (advanced transfer answer).progress h
-  answer_from (Writing place transfer old) answer h = write_from old place (advanced transfer answer).stage (advanced transfer answer).progress h
+  answer_from (Comparing place expected transfer old) answer h =
+      compare_from old place expected (after_answer transfer answer).stage (after_answer transfer answer).progress h
+  answer_from (Writing place transfer old) answer h =
+      write_from old place (after_answer transfer answer).stage (after_answer transfer answer).progress h
   answer_from Configured answer h = tt
   answer_from Failed answer h = tt

@@ -1,39 +1,43 @@
 -- A boot says that a node is configured only where its writes end.
-use Rattle.std.proofs.Common.{◌≡◌, ℕ, suc, ◌+◌, Bool, true, false, List, ◌∷◌, Option, Some, None, ◌⊎◌, inl, inr, refl, arith}
+use Rattle.std.proofs.Common.{◌≡◌, ℕ, suc, ◌+◌, Bool, true, false, List, ◌∷◌, Option, Some, None, ◌⊎◌, inl, inr, refl}
+use Rattle.std.proofs.Common.{arith}
 use Rattle.std.specs.Prelude.{Contains, ◌==◌, if◌then◌else◌}
 use Rattle.std.proofs.lemmas.Bool.Decides.{nat_tests}
 use Rattle.asking.specs.Asking.{Asking, Answer, outcome, reads}
-use Rattle.co_sdo_client.specs.Client.{advanced}
+use Rattle.co_sdo_client.specs.Client.{after_answer}
 use Rattle.co_sdo_client.specs.declared.progress.Progress.{Progress}
 use Rattle.co_sdo_client.specs.declared.progress.Progress.TheVariants as progress
-use Rattle.co_sdo_client.specs.declared.stage.Stage.{Stage as Transfer}
+use Rattle.co_sdo_client.specs.declared.client_transfer.ClientTransfer.{ClientTransfer as Transfer}
 use Rattle.concise_dcf.specs.declared.write.Write.{Write}
 use Rattle.co_parts.specs.Contents.{Content, Image, identity_of, write_of}
 use Rattle.co_parts.specs.declared.identity.Identity.{Identity}
 use Rattle.co_parts.specs.declared.part.Part.{Part}
 use Rattle.co_parts.specs.declared.part.Part.TheVariants.{Expect, Boot}
 use Rattle.node_boot.proofs.ChoiceLemmas.{picked}
-use Rattle.node_boot.specs.Boot.{configured, failed, last_write, written, download_configuration, compared, check_identity, next_compared, boot_nmt_slave, is_as_expected, after_compare, after_write, sdo_answer}
+use Rattle.node_boot.specs.Boot.{boot_completed, boot_failed, last_write, write_started, download_configuration}
+use Rattle.node_boot.specs.Boot.{comparison_started, check_identity, next_compared, boot_nmt_slave, is_as_expected}
+use Rattle.node_boot.specs.Boot.{after_compare, after_write, sdo_answer}
 use Rattle.node_boot.specs.Ends.{IsAbsent, IsAtLast}
 use Rattle.node_boot.specs.declared.boot_stage.BootStage.{BootStage}
 use Rattle.node_boot.specs.declared.boot_stage.BootStage.TheVariants.{Unseen, Comparing, Writing, Configured, Failed}
-use Rattle.node_boot.specs.declared.turn.Turn.{Turn}
-use Rattle.node_boot.specs.declared.word.Word.TheVariants as word
+use Rattle.node_boot.specs.declared.boot_step.BootStep.{BootStep}
+use Rattle.node_boot.specs.declared.note_kind.NoteKind.TheVariants as kind
 
 in_more : {X : Type 0} (xs : List X) (y x : X) → Contains xs x → Contains (y ∷ xs) x
 in_more xs y x h = (suc h.0, omega (arith, h.1), h.2)
 
 module _ (image : Image) (node : ℕ) where
   -- where it says configured, a write was asked for and is absent
-  abbrev pub Ends : Asking Part Content Turn → Type 0
-  Ends a = (outcome a image).word ≡ Some word.Configured → (place : ℕ) × IsAbsent image node (reads a image) place
+  abbrev pub Ends : Asking Part Content BootStep → Type 0
+  Ends a = (outcome a image).note ≡ Some kind.Configured → (place : ℕ) × IsAbsent image node (reads a image) place
 
-  silent : (turn : Turn) → turn.word ≡ None → Ends (Answer turn)
-  silent turn e f = cc
+  silent : (step : BootStep) → step.note ≡ None → Ends (Answer step)
+  silent step e f = cc
 
   module _ (deadline : ℕ) where
-    written_ends : (place : ℕ) (w : Option Write) → (written deadline place w).word ≡ Some word.Configured → w ≡ None
-    unfolding written
+    written_ends : (place : ℕ) (w : Option Write) → (write_started deadline place w).note ≡ Some kind.Configured
+        → w ≡ None
+    unfolding write_started
     written_ends place None e = refl
     written_ends place (Some w) e = cc
 
@@ -45,10 +49,12 @@ module _ (image : Image) (node : ℕ) where
     )
 
     check_ends : (expected : Identity) (place : ℕ) → Ends (check_identity deadline node expected place)
-    unfolding check_identity compared
-    check_ends expected place = picked Ends (next_compared expected place == 5) _ _ (download_ends 0) (silent (compared deadline expected (next_compared expected place)) refl)
+    unfolding check_identity comparison_started
+    check_ends expected place = picked Ends (next_compared expected place == 5) _ _ (download_ends 0)
+        (silent (comparison_started deadline expected (next_compared expected place)) refl)
 
-    later : (place : ℕ) (a : Asking Part Content Turn) (y : Part × Content) → IsAbsent image node (reads a image) place → IsAbsent image node (y ∷ reads a image) place
+    later : (place : ℕ) (a : Asking Part Content BootStep) (y : Part × Content)
+        → IsAbsent image node (reads a image) place → IsAbsent image node (y ∷ reads a image) place
     later place a y h = record { asked = in_more (reads a image) y _ h.asked; absent = h.absent }
 
     pub boot_ends : Ends (boot_nmt_slave deadline node)
@@ -58,10 +64,11 @@ module _ (image : Image) (node : ℕ) where
         let h = check_ends (identity_of (image (Expect node))) 0 e in
         (h.0, later h.0 a (Expect node, image (Expect node)) h.1)
 
-    different : Ends (Answer (failed word.Difference None))
+    different : Ends (Answer (boot_failed kind.Difference None))
     different e = cc
 
-    compare_ends : (old place : ℕ) (expected : Identity) (transfer : Transfer) (p : Option Progress) → Ends (after_compare deadline old node place expected transfer p)
+    compare_ends : (old place : ℕ) (expected : Identity) (transfer : Transfer) (p : Option Progress)
+        → Ends (after_compare deadline old node place expected transfer p)
     compare_ends old place expected transfer None e = cc
     compare_ends old place expected transfer (Some (progress.Ask request)) e = cc
     compare_ends old place expected transfer (Some progress.Written) e = cc
@@ -70,24 +77,32 @@ module _ (image : Image) (node : ℕ) where
     compare_ends old place expected transfer (Some (progress.Failed abort frame)) e = cc
 
     -- or the write under way had the greatest number
-    abbrev pub EndsAt : BootStage → Asking Part Content Turn → Type 0
-    EndsAt stage a = (outcome a image).word ≡ Some word.Configured → ((place : ℕ) × IsAbsent image node (reads a image) place) ⊎ IsAtLast stage
+    abbrev pub EndsAt : BootStage → Asking Part Content BootStep → Type 0
+    EndsAt stage a = (outcome a image).note ≡ Some kind.Configured
+        → ((place : ℕ) × IsAbsent image node (reads a image) place) ⊎ IsAtLast stage
 
-    next_by : (place : ℕ) (transfer : Transfer) (old : ℕ) (b : Bool) → (place == last_write) ≡ b → EndsAt (Writing place transfer old) (if b then Answer configured else download_configuration deadline node (place + 1))
+    next_by : (place : ℕ) (transfer : Transfer) (old : ℕ) (b : Bool) → (place == last_write) ≡ b
+        → EndsAt (Writing place transfer old) (if b then Answer boot_completed
+        else download_configuration deadline node (place + 1))
     next_by place transfer old true e f = inr (grind (arith, nat_tests))
     next_by place transfer old false e f = inl (download_ends (place + 1) f)
 
-    write_ends : (old place : ℕ) (before transfer : Transfer) (p : Option Progress) → EndsAt (Writing place before old) (after_write deadline old node place transfer p)
+    write_ends : (old place : ℕ) (before transfer : Transfer) (p : Option Progress)
+        → EndsAt (Writing place before old) (after_write deadline old node place transfer p)
     write_ends old place before transfer None e = cc
     write_ends old place before transfer (Some (progress.Ask request)) e = cc
-    write_ends old place before transfer (Some progress.Written) e = next_by place before old (place == last_write) refl e
+    write_ends old place before transfer (Some progress.Written) e =
+        next_by place before old (place == last_write) refl e
     write_ends old place before transfer (Some (progress.Read bytes)) e = cc
     write_ends old place before transfer (Some (progress.Failed abort frame)) e = cc
 
     pub answer_ends : (stage : BootStage) (answer : List ℕ) → EndsAt stage (sdo_answer deadline node stage answer)
     unfolding sdo_answer
     answer_ends Unseen answer e = cc
-    answer_ends (Comparing place expected transfer old) answer e = inl (compare_ends old place expected (advanced transfer answer).stage (advanced transfer answer).progress e)
-    answer_ends (Writing place transfer old) answer e = write_ends old place transfer (advanced transfer answer).stage (advanced transfer answer).progress e
+    answer_ends (Comparing place expected transfer old) answer e =
+        inl (compare_ends old place expected (after_answer transfer answer).stage
+        (after_answer transfer answer).progress e)
+    answer_ends (Writing place transfer old) answer e =
+        write_ends old place transfer (after_answer transfer answer).stage (after_answer transfer answer).progress e
     answer_ends Configured answer e = cc
     answer_ends Failed answer e = cc

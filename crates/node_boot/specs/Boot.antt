@@ -1,11 +1,13 @@
--- The boot of one node by the manager (CiA 302, Boot NMT slave). All moments are absolute, in microseconds from the power-on of the network.
-use Rattle.std.specs.Prelude.{ℕ, ◌+◌, ◌==◌, ◌&&◌, not, Bool, false, List, length, slice_index_or, nat_le, Option, Some, None, if◌then◌else◌}
+-- The boot of one node by the manager (CiA 302, Boot NMT slave). All moments are absolute, in microseconds from the
+-- power-on of the network.
+use Rattle.std.specs.Prelude.{ℕ, ◌+◌, ◌==◌, ◌&&◌, not, Bool, false, List, length, slice_index_or, nat_le, Option, Some}
+use Rattle.std.specs.Prelude.{None, if◌then◌else◌}
 use Rattle.asking.specs.Asking.{Asking, Answer, Ask}
 use Rattle.byteorder.specs.Endian.{little_number}
-use Rattle.co_sdo_client.specs.Client.{advanced, download_started, upload_started, timed_out_at}
+use Rattle.co_sdo_client.specs.Client.{after_answer, download_start, upload_start, timed_out_at}
 use Rattle.co_sdo_client.specs.declared.progress.Progress.{Progress}
 use Rattle.co_sdo_client.specs.declared.progress.Progress.TheVariants as progress
-use Rattle.co_sdo_client.specs.declared.stage.Stage.{Stage as Transfer}
+use Rattle.co_sdo_client.specs.declared.client_transfer.ClientTransfer.{ClientTransfer as Transfer}
 use Rattle.concise_dcf.specs.declared.write.Write.{Write}
 use Rattle.co_parts.specs.Contents.{Content, identity_of, write_of}
 use Rattle.co_parts.specs.declared.identity.Identity.{Identity}
@@ -13,21 +15,21 @@ use Rattle.co_parts.specs.declared.part.Part.{Part}
 use Rattle.co_parts.specs.declared.part.Part.TheVariants.{Expect, Boot}
 use Rattle.node_boot.specs.declared.boot_stage.BootStage.{BootStage}
 use Rattle.node_boot.specs.declared.boot_stage.BootStage.TheVariants.{Unseen, Comparing, Writing, Configured, Failed}
-use Rattle.node_boot.specs.declared.turn.Turn.{Turn}
-use Rattle.node_boot.specs.declared.word.Word.{Word}
-use Rattle.node_boot.specs.declared.word.Word.TheVariants as word
+use Rattle.node_boot.specs.declared.boot_step.BootStep.{BootStep}
+use Rattle.node_boot.specs.declared.note_kind.NoteKind.{NoteKind}
+use Rattle.node_boot.specs.declared.note_kind.NoteKind.TheVariants as kind
 
 -- the stage stays, and nothing is queued or noted
-abbrev pub stays : BootStage → Turn
-stays stage = record { stage = stage; request = None; word = None }
+abbrev pub no_step : BootStage → BootStep
+no_step stage = record { stage = stage; request = None; note = None }
 
 -- the boot has failed, for a reason
-abbrev pub failed : Word → Option (List ℕ) → Turn
-failed reason request = record { stage = Failed; request = request; word = Some reason }
+abbrev pub boot_failed : NoteKind → Option (List ℕ) → BootStep
+boot_failed reason request = record { stage = Failed; request = request; note = Some reason }
 
 -- a request is queued now, and its answer awaited until the deadline
-abbrev pub asked : BootStage → List ℕ → Turn
-asked stage request = record { stage = stage; request = Some request; word = None }
+abbrev pub request_sent : BootStage → List ℕ → BootStep
+request_sent stage request = record { stage = stage; request = Some request; note = None }
 
 -- ---- check node type and identity: 1000h:00, then 1018h:01 to 04, each where a number is expected
 
@@ -41,9 +43,10 @@ expected_number expected place = slice_index_or expected.numbers place 0
 abbrev pub is_expected : Identity → ℕ → Bool
 is_expected expected place = not (expected_number expected place == 0)
 
-unfoldable pub compared : ℕ → Identity → ℕ → Turn
-compared deadline expected place =
-    asked (Comparing place expected (upload_started (identity_entry place)).1 deadline) (upload_started (identity_entry place)).0
+unfoldable pub comparison_started : ℕ → Identity → ℕ → BootStep
+comparison_started deadline expected place =
+    request_sent (Comparing place expected (upload_start (identity_entry place)).1 deadline)
+    (upload_start (identity_entry place)).0
 
 -- the first place from this one on at which a number is expected; 5 where there is none
 unfoldable pub next_compared : Identity → ℕ → ℕ
@@ -57,62 +60,77 @@ next_compared expected place =
 
 -- a value of at most four bytes that is the expected number
 unfoldable pub is_as_expected : Identity → ℕ → List ℕ → Bool
-is_as_expected expected place bytes = nat_le (length bytes) 4 && (little_number (length bytes) bytes == expected_number expected place)
+is_as_expected expected place bytes = nat_le (length bytes) 4
+    && (little_number (length bytes) bytes == expected_number expected place)
 
 -- ---- download configuration: the writes of the concise DCF, up to the first that is absent
 
-abbrev pub configured : Turn
-configured = record { stage = Configured; request = None; word = Some word.Configured }
+abbrev pub boot_completed : BootStep
+boot_completed = record { stage = Configured; request = None; note = Some kind.Configured }
 
-unfoldable pub written : ℕ → ℕ → Option Write → Turn
-written deadline place None = configured
-written deadline place (Some w) =
-    asked (Writing place (download_started (w.index, w.sub) w.bytes).1 deadline) (download_started (w.index, w.sub) w.bytes).0
+unfoldable pub write_started : ℕ → ℕ → Option Write → BootStep
+write_started deadline place None = boot_completed
+write_started deadline place (Some w) =
+    request_sent (Writing place (download_start (w.index, w.sub) w.bytes).1 deadline)
+    (download_start (w.index, w.sub) w.bytes).0
 
-unfoldable pub download_configuration : ℕ → ℕ → ℕ → Asking Part Content Turn
-download_configuration deadline node place = Ask (Boot node place) (λ v. Answer (written deadline place (write_of v)))
+unfoldable pub download_configuration : ℕ → ℕ → ℕ → Asking Part Content BootStep
+download_configuration deadline node place = Ask (Boot node place)
+    (λ v. Answer (write_started deadline place (write_of v)))
 
 -- the greatest number that a write can have: a concise DCF has no more
 abbrev pub last_write : ℕ
 last_write = 4294967295
 
-abbrev pub download_next : ℕ → ℕ → ℕ → Asking Part Content Turn
-download_next deadline node place = if place == last_write then Answer configured else download_configuration deadline node (place + 1)
+abbrev pub download_next : ℕ → ℕ → ℕ → Asking Part Content BootStep
+download_next deadline node place = if place == last_write then Answer boot_completed
+    else download_configuration deadline node (place + 1)
 
-unfoldable pub check_identity : ℕ → ℕ → Identity → ℕ → Asking Part Content Turn
+unfoldable pub check_identity : ℕ → ℕ → Identity → ℕ → Asking Part Content BootStep
 check_identity deadline node expected place =
     if next_compared expected place == 5 then download_configuration deadline node 0
-    else Answer (compared deadline expected (next_compared expected place))
+    else Answer (comparison_started deadline expected (next_compared expected place))
 
 -- ---- boot NMT slave: on the boot-up of a node; the expected numbers are read here alone
 
-unfoldable pub boot_nmt_slave : ℕ → ℕ → Asking Part Content Turn
+unfoldable pub boot_nmt_slave : ℕ → ℕ → Asking Part Content BootStep
 boot_nmt_slave deadline node = Ask (Expect node) (λ v. check_identity deadline node (identity_of v) 0)
 
 -- ---- SDO answers of a node that is booting; what is queued now has the new deadline, and else the old one stays
 
-abbrev pub after_compare : ℕ → ℕ → ℕ → ℕ → Identity → Transfer → Option Progress → Asking Part Content Turn
-after_compare deadline old node place expected transfer None = Answer (stays (Comparing place expected transfer old))
-after_compare deadline old node place expected transfer (Some (progress.Ask request)) = Answer (asked (Comparing place expected transfer deadline) request)
-after_compare deadline old node place expected transfer (Some progress.Written) = Answer (stays (Comparing place expected transfer old))
-after_compare deadline old node place expected transfer (Some (progress.Read bytes)) = if is_as_expected expected place bytes then check_identity deadline node expected (place + 1) else Answer (failed word.Difference None)
-after_compare deadline old node place expected transfer (Some (progress.Failed abort frame)) = Answer (failed (word.Aborted abort) frame)
+abbrev pub after_compare : ℕ → ℕ → ℕ → ℕ → Identity → Transfer → Option Progress → Asking Part Content BootStep
+after_compare deadline old node place expected transfer None = Answer (no_step (Comparing place expected transfer old))
+after_compare deadline old node place expected transfer (Some (progress.Ask request)) =
+    Answer (request_sent (Comparing place expected transfer deadline) request)
+after_compare deadline old node place expected transfer (Some progress.Written) =
+    Answer (no_step (Comparing place expected transfer old))
+after_compare deadline old node place expected transfer (Some (progress.Read bytes)) =
+    if is_as_expected expected place bytes then check_identity deadline node expected (place + 1)
+    else Answer (boot_failed kind.Difference None)
+after_compare deadline old node place expected transfer (Some (progress.Failed abort frame)) =
+    Answer (boot_failed (kind.Aborted abort) frame)
 
-abbrev pub after_write : ℕ → ℕ → ℕ → ℕ → Transfer → Option Progress → Asking Part Content Turn
-after_write deadline old node place transfer None = Answer (stays (Writing place transfer old))
-after_write deadline old node place transfer (Some (progress.Ask request)) = Answer (asked (Writing place transfer deadline) request)
+abbrev pub after_write : ℕ → ℕ → ℕ → ℕ → Transfer → Option Progress → Asking Part Content BootStep
+after_write deadline old node place transfer None = Answer (no_step (Writing place transfer old))
+after_write deadline old node place transfer (Some (progress.Ask request)) =
+    Answer (request_sent (Writing place transfer deadline) request)
 after_write deadline old node place transfer (Some progress.Written) = download_next deadline node place
-after_write deadline old node place transfer (Some (progress.Read bytes)) = Answer (stays (Writing place transfer old))
-after_write deadline old node place transfer (Some (progress.Failed abort frame)) = Answer (failed (word.Aborted abort) frame)
+after_write deadline old node place transfer (Some (progress.Read bytes)) =
+    Answer (no_step (Writing place transfer old))
+after_write deadline old node place transfer (Some (progress.Failed abort frame)) =
+    Answer (boot_failed (kind.Aborted abort) frame)
 
-abbrev pub answer_taken : ℕ → ℕ → BootStage → List ℕ → Asking Part Content Turn
-answer_taken deadline node Unseen answer = Answer (stays Unseen)
-answer_taken deadline node (Comparing place expected transfer old) answer = after_compare deadline old node place expected (advanced transfer answer).stage (advanced transfer answer).progress
-answer_taken deadline node (Writing place transfer old) answer = after_write deadline old node place (advanced transfer answer).stage (advanced transfer answer).progress
-answer_taken deadline node Configured answer = Answer (stays Configured)
-answer_taken deadline node Failed answer = Answer (stays Failed)
+abbrev pub answer_taken : ℕ → ℕ → BootStage → List ℕ → Asking Part Content BootStep
+answer_taken deadline node Unseen answer = Answer (no_step Unseen)
+answer_taken deadline node (Comparing place expected transfer old) answer =
+    after_compare deadline old node place expected (after_answer transfer answer).stage
+    (after_answer transfer answer).progress
+answer_taken deadline node (Writing place transfer old) answer =
+    after_write deadline old node place (after_answer transfer answer).stage (after_answer transfer answer).progress
+answer_taken deadline node Configured answer = Answer (no_step Configured)
+answer_taken deadline node Failed answer = Answer (no_step Failed)
 
-unfoldable pub sdo_answer : ℕ → ℕ → BootStage → List ℕ → Asking Part Content Turn
+unfoldable pub sdo_answer : ℕ → ℕ → BootStage → List ℕ → Asking Part Content BootStep
 sdo_answer deadline node stage answer = answer_taken deadline node stage answer
 
 -- ---- SDO time-outs
@@ -146,5 +164,5 @@ time_out_frame (Writing place transfer deadline) = abort_sent (timed_out_at tran
 time_out_frame Configured = None
 time_out_frame Failed = None
 
-unfoldable pub sdo_time_out : BootStage → Turn
-sdo_time_out stage = failed word.TimedOut (time_out_frame stage)
+unfoldable pub sdo_time_out : BootStage → BootStep
+sdo_time_out stage = boot_failed kind.TimedOut (time_out_frame stage)

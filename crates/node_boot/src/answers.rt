@@ -1,18 +1,18 @@
 //! What an SDO answer of a node does to its boot.
 
 ghost use Rattle.std.specs.Prelude.{◌≡◌, ◌≤◌, ◌+◌, length, IfOk, OnOk};
-ghost use Rattle.asking.specs.Asking.{followed, outcome, reads};
+ghost use Rattle.asking.specs.Asking.{after_reads, outcome, reads};
 ghost use Rattle.node_boot.specs.Boot as rules;
 ghost use Rattle.node_boot.specs.declared.boot_stage.BootStage.TheVariants.{Comparing, Writing};
 
 use crate::boot_stage::BootStage;
+use crate::boot_step::BootStep;
 use crate::boots::Boots;
 use crate::download::download_next;
 use crate::identity_check::{check_identity, is_as_expected};
-use crate::turn::Turn;
-use crate::word::Word;
+use crate::note_kind::NoteKind;
 use co_parts::Identity;
-use co_sdo_client::{Advance, Progress, Stage, advanced};
+use co_sdo_client::{Advance, ClientTransfer, Progress, advanced};
 use std::alloc::{AllocError, Global};
 
 /// How the check of device type and identity goes on; `old` is the deadline of the request that is answered.
@@ -25,33 +25,43 @@ fn after_compare<P: Boots>(
     expected: Identity,
     advance: Advance,
     boots: &mut P,
-) -> Result<Turn, AllocError>
-    ensures state { IfOk result (λ turn. turn ≡ outcome (rules.after_compare deadline old node place expected advance.stage advance.progress) (P.seen boots.old).image) }
-    ensures noted { OnOk result (P.seen boots.new ≡ followed (rules.after_compare deadline old node place expected advance.stage advance.progress) (P.seen boots.old)) }
-    ensures counted { OnOk result (P.asks boots.new ≤ P.asks boots.old + length (reads (rules.after_compare deadline old node place expected advance.stage advance.progress) (P.seen boots.old).image)) }
+) -> Result<BootStep, AllocError>
+    ensures state { IfOk result (λ step. step
+        ≡ outcome (rules.after_compare deadline old node place expected advance.stage advance.progress)
+        (P.seen boots.old).image) }
+    ensures noted { OnOk result (P.seen boots.new
+        ≡ after_reads (rules.after_compare deadline old node place expected advance.stage advance.progress)
+        (P.seen boots.old)) }
+    ensures counted { OnOk result (P.asks boots.new
+        ≤ P.asks boots.old
+        + length (reads (rules.after_compare deadline old node place expected advance.stage advance.progress)
+        (P.seen boots.old).image)) }
     ensures kept { (P.seen boots.new).image ≡ (P.seen boots.old).image }
 {
     let transfer = advance.stage;
     match advance.progress {
         Some(Progress::Ask(request)) => {
             let stage = comparing(place, expected, transfer, deadline);
-            Ok(Turn::asked(stage, request))
+            Ok(BootStep::asked(stage, request))
         }
         Some(Progress::Read(bytes)) => {
             if is_as_expected(&expected, place, bytes.as_slice()) {
                 let next = u16::from(place) + 1;
                 return check_identity(alloc, deadline, node, expected, next, boots);
             }
-            Ok(Turn::failed(Word::Difference, None))
+            Ok(BootStep::failed(NoteKind::Difference, None))
         }
-        Some(Progress::Failed { abort, frame }) => Ok(Turn::failed(Word::Aborted(abort), frame)),
-        Some(Progress::Written) => Ok(Turn::stays(comparing(place, expected, transfer, old))),
-        None => Ok(Turn::stays(comparing(place, expected, transfer, old))),
+        Some(Progress::Failed { abort, frame }) => Ok(BootStep::failed(
+            NoteKind::Aborted(abort),
+            frame,
+        )),
+        Some(Progress::Written) => Ok(BootStep::stays(comparing(place, expected, transfer, old))),
+        None => Ok(BootStep::stays(comparing(place, expected, transfer, old))),
     }
 }
 
 /// The stage in which a number is read.
-fn comparing(place: u8, expected: Identity, transfer: Stage, deadline: u64) -> BootStage
+fn comparing(place: u8, expected: Identity, transfer: ClientTransfer, deadline: u64) -> BootStage
     ensures { result ≡ Comparing place expected transfer deadline }
 {
     BootStage::Comparing {
@@ -63,7 +73,7 @@ fn comparing(place: u8, expected: Identity, transfer: Stage, deadline: u64) -> B
 }
 
 /// The stage in which a write is under way.
-fn writing(place: u32, transfer: Stage, deadline: u64) -> BootStage
+fn writing(place: u32, transfer: ClientTransfer, deadline: u64) -> BootStage
     ensures { result ≡ Writing place transfer deadline }
 {
     BootStage::Writing {
@@ -82,21 +92,28 @@ fn after_write<P: Boots>(
     place: u32,
     advance: Advance,
     boots: &mut P,
-) -> Result<Turn, AllocError>
-    ensures state { IfOk result (λ turn. turn ≡ outcome (rules.after_write deadline old node place advance.stage advance.progress) (P.seen boots.old).image) }
-    ensures noted { OnOk result (P.seen boots.new ≡ followed (rules.after_write deadline old node place advance.stage advance.progress) (P.seen boots.old)) }
-    ensures counted { OnOk result (P.asks boots.new ≤ P.asks boots.old + length (reads (rules.after_write deadline old node place advance.stage advance.progress) (P.seen boots.old).image)) }
+) -> Result<BootStep, AllocError>
+    ensures state { IfOk result (λ step. step
+        ≡ outcome (rules.after_write deadline old node place advance.stage advance.progress) (P.seen boots.old).image) }
+    ensures noted { OnOk result (P.seen boots.new
+        ≡ after_reads (rules.after_write deadline old node place advance.stage advance.progress) (P.seen boots.old)) }
+    ensures counted { OnOk result (P.asks boots.new
+        ≤ P.asks boots.old + length (reads (rules.after_write deadline old node place advance.stage advance.progress)
+        (P.seen boots.old).image)) }
     ensures kept { (P.seen boots.new).image ≡ (P.seen boots.old).image }
 {
     let transfer = advance.stage;
     match advance.progress {
         Some(Progress::Ask(request)) => {
-            Ok(Turn::asked(writing(place, transfer, deadline), request))
+            Ok(BootStep::asked(writing(place, transfer, deadline), request))
         }
         Some(Progress::Written) => download_next(alloc, deadline, node, place, boots),
-        Some(Progress::Failed { abort, frame }) => Ok(Turn::failed(Word::Aborted(abort), frame)),
-        Some(Progress::Read(_bytes)) => Ok(Turn::stays(writing(place, transfer, old))),
-        None => Ok(Turn::stays(writing(place, transfer, old))),
+        Some(Progress::Failed { abort, frame }) => Ok(BootStep::failed(
+            NoteKind::Aborted(abort),
+            frame,
+        )),
+        Some(Progress::Read(_bytes)) => Ok(BootStep::stays(writing(place, transfer, old))),
+        None => Ok(BootStep::stays(writing(place, transfer, old))),
     }
 }
 
@@ -110,10 +127,14 @@ pub fn sdo_answer<P: Boots>(
     stage: BootStage,
     answer: &[u8; 8],
     boots: &mut P,
-) -> Result<Turn, AllocError>
-    ensures state { IfOk result (λ turn. turn ≡ outcome (rules.sdo_answer deadline node stage answer.now) (P.seen boots.old).image) }
-    ensures noted { OnOk result (P.seen boots.new ≡ followed (rules.sdo_answer deadline node stage answer.now) (P.seen boots.old)) }
-    ensures counted { OnOk result (P.asks boots.new ≤ P.asks boots.old + length (reads (rules.sdo_answer deadline node stage answer.now) (P.seen boots.old).image)) }
+) -> Result<BootStep, AllocError>
+    ensures state { IfOk result (λ step. step ≡ outcome (rules.sdo_answer deadline node stage answer.now)
+        (P.seen boots.old).image) }
+    ensures noted { OnOk result (P.seen boots.new ≡ after_reads (rules.sdo_answer deadline node stage answer.now)
+        (P.seen boots.old)) }
+    ensures counted { OnOk result (P.asks boots.new
+        ≤ P.asks boots.old + length (reads (rules.sdo_answer deadline node stage answer.now)
+        (P.seen boots.old).image)) }
     ensures kept { (P.seen boots.new).image ≡ (P.seen boots.old).image }
 {
     match stage {
@@ -134,8 +155,8 @@ pub fn sdo_answer<P: Boots>(
             let advance = advanced(alloc, transfer, answer)?;
             after_write(alloc, deadline, old, node, place, advance, boots)
         }
-        BootStage::Unseen => Ok(Turn::stays(BootStage::Unseen)),
-        BootStage::Configured => Ok(Turn::stays(BootStage::Configured)),
-        BootStage::Failed => Ok(Turn::stays(BootStage::Failed)),
+        BootStage::Unseen => Ok(BootStep::stays(BootStage::Unseen)),
+        BootStage::Configured => Ok(BootStep::stays(BootStage::Configured)),
+        BootStage::Failed => Ok(BootStep::stays(BootStage::Failed)),
     }
 }

@@ -3,7 +3,7 @@
 ghost use Rattle.std.specs.Prelude.{◌≡◌, ◌↔◌, IfOk, IsTrue};
 
 use co_parts::Identity;
-use co_sdo_client::{Stage, stage};
+use co_sdo_client::{ClientTransfer, client_transfer};
 use std::alloc::AllocError;
 
 /// How far the boot of a node has come (CiA 302). An ended boot keeps its outcome alone.
@@ -18,7 +18,7 @@ pub enum BootStage {
         /// The expected numbers.
         expected: Identity,
         /// The open transfer.
-        transfer: Stage,
+        transfer: ClientTransfer,
         /// The moment at which the request that is under way times out, in microseconds.
         deadline: u64,
     },
@@ -27,7 +27,7 @@ pub enum BootStage {
         /// Which write, from 0.
         place: u32,
         /// The open transfer.
-        transfer: Stage,
+        transfer: ClientTransfer,
         /// The moment at which the request that is under way times out, in microseconds.
         deadline: u64,
     },
@@ -50,7 +50,7 @@ impl BootStage {
                 transfer,
                 deadline,
             } => {
-                let transfer = stage::copy(transfer)?;
+                let transfer = client_transfer::copy(transfer)?;
                 let (place, expected, deadline) = (*place, *expected, *deadline);
                 Ok(BootStage::Comparing {
                     place,
@@ -64,7 +64,7 @@ impl BootStage {
                 transfer,
                 deadline,
             } => {
-                let transfer = stage::copy(transfer)?;
+                let transfer = client_transfer::copy(transfer)?;
                 let (place, deadline) = (*place, *deadline);
                 Ok(BootStage::Writing {
                     place,
@@ -96,7 +96,7 @@ impl BootStage {
                     transfer: t,
                     deadline: d,
                 },
-            ) => place == p && expected == e && stage::same(transfer, t) && deadline == d,
+            ) => place == p && expected == e && client_transfer::same(transfer, t) && deadline == d,
             (
                 BootStage::Writing {
                     place,
@@ -108,7 +108,7 @@ impl BootStage {
                     transfer: t,
                     deadline: d,
                 },
-            ) => place == p && stage::same(transfer, t) && deadline == d,
+            ) => place == p && client_transfer::same(transfer, t) && deadline == d,
             (BootStage::Configured, BootStage::Configured) => true,
             (BootStage::Failed, BootStage::Failed) => true,
             _ => false,

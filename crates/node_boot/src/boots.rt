@@ -1,7 +1,7 @@
 //! The parts that the manager asks for.
 
 ghost use Rattle.std.specs.Prelude.{◌≡◌, ◌+◌, ◌-◌, ◌^◌, min, IfOk, IfSome, OnOk};
-ghost use Rattle.asking.specs.Asking.{handed};
+ghost use Rattle.asking.specs.Asking.{after_ask};
 ghost use Rattle.co_parts.specs.Contents.{BootIs, ExpectIs};
 ghost use Rattle.co_parts.specs.Images.{IsBootWrite};
 ghost use Rattle.co_parts.specs.Shared.{shared};
@@ -17,7 +17,7 @@ pub trait Boots: Asked<Part, PartContent> {
     /// What is expected of a node, or none.
     fn expect(&mut self, node: u8) -> Result<Option<Rc<Identity>>, AllocError>
         ensures value { IfOk result (λ r. (Self.seen self.old).image (Part.Expect node) ≡ ExpectIs (shared r)) }
-        ensures noted { OnOk result (Self.seen self.new ≡ handed (Part.Expect node) (Self.seen self.old)) }
+        ensures noted { OnOk result (Self.seen self.new ≡ after_ask (Part.Expect node) (Self.seen self.old)) }
         ensures counted { Self.asks self.new ≡ min (Self.asks self.old + 1) (2 ^ 64 - 1) }
         ensures kept { (Self.seen self.new).image ≡ (Self.seen self.old).image };
 
@@ -25,7 +25,7 @@ pub trait Boots: Asked<Part, PartContent> {
     fn boot(&mut self, node: u8, place: u32) -> Result<Option<Rc<Write>>, AllocError>
         ensures value { IfOk result (λ r. (Self.seen self.old).image (Part.Boot node place) ≡ BootIs (shared r)) }
         ensures fits { IfOk result (λ r. IfSome (shared r) IsBootWrite) }
-        ensures noted { OnOk result (Self.seen self.new ≡ handed (Part.Boot node place) (Self.seen self.old)) }
+        ensures noted { OnOk result (Self.seen self.new ≡ after_ask (Part.Boot node place) (Self.seen self.old)) }
         ensures counted { Self.asks self.new ≡ min (Self.asks self.old + 1) (2 ^ 64 - 1) }
         ensures kept { (Self.seen self.new).image ≡ (Self.seen self.old).image };
 }

@@ -1,14 +1,14 @@
 //! The download of a node's configuration (CiA 302): the writes of its concise DCF one by one.
 
 ghost use Rattle.std.specs.Prelude.{◌≡◌, ◌≤◌, ◌+◌, length, IfOk, IfSome, OnOk};
-ghost use Rattle.asking.specs.Asking.{followed, outcome, reads};
+ghost use Rattle.asking.specs.Asking.{after_reads, outcome, reads};
 ghost use Rattle.co_parts.specs.Images.{IsBootWrite};
 ghost use Rattle.co_parts.specs.Shared.{shared};
 ghost use Rattle.node_boot.specs.Boot as rules;
 
 use crate::boot_stage::BootStage;
+use crate::boot_step::BootStep;
 use crate::boots::Boots;
-use crate::turn::Turn;
 use co_sdo_client::download_started;
 use concise_dcf::Write;
 use std::alloc::{AllocError, Global};
@@ -18,18 +18,18 @@ use std::rc::Rc;
 const LAST_WRITE: u32 = 4_294_967_295;
 
 /// A write begins, and the boot ends where there is none.
-#[tactic(auto, unfolding(crate::specs::Boot::written))]
+#[tactic(auto, unfolding(crate::specs::Boot::write_started))]
 fn write(
     alloc: Global,
     deadline: u64,
     place: u32,
     write: &Option<Rc<Write>>,
-) -> Result<Turn, AllocError>
+) -> Result<BootStep, AllocError>
     requires { IfSome (shared write.now) IsBootWrite }
-    ensures { IfOk result (λ turn. turn ≡ rules.written deadline place (shared write.now)) }
+    ensures { IfOk result (λ step. step ≡ rules.write_started deadline place (shared write.now)) }
 {
     match write {
-        None => Ok(Turn::configured()),
+        None => Ok(BootStep::configured()),
         Some(write) => {
             let entry = (write.index, write.sub);
             let (request, transfer) = download_started(alloc, entry, write.bytes.as_slice())?;
@@ -38,7 +38,7 @@ fn write(
                 transfer,
                 deadline,
             };
-            Ok(Turn::asked(stage, request))
+            Ok(BootStep::asked(stage, request))
         }
     }
 }
@@ -51,10 +51,14 @@ pub(crate) fn download_configuration<P: Boots>(
     node: u8,
     place: u32,
     boots: &mut P,
-) -> Result<Turn, AllocError>
-    ensures state { IfOk result (λ turn. turn ≡ outcome (rules.download_configuration deadline node place) (P.seen boots.old).image) }
-    ensures noted { OnOk result (P.seen boots.new ≡ followed (rules.download_configuration deadline node place) (P.seen boots.old)) }
-    ensures counted { OnOk result (P.asks boots.new ≤ P.asks boots.old + length (reads (rules.download_configuration deadline node place) (P.seen boots.old).image)) }
+) -> Result<BootStep, AllocError>
+    ensures state { IfOk result (λ step. step ≡ outcome (rules.download_configuration deadline node place)
+        (P.seen boots.old).image) }
+    ensures noted { OnOk result (P.seen boots.new ≡ after_reads (rules.download_configuration deadline node place)
+        (P.seen boots.old)) }
+    ensures counted { OnOk result (P.asks boots.new
+        ≤ P.asks boots.old + length (reads (rules.download_configuration deadline node place)
+        (P.seen boots.old).image)) }
     ensures kept { (P.seen boots.new).image ≡ (P.seen boots.old).image }
 {
     let next = boots.boot(node, place)?;
@@ -68,14 +72,17 @@ pub(crate) fn download_next<P: Boots>(
     node: u8,
     place: u32,
     boots: &mut P,
-) -> Result<Turn, AllocError>
-    ensures state { IfOk result (λ turn. turn ≡ outcome (rules.download_next deadline node place) (P.seen boots.old).image) }
-    ensures noted { OnOk result (P.seen boots.new ≡ followed (rules.download_next deadline node place) (P.seen boots.old)) }
-    ensures counted { OnOk result (P.asks boots.new ≤ P.asks boots.old + length (reads (rules.download_next deadline node place) (P.seen boots.old).image)) }
+) -> Result<BootStep, AllocError>
+    ensures state { IfOk result (λ step. step ≡ outcome (rules.download_next deadline node place)
+        (P.seen boots.old).image) }
+    ensures noted { OnOk result (P.seen boots.new ≡ after_reads (rules.download_next deadline node place)
+        (P.seen boots.old)) }
+    ensures counted { OnOk result (P.asks boots.new
+        ≤ P.asks boots.old + length (reads (rules.download_next deadline node place) (P.seen boots.old).image)) }
     ensures kept { (P.seen boots.new).image ≡ (P.seen boots.old).image }
 {
     if place == LAST_WRITE {
-        return Ok(Turn::configured());
+        return Ok(BootStep::configured());
     }
     download_configuration(alloc, deadline, node, place + 1, boots)
 }

@@ -1,16 +1,16 @@
 //! The check of device type and identity (CiA 302): numbers that a node is asked for, and that are expected.
 
 ghost use Rattle.std.specs.Prelude.{◌≡◌, ◌≤◌, ◌+◌, length, IfOk, OnOk};
-ghost use Rattle.asking.specs.Asking.{followed, outcome, reads};
+ghost use Rattle.asking.specs.Asking.{after_reads, outcome, reads};
 ghost use Rattle.byteorder.specs.Endian.{little_number};
 ghost use Rattle.co_parts.specs.Contents.{no_identity, or_else};
 ghost use Rattle.co_parts.specs.Shared.{shared};
 ghost use Rattle.node_boot.specs.Boot as rules;
 
 use crate::boot_stage::BootStage;
+use crate::boot_step::BootStep;
 use crate::boots::Boots;
 use crate::download::download_configuration;
-use crate::turn::Turn;
 use byteorder::{ByteOrder, LittleEndian};
 use co_parts::Identity;
 use co_sdo_client::upload_started;
@@ -61,9 +61,9 @@ fn identity_entry(place: u8) -> (u16, u8)
 }
 
 /// A number is asked for.
-#[tactic(auto, unfolding(crate::specs::Boot::compared))]
-fn compare(deadline: u64, expected: Identity, place: u8) -> Turn
-    ensures { result ≡ rules.compared deadline expected place }
+#[tactic(auto, unfolding(crate::specs::Boot::comparison_started))]
+fn compare(deadline: u64, expected: Identity, place: u8) -> BootStep
+    ensures { result ≡ rules.comparison_started deadline expected place }
 {
     let (request, transfer) = upload_started(identity_entry(place));
     let stage = BootStage::Comparing {
@@ -72,7 +72,7 @@ fn compare(deadline: u64, expected: Identity, place: u8) -> Turn
         transfer,
         deadline,
     };
-    Turn::asked(stage, request)
+    BootStep::asked(stage, request)
 }
 
 /// The check goes on from a place of the five, and then come the writes.
@@ -84,10 +84,14 @@ pub(crate) fn check_identity<P: Boots>(
     expected: Identity,
     place: u16,
     boots: &mut P,
-) -> Result<Turn, AllocError>
-    ensures state { IfOk result (λ turn. turn ≡ outcome (rules.check_identity deadline node expected place) (P.seen boots.old).image) }
-    ensures noted { OnOk result (P.seen boots.new ≡ followed (rules.check_identity deadline node expected place) (P.seen boots.old)) }
-    ensures counted { OnOk result (P.asks boots.new ≤ P.asks boots.old + length (reads (rules.check_identity deadline node expected place) (P.seen boots.old).image)) }
+) -> Result<BootStep, AllocError>
+    ensures state { IfOk result (λ step. step ≡ outcome (rules.check_identity deadline node expected place)
+        (P.seen boots.old).image) }
+    ensures noted { OnOk result (P.seen boots.new ≡ after_reads (rules.check_identity deadline node expected place)
+        (P.seen boots.old)) }
+    ensures counted { OnOk result (P.asks boots.new
+        ≤ P.asks boots.old + length (reads (rules.check_identity deadline node expected place)
+        (P.seen boots.old).image)) }
     ensures kept { (P.seen boots.new).image ≡ (P.seen boots.old).image }
 {
     let next = next_compared(&expected, place);
@@ -116,10 +120,12 @@ pub fn boot_nmt_slave<P: Boots>(
     deadline: u64,
     node: u8,
     boots: &mut P,
-) -> Result<Turn, AllocError>
-    ensures state { IfOk result (λ turn. turn ≡ outcome (rules.boot_nmt_slave deadline node) (P.seen boots.old).image) }
-    ensures noted { OnOk result (P.seen boots.new ≡ followed (rules.boot_nmt_slave deadline node) (P.seen boots.old)) }
-    ensures counted { OnOk result (P.asks boots.new ≤ P.asks boots.old + length (reads (rules.boot_nmt_slave deadline node) (P.seen boots.old).image)) }
+) -> Result<BootStep, AllocError>
+    ensures state { IfOk result (λ step. step ≡ outcome (rules.boot_nmt_slave deadline node) (P.seen boots.old).image) }
+    ensures noted { OnOk result (P.seen boots.new ≡ after_reads (rules.boot_nmt_slave deadline node)
+        (P.seen boots.old)) }
+    ensures counted { OnOk result (P.asks boots.new
+        ≤ P.asks boots.old + length (reads (rules.boot_nmt_slave deadline node) (P.seen boots.old).image)) }
     ensures kept { (P.seen boots.new).image ≡ (P.seen boots.old).image }
 {
     let identity = boots.expect(node)?;

@@ -3,17 +3,17 @@
 
 mod answers;
 mod boot_stage;
+mod boot_step;
 mod boots;
 mod download;
 mod identity_check;
+mod note_kind;
 mod time_outs;
-mod turn;
-mod word;
 
 pub use answers::sdo_answer;
 pub use boot_stage::BootStage;
+pub use boot_step::BootStep;
 pub use boots::Boots;
 pub use identity_check::boot_nmt_slave;
+pub use note_kind::NoteKind;
 pub use time_outs::{deadline_of, is_timed_out, sdo_time_out};
-pub use turn::Turn;
-pub use word::Word;

@@ -5,9 +5,9 @@ ghost use Rattle.co_sdo_client.specs.Client.{timed_out_at};
 ghost use Rattle.node_boot.specs.Boot as rules;
 
 use crate::boot_stage::BootStage;
-use crate::turn::Turn;
-use crate::word::Word;
-use co_sdo_client::{Progress, Stage, timed_out};
+use crate::boot_step::BootStep;
+use crate::note_kind::NoteKind;
+use co_sdo_client::{ClientTransfer, Progress, timed_out};
 
 /// The moment at which a request of the boot times out, in microseconds from the power-on of the network; none
 /// where no request is under way.
@@ -29,7 +29,7 @@ pub fn is_timed_out(t: u64, stage: &BootStage) -> bool
 }
 
 /// The frame of the abort of a transfer whose answer didn't come.
-fn abort_of(transfer: &Stage) -> Option<[u8; 8]>
+fn abort_of(transfer: &ClientTransfer) -> Option<[u8; 8]>
     ensures { result ≡ rules.abort_sent (timed_out_at transfer.now).progress }
 {
     let advance = timed_out(transfer);
@@ -41,7 +41,7 @@ fn abort_of(transfer: &Stage) -> Option<[u8; 8]>
 
 /// What the time-out of a request does to a boot: it has failed, and the abort of its open transfer is queued.
 #[tactic(auto, unfolding(crate::specs::Boot::sdo_time_out))]
-pub fn sdo_time_out(stage: &BootStage) -> Turn
+pub fn sdo_time_out(stage: &BootStage) -> BootStep
     ensures { result ≡ rules.sdo_time_out stage.now }
 {
     let frame = match stage {
@@ -49,5 +49,5 @@ pub fn sdo_time_out(stage: &BootStage) -> Turn
         BootStage::Writing { transfer, .. } => abort_of(transfer),
         _ => None,
     };
-    Turn::failed(Word::TimedOut, frame)
+    BootStep::failed(NoteKind::TimedOut, frame)
 }

@@ -1,5 +1,6 @@
 -- The writes of PDOs by number.
-use Rattle.std.proofs.Common.{◌≡◌, ℕ, zero, suc, ◌+◌, ◌-◌, ◌≤◌, Bool, true, false, cond, List, [], ◌∷◌, ◌++◌, Contains, Option, Some, None, option_map, refl, sym, ap, subst, ◌∙◌, append_assoc, arith}
+use Rattle.std.proofs.Common.{◌≡◌, ℕ, zero, suc, ◌+◌, ◌-◌, ◌≤◌, Bool, true, false, cond, List, [], ◌∷◌, ◌++◌, Contains}
+use Rattle.std.proofs.Common.{Option, Some, None, option_map, refl, sym, ap, subst, ◌∙◌, append_assoc, arith}
 use Rattle.std.specs.Prelude.{◌==◌, filter_map, if◌then◌else◌}
 use Rattle.std.specs.BTreeMap.{is_at}
 use Rattle.std.specs.List.{find, flat_map, range_with_len}
@@ -24,11 +25,13 @@ pub append_none : {X : Type 0} (xs : List X) → xs ++ [] ≡ xs
 append_none [] = refl
 append_none (x ∷ xs) = ap (λ ys. x ∷ ys) (append_none xs)
 
-range_more : (g : ℕ → List Write) (a n : ℕ) → flat_map g (range_with_len a (suc n)) ≡ flat_map g (range_with_len a n) ++ g (a + n)
+range_more : (g : ℕ → List Write) (a n : ℕ)
+    → flat_map g (range_with_len a (suc n)) ≡ flat_map g (range_with_len a n) ++ g (a + n)
 range_more g a zero = let e : a ≡ a + 0 = omega arith in append_none (g a) ∙ ap g e
 range_more g a (suc n) =
     let e : a + 1 + n ≡ a + suc n = omega arith in
-    ap (λ (ws : List Write). g a ++ ws) (range_more g (a + 1) n ∙ ap (λ (k : ℕ). flat_map g (range_with_len (a + 1) n) ++ g k) e)
+    ap (λ (ws : List Write). g a ++ ws) (range_more g (a + 1) n
+    ∙ ap (λ (k : ℕ). flat_map g (range_with_len (a + 1) n) ++ g k) e)
     ∙ sym (append_assoc (g a) (flat_map g (range_with_len (a + 1) n)) (g (a + suc n)))
 
 module _ (g : ℕ → List Write) where
@@ -39,41 +42,57 @@ module _ (g : ℕ → List Write) where
   more number low =
       let n : number + 1 - 1 ≡ suc (number - 1) = omega arith in
       let k : 1 + (number - 1) ≡ number = omega arith in
-      ap (λ (m : ℕ). flat_map g (range_with_len 1 m)) n ∙ range_more g 1 (number - 1) ∙ ap (λ (m : ℕ). flat_map g (range_with_len 1 (number - 1)) ++ g m) k
+      ap (λ (m : ℕ). flat_map g (range_with_len 1 m)) n ∙ range_more g 1 (number - 1)
+      ∙ ap (λ (m : ℕ). flat_map g (range_with_len 1 (number - 1)) ++ g m) k
 
-  pub written_more : (old now new : List Write) (number : ℕ) → 1 ≤ number → now ≡ old ++ so_far number → new ≡ now ++ g number → new ≡ old ++ so_far (number + 1)
+  pub written_more : (old now new : List Write) (number : ℕ) → 1 ≤ number → now ≡ old ++ so_far number
+      → new ≡ now ++ g number → new ≡ old ++ so_far (number + 1)
   written_more old now new number low before added =
-      added ∙ ap (λ (ws : List Write). ws ++ g number) before ∙ append_assoc old (so_far number) (g number) ∙ ap (λ (ws : List Write). old ++ ws) (sym (more number low))
+      added ∙ ap (λ (ws : List Write). ws ++ g number) before ∙ append_assoc old (so_far number) (g number)
+      ∙ ap (λ (ws : List Write). old ++ ws) (sym (more number low))
 
   -- a number without a PDO
-  pub unwritten_more : (old now : List Write) (number : ℕ) → 1 ≤ number → now ≡ old ++ so_far number → g number ≡ [] → now ≡ old ++ so_far (number + 1)
-  unwritten_more old now number low before nothing = written_more old now now number low before (sym (append_none now) ∙ ap (λ (ws : List Write). now ++ ws) (sym nothing))
+  pub unwritten_more : (old now : List Write) (number : ℕ) → 1 ≤ number → now ≡ old ++ so_far number → g number ≡ []
+      → now ≡ old ++ so_far (number + 1)
+  unwritten_more old now number low before nothing =
+      written_more old now now number low before (sym (append_none now)
+      ∙ ap (λ (ws : List Write). now ++ ws) (sym nothing))
 
-  pub values_more : (ss : List Section) (number : ℕ) → 1 ≤ number → AreValues ss (so_far number) → AreValues ss (g number) → AreValues ss (so_far (number + 1))
-  values_more ss number low before here = subst (AreValues ss) (sym (more number low)) (both_values ss (so_far number) (g number) before here)
+  pub values_more : (ss : List Section) (number : ℕ) → 1 ≤ number → AreValues ss (so_far number)
+      → AreValues ss (g number) → AreValues ss (so_far (number + 1))
+  values_more ss number low before here = subst (AreValues ss) (sym (more number low))
+      (both_values ss (so_far number) (g number) before here)
 
 -- all numbers
-pub all_numbers : {Y : Type 0} (f : Y → List Write) (pdos : List (ℕ × Y)) (number : ℕ) → number ≡ 513 → so_far (at_number f pdos) number ≡ by_number f pdos
+pub all_numbers : {Y : Type 0} (f : Y → List Write) (pdos : List (ℕ × Y)) (number : ℕ) → number ≡ 513
+    → so_far (at_number f pdos) number ≡ by_number f pdos
 unfolding by_number
-all_numbers f pdos number is = let n : number - 1 ≡ 512 = omega arith in ap (λ (m : ℕ). flat_map (at_number f pdos) (range_with_len 1 m)) n
+all_numbers f pdos number is = let n : number - 1 ≡ 512 = omega arith
+    in ap (λ (m : ℕ). flat_map (at_number f pdos) (range_with_len 1 m)) n
 
 -- ---- the PDO of a number
 
-module _ {X Y : Type 0} (shows : X → Y) (entries : List (ℕ × X)) (pdos : List (ℕ × Y)) (number : ℕ) (table : IsTableOf shows entries pdos) where
-  pub there : (x : X) → Some x ≡ lookup (is_at (nat_cmp number)) entries → lookup (is_at (nat_cmp number)) pdos ≡ Some (shows x)
+module _ {X Y : Type 0} (shows : X → Y) (entries : List (ℕ × X)) (pdos : List (ℕ × Y)) (number : ℕ)
+    (table : IsTableOf shows entries pdos) where
+  pub there : (x : X) → Some x ≡ lookup (is_at (nat_cmp number)) entries
+      → lookup (is_at (nat_cmp number)) pdos ≡ Some (shows x)
   there x is = sym (tabled shows entries pdos number table) ∙ ap (option_map shows) (sym is)
 
-  pub at_there : (f : Y → List Write) (x : X) → Some x ≡ lookup (is_at (nat_cmp number)) entries → at_number f pdos number ≡ f (shows x)
+  pub at_there : (f : Y → List Write) (x : X) → Some x ≡ lookup (is_at (nat_cmp number)) entries
+      → at_number f pdos number ≡ f (shows x)
   at_there f x is = ap (λ o. option_map_or f o []) (there x is)
 
   pub at_none : (f : Y → List Write) → None ≡ lookup (is_at (nat_cmp number)) entries → at_number f pdos number ≡ []
-  at_none f is = ap (λ o. option_map_or f o []) (sym (tabled shows entries pdos number table) ∙ ap (option_map shows) (sym is))
+  at_none f is = ap (λ o. option_map_or f o [])
+      (sym (tabled shows entries pdos number table) ∙ ap (option_map shows) (sym is))
 
 -- ---- the messages behind PDOs
 
-behind : {Y : Type 0} (h : Clean → Option (ℕ × Y)) (cs : List Clean) (number : ℕ) (y : Y) → lookup (is_at (nat_cmp number)) (filter_map h cs) ≡ Some y
+behind : {Y : Type 0} (h : Clean → Option (ℕ × Y)) (cs : List Clean) (number : ℕ) (y : Y)
+    → lookup (is_at (nat_cmp number)) (filter_map h cs) ≡ Some y
     → (c : Clean) × Contains cs c × (h c ≡ Some (number, y))
-behind h cs number y e = from_filter_map h cs (number, y) (Contains-from_lookup {eq = eq_by_cmp nat_cmp} (tells_apart exact_unsigned) number y (filter_map h cs) e)
+behind h cs number y e = from_filter_map h cs (number, y)
+    (Contains-from_lookup {eq = eq_by_cmp nat_cmp} (tells_apart exact_unsigned) number y (filter_map h cs) e)
 
 -- a node's TPDO is that of a message that it sends
 pub record Sends (cs : List Clean) (node number : ℕ) (c : Clean) : Type 0 where
@@ -81,23 +100,35 @@ pub record Sends (cs : List Clean) (node number : ℕ) (c : Clean) : Type 0 wher
   pub sender : c.message.node ≡ node
   pub numbered : c.message.tpdo ≡ number
 
-pub sends : (cs : List Clean) (node number : ℕ) (c : Clean) → lookup (is_at (nat_cmp number)) (filter_map (tpdo_of node) cs) ≡ Some c → Sends cs node number c
-sends cs node number c e = let b : (a : Clean) × Contains cs a × (tpdo_of node a ≡ Some (number, c)) = behind (tpdo_of node) cs number c e in by b.0 b.1 (b.0.message.node == node) refl b.2
+pub sends : (cs : List Clean) (node number : ℕ) (c : Clean)
+    → lookup (is_at (nat_cmp number)) (filter_map (tpdo_of node) cs) ≡ Some c → Sends cs node number c
+sends cs node number c e = let b : (a : Clean) × Contains cs a
+    × (tpdo_of node a ≡ Some (number, c)) = behind (tpdo_of node) cs number c e
+    in by b.0 b.1 (b.0.message.node == node) refl b.2
   where
-    by : (a : Clean) → Contains cs a → (t : Bool) → (a.message.node == node) ≡ t → (let none : Option (ℕ × Clean) = None in if t then Some (a.message.tpdo, a) else none) ≡ Some (number, c) → Sends cs node number c
+    by : (a : Clean) → Contains cs a → (t : Bool) → (a.message.node == node) ≡ t
+        → (let none : Option (ℕ × Clean) = None in if t then Some (a.message.tpdo, a) else none) ≡ Some (number, c)
+        → Sends cs node number c
     by a has true is same =
         let p : (let l : ℕ × Clean = (a.message.tpdo, a) in let r : ℕ × Clean = (number, c) in l ≡ r) = cc in
         let here : a ≡ c = ap (λ (q : ℕ × Clean). q.1) p in
-        subst (Sends cs node number) here (record { message = has; sender = exact_unsigned_eq a.message.node node is; numbered = ap (λ (q : ℕ × Clean). q.0) p })
+        subst (Sends cs node number) here (record {
+          message = has;
+          sender = exact_unsigned_eq a.message.node node is;
+          numbered = ap (λ (q : ℕ × Clean). q.0) p;
+        })
     by a has false is same = cc
 
-pub found : (test : Consumer → Bool) (ks : List Consumer) (k : Consumer) → find test ks ≡ Some k → Contains ks k × (test k ≡ true)
+pub found : (test : Consumer → Bool) (ks : List Consumer) (k : Consumer) → find test ks ≡ Some k
+    → Contains ks k × (test k ≡ true)
 found test [] k e = cc
 found test (x ∷ ks) k e = by (test x) refl e (found test ks k)
   where
-    by : (t : Bool) → test x ≡ t → cond t (Some x) (find test ks) ≡ Some k → (find test ks ≡ Some k → Contains ks k × (test k ≡ true)) → Contains (x ∷ ks) k × (test k ≡ true)
+    by : (t : Bool) → test x ≡ t → cond t (Some x) (find test ks) ≡ Some k
+        → (find test ks ≡ Some k → Contains ks k × (test k ≡ true)) → Contains (x ∷ ks) k × (test k ≡ true)
     by true is same rest = let here : x ≡ k = cc in ((zero, omega arith, here), ap test (sym here) ∙ is)
-    by false is same rest = let r : Contains ks k × (test k ≡ true) = rest same in ((suc r.0.0, omega arith, r.0.2), r.1)
+    by false is same rest = let r : Contains ks k × (test k ≡ true) = rest same
+        in ((suc r.0.0, omega arith, r.0.2), r.1)
 
 -- a node's RPDO is that by which it takes a message
 pub record Takes (cs : List Clean) (node number : ℕ) (t : Clean × Consumer) : Type 0 where
@@ -106,15 +137,25 @@ pub record Takes (cs : List Clean) (node number : ℕ) (t : Clean × Consumer) :
   pub taker : t.1.node ≡ node
   pub numbered : t.1.rpdo ≡ number
 
-pub takes : (cs : List Clean) (node number : ℕ) (t : Clean × Consumer) → lookup (is_at (nat_cmp number)) (filter_map (rpdo_of node) cs) ≡ Some t → Takes cs node number t
+pub takes : (cs : List Clean) (node number : ℕ) (t : Clean × Consumer)
+    → lookup (is_at (nat_cmp number)) (filter_map (rpdo_of node) cs) ≡ Some t → Takes cs node number t
 takes cs node number t e =
     let b : (a : Clean) × Contains cs a × (rpdo_of node a ≡ Some (number, t)) = behind (rpdo_of node) cs number t e in
     by b.0 b.1 (find (λ (k : Consumer). k.node == node) b.0.consumers) refl b.2
   where
-    by : (a : Clean) → Contains cs a → (o : Option Consumer) → find (λ (k : Consumer). k.node == node) a.consumers ≡ o → option_map {U = ℕ × (Clean × Consumer)} (λ (k : Consumer). (k.rpdo, (a, k))) o ≡ Some (number, t) → Takes cs node number t
+    by : (a : Clean) → Contains cs a → (o : Option Consumer) → find (λ (k : Consumer). k.node == node) a.consumers ≡ o
+        → option_map {U = ℕ × (Clean × Consumer)} (λ (k : Consumer). (k.rpdo, (a, k))) o ≡ Some (number, t)
+        → Takes cs node number t
     by a has None is same = cc
     by a has (Some k) is same =
-        let p : (let l : ℕ × (Clean × Consumer) = (k.rpdo, (a, k)) in let r : ℕ × (Clean × Consumer) = (number, t) in l ≡ r) = cc in
+        let p : (let l : ℕ × (Clean × Consumer) = (k.rpdo, (a, k)) in let r : ℕ × (Clean × Consumer) = (number, t)
+        in l ≡ r) = cc in
         let here : (let l : Clean × Consumer = (a, k) in l ≡ t) = ap (λ (q : ℕ × (Clean × Consumer)). q.1) p in
-        let f : Contains a.consumers k × ((k.node == node) ≡ true) = found (λ (k : Consumer). k.node == node) a.consumers k is in
-        subst (Takes cs node number) here (record { message = has; consumer = f.0; taker = exact_unsigned_eq k.node node f.1; numbered = ap (λ (q : ℕ × (Clean × Consumer)). q.0) p })
+        let f : Contains a.consumers k × ((k.node == node) ≡ true) =
+        found (λ (k : Consumer). k.node == node) a.consumers k is in
+        subst (Takes cs node number) here (record {
+          message = has;
+          consumer = f.0;
+          taker = exact_unsigned_eq k.node node f.1;
+          numbered = ap (λ (q : ℕ × (Clean × Consumer)). q.0) p;
+        })

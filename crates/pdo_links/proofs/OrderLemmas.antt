@@ -1,5 +1,6 @@
 -- The order of the writes of a PDO.
-use Rattle.std.proofs.Common.{◌≡◌, ℕ, ◌+◌, ◌%◌, ◌<◌, ◌≤◌, Bool, true, false, not, ◌&&◌, cond, List, [], ◌∷◌, ◌++◌, length, filter, refl, sym, ap, subst, ◌∙◌, arith}
+use Rattle.std.proofs.Common.{◌≡◌, ℕ, ◌+◌, ◌%◌, ◌<◌, ◌≤◌, Bool, true, false, not, ◌&&◌, cond, List, [], ◌∷◌, ◌++◌}
+use Rattle.std.proofs.Common.{length, filter, refl, sym, ap, subst, ◌∙◌, arith}
 use Rattle.std.specs.Prelude.{◌==◌, nat_le, if◌then◌else◌}
 use Rattle.std.specs.Option.{option_map_or}
 use Rattle.std.proofs.lemmas.List.Elements.{filter-append}
@@ -10,11 +11,12 @@ use Rattle.ini_text.specs.Content.{Section}
 use Rattle.eds_device.specs.Entries.{entry_at}
 use Rattle.pdo_plan.specs.declared.clean.Clean.{Clean}
 use Rattle.pdo_plan.specs.declared.consumer.Consumer.{Consumer}
-use Rattle.pdo_devices.specs.declared.mapped.Mapped.{Mapped}
-use Rattle.pdo_devices.specs.Devices.{takes_unsigned, tpdo_object, rpdo_object, mapping_of}
+use Rattle.pdo_stations.specs.declared.mapped.Mapped.{Mapped}
+use Rattle.pdo_stations.specs.Devices.{takes_unsigned, tpdo_object, rpdo_object, mapping_of}
 use Rattle.pdo_plan.specs.Plan.{IsWithin}
 use Rattle.pdo_links.specs.Order.{is_to, to_object, AreBetween, IsConfigured}
-use Rattle.pdo_links.specs.Writes.{write_at, cob_write, mapped_writes, mapping_writes, time_write, taken_type, tpdo_writes, rpdo_writes, off_bit, no_rtr_bit}
+use Rattle.pdo_links.specs.Writes.{write_at, cob_write, mapped_writes, mapping_writes, time_write, taken_type}
+use Rattle.pdo_links.specs.Writes.{tpdo_writes, rpdo_writes, off_bit, no_rtr_bit}
 
 -- ---- lists
 
@@ -22,19 +24,24 @@ module _ (p : Write → Bool) (last : Write) (marks : p last ≡ true) where
   alone : filter p (last ∷ []) ≡ last ∷ []
   alone = ap (λ b. cond b (last ∷ []) []) marks
 
-  none_first : (b : Bool) (x : Write) (xs : List Write) → cond b (x ∷ filter p xs) (filter p xs) ≡ [] → (b ≡ false) × (filter p xs ≡ [])
+  none_first : (b : Bool) (x : Write) (xs : List Write) → cond b (x ∷ filter p xs) (filter p xs) ≡ []
+      → (b ≡ false) × (filter p xs ≡ [])
   none_first true x xs e = cc
   none_first false x xs e = (refl, e)
 
-  inner : (middle before after : List Write) (w : Write) → filter p middle ≡ [] → middle ++ last ∷ [] ≡ before ++ w ∷ after → p w ≡ false
+  inner : (middle before after : List Write) (w : Write) → filter p middle ≡ []
+      → middle ++ last ∷ [] ≡ before ++ w ∷ after → p w ≡ false
       → (filter p before ≡ []) × (filter p after ≡ last ∷ [])
   inner [] [] after w none split other = let same : last ≡ w = cc in let e : p w ≡ true = ap p (sym same) ∙ marks in cc
   inner [] (x ∷ []) after w none split other = cc
   inner [] (x ∷ y ∷ before) after w none split other = cc
   inner (m ∷ middle) [] after w none split other =
       let n : (p m ≡ false) × (filter p middle ≡ []) = none_first (p m) m middle none in
-      let rest : middle ++ last ∷ [] ≡ after = cc in
-      (refl, ap (filter p) (sym rest) ∙ filter-append p middle (last ∷ []) ∙ ap (λ (zs : List Write). zs ++ filter p (last ∷ [])) n.1 ∙ alone)
+      let rest : middle ++ last ∷ [] ≡ after = cc in (
+        refl,
+        ap (filter p) (sym rest) ∙ filter-append p middle (last ∷ [])
+            ∙ ap (λ (zs : List Write). zs ++ filter p (last ∷ [])) n.1 ∙ alone,
+      )
   inner (m ∷ middle) (x ∷ before) after w none split other =
       let n : (p m ≡ false) × (filter p middle ≡ []) = none_first (p m) m middle none in
       let same : m ≡ x = cc in
@@ -43,14 +50,19 @@ module _ (p : Write → Bool) (last : Write) (marks : p last ≡ true) where
       let e : p x ≡ false = ap p (sym same) ∙ n.0 in
       (ap (λ b. cond b (x ∷ filter p before) (filter p before)) e ∙ r.0, r.1)
 
-  between : (first : Write) (middle : List Write) → p first ≡ true → filter p middle ≡ [] → AreBetween p first last (first ∷ (middle ++ last ∷ []))
-  between first middle mark none [] after w split other = let same : first ≡ w = cc in let e : p w ≡ true = ap p (sym same) ∙ mark in cc
+  between : (first : Write) (middle : List Write) → p first ≡ true → filter p middle ≡ []
+      → AreBetween p first last (first ∷ (middle ++ last ∷ []))
+  between first middle mark none [] after w split other = let same : first ≡ w = cc
+      in let e : p w ≡ true = ap p (sym same) ∙ mark in cc
   between first middle mark none (x ∷ before) after w split other =
       let same : first ≡ x = cc in
       let rest : middle ++ last ∷ [] ≡ before ++ w ∷ after = cc in
       let r : (filter p before ≡ []) × (filter p after ≡ last ∷ []) = inner middle before after w none rest other in
-      let e : p x ≡ true = ap p (sym same) ∙ mark in
-      (ap (λ b. cond b (x ∷ filter p before) (filter p before)) e ∙ ap (λ (zs : List Write). x ∷ zs) r.0 ∙ ap (λ (y : Write). y ∷ []) (sym same), r.1)
+      let e : p x ≡ true = ap p (sym same) ∙ mark in (
+        ap (λ b. cond b (x ∷ filter p before) (filter p before)) e ∙ ap (λ (zs : List Write). x ∷ zs) r.0
+            ∙ ap (λ (y : Write). y ∷ []) (sym same),
+        r.1,
+      )
 
 append_none : (ws : List Write) → ws ++ [] ≡ ws
 append_none [] = refl
@@ -82,65 +94,104 @@ module _ (object index : ℕ) (apart : (index == object) ≡ false) where
   no_entries first (m ∷ ms) = rw apart (no_entries (first + 1) ms)
 
   no_mapping : (mapping : List Mapped) → to_object object (mapping_writes index mapping) ≡ []
-  no_mapping mapping = rw (apart, filter-append (λ (w : Write). w.index == object) (mapped_writes index 1 mapping) (write_at index 0 (length mapping ∷ []) ∷ []), no_entries 1 mapping, apart) refl
+  no_mapping mapping = rw (
+    apart,
+    filter-append (λ (w : Write). w.index == object) (mapped_writes index 1 mapping)
+        (write_at index 0 (length mapping ∷ []) ∷ []),
+    no_entries 1 mapping,
+    apart,
+  ) refl
 
   no_entry_cobs : (first : ℕ) (mapping : List Mapped) → filter (is_to object 1) (mapped_writes index first mapping) ≡ []
   no_entry_cobs first [] = refl
   no_entry_cobs first (m ∷ ms) = rw (apart, and_false (first == 1)) (no_entry_cobs (first + 1) ms)
 
   no_cobs : (mapping : List Mapped) → filter (is_to object 1) (mapping_writes index mapping) ≡ []
-  no_cobs mapping = rw (filter-append (is_to object 1) (mapped_writes index 1 mapping) (write_at index 0 (length mapping ∷ []) ∷ []), no_entry_cobs 1 mapping) refl
+  no_cobs mapping = rw (
+    filter-append (is_to object 1) (mapped_writes index 1 mapping)
+        (write_at index 0 (length mapping ∷ []) ∷ []),
+    no_entry_cobs 1 mapping,
+  ) refl
 
   no_times : (ss : List Section) (node sub time : ℕ) → to_object object (time_write ss node index sub time) ≡ []
   no_times ss node sub time = by (option_map_or (takes_unsigned Bits16) (entry_at ss node index sub) false)
     where
-      by : (b : Bool) → let ws : List Write = if b then write_at index sub (little_bytes 2 time) ∷ [] else [] in to_object object ws ≡ []
+      by : (b : Bool) → let ws : List Write = if b then write_at index sub (little_bytes 2 time) ∷ [] else []
+          in to_object object ws ≡ []
       by true = rw apart refl
       by false = refl
 
 -- ---- writes to the mapping object itself
 
 module _ (object : ℕ) where
-  all_entries : (first : ℕ) (mapping : List Mapped) → to_object object (mapped_writes object first mapping) ≡ mapped_writes object first mapping
+  all_entries : (first : ℕ) (mapping : List Mapped)
+      → to_object object (mapped_writes object first mapping) ≡ mapped_writes object first mapping
   all_entries first [] = refl
   all_entries first (m ∷ ms) = rw (same_number object, all_entries (first + 1) ms) refl
 
-  all_mapping : (mapping : List Mapped) → to_object object (mapping_writes object mapping) ≡ mapping_writes object mapping
-  all_mapping mapping = rw (same_number object, filter-append (λ (w : Write). w.index == object) (mapped_writes object 1 mapping) (write_at object 0 (length mapping ∷ []) ∷ []), all_entries 1 mapping, same_number object) refl
+  all_mapping : (mapping : List Mapped) → to_object object (mapping_writes object mapping)
+      ≡ mapping_writes object mapping
+  all_mapping mapping = rw (
+    same_number object,
+    filter-append (λ (w : Write). w.index == object)
+        (mapped_writes object 1 mapping) (write_at object 0 (length mapping ∷ []) ∷ []),
+    all_entries 1 mapping,
+    same_number object,
+  ) refl
 
-  no_counts : (first : ℕ) (mapping : List Mapped) → 1 ≤ first → filter (is_to object 0) (mapped_writes object first mapping) ≡ []
+  no_counts : (first : ℕ) (mapping : List Mapped) → 1 ≤ first
+      → filter (is_to object 0) (mapped_writes object first mapping) ≡ []
   no_counts first [] low = refl
   no_counts first (m ∷ ms) low = rw (other_number 0 first low) (no_counts (first + 1) ms (omega arith))
 
-  all_but_counts : (first : ℕ) (mapping : List Mapped) → 1 ≤ first → filter (λ w. not (is_to object 0 w)) (mapped_writes object first mapping) ≡ mapped_writes object first mapping
+  all_but_counts : (first : ℕ) (mapping : List Mapped) → 1 ≤ first
+      → filter (λ w. not (is_to object 0 w)) (mapped_writes object first mapping) ≡ mapped_writes object first mapping
   all_but_counts first [] low = refl
   all_but_counts first (m ∷ ms) low = rw (other_number 0 first low, all_but_counts (first + 1) ms (omega arith)) refl
 
-  counts_around : (mapping : List Mapped) → AreBetween (is_to object 0) (write_at object 0 (0 ∷ [])) (write_at object 0 (length mapping ∷ [])) (mapping_writes object mapping)
-  counts_around mapping = between (is_to object 0) (write_at object 0 (length mapping ∷ [])) (same_number object) (write_at object 0 (0 ∷ [])) (mapped_writes object 1 mapping) (same_number object) (no_counts 1 mapping (omega arith))
+  counts_around : (mapping : List Mapped) → AreBetween (is_to object 0) (write_at object 0 (0 ∷ []))
+      (write_at object 0 (length mapping ∷ [])) (mapping_writes object mapping)
+  counts_around mapping = between (is_to object 0) (write_at object 0 (length mapping ∷ [])) (same_number object)
+      (write_at object 0 (0 ∷ [])) (mapped_writes object 1 mapping) (same_number object)
+      (no_counts 1 mapping (omega arith))
 
-  entries_left : (mapping : List Mapped) → filter (λ w. not (is_to object 0 w)) (mapping_writes object mapping) ≡ mapped_writes object 1 mapping
-  entries_left mapping = rw (same_number object, filter-append (λ (w : Write). not (is_to object 0 w)) (mapped_writes object 1 mapping) (write_at object 0 (length mapping ∷ []) ∷ []), all_but_counts 1 mapping (omega arith), same_number object) (append_none (mapped_writes object 1 mapping))
+  entries_left : (mapping : List Mapped) → filter (λ w. not (is_to object 0 w)) (mapping_writes object mapping)
+      ≡ mapped_writes object 1 mapping
+  entries_left mapping = rw (
+    same_number object,
+    filter-append (λ (w : Write). not (is_to object 0 w))
+        (mapped_writes object 1 mapping) (write_at object 0 (length mapping ∷ []) ∷ []),
+    all_but_counts 1 mapping (omega arith),
+    same_number object,
+  ) (append_none (mapped_writes object 1 mapping))
 
 -- ---- a PDO
 
 module _ (object index : ℕ) (mapping_apart : (object == index) ≡ false) (apart : (index == object) ≡ false) where
-  no_time_cobs : (ss : List Section) (node sub time : ℕ) → (sub == 1) ≡ false → filter (is_to object 1) (time_write ss node object sub time) ≡ []
+  no_time_cobs : (ss : List Section) (node sub time : ℕ) → (sub == 1) ≡ false
+      → filter (is_to object 1) (time_write ss node object sub time) ≡ []
   no_time_cobs ss node sub time other = by (option_map_or (takes_unsigned Bits16) (entry_at ss node object sub) false)
     where
-      by : (b : Bool) → let ws : List Write = if b then write_at object sub (little_bytes 2 time) ∷ [] else [] in filter (is_to object 1) ws ≡ []
+      by : (b : Bool) → let ws : List Write = if b then write_at object sub (little_bytes 2 time) ∷ [] else []
+          in filter (is_to object 1) ws ≡ []
       by true = rw other refl
       by false = refl
 
   -- the writes to the mapping object of a TPDO
   tpdo_mapping : (ss : List Section) (node off type inhibit event on : ℕ) (mapping : List Mapped)
-      → to_object index (cob_write object off ∷ write_at object 2 (type ∷ []) ∷ (time_write ss node object 3 inhibit ++ time_write ss node object 5 event ++ mapping_writes index mapping ++ cob_write object on ∷ [])) ≡ mapping_writes index mapping
+      → to_object index (cob_write object off ∷ write_at object 2 (type ∷ [])
+      ∷ (time_write ss node object 3 inhibit ++ time_write ss node object 5 event ++ mapping_writes index mapping
+      ++ cob_write object on ∷ [])) ≡ mapping_writes index mapping
   tpdo_mapping ss node off type inhibit event on mapping =
       rw (
         mapping_apart,
-        filter-append (λ (w : Write). w.index == index) (time_write ss node object 3 inhibit ++ time_write ss node object 5 event ++ mapping_writes index mapping) (cob_write object on ∷ []),
-        filter-append (λ (w : Write). w.index == index) (time_write ss node object 3 inhibit ++ time_write ss node object 5 event) (mapping_writes index mapping),
-        filter-append (λ (w : Write). w.index == index) (time_write ss node object 3 inhibit) (time_write ss node object 5 event),
+        filter-append (λ (w : Write). w.index == index)
+            (time_write ss node object 3 inhibit ++ time_write ss node object 5 event ++ mapping_writes index mapping)
+            (cob_write object on ∷ []),
+        filter-append (λ (w : Write). w.index == index)
+            (time_write ss node object 3 inhibit ++ time_write ss node object 5 event) (mapping_writes index mapping),
+        filter-append (λ (w : Write). w.index == index) (time_write ss node object 3 inhibit)
+            (time_write ss node object 5 event),
         no_times index object mapping_apart ss node 3 inhibit,
         no_times index object mapping_apart ss node 5 event,
         all_mapping index mapping,
@@ -150,12 +201,16 @@ module _ (object index : ℕ) (mapping_apart : (object == index) ≡ false) (apa
 
   tpdo_meanwhile : (ss : List Section) (node off type inhibit event on : ℕ) (mapping : List Mapped)
       → AreBetween (is_to object 1) (cob_write object off) (cob_write object on)
-      (cob_write object off ∷ write_at object 2 (type ∷ []) ∷ (time_write ss node object 3 inhibit ++ time_write ss node object 5 event ++ mapping_writes index mapping ++ cob_write object on ∷ []))
+      (cob_write object off ∷ write_at object 2 (type ∷ [])
+      ∷ (time_write ss node object 3 inhibit ++ time_write ss node object 5 event ++ mapping_writes index mapping
+      ++ cob_write object on ∷ []))
   tpdo_meanwhile ss node off type inhibit event on mapping =
       between (is_to object 1) (cob_write object on) (same_number object) (cob_write object off)
-      (write_at object 2 (type ∷ []) ∷ (time_write ss node object 3 inhibit ++ time_write ss node object 5 event ++ mapping_writes index mapping)) (same_number object)
+      (write_at object 2 (type ∷ []) ∷ (time_write ss node object 3 inhibit ++ time_write ss node object 5 event
+      ++ mapping_writes index mapping)) (same_number object)
       (rw (
-        filter-append (is_to object 1) (time_write ss node object 3 inhibit ++ time_write ss node object 5 event) (mapping_writes index mapping),
+        filter-append (is_to object 1) (time_write ss node object 3 inhibit ++ time_write ss node object 5 event)
+            (mapping_writes index mapping),
         filter-append (is_to object 1) (time_write ss node object 3 inhibit) (time_write ss node object 5 event),
         no_time_cobs ss node 3 inhibit refl,
         no_time_cobs ss node 5 event refl,
@@ -163,16 +218,27 @@ module _ (object index : ℕ) (mapping_apart : (object == index) ≡ false) (apa
       ) refl)
 
   -- and of an RPDO
-  rpdo_mapping : (off type on : ℕ) (mapping : List Mapped) → to_object index (cob_write object off ∷ write_at object 2 (type ∷ []) ∷ (mapping_writes index mapping ++ cob_write object on ∷ [])) ≡ mapping_writes index mapping
+  rpdo_mapping : (off type on : ℕ) (mapping : List Mapped)
+      → to_object index (cob_write object off ∷ write_at object 2 (type ∷ [])
+      ∷ (mapping_writes index mapping ++ cob_write object on ∷ [])) ≡ mapping_writes index mapping
   rpdo_mapping off type on mapping =
-      rw (mapping_apart, filter-append (λ (w : Write). w.index == index) (mapping_writes index mapping) (cob_write object on ∷ []), all_mapping index mapping, mapping_apart)
+      rw (
+        mapping_apart,
+        filter-append (λ (w : Write). w.index == index) (mapping_writes index mapping)
+            (cob_write object on ∷ []),
+        all_mapping index mapping,
+        mapping_apart,
+      )
       (append_none (mapping_writes index mapping))
 
   rpdo_meanwhile : (off type on : ℕ) (mapping : List Mapped)
-      → AreBetween (is_to object 1) (cob_write object off) (cob_write object on) (cob_write object off ∷ write_at object 2 (type ∷ []) ∷ (mapping_writes index mapping ++ cob_write object on ∷ []))
+      → AreBetween (is_to object 1) (cob_write object off) (cob_write object on)
+      (cob_write object off ∷ write_at object 2 (type ∷ [])
+      ∷ (mapping_writes index mapping ++ cob_write object on ∷ []))
   rpdo_meanwhile off type on mapping =
       between (is_to object 1) (cob_write object on) (same_number object) (cob_write object off)
-      (write_at object 2 (type ∷ []) ∷ mapping_writes index mapping) (same_number object) (no_cobs object index apart mapping)
+      (write_at object 2 (type ∷ []) ∷ mapping_writes index mapping) (same_number object)
+      (no_cobs object index apart mapping)
 
 high : (n : ℕ) → off_bit ≤ n → nat_le off_bit n ≡ true
 high n le = grind arith
@@ -181,9 +247,11 @@ low : (n : ℕ) → n < off_bit → nat_le off_bit n ≡ false
 low n lt = grind arith
 
 -- a PDO that is switched off and on so, with its mapping
-configured : (object off on identifier : ℕ) (mapping : List Mapped) (ws : List Write) → AreBetween (is_to object 1) (cob_write object off) (cob_write object on) ws
+configured : (object off on identifier : ℕ) (mapping : List Mapped) (ws : List Write)
+    → AreBetween (is_to object 1) (cob_write object off) (cob_write object on) ws
     → off_bit ≤ off → off < 4294967296 → on < off_bit → on % 0x800 ≡ identifier
-    → to_object (mapping_of object) ws ≡ mapping_writes (mapping_of object) mapping → IsConfigured object identifier mapping ws
+    → to_object (mapping_of object) ws ≡ mapping_writes (mapping_of object) mapping
+    → IsConfigured object identifier mapping ws
 configured object off on identifier mapping ws meanwhile is_high fits is_low rest maps = record {
   off = cob_write object off;
   on = cob_write object on;
@@ -191,23 +259,29 @@ configured object off on identifier mapping ws meanwhile is_high fits is_low res
   is_switched_off = ap (nat_le off_bit) (reads_back off fits) ∙ high off is_high;
   is_switched_on = ap (nat_le off_bit) (reads_back on (omega arith)) ∙ low on is_low;
   has_identifier = ap (λ (n : ℕ). n % 0x800) (reads_back on (omega arith)) ∙ rest;
-  counted = subst (AreBetween (is_to (mapping_of object) 0) (write_at (mapping_of object) 0 (0 ∷ [])) (write_at (mapping_of object) 0 (length mapping ∷ []))) (sym maps) (counts_around (mapping_of object) mapping);
+  counted = subst (AreBetween (is_to (mapping_of object) 0) (write_at (mapping_of object) 0 (0 ∷ []))
+      (write_at (mapping_of object) 0 (length mapping ∷ []))) (sym maps) (counts_around (mapping_of object) mapping);
   entries = ap (filter (λ w. not (is_to (mapping_of object) 0 w))) maps ∙ entries_left (mapping_of object) mapping;
 }
 
-pub tpdo_configured : (ss : List Section) (node : ℕ) (c : Clean) → IsWithin c → IsConfigured (tpdo_object c.message.tpdo) c.identifier c.mapping (tpdo_writes ss node c)
+pub tpdo_configured : (ss : List Section) (node : ℕ) (c : Clean) → IsWithin c
+    → IsConfigured (tpdo_object c.message.tpdo) c.identifier c.mapping (tpdo_writes ss node c)
 unfolding tpdo_writes
 tpdo_configured ss node c within =
     let object : ℕ = tpdo_object c.message.tpdo in
     let id : c.identifier < 0x800 = within.identifier in
     let before : (object == mapping_of object) ≡ false = number_other object (mapping_of object) (omega arith) in
     let behind : (mapping_of object == object) ≡ false = other_number object (mapping_of object) (omega arith) in
-    configured object (off_bit + (no_rtr_bit + c.identifier)) (no_rtr_bit + c.identifier) c.identifier c.mapping (tpdo_writes ss node c)
-    (tpdo_meanwhile object (mapping_of object) before behind ss node (off_bit + (no_rtr_bit + c.identifier)) c.message.transmission c.message.inhibit c.message.event (no_rtr_bit + c.identifier) c.mapping)
+    configured object (off_bit + (no_rtr_bit + c.identifier))
+    (no_rtr_bit + c.identifier) c.identifier c.mapping (tpdo_writes ss node c)
+    (tpdo_meanwhile object (mapping_of object) before behind ss node (off_bit + (no_rtr_bit + c.identifier))
+    c.message.transmission c.message.inhibit c.message.event (no_rtr_bit + c.identifier) c.mapping)
     (omega arith) (omega arith) (omega arith) (omega arith)
-    (tpdo_mapping object (mapping_of object) before behind ss node (off_bit + (no_rtr_bit + c.identifier)) c.message.transmission c.message.inhibit c.message.event (no_rtr_bit + c.identifier) c.mapping)
+    (tpdo_mapping object (mapping_of object) before behind ss node (off_bit + (no_rtr_bit + c.identifier))
+    c.message.transmission c.message.inhibit c.message.event (no_rtr_bit + c.identifier) c.mapping)
 
-pub rpdo_configured : (c : Clean) (k : Consumer) → IsWithin c → IsConfigured (rpdo_object k.rpdo) c.identifier k.mapping (rpdo_writes c k)
+pub rpdo_configured : (c : Clean) (k : Consumer) → IsWithin c
+    → IsConfigured (rpdo_object k.rpdo) c.identifier k.mapping (rpdo_writes c k)
 unfolding rpdo_writes
 rpdo_configured c k within =
     let object : ℕ = rpdo_object k.rpdo in
@@ -215,6 +289,8 @@ rpdo_configured c k within =
     let before : (object == mapping_of object) ≡ false = number_other object (mapping_of object) (omega arith) in
     let behind : (mapping_of object == object) ≡ false = other_number object (mapping_of object) (omega arith) in
     configured object (off_bit + c.identifier) c.identifier c.identifier k.mapping (rpdo_writes c k)
-    (rpdo_meanwhile object (mapping_of object) before behind (off_bit + c.identifier) (taken_type c.message.transmission) c.identifier k.mapping)
+    (rpdo_meanwhile object (mapping_of object) before behind (off_bit + c.identifier)
+    (taken_type c.message.transmission) c.identifier k.mapping)
     (omega arith) (omega arith) (omega arith) (omega arith)
-    (rpdo_mapping object (mapping_of object) before behind (off_bit + c.identifier) (taken_type c.message.transmission) c.identifier k.mapping)
+    (rpdo_mapping object (mapping_of object) before behind (off_bit + c.identifier)
+    (taken_type c.message.transmission) c.identifier k.mapping)

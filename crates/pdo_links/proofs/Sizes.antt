@@ -1,5 +1,6 @@
 -- The sizes and the number of the writes of PDOs.
-use Rattle.std.proofs.Common.{◌≡◌, ℕ, zero, suc, ◌+◌, ◌*◌, ◌≤◌, Bool, true, false, List, [], ◌∷◌, ◌++◌, length, length-append, All, Option, Some, None, refl, arith}
+use Rattle.std.proofs.Common.{◌≡◌, ℕ, zero, suc, ◌+◌, ◌*◌, ◌≤◌, Bool, true, false, List, [], ◌∷◌, ◌++◌, length}
+use Rattle.std.proofs.Common.{length-append, All, Option, Some, None, refl, arith}
 use Rattle.std.specs.Prelude.{if◌then◌else◌}
 use Rattle.std.specs.BTreeMap.{is_at}
 use Rattle.std.specs.List.{flat_map, range_with_len}
@@ -14,11 +15,12 @@ use Rattle.ini_text.specs.Content.{Section}
 use Rattle.eds_device.specs.Entries.{entry_at}
 use Rattle.pdo_plan.specs.declared.clean.Clean.{Clean}
 use Rattle.pdo_plan.specs.declared.consumer.Consumer.{Consumer}
-use Rattle.pdo_devices.specs.declared.mapped.Mapped.{Mapped}
-use Rattle.pdo_devices.specs.Devices.{takes_unsigned, tpdo_object, rpdo_object, mapping_of}
+use Rattle.pdo_stations.specs.declared.mapped.Mapped.{Mapped}
+use Rattle.pdo_stations.specs.Devices.{takes_unsigned, tpdo_object, rpdo_object, mapping_of}
 use Rattle.pdo_plan.specs.Mapping.{mapped_bytes}
 use Rattle.pdo_links.specs.Tables.{AreFew}
-use Rattle.pdo_links.specs.Writes.{write_at, cob_write, mapped_writes, mapping_writes, time_write, taken_type, tpdo_writes, rpdo_writes, off_bit, no_rtr_bit, at_number, by_number}
+use Rattle.pdo_links.specs.Writes.{write_at, cob_write, mapped_writes, mapping_writes, time_write, taken_type}
+use Rattle.pdo_links.specs.Writes.{tpdo_writes, rpdo_writes, off_bit, no_rtr_bit, at_number, by_number}
 
 abbrev IsSized : Write → Type 0
 IsSized w = (1 ≤ length w.bytes) × (length w.bytes ≤ 512)
@@ -32,7 +34,11 @@ holds_none : Holds 0 []
 holds_none = record { sizes = All-nil IsSized; count = omega arith }
 
 holds_one : (n : ℕ) (w : Write) (ws : List Write) → IsSized w → Holds n ws → Holds (1 + n) (w ∷ ws)
-holds_one n w ws sized h = record { sizes = All-cons IsSized w ws sized h.sizes; count = let c : length ws ≤ n = h.count in omega arith }
+holds_one n w ws sized h = record {
+  sizes = All-cons IsSized w ws sized h.sizes;
+  count = let c : length ws ≤ n = h.count
+      in omega arith;
+}
 
 holds_both : (m n : ℕ) (xs ys : List Write) → Holds m xs → Holds n ys → Holds (m + n) (xs ++ ys)
 holds_both m n xs ys a b = record {
@@ -52,7 +58,8 @@ word_sized object sub n = (omega arith, omega arith)
 time_held : (ss : List Section) (node object sub time : ℕ) → Holds 1 (time_write ss node object sub time)
 time_held ss node object sub time = by (option_map_or (takes_unsigned Bits16) (entry_at ss node object sub) false)
   where
-    by : (b : Bool) → let ws : List Write = if b then write_at object sub (little_bytes 2 time) ∷ [] else [] in Holds 1 ws
+    by : (b : Bool) → let ws : List Write = if b then write_at object sub (little_bytes 2 time) ∷ [] else []
+        in Holds 1 ws
     by true = holds_one 0 (write_at object sub (little_bytes 2 time)) [] (omega arith, omega arith) holds_none
     by false = at_most 0 1 [] (omega arith) holds_none
 
@@ -60,26 +67,34 @@ entries_held : (object first : ℕ) (mapping : List Mapped) → Holds (length ma
 entries_held object first [] = holds_none
 entries_held object first (m ∷ ms) =
     at_most (1 + length ms) (length (m ∷ ms)) (mapped_writes object first (m ∷ ms)) (omega arith)
-    (holds_one (length ms) (write_at object first (mapped_bytes m)) (mapped_writes object (first + 1) ms) (omega arith, omega arith) (entries_held object (first + 1) ms))
+    (holds_one (length ms) (write_at object first (mapped_bytes m)) (mapped_writes object (first + 1) ms)
+    (omega arith, omega arith) (entries_held object (first + 1) ms))
 
 mapping_held : (object : ℕ) (mapping : List Mapped) → length mapping ≤ 64 → Holds 66 (mapping_writes object mapping)
 mapping_held object mapping short =
     at_most (1 + (length mapping + 1)) 66 (mapping_writes object mapping) (omega arith)
-    (holds_one (length mapping + 1) (write_at object 0 (0 ∷ [])) (mapped_writes object 1 mapping ++ write_at object 0 (length mapping ∷ []) ∷ []) (byte_sized object 0 0)
-    (holds_both (length mapping) 1 (mapped_writes object 1 mapping) (write_at object 0 (length mapping ∷ []) ∷ []) (entries_held object 1 mapping)
+    (holds_one (length mapping + 1) (write_at object 0 (0 ∷ []))
+    (mapped_writes object 1 mapping ++ write_at object 0 (length mapping ∷ []) ∷ []) (byte_sized object 0 0)
+    (holds_both (length mapping) 1 (mapped_writes object 1 mapping) (write_at object 0 (length mapping ∷ []) ∷ [])
+    (entries_held object 1 mapping)
     (holds_one 0 (write_at object 0 (length mapping ∷ [])) [] (byte_sized object 0 (length mapping)) holds_none)))
 
 tpdo_held : (ss : List Section) (node : ℕ) (c : Clean) → length c.mapping ≤ 64 → Holds 71 (tpdo_writes ss node c)
 unfolding tpdo_writes
 tpdo_held ss node c short =
     let object : ℕ = tpdo_object c.message.tpdo in
-    holds_one 70 (cob_write object (off_bit + (no_rtr_bit + c.identifier))) _ (word_sized object 1 (off_bit + (no_rtr_bit + c.identifier)))
+    holds_one 70 (cob_write object (off_bit + (no_rtr_bit + c.identifier))) _
+    (word_sized object 1 (off_bit + (no_rtr_bit + c.identifier)))
     (holds_one 69 (write_at object 2 (c.message.transmission ∷ [])) _ (byte_sized object 2 c.message.transmission)
-    (holds_both 68 1 (time_write ss node object 3 c.message.inhibit ++ time_write ss node object 5 c.message.event ++ mapping_writes (mapping_of object) c.mapping) (cob_write object (no_rtr_bit + c.identifier) ∷ [])
-    (holds_both 2 66 (time_write ss node object 3 c.message.inhibit ++ time_write ss node object 5 c.message.event) (mapping_writes (mapping_of object) c.mapping)
-    (holds_both 1 1 (time_write ss node object 3 c.message.inhibit) (time_write ss node object 5 c.message.event) (time_held ss node object 3 c.message.inhibit) (time_held ss node object 5 c.message.event))
+    (holds_both 68 1 (time_write ss node object 3 c.message.inhibit ++ time_write ss node object 5 c.message.event
+    ++ mapping_writes (mapping_of object) c.mapping) (cob_write object (no_rtr_bit + c.identifier) ∷ [])
+    (holds_both 2 66 (time_write ss node object 3 c.message.inhibit ++ time_write ss node object 5 c.message.event)
+    (mapping_writes (mapping_of object) c.mapping)
+    (holds_both 1 1 (time_write ss node object 3 c.message.inhibit) (time_write ss node object 5 c.message.event)
+    (time_held ss node object 3 c.message.inhibit) (time_held ss node object 5 c.message.event))
     (mapping_held (mapping_of object) c.mapping short))
-    (holds_one 0 (cob_write object (no_rtr_bit + c.identifier)) [] (word_sized object 1 (no_rtr_bit + c.identifier)) holds_none)))
+    (holds_one 0 (cob_write object (no_rtr_bit + c.identifier)) [] (word_sized object 1 (no_rtr_bit + c.identifier))
+    holds_none)))
 
 rpdo_held : (c : Clean) (k : Consumer) → length k.mapping ≤ 64 → Holds 71 (rpdo_writes c k)
 unfolding rpdo_writes
@@ -87,7 +102,8 @@ rpdo_held c k short =
     let object : ℕ = rpdo_object k.rpdo in
     let writes : Holds 69 (rpdo_writes c k) =
     holds_one 68 (cob_write object (off_bit + c.identifier)) _ (word_sized object 1 (off_bit + c.identifier))
-    (holds_one 67 (write_at object 2 (taken_type c.message.transmission ∷ [])) _ (byte_sized object 2 (taken_type c.message.transmission))
+    (holds_one 67 (write_at object 2 (taken_type c.message.transmission ∷ [])) _
+    (byte_sized object 2 (taken_type c.message.transmission))
     (holds_both 66 1 (mapping_writes (mapping_of object) k.mapping) (cob_write object c.identifier ∷ [])
     (mapping_held (mapping_of object) k.mapping short)
     (holds_one 0 (cob_write object c.identifier) [] (word_sized object 1 c.identifier) holds_none))) in
@@ -95,7 +111,8 @@ rpdo_held c k short =
 
 -- ---- by number
 
-module _ {Y : Type 0} (f : Y → List Write) (pdos : List (ℕ × Y)) (each : (number : ℕ) (y : Y) → lookup (is_at (nat_cmp number)) pdos ≡ Some y → Holds 71 (f y)) where
+module _ {Y : Type 0} (f : Y → List Write) (pdos : List (ℕ × Y))
+    (each : (number : ℕ) (y : Y) → lookup (is_at (nat_cmp number)) pdos ≡ Some y → Holds 71 (f y)) where
   number_held : (number : ℕ) → Holds 71 (at_number f pdos number)
   number_held number = by (lookup (is_at (nat_cmp number)) pdos) refl
     where
@@ -107,16 +124,21 @@ module _ {Y : Type 0} (f : Y → List Write) (pdos : List (ℕ × Y)) (each : (n
   range_held first zero = at_most 0 (0 * 71) [] (omega arith) holds_none
   range_held first (suc n) =
       at_most (71 + n * 71) (suc n * 71) (flat_map (at_number f pdos) (range_with_len first (suc n))) (omega arith)
-      (holds_both 71 (n * 71) (at_number f pdos first) (flat_map (at_number f pdos) (range_with_len (first + 1) n)) (number_held first) (range_held (first + 1) n))
+      (holds_both 71 (n * 71) (at_number f pdos first) (flat_map (at_number f pdos) (range_with_len (first + 1) n))
+      (number_held first) (range_held (first + 1) n))
 
   few : AreFew (by_number f pdos)
   unfolding by_number
-  few = let h : Holds (512 * 71) (flat_map (at_number f pdos) (range_with_len 1 512)) = range_held 1 512 in record { sizes = h.sizes; count = h.count }
+  few = let h : Holds (512 * 71) (flat_map (at_number f pdos) (range_with_len 1 512)) = range_held 1 512
+      in record { sizes = h.sizes; count = h.count }
 
-pub few_tpdos : (ss : List Section) (node : ℕ) (pdos : List (ℕ × Clean)) → ((number : ℕ) (c : Clean) → lookup (is_at (nat_cmp number)) pdos ≡ Some c → length c.mapping ≤ 64)
+pub few_tpdos : (ss : List Section) (node : ℕ) (pdos : List (ℕ × Clean))
+    → ((number : ℕ) (c : Clean) → lookup (is_at (nat_cmp number)) pdos ≡ Some c → length c.mapping ≤ 64)
     → AreFew (by_number (tpdo_writes ss node) pdos)
 few_tpdos ss node pdos short = few (tpdo_writes ss node) pdos (λ number c is. tpdo_held ss node c (short number c is))
 
-pub few_rpdos : (pdos : List (ℕ × (Clean × Consumer))) → ((number : ℕ) (t : Clean × Consumer) → lookup (is_at (nat_cmp number)) pdos ≡ Some t → length t.1.mapping ≤ 64)
+pub few_rpdos : (pdos : List (ℕ × (Clean × Consumer)))
+    → ((number : ℕ) (t : Clean × Consumer) → lookup (is_at (nat_cmp number)) pdos ≡ Some t → length t.1.mapping ≤ 64)
     → AreFew (by_number (λ (t : Clean × Consumer). rpdo_writes t.0 t.1) pdos)
-few_rpdos pdos short = few (λ (t : Clean × Consumer). rpdo_writes t.0 t.1) pdos (λ number t is. rpdo_held t.0 t.1 (short number t is))
+few_rpdos pdos short =
+    few (λ (t : Clean × Consumer). rpdo_writes t.0 t.1) pdos (λ number t is. rpdo_held t.0 t.1 (short number t is))

@@ -1,5 +1,6 @@
 -- Tables of PDOs: what a list has first at each number.
-use Rattle.std.proofs.Common.{◌≡◌, ℕ, ◌+◌, ◌<◌, Bool, true, false, cond, List, [], ◌∷◌, ◌++◌, length, take, get_or, Option, Some, None, option_map, refl, sym, ap, ◌∙◌}
+use Rattle.std.proofs.Common.{◌≡◌, ℕ, ◌+◌, ◌<◌, Bool, true, false, cond, List, [], ◌∷◌, ◌++◌, length, take, get_or}
+use Rattle.std.proofs.Common.{Option, Some, None, option_map, refl, sym, ap, ◌∙◌}
 use Rattle.std.specs.Prelude.{◌==◌, filter_map, if◌then◌else◌, option_and_then}
 use Rattle.std.specs.BTreeMap.{is_at}
 use Rattle.std.specs.List.{cons_option, find}
@@ -18,15 +19,18 @@ use Rattle.pdo_links.specs.Tables.{IsTableOf}
 use Rattle.pdo_links.specs.Writes.{rpdo_of}
 
 -- what a list has first in its front counts
-lookup-append : {K Y : Type 0} (test : K → Bool) (xs ys : List (K × Y)) → lookup test (xs ++ ys) ≡ option_or (lookup test xs) (lookup test ys)
+lookup-append : {K Y : Type 0} (test : K → Bool) (xs ys : List (K × Y))
+    → lookup test (xs ++ ys) ≡ option_or (lookup test xs) (lookup test ys)
 lookup-append test [] ys = refl
 lookup-append {K} {Y} test (x ∷ xs) ys = by (test x.0) (lookup-append test xs ys)
   where
-    by : (b : Bool) → lookup test (xs ++ ys) ≡ option_or (lookup test xs) (lookup test ys) → cond b (Some x.1) (lookup test (xs ++ ys)) ≡ option_or (cond b (Some x.1) (lookup test xs)) (lookup test ys)
+    by : (b : Bool) → lookup test (xs ++ ys) ≡ option_or (lookup test xs) (lookup test ys)
+        → cond b (Some x.1) (lookup test (xs ++ ys)) ≡ option_or (cond b (Some x.1) (lookup test xs)) (lookup test ys)
     by true e = refl
     by false e = e
 
-map_or : {X Y : Type 0} (f : X → Y) (a b : Option X) → option_map f (option_or a b) ≡ option_or (option_map f a) (option_map f b)
+map_or : {X Y : Type 0} (f : X → Y) (a b : Option X)
+    → option_map f (option_or a b) ≡ option_or (option_map f a) (option_map f b)
 map_or f None b = refl
 map_or f (Some x) b = refl
 
@@ -36,7 +40,8 @@ nothing_more (Some y) = refl
 
 -- of a message that isn't clean nothing is had
 clean_more : {Y : Type 0} (pdo_of : Clean → Option (ℕ × Y)) (ps : List PlannedMessage) (p : PlannedMessage)
-    → filter_map pdo_of (clean (ps ++ p ∷ [])) ≡ filter_map pdo_of (clean ps) ++ cons_option (option_and_then pdo_of (clean_of p.outcome)) []
+    → filter_map pdo_of (clean (ps ++ p ∷ []))
+    ≡ filter_map pdo_of (clean ps) ++ cons_option (option_and_then pdo_of (clean_of p.outcome)) []
 clean_more pdo_of ps p =
     ap (filter_map pdo_of) (filter_map-append (λ (q : PlannedMessage). clean_of q.outcome) ps (p ∷ []))
     ∙ filter_map-append pdo_of (clean ps) (clean (p ∷ []))
@@ -51,17 +56,21 @@ module _ {X Y : Type 0} (shows : X → Y) (pdo_of : Clean → Option (ℕ × Y))
   unfolding IsTableOf
   none_tabled entries is = λ number. rw is refl
 
-  taken_more : (ps : List PlannedMessage) (i : ℕ) (d p : PlannedMessage) → i < length ps → p ≡ get_or ps i d → take (i + 1) ps ≡ take i ps ++ p ∷ []
+  taken_more : (ps : List PlannedMessage) (i : ℕ) (d p : PlannedMessage) → i < length ps → p ≡ get_or ps i d
+      → take (i + 1) ps ≡ take i ps ++ p ∷ []
   taken_more ps i d p lt is = take_more ps i d lt ∙ ap (λ x. take i ps ++ x ∷ []) (sym is)
 
   -- a message of which nothing is had
-  pub skipped : (entries : List (ℕ × X)) (ps : List PlannedMessage) (i : ℕ) (d p : PlannedMessage) → i < length ps → p ≡ get_or ps i d
+  pub skipped : (entries : List (ℕ × X)) (ps : List PlannedMessage) (i : ℕ) (d p : PlannedMessage) → i < length ps
+      → p ≡ get_or ps i d
       → None ≡ option_and_then pdo_of (clean_of p.outcome)
-      → IsTableOf shows entries (filter_map pdo_of (clean (take i ps))) → IsTableOf shows entries (filter_map pdo_of (clean (take (i + 1) ps)))
+      → IsTableOf shows entries (filter_map pdo_of (clean (take i ps)))
+      → IsTableOf shows entries (filter_map pdo_of (clean (take (i + 1) ps)))
   unfolding IsTableOf
   skipped entries ps i d p lt is nothing so_far = λ number.
       let more : filter_map pdo_of (clean (take (i + 1) ps)) ≡ filter_map pdo_of (clean (take i ps)) ++ [] =
-      ap (λ (qs : List PlannedMessage). filter_map pdo_of (clean qs)) (taken_more ps i d p lt is) ∙ clean_more pdo_of (take i ps) p
+      ap (λ (qs : List PlannedMessage). filter_map pdo_of (clean qs)) (taken_more ps i d p lt is)
+      ∙ clean_more pdo_of (take i ps) p
       ∙ ap (λ o. filter_map pdo_of (clean (take i ps)) ++ cons_option o []) (sym nothing) in
       so_far number
       ∙ sym (nothing_more (lookup (is_at (nat_cmp number)) (filter_map pdo_of (clean (take i ps)))))
@@ -69,15 +78,19 @@ module _ {X Y : Type 0} (shows : X → Y) (pdo_of : Clean → Option (ℕ × Y))
       ∙ ap (lookup (is_at (nat_cmp number))) (sym more)
 
   -- a message of which a PDO is had
-  pub noted : (old new : List (ℕ × X)) (ps : List PlannedMessage) (i : ℕ) (d p : PlannedMessage) (number : ℕ) (x : X) → i < length ps → p ≡ get_or ps i d
+  pub noted : (old new : List (ℕ × X)) (ps : List PlannedMessage) (i : ℕ) (d p : PlannedMessage) (number : ℕ) (x : X)
+      → i < length ps → p ≡ get_or ps i d
       → Some (number, shows x) ≡ option_and_then pdo_of (clean_of p.outcome)
-      → ((key : ℕ) → lookup (is_at (nat_cmp key)) new ≡ option_or (lookup (is_at (nat_cmp key)) old) (if is_at (nat_cmp key) number then Some x else None))
-      → IsTableOf shows old (filter_map pdo_of (clean (take i ps))) → IsTableOf shows new (filter_map pdo_of (clean (take (i + 1) ps)))
+      → ((key : ℕ) → lookup (is_at (nat_cmp key)) new ≡ option_or (lookup (is_at (nat_cmp key)) old)
+      (if is_at (nat_cmp key) number then Some x else None))
+      → IsTableOf shows old (filter_map pdo_of (clean (take i ps)))
+      → IsTableOf shows new (filter_map pdo_of (clean (take (i + 1) ps)))
   unfolding IsTableOf
   noted old new ps i d p number x lt is had put so_far = λ key.
       let before : List (ℕ × Y) = filter_map pdo_of (clean (take i ps)) in
       let more : filter_map pdo_of (clean (take (i + 1) ps)) ≡ before ++ (number, shows x) ∷ [] =
-      ap (λ (qs : List PlannedMessage). filter_map pdo_of (clean qs)) (taken_more ps i d p lt is) ∙ clean_more pdo_of (take i ps) p
+      ap (λ (qs : List PlannedMessage). filter_map pdo_of (clean qs)) (taken_more ps i d p lt is)
+      ∙ clean_more pdo_of (take i ps) p
       ∙ ap (λ o. before ++ cons_option o []) (sym had) in
       ap (option_map shows) (put key)
       ∙ map_or shows (lookup (is_at (nat_cmp key)) old) (if is_at (nat_cmp key) number then Some x else None)
@@ -86,18 +99,22 @@ module _ {X Y : Type 0} (shows : X → Y) (pdo_of : Clean → Option (ℕ × Y))
       ∙ sym (lookup-append (is_at (nat_cmp key)) before ((number, shows x) ∷ []))
       ∙ ap (lookup (is_at (nat_cmp key))) (sym more)
     where
-      one : (b : Bool) → let none : Option X = None in let o : Option X = if b then Some x else none in option_map shows o ≡ cond b (Some (shows x)) None
+      one : (b : Bool) → let none : Option X = None in let o : Option X = if b then Some x else none
+          in option_map shows o ≡ cond b (Some (shows x)) None
       one true = refl
       one false = refl
 
 -- what a table has
-pub tabled : {X Y : Type 0} (shows : X → Y) (entries : List (ℕ × X)) (pdos : List (ℕ × Y)) (number : ℕ) → IsTableOf shows entries pdos
+pub tabled : {X Y : Type 0} (shows : X → Y) (entries : List (ℕ × X)) (pdos : List (ℕ × Y)) (number : ℕ)
+    → IsTableOf shows entries pdos
     → option_map shows (lookup (is_at (nat_cmp number)) entries) ≡ lookup (is_at (nat_cmp number)) pdos
 unfolding IsTableOf
 tabled shows entries pdos number h = h number
 
 -- the RPDO of a message that is clean and has the node among its consumers
-pub rpdo_had : (node : ℕ) (o : Outcome) (c : Clean) (k : Consumer) → o ≡ Planned c → Some k ≡ find (λ (k : Consumer). k.node == node) c.consumers
+pub rpdo_had : (node : ℕ) (o : Outcome) (c : Clean) (k : Consumer) → o ≡ Planned c
+    → Some k ≡ find (λ (k : Consumer). k.node == node) c.consumers
     → Some (k.rpdo, (c, k)) ≡ option_and_then (rpdo_of node) (clean_of o)
 rpdo_had node o c k is found =
-    ap (option_map (λ (k : Consumer). (k.rpdo, (c, k)))) found ∙ ap (λ (p : Outcome). option_and_then (rpdo_of node) (clean_of p)) (sym is)
+    ap (option_map (λ (k : Consumer). (k.rpdo, (c, k)))) found
+    ∙ ap (λ (p : Outcome). option_and_then (rpdo_of node) (clean_of p)) (sym is)

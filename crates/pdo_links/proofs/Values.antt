@@ -1,5 +1,6 @@
 -- The writes of a PDO are values of their entries.
-use Rattle.std.proofs.Common.{◌≡◌, ℕ, zero, suc, ◌+◌, ◌<◌, Bool, true, false, ◌&&◌, cond, List, [], ◌∷◌, ◌++◌, length, Option, Some, None, option_map, refl, ◌∙◌, arith}
+use Rattle.std.proofs.Common.{◌≡◌, ℕ, zero, suc, ◌+◌, ◌<◌, Bool, true, false, ◌&&◌, cond, List, [], ◌∷◌, ◌++◌, length}
+use Rattle.std.proofs.Common.{Option, Some, None, option_map, refl, ◌∙◌, arith}
 use Rattle.std.specs.Prelude.{◌==◌, if◌then◌else◌, option_and_then}
 use Rattle.std.specs.List.{list_all, range_with_len}
 use Rattle.std.specs.Option.{option_map_or}
@@ -16,16 +17,18 @@ use Rattle.co_values.specs.Values.{Fits, FitsForm}
 use Rattle.co_dict.specs.Accesses.{is_writable}
 use Rattle.concise_dcf.specs.declared.write.Write.{Write}
 use Rattle.ini_text.specs.Content.{Section}
-use Rattle.eds_device.specs.Described.{Described, described, kind_at}
+use Rattle.eds_device.specs.Described.{Described, description_of, kind_at}
 use Rattle.eds_device.specs.Entries.{entry_by, entry_at}
 use Rattle.pdo_plan.specs.declared.clean.Clean.{Clean}
 use Rattle.pdo_plan.specs.declared.consumer.Consumer.{Consumer}
-use Rattle.pdo_devices.specs.declared.mapped.Mapped.{Mapped}
-use Rattle.pdo_devices.specs.Devices.{devices_of, is_width, is_unsigned_form, takes_unsigned, has_unsigned, has_mapping, tpdo_object, rpdo_object, mapping_of}
+use Rattle.pdo_stations.specs.declared.mapped.Mapped.{Mapped}
+use Rattle.pdo_stations.specs.Devices.{devices_of, is_width, is_unsigned_form, takes_unsigned, has_unsigned}
+use Rattle.pdo_stations.specs.Devices.{has_mapping, tpdo_object, rpdo_object, mapping_of}
 use Rattle.pdo_plan.specs.Mapping.{mapped_bytes}
 use Rattle.pdo_plan.specs.Plan.{HasPdo}
 use Rattle.pdo_links.specs.Tables.{AreMapped, AreValues}
-use Rattle.pdo_links.specs.Writes.{write_at, cob_write, mapped_writes, mapping_writes, time_write, taken_type, tpdo_writes, rpdo_writes, off_bit, no_rtr_bit}
+use Rattle.pdo_links.specs.Writes.{write_at, cob_write, mapped_writes, mapping_writes, time_write, taken_type}
+use Rattle.pdo_links.specs.Writes.{tpdo_writes, rpdo_writes, off_bit, no_rtr_bit}
 
 -- ---- tests
 
@@ -60,7 +63,8 @@ same_width Bits64 Bits8 e = cc
 same_width Bits64 Bits16 e = cc
 same_width Bits64 Bits32 e = cc
 
-fits_form : (width : Width) (f : Form) (bytes : List ℕ) → is_unsigned_form width f ≡ true → length bytes ≡ octets width → FitsForm f bytes
+fits_form : (width : Width) (f : Form) (bytes : List ℕ) → is_unsigned_form width f ≡ true → length bytes ≡ octets width
+    → FitsForm f bytes
 fits_form width (Unsigned w) bytes e len = len ∙ same_width width w e
 fits_form width Flag bytes e len = cc
 fits_form width (Signed w) bytes e len = cc
@@ -70,21 +74,29 @@ fits_form width Unmodelled bytes e len = cc
 
 -- what an entry of a device takes is a value of it
 pub taken_fits : (ss : List Section) (node index sub : ℕ) (width : Width) (bytes : List ℕ)
-    → option_map_or (takes_unsigned width) (entry_at ss node index sub) false ≡ true → AreBytes bytes → length bytes ≡ octets width → Fits (kind_at ss (index, sub)) bytes
+    → option_map_or (takes_unsigned width) (entry_at ss node index sub) false ≡ true → AreBytes bytes
+    → length bytes ≡ octets width → Fits (kind_at ss (index, sub)) bytes
 unfolding entry_at kind_at
-taken_fits ss node index sub width bytes test are len = by (described ss index sub) test
+taken_fits ss node index sub width bytes test are len = by (description_of ss index sub) test
   where
     by : (o : Option Described) → option_map_or (takes_unsigned width) (option_map (entry_by node) o) false ≡ true
         → Fits (option_map_or (λ (d : Described). d.kind) o NotModelled) bytes
     by None e = cc
-    by (Some d) e = (are, fits_form width (form d.kind) bytes (first_of (is_unsigned_form width (form d.kind)) (is_writable d.access) e) len)
+    by (Some d) e = (
+      are,
+      fits_form width (form d.kind) bytes (first_of (is_unsigned_form width (form d.kind))
+          (is_writable d.access) e) len,
+    )
 
 -- the same of the plan's words
 has_fits : (ss : List Section) (node index sub : ℕ) (width : Width) (bytes : List ℕ)
-    → has_unsigned (devices_of ((node, ss) ∷ [])) node width (index, sub) ≡ true → AreBytes bytes → length bytes ≡ octets width → Fits (kind_at ss (index, sub)) bytes
-has_fits ss node index sub width bytes test are len = taken_fits ss node index sub width bytes (by (node == node) (same_number node) test) are len
+    → has_unsigned (devices_of ((node, ss) ∷ [])) node width (index, sub) ≡ true → AreBytes bytes
+    → length bytes ≡ octets width → Fits (kind_at ss (index, sub)) bytes
+has_fits ss node index sub width bytes test are len =
+    taken_fits ss node index sub width bytes (by (node == node) (same_number node) test) are len
   where
-    by : (b : Bool) → b ≡ true → option_map_or (takes_unsigned width) (option_and_then (λ (s : List Section). entry_at s node index sub) (cond b (Some ss) None)) false ≡ true
+    by : (b : Bool) → b ≡ true → option_map_or (takes_unsigned width)
+        (option_and_then (λ (s : List Section). entry_at s node index sub) (cond b (Some ss) None)) false ≡ true
         → option_map_or (takes_unsigned width) (entry_at ss node index sub) false ≡ true
     by true is e = e
     by false is e = cc
@@ -117,7 +129,8 @@ module _ (ss : List Section) where
   unfolding AreValues
   no_values = All-nil IsValue
 
-  pub one_value : (w : Write) (ws : List Write) → Fits (kind_at ss (w.index, w.sub)) w.bytes → AreValues ss ws → AreValues ss (w ∷ ws)
+  pub one_value : (w : Write) (ws : List Write) → Fits (kind_at ss (w.index, w.sub)) w.bytes → AreValues ss ws
+      → AreValues ss (w ∷ ws)
   unfolding AreValues
   one_value w ws fits rest = All-cons IsValue w ws fits rest
 
@@ -130,52 +143,70 @@ module _ (ss : List Section) where
     where
       by : (b : Bool) → option_map_or (takes_unsigned Bits16) (entry_at ss node object sub) false ≡ b
           → let ws : List Write = if b then write_at object sub (little_bytes 2 time) ∷ [] else [] in AreValues ss ws
-      by true is = one_value (write_at object sub (little_bytes 2 time)) [] (taken_fits ss node object sub Bits16 (little_bytes 2 time) is (two_bytes time) refl) no_values
+      by true is =
+          one_value (write_at object sub (little_bytes 2 time)) []
+          (taken_fits ss node object sub Bits16 (little_bytes 2 time) is (two_bytes time) refl) no_values
       by false is = no_values
 
   entry_values : (node object first : ℕ) (mapping : List Mapped)
-      → list_all (λ sub. has_unsigned (devices_of ((node, ss) ∷ [])) node Bits32 (object, sub)) (range_with_len first (length mapping)) ≡ true
+      → list_all (λ sub. has_unsigned (devices_of ((node, ss) ∷ [])) node Bits32 (object, sub))
+      (range_with_len first (length mapping)) ≡ true
       → AreMapped mapping → AreValues ss (mapped_writes object first mapping)
   unfolding AreMapped
   entry_values node object first [] test are = no_values
   entry_values node object first (m ∷ ms) test are =
       let P : Mapped → Type 0 = λ m. AreBytes (mapped_bytes m) in
       let here : has_unsigned (devices_of ((node, ss) ∷ [])) node Bits32 (object, first) ≡ true = first_of _ _ test in
-      let rest : list_all (λ sub. has_unsigned (devices_of ((node, ss) ∷ [])) node Bits32 (object, sub)) (range_with_len (first + 1) (length ms)) ≡ true = second_of _ _ test in
+      let rest : list_all (λ sub. has_unsigned (devices_of ((node, ss) ∷ [])) node Bits32 (object, sub))
+      (range_with_len (first + 1) (length ms)) ≡ true = second_of _ _ test in
       one_value (write_at object first (mapped_bytes m)) (mapped_writes object (first + 1) ms)
       (has_fits ss node object first Bits32 (mapped_bytes m) here (All-head P m ms are) refl)
       (entry_values node object (first + 1) ms rest (All-tail P m ms are))
 
-  mapping_values : (node object : ℕ) (mapping : List Mapped) → has_mapping (devices_of ((node, ss) ∷ [])) node object (length mapping) ≡ true
+  mapping_values : (node object : ℕ) (mapping : List Mapped)
+      → has_mapping (devices_of ((node, ss) ∷ [])) node object (length mapping) ≡ true
       → length mapping < 256 → AreMapped mapping → AreValues ss (mapping_writes object mapping)
   unfolding has_mapping
   mapping_values node object mapping test short are =
       let count : has_unsigned (devices_of ((node, ss) ∷ [])) node Bits8 (object, 0) ≡ true = first_of _ _ test in
-      one_value (write_at object 0 (0 ∷ [])) (mapped_writes object 1 mapping ++ write_at object 0 (length mapping ∷ []) ∷ [])
+      one_value (write_at object 0 (0 ∷ [])) (mapped_writes object 1 mapping ++ write_at object 0 (length mapping ∷ [])
+      ∷ [])
       (has_fits ss node object 0 Bits8 (0 ∷ []) count (one_byte 0 (omega arith)) refl)
       (both_values (mapped_writes object 1 mapping) (write_at object 0 (length mapping ∷ []) ∷ [])
       (entry_values node object 1 mapping (second_of _ _ test) are)
-      (one_value (write_at object 0 (length mapping ∷ [])) [] (has_fits ss node object 0 Bits8 (length mapping ∷ []) count (one_byte (length mapping) short) refl) no_values))
+      (one_value (write_at object 0 (length mapping ∷ [])) []
+      (has_fits ss node object 0 Bits8 (length mapping ∷ []) count (one_byte (length mapping) short) refl)
+      no_values))
 
-  cob_value : (node object cob : ℕ) → has_unsigned (devices_of ((node, ss) ∷ [])) node Bits32 (object, 1) ≡ true → Fits (kind_at ss (object, 1)) (little_bytes 4 cob)
+  cob_value : (node object cob : ℕ) → has_unsigned (devices_of ((node, ss) ∷ [])) node Bits32 (object, 1) ≡ true
+      → Fits (kind_at ss (object, 1)) (little_bytes 4 cob)
   cob_value node object cob test = has_fits ss node object 1 Bits32 (little_bytes 4 cob) test (four_bytes cob) refl
 
   -- ---- PDOs
 
-  pub tpdo_values : (node : ℕ) (c : Clean) → HasPdo ss node (tpdo_object c.message.tpdo) (length c.mapping) → c.message.transmission < 256
+  pub tpdo_values : (node : ℕ) (c : Clean) → HasPdo ss node (tpdo_object c.message.tpdo) (length c.mapping)
+      → c.message.transmission < 256
       → length c.mapping < 256 → AreMapped c.mapping → AreValues ss (tpdo_writes ss node c)
   unfolding tpdo_writes
   tpdo_values node c has transmission short are =
       let object : ℕ = tpdo_object c.message.tpdo in
-      let cob : has_unsigned (devices_of ((node, ss) ∷ [])) node Bits32 (object, 1) ≡ true = first_of _ _ (first_of _ _ has) in
-      let kind : has_unsigned (devices_of ((node, ss) ∷ [])) node Bits8 (object, 2) ≡ true = second_of _ _ (first_of _ _ has) in
-      one_value (cob_write object (off_bit + (no_rtr_bit + c.identifier))) _ (cob_value node object (off_bit + (no_rtr_bit + c.identifier)) cob)
-      (one_value (write_at object 2 (c.message.transmission ∷ [])) _ (has_fits ss node object 2 Bits8 (c.message.transmission ∷ []) kind (one_byte c.message.transmission transmission) refl)
-      (both_values (time_write ss node object 3 c.message.inhibit ++ time_write ss node object 5 c.message.event ++ mapping_writes (mapping_of object) c.mapping) _
+      let cob : has_unsigned (devices_of ((node, ss) ∷ [])) node Bits32 (object, 1)
+      ≡ true = first_of _ _ (first_of _ _ has) in
+      let kind : has_unsigned (devices_of ((node, ss) ∷ [])) node Bits8 (object, 2)
+      ≡ true = second_of _ _ (first_of _ _ has) in
+      one_value (cob_write object (off_bit + (no_rtr_bit + c.identifier))) _
+      (cob_value node object (off_bit + (no_rtr_bit + c.identifier)) cob)
+      (one_value (write_at object 2 (c.message.transmission ∷ [])) _
+      (has_fits ss node object 2 Bits8 (c.message.transmission
+      ∷ []) kind (one_byte c.message.transmission transmission) refl)
+      (both_values (time_write ss node object 3 c.message.inhibit ++ time_write ss node object 5 c.message.event
+      ++ mapping_writes (mapping_of object) c.mapping) _
       (both_values (time_write ss node object 3 c.message.inhibit ++ time_write ss node object 5 c.message.event) _
-      (both_values (time_write ss node object 3 c.message.inhibit) _ (time_value node object 3 c.message.inhibit) (time_value node object 5 c.message.event))
+      (both_values (time_write ss node object 3 c.message.inhibit) _ (time_value node object 3 c.message.inhibit)
+      (time_value node object 5 c.message.event))
       (mapping_values node (mapping_of object) c.mapping (second_of _ _ has) short are))
-      (one_value (cob_write object (no_rtr_bit + c.identifier)) [] (cob_value node object (no_rtr_bit + c.identifier) cob) no_values)))
+      (one_value (cob_write object (no_rtr_bit + c.identifier)) []
+      (cob_value node object (no_rtr_bit + c.identifier) cob) no_values)))
 
   taken_byte : (transmission : ℕ) → taken_type transmission < 256
   taken_byte transmission = grind arith
@@ -185,11 +216,14 @@ module _ (ss : List Section) where
   unfolding rpdo_writes
   rpdo_values node c k has short are =
       let object : ℕ = rpdo_object k.rpdo in
-      let cob : has_unsigned (devices_of ((node, ss) ∷ [])) node Bits32 (object, 1) ≡ true = first_of _ _ (first_of _ _ has) in
-      let kind : has_unsigned (devices_of ((node, ss) ∷ [])) node Bits8 (object, 2) ≡ true = second_of _ _ (first_of _ _ has) in
+      let cob : has_unsigned (devices_of ((node, ss) ∷ [])) node Bits32 (object, 1)
+      ≡ true = first_of _ _ (first_of _ _ has) in
+      let kind : has_unsigned (devices_of ((node, ss) ∷ [])) node Bits8 (object, 2)
+      ≡ true = second_of _ _ (first_of _ _ has) in
       let type : ℕ = taken_type c.message.transmission in
       one_value (cob_write object (off_bit + c.identifier)) _ (cob_value node object (off_bit + c.identifier) cob)
-      (one_value (write_at object 2 (type ∷ [])) _ (has_fits ss node object 2 Bits8 (type ∷ []) kind (one_byte type (taken_byte c.message.transmission)) refl)
+      (one_value (write_at object 2 (type ∷ [])) _
+      (has_fits ss node object 2 Bits8 (type ∷ []) kind (one_byte type (taken_byte c.message.transmission)) refl)
       (both_values (mapping_writes (mapping_of object) k.mapping) _
       (mapping_values node (mapping_of object) k.mapping (second_of _ _ has) short are)
       (one_value (cob_write object c.identifier) [] (cob_value node object c.identifier cob) no_values)))

@@ -1,5 +1,7 @@
 -- Whose writes a node gets.
-use Rattle.std.proofs.Common.{◌≡◌, ◌⊎◌, inl, inr, ⊎_elim, ℕ, zero, suc, ◌+◌, ◌<◌, ◌≤◌, Bool, true, false, cond, List, [], ◌∷◌, ◌++◌, length, Contains, Option, Some, None, option_map, refl, sym, ap, subst, ◌∙◌, arith}
+use Rattle.std.proofs.Common.{◌≡◌, ◌⊎◌, inl, inr, ⊎_elim, ℕ, zero, suc, ◌+◌, ◌<◌, ◌≤◌, Bool, true, false, cond, List}
+use Rattle.std.proofs.Common.{[], ◌∷◌, ◌++◌, length, Contains, Option, Some, None, option_map, refl, sym, ap, subst}
+use Rattle.std.proofs.Common.{◌∙◌, arith}
 use Rattle.std.specs.Prelude.{◌==◌, filter_map, if◌then◌else◌}
 use Rattle.std.specs.BTreeMap.{is_at}
 use Rattle.std.specs.List.{cons_option, find, flat_map, range_with_len}
@@ -21,7 +23,8 @@ use Rattle.pdo_plan.specs.declared.consumer.Consumer.{Consumer}
 use Rattle.pdo_plan.specs.declared.planned_message.PlannedMessage.{PlannedMessage}
 use Rattle.pdo_plan.specs.Plan.{clean}
 use Rattle.pdo_links.specs.Order.{IsOfSent, IsOfTaken, IsNamedByNone, IsSentAlone, IsTakenAlone}
-use Rattle.pdo_links.specs.Writes.{at_number, by_number, link_writes, node_writes, tpdo_of, rpdo_of, tpdo_writes, rpdo_writes}
+use Rattle.pdo_links.specs.Writes.{at_number, by_number, link_writes, node_writes, tpdo_of, rpdo_of, tpdo_writes}
+use Rattle.pdo_links.specs.Writes.{rpdo_writes}
 use Rattle.pdo_links.proofs.Numbered.{Sends, Takes, sends, takes, found, append_none}
 
 -- ---- elements
@@ -44,7 +47,8 @@ module _ {Y : Type 0} (f : Y → List Write) (pdos : List (ℕ × Y)) (w : Write
 
   of_range : (first n : ℕ) → Contains (flat_map (at_number f pdos) (range_with_len first n)) w → Behind
   of_range first zero (k, lt, is) = absurd (omega arith)
-  of_range first (suc n) has = ⊎_elim (here (lookup (is_at (nat_cmp first)) pdos) refl) (of_range (first + 1) n) (of_either (at_number f pdos first) (flat_map (at_number f pdos) (range_with_len (first + 1) n)) w has)
+  of_range first (suc n) has = ⊎_elim (here (lookup (is_at (nat_cmp first)) pdos) refl) (of_range (first + 1) n)
+      (of_either (at_number f pdos first) (flat_map (at_number f pdos) (range_with_len (first + 1) n)) w has)
     where
       here : (o : Option Y) → lookup (is_at (nat_cmp first)) pdos ≡ o → Contains (option_map_or f o []) w → Behind
       here None is (k, lt, at) = absurd (omega arith)
@@ -65,13 +69,17 @@ module _ {Y : Type 0} (f : Y → List Write) where
 
 -- ---- whose
 
-of_tpdos : (cs : List Clean) (ss : List Section) (node : ℕ) (w : Write) → Contains (by_number (tpdo_writes ss node) (filter_map (tpdo_of node) cs)) w → IsOfSent cs ss node w
+of_tpdos : (cs : List Clean) (ss : List Section) (node : ℕ) (w : Write)
+    → Contains (by_number (tpdo_writes ss node) (filter_map (tpdo_of node) cs)) w → IsOfSent cs ss node w
 of_tpdos cs ss node w has =
-    let b : Behind (tpdo_writes ss node) (filter_map (tpdo_of node) cs) w = behind_number (tpdo_writes ss node) (filter_map (tpdo_of node) cs) w has in
+    let b : Behind (tpdo_writes ss node) (filter_map (tpdo_of node) cs) w = behind_number (tpdo_writes ss node)
+    (filter_map (tpdo_of node) cs) w has in
     let s : Sends cs node b.0 b.1.0 = sends cs node b.0 b.1.0 b.1.1 in
     (b.1.0, s.message, s.sender, b.1.2)
 
-of_rpdos : (cs : List Clean) (node : ℕ) (w : Write) → Contains (by_number (λ (t : Clean × Consumer). rpdo_writes t.0 t.1) (filter_map (rpdo_of node) cs)) w → IsOfTaken cs node w
+of_rpdos : (cs : List Clean) (node : ℕ) (w : Write)
+    → Contains (by_number (λ (t : Clean × Consumer). rpdo_writes t.0 t.1) (filter_map (rpdo_of node) cs)) w
+    → IsOfTaken cs node w
 of_rpdos cs node w has =
     let f : Clean × Consumer → List Write = λ (t : Clean × Consumer). rpdo_writes t.0 t.1 in
     let b : Behind f (filter_map (rpdo_of node) cs) w = behind_number f (filter_map (rpdo_of node) cs) w has in
@@ -83,47 +91,65 @@ pub of_messages : (plan : List PlannedMessage) (params : Texts) (ss : List Secti
     → Contains (node_writes plan params ss node) w → is_of_pdos w.index ≡ true
     → IsOfSent (clean plan) ss node w ⊎ IsOfTaken (clean plan) node w
 unfolding node_writes link_writes
-of_messages plan params ss node w apart has pdo = ⊎_elim parameter links (of_either (parameter_writes ss params node) (link_writes plan ss node) w has)
+of_messages plan params ss node w apart has pdo =
+    ⊎_elim parameter links (of_either (parameter_writes ss params node) (link_writes plan ss node) w has)
   where
-    parameter : Contains (parameter_writes ss params node) w → IsOfSent (clean plan) ss node w ⊎ IsOfTaken (clean plan) node w
+    parameter : Contains (parameter_writes ss params node) w
+        → IsOfSent (clean plan) ss node w ⊎ IsOfTaken (clean plan) node w
     parameter there =
-        let text : (text : List ℕ) × (parameter_text ss params (place_of w) ≡ Some text) × _ = nothing_else ss params node w there in
-        let none : parameter_text ss params (place_of w) ≡ None = pdo_text ss params (place_of w) (apart (place_of w) pdo) pdo in
+        let text : (text : List ℕ) × (parameter_text ss params (place_of w) ≡ Some text)
+        × _ = nothing_else ss params node w there in
+        let none : parameter_text ss params (place_of w) ≡ None = pdo_text ss params (place_of w)
+        (apart (place_of w) pdo) pdo in
         let contrary : (let n : Option (List ℕ) = None in n ≡ Some text.0) = sym none ∙ text.1 in
         cc
 
     links : Contains (link_writes plan ss node) w → IsOfSent (clean plan) ss node w ⊎ IsOfTaken (clean plan) node w
     links there = ⊎_elim (λ h. inl (of_tpdos (clean plan) ss node w h)) (λ h. inr (of_rpdos (clean plan) node w h))
-        (of_either (by_number (tpdo_writes ss node) (filter_map (tpdo_of node) (clean plan))) (by_number (λ (t : Clean × Consumer). rpdo_writes t.0 t.1) (filter_map (rpdo_of node) (clean plan))) w there)
+        (of_either (by_number (tpdo_writes ss node) (filter_map (tpdo_of node) (clean plan)))
+        (by_number (λ (t : Clean × Consumer). rpdo_writes t.0 t.1)
+        (filter_map (rpdo_of node) (clean plan))) w there)
 
 -- ---- a node that no message names
 
-none_given : {Y : Type 0} (h : Clean → Option Y) (cs : List Clean) → ((c : Clean) → Contains cs c → h c ≡ None) → filter_map h cs ≡ []
+none_given : {Y : Type 0} (h : Clean → Option Y) (cs : List Clean) → ((c : Clean) → Contains cs c → h c ≡ None)
+    → filter_map h cs ≡ []
 none_given h [] none = refl
-none_given {Y} h (c ∷ cs) none = rw (none c (zero, omega arith, refl)) (none_given h cs (λ d has. none d (suc has.0, (let k : has.0 < length cs = has.1 in omega arith), has.2)))
+none_given {Y} h (c ∷ cs) none = rw (none c (zero, omega arith, refl))
+    (none_given h cs (λ d has. none d (suc has.0, (let k : has.0 < length cs = has.1 in omega arith), has.2)))
 
 no_tpdo : (node : ℕ) (c : Clean) → (c.message.node ≡ node → ⊥) → tpdo_of node c ≡ None
 no_tpdo node c other = by (c.message.node == node) refl
   where
-    by : (b : Bool) → (c.message.node == node) ≡ b → (let none : Option (ℕ × Clean) = None in let o : Option (ℕ × Clean) = if b then Some (c.message.tpdo, c) else none in o ≡ none)
+    by : (b : Bool) → (c.message.node == node) ≡ b
+        → (let none : Option (ℕ × Clean) = None in let o : Option (ℕ × Clean) = if b then Some (c.message.tpdo, c)
+        else none in o ≡ none)
     by true is = absurd (other (exact_unsigned_eq c.message.node node is))
     by false is = refl
 
 no_rpdo : (node : ℕ) (c : Clean) → ((k : Consumer) → Contains c.consumers k → k.node ≡ node → ⊥) → rpdo_of node c ≡ None
 no_rpdo node c other = by (find (λ (k : Consumer). k.node == node) c.consumers) refl
   where
-    by : (o : Option Consumer) → find (λ (k : Consumer). k.node == node) c.consumers ≡ o → (let none : Option (ℕ × (Clean × Consumer)) = None in option_map (λ (k : Consumer). (k.rpdo, (c, k))) o ≡ none)
+    by : (o : Option Consumer) → find (λ (k : Consumer). k.node == node) c.consumers ≡ o
+        → (let none : Option (ℕ × (Clean × Consumer)) = None
+        in option_map (λ (k : Consumer). (k.rpdo, (c, k))) o ≡ none)
     by None is = refl
-    by (Some k) is = let f : Contains c.consumers k × ((k.node == node) ≡ true) = found (λ (k : Consumer). k.node == node) c.consumers k is in absurd (other k f.0 (exact_unsigned_eq k.node node f.1))
+    by (Some k) is = let f : Contains c.consumers k
+        × ((k.node == node) ≡ true) = found (λ (k : Consumer). k.node == node) c.consumers k is
+        in absurd (other k f.0 (exact_unsigned_eq k.node node f.1))
 
-pub parameters_alone : (plan : List PlannedMessage) (params : Texts) (ss : List Section) (node : ℕ) → IsNamedByNone (clean plan) node
+pub parameters_alone : (plan : List PlannedMessage) (params : Texts) (ss : List Section) (node : ℕ)
+    → IsNamedByNone (clean plan) node
     → node_writes plan params ss node ≡ parameter_writes ss params node
 unfolding node_writes link_writes
 parameters_alone plan params ss node none =
     let tpdos : by_number (tpdo_writes ss node) (filter_map (tpdo_of node) (clean plan)) ≡ [] =
-    none_by_number (tpdo_writes ss node) (filter_map (tpdo_of node) (clean plan)) (none_given (tpdo_of node) (clean plan) (λ c has. no_tpdo node c (none c has).0)) in
-    let rpdos : by_number (λ (t : Clean × Consumer). rpdo_writes t.0 t.1) (filter_map (rpdo_of node) (clean plan)) ≡ [] =
-    none_by_number (λ (t : Clean × Consumer). rpdo_writes t.0 t.1) (filter_map (rpdo_of node) (clean plan)) (none_given (rpdo_of node) (clean plan) (λ c has. no_rpdo node c (none c has).1)) in
+    none_by_number (tpdo_writes ss node) (filter_map (tpdo_of node) (clean plan))
+    (none_given (tpdo_of node) (clean plan) (λ c has. no_tpdo node c (none c has).0)) in
+    let rpdos : by_number (λ (t : Clean × Consumer). rpdo_writes t.0 t.1) (filter_map (rpdo_of node) (clean plan))
+    ≡ [] =
+    none_by_number (λ (t : Clean × Consumer). rpdo_writes t.0 t.1) (filter_map (rpdo_of node) (clean plan))
+    (none_given (rpdo_of node) (clean plan) (λ c has. no_rpdo node c (none c has).1)) in
     rw (tpdos, rpdos) (append_none (parameter_writes ss params node))
 
 -- ---- nothing is missing
@@ -131,23 +157,27 @@ parameters_alone plan params ss node none =
 in_first : {X : Type 0} (xs ys : List X) (x : X) → Contains xs x → Contains (xs ++ ys) x
 in_first [] ys x (k, lt, is) = absurd (omega arith)
 in_first (z ∷ xs) ys x (zero, lt, is) = (zero, omega arith, is)
-in_first (z ∷ xs) ys x (suc k, lt, is) = let r : Contains (xs ++ ys) x = in_first xs ys x (k, omega arith, is) in (suc r.0, (let j : r.0 < length (xs ++ ys) = r.1 in omega arith), r.2)
+in_first (z ∷ xs) ys x (suc k, lt, is) = let r : Contains (xs ++ ys) x = in_first xs ys x (k, omega arith, is)
+    in (suc r.0, (let j : r.0 < length (xs ++ ys) = r.1 in omega arith), r.2)
 
 in_second : {X : Type 0} (xs ys : List X) (x : X) → Contains ys x → Contains (xs ++ ys) x
 in_second [] ys x has = has
-in_second (z ∷ xs) ys x has = let r : Contains (xs ++ ys) x = in_second xs ys x has in (suc r.0, (let j : r.0 < length (xs ++ ys) = r.1 in omega arith), r.2)
+in_second (z ∷ xs) ys x has = let r : Contains (xs ++ ys) x = in_second xs ys x has
+    in (suc r.0, (let j : r.0 < length (xs ++ ys) = r.1 in omega arith), r.2)
 
 at_itself : (n : ℕ) → is_at (nat_cmp n) n ≡ true
 at_itself n = grind arith
 
 -- a number that is given is found
-given_found : {Y : Type 0} (h : Clean → Option (ℕ × Y)) (cs : List Clean) (c : Clean) (number : ℕ) (y : Y) → Contains cs c → h c ≡ Some (number, y)
+given_found : {Y : Type 0} (h : Clean → Option (ℕ × Y)) (cs : List Clean) (c : Clean) (number : ℕ) (y : Y)
+    → Contains cs c → h c ≡ Some (number, y)
     → (z : Y) × (lookup (is_at (nat_cmp number)) (filter_map h cs) ≡ Some z)
 given_found h [] c number y (k, lt, is) e = absurd (omega arith)
 given_found {Y} h (x ∷ cs) c number y (zero, lt, is) e = (y, rw (ap h is ∙ e, at_itself number) refl)
 given_found {Y} h (x ∷ cs) c number y (suc k, lt, is) e = by (h x) (given_found h cs c number y (k, omega arith, is) e)
   where
-    by : (o : Option (ℕ × Y)) → (z : Y) × (lookup (is_at (nat_cmp number)) (filter_map h cs) ≡ Some z) → (z : Y) × (lookup (is_at (nat_cmp number)) (cons_option o (filter_map h cs)) ≡ Some z)
+    by : (o : Option (ℕ × Y)) → (z : Y) × (lookup (is_at (nat_cmp number)) (filter_map h cs) ≡ Some z)
+        → (z : Y) × (lookup (is_at (nat_cmp number)) (cons_option o (filter_map h cs)) ≡ Some z)
     by None r = r
     by (Some p) r = test (is_at (nat_cmp number) p.0)
       where
@@ -155,12 +185,18 @@ given_found {Y} h (x ∷ cs) c number y (suc k, lt, is) e = by (h x) (given_foun
         test true = (p.1, refl)
         test false = r
 
-module _ {Y : Type 0} (f : Y → List Write) (pdos : List (ℕ × Y)) (number : ℕ) (w : Write) (has : Contains (at_number f pdos number) w) where
-  in_range : (first n : ℕ) → first ≤ number → number < first + n → Contains (flat_map (at_number f pdos) (range_with_len first n)) w
+module _ {Y : Type 0} (f : Y → List Write) (pdos : List (ℕ × Y)) (number : ℕ) (w : Write)
+    (has : Contains (at_number f pdos number) w) where
+  in_range : (first n : ℕ) → first ≤ number → number < first + n
+      → Contains (flat_map (at_number f pdos) (range_with_len first n)) w
   in_range first zero low high = absurd (omega arith)
   in_range first (suc n) low high = ⊎_elim
-      (λ (same : first ≡ number). in_first (at_number f pdos first) (flat_map (at_number f pdos) (range_with_len (first + 1) n)) w (subst (λ (k : ℕ). Contains (at_number f pdos k) w) (sym same) has))
-      (λ (other : first ≡ number → ⊥). in_second (at_number f pdos first) (flat_map (at_number f pdos) (range_with_len (first + 1) n)) w (in_range (first + 1) n (above first number low other) (omega arith)))
+      (λ (same : first ≡ number). in_first (at_number f pdos first)
+      (flat_map (at_number f pdos) (range_with_len (first + 1) n)) w
+      (subst (λ (k : ℕ). Contains (at_number f pdos k) w) (sym same) has))
+      (λ (other : first ≡ number → ⊥). in_second (at_number f pdos first)
+      (flat_map (at_number f pdos) (range_with_len (first + 1) n)) w
+      (in_range (first + 1) n (above first number low other) (omega arith)))
       (cases_eq first number)
     where
       above : (a b : ℕ) → a ≤ b → (a ≡ b → ⊥) → a + 1 ≤ b
@@ -174,22 +210,27 @@ module _ {Y : Type 0} (f : Y → List Write) (pdos : List (ℕ × Y)) (number : 
       bounds n test = grind arith
 
 pub sent_written : (plan : List PlannedMessage) (params : Texts) (ss : List Section) (node : ℕ) (c : Clean) (w : Write)
-    → IsSentAlone (clean plan) node c → Contains (tpdo_writes ss node c) w → Contains (node_writes plan params ss node) w
+    → IsSentAlone (clean plan) node c → Contains (tpdo_writes ss node c) w
+    → Contains (node_writes plan params ss node) w
 unfolding node_writes link_writes
 sent_written plan params ss node c w sent has =
     let pdos : List (ℕ × Clean) = filter_map (tpdo_of node) (clean plan) in
     let f : Clean → List Write = tpdo_writes ss node in
     let number : ℕ = c.message.tpdo in
-    let given : tpdo_of node c ≡ Some (number, c) = own (c.message.node == node) (same_number c.message.node node sent.sender) in
-    let at : (z : Clean) × (lookup (is_at (nat_cmp number)) pdos ≡ Some z) = given_found (tpdo_of node) (clean plan) c number c sent.there given in
+    let given : tpdo_of node c ≡ Some (number, c) = own (c.message.node == node)
+    (same_number c.message.node node sent.sender) in
+    let at : (z : Clean) × (lookup (is_at (nat_cmp number)) pdos ≡ Some z) = given_found (tpdo_of node)
+    (clean plan) c number c sent.there given in
     let s : Sends (clean plan) node number at.0 = sends (clean plan) node number at.0 at.1 in
     let same : at.0 ≡ c = sent.alone at.0 s.message s.sender s.numbered in
     let here : at_number f pdos number ≡ f c = ap (λ (o : Option Clean). option_map_or f o []) at.1 ∙ ap f same in
     in_second (parameter_writes ss params node) (link_writes plan ss node) w
-    (in_first (by_number f pdos) (by_number (λ (t : Clean × Consumer). rpdo_writes t.0 t.1) (filter_map (rpdo_of node) (clean plan))) w
+    (in_first (by_number f pdos) (by_number (λ (t : Clean × Consumer). rpdo_writes t.0 t.1)
+    (filter_map (rpdo_of node) (clean plan))) w
     (in_numbers f pdos number w (subst (λ (ws : List Write). Contains ws w) (sym here) has) sent.numbered))
   where
-    own : (b : Bool) → b ≡ true → (let none : Option (ℕ × Clean) = None in let o : Option (ℕ × Clean) = if b then Some (c.message.tpdo, c) else none in o ≡ Some (c.message.tpdo, c))
+    own : (b : Bool) → b ≡ true → (let none : Option (ℕ × Clean) = None in let o : Option (ℕ × Clean) = if b
+        then Some (c.message.tpdo, c) else none in o ≡ Some (c.message.tpdo, c))
     own true is = refl
     own false is = cc
 
@@ -197,34 +238,46 @@ sent_written plan params ss node c w sent has =
     same_number m n e = grind arith
 
 -- the consumer that is a node is found
-node_found : (node : ℕ) (ks : List Consumer) (k : Consumer) → Contains ks k → k.node ≡ node → (j : Consumer) × (find (λ (k : Consumer). k.node == node) ks ≡ Some j)
+node_found : (node : ℕ) (ks : List Consumer) (k : Consumer) → Contains ks k → k.node ≡ node
+    → (j : Consumer) × (find (λ (k : Consumer). k.node == node) ks ≡ Some j)
 node_found node [] k (i, lt, is) e = absurd (omega arith)
-node_found node (x ∷ ks) k (zero, lt, is) e = (x, rw (same_number x.node node (ap (λ (y : Consumer). y.node) is ∙ e)) refl)
+node_found node (x ∷ ks) k (zero, lt, is) e =
+    (x, rw (same_number x.node node (ap (λ (y : Consumer). y.node) is ∙ e)) refl)
   where
     same_number : (m n : ℕ) → m ≡ n → (m == n) ≡ true
     same_number m n e = grind arith
 node_found node (x ∷ ks) k (suc i, lt, is) e = by (x.node == node) (node_found node ks k (i, omega arith, is) e)
   where
-    by : (b : Bool) → (j : Consumer) × (find (λ (k : Consumer). k.node == node) ks ≡ Some j) → (j : Consumer) × (cond b (Some x) (find (λ (k : Consumer). k.node == node) ks) ≡ Some j)
+    by : (b : Bool) → (j : Consumer) × (find (λ (k : Consumer). k.node == node) ks ≡ Some j)
+        → (j : Consumer) × (cond b (Some x) (find (λ (k : Consumer). k.node == node) ks) ≡ Some j)
     by true r = (x, refl)
     by false r = r
 
-pub taken_written : (plan : List PlannedMessage) (params : Texts) (ss : List Section) (node : ℕ) (c : Clean) (k : Consumer) (w : Write)
+pub taken_written : (plan : List PlannedMessage) (params : Texts) (ss : List Section) (node : ℕ) (c : Clean)
+    (k : Consumer) (w : Write)
     → IsTakenAlone (clean plan) node c k → Contains (rpdo_writes c k) w → Contains (node_writes plan params ss node) w
 unfolding node_writes link_writes
 taken_written plan params ss node c k w taken has =
     let pdos : List (ℕ × (Clean × Consumer)) = filter_map (rpdo_of node) (clean plan) in
     let f : Clean × Consumer → List Write = λ (t : Clean × Consumer). rpdo_writes t.0 t.1 in
     let number : ℕ = k.rpdo in
-    let there : (j : Consumer) × (find (λ (k : Consumer). k.node == node) c.consumers ≡ Some j) = node_found node c.consumers k taken.consumer taken.taker in
-    let j : Contains c.consumers there.0 × ((there.0.node == node) ≡ true) = found (λ (k : Consumer). k.node == node) c.consumers there.0 there.1 in
+    let there : (j : Consumer) × (find (λ (k : Consumer). k.node == node) c.consumers ≡ Some j) =
+    node_found node c.consumers k taken.consumer taken.taker in
+    let j : Contains c.consumers there.0 × ((there.0.node == node) ≡ true) =
+    found (λ (k : Consumer). k.node == node) c.consumers there.0 there.1 in
     let it : there.0 ≡ k = taken.once there.0 j.0 (exact_unsigned_eq there.0.node node j.1) in
-    let given : rpdo_of node c ≡ Some (number, (c, k)) = ap (option_map {U = ℕ × (Clean × Consumer)} (λ (k : Consumer). (k.rpdo, (c, k)))) (there.1 ∙ ap (λ (i : Consumer). Some i) it) in
-    let at : (z : Clean × Consumer) × (lookup (is_at (nat_cmp number)) pdos ≡ Some z) = given_found (rpdo_of node) (clean plan) c number (c, k) taken.there given in
+    let given : rpdo_of node c ≡ Some (number, (c, k)) =
+    ap (option_map {U = ℕ × (Clean × Consumer)} (λ (k : Consumer). (k.rpdo, (c, k))))
+    (there.1 ∙ ap (λ (i : Consumer). Some i) it) in
+    let at : (z : Clean × Consumer) × (lookup (is_at (nat_cmp number)) pdos ≡ Some z) = given_found (rpdo_of node)
+    (clean plan) c number (c, k) taken.there given in
     let t : Takes (clean plan) node number at.0 = takes (clean plan) node number at.0 at.1 in
     let message : at.0.0 ≡ c = taken.alone at.0.0 at.0.1 t.message t.consumer t.taker t.numbered in
-    let consumer : at.0.1 ≡ k = taken.once at.0.1 (subst (λ (d : Clean). Contains d.consumers at.0.1) message t.consumer) t.taker in
-    let here : at_number f pdos number ≡ rpdo_writes c k = ap (λ (o : Option (Clean × Consumer)). option_map_or f o []) at.1 ∙ ap (λ (d : Clean). rpdo_writes d at.0.1) message ∙ ap (rpdo_writes c) consumer in
+    let consumer : at.0.1
+    ≡ k = taken.once at.0.1 (subst (λ (d : Clean). Contains d.consumers at.0.1) message t.consumer) t.taker in
+    let here : at_number f pdos number ≡ rpdo_writes c k =
+    ap (λ (o : Option (Clean × Consumer)). option_map_or f o []) at.1
+    ∙ ap (λ (d : Clean). rpdo_writes d at.0.1) message ∙ ap (rpdo_writes c) consumer in
     in_second (parameter_writes ss params node) (link_writes plan ss node) w
     (in_second (by_number (tpdo_writes ss node) (filter_map (tpdo_of node) (clean plan))) (by_number f pdos) w
     (in_numbers f pdos number w (subst (λ (ws : List Write). Contains ws w) (sym here) has) taken.numbered))

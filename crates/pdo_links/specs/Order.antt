@@ -1,13 +1,14 @@
 -- In which order a PDO is configured, and whose writes a node gets, in the words of CiA 301.
-use Rattle.std.specs.Prelude.{◌≡◌, ℕ, ◌%◌, ◌==◌, ◌&&◌, nat_le, Bool, true, false, not, List, [], ◌∷◌, ◌++◌, length, filter, Contains}
+use Rattle.std.specs.Prelude.{◌≡◌, ℕ, ◌%◌, ◌==◌, ◌&&◌, nat_le, Bool, true, false, not, List, [], ◌∷◌, ◌++◌, length}
+use Rattle.std.specs.Prelude.{filter, Contains}
 use Rattle.byteorder.specs.Endian.{little_number}
 use Rattle.co_base.specs.Ranges.{is_between}
 use Rattle.concise_dcf.specs.declared.write.Write.{Write}
 use Rattle.ini_text.specs.Content.{Section}
 use Rattle.pdo_plan.specs.declared.clean.Clean.{Clean}
 use Rattle.pdo_plan.specs.declared.consumer.Consumer.{Consumer}
-use Rattle.pdo_devices.specs.declared.mapped.Mapped.{Mapped}
-use Rattle.pdo_devices.specs.Devices.{mapping_of}
+use Rattle.pdo_stations.specs.declared.mapped.Mapped.{Mapped}
+use Rattle.pdo_stations.specs.Devices.{mapping_of}
 use Rattle.pdo_links.specs.Writes.{write_at, mapped_writes, tpdo_writes, rpdo_writes}
 
 -- ---- order
@@ -22,7 +23,8 @@ to_object index ws = filter (λ w. w.index == index) ws
 
 -- an entry is written twice, and each write to another entry stands between the two
 abbrev pub AreBetween : (Write → Bool) → Write → Write → List Write → Type 0
-AreBetween is_of_entry first last ws = (before after : List Write) (w : Write) → ws ≡ before ++ w ∷ after → is_of_entry w ≡ false
+AreBetween is_of_entry first last ws = (before after : List Write) (w : Write) → ws ≡ before ++ w ∷ after
+    → is_of_entry w ≡ false
     → (filter is_of_entry before ≡ first ∷ []) × (filter is_of_entry after ≡ last ∷ [])
 
 -- bit 31 of a COB-ID: the PDO is off
@@ -33,7 +35,8 @@ is_off cob = nat_le 0x80000000 (little_number 4 cob.bytes)
 abbrev pub identifier_in : Write → ℕ
 identifier_in cob = little_number 4 cob.bytes % 0x800
 
--- a PDO is configured while it is off, and its mapping entries are written while their count is 0; in the end the count is theirs, and the PDO is on with its identifier
+-- a PDO is configured while it is off, and its mapping entries are written while their count is 0; in the end the
+-- count is theirs, and the PDO is on with its identifier
 pub record IsConfigured (object identifier : ℕ) (mapping : List Mapped) (ws : List Write) : Type 0 where
   pub off : Write
   pub on : Write
@@ -41,8 +44,10 @@ pub record IsConfigured (object identifier : ℕ) (mapping : List Mapped) (ws : 
   pub is_switched_off : is_off off ≡ true
   pub is_switched_on : is_off on ≡ false
   pub has_identifier : identifier_in on ≡ identifier
-  pub counted : AreBetween (is_to (mapping_of object) 0) (write_at (mapping_of object) 0 (0 ∷ [])) (write_at (mapping_of object) 0 (length mapping ∷ [])) (to_object (mapping_of object) ws)
-  pub entries : filter (λ w. not (is_to (mapping_of object) 0 w)) (to_object (mapping_of object) ws) ≡ mapped_writes (mapping_of object) 1 mapping
+  pub counted : AreBetween (is_to (mapping_of object) 0) (write_at (mapping_of object) 0 (0 ∷ []))
+      (write_at (mapping_of object) 0 (length mapping ∷ [])) (to_object (mapping_of object) ws)
+  pub entries : filter (λ w. not (is_to (mapping_of object) 0 w)) (to_object (mapping_of object) ws)
+      ≡ mapped_writes (mapping_of object) 1 mapping
 
 -- ---- whose writes
 
@@ -52,11 +57,13 @@ IsOfSent cs ss node w = (c : Clean) × Contains cs c × (c.message.node ≡ node
 
 -- a write of the RPDO by which a node takes one of them
 abbrev pub IsOfTaken : List Clean → ℕ → Write → Type 0
-IsOfTaken cs node w = (c : Clean) × Contains cs c × ((k : Consumer) × Contains c.consumers k × (k.node ≡ node) × Contains (rpdo_writes c k) w)
+IsOfTaken cs node w = (c : Clean) × Contains cs c
+    × ((k : Consumer) × Contains c.consumers k × (k.node ≡ node) × Contains (rpdo_writes c k) w)
 
 -- no message is sent or taken by a node
 abbrev pub IsNamedByNone : List Clean → ℕ → Type 0
-IsNamedByNone cs node = (c : Clean) → Contains cs c → ((c.message.node ≡ node → ⊥) × ((k : Consumer) → Contains c.consumers k → k.node ≡ node → ⊥))
+IsNamedByNone cs node = (c : Clean) → Contains cs c
+    → ((c.message.node ≡ node → ⊥) × ((k : Consumer) → Contains c.consumers k → k.node ≡ node → ⊥))
 
 -- a node sends a message by a TPDO, and no other of the messages by that one
 pub record IsSentAlone (cs : List Clean) (node : ℕ) (c : Clean) : Type 0 where
@@ -72,4 +79,5 @@ pub record IsTakenAlone (cs : List Clean) (node : ℕ) (c : Clean) (k : Consumer
   pub taker : k.node ≡ node
   pub numbered : is_between 1 512 k.rpdo ≡ true
   pub once : (j : Consumer) → Contains c.consumers j → j.node ≡ node → j ≡ k
-  pub alone : (d : Clean) (j : Consumer) → Contains cs d → Contains d.consumers j → j.node ≡ node → j.rpdo ≡ k.rpdo → d ≡ c
+  pub alone : (d : Clean) (j : Consumer) → Contains cs d → Contains d.consumers j → j.node ≡ node → j.rpdo ≡ k.rpdo
+      → d ≡ c

@@ -8,12 +8,13 @@ use Rattle.co_values.specs.Values.{Fits}
 use Rattle.concise_dcf.specs.declared.write.Write.{Write}
 use Rattle.eds_device.specs.Described.{kind_at}
 use Rattle.ini_text.specs.Content.{Section}
-use Rattle.pdo_devices.specs.declared.mapped.Mapped.{Mapped}
+use Rattle.pdo_stations.specs.declared.mapped.Mapped.{Mapped}
 use Rattle.pdo_plan.specs.Mapping.{mapped_bytes}
 
 -- a table has at each number what a list has there first
 unfoldable pub IsTableOf : {X Y : Type 0} → (X → Y) → List (ℕ × X) → List (ℕ × Y) → Type 0
-IsTableOf shows entries pdos = (number : ℕ) → option_map shows (lookup (is_at (nat_cmp number)) entries) ≡ lookup (is_at (nat_cmp number)) pdos
+IsTableOf shows entries pdos = (number : ℕ)
+    → option_map shows (lookup (is_at (nat_cmp number)) entries) ≡ lookup (is_at (nat_cmp number)) pdos
 
 -- the numbers of mapping entries are within their ranges
 unfoldable pub AreMapped : List Mapped → Type 0

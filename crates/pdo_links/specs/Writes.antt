@@ -1,5 +1,7 @@
--- The writes that a plan gives a node: its TPDOs and RPDOs (CiA 301, PDO communication and mapping parameters). The order is this profile's own.
-use Rattle.std.specs.Prelude.{ℕ, ◌+◌, ◌==◌, nat_le, false, if◌then◌else◌, List, [], ◌∷◌, ◌++◌, length, map, filter_map, Option, Some, None, option_map}
+-- The writes that a plan gives a node: its TPDOs and RPDOs (CiA 301, PDO communication and mapping parameters). The
+-- order is this profile's own.
+use Rattle.std.specs.Prelude.{ℕ, ◌+◌, ◌==◌, nat_le, false, if◌then◌else◌, List, [], ◌∷◌, ◌++◌, length, map, filter_map}
+use Rattle.std.specs.Prelude.{Option, Some, None, option_map}
 use Rattle.std.specs.BTreeMap.{is_at}
 use Rattle.std.specs.List.{find, flat_map, enumerate_from, range_with_len}
 use Rattle.std.specs.Map.{lookup}
@@ -14,9 +16,9 @@ use Rattle.co_params.specs.Parameters.{parameter_writes}
 use Rattle.eds_device.specs.Entries.{entry_at}
 use Rattle.pdo_plan.specs.declared.clean.Clean.{Clean}
 use Rattle.pdo_plan.specs.declared.consumer.Consumer.{Consumer}
-use Rattle.pdo_devices.specs.declared.mapped.Mapped.{Mapped}
+use Rattle.pdo_stations.specs.declared.mapped.Mapped.{Mapped}
 use Rattle.pdo_plan.specs.declared.planned_message.PlannedMessage.{PlannedMessage}
-use Rattle.pdo_devices.specs.Devices.{takes_unsigned, tpdo_object, rpdo_object, mapping_of}
+use Rattle.pdo_stations.specs.Devices.{takes_unsigned, tpdo_object, rpdo_object, mapping_of}
 use Rattle.pdo_plan.specs.Mapping.{mapped_bytes}
 use Rattle.pdo_plan.specs.Plan.{clean}
 
@@ -45,7 +47,8 @@ mapping_writes object mapping =
 -- a time is written where the entry is there, UNSIGNED16 and writable
 abbrev pub time_write : List Section → ℕ → ℕ → ℕ → ℕ → List Write
 time_write ss node object sub time =
-    if option_map_or (takes_unsigned Bits16) (entry_at ss node object sub) false then write_at object sub (little_bytes 2 time) ∷ [] else []
+    if option_map_or (takes_unsigned Bits16) (entry_at ss node object sub) false
+    then write_at object sub (little_bytes 2 time) ∷ [] else []
 
 -- a TPDO: it is switched off; transmission type, inhibit time and event timer; the mapping; it is switched on
 unfoldable pub tpdo_writes : List Section → ℕ → Clean → List Write

@@ -9,7 +9,7 @@ ghost use Rattle.co_params.specs.Parameters.{parameter_writes};
 ghost use Rattle.pdo_plan.specs.declared.clean.Clean.{Clean};
 ghost use Rattle.pdo_plan.specs.declared.consumer.Consumer.{Consumer};
 ghost use Rattle.pdo_plan.specs.declared.planned_message.PlannedMessage.{PlannedMessage};
-ghost use Rattle.pdo_devices.specs.Devices.{tpdo_object, rpdo_object};
+ghost use Rattle.pdo_stations.specs.Devices.{tpdo_object, rpdo_object};
 ghost use Rattle.pdo_plan.specs.Plan.{IsWithin, clean};
 ghost use Rattle.pdo_links.specs.Order.{IsConfigured, IsOfSent, IsOfTaken, IsNamedByNone, IsSentAlone, IsTakenAlone};
 ghost use Rattle.pdo_links.specs.Writes.{tpdo_writes, rpdo_writes, node_writes};
@@ -41,8 +41,12 @@ pub fn the_writes_to_pdos_are_those_of_the_nodes_messages()
 /// No PDO is missing: each write of a TPDO by which the node sends a clean message, and of an RPDO by
 /// which it takes one, is among the node's writes, where no other of the messages has that PDO.
 pub fn no_pdo_of_a_node_is_missing()
-    ensures sent { (plan : List PlannedMessage) (params : Texts) (ss : List Section) (node : ℕ) (c : Clean) (w : written)
-        → IsSentAlone (clean plan) node c → Contains (tpdo_writes ss node c) w → Contains (node_writes plan params ss node) w }
-    ensures taken { (plan : List PlannedMessage) (params : Texts) (ss : List Section) (node : ℕ) (c : Clean) (k : Consumer) (w : written)
-        → IsTakenAlone (clean plan) node c k → Contains (rpdo_writes c k) w → Contains (node_writes plan params ss node) w }
+    ensures sent { (plan : List PlannedMessage) (params : Texts) (ss : List Section) (node : ℕ) (c : Clean)
+        (w : written)
+        → IsSentAlone (clean plan) node c → Contains (tpdo_writes ss node c) w
+        → Contains (node_writes plan params ss node) w }
+    ensures taken { (plan : List PlannedMessage) (params : Texts) (ss : List Section) (node : ℕ) (c : Clean)
+        (k : Consumer) (w : written)
+        → IsTakenAlone (clean plan) node c k → Contains (rpdo_writes c k) w
+        → Contains (node_writes plan params ss node) w }
 {}

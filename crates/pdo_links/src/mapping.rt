@@ -29,7 +29,8 @@ fn put_mapped(
     sub: u8,
     mapped: &Mapped,
 ) -> Result<(), AllocError>
-    ensures writes { OnOk result (writes.new.items ≡ writes.old.items ++ write_at object sub (mapped_bytes mapped.now) ∷ []) }
+    ensures writes { OnOk result (writes.new.items ≡ writes.old.items ++ write_at object sub (mapped_bytes mapped.now)
+        ∷ []) }
     ensures bytes { AreBytes (mapped_bytes mapped.now) }
 {
     let bytes = mapped_bytes(mapped);

@@ -4,7 +4,7 @@ ghost use Rattle.std.specs.List.{find};
 ghost use Rattle.std.specs.Option.{option_map, option_and_then, option_copied};
 ghost use Rattle.co_base.specs.Ranges.{is_between};
 ghost use Rattle.ini_text.specs.Content.{Section};
-ghost use Rattle.pdo_devices.specs.Devices.{rpdo_object};
+ghost use Rattle.pdo_stations.specs.Devices.{rpdo_object};
 ghost use Rattle.pdo_plan.specs.Plan.{HasPdo, IsMadeFor, IsNumbered, clean, clean_of};
 ghost use Rattle.pdo_links.specs.Tables.{AreFew, AreValues, IsTableOf};
 ghost use Rattle.pdo_links.specs.Writes.{taken_type, rpdo_writes, rpdo_of, by_number};
@@ -48,7 +48,8 @@ fn taken_type(transmission: u8) -> u8
 fn put_rpdo(writes: &mut Vec<Write>, clean: &Clean, consumer: &Consumer) -> Result<(), AllocError>
     requires { IsNumbered consumer.now.rpdo consumer.now.mapping }
     ensures writes { OnOk result (writes.new.items ≡ writes.old.items ++ rpdo_writes clean.now consumer.now) }
-    ensures fits { (ss : List Section) (node : ℕ) → HasPdo ss node (rpdo_object consumer.now.rpdo) (length consumer.now.mapping)
+    ensures fits { (ss : List Section) (node : ℕ)
+        → HasPdo ss node (rpdo_object consumer.now.rpdo) (length consumer.now.mapping)
         → OnOk result (AreValues ss (rpdo_writes clean.now consumer.now)) }
 {
     let object = rpdo_object(consumer.rpdo);
@@ -94,7 +95,8 @@ fn rpdos_of(
     messages: &[PlannedMessage],
     node: u8,
 ) -> Result<BTreeMap<u16, Taken<'_>>, AllocError>
-    ensures { IfOk result (λ table. IsTableOf (λ t. (t.clean.now, t.consumer.now)) table.entries (filter_map (rpdo_of node) (clean messages.now))) }
+    ensures { IfOk result (λ table. IsTableOf (λ t. (t.clean.now, t.consumer.now)) table.entries
+        (filter_map (rpdo_of node) (clean messages.now))) }
 {
     let mut rpdos = BTreeMap::new(alloc);
     for planned in messages {
@@ -112,10 +114,13 @@ pub(crate) fn put_rpdos(
     plan: &Plan,
     node: u8,
 ) -> Result<(), AllocError>
-    ensures writes { OnOk result (writes.new.items ≡ writes.old.items ++ by_number (λ t. rpdo_writes t.0 t.1) (filter_map (rpdo_of node) (clean plan.now))) }
-    ensures few { OnOk result (AreFew (by_number (λ t. rpdo_writes t.0 t.1) (filter_map (rpdo_of node) (clean plan.now)))) }
+    ensures writes { OnOk result (writes.new.items ≡ writes.old.items ++ by_number (λ t. rpdo_writes t.0 t.1)
+        (filter_map (rpdo_of node) (clean plan.now))) }
+    ensures few { OnOk result (AreFew (by_number (λ t. rpdo_writes t.0 t.1)
+        (filter_map (rpdo_of node) (clean plan.now)))) }
     ensures fits { (ss : List Section) → IsMadeFor plan.now ss node
-        → OnOk result (AreValues ss (by_number (λ t. rpdo_writes t.0 t.1) (filter_map (rpdo_of node) (clean plan.now)))) }
+        → OnOk result (AreValues ss (by_number (λ t. rpdo_writes t.0 t.1)
+        (filter_map (rpdo_of node) (clean plan.now)))) }
 {
     let rpdos = rpdos_of(alloc, plan.messages(), node)?;
     for number in 1..=LAST_PDO {

@@ -4,7 +4,7 @@ ghost use Rattle.std.specs.Option.{option_map, option_map_or, option_and_then};
 ghost use Rattle.co_base.specs.Ranges.{is_between};
 ghost use Rattle.co_values.specs.declared.form.Width.TheVariants.{Bits16};
 ghost use Rattle.eds_device.specs.Entries.{entry_at};
-ghost use Rattle.pdo_devices.specs.Devices.{takes_unsigned, tpdo_object};
+ghost use Rattle.pdo_stations.specs.Devices.{takes_unsigned, tpdo_object};
 ghost use Rattle.pdo_plan.specs.Plan.{HasPdo, IsMadeFor, IsWithin, clean, clean_of};
 ghost use Rattle.pdo_links.specs.Tables.{AreFew, AreValues, IsTableOf};
 ghost use Rattle.pdo_links.specs.Writes.{write_at, time_write, tpdo_writes, tpdo_of, by_number};
@@ -61,8 +61,10 @@ fn put_timing(
     object: u16,
     message: &Message,
 ) -> Result<(), AllocError>
-    ensures writes { OnOk result (writes.new.items ≡ writes.old.items ++ (write_at object 2 (message.now.transmission ∷ [])
-        ∷ (time_write device.now.sections node object 3 message.now.inhibit ++ time_write device.now.sections node object 5 message.now.event))) }
+    ensures writes { OnOk result (writes.new.items
+        ≡ writes.old.items ++ (write_at object 2 (message.now.transmission ∷ [])
+        ∷ (time_write device.now.sections node object 3 message.now.inhibit
+        ++ time_write device.now.sections node object 5 message.now.event))) }
     ensures range { OnOk result (message.now.transmission < 256) }
 {
     put_u8(writes, object, TRANSMISSION_TYPE, message.transmission)?;
@@ -88,7 +90,8 @@ fn put_tpdo(
     clean: &Clean,
 ) -> Result<(), AllocError>
     requires { IsWithin clean.now }
-    ensures writes { OnOk result (writes.new.items ≡ writes.old.items ++ tpdo_writes device.now.sections node clean.now) }
+    ensures writes { OnOk result (writes.new.items
+        ≡ writes.old.items ++ tpdo_writes device.now.sections node clean.now) }
     ensures fits { HasPdo device.now.sections node (tpdo_object clean.now.message.tpdo) (length clean.now.mapping)
         → OnOk result (AreValues device.now.sections (tpdo_writes device.now.sections node clean.now)) }
 {
@@ -103,7 +106,8 @@ fn put_tpdo(
 
 /// The TPDO by which a node sends a message of a plan.
 fn tpdo_of(planned: &PlannedMessage, node: u8) -> Option<&Clean>
-    ensures { option_map (λ c. (c.now.message.tpdo, c.now)) result ≡ option_and_then (tpdo_of node) (clean_of planned.now.outcome) }
+    ensures { option_map (λ c. (c.now.message.tpdo, c.now)) result ≡ option_and_then (tpdo_of node)
+        (clean_of planned.now.outcome) }
 {
     match &planned.outcome {
         Outcome::Planned(clean) if clean.message.node == node => Some(clean),
@@ -117,7 +121,8 @@ fn tpdos_of(
     messages: &[PlannedMessage],
     node: u8,
 ) -> Result<BTreeMap<u16, &Clean>, AllocError>
-    ensures { IfOk result (λ table. IsTableOf (λ c. c.now) table.entries (filter_map (tpdo_of node) (clean messages.now))) }
+    ensures { IfOk result (λ table. IsTableOf (λ c. c.now) table.entries (filter_map (tpdo_of node)
+        (clean messages.now))) }
 {
     let mut tpdos = BTreeMap::new(alloc);
     for planned in messages {
@@ -136,10 +141,14 @@ pub(crate) fn put_tpdos(
     device: &Device,
     node: u8,
 ) -> Result<(), AllocError>
-    ensures writes { OnOk result (writes.new.items ≡ writes.old.items ++ by_number (tpdo_writes device.now.sections node) (filter_map (tpdo_of node) (clean plan.now))) }
-    ensures few { OnOk result (AreFew (by_number (tpdo_writes device.now.sections node) (filter_map (tpdo_of node) (clean plan.now)))) }
+    ensures writes { OnOk result (writes.new.items
+        ≡ writes.old.items ++ by_number (tpdo_writes device.now.sections node)
+        (filter_map (tpdo_of node) (clean plan.now))) }
+    ensures few { OnOk result (AreFew (by_number (tpdo_writes device.now.sections node)
+        (filter_map (tpdo_of node) (clean plan.now)))) }
     ensures fits { IsMadeFor plan.now device.now.sections node
-        → OnOk result (AreValues device.now.sections (by_number (tpdo_writes device.now.sections node) (filter_map (tpdo_of node) (clean plan.now)))) }
+        → OnOk result (AreValues device.now.sections (by_number (tpdo_writes device.now.sections node)
+        (filter_map (tpdo_of node) (clean plan.now)))) }
 {
     let tpdos = tpdos_of(alloc, plan.messages(), node)?;
     for number in 1..=LAST_PDO {

@@ -1,5 +1,6 @@
 -- What is said of the sources by their widths is what is said of them by the sender's entries.
-use Rattle.std.proofs.Common.{◌≡◌, ℕ, ◌+◌, ◌==◌, ◌||◌, Bool, true, false, cond, List, [], ◌∷◌, map, Some, refl, ap, arith}
+use Rattle.std.proofs.Common.{◌≡◌, ℕ, ◌+◌, ◌==◌, ◌||◌, Bool, true, false, cond, List, [], ◌∷◌, map, Some, refl, ap}
+use Rattle.std.proofs.Common.{arith}
 use Rattle.std.specs.Prelude.{fold}
 use Rattle.std.specs.List.{list_any, cons_option}
 use Rattle.std.specs.Map.{lookup}
@@ -8,12 +9,15 @@ use Rattle.std.specs.Option.{option_map_or}
 use Rattle.std.specs.Ordering.{nat_cmp}
 use Rattle.std.proofs.lemmas.Bool.Decides.{nat_tests}
 use Rattle.pdo_plan.specs.declared.carried.Carried.{Carried}
-use Rattle.pdo_devices.specs.declared.mapped.Mapped.{Mapped}
-use Rattle.pdo_devices.specs.Devices.{Devices, width_at}
-use Rattle.pdo_plan.specs.Mapping.{Sources, Sinks, bits_of, sent_mapping, taken_mapping, lacks_dummy_at, is_mismatched, differ}
-use Rattle.pdo_plan.specs.Carried.{carried_by, carried_of, bits_in, total_bits, sent_by, taken_by, taken_all, lacks_some, lacks_dummy_for, mismatches, carried_at}
+use Rattle.pdo_stations.specs.declared.mapped.Mapped.{Mapped}
+use Rattle.pdo_stations.specs.Devices.{Devices, width_at}
+use Rattle.pdo_plan.specs.Mapping.{Sources, Sinks, bits_of, sent_mapping, taken_mapping, lacks_dummy_at, is_mismatched}
+use Rattle.pdo_plan.specs.Mapping.{differ}
+use Rattle.pdo_plan.specs.Carried.{carried_by, carried_of, bits_in, total_bits, sent_by, taken_by, taken_of_all}
+use Rattle.pdo_plan.specs.Carried.{lacks_some, lacks_dummy_for, mismatches, carried_at}
 
-pub fold_map : {X Y : Type 0} (g : X → Y) (f : ℕ → Y → ℕ) (n : ℕ) (xs : List X) → fold f n (map g xs) ≡ fold (λ a x. f a (g x)) n xs
+pub fold_map : {X Y : Type 0} (g : X → Y) (f : ℕ → Y → ℕ) (n : ℕ) (xs : List X)
+    → fold f n (map g xs) ≡ fold (λ a x. f a (g x)) n xs
 fold_map g f n [] = refl
 fold_map g f n (x ∷ xs) = fold_map g f (f n (g x)) xs
 
@@ -26,24 +30,34 @@ module _ (devices : Devices) (sender : ℕ) where
   sent_same [] = refl
   sent_same (s ∷ ss) = cc (sent_same ss)
 
-  pub taken_same : (sinks : Sinks) (node : ℕ) (ss : Sources) → taken_all devices sinks node (carried_of devices sender ss) ≡ taken_mapping devices sender ss sinks node
-  unfolding taken_all taken_mapping taken_by
+  pub taken_same : (sinks : Sinks) (node : ℕ) (ss : Sources)
+      → taken_of_all devices sinks node (carried_of devices sender ss) ≡ taken_mapping devices sender ss sinks node
+  unfolding taken_of_all taken_mapping taken_by
   taken_same sinks node [] = refl
-  taken_same sinks node (s ∷ ss) = ap (λ (ms : List Mapped). cons_option (taken_by devices sinks node (carried_by devices sender s)) ms) (taken_same sinks node ss)
+  taken_same sinks node (s ∷ ss) =
+      ap (λ (ms : List Mapped). cons_option (taken_by devices sinks node (carried_by devices sender s)) ms)
+      (taken_same sinks node ss)
 
-  pub lacks_same : (sinks : Sinks) (node : ℕ) (ss : Sources) → lacks_some devices sinks node (carried_of devices sender ss) ≡ list_any (lacks_dummy_at devices sender sinks node) ss
+  pub lacks_same : (sinks : Sinks) (node : ℕ) (ss : Sources)
+      → lacks_some devices sinks node (carried_of devices sender ss)
+      ≡ list_any (lacks_dummy_at devices sender sinks node) ss
   lacks_same sinks node [] = refl
-  lacks_same sinks node (s ∷ ss) = ap (λ b. lacks_dummy_for devices sinks node (carried_by devices sender s) || b) (lacks_same sinks node ss)
+  lacks_same sinks node (s ∷ ss) = ap (λ b. lacks_dummy_for devices sinks node (carried_by devices sender s) || b)
+      (lacks_same sinks node ss)
 
   at_number : (a b : ℕ) → is_at (nat_cmp a) b ≡ (b == a)
   at_number a b = grind (arith, nat_tests)
 
-  pub mismatch_same : (ss : Sources) (sink : (ℕ × ℕ) × (ℕ × ℕ)) → mismatches devices (carried_of devices sender ss) sink ≡ is_mismatched devices sender ss sink
+  pub mismatch_same : (ss : Sources) (sink : (ℕ × ℕ) × (ℕ × ℕ))
+      → mismatches devices (carried_of devices sender ss) sink ≡ is_mismatched devices sender ss sink
   mismatch_same [] sink = refl
   mismatch_same (s ∷ ss) sink = by (s.0 == sink.0.0) (at_number sink.0.0 s.0) (mismatch_same ss sink)
     where
-      by : (b : Bool) → is_at (nat_cmp sink.0.0) s.0 ≡ b → mismatches devices (carried_of devices sender ss) sink ≡ is_mismatched devices sender ss sink
-          → option_map_or (λ (c : Carried). differ c.bits (width_at devices sink.0.1 sink.1)) (cond b (Some (carried_by devices sender s)) (carried_at (carried_of devices sender ss) sink.0.0)) true
-          ≡ option_map_or (λ place. differ (width_at devices sender place) (width_at devices sink.0.1 sink.1)) (cond (is_at (nat_cmp sink.0.0) s.0) (Some s.1) (lookup (is_at (nat_cmp sink.0.0)) ss)) true
+      by : (b : Bool) → is_at (nat_cmp sink.0.0) s.0 ≡ b
+          → mismatches devices (carried_of devices sender ss) sink ≡ is_mismatched devices sender ss sink
+          → option_map_or (λ (c : Carried). differ c.bits (width_at devices sink.0.1 sink.1))
+          (cond b (Some (carried_by devices sender s)) (carried_at (carried_of devices sender ss) sink.0.0)) true
+          ≡ option_map_or (λ place. differ (width_at devices sender place) (width_at devices sink.0.1 sink.1))
+          (cond (is_at (nat_cmp sink.0.0) s.0) (Some s.1) (lookup (is_at (nat_cmp sink.0.0)) ss)) true
       by true e rest = rw e refl
       by false e rest = rw e rest

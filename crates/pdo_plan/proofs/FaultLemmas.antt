@@ -6,16 +6,22 @@ use Rattle.co_base.specs.Ranges.{is_between}
 use Rattle.co_messages.specs.declared.linked.Linked.{Linked}
 use Rattle.pdo_plan.specs.declared.carried.Carried.{Carried}
 use Rattle.pdo_plan.specs.declared.message_fault.MessageFault.{MessageFault}
-use Rattle.pdo_plan.specs.declared.message_fault.MessageFault.TheVariants.{NoObjects, TpdoTaken, TooManyBits, NotMappable, Mismatched, NoRpdo, NoDummy, BadIdentifier, NoIdentifier, ReservedType}
-use Rattle.pdo_devices.specs.Devices.{Devices, has_pdo, has_times, tpdo_object}
+use Rattle.pdo_plan.specs.declared.message_fault.MessageFault.TheVariants.{NoObjects, TpdoTaken, TooManyBits}
+use Rattle.pdo_plan.specs.declared.message_fault.MessageFault.TheVariants.{NotMappable, Mismatched, NoRpdo, NoDummy}
+use Rattle.pdo_plan.specs.declared.message_fault.MessageFault.TheVariants.{BadIdentifier, NoIdentifier, ReservedType}
+use Rattle.pdo_stations.specs.Devices.{Devices, has_pdo, has_times, tpdo_object}
 use Rattle.pdo_plan.specs.Carried.{carried_by, carried_of, total_bits, lacks_some, mismatches}
-use Rattle.pdo_plan.specs.Plan.{Had, rpdo_for, identifier_for, has_unmappable, consumers_of, noted, faults}
+use Rattle.pdo_plan.specs.Plan.{Had, rpdo_for, identifier_for, has_unmappable, consumers_of, faults_that_hold, faults}
 use Rattle.pdo_plan.proofs.CarriedLemmas.{bits_same, lacks_same, mismatch_same}
 
 -- the faults as they are tested
 abbrev pub tested : Had → Devices → Linked → List Carried → List ℕ → Bool → List MessageFault
 tested had devices m cs consumers has =
-    noted ((not (has_pdo devices m.message.node (tpdo_object m.message.tpdo) (length cs) && has_times devices m.message.node (tpdo_object m.message.tpdo) m.message.inhibit m.message.event), NoObjects)
+    faults_that_hold ((
+      not (has_pdo devices m.message.node (tpdo_object m.message.tpdo) (length cs)
+          && has_times devices m.message.node (tpdo_object m.message.tpdo) m.message.inhibit m.message.event),
+      NoObjects,
+    )
     ∷ (had.tpdo m.message.node m.message.tpdo, TpdoTaken)
     ∷ (nat_lt 64 (total_bits cs), TooManyBits)
     ∷ (has_unmappable devices m, NotMappable)
@@ -30,9 +36,15 @@ module _ (had : Had) (devices : Devices) (m : Linked) where
   counted : length (carried_of devices m.message.node m.sources) ≡ length m.sources
   counted = length-map m.sources (carried_by devices m.message.node)
 
-  tested_all : tested had devices m (carried_of devices m.message.node m.sources) (consumers_of m.sinks) (is_some (identifier_for had m.message)) ≡ faults had devices m
+  tested_all : tested had devices m (carried_of devices m.message.node m.sources) (consumers_of m.sinks)
+      (is_some (identifier_for had m.message)) ≡ faults had devices m
   unfolding faults
-  tested_all = λ i. noted ((not (has_pdo devices m.message.node (tpdo_object m.message.tpdo) (counted i) && has_times devices m.message.node (tpdo_object m.message.tpdo) m.message.inhibit m.message.event), NoObjects)
+  tested_all =
+      λ i. faults_that_hold ((
+        not (has_pdo devices m.message.node (tpdo_object m.message.tpdo) (counted i)
+            && has_times devices m.message.node (tpdo_object m.message.tpdo) m.message.inhibit m.message.event),
+        NoObjects,
+      )
       ∷ (had.tpdo m.message.node m.message.tpdo, TpdoTaken)
       ∷ (nat_lt 64 (bits_same devices m.message.node m.sources i), TooManyBits)
       ∷ (has_unmappable devices m, NotMappable)
@@ -43,7 +55,8 @@ module _ (had : Had) (devices : Devices) (m : Linked) where
       ∷ (m.message.cob == 0 && not (is_some (identifier_for had m.message)), NoIdentifier)
       ∷ (is_between 241 251 m.message.transmission, ReservedType) ∷ [])
 
-  pub tested_are : (cs : List Carried) (consumers : List ℕ) (has : Bool) → cs ≡ carried_of devices m.message.node m.sources → consumers ≡ consumers_of m.sinks
+  pub tested_are : (cs : List Carried) (consumers : List ℕ) (has : Bool)
+      → cs ≡ carried_of devices m.message.node m.sources → consumers ≡ consumers_of m.sinks
       → has ≡ is_some (identifier_for had m.message) → tested had devices m cs consumers has ≡ faults had devices m
   tested_are cs consumers has sources nodes identifier =
       ap (λ x. tested had devices m x consumers has) sources

@@ -1,5 +1,7 @@
 -- What a clean message has no other has.
-use Rattle.std.proofs.Common.{◌≡◌, ℕ, zero, suc, ◌<◌, ◌≤◌, ◌==◌, ◌&&◌, ◌||◌, not, nat_lt, Bool, true, false, cond, List, [], ◌∷◌, take, length, map, filter, filter_map, Option, Some, None, is_some, refl, sym, ap, subst, ◌∙◌, arith}
+use Rattle.std.proofs.Common.{◌≡◌, ℕ, zero, suc, ◌<◌, ◌≤◌, ◌==◌, ◌&&◌, ◌||◌, not, nat_lt, Bool, true, false, cond, List}
+use Rattle.std.proofs.Common.{[], ◌∷◌, take, length, map, filter, filter_map, Option, Some, None, is_some, refl, sym}
+use Rattle.std.proofs.Common.{ap, subst, ◌∙◌, arith}
 use Rattle.std.specs.List.{list_any, slice_get, cons_option}
 use Rattle.std.specs.List.Sorted.{IsStrictlySortedBy}
 use Rattle.std.specs.declared.cmp.Ordering.{Ordering}
@@ -16,19 +18,21 @@ use Rattle.pdo_plan.specs.declared.consumer.Consumer.{Consumer}
 use Rattle.pdo_plan.specs.declared.message_fault.MessageFault.{MessageFault}
 use Rattle.pdo_plan.specs.declared.message_fault.MessageFault.TheVariants.{NoObjects, TpdoTaken, TooManyBits}
 use Rattle.pdo_plan.specs.declared.outcome.Outcome.TheVariants.{Planned}
-use Rattle.pdo_devices.specs.Devices.{Devices}
+use Rattle.pdo_stations.specs.Devices.{Devices}
 use Rattle.pdo_plan.specs.Mapping.{bits_of}
-use Rattle.pdo_plan.specs.Plan.{Had, had_by, is_at_node, judged, faults, noted, identifier_for, has_objects, consumer_of, consumers_of, planned_consumers, clean, plan_of}
+use Rattle.pdo_plan.specs.Plan.{Had, had_by, is_at_node, judged_message, faults, faults_that_hold, identifier_for}
+use Rattle.pdo_plan.specs.Plan.{has_objects, consumer_of, consumers_of, planned_consumers, clean, plan_of}
 use Rattle.pdo_plan.proofs.ChainLemmas.{each_clean, at_place, had_earlier}
 use Rattle.pdo_plan.proofs.JudgedLemmas.{judged_clean, identifier_fine, is_false, tests_with, noted_some, consumer_is}
 use Rattle.pdo_plan.proofs.OrderLemmas.{consumers_sorted, once, get_map}
 
 -- ---- tests that didn't hold
 
-no_test : (tests : List (Bool × MessageFault)) (k : ℕ) (b : Bool) (f : MessageFault) → slice_get tests k ≡ Some (b, f) → noted tests ≡ [] → b ≡ false
+no_test : (tests : List (Bool × MessageFault)) (k : ℕ) (b : Bool) (f : MessageFault) → slice_get tests k ≡ Some (b, f)
+    → faults_that_hold tests ≡ [] → b ≡ false
 no_test tests k true f at none =
-    let some : 1 ≤ length (noted tests) = noted_some tests k f at in
-    let count : length (noted tests) ≡ 0 = ap length none in
+    let some : 1 ≤ length (faults_that_hold tests) = noted_some tests k f at in
+    let count : length (faults_that_hold tests) ≡ 0 = ap length none in
     absurd (omega (arith, some, count))
 no_test tests k false f at none = refl
 
@@ -51,7 +55,8 @@ faultless had devices m none =
     record {
       objects = not_true (has_objects devices m) (no_test tests 0 (not (has_objects devices m)) NoObjects refl none);
       tpdo = no_test tests 1 (had.tpdo m.message.node m.message.tpdo) TpdoTaken refl none;
-      bits = few_bits (bits_of devices m.message.node m.sources) (no_test tests 2 (nat_lt 64 (bits_of devices m.message.node m.sources)) TooManyBits refl none);
+      bits = few_bits (bits_of devices m.message.node m.sources)
+          (no_test tests 2 (nat_lt 64 (bits_of devices m.message.node m.sources)) TooManyBits refl none);
     }
 
 -- ---- free before
@@ -75,11 +80,14 @@ module _ {X Y : Type 0} (h : X → Option Y) where
       by (Some w) is (suc k) e rest = rest k e
 
   -- what names its place: the places of what is given are those at which something is given
-  pub places_given : (place_of : Y → X) → ((x : X) (y : Y) → h x ≡ Some y → place_of y ≡ x) → (xs : List X) → map place_of (filter_map h xs) ≡ filter (λ x. is_some (h x)) xs
+  pub places_given : (place_of : Y → X) → ((x : X) (y : Y) → h x ≡ Some y → place_of y ≡ x) → (xs : List X)
+      → map place_of (filter_map h xs) ≡ filter (λ x. is_some (h x)) xs
   places_given place_of names [] = refl
   places_given place_of names (x ∷ xs) = by (h x) refl (places_given place_of names xs)
     where
-      by : (o : Option Y) → h x ≡ o → map place_of (filter_map h xs) ≡ filter (λ x. is_some (h x)) xs → map place_of (cons_option o (filter_map h xs)) ≡ cond (is_some o) (x ∷ filter (λ x. is_some (h x)) xs) (filter (λ x. is_some (h x)) xs)
+      by : (o : Option Y) → h x ≡ o → map place_of (filter_map h xs) ≡ filter (λ x. is_some (h x)) xs
+          → map place_of (cons_option o (filter_map h xs)) ≡ cond (is_some o) (x ∷ filter (λ x. is_some (h x)) xs)
+          (filter (λ x. is_some (h x)) xs)
       by None e same = same
       by (Some y) e same = rw (names x y e, same) refl
 
@@ -89,45 +97,63 @@ node_of k = k.node
 -- the consumers of a clean message: each has an RPDO that was free, and no node stands twice
 pub record Apart (before : List Clean) (c : Clean) : Type 0 where
   pub free : (a : ℕ) (k : Consumer) → slice_get c.consumers a ≡ Some k → (had_by before).rpdo k.node k.rpdo ≡ false
-  pub once : (a b : ℕ) (k l : Consumer) → slice_get c.consumers a ≡ Some k → slice_get c.consumers b ≡ Some l → k.node ≡ l.node → a ≡ b
+  pub once : (a b : ℕ) (k l : Consumer) → slice_get c.consumers a ≡ Some k → slice_get c.consumers b ≡ Some l
+      → k.node ≡ l.node → a ≡ b
 
 and_true : (a b : Bool) → (a && b) ≡ true → a ≡ true
 and_true true b e = refl
 and_true false b e = e
 
 module _ (devices : Devices) where
-  free_identifier : (before : List Clean) (m : Linked) (c : Clean) → judged (had_by before) devices m ≡ Planned c → FreeIdentifier before c
-  free_identifier before m c e = (identifier_fine (had_by before) m.message c.identifier (judged_clean (had_by before) devices m c e).identifier).free
+  free_identifier : (before : List Clean) (m : Linked) (c : Clean)
+      → judged_message (had_by before) devices m ≡ Planned c → FreeIdentifier before c
+  free_identifier before m c e =
+      (identifier_fine (had_by before) m.message c.identifier
+      (judged_clean (had_by before) devices m c e).identifier).free
 
-  free_tpdo : (before : List Clean) (m : Linked) (c : Clean) → judged (had_by before) devices m ≡ Planned c → FreeTpdo before c
+  free_tpdo : (before : List Clean) (m : Linked) (c : Clean) → judged_message (had_by before) devices m ≡ Planned c
+      → FreeTpdo before c
   free_tpdo before m c e =
       let is = judged_clean (had_by before) devices m c e in
-      subst (λ (x : Message). (had_by before).tpdo x.node x.tpdo ≡ false) is.message (faultless (had_by before) devices m is.faultless).tpdo
+      subst (λ (x : Message). (had_by before).tpdo x.node x.tpdo
+      ≡ false) is.message (faultless (had_by before) devices m is.faultless).tpdo
 
-  consumer_free : (before : List Clean) (m : Linked) (a : ℕ) (k : Consumer) → slice_get (planned_consumers (had_by before) devices m) a ≡ Some k → (had_by before).rpdo k.node k.rpdo ≡ false
+  consumer_free : (before : List Clean) (m : Linked) (a : ℕ) (k : Consumer)
+      → slice_get (planned_consumers (had_by before) devices m) a ≡ Some k → (had_by before).rpdo k.node k.rpdo ≡ false
   unfolding planned_consumers
   consumer_free before m a k e =
       let there = given (consumer_of (had_by before) devices m) (consumers_of m.sinks) a k e in
       let is = consumer_is (had_by before) devices m there.0 k there.1 in
-      let free : (had_by before).rpdo there.0 k.rpdo ≡ false = is_false ((had_by before).rpdo there.0 k.rpdo) (and_true (not ((had_by before).rpdo there.0 k.rpdo)) _ is.least.2) in
+      let free : (had_by before).rpdo there.0 k.rpdo ≡ false = is_false ((had_by before).rpdo there.0 k.rpdo)
+      (and_true (not ((had_by before).rpdo there.0 k.rpdo)) _ is.least.2) in
       subst (λ (n : ℕ). (had_by before).rpdo n k.rpdo ≡ false) (sym is.at) free
 
-  consumers_once : (had : Had) (m : Linked) (a b : ℕ) (k l : Consumer) → slice_get (planned_consumers had devices m) a ≡ Some k → slice_get (planned_consumers had devices m) b ≡ Some l → k.node ≡ l.node → a ≡ b
+  consumers_once : (had : Had) (m : Linked) (a b : ℕ) (k l : Consumer)
+      → slice_get (planned_consumers had devices m) a ≡ Some k → slice_get (planned_consumers had devices m) b ≡ Some l
+      → k.node ≡ l.node → a ≡ b
   unfolding planned_consumers
   consumers_once had m a b k l ea eb same =
-      let nodes : map node_of (planned_consumers had devices m) ≡ filter (λ n. is_some (consumer_of had devices m n)) (consumers_of m.sinks) =
-      places_given (consumer_of had devices m) node_of (λ n k e. (consumer_is had devices m n k e).at) (consumers_of m.sinks) in
+      let nodes : map node_of (planned_consumers had devices m) ≡ filter (λ n. is_some (consumer_of had devices m n))
+      (consumers_of m.sinks) =
+      places_given (consumer_of had devices m) node_of (λ n k e. (consumer_is had devices m n k e).at)
+      (consumers_of m.sinks) in
       let in_order : IsStrictlySortedBy nat_cmp (map node_of (planned_consumers had devices m)) =
-      subst (IsStrictlySortedBy nat_cmp) (sym nodes) (IsStrictlySortedBy-filter nat_cmp (λ n. is_some (consumer_of had devices m n)) (consumers_of m.sinks) (consumers_sorted m.sinks)) in
+      subst (IsStrictlySortedBy nat_cmp) (sym nodes)
+      (IsStrictlySortedBy-filter nat_cmp (λ n. is_some (consumer_of had devices m n)) (consumers_of m.sinks)
+      (consumers_sorted m.sinks)) in
       let at_b = get_map node_of (planned_consumers had devices m) b l eb in
-      once (map node_of (planned_consumers had devices m)) a b k.node in_order (get_map node_of (planned_consumers had devices m) a k ea) (at_b ∙ ap Some (sym same))
+      once (map node_of (planned_consumers had devices m)) a b k.node in_order
+      (get_map node_of (planned_consumers had devices m) a k ea) (at_b ∙ ap Some (sym same))
 
-  consumers_apart : (before : List Clean) (m : Linked) (c : Clean) → judged (had_by before) devices m ≡ Planned c → Apart before c
+  consumers_apart : (before : List Clean) (m : Linked) (c : Clean)
+      → judged_message (had_by before) devices m ≡ Planned c → Apart before c
   consumers_apart before m c e =
       let is = judged_clean (had_by before) devices m c e in
       record {
         free = λ a k at. consumer_free before m a k (ap (λ (ks : List Consumer). slice_get ks a) is.consumers ∙ at);
-        once = λ a b k l ea eb same. consumers_once (had_by before) m a b k l (ap (λ (ks : List Consumer). slice_get ks a) is.consumers ∙ ea) (ap (λ (ks : List Consumer). slice_get ks b) is.consumers ∙ eb) same;
+        once = λ a b k l ea eb same. consumers_once (had_by before) m a b k l
+            (ap (λ (ks : List Consumer). slice_get ks a) is.consumers ∙ ea)
+            (ap (λ (ks : List Consumer). slice_get ks b) is.consumers ∙ eb) same;
       }
 
 -- ---- no two have the same
@@ -151,51 +177,75 @@ abbrev pub clean_plan : Devices → List (List ℕ × Linked) → List Clean
 clean_plan devices ms = clean (plan_of devices ms)
 
 module _ (devices : Devices) (ms : List (List ℕ × Linked)) where
-  later_identifier : (i j : ℕ) (c d : Clean) → slice_get (clean_plan devices ms) i ≡ Some c → slice_get (clean_plan devices ms) j ≡ Some d → c.identifier ≡ d.identifier → i < j → ⊥
+  later_identifier : (i j : ℕ) (c d : Clean) → slice_get (clean_plan devices ms) i ≡ Some c
+      → slice_get (clean_plan devices ms) j ≡ Some d → c.identifier ≡ d.identifier → i < j → ⊥
   later_identifier i j c d ec ed same lt =
-      let free : FreeIdentifier (take j (clean_plan devices ms)) d = at_place devices FreeIdentifier (clean_plan devices ms) j d (each_clean devices FreeIdentifier (free_identifier devices) ms) ed in
-      let had = had_earlier (λ x. x.identifier == d.identifier) (clean_plan devices ms) i j c lt ec (same_number c.identifier d.identifier same) in
+      let free : FreeIdentifier (take j (clean_plan devices ms)) d =
+      at_place devices FreeIdentifier (clean_plan devices ms) j d
+      (each_clean devices FreeIdentifier (free_identifier devices) ms) ed in
+      let had = had_earlier (λ x. x.identifier == d.identifier)
+      (clean_plan devices ms) i j c lt ec (same_number c.identifier d.identifier same) in
       false≢true (sym free ∙ had)
 
-  pub identifiers_apart : (i j : ℕ) (c d : Clean) → slice_get (clean_plan devices ms) i ≡ Some c → slice_get (clean_plan devices ms) j ≡ Some d → c.identifier ≡ d.identifier → i ≡ j
-  identifiers_apart i j c d ec ed same = one_place i j (later_identifier i j c d ec ed same) (later_identifier j i d c ed ec (sym same))
+  pub identifiers_apart : (i j : ℕ) (c d : Clean) → slice_get (clean_plan devices ms) i ≡ Some c
+      → slice_get (clean_plan devices ms) j ≡ Some d → c.identifier ≡ d.identifier → i ≡ j
+  identifiers_apart i j c d ec ed same = one_place i j (later_identifier i j c d ec ed same)
+      (later_identifier j i d c ed ec (sym same))
 
-  later_tpdo : (i j : ℕ) (c d : Clean) → slice_get (clean_plan devices ms) i ≡ Some c → slice_get (clean_plan devices ms) j ≡ Some d
+  later_tpdo : (i j : ℕ) (c d : Clean) → slice_get (clean_plan devices ms) i ≡ Some c
+      → slice_get (clean_plan devices ms) j ≡ Some d
       → c.message.node ≡ d.message.node → c.message.tpdo ≡ d.message.tpdo → i < j → ⊥
   later_tpdo i j c d ec ed node tpdo lt =
-      let free : FreeTpdo (take j (clean_plan devices ms)) d = at_place devices FreeTpdo (clean_plan devices ms) j d (each_clean devices FreeTpdo (free_tpdo devices) ms) ed in
-      let had = had_earlier (λ x. (x.message.node == d.message.node) && (x.message.tpdo == d.message.tpdo)) (clean_plan devices ms) i j c lt ec (same_pair c.message.node c.message.tpdo d.message.node d.message.tpdo node tpdo) in
+      let free : FreeTpdo (take j (clean_plan devices ms)) d =
+      at_place devices FreeTpdo (clean_plan devices ms) j d (each_clean devices FreeTpdo (free_tpdo devices) ms) ed
+      in
+      let had = had_earlier (λ x. (x.message.node == d.message.node) && (x.message.tpdo == d.message.tpdo))
+      (clean_plan devices ms) i j c lt ec (same_pair c.message.node c.message.tpdo d.message.node d.message.tpdo
+      node tpdo) in
       false≢true (sym free ∙ had)
 
-  pub tpdos_apart : (i j : ℕ) (c d : Clean) → slice_get (clean_plan devices ms) i ≡ Some c → slice_get (clean_plan devices ms) j ≡ Some d
+  pub tpdos_apart : (i j : ℕ) (c d : Clean) → slice_get (clean_plan devices ms) i ≡ Some c
+      → slice_get (clean_plan devices ms) j ≡ Some d
       → c.message.node ≡ d.message.node → c.message.tpdo ≡ d.message.tpdo → i ≡ j
-  tpdos_apart i j c d ec ed node tpdo = one_place i j (later_tpdo i j c d ec ed node tpdo) (later_tpdo j i d c ed ec (sym node) (sym tpdo))
+  tpdos_apart i j c d ec ed node tpdo = one_place i j (later_tpdo i j c d ec ed node tpdo)
+      (later_tpdo j i d c ed ec (sym node) (sym tpdo))
 
-  apart_at : (k : ℕ) (c : Clean) → slice_get (clean_plan devices ms) k ≡ Some c → Apart (take k (clean_plan devices ms)) c
-  apart_at k c e = at_place devices Apart (clean_plan devices ms) k c (each_clean devices Apart (consumers_apart devices) ms) e
+  apart_at : (k : ℕ) (c : Clean) → slice_get (clean_plan devices ms) k ≡ Some c
+      → Apart (take k (clean_plan devices ms)) c
+  apart_at k c e =
+      at_place devices Apart (clean_plan devices ms) k c (each_clean devices Apart (consumers_apart devices) ms) e
 
-  has_consumer : (ks : List Consumer) (a node number : ℕ) (k : Consumer) → slice_get ks a ≡ Some k → k.node ≡ node → k.rpdo ≡ number → list_any (is_at_node node number) ks ≡ true
+  has_consumer : (ks : List Consumer) (a node number : ℕ) (k : Consumer) → slice_get ks a ≡ Some k → k.node ≡ node
+      → k.rpdo ≡ number → list_any (is_at_node node number) ks ≡ true
   has_consumer [] a node number k e n r = cc
   has_consumer (l ∷ ks) zero node number k e n r =
       let same : l ≡ k = cc in
-      ap (λ b. b || list_any (is_at_node node number) ks) (ap (is_at_node node number) same ∙ same_pair k.node k.rpdo node number n r)
-  has_consumer (l ∷ ks) (suc a) node number k e n r = or_true (is_at_node node number l) _ (has_consumer ks a node number k e n r)
+      ap (λ b. b || list_any (is_at_node node number) ks)
+      (ap (is_at_node node number) same ∙ same_pair k.node k.rpdo node number n r)
+  has_consumer (l ∷ ks) (suc a) node number k e n r =
+      or_true (is_at_node node number l) _ (has_consumer ks a node number k e n r)
     where
       or_true : (a b : Bool) → b ≡ true → a || b ≡ true
       or_true true b e = refl
       or_true false b e = e
 
-  later_rpdo : (i j a b : ℕ) (c d : Clean) (k l : Consumer) → slice_get (clean_plan devices ms) i ≡ Some c → slice_get (clean_plan devices ms) j ≡ Some d
-      → slice_get c.consumers a ≡ Some k → slice_get d.consumers b ≡ Some l → k.node ≡ l.node → k.rpdo ≡ l.rpdo → i < j → ⊥
+  later_rpdo : (i j a b : ℕ) (c d : Clean) (k l : Consumer) → slice_get (clean_plan devices ms) i ≡ Some c
+      → slice_get (clean_plan devices ms) j ≡ Some d
+      → slice_get c.consumers a ≡ Some k → slice_get d.consumers b ≡ Some l → k.node ≡ l.node → k.rpdo ≡ l.rpdo → i < j
+      → ⊥
   later_rpdo i j a b c d k l ec ed ek el node number lt =
       let free = (apart_at j d ed).free b l el in
-      let had = had_earlier (λ x. list_any (is_at_node l.node l.rpdo) x.consumers) (clean_plan devices ms) i j c lt ec (has_consumer c.consumers a l.node l.rpdo k ek node number) in
+      let had = had_earlier (λ x. list_any (is_at_node l.node l.rpdo) x.consumers)
+      (clean_plan devices ms) i j c lt ec (has_consumer c.consumers a l.node l.rpdo k ek node number) in
       false≢true (sym free ∙ had)
 
-  pub rpdos_apart : (i j a b : ℕ) (c d : Clean) (k l : Consumer) → slice_get (clean_plan devices ms) i ≡ Some c → slice_get (clean_plan devices ms) j ≡ Some d
-      → slice_get c.consumers a ≡ Some k → slice_get d.consumers b ≡ Some l → k.node ≡ l.node → k.rpdo ≡ l.rpdo → (i ≡ j) × (a ≡ b)
+  pub rpdos_apart : (i j a b : ℕ) (c d : Clean) (k l : Consumer) → slice_get (clean_plan devices ms) i ≡ Some c
+      → slice_get (clean_plan devices ms) j ≡ Some d
+      → slice_get c.consumers a ≡ Some k → slice_get d.consumers b ≡ Some l → k.node ≡ l.node → k.rpdo ≡ l.rpdo
+      → (i ≡ j) × (a ≡ b)
   rpdos_apart i j a b c d k l ec ed ek el node number =
-      let same : i ≡ j = one_place i j (later_rpdo i j a b c d k l ec ed ek el node number) (later_rpdo j i b a d c l k ed ec el ek (sym node) (sym number)) in
+      let same : i ≡ j = one_place i j (later_rpdo i j a b c d k l ec ed ek el node number)
+      (later_rpdo j i b a d c l k ed ec el ek (sym node) (sym number)) in
       let again : slice_get (clean_plan devices ms) i ≡ Some d = ap (slice_get (clean_plan devices ms)) same ∙ ed in
       let one : c ≡ d = cc in
       (same, (apart_at i c ec).once a b k l ek (ap (λ (x : Clean). slice_get x.consumers b) one ∙ el) node)

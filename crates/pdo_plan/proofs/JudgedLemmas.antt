@@ -1,5 +1,7 @@
 -- What is said of one message.
-use Rattle.std.proofs.Common.{◌≡◌, ℕ, zero, suc, ◌<◌, ◌≤◌, ◌==◌, Bool, true, false, not, cond, ◌&&◌, ◌||◌, nat_lt, nat_le, List, [], ◌∷◌, length, map, filter, filter_map, Option, Some, None, is_some, option_map, refl, sym, ap, subst, ◌∙◌, arith}
+use Rattle.std.proofs.Common.{◌≡◌, ℕ, zero, suc, ◌<◌, ◌≤◌, ◌==◌, Bool, true, false, not, cond, ◌&&◌, ◌||◌, nat_lt}
+use Rattle.std.proofs.Common.{nat_le, List, [], ◌∷◌, length, map, filter, filter_map, Option, Some, None, is_some}
+use Rattle.std.proofs.Common.{option_map, refl, sym, ap, subst, ◌∙◌, arith}
 use Rattle.std.specs.Prelude.{if◌then◌else◌}
 use Rattle.std.specs.List.{All, AllByRecursion, slice_get, cons_option}
 use Rattle.std.specs.Option.{IfSome}
@@ -13,16 +15,21 @@ use Rattle.co_messages.specs.declared.linked.Linked.{Linked}
 use Rattle.co_messages.specs.declared.message.Message.{Message}
 use Rattle.co_messages.specs.Messages.{IsLinked}
 use Rattle.pdo_plan.specs.declared.message_fault.MessageFault.{MessageFault}
-use Rattle.pdo_plan.specs.declared.message_fault.MessageFault.TheVariants.{NoObjects, TpdoTaken, TooManyBits, NotMappable, Mismatched, NoRpdo, NoDummy, BadIdentifier, NoIdentifier, ReservedType}
+use Rattle.pdo_plan.specs.declared.message_fault.MessageFault.TheVariants.{NoObjects, TpdoTaken, TooManyBits}
+use Rattle.pdo_plan.specs.declared.message_fault.MessageFault.TheVariants.{NotMappable, Mismatched, NoRpdo, NoDummy}
+use Rattle.pdo_plan.specs.declared.message_fault.MessageFault.TheVariants.{BadIdentifier, NoIdentifier, ReservedType}
 use Rattle.pdo_plan.specs.declared.clean.Clean.{Clean}
 use Rattle.pdo_plan.specs.declared.consumer.Consumer.{Consumer}
 use Rattle.pdo_plan.specs.declared.outcome.Outcome.{Outcome}
 use Rattle.pdo_plan.specs.declared.outcome.Outcome.TheVariants.{Planned, Faulty}
-use Rattle.pdo_devices.specs.Devices.{Devices}
+use Rattle.pdo_stations.specs.Devices.{Devices}
 use Rattle.pdo_plan.specs.Least.{least_free, IsLeastFree}
-use Rattle.pdo_devices.specs.Dummies.{mapped_to}
+use Rattle.pdo_stations.specs.Dummies.{mapped_to}
 use Rattle.pdo_plan.specs.Mapping.{bits_of, source_bits, sent_mapping, taken_at, taken_mapping}
-use Rattle.pdo_plan.specs.Plan.{Had, predefined, explicit, automatic, identifier_for, is_free_rpdo, rpdo_for, consumer_of, consumers_of, planned_consumers, has_objects, has_unmappable, has_mismatch, lacks_rpdo, lacks_dummy, noted, faults, outcome, judged, clean_of, IsNumbered, IsWithin}
+use Rattle.pdo_plan.specs.Plan.{Had, predefined_identifier, explicit, automatic, identifier_for, is_free_rpdo, rpdo_for}
+use Rattle.pdo_plan.specs.Plan.{consumer_of, consumers_of, planned_consumers, has_objects, has_unmappable, has_mismatch}
+use Rattle.pdo_plan.specs.Plan.{lacks_rpdo, lacks_dummy, faults_that_hold, faults, message_outcome, judged_message}
+use Rattle.pdo_plan.specs.Plan.{clean_of, IsNumbered, IsWithin}
 use Rattle.pdo_plan.proofs.LeastLemmas.{least_free_is}
 use Rattle.pdo_plan.proofs.LimitLemmas.{limits_of, is_within}
 
@@ -36,15 +43,22 @@ pub record IsCleanAs (had : Had) (devices : Devices) (m : Linked) (c : Clean) : 
   pub consumers : planned_consumers had devices m ≡ c.consumers
   pub faultless : faults had devices m ≡ []
 
-pub judged_clean : (had : Had) (devices : Devices) (m : Linked) (c : Clean) → judged had devices m ≡ Planned c → IsCleanAs had devices m c
-unfolding judged
+pub judged_clean : (had : Had) (devices : Devices) (m : Linked) (c : Clean) → judged_message had devices m ≡ Planned c
+    → IsCleanAs had devices m c
+unfolding judged_message
 judged_clean had devices m c e = by (identifier_for had m.message) (faults had devices m) refl refl e
   where
-    by : (o : Option ℕ) (fs : List MessageFault) → identifier_for had m.message ≡ o → faults had devices m ≡ fs → outcome had devices m o fs ≡ Planned c → IsCleanAs had devices m c
+    by : (o : Option ℕ) (fs : List MessageFault) → identifier_for had m.message ≡ o → faults had devices m ≡ fs
+        → message_outcome had devices m o fs ≡ Planned c → IsCleanAs had devices m c
     by None fs io fo e = cc
     by (Some id) (f ∷ fs) io fo e = cc
     by (Some id) [] io fo e =
-        let made : Clean = record { message = m.message; identifier = id; mapping = sent_mapping devices m.message.node m.sources; consumers = planned_consumers had devices m } in
+        let made : Clean = record {
+          message = m.message;
+          identifier = id;
+          mapping = sent_mapping devices m.message.node m.sources;
+          consumers = planned_consumers had devices m;
+        } in
         let same : made ≡ c = cc in
         record {
           message = ap (λ (x : Clean). x.message) same;
@@ -55,7 +69,8 @@ judged_clean had devices m c e = by (identifier_for had m.message) (faults had d
         }
 
 -- a test that holds gives a fault
-pub noted_some : (tests : List (Bool × MessageFault)) (k : ℕ) (f : MessageFault) → slice_get tests k ≡ Some (true, f) → 1 ≤ length (noted tests)
+pub noted_some : (tests : List (Bool × MessageFault)) (k : ℕ) (f : MessageFault) → slice_get tests k ≡ Some (true, f)
+    → 1 ≤ length (faults_that_hold tests)
 noted_some [] k f e = cc
 noted_some (t ∷ ts) zero f e =
     let first : Bool × MessageFault = (true, f) in
@@ -63,32 +78,42 @@ noted_some (t ∷ ts) zero f e =
     rw (ap (λ (x : Bool × MessageFault). x.0) same) (omega arith)
 noted_some (t ∷ ts) (suc k) f e = by t.0 (noted_some ts k f e)
   where
-    by : (b : Bool) → 1 ≤ length (noted ts) → 1 ≤ length (map (λ (x : Bool × MessageFault). x.1) (cond b (t ∷ filter (λ (x : Bool × MessageFault). x.0) ts) (filter (λ (x : Bool × MessageFault). x.0) ts)))
+    by : (b : Bool) → 1 ≤ length (faults_that_hold ts)
+        → 1 ≤ length (map (λ (x : Bool × MessageFault). x.1)
+        (cond b (t ∷ filter (λ (x : Bool × MessageFault). x.0) ts) (filter (λ (x : Bool × MessageFault). x.0) ts)))
     by true h = omega arith
     by false h = h
 
 -- the tests of a message, where this is said of its identifier
 abbrev pub tests_with : Had → Devices → Linked → Bool → Bool → List (Bool × MessageFault)
 tests_with had devices m automatic has =
-    (not (has_objects devices m), NoObjects) ∷ (had.tpdo m.message.node m.message.tpdo, TpdoTaken) ∷ (nat_lt 64 (bits_of devices m.message.node m.sources), TooManyBits)
-    ∷ (has_unmappable devices m, NotMappable) ∷ (has_mismatch devices m, Mismatched) ∷ (lacks_rpdo had devices m, NoRpdo) ∷ (lacks_dummy devices m, NoDummy)
-    ∷ (not automatic && not has, BadIdentifier) ∷ (automatic && not has, NoIdentifier) ∷ (is_between 241 251 m.message.transmission, ReservedType) ∷ []
+    (not (has_objects devices m), NoObjects) ∷ (had.tpdo m.message.node m.message.tpdo, TpdoTaken)
+    ∷ (nat_lt 64 (bits_of devices m.message.node m.sources), TooManyBits)
+    ∷ (has_unmappable devices m, NotMappable) ∷ (has_mismatch devices m, Mismatched)
+    ∷ (lacks_rpdo had devices m, NoRpdo) ∷ (lacks_dummy devices m, NoDummy)
+    ∷ (not automatic && not has, BadIdentifier) ∷ (automatic && not has, NoIdentifier)
+    ∷ (is_between 241 251 m.message.transmission, ReservedType) ∷ []
 
-some_fault : (had : Had) (devices : Devices) (m : Linked) (automatic : Bool) → 1 ≤ length (noted (tests_with had devices m automatic false))
+some_fault : (had : Had) (devices : Devices) (m : Linked) (automatic : Bool)
+    → 1 ≤ length (faults_that_hold (tests_with had devices m automatic false))
 some_fault had devices m true = noted_some (tests_with had devices m true false) 8 NoIdentifier refl
 some_fault had devices m false = noted_some (tests_with had devices m false false) 7 BadIdentifier refl
 
 -- a message that can have no identifier has a fault
-faulty_without : (had : Had) (devices : Devices) (m : Linked) → identifier_for had m.message ≡ None → 1 ≤ length (faults had devices m)
+faulty_without : (had : Had) (devices : Devices) (m : Linked) → identifier_for had m.message ≡ None
+    → 1 ≤ length (faults had devices m)
 unfolding faults
 faulty_without had devices m e =
-    subst (λ (o : Option ℕ). 1 ≤ length (noted (tests_with had devices m (m.message.cob == 0) (is_some o)))) (sym e) (some_fault had devices m (m.message.cob == 0))
+    subst (λ (o : Option ℕ). 1 ≤ length (faults_that_hold (tests_with had devices m (m.message.cob == 0) (is_some o))))
+    (sym e) (some_fault had devices m (m.message.cob == 0))
 
-pub judged_faulty : (had : Had) (devices : Devices) (m : Linked) (fs : List MessageFault) → judged had devices m ≡ Faulty fs → (fs ≡ faults had devices m) × (1 ≤ length fs)
-unfolding judged
+pub judged_faulty : (had : Had) (devices : Devices) (m : Linked) (fs : List MessageFault)
+    → judged_message had devices m ≡ Faulty fs → (fs ≡ faults had devices m) × (1 ≤ length fs)
+unfolding judged_message
 judged_faulty had devices m fs e = by (identifier_for had m.message) (faults had devices m) refl refl e
   where
-    by : (o : Option ℕ) (gs : List MessageFault) → identifier_for had m.message ≡ o → faults had devices m ≡ gs → outcome had devices m o gs ≡ Faulty fs → (fs ≡ faults had devices m) × (1 ≤ length fs)
+    by : (o : Option ℕ) (gs : List MessageFault) → identifier_for had m.message ≡ o → faults had devices m ≡ gs
+        → message_outcome had devices m o gs ≡ Faulty fs → (fs ≡ faults had devices m) × (1 ≤ length fs)
     by None gs io fo e =
         let same : gs ≡ fs = cc in
         let is : fs ≡ faults had devices m = sym same ∙ sym fo in
@@ -128,7 +153,8 @@ pub record IsFine (had : Had) (m : Message) (id : ℕ) : Type 0 where
 explicit_fine : (had : Had) (m : Message) (id : ℕ) → explicit had m.cob ≡ Some id → IsFine had m id
 explicit_fine had m id e = by (nat_lt m.cob 0x181 || is_restricted m.cob || had.identifier m.cob) refl e
   where
-    by : (b : Bool) → nat_lt m.cob 0x181 || is_restricted m.cob || had.identifier m.cob ≡ b → (if b then None else Some m.cob) ≡ Some id → IsFine had m id
+    by : (b : Bool) → nat_lt m.cob 0x181 || is_restricted m.cob || had.identifier m.cob ≡ b
+        → (if b then None else Some m.cob) ≡ Some id → IsFine had m id
     by true t e = cc
     by false t e =
         let same : m.cob ≡ id = cc in
@@ -139,9 +165,11 @@ explicit_fine had m id e = by (nat_lt m.cob 0x181 || is_restricted m.cob || had.
           below = λ high most. omega arith;
         }
 
-pool_fine : (had : Had) (m : Message) (id : ℕ) → least_free (λ n. not (had.identifier n)) 0x681 95 ≡ Some id → IsFine had m id
+pool_fine : (had : Had) (m : Message) (id : ℕ) → least_free (λ n. not (had.identifier n)) 0x681 95 ≡ Some id
+    → IsFine had m id
 pool_fine had m id e =
-    let is : IsLeastFree (λ n. not (had.identifier n)) 0x681 95 (Some id) = least_free_is (λ n. not (had.identifier n)) 0x681 95 (Some id) (sym e) in
+    let is : IsLeastFree (λ n. not (had.identifier n)) 0x681 95 (Some id) =
+    least_free_is (λ n. not (had.identifier n)) 0x681 95 (Some id) (sym e) in
     record {
       free = is_false (had.identifier id) is.2;
       allowed = λ tpdo low high. allowed_pool id is.0 (omega (arith, is.1));
@@ -149,19 +177,22 @@ pool_fine had m id e =
     }
 
 automatic_fine : (had : Had) (m : Message) (id : ℕ) → automatic had m.node m.tpdo ≡ Some id → IsFine had m id
-automatic_fine had m id e = by (nat_le m.tpdo 4) (had.identifier (predefined m.node m.tpdo)) refl refl e
+automatic_fine had m id e = by (nat_le m.tpdo 4) (had.identifier (predefined_identifier m.node m.tpdo)) refl refl e
   where
     few : (n : ℕ) → nat_le n 4 ≡ true → n ≤ 4
     few n t = grind (arith, nat_tests)
 
-    by : (few_tpdo had_it : Bool) → nat_le m.tpdo 4 ≡ few_tpdo → had.identifier (predefined m.node m.tpdo) ≡ had_it
-        → (if few_tpdo && not had_it then Some (predefined m.node m.tpdo) else least_free (λ n. not (had.identifier n)) 0x681 95) ≡ Some id → IsFine had m id
+    by : (few_tpdo had_it : Bool) → nat_le m.tpdo 4 ≡ few_tpdo
+        → had.identifier (predefined_identifier m.node m.tpdo) ≡ had_it
+        → (if few_tpdo && not had_it then Some (predefined_identifier m.node m.tpdo)
+        else least_free (λ n. not (had.identifier n)) 0x681 95) ≡ Some id → IsFine had m id
     by true false f h e =
-        let same : predefined m.node m.tpdo ≡ id = cc in
+        let same : predefined_identifier m.node m.tpdo ≡ id = cc in
         let up : m.tpdo ≤ 4 = few m.tpdo f in
         record {
           free = subst (λ n. had.identifier n ≡ false) same h;
-          allowed = λ tpdo low high. subst (λ n. is_restricted n ≡ false) same (allowed (predefined m.node m.tpdo) (omega arith) (omega arith));
+          allowed = λ tpdo low high. subst (λ n. is_restricted n
+              ≡ false) same (allowed (predefined_identifier m.node m.tpdo) (omega arith) (omega arith));
           below = λ high most. omega arith;
         }
     by true true f h e = pool_fine had m id e
@@ -179,11 +210,13 @@ identifier_fine had m id e = by (m.cob == 0) e
 
 module _ {X Y : Type 0} (h : X → Option Y) where
   -- what is given is so, where each that is given is
-  pub each_given : (P : Y → Type 0) → ((x : X) (y : Y) → h x ≡ Some y → P y) → (xs : List X) → AllByRecursion P (filter_map h xs)
+  pub each_given : (P : Y → Type 0) → ((x : X) (y : Y) → h x ≡ Some y → P y) → (xs : List X)
+      → AllByRecursion P (filter_map h xs)
   each_given P holds [] = tt
   each_given P holds (x ∷ xs) = by (h x) refl (each_given P holds xs)
     where
-      by : (o : Option Y) → h x ≡ o → AllByRecursion P (filter_map h xs) → AllByRecursion P (cons_option o (filter_map h xs))
+      by : (o : Option Y) → h x ≡ o → AllByRecursion P (filter_map h xs)
+          → AllByRecursion P (cons_option o (filter_map h xs))
       by None e rest = rest
       by (Some y) e rest = (holds x y e, rest)
 
@@ -191,7 +224,8 @@ module _ {X Y : Type 0} (h : X → Option Y) where
   given_few [] = omega arith
   given_few (x ∷ xs) = by (h x) (given_few xs)
     where
-      by : (o : Option Y) → length (filter_map h xs) ≤ length xs → length (cons_option o (filter_map h xs)) ≤ suc (length xs)
+      by : (o : Option Y) → length (filter_map h xs) ≤ length xs
+          → length (cons_option o (filter_map h xs)) ≤ suc (length xs)
       by None rest = omega arith
       by (Some y) rest = omega arith
 
@@ -201,43 +235,58 @@ pub record IsConsumer (had : Had) (devices : Devices) (m : Linked) (node : ℕ) 
   pub mapping : taken_mapping devices m.message.node m.sources m.sinks node ≡ k.mapping
   pub least : IsLeastFree (is_free_rpdo had devices node (length m.sources)) 1 512 (Some k.rpdo)
 
-pub consumer_is : (had : Had) (devices : Devices) (m : Linked) (node : ℕ) (k : Consumer) → consumer_of had devices m node ≡ Some k → IsConsumer had devices m node k
+pub consumer_is : (had : Had) (devices : Devices) (m : Linked) (node : ℕ) (k : Consumer)
+    → consumer_of had devices m node ≡ Some k → IsConsumer had devices m node k
 consumer_is had devices m node k e = by (rpdo_for had devices (length m.sources) node) refl e
   where
     by : (o : Option ℕ) → rpdo_for had devices (length m.sources) node ≡ o
-        → option_map (λ number. let made : Consumer = record { node = node; rpdo = number; mapping = taken_mapping devices m.message.node m.sources m.sinks node } in made) o ≡ Some k → IsConsumer had devices m node k
+        → option_map (λ number. let made : Consumer =
+        record { node = node; rpdo = number; mapping = taken_mapping devices m.message.node m.sources m.sinks node }
+        in made) o ≡ Some k → IsConsumer had devices m node k
     by None f e = cc
     by (Some number) f e =
-        let made : Consumer = record { node = node; rpdo = number; mapping = taken_mapping devices m.message.node m.sources m.sinks node } in
+        let made : Consumer = record {
+          node = node;
+          rpdo = number;
+          mapping = taken_mapping devices m.message.node m.sources m.sinks node;
+        } in
         let same : made ≡ k = cc in
         record {
           at = sym (ap (λ (x : Consumer). x.node) same);
           mapping = ap (λ (x : Consumer). x.mapping) same;
-          least = least_free_is (is_free_rpdo had devices node (length m.sources)) 1 512 (Some k.rpdo) (sym (f ∙ ap (λ (x : Consumer). Some x.rpdo) same));
+          least = least_free_is (is_free_rpdo had devices node (length m.sources)) 1 512 (Some k.rpdo)
+              (sym (f ∙ ap (λ (x : Consumer). Some x.rpdo) same));
         }
 
-pub taken_few : (devices : Devices) (m : Linked) (node : ℕ) → length (taken_mapping devices m.message.node m.sources m.sinks node) ≤ length m.sources
+pub taken_few : (devices : Devices) (m : Linked) (node : ℕ)
+    → length (taken_mapping devices m.message.node m.sources m.sinks node) ≤ length m.sources
 unfolding taken_mapping
 taken_few devices m node = given_few (taken_at devices m.message.node m.sinks node) m.sources
 
-consumer_within : (had : Had) (devices : Devices) (m : Linked) → length m.sources ≤ 64 → (node : ℕ) (k : Consumer) → consumer_of had devices m node ≡ Some k → IsNumbered k.rpdo k.mapping
+consumer_within : (had : Had) (devices : Devices) (m : Linked) → length m.sources ≤ 64 → (node : ℕ) (k : Consumer)
+    → consumer_of had devices m node ≡ Some k → IsNumbered k.rpdo k.mapping
 consumer_within had devices m few node k e =
     let is = consumer_is had devices m node k e in
-    let count : length k.mapping ≡ length (taken_mapping devices m.message.node m.sources m.sinks node) = ap length (sym is.mapping) in
+    let count : length k.mapping ≡ length (taken_mapping devices m.message.node m.sources m.sinks node) =
+    ap length (sym is.mapping) in
     (is_within 1 512 k.rpdo is.least.0 (omega (arith, is.least.1)), omega (arith, count, taken_few devices m node))
 
-consumers_within : (had : Had) (devices : Devices) (m : Linked) → length m.sources ≤ 64 → All (λ (k : Consumer). IsNumbered k.rpdo k.mapping) (planned_consumers had devices m)
+consumers_within : (had : Had) (devices : Devices) (m : Linked) → length m.sources ≤ 64
+    → All (λ (k : Consumer). IsNumbered k.rpdo k.mapping) (planned_consumers had devices m)
 unfolding planned_consumers
 consumers_within had devices m few =
     All-from_recursion (λ (k : Consumer). IsNumbered k.rpdo k.mapping) (planned_consumers had devices m)
-    (each_given (consumer_of had devices m) (λ (k : Consumer). IsNumbered k.rpdo k.mapping) (consumer_within had devices m few) (consumers_of m.sinks))
+    (each_given (consumer_of had devices m) (λ (k : Consumer). IsNumbered k.rpdo k.mapping)
+    (consumer_within had devices m few) (consumers_of m.sinks))
 
-pub sent_count : (devices : Devices) (m : Linked) → length (sent_mapping devices m.message.node m.sources) ≡ length m.sources
+pub sent_count : (devices : Devices) (m : Linked)
+    → length (sent_mapping devices m.message.node m.sources) ≡ length m.sources
 unfolding sent_mapping
 sent_count devices m = length-map m.sources (λ s. mapped_to s.1 (source_bits devices m.message.node s))
 
 -- a clean message is within its limits
-pub clean_within : (had : Had) (devices : Devices) (m : Linked) (c : Clean) → IsLinked m → judged had devices m ≡ Planned c → IsWithin c
+pub clean_within : (had : Had) (devices : Devices) (m : Linked) (c : Clean) → IsLinked m
+    → judged_message had devices m ≡ Planned c → IsWithin c
 clean_within had devices m c kept e =
     let is = judged_clean had devices m c e in
     let limits = limits_of m kept in
@@ -245,14 +294,19 @@ clean_within had devices m c kept e =
     let tpdo : m.message.tpdo ≡ c.message.tpdo = ap (λ (x : Message). x.tpdo) is.message in
     let count : length c.mapping ≡ length m.sources = ap length (sym is.mapping) ∙ sent_count devices m in
     record {
-      sent = (subst (λ n. is_between 1 512 n ≡ true) tpdo (is_within 1 512 m.message.tpdo limits.tpdo.0 limits.tpdo.1), omega (arith, count, limits.sources));
+      sent = (
+        subst (λ n. is_between 1 512 n ≡ true) tpdo (is_within 1 512 m.message.tpdo limits.tpdo.0 limits.tpdo.1),
+        omega (arith, count, limits.sources),
+      );
       identifier = fine.below limits.node.1 limits.cob;
-      taken = subst (λ (ks : List Consumer). All (λ (k : Consumer). IsNumbered k.rpdo k.mapping) ks) is.consumers (consumers_within had devices m limits.sources);
+      taken = subst (λ (ks : List Consumer). All (λ (k : Consumer). IsNumbered k.rpdo k.mapping) ks) is.consumers
+          (consumers_within had devices m limits.sources);
     }
 
-pub judged_within : (had : Had) (devices : Devices) (m : Linked) → IsLinked m → IfSome (clean_of (judged had devices m)) IsWithin
-judged_within had devices m kept = by (judged had devices m) refl
+pub judged_within : (had : Had) (devices : Devices) (m : Linked) → IsLinked m
+    → IfSome (clean_of (judged_message had devices m)) IsWithin
+judged_within had devices m kept = by (judged_message had devices m) refl
   where
-    by : (o : Outcome) → judged had devices m ≡ o → IfSome (clean_of o) IsWithin
+    by : (o : Outcome) → judged_message had devices m ≡ o → IfSome (clean_of o) IsWithin
     by (Planned c) e = clean_within had devices m c kept e
     by (Faulty fs) e = tt

@@ -29,8 +29,11 @@ unfolding AreSources IsStrictlySortedBy
 few_sources ss kept =
     let keys : List ℕ = keys_of ss in
     let places : All (λ n. is_position n ≡ true) keys = All-map (λ n. is_position n ≡ true) (λ e. e.0) ss kept.1 in
-    let low : AllByRecursion (λ n. nat_cmp 0 n ≡ Less) keys = recursion_from_All (λ n. nat_cmp 0 n ≡ Less) keys (All-weaker (λ n. is_position n ≡ true) (λ n. nat_cmp 0 n ≡ Less) above_none keys places) in
-    let high : All (λ n. n < 65) (0 ∷ keys) = All-cons (λ n. n < 65) 0 keys (omega arith) (All-weaker (λ n. is_position n ≡ true) (λ n. n < 65) below_past keys places) in
+    let low : AllByRecursion (λ n. nat_cmp 0 n ≡ Less) keys =
+    recursion_from_All (λ n. nat_cmp 0 n ≡ Less) keys (All-weaker (λ n. is_position n ≡ true)
+    (λ n. nat_cmp 0 n ≡ Less) above_none keys places) in
+    let high : All (λ n. n < 65) (0 ∷ keys) = All-cons (λ n. n < 65) 0 keys (omega arith)
+    (All-weaker (λ n. is_position n ≡ true) (λ n. n < 65) below_past keys places) in
     let most : length (0 ∷ keys) ≤ 65 = length-le_from_below 65 (0 ∷ keys) (low, kept.0) high in
     let count : length keys ≡ length ss = length-map ss (λ e. e.0) in
     omega (arith, most, count)

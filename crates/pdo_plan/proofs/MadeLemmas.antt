@@ -1,5 +1,6 @@
 -- Each PDO of the plan is one that its node's device has, and no identifier is restricted.
-use Rattle.std.proofs.Common.{◌≡◌, ℕ, ◌+◌, ◌<◌, ◌≤◌, ◌==◌, ◌&&◌, Bool, true, false, cond, List, [], ◌∷◌, length, Some, option_and_then, refl, sym, ap, subst, ◌∙◌, arith, IsFalse}
+use Rattle.std.proofs.Common.{◌≡◌, ℕ, ◌+◌, ◌<◌, ◌≤◌, ◌==◌, ◌&&◌, Bool, true, false, cond, List, [], ◌∷◌, length, Some}
+use Rattle.std.proofs.Common.{option_and_then, refl, sym, ap, subst, ◌∙◌, arith, IsFalse}
 use Rattle.std.specs.List.{list_all, range_with_len, All, Contains}
 use Rattle.std.specs.Map.{lookup}
 use Rattle.std.proofs.lemmas.Bool.Decides.{nat_tests}
@@ -14,26 +15,32 @@ use Rattle.co_messages.specs.Messages.{IsLinked}
 use Rattle.pdo_plan.specs.declared.clean.Clean.{Clean}
 use Rattle.pdo_plan.specs.declared.consumer.Consumer.{Consumer}
 use Rattle.pdo_plan.specs.declared.outcome.Outcome.TheVariants.{Planned}
-use Rattle.pdo_devices.specs.Devices.{Devices, devices_of, has_unsigned, has_mapping, has_pdo, mapping_of, tpdo_object, rpdo_object}
-use Rattle.pdo_plan.specs.Plan.{Had, had_by, judged, consumer_of, consumers_of, planned_consumers, clean, plan_of, HasPdo, IsMadeFor}
+use Rattle.pdo_stations.specs.Devices.{Devices, devices_of, has_unsigned, has_mapping, has_pdo, mapping_of, tpdo_object}
+use Rattle.pdo_stations.specs.Devices.{rpdo_object}
+use Rattle.pdo_plan.specs.Plan.{Had, had_by, judged_message, consumer_of, consumers_of, planned_consumers, clean}
+use Rattle.pdo_plan.specs.Plan.{plan_of, HasPdo, IsMadeFor}
 use Rattle.pdo_plan.proofs.ChainLemmas.{each_clean, each_within, all_clean}
 use Rattle.pdo_plan.proofs.FreeLemmas.{faultless}
 use Rattle.pdo_plan.proofs.JudgedLemmas.{judged_clean, each_given, consumer_is, identifier_fine, sent_count, taken_few}
 use Rattle.pdo_plan.proofs.LimitLemmas.{limits_of}
-use Rattle.pdo_devices.proofs.RoomLemmas.{all_pass, one_fails}
-use Rattle.pdo_devices.proofs.AlikeLemmas.{pdo_alike}
+use Rattle.pdo_stations.proofs.RoomLemmas.{all_pass, one_fails}
+use Rattle.pdo_stations.proofs.AlikeLemmas.{pdo_alike}
 
 -- ---- identifiers
 
-not_restricted : (devices : Devices) (before : List Clean) (m : Linked) (c : Clean) → IsLinked m → judged (had_by before) devices m ≡ Planned c → IsFalse (is_restricted c.identifier)
+not_restricted : (devices : Devices) (before : List Clean) (m : Linked) (c : Clean) → IsLinked m
+    → judged_message (had_by before) devices m ≡ Planned c → IsFalse (is_restricted c.identifier)
 not_restricted devices before m c kept e =
     let is = judged_clean (had_by before) devices m c e in
     let limits = limits_of m kept in
-    (identifier_fine (had_by before) m.message c.identifier is.identifier).allowed limits.tpdo.0 limits.node.0 limits.node.1
+    (identifier_fine (had_by before) m.message c.identifier is.identifier).allowed limits.tpdo.0 limits.node.0
+    limits.node.1
 
-pub none_restricted : (devices : Devices) (ms : List (List ℕ × Linked)) → All (λ e. IsLinked e.1) ms → All (λ (c : Clean). IsFalse (is_restricted c.identifier)) (clean (plan_of devices ms))
+pub none_restricted : (devices : Devices) (ms : List (List ℕ × Linked)) → All (λ e. IsLinked e.1) ms
+    → All (λ (c : Clean). IsFalse (is_restricted c.identifier)) (clean (plan_of devices ms))
 none_restricted devices ms kept =
-    all_clean (λ (c : Clean). IsFalse (is_restricted c.identifier)) (clean (plan_of devices ms)) (each_within devices (λ before c. IsFalse (is_restricted c.identifier)) (not_restricted devices) ms kept)
+    all_clean (λ (c : Clean). IsFalse (is_restricted c.identifier)) (clean (plan_of devices ms))
+    (each_within devices (λ before c. IsFalse (is_restricted c.identifier)) (not_restricted devices) ms kept)
 
 -- ---- devices
 
@@ -50,7 +57,8 @@ and_both true b e f = f
 and_both false b e f = cc
 
 -- what all of some pass the first of them pass
-front_passes : (test : ℕ → Bool) (few count : ℕ) → few ≤ count → list_all test (range_with_len 1 count) ≡ true → list_all test (range_with_len 1 few) ≡ true
+front_passes : (test : ℕ → Bool) (few count : ℕ) → few ≤ count → list_all test (range_with_len 1 count) ≡ true
+    → list_all test (range_with_len 1 few) ≡ true
 front_passes test few count up all = all_pass test 1 few (λ k low below. passes k low (omega arith) (test k) refl)
   where
     passes : (k : ℕ) → 1 ≤ k → k < 1 + count → (b : Bool) → test k ≡ b → test k ≡ true
@@ -58,7 +66,8 @@ front_passes test few count up all = all_pass test 1 few (λ k low below. passes
     passes k low below false e = let none = one_fails test 1 count k low below e in cc
 
 -- a PDO with room for so many entries has room for fewer
-fewer : (d : Devices) (node object few count : ℕ) → few ≤ count → has_pdo d node object count ≡ true → has_pdo d node object few ≡ true
+fewer : (d : Devices) (node object few count : ℕ) → few ≤ count → has_pdo d node object count ≡ true
+    → has_pdo d node object few ≡ true
 unfolding has_mapping
 fewer d node object few count up has =
     let cob = has_unsigned d node Bits32 (object, 1) in
@@ -72,48 +81,65 @@ fewer d node object few count up has =
 itself : (n : ℕ) → (n == n) ≡ true
 itself n = grind (arith, nat_tests)
 
-module _ (nodes : List (ℕ × List Section)) (node : ℕ) (ss : List Section) (there : lookup (λ n. n == node) nodes ≡ Some ss) where
+module _ (nodes : List (ℕ × List Section)) (node : ℕ) (ss : List Section)
+    (there : lookup (λ n. n == node) nodes ≡ Some ss) where
   -- the plan's device of the node is this device
   entries_same : (devices_of nodes).entry node ≡ (devices_of ((node, ss) ∷ [])).entry node
   entries_same =
-      let one : lookup (λ n. n == node) ((node, ss) ∷ []) ≡ Some ss = ap (λ b. cond b (Some ss) (lookup (λ n. n == node) [])) (itself node) in
+      let one : lookup (λ n. n == node) ((node, ss) ∷ [])
+      ≡ Some ss = ap (λ b. cond b (Some ss) (lookup (λ n. n == node) [])) (itself node) in
       λ i place. option_and_then (λ s. entry_at s node place.0 place.1) ((there ∙ sym one) i)
 
-  has_here : (number object few count : ℕ) → number ≡ node → few ≤ count → has_pdo (devices_of nodes) number object count ≡ true → HasPdo ss node object few
+  has_here : (number object few count : ℕ) → number ≡ node → few ≤ count
+      → has_pdo (devices_of nodes) number object count ≡ true → HasPdo ss node object few
   has_here number object few count is up has =
-      let here : has_pdo (devices_of nodes) node object count ≡ true = subst (λ n. has_pdo (devices_of nodes) n object count ≡ true) is has in
-      sym (pdo_alike (devices_of nodes) (devices_of ((node, ss) ∷ [])) node node object few entries_same) ∙ fewer (devices_of nodes) node object few count up here
+      let here : has_pdo (devices_of nodes) node object count
+      ≡ true = subst (λ n. has_pdo (devices_of nodes) n object count ≡ true) is has in
+      sym (pdo_alike (devices_of nodes) (devices_of ((node, ss) ∷ [])) node node object few entries_same)
+      ∙ fewer (devices_of nodes) node object few count up here
 
   abbrev Made : Clean → Type 0
   Made c = (c.message.node ≡ node → HasPdo ss node (tpdo_object c.message.tpdo) (length c.mapping))
-      × ((k : Consumer) → Contains c.consumers k → k.node ≡ node → HasPdo ss node (rpdo_object k.rpdo) (length k.mapping))
+      × ((k : Consumer) → Contains c.consumers k → k.node ≡ node
+      → HasPdo ss node (rpdo_object k.rpdo) (length k.mapping))
 
   abbrev MadeTaker : Consumer → Type 0
   MadeTaker k = k.node ≡ node → HasPdo ss node (rpdo_object k.rpdo) (length k.mapping)
 
-  taker_made : (had : Had) (m : Linked) (n : ℕ) (k : Consumer) → consumer_of had (devices_of nodes) m n ≡ Some k → MadeTaker k
+  taker_made : (had : Had) (m : Linked) (n : ℕ) (k : Consumer) → consumer_of had (devices_of nodes) m n ≡ Some k
+      → MadeTaker k
   taker_made had m n k e same =
       let is = consumer_is had (devices_of nodes) m n k e in
-      let count : length k.mapping ≤ length m.sources = let f = taken_few (devices_of nodes) m n in let g = ap length is.mapping in omega (arith, f, g) in
-      has_here n (rpdo_object k.rpdo) (length k.mapping) (length m.sources) (sym is.at ∙ same) count (and_right _ _ is.least.2)
+      let count : length k.mapping ≤ length m.sources = let f = taken_few (devices_of nodes) m n
+      in let g = ap length is.mapping in omega (arith, f, g) in
+      has_here n (rpdo_object k.rpdo) (length k.mapping) (length m.sources)
+      (sym is.at ∙ same) count (and_right _ _ is.least.2)
 
   takers_made : (had : Had) (m : Linked) → All MadeTaker (planned_consumers had (devices_of nodes) m)
   unfolding planned_consumers
   takers_made had m =
-      All-from_recursion MadeTaker (planned_consumers had (devices_of nodes) m) (each_given (consumer_of had (devices_of nodes) m) MadeTaker (taker_made had m) (consumers_of m.sinks))
+      All-from_recursion MadeTaker (planned_consumers had (devices_of nodes) m)
+      (each_given (consumer_of had (devices_of nodes) m) MadeTaker (taker_made had m) (consumers_of m.sinks))
 
-  clean_made : (before : List Clean) (m : Linked) (c : Clean) → judged (had_by before) (devices_of nodes) m ≡ Planned c → Made c
+  clean_made : (before : List Clean) (m : Linked) (c : Clean)
+      → judged_message (had_by before) (devices_of nodes) m ≡ Planned c → Made c
   clean_made before m c e =
       let is = judged_clean (had_by before) (devices_of nodes) m c e in
       let objects = (faultless (had_by before) (devices_of nodes) m is.faultless).objects in
-      let has : has_pdo (devices_of nodes) m.message.node (tpdo_object m.message.tpdo) (length m.sources) ≡ true = and_left _ _ objects in
+      let has : has_pdo (devices_of nodes) m.message.node (tpdo_object m.message.tpdo) (length m.sources)
+      ≡ true = and_left _ _ objects in
       let same : has_pdo (devices_of nodes) c.message.node (tpdo_object c.message.tpdo) (length m.sources) ≡ true =
-      subst (λ (x : Message). has_pdo (devices_of nodes) x.node (tpdo_object x.tpdo) (length m.sources) ≡ true) is.message has in
-      let count : length c.mapping ≤ length m.sources = let f = ap length (sym is.mapping) in let g = sent_count (devices_of nodes) m in omega (arith, f, g) in
-      let takers : All MadeTaker c.consumers = subst (All MadeTaker) is.consumers (takers_made (had_by before) m) in
-      ((λ at. has_here c.message.node (tpdo_object c.message.tpdo) (length c.mapping) (length m.sources) at count same), λ k among. All-contains MadeTaker c.consumers k takers among)
+      subst (λ (x : Message). has_pdo (devices_of nodes) x.node (tpdo_object x.tpdo) (length m.sources)
+      ≡ true) is.message has in
+      let count : length c.mapping ≤ length m.sources = let f = ap length (sym is.mapping)
+      in let g = sent_count (devices_of nodes) m in omega (arith, f, g) in
+      let takers : All MadeTaker c.consumers = subst (All MadeTaker) is.consumers (takers_made (had_by before) m) in (
+        (λ at. has_here c.message.node (tpdo_object c.message.tpdo) (length c.mapping) (length m.sources) at count same),
+        λ k among. All-contains MadeTaker c.consumers k takers among,
+      )
 
   pub made_for : (ms : List (List ℕ × Linked)) → IsMadeFor (plan_of (devices_of nodes) ms) ss node
   made_for ms c among =
       All-contains Made (clean (plan_of (devices_of nodes) ms)) c
-      (all_clean Made (clean (plan_of (devices_of nodes) ms)) (each_clean (devices_of nodes) (λ before d. Made d) clean_made ms)) among
+      (all_clean Made (clean (plan_of (devices_of nodes) ms))
+      (each_clean (devices_of nodes) (λ before d. Made d) clean_made ms)) among

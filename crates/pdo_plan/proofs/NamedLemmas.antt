@@ -1,5 +1,7 @@
 -- The plan asks only of the nodes that its messages name.
-use Rattle.std.proofs.Common.{◌≡◌, ℕ, ◌==◌, nat_lt, Bool, true, false, not, ◌&&◌, ◌||◌, List, [], ◌∷◌, ◌++◌, length, filter_map, Option, Some, None, is_some, is_none, option_map, option_and_then, refl, ap, ◌∙◌, arith}
+use Rattle.std.proofs.Common.{◌≡◌, ℕ, ◌==◌, nat_lt, Bool, true, false, not, ◌&&◌, ◌||◌, List, [], ◌∷◌, ◌++◌, length}
+use Rattle.std.proofs.Common.{filter_map, Option, Some, None, is_some, is_none, option_map, option_and_then, refl, ap}
+use Rattle.std.proofs.Common.{◌∙◌, arith}
 use Rattle.std.specs.BTreeSet.{insert_key}
 use Rattle.std.specs.FinMap.{entries}
 use Rattle.std.specs.List.{list_any, cons_option, AllByRecursion}
@@ -15,18 +17,23 @@ use Rattle.co_dict.specs.Pdos.{is_mappable}
 use Rattle.co_values.specs.Types.{width_bits}
 use Rattle.eds_device.specs.Entries.{entry_at, dummy_allowed}
 use Rattle.co_messages.specs.declared.linked.Linked.{Linked}
-use Rattle.co_messages.specs.Messages.{source_at, concerns, concern, Named}
+use Rattle.co_messages.specs.Messages.{source_at, is_of_message, is_of_messages, Named}
 use Rattle.pdo_plan.specs.declared.clean.Clean.{Clean}
 use Rattle.pdo_plan.specs.declared.message_fault.MessageFault.{MessageFault}
-use Rattle.pdo_plan.specs.declared.message_fault.MessageFault.TheVariants.{NoObjects, TpdoTaken, TooManyBits, NotMappable, Mismatched, NoRpdo, NoDummy, BadIdentifier, NoIdentifier, ReservedType}
+use Rattle.pdo_plan.specs.declared.message_fault.MessageFault.TheVariants.{NoObjects, TpdoTaken, TooManyBits}
+use Rattle.pdo_plan.specs.declared.message_fault.MessageFault.TheVariants.{NotMappable, Mismatched, NoRpdo, NoDummy}
+use Rattle.pdo_plan.specs.declared.message_fault.MessageFault.TheVariants.{BadIdentifier, NoIdentifier, ReservedType}
 use Rattle.pdo_plan.specs.declared.outcome.Outcome.TheVariants.{Planned}
 use Rattle.pdo_plan.specs.declared.planned_message.PlannedMessage.{PlannedMessage}
-use Rattle.pdo_devices.specs.Devices.{Devices, devices_of, can_map, tpdo_object, rpdo_object}
+use Rattle.pdo_stations.specs.Devices.{Devices, devices_of, can_map, tpdo_object, rpdo_object}
 use Rattle.pdo_plan.specs.Least.{least_free}
 use Rattle.pdo_plan.specs.Mapping.{Sinks, differ, bits_of, sent_mapping, taken_mapping, is_mismatched, lacks_dummy_at}
-use Rattle.pdo_plan.specs.Plan.{Had, had_by, nodes_put, consumers_of, is_free_rpdo, rpdo_for, consumer_of, planned_consumers, identifier_for, has_objects, has_unmappable, has_mismatch, lacks_rpdo, lacks_dummy, noted, faults, outcome, judged, said_of, clean, plan_after, plan_of}
+use Rattle.pdo_plan.specs.Plan.{Had, had_by, nodes_put, consumers_of, is_free_rpdo, rpdo_for, consumer_of}
+use Rattle.pdo_plan.specs.Plan.{planned_consumers, identifier_for, has_objects, has_unmappable, has_mismatch}
+use Rattle.pdo_plan.specs.Plan.{lacks_rpdo, lacks_dummy, faults_that_hold, faults, message_outcome, judged_message}
+use Rattle.pdo_plan.specs.Plan.{planned_message, clean, plan_after, plan_of}
 use Rattle.pdo_plan.proofs.OrderLemmas.{all_inserted}
-use Rattle.pdo_devices.proofs.AlikeLemmas.{pdo_alike, times_alike}
+use Rattle.pdo_stations.proofs.AlikeLemmas.{pdo_alike, times_alike}
 
 -- ---- lists
 
@@ -39,16 +46,20 @@ module _ {X : Type 0} where
   any_alike p q [] each = refl
   any_alike p q (x ∷ xs) each = λ i. each.0 i || any_alike p q xs each.1 i
 
-  given_alike : {Y : Type 0} (f g : X → Option Y) (xs : List X) → AllByRecursion (λ x. f x ≡ g x) xs → filter_map f xs ≡ filter_map g xs
+  given_alike : {Y : Type 0} (f g : X → Option Y) (xs : List X) → AllByRecursion (λ x. f x ≡ g x) xs
+      → filter_map f xs ≡ filter_map g xs
   given_alike f g [] each = refl
   given_alike f g (x ∷ xs) each = λ i. cons_option (each.0 i) (given_alike f g xs each.1 i)
 
 -- the nodes that sinks name are so where each sink's node is
-all_put : (P : ℕ → Type 0) (nodes : List ℕ) (sinks : Sinks) → AllByRecursion P nodes → AllByRecursion (λ s. P s.0.1) sinks → AllByRecursion P (nodes_put nodes sinks)
+all_put : (P : ℕ → Type 0) (nodes : List ℕ) (sinks : Sinks) → AllByRecursion P nodes
+    → AllByRecursion (λ s. P s.0.1) sinks → AllByRecursion P (nodes_put nodes sinks)
 all_put P nodes [] known each = known
-all_put P nodes (s ∷ sinks) known each = all_put P (insert_key nat_cmp nodes s.0.1) sinks (all_inserted P nodes s.0.1 known each.0) each.1
+all_put P nodes (s ∷ sinks) known each =
+    all_put P (insert_key nat_cmp nodes s.0.1) sinks (all_inserted P nodes s.0.1 known each.0) each.1
 
-all_consumers : (P : ℕ → Type 0) (sinks : Sinks) → AllByRecursion (λ s. P s.0.1) sinks → AllByRecursion P (consumers_of sinks)
+all_consumers : (P : ℕ → Type 0) (sinks : Sinks) → AllByRecursion (λ s. P s.0.1) sinks
+    → AllByRecursion P (consumers_of sinks)
 unfolding consumers_of
 all_consumers P sinks each = all_put P [] sinks tt each
 
@@ -78,7 +89,8 @@ module _ (had : Had) (d e : Devices) (m : Linked) (same : AreAlikeFor d e m) whe
   objects_alike : has_objects d m ≡ has_objects e m
   objects_alike =
       let object = tpdo_object m.message.tpdo in
-      λ i. pdo_alike d e sender sender object (length m.sources) same.sender.entry i && times_alike d e sender sender object m.message.inhibit m.message.event same.sender.entry i
+      λ i. pdo_alike d e sender sender object (length m.sources) same.sender.entry i
+      && times_alike d e sender sender object m.message.inhibit m.message.event same.sender.entry i
 
   bits_alike : bits_of d sender m.sources ≡ bits_of e sender m.sources
   bits_alike = λ i. bits_of (one (same.sender.entry i) (same.sender.dummy i)) sender m.sources
@@ -89,45 +101,64 @@ module _ (had : Had) (d e : Devices) (m : Linked) (same : AreAlikeFor d e m) whe
 
   unmappable_alike : has_unmappable d m ≡ has_unmappable e m
   unmappable_alike =
-      let sinks = any_alike (λ s. not (can_map Receive d s.0.1 s.1) || (s.0.1 == sender)) (λ s. not (can_map Receive e s.0.1 s.1) || (s.0.1 == sender)) m.sinks
-      (each_is (λ s. AreAlikeAt d e s.0.1) _ (λ s at. λ i. not (option_map_or (is_mappable Receive) (at.entry i s.1) false) || (s.0.1 == sender)) m.sinks same.takers) in
-      λ i. list_any (λ s. not (option_map_or (is_mappable Transmit) (same.sender.entry i s.1) false)) m.sources || sinks i
+      let sinks = any_alike (λ s. not (can_map Receive d s.0.1 s.1) || (s.0.1 == sender))
+      (λ s. not (can_map Receive e s.0.1 s.1) || (s.0.1 == sender)) m.sinks
+      (each_is (λ s. AreAlikeAt d e s.0.1) _ (λ s at. λ i. not (option_map_or (is_mappable Receive)
+      (at.entry i s.1) false) || (s.0.1 == sender)) m.sinks same.takers) in
+      λ i. list_any (λ s. not (option_map_or (is_mappable Transmit) (same.sender.entry i s.1) false)) m.sources
+      || sinks i
 
   mismatch_alike : has_mismatch d m ≡ has_mismatch e m
   mismatch_alike =
-      let width : (ℕ × ℕ → Option Entry) → ℕ × ℕ → Option ℕ = λ entry place. option_and_then (λ (x : Entry). width_bits x.kind) (entry place) in
+      let width : (ℕ × ℕ → Option Entry) → ℕ × ℕ
+      → Option ℕ = λ entry place. option_and_then (λ (x : Entry). width_bits x.kind) (entry place) in
       any_alike (is_mismatched d sender m.sources) (is_mismatched e sender m.sources) m.sinks
-      (each_is (λ s. AreAlikeAt d e s.0.1) _ (λ s at. λ i. option_map_or (λ place. differ (width (same.sender.entry i) place) (width (at.entry i) s.1)) (source_at m.sources s.0.0) true) m.sinks same.takers)
+      (each_is (λ s. AreAlikeAt d e s.0.1) _ (λ s at. λ i. option_map_or
+      (λ place. differ (width (same.sender.entry i) place) (width (at.entry i) s.1))
+      (source_at m.sources s.0.0) true) m.sinks same.takers)
 
-  rpdo_alike : (node : ℕ) → AreAlikeAt d e node → rpdo_for had d (length m.sources) node ≡ rpdo_for had e (length m.sources) node
+  rpdo_alike : (node : ℕ) → AreAlikeAt d e node
+      → rpdo_for had d (length m.sources) node ≡ rpdo_for had e (length m.sources) node
   rpdo_alike node at =
-      let free : (number : ℕ) → is_free_rpdo had d node (length m.sources) number ≡ is_free_rpdo had e node (length m.sources) number =
-      λ number. ap (λ b. not (had.rpdo node number) && b) (pdo_alike d e node node (rpdo_object number) (length m.sources) at.entry) in
+      let free : (number : ℕ) → is_free_rpdo had d node (length m.sources) number
+      ≡ is_free_rpdo had e node (length m.sources) number =
+      λ number. ap (λ b. not (had.rpdo node number) && b)
+      (pdo_alike d e node node (rpdo_object number) (length m.sources) at.entry) in
       ap (λ (f : ℕ → Bool). least_free f 1 512) (λ i number. free number i)
 
   rpdos_alike : lacks_rpdo had d m ≡ lacks_rpdo had e m
   rpdos_alike =
-      any_alike (λ node. is_none (rpdo_for had d (length m.sources) node)) (λ node. is_none (rpdo_for had e (length m.sources) node)) (consumers_of m.sinks)
+      any_alike (λ node. is_none (rpdo_for had d (length m.sources) node))
+      (λ node. is_none (rpdo_for had e (length m.sources) node)) (consumers_of m.sinks)
       (each_is (AreAlikeAt d e) _ (λ node at. ap is_none (rpdo_alike node at)) (consumers_of m.sinks) nodes_alike)
 
   dummies_alike : lacks_dummy d m ≡ lacks_dummy e m
   dummies_alike =
-      any_alike (λ node. list_any (lacks_dummy_at d sender m.sinks node) m.sources) (λ node. list_any (lacks_dummy_at e sender m.sinks node) m.sources) (consumers_of m.sinks)
-      (each_is (AreAlikeAt d e) _ (λ node at. λ i. list_any (lacks_dummy_at (one (same.sender.entry i) (at.dummy i)) sender m.sinks node) m.sources) (consumers_of m.sinks) nodes_alike)
+      any_alike (λ node. list_any (lacks_dummy_at d sender m.sinks node) m.sources)
+      (λ node. list_any (lacks_dummy_at e sender m.sinks node) m.sources) (consumers_of m.sinks)
+      (each_is (AreAlikeAt d e) _ (λ node at. λ i. list_any
+      (lacks_dummy_at (one (same.sender.entry i) (at.dummy i)) sender m.sinks node) m.sources)
+      (consumers_of m.sinks) nodes_alike)
 
   consumer_alike : (node : ℕ) → AreAlikeAt d e node → consumer_of had d m node ≡ consumer_of had e m node
   unfolding taken_mapping
   consumer_alike node at =
-      λ i. option_map (λ number. record { node = node; rpdo = number; mapping = taken_mapping (one (same.sender.entry i) (at.dummy i)) sender m.sources m.sinks node }) (rpdo_alike node at i)
+      λ i. option_map (λ number. record {
+        node = node;
+        rpdo = number;
+        mapping = taken_mapping (one (same.sender.entry i) (at.dummy i)) sender m.sources m.sinks node;
+      })
+      (rpdo_alike node at i)
 
   consumers_alike : planned_consumers had d m ≡ planned_consumers had e m
   unfolding planned_consumers
   consumers_alike =
-      given_alike (consumer_of had d m) (consumer_of had e m) (consumers_of m.sinks) (each_is (AreAlikeAt d e) _ consumer_alike (consumers_of m.sinks) nodes_alike)
+      given_alike (consumer_of had d m) (consumer_of had e m) (consumers_of m.sinks)
+      (each_is (AreAlikeAt d e) _ consumer_alike (consumers_of m.sinks) nodes_alike)
 
   faults_alike : faults had d m ≡ faults had e m
   unfolding faults
-  faults_alike = λ i. noted ((not (objects_alike i), NoObjects)
+  faults_alike = λ i. faults_that_hold ((not (objects_alike i), NoObjects)
       ∷ (had.tpdo m.message.node m.message.tpdo, TpdoTaken)
       ∷ (nat_lt 64 (bits_alike i), TooManyBits)
       ∷ (unmappable_alike i, NotMappable)
@@ -138,25 +169,37 @@ module _ (had : Had) (d e : Devices) (m : Linked) (same : AreAlikeFor d e m) whe
       ∷ (m.message.cob == 0 && not (is_some (identifier_for had m.message)), NoIdentifier)
       ∷ (is_between 241 251 m.message.transmission, ReservedType) ∷ [])
 
-  outcome_alike : (id : Option ℕ) (fs : List MessageFault) → outcome had d m id fs ≡ outcome had e m id fs
+  outcome_alike : (id : Option ℕ) (fs : List MessageFault)
+      → message_outcome had d m id fs ≡ message_outcome had e m id fs
   outcome_alike None fs = refl
   outcome_alike (Some id) (f ∷ fs) = refl
-  outcome_alike (Some id) [] = λ i. Planned (record { message = m.message; identifier = id; mapping = sent_alike i; consumers = consumers_alike i })
+  outcome_alike (Some id) [] =
+      λ i. Planned (record {
+        message = m.message;
+        identifier = id;
+        mapping = sent_alike i;
+        consumers = consumers_alike i;
+      })
 
-  pub judged_alike : judged had d m ≡ judged had e m
-  unfolding judged
-  judged_alike = outcome_alike (identifier_for had m.message) (faults had d m) ∙ ap (outcome had e m (identifier_for had m.message)) faults_alike
+  pub judged_alike : judged_message had d m ≡ judged_message had e m
+  unfolding judged_message
+  judged_alike = outcome_alike (identifier_for had m.message) (faults had d m)
+      ∙ ap (message_outcome had e m (identifier_for had m.message)) faults_alike
 
 -- ---- the plan
 
-after_alike : (d e : Devices) (before : List Clean) (ms : List (List ℕ × Linked)) → AllByRecursion (λ m. AreAlikeFor d e m.1) ms → plan_after d before ms ≡ plan_after e before ms
+after_alike : (d e : Devices) (before : List Clean) (ms : List (List ℕ × Linked))
+    → AllByRecursion (λ m. AreAlikeFor d e m.1) ms → plan_after d before ms ≡ plan_after e before ms
 after_alike d e before [] each = refl
 after_alike d e before (m ∷ ms) each =
-    let said : PlannedMessage = said_of (had_by before) d m in
-    let same : said ≡ said_of (had_by before) e m = λ i. record { name = m.0; outcome = judged_alike (had_by before) d e m.1 each.0 i } in
-    ap (λ ps. said ∷ ps) (after_alike d e (before ++ clean (said ∷ [])) ms each.1) ∙ ap (λ (p : PlannedMessage). p ∷ plan_after e (before ++ clean (p ∷ [])) ms) same
+    let said : PlannedMessage = planned_message (had_by before) d m in
+    let same : said ≡ planned_message (had_by before) e m =
+    λ i. record { name = m.0; outcome = judged_alike (had_by before) d e m.1 each.0 i } in
+    ap (λ ps. said ∷ ps) (after_alike d e (before ++ clean (said ∷ [])) ms each.1)
+    ∙ ap (λ (p : PlannedMessage). p ∷ plan_after e (before ++ clean (p ∷ [])) ms) same
 
-pub plan_alike : (d e : Devices) (ms : List (List ℕ × Linked)) → AllByRecursion (λ m. AreAlikeFor d e m.1) ms → plan_of d ms ≡ plan_of e ms
+pub plan_alike : (d e : Devices) (ms : List (List ℕ × Linked)) → AllByRecursion (λ m. AreAlikeFor d e m.1) ms
+    → plan_of d ms ≡ plan_of e ms
 unfolding plan_of
 plan_alike d e ms each = after_alike d e [] ms each
 
@@ -173,31 +216,41 @@ itself : (n : ℕ) → (n == n) ≡ true
 itself n = grind (arith, nat_tests)
 
 module _ (d e : Devices) where
-  takers_named : (sinks : Sinks) → ((node : ℕ) → list_any (λ s. s.0.1 == node) sinks ≡ true → AreAlikeAt d e node) → AllByRecursion (λ s. AreAlikeAt d e s.0.1) sinks
+  takers_named : (sinks : Sinks) → ((node : ℕ) → list_any (λ s. s.0.1 == node) sinks ≡ true → AreAlikeAt d e node)
+      → AllByRecursion (λ s. AreAlikeAt d e s.0.1) sinks
   takers_named [] holds = tt
-  takers_named (s ∷ sinks) holds =
-      (holds s.0.1 (or_left (s.0.1 == s.0.1) _ (itself s.0.1)), takers_named sinks (λ node named. holds node (or_right (s.0.1 == node) _ named)))
+  takers_named (s ∷ sinks) holds = (
+    holds s.0.1 (or_left (s.0.1 == s.0.1) _ (itself s.0.1)),
+    takers_named sinks (λ node named. holds node (or_right (s.0.1 == node) _ named)),
+  )
 
-  message_named : (m : Linked) → ((node : ℕ) → concerns node m ≡ true → AreAlikeAt d e node) → AreAlikeFor d e m
+  message_named : (m : Linked) → ((node : ℕ) → is_of_message node m ≡ true → AreAlikeAt d e node) → AreAlikeFor d e m
   message_named m holds = record {
     sender = holds m.message.node (or_left (m.message.node == m.message.node) _ (itself m.message.node));
     takers = takers_named m.sinks (λ node named. holds node (or_right (m.message.node == node) _ named));
   }
 
-  pub messages_named : (ms : List (List ℕ × Linked)) → ((node : ℕ) → list_any (λ m. concerns node m.1) ms ≡ true → AreAlikeAt d e node) → AllByRecursion (λ m. AreAlikeFor d e m.1) ms
+  pub messages_named : (ms : List (List ℕ × Linked))
+      → ((node : ℕ) → list_any (λ m. is_of_message node m.1) ms ≡ true → AreAlikeAt d e node)
+      → AllByRecursion (λ m. AreAlikeFor d e m.1) ms
   messages_named [] holds = tt
-  messages_named (m ∷ ms) holds =
-      (message_named m.1 (λ node named. holds node (or_left (concerns node m.1) _ named)), messages_named ms (λ node named. holds node (or_right (concerns node m.1) _ named)))
+  messages_named (m ∷ ms) holds = (
+    message_named m.1 (λ node named. holds node (or_left (is_of_message node m.1) _ named)),
+    messages_named ms (λ node named. holds node (or_right (is_of_message node m.1) _ named)),
+  )
 
 -- of a node that two lists of nodes look up alike their devices say the same
-lookup_alike : (a b : List (ℕ × List Section)) (node : ℕ) → lookup (λ n. n == node) a ≡ lookup (λ n. n == node) b → AreAlikeAt (devices_of a) (devices_of b) node
+lookup_alike : (a b : List (ℕ × List Section)) (node : ℕ) → lookup (λ n. n == node) a ≡ lookup (λ n. n == node) b
+    → AreAlikeAt (devices_of a) (devices_of b) node
 lookup_alike a b node same = record {
   entry = λ i place. option_and_then (λ ss. entry_at ss node place.0 place.1) (same i);
   dummy = λ i kind. option_map_or (λ ss. dummy_allowed ss kind) (same i) false;
 }
 
 pub named_alike : (a b : List (ℕ × List Section)) (messages : Named)
-    → ((node : ℕ) → concern node messages ≡ true → lookup (λ n. n == node) a ≡ lookup (λ n. n == node) b) → plan_of (devices_of a) (entries messages) ≡ plan_of (devices_of b) (entries messages)
+    → ((node : ℕ) → is_of_messages node messages ≡ true → lookup (λ n. n == node) a ≡ lookup (λ n. n == node) b)
+    → plan_of (devices_of a) (entries messages) ≡ plan_of (devices_of b) (entries messages)
 named_alike a b messages same =
     plan_alike (devices_of a) (devices_of b) (entries messages)
-    (messages_named (devices_of a) (devices_of b) (entries messages) (λ node named. lookup_alike a b node (same node named)))
+    (messages_named (devices_of a) (devices_of b) (entries messages)
+    (λ node named. lookup_alike a b node (same node named)))

@@ -1,5 +1,6 @@
 -- The plan at each place.
-use Rattle.std.proofs.Common.{◌≡◌, ℕ, zero, suc, List, [], ◌∷◌, ◌++◌, length, take, append_assoc, Some, refl, sym, ap, ◌∙◌}
+use Rattle.std.proofs.Common.{◌≡◌, ℕ, zero, suc, List, [], ◌∷◌, ◌++◌, length, take, append_assoc, Some, refl, sym, ap}
+use Rattle.std.proofs.Common.{◌∙◌}
 use Rattle.std.specs.List.{slice_get}
 use Rattle.std.proofs.lemmas.List.{append-nil}
 use Rattle.co_messages.specs.declared.linked.Linked.{Linked}
@@ -7,37 +8,46 @@ use Rattle.pdo_plan.specs.declared.clean.Clean.{Clean}
 use Rattle.pdo_plan.specs.declared.outcome.Outcome.{Outcome}
 use Rattle.pdo_plan.specs.declared.outcome.Outcome.TheVariants.{Planned, Faulty}
 use Rattle.pdo_plan.specs.declared.planned_message.PlannedMessage.{PlannedMessage}
-use Rattle.pdo_devices.specs.Devices.{Devices}
-use Rattle.pdo_plan.specs.Plan.{had_by, said_of, clean, plan_after, plan_of}
+use Rattle.pdo_stations.specs.Devices.{Devices}
+use Rattle.pdo_plan.specs.Plan.{had_by, planned_message, clean, plan_after, plan_of}
 
 more : (before : List Clean) (name : List ℕ) (o : Outcome) (ps : List PlannedMessage)
-    → let p : PlannedMessage = record { name = name; outcome = o } in (before ++ clean (p ∷ [])) ++ clean ps ≡ before ++ clean (p ∷ ps)
+    → let p : PlannedMessage = record { name = name; outcome = o }
+    in (before ++ clean (p ∷ [])) ++ clean ps ≡ before ++ clean (p ∷ ps)
 more before name (Planned c) ps = append_assoc before (c ∷ []) (clean ps)
 more before name (Faulty fs) ps = ap (λ cs. cs ++ clean ps) (append-nil before)
 
 module _ (devices : Devices) where
   abbrev IsAt : List Clean → List (List ℕ × Linked) → List PlannedMessage → ℕ → PlannedMessage → Type 0
-  IsAt before ms ps k p = (m : List ℕ × Linked) × (slice_get ms k ≡ Some m) × (p ≡ said_of (had_by (before ++ clean (take k ps))) devices m)
+  IsAt before ms ps k p = (m : List ℕ × Linked) × (slice_get ms k ≡ Some m)
+      × (p ≡ planned_message (had_by (before ++ clean (take k ps))) devices m)
 
-  after_at : (before : List Clean) (ms : List (List ℕ × Linked)) (k : ℕ) (p : PlannedMessage) → slice_get (plan_after devices before ms) k ≡ Some p → IsAt before ms (plan_after devices before ms) k p
+  after_at : (before : List Clean) (ms : List (List ℕ × Linked)) (k : ℕ) (p : PlannedMessage)
+      → slice_get (plan_after devices before ms) k ≡ Some p → IsAt before ms (plan_after devices before ms) k p
   after_at before [] k p e = cc
   after_at before (m ∷ ms) zero p e =
-      let is : said_of (had_by before) devices m ≡ p = cc in
-      (m, refl, sym is ∙ ap (λ cs. said_of (had_by cs) devices m) (sym (append-nil before)))
+      let is : planned_message (had_by before) devices m ≡ p = cc in
+      (m, refl, sym is ∙ ap (λ cs. planned_message (had_by cs) devices m) (sym (append-nil before)))
   after_at before (m ∷ ms) (suc k) p e =
-      let said : PlannedMessage = said_of (had_by before) devices m in
+      let said : PlannedMessage = planned_message (had_by before) devices m in
       let rest : List PlannedMessage = plan_after devices (before ++ clean (said ∷ [])) ms in
-      let there = after_at (before ++ clean (said ∷ [])) ms k p e in
-      (there.0, there.1, there.2 ∙ ap (λ cs. said_of (had_by cs) devices there.0) (more before said.name said.outcome (take k rest)))
+      let there = after_at (before ++ clean (said ∷ [])) ms k p e in (
+        there.0,
+        there.1,
+        there.2 ∙ ap (λ cs. planned_message (had_by cs) devices there.0)
+            (more before said.name said.outcome (take k rest)),
+      )
 
   pub plan_at : (ms : List (List ℕ × Linked)) (k : ℕ) (p : PlannedMessage) → slice_get (plan_of devices ms) k ≡ Some p
-      → (m : List ℕ × Linked) × (slice_get ms k ≡ Some m) × (p ≡ said_of (had_by (clean (take k (plan_of devices ms)))) devices m)
+      → (m : List ℕ × Linked) × (slice_get ms k ≡ Some m)
+      × (p ≡ planned_message (had_by (clean (take k (plan_of devices ms)))) devices m)
   unfolding plan_of
   plan_at ms k p e = after_at [] ms k p e
 
   after_count : (before : List Clean) (ms : List (List ℕ × Linked)) → length (plan_after devices before ms) ≡ length ms
   after_count before [] = refl
-  after_count before (m ∷ ms) = ap suc (after_count (before ++ clean (said_of (had_by before) devices m ∷ [])) ms)
+  after_count before (m ∷ ms) =
+      ap suc (after_count (before ++ clean (planned_message (had_by before) devices m ∷ [])) ms)
 
   pub plan_count : (ms : List (List ℕ × Linked)) → length (plan_of devices ms) ≡ length ms
   unfolding plan_of

@@ -1,5 +1,6 @@
 -- The plan, message by message.
-use Rattle.std.proofs.Common.{◌≡◌, ◌==◌, ℕ, Bool, true, false, ◌||◌, ◌&&◌, List, [], ◌∷◌, ◌++◌, append_assoc, refl, sym, ap, subst, ◌∙◌}
+use Rattle.std.proofs.Common.{◌≡◌, ◌==◌, ℕ, Bool, true, false, ◌||◌, ◌&&◌, List, [], ◌∷◌, ◌++◌, append_assoc, refl, sym}
+use Rattle.std.proofs.Common.{ap, subst, ◌∙◌}
 use Rattle.std.specs.List.{list_any, All}
 use Rattle.std.specs.Option.{IfSome}
 use Rattle.std.proofs.lemmas.List.Elements.{filter_map-append, All-nil, All-cons, All-append}
@@ -10,8 +11,8 @@ use Rattle.pdo_plan.specs.declared.clean.Clean.{Clean}
 use Rattle.pdo_plan.specs.declared.outcome.Outcome.{Outcome}
 use Rattle.pdo_plan.specs.declared.outcome.Outcome.TheVariants.{Planned, Faulty}
 use Rattle.pdo_plan.specs.declared.planned_message.PlannedMessage.{PlannedMessage}
-use Rattle.pdo_devices.specs.Devices.{Devices}
-use Rattle.pdo_plan.specs.Plan.{Had, had_by, is_at_node, said_of, clean_of, clean, plan_after, IsWithin}
+use Rattle.pdo_stations.specs.Devices.{Devices}
+use Rattle.pdo_plan.specs.Plan.{Had, had_by, is_at_node, planned_message, clean_of, clean, plan_after, IsWithin}
 use Rattle.pdo_plan.specs.Taken.{had_too, had_after}
 
 or_false : (a b : Bool) → a || b ≡ a || (b || false)
@@ -33,28 +34,36 @@ had_more cs c = λ i. record {
 pub clean_more : (ps : List PlannedMessage) (p : PlannedMessage) → clean ps ++ clean (p ∷ []) ≡ clean (ps ++ p ∷ [])
 clean_more ps p = sym (filter_map-append (λ (x : PlannedMessage). clean_of x.outcome) ps (p ∷ []))
 
-had_listed : (cs : List Clean) (name : List ℕ) (o : Outcome) → let p : PlannedMessage = record { name = name; outcome = o } in had_after (had_by cs) o ≡ had_by (cs ++ clean (p ∷ []))
+had_listed : (cs : List Clean) (name : List ℕ) (o : Outcome)
+    → let p : PlannedMessage = record { name = name; outcome = o }
+    in had_after (had_by cs) o ≡ had_by (cs ++ clean (p ∷ []))
 had_listed cs name (Planned c) = had_more cs c
 had_listed cs name (Faulty fs) = sym (ap had_by (append-nil cs))
 
 -- what is had after one more message
-pub had_step : (ps : List PlannedMessage) (p : PlannedMessage) (before after : Had) → before ≡ had_by (clean ps) → after ≡ had_after before p.outcome → after ≡ had_by (clean (ps ++ p ∷ []))
-had_step ps p before after b a = a ∙ ap (λ h. had_after h p.outcome) b ∙ had_listed (clean ps) p.name p.outcome ∙ ap had_by (clean_more ps p)
+pub had_step : (ps : List PlannedMessage) (p : PlannedMessage) (before after : Had) → before ≡ had_by (clean ps)
+    → after ≡ had_after before p.outcome → after ≡ had_by (clean (ps ++ p ∷ []))
+had_step ps p before after b a = a ∙ ap (λ h. had_after h p.outcome) b ∙ had_listed (clean ps) p.name p.outcome
+    ∙ ap had_by (clean_more ps p)
 
 -- the plan of what is left, after one more message
-pub plan_step : (devices : Devices) (ps : List PlannedMessage) (p : PlannedMessage) (had : Had) (m : List ℕ × Linked) (ms : List (List ℕ × Linked))
-    → had ≡ had_by (clean ps) → p ≡ said_of had devices m
+pub plan_step : (devices : Devices) (ps : List PlannedMessage) (p : PlannedMessage) (had : Had) (m : List ℕ × Linked)
+    (ms : List (List ℕ × Linked))
+    → had ≡ had_by (clean ps) → p ≡ planned_message had devices m
     → (ps ++ p ∷ []) ++ plan_after devices (clean (ps ++ p ∷ [])) ms ≡ ps ++ plan_after devices (clean ps) (m ∷ ms)
 plan_step devices ps p had m ms h j =
-    let is : p ≡ said_of (had_by (clean ps)) devices m = j ∙ ap (λ x. said_of x devices m) h in
+    let is : p ≡ planned_message (had_by (clean ps)) devices m = j ∙ ap (λ x. planned_message x devices m) h in
     append_assoc ps (p ∷ []) _
     ∙ ap (λ cs. ps ++ p ∷ plan_after devices cs ms) (sym (clean_more ps p))
     ∙ ap (λ x. ps ++ x ∷ plan_after devices (clean ps ++ clean (x ∷ [])) ms) is
 
-listed_within : (name : List ℕ) (o : Outcome) → IfSome (clean_of o) IsWithin → let p : PlannedMessage = record { name = name; outcome = o } in All IsWithin (clean (p ∷ []))
+listed_within : (name : List ℕ) (o : Outcome) → IfSome (clean_of o) IsWithin
+    → let p : PlannedMessage = record { name = name; outcome = o } in All IsWithin (clean (p ∷ []))
 listed_within name (Planned c) within = All-cons IsWithin c [] within (All-nil IsWithin)
 listed_within name (Faulty fs) within = All-nil IsWithin
 
 -- all clean ones are within their limits
-pub within_step : (ps : List PlannedMessage) (p : PlannedMessage) → All IsWithin (clean ps) → IfSome (clean_of p.outcome) IsWithin → All IsWithin (clean (ps ++ p ∷ []))
-within_step ps p all within = subst (All IsWithin) (clean_more ps p) (All-append IsWithin (clean ps) (clean (p ∷ [])) all (listed_within p.name p.outcome within))
+pub within_step : (ps : List PlannedMessage) (p : PlannedMessage) → All IsWithin (clean ps)
+    → IfSome (clean_of p.outcome) IsWithin → All IsWithin (clean (ps ++ p ∷ []))
+within_step ps p all within = subst (All IsWithin) (clean_more ps p)
+    (All-append IsWithin (clean ps) (clean (p ∷ [])) all (listed_within p.name p.outcome within))

@@ -1,8 +1,8 @@
 -- Which RPDOs of which nodes are taken.
 use Rattle.std.specs.Prelude.{ℕ, ◌+◌, ◌*◌, nat_le, ◌&&◌, not, Bool, false, List, slice_index_or}
 use Rattle.co_dict.specs.Shapes.{Shaped}
-use Rattle.pdo_devices.specs.Devices.{has_pdo, rpdo_object}
-use Rattle.pdo_devices.specs.Rooms.{device_with}
+use Rattle.pdo_stations.specs.Devices.{has_pdo, rpdo_object}
+use Rattle.pdo_stations.specs.Rooms.{device_with}
 
 -- the place of an RPDO among the flags: each node has those of RPDO 0 to 512
 abbrev pub seat : ℕ → ℕ → ℕ
@@ -13,4 +13,5 @@ is_flagged flags node number = nat_le number 512 && slice_index_or flags (seat n
 
 -- an RPDO of a node that no flag has, and that has what its writes name
 unfoldable pub is_spare : Shaped → List Bool → ℕ → ℕ → ℕ → Bool
-is_spare shape flags node count number = not (is_flagged flags node number) && has_pdo (device_with shape) 0 (rpdo_object number) count
+is_spare shape flags node count number = not (is_flagged flags node number)
+    && has_pdo (device_with shape) 0 (rpdo_object number) count

@@ -1,13 +1,15 @@
 -- The mapping of a message (CiA 301, PDO mapping parameters): what each PDO of it carries.
-use Rattle.std.specs.Prelude.{ℕ, ◌==◌, ◌&&◌, Bool, true, false, not, List, ◌∷◌, map, filter_map, Option, Some, None, is_none, option_map, option_and_then, sum_by}
+use Rattle.std.specs.Prelude.{ℕ, ◌==◌, ◌&&◌, Bool, true, false, not, List, ◌∷◌, map, filter_map, Option, Some, None}
+use Rattle.std.specs.Prelude.{is_none, option_map, option_and_then, sum_by}
 use Rattle.std.specs.Option.{option_map_or, unwrap_or, option_or}
 use Rattle.byteorder.specs.Endian.{little_bytes}
 use Rattle.co_messages.specs.Messages.{source_at, sink_at}
-use Rattle.pdo_devices.specs.declared.mapped.Mapped.{Mapped}
-use Rattle.pdo_devices.specs.Devices.{Devices, width_at}
-use Rattle.pdo_devices.specs.Dummies.{mapped_to, dummy_for}
+use Rattle.pdo_stations.specs.declared.mapped.Mapped.{Mapped}
+use Rattle.pdo_stations.specs.Devices.{Devices, width_at}
+use Rattle.pdo_stations.specs.Dummies.{mapped_to, dummy_for}
 
--- a mapping entry in the mapping object: the bits, the sub-index and the index, the lowest byte first, as 20020010h is 10 00 02 20
+-- a mapping entry in the mapping object: the bits, the sub-index and the index, the lowest byte first, as 20020010h is
+-- 10 00 02 20
 abbrev pub mapped_bytes : Mapped → List ℕ
 mapped_bytes m = m.bits ∷ m.sub ∷ little_bytes 2 m.index
 
@@ -44,7 +46,8 @@ taken_at devices sender sinks node source =
 unfoldable pub taken_mapping : Devices → ℕ → Sources → Sinks → ℕ → List Mapped
 taken_mapping devices sender sources sinks node = filter_map (taken_at devices sender sinks node) sources
 
--- a dummy is needed at a source, and there is none of that width or the consumer doesn't allow it; a source without a width needs none
+-- a dummy is needed at a source, and there is none of that width or the consumer doesn't allow it; a source without a
+-- width needs none
 abbrev pub lacks_dummy_at : Devices → ℕ → Sinks → ℕ → ℕ × (ℕ × ℕ) → Bool
 lacks_dummy_at devices sender sinks node source =
     is_none (sink_at sinks source.0 node)
@@ -59,4 +62,5 @@ differ (Some bits) (Some other) = not (bits == other)
 -- a sink without a source at its position, or of another width
 abbrev pub is_mismatched : Devices → ℕ → Sources → (ℕ × ℕ) × (ℕ × ℕ) → Bool
 is_mismatched devices sender sources sink =
-    option_map_or (λ place. differ (width_at devices sender place) (width_at devices sink.0.1 sink.1)) (source_at sources sink.0.0) true
+    option_map_or (λ place. differ (width_at devices sender place) (width_at devices sink.0.1 sink.1))
+    (source_at sources sink.0.0) true

@@ -1,5 +1,8 @@
--- The plan of messages: which identifier and PDOs each gets, or why it can't be sent (the pool and the order are this profile's own).
-use Rattle.std.specs.Prelude.{◌≡◌, ℕ, ◌+◌, ◌*◌, ◌<◌, ◌≤◌, ◌==◌, Bool, true, not, ◌&&◌, ◌||◌, nat_lt, nat_le, if◌then◌else◌, List, [], ◌∷◌, ◌++◌, length, map, filter, filter_map, Option, Some, None, is_some, is_none, option_map}
+-- The plan of messages: which identifier and PDOs each gets, or why it can't be sent (the pool and the order are this
+-- profile's own).
+use Rattle.std.specs.Prelude.{◌≡◌, ℕ, ◌+◌, ◌*◌, ◌<◌, ◌≤◌, ◌==◌, Bool, true, not, ◌&&◌, ◌||◌, nat_lt, nat_le}
+use Rattle.std.specs.Prelude.{if◌then◌else◌, List, [], ◌∷◌, ◌++◌, length, map, filter, filter_map, Option, Some, None}
+use Rattle.std.specs.Prelude.{is_some, is_none, option_map}
 use Rattle.std.specs.List.{list_any, All, Contains}
 use Rattle.ini_text.specs.Content.{Section}
 use Rattle.std.specs.BTreeSet.{insert_key}
@@ -10,16 +13,19 @@ use Rattle.co_dict.specs.Pdos.{is_restricted}
 use Rattle.co_messages.specs.declared.linked.Linked.{Linked}
 use Rattle.co_messages.specs.declared.message.Message.{Message}
 use Rattle.pdo_plan.specs.declared.message_fault.MessageFault.{MessageFault}
-use Rattle.pdo_plan.specs.declared.message_fault.MessageFault.TheVariants.{NoObjects, TpdoTaken, TooManyBits, NotMappable, Mismatched, NoRpdo, NoDummy, BadIdentifier, NoIdentifier, ReservedType}
+use Rattle.pdo_plan.specs.declared.message_fault.MessageFault.TheVariants.{NoObjects, TpdoTaken, TooManyBits}
+use Rattle.pdo_plan.specs.declared.message_fault.MessageFault.TheVariants.{NotMappable, Mismatched, NoRpdo, NoDummy}
+use Rattle.pdo_plan.specs.declared.message_fault.MessageFault.TheVariants.{BadIdentifier, NoIdentifier, ReservedType}
 use Rattle.pdo_plan.specs.declared.consumer.Consumer.{Consumer}
 use Rattle.pdo_plan.specs.declared.clean.Clean.{Clean}
 use Rattle.pdo_plan.specs.declared.outcome.Outcome.{Outcome}
 use Rattle.pdo_plan.specs.declared.outcome.Outcome.TheVariants.{Planned, Faulty}
 use Rattle.pdo_plan.specs.declared.planned_message.PlannedMessage.{PlannedMessage}
-use Rattle.pdo_devices.specs.declared.mapped.Mapped.{Mapped}
-use Rattle.pdo_devices.specs.Devices.{Devices, devices_of, can_map, has_pdo, has_times, tpdo_object, rpdo_object}
+use Rattle.pdo_stations.specs.declared.mapped.Mapped.{Mapped}
+use Rattle.pdo_stations.specs.Devices.{Devices, devices_of, can_map, has_pdo, has_times, tpdo_object, rpdo_object}
 use Rattle.pdo_plan.specs.Least.{least_free}
-use Rattle.pdo_plan.specs.Mapping.{Sinks, mapping_bits, bits_of, sent_mapping, taken_mapping, is_mismatched, lacks_dummy_at}
+use Rattle.pdo_plan.specs.Mapping.{Sinks, mapping_bits, bits_of, sent_mapping, taken_mapping, is_mismatched}
+use Rattle.pdo_plan.specs.Mapping.{lacks_dummy_at}
 
 -- ---- what is had
 
@@ -52,7 +58,8 @@ consumers_of sinks = nodes_put [] sinks
 
 -- an RPDO of a node that no clean message has and that has what its writes name
 abbrev pub is_free_rpdo : Had → Devices → ℕ → ℕ → ℕ → Bool
-is_free_rpdo had devices node count number = not (had.rpdo node number) && has_pdo devices node (rpdo_object number) count
+is_free_rpdo had devices node count number = not (had.rpdo node number)
+    && has_pdo devices node (rpdo_object number) count
 
 -- the least of them (CiA 301: RPDO 1 to 512)
 abbrev pub rpdo_for : Had → Devices → ℕ → ℕ → Option ℕ
@@ -61,7 +68,11 @@ rpdo_for had devices count node = least_free (is_free_rpdo had devices node coun
 -- a consumer with its RPDO and what that maps
 abbrev pub consumer_of : Had → Devices → Linked → ℕ → Option Consumer
 consumer_of had devices m node =
-    option_map (λ number. record { node = node; rpdo = number; mapping = taken_mapping devices m.message.node m.sources m.sinks node })
+    option_map (λ number. record {
+      node = node;
+      rpdo = number;
+      mapping = taken_mapping devices m.message.node m.sources m.sinks node;
+    })
     (rpdo_for had devices (length m.sources) node)
 
 unfoldable pub planned_consumers : Had → Devices → Linked → List Consumer
@@ -70,8 +81,8 @@ planned_consumers had devices m = filter_map (consumer_of had devices m) (consum
 -- ---- identifiers
 
 -- the predefined identifier of TPDO 1 to 4 (CiA 301, predefined connection set)
-abbrev pub predefined : ℕ → ℕ → ℕ
-predefined node tpdo = 0x80 + 0x100 * tpdo + node
+abbrev pub predefined_identifier : ℕ → ℕ → ℕ
+predefined_identifier node tpdo = 0x80 + 0x100 * tpdo + node
 
 -- an explicit identifier: at least 181h, not restricted and had by no clean message before
 abbrev pub explicit : Had → ℕ → Option ℕ
@@ -80,7 +91,8 @@ explicit had cob = if nat_lt cob 0x181 || is_restricted cob || had.identifier co
 -- an automatic one: the predefined one where it is free, else the least free of 681h to 6DFh
 abbrev pub automatic : Had → ℕ → ℕ → Option ℕ
 automatic had node tpdo =
-    if nat_le tpdo 4 && not (had.identifier (predefined node tpdo)) then Some (predefined node tpdo)
+    if nat_le tpdo 4 && not (had.identifier (predefined_identifier node tpdo))
+    then Some (predefined_identifier node tpdo)
     else least_free (λ id. not (had.identifier id)) 0x681 95
 
 unfoldable pub identifier_for : Had → Message → Option ℕ
@@ -104,21 +116,22 @@ abbrev pub has_mismatch : Devices → Linked → Bool
 has_mismatch devices m = list_any (is_mismatched devices m.message.node m.sources) m.sinks
 
 abbrev pub lacks_rpdo : Had → Devices → Linked → Bool
-lacks_rpdo had devices m = list_any (λ node. is_none (rpdo_for had devices (length m.sources) node)) (consumers_of m.sinks)
+lacks_rpdo had devices m = list_any (λ node. is_none (rpdo_for had devices (length m.sources) node))
+    (consumers_of m.sinks)
 
 abbrev pub lacks_dummy : Devices → Linked → Bool
 lacks_dummy devices m =
     list_any (λ node. list_any (lacks_dummy_at devices m.message.node m.sinks node) m.sources) (consumers_of m.sinks)
 
 -- of faults with their tests those whose test holds
-abbrev pub noted : List (Bool × MessageFault) → List MessageFault
-noted tests = map (λ t. t.1) (filter (λ t. t.0) tests)
+abbrev pub faults_that_hold : List (Bool × MessageFault) → List MessageFault
+faults_that_hold tests = map (λ t. t.1) (filter (λ t. t.0) tests)
 
 -- ALL FAULTS of a message, where this is had
 unfoldable pub faults : Had → Devices → Linked → List MessageFault
 faults had devices m =
     let has_identifier = is_some (identifier_for had m.message) in
-    noted ((not (has_objects devices m), NoObjects)
+    faults_that_hold ((not (has_objects devices m), NoObjects)
     ∷ (had.tpdo m.message.node m.message.tpdo, TpdoTaken)
     ∷ (nat_lt 64 (bits_of devices m.message.node m.sources), TooManyBits)
     ∷ (has_unmappable devices m, NotMappable)
@@ -132,19 +145,19 @@ faults had devices m =
 -- ---- the plan
 
 -- a message with an identifier and no fault is clean
-abbrev pub outcome : Had → Devices → Linked → Option ℕ → List MessageFault → Outcome
-outcome had devices m (Some id) [] = Planned (record {
+abbrev pub message_outcome : Had → Devices → Linked → Option ℕ → List MessageFault → Outcome
+message_outcome had devices m (Some id) [] = Planned (record {
   message = m.message;
   identifier = id;
   mapping = sent_mapping devices m.message.node m.sources;
   consumers = planned_consumers had devices m;
 })
-outcome had devices m (Some id) (fault ∷ others) = Faulty (fault ∷ others)
-outcome had devices m None others = Faulty others
+message_outcome had devices m (Some id) (fault ∷ others) = Faulty (fault ∷ others)
+message_outcome had devices m None others = Faulty others
 
 -- what is said of a message where this is had
-unfoldable pub judged : Had → Devices → Linked → Outcome
-judged had devices m = outcome had devices m (identifier_for had m.message) (faults had devices m)
+unfoldable pub judged_message : Had → Devices → Linked → Outcome
+judged_message had devices m = message_outcome had devices m (identifier_for had m.message) (faults had devices m)
 
 abbrev pub clean_of : Outcome → Option Clean
 clean_of (Planned c) = Some c
@@ -154,14 +167,14 @@ clean_of (Faulty fs) = None
 abbrev pub clean : List PlannedMessage → List Clean
 clean ps = filter_map (λ (p : PlannedMessage). clean_of p.outcome) ps
 
-abbrev pub said_of : Had → Devices → List ℕ × Linked → PlannedMessage
-said_of had devices m = record { name = m.0; outcome = judged had devices m.1 }
+abbrev pub planned_message : Had → Devices → List ℕ × Linked → PlannedMessage
+planned_message had devices m = record { name = m.0; outcome = judged_message had devices m.1 }
 
 -- messages in order of name: each is judged against the clean ones before it alone
 abbrev pub plan_after : Devices → List Clean → List (List ℕ × Linked) → List PlannedMessage
 plan_after devices before [] = []
 plan_after devices before (m ∷ ms) =
-    let said = said_of (had_by before) devices m in
+    let said = planned_message (had_by before) devices m in
     said ∷ plan_after devices (before ++ clean (said ∷ [])) ms
 
 -- THE PLAN of messages

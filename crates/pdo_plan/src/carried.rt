@@ -2,11 +2,11 @@
 ghost use Rattle.std.specs.Prelude.{◌≡◌, ◌≤◌, length, IfOk};
 ghost use Rattle.std.specs.Option.{option_copied};
 ghost use Rattle.pdo_plan.specs.Carried.{carried_of, carried_at, bits_in, total_bits, sent_by};
-ghost use Rattle.pdo_devices.specs.Stations.{devices_in};
+ghost use Rattle.pdo_stations.specs.Stations.{devices_in};
 
 use crate::listed::Listed;
 use co_messages::Sources;
-use pdo_devices::{Mapped, Stations};
+use pdo_stations::{Mapped, Stations};
 use std::alloc::{AllocError, Global};
 
 /// A source of a message.

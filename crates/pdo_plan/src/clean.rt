@@ -3,7 +3,7 @@
 use crate::consumer::Consumer;
 use crate::listed::Listed;
 use co_messages::Message;
-use pdo_devices::Mapped;
+use pdo_stations::Mapped;
 
 /// A message that can be sent: its identifier, what its PDO maps, and who takes it.
 #[derive(Drop)]

@@ -1,14 +1,14 @@
 //! What the nodes take of a message.
 ghost use Rattle.std.specs.Prelude.{◌≡◌, [], IfOk};
-ghost use Rattle.pdo_plan.specs.Carried.{taken_by, taken_all, lacks_dummy_for, lacks_some, mismatches};
+ghost use Rattle.pdo_plan.specs.Carried.{taken_by, taken_of_all, lacks_dummy_for, lacks_some, mismatches};
 ghost use Rattle.pdo_plan.specs.Mapping.{differ};
 ghost use Rattle.pdo_plan.specs.Plan.{nodes_put, consumers_of};
-ghost use Rattle.pdo_devices.specs.Stations.{devices_in};
+ghost use Rattle.pdo_stations.specs.Stations.{devices_in};
 
 use crate::carried::{Carried, bits_in, carried_at};
 use crate::listed::Listed;
 use co_messages::Sinks;
-use pdo_devices::{Mapped, Stations};
+use pdo_stations::{Mapped, Stations};
 use std::alloc::{AllocError, Global};
 use std::collections::BTreeSet;
 
@@ -49,7 +49,7 @@ fn taken_by(stations: &Stations, sinks: &Sinks, node: u8, carried: &Carried) -> 
 }
 
 /// What a consumer's PDO maps.
-#[tactic(auto, unfolding(crate::specs::Carried::taken_all))]
+#[tactic(auto, unfolding(crate::specs::Carried::taken_of_all))]
 pub(crate) fn taken_mapping(
     alloc: Global,
     stations: &Stations,
@@ -57,7 +57,7 @@ pub(crate) fn taken_mapping(
     node: u8,
     carried: &[Carried],
 ) -> Result<Listed<Mapped>, AllocError>
-    ensures { IfOk result (λ mapping. mapping ≡ taken_all (devices_in stations.now) sinks.now node carried.now) }
+    ensures { IfOk result (λ mapping. mapping ≡ taken_of_all (devices_in stations.now) sinks.now node carried.now) }
 {
     let mut mapping = Vec::new(alloc);
     for source in carried {

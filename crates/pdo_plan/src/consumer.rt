@@ -1,7 +1,7 @@
 //! A node that takes a message.
 
 use crate::listed::Listed;
-use pdo_devices::Mapped;
+use pdo_stations::Mapped;
 
 /// A node that takes a message, by one of its RPDOs.
 #[derive(Drop)]

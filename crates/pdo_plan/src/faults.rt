@@ -4,9 +4,9 @@ ghost use Rattle.std.specs.List.{list_any};
 ghost use Rattle.co_base.specs.Ranges.{is_between};
 ghost use Rattle.co_dict.specs.declared.direction.Direction.TheVariants as direction;
 ghost use Rattle.pdo_plan.specs.Carried.{carried_of, lacks_some, mismatches};
-ghost use Rattle.pdo_devices.specs.Devices.{can_map};
-ghost use Rattle.pdo_plan.specs.Plan.{rpdo_for, identifier_for, has_unmappable, consumers_of, noted, faults};
-ghost use Rattle.pdo_devices.specs.Stations.{devices_in};
+ghost use Rattle.pdo_stations.specs.Devices.{can_map};
+ghost use Rattle.pdo_plan.specs.Plan.{rpdo_for, identifier_for, has_unmappable, consumers_of, faults_that_hold, faults};
+ghost use Rattle.pdo_stations.specs.Stations.{devices_in};
 ghost use Rattle.pdo_plan.specs.Taken.{had_in};
 
 use crate::carried::{Carried, total_bits};
@@ -18,19 +18,21 @@ use crate::sender::has_tpdo;
 use crate::taken::Taken;
 use co_dict::Direction;
 use co_messages::{Linked, Sinks, Sources};
-use pdo_devices::Stations;
+use pdo_stations::Stations;
 use std::alloc::{AllocError, Global};
 
 /// Whether a source isn't there or no TPDO can map it.
 fn has_unsendable(stations: &Stations, sender: u8, sources: &Sources) -> bool
-    ensures { result ≡ list_any (λ s. not (can_map direction.Transmit (devices_in stations.now) sender s.1)) sources.now }
+    ensures { result
+        ≡ list_any (λ s. not (can_map direction.Transmit (devices_in stations.now) sender s.1)) sources.now }
 {
     sources.iter().any(|(_, place)| !stations.can_map(Direction::Transmit, sender, *place))
 }
 
 /// Whether a sink isn't there, no RPDO can map it, or it is on the sender.
 fn has_untakable(stations: &Stations, sender: u8, sinks: &Sinks) -> bool
-    ensures { result ≡ list_any (λ s. not (can_map direction.Receive (devices_in stations.now) s.0.1 s.1) || (s.0.1 == sender)) sinks.now }
+    ensures { result ≡ list_any (λ s. not (can_map direction.Receive (devices_in stations.now) s.0.1 s.1)
+        || (s.0.1 == sender)) sinks.now }
 {
     sinks.iter().any(|(seat, place)| {
         !stations.can_map(Direction::Receive, seat.1, *place) || seat.1 == sender
@@ -57,7 +59,8 @@ fn has_mismatch(stations: &Stations, carried: &[Carried], sinks: &Sinks) -> bool
 /// Whether a consumer has no free RPDO for so many mapping entries.
 fn lacks_rpdo(stations: &Stations, taken: &Taken, consumers: &[u8], count: usize) -> bool
     requires { count ≤ 64 }
-    ensures { result ≡ list_any (λ node. is_none (rpdo_for (had_in taken.now) (devices_in stations.now) count node)) consumers.now }
+    ensures { result
+        ≡ list_any (λ node. is_none (rpdo_for (had_in taken.now) (devices_in stations.now) count node)) consumers.now }
 {
     consumers
         .iter()
@@ -71,7 +74,8 @@ fn lacks_any_dummy(
     sinks: &Sinks,
     consumers: &[u8],
 ) -> bool
-    ensures { result ≡ list_any (λ node. lacks_some (devices_in stations.now) sinks.now node carried.now) consumers.now }
+    ensures { result
+        ≡ list_any (λ node. lacks_some (devices_in stations.now) sinks.now node carried.now) consumers.now }
 {
     consumers
         .iter()
@@ -80,7 +84,7 @@ fn lacks_any_dummy(
 
 /// Of faults with their tests those whose test holds.
 fn noted(alloc: Global, tests: &[(bool, MessageFault)]) -> Result<Vec<MessageFault>, AllocError>
-    ensures { IfOk result (λ faults. faults.items ≡ noted tests.now) }
+    ensures { IfOk result (λ faults. faults.items ≡ faults_that_hold tests.now) }
 {
     let mut faults = Vec::new(alloc);
     for test in tests {

@@ -2,8 +2,8 @@
 ghost use Rattle.std.specs.Prelude.{◌≡◌, ◌≤◌, length, filter_map, IfOk};
 ghost use Rattle.co_messages.specs.Messages.{IsLinked};
 ghost use Rattle.pdo_plan.specs.Carried.{consumer_by, clean_by};
-ghost use Rattle.pdo_plan.specs.Plan.{judged};
-ghost use Rattle.pdo_devices.specs.Stations.{devices_in};
+ghost use Rattle.pdo_plan.specs.Plan.{judged_message};
+ghost use Rattle.pdo_stations.specs.Stations.{devices_in};
 ghost use Rattle.pdo_plan.specs.Taken.{had_in};
 
 use crate::carried::{Carried, carried_sources, sent_mapping};
@@ -17,7 +17,7 @@ use crate::outcome::Outcome;
 use crate::rpdos::rpdo_for;
 use crate::taken::Taken;
 use co_messages::{Linked, Sinks};
-use pdo_devices::Stations;
+use pdo_stations::Stations;
 use std::alloc::{AllocError, Global};
 
 /// A consumer with its least free RPDO and what that maps, where it has one.
@@ -31,7 +31,8 @@ fn consumer_by(
     node: u8,
 ) -> Result<Option<Consumer>, AllocError>
     requires { length carried.now ≤ 64 }
-    ensures { IfOk result (λ consumer. consumer ≡ consumer_by (had_in taken.now) (devices_in stations.now) sinks.now carried.now node) }
+    ensures { IfOk result (λ consumer. consumer ≡ consumer_by (had_in taken.now)
+        (devices_in stations.now) sinks.now carried.now node) }
 {
     let Some(rpdo) = rpdo_for(stations, taken, node, carried.len()) else {
         return Ok(None);
@@ -54,7 +55,8 @@ fn planned_consumers(
     nodes: &[u8],
 ) -> Result<Listed<Consumer>, AllocError>
     requires { length carried.now ≤ 64 }
-    ensures { IfOk result (λ consumers. consumers ≡ filter_map (consumer_by (had_in taken.now) (devices_in stations.now) sinks.now carried.now) nodes.now) }
+    ensures { IfOk result (λ consumers. consumers
+        ≡ filter_map (consumer_by (had_in taken.now) (devices_in stations.now) sinks.now carried.now) nodes.now) }
 {
     let mut consumers = Vec::new(alloc);
     for node in nodes {
@@ -76,7 +78,8 @@ fn clean(
     identifier: u16,
 ) -> Result<Clean, AllocError>
     requires { length carried.now ≤ 64 }
-    ensures { IfOk result (λ clean. clean ≡ clean_by (had_in taken.now) (devices_in stations.now) linked.now carried.now nodes.now identifier) }
+    ensures { IfOk result (λ clean. clean ≡ clean_by (had_in taken.now)
+        (devices_in stations.now) linked.now carried.now nodes.now identifier) }
 {
     let mapping = sent_mapping(alloc, carried)?;
     let consumers = planned_consumers(alloc, stations, taken, &linked.sinks, carried, nodes)?;
@@ -96,7 +99,8 @@ pub(crate) fn judge(
     linked: &Linked,
 ) -> Result<Outcome, AllocError>
     requires { IsLinked linked.now }
-    ensures { IfOk result (λ outcome. outcome ≡ judged (had_in taken.now) (devices_in stations.now) linked.now) }
+    ensures { IfOk result (λ outcome. outcome ≡ judged_message (had_in taken.now)
+        (devices_in stations.now) linked.now) }
 {
     let looked_up = carried_sources(alloc, stations, linked.message.node, &linked.sources)?;
     let carried = looked_up.as_slice();

@@ -1,32 +1,37 @@
 //! Laws of the plan, each a function whose contract is the law.
-ghost use Rattle.std.specs.Prelude.{◌≡◌, ◌↔◌, ◌≤◌, ◌==◌, ℕ, Bool, true, List, [], length, take, All, Option, Some, IsFalse, slice_get};
+ghost use Rattle.std.specs.Prelude.{◌≡◌, ◌↔◌, ◌≤◌, ◌==◌, ℕ, Bool, true, List, [], length, take, All, Option, Some};
+ghost use Rattle.std.specs.Prelude.{IsFalse, slice_get};
 ghost use Rattle.std.specs.FinMap as map;
 ghost use Rattle.std.specs.Map.{lookup};
 ghost use Rattle.ini_text.specs.Content.{Section};
 ghost use Rattle.co_dict.specs.Pdos.{is_restricted};
-ghost use Rattle.co_messages.specs.Messages.{concern, Named, IsLinked};
+ghost use Rattle.co_messages.specs.Messages.{is_of_messages, Named, IsLinked};
 ghost use Rattle.co_messages.specs.declared.linked.Linked.{Linked};
 ghost use Rattle.pdo_plan.specs.declared.clean.Clean.{Clean as Sent};
 ghost use Rattle.pdo_plan.specs.declared.consumer.Consumer.{Consumer as Taker};
 ghost use Rattle.pdo_plan.specs.declared.message_fault.MessageFault.{MessageFault as Fault};
 ghost use Rattle.pdo_plan.specs.declared.outcome.Outcome.TheVariants as says;
 ghost use Rattle.pdo_plan.specs.declared.planned_message.PlannedMessage.{PlannedMessage as Said};
-ghost use Rattle.pdo_devices.specs.Devices.{Devices, devices_of};
+ghost use Rattle.pdo_stations.specs.Devices.{Devices, devices_of};
 ghost use Rattle.pdo_plan.specs.Least.{least_free, IsLeastFree};
-ghost use Rattle.pdo_plan.specs.Plan.{Had, had_by, identifier_for, faults, judged, said_of, clean, plan_of, FitFrames, IsMadeFor};
+ghost use Rattle.pdo_plan.specs.Plan.{Had, had_by, identifier_for, faults, judged_message, planned_message, clean};
+ghost use Rattle.pdo_plan.specs.Plan.{plan_of, FitFrames, IsMadeFor};
 
 /// The least free number is free, and none of those before it is; there is none where no number is
 /// free.
 #[tactic(auto, using(crate::proofs::LeastLemmas::least_free_both))]
 pub fn least_free_is_least()
-    ensures { (is_free : ℕ → Bool) (first count : ℕ) (o : Option ℕ) → (o ≡ least_free is_free first count) ↔ IsLeastFree is_free first count o }
+    ensures { (is_free : ℕ → Bool) (first count : ℕ) (o : Option ℕ) → (o ≡ least_free is_free first count)
+        ↔ IsLeastFree is_free first count o }
 {}
 
 /// A message is clean where it has no fault, and else all its faults are said.
 pub fn a_message_without_a_fault_is_clean()
-    ensures clean { (had : Had) (devices : Devices) (m : Linked) (c : Sent) → judged had devices m ≡ says.Planned c
+    ensures clean { (had : Had) (devices : Devices) (m : Linked) (c : Sent)
+        → judged_message had devices m ≡ says.Planned c
         → (faults had devices m ≡ []) × (identifier_for had m.message ≡ Some c.identifier) }
-    ensures faulty { (had : Had) (devices : Devices) (m : Linked) (fs : List Fault) → judged had devices m ≡ says.Faulty fs
+    ensures faulty { (had : Had) (devices : Devices) (m : Linked) (fs : List Fault)
+        → judged_message had devices m ≡ says.Faulty fs
         → (fs ≡ faults had devices m) × (1 ≤ length fs) }
 {}
 
@@ -34,8 +39,10 @@ pub fn a_message_without_a_fault_is_clean()
 #[tactic(auto, using(crate::proofs::PlaceLemmas::plan_count, crate::proofs::PlaceLemmas::plan_at))]
 pub fn each_is_judged_against_the_clean_ones_before_it()
     ensures count { (devices : Devices) (ms : List (List ℕ × Linked)) → length (plan_of devices ms) ≡ length ms }
-    ensures judged { (devices : Devices) (ms : List (List ℕ × Linked)) (k : ℕ) (p : Said) → slice_get (plan_of devices ms) k ≡ Some p
-        → (m : List ℕ × Linked) × (slice_get ms k ≡ Some m) × (p ≡ said_of (had_by (clean (take k (plan_of devices ms)))) devices m) }
+    ensures judged { (devices : Devices) (ms : List (List ℕ × Linked)) (k : ℕ) (p : Said)
+        → slice_get (plan_of devices ms) k ≡ Some p
+        → (m : List ℕ × Linked) × (slice_get ms k ≡ Some m)
+        × (p ≡ planned_message (had_by (clean (take k (plan_of devices ms)))) devices m) }
 {}
 
 /// No two clean messages share an identifier.
@@ -77,7 +84,8 @@ pub fn mappings_fit_frames()
 
 /// Each PDO that the plan gives a node is one that its device has.
 pub fn plans_are_made_for_their_devices()
-    ensures { (nodes : List (ℕ × List Section)) (ms : List (List ℕ × Linked)) (node : ℕ) (ss : List Section) → lookup (λ n. n == node) nodes ≡ Some ss
+    ensures { (nodes : List (ℕ × List Section)) (ms : List (List ℕ × Linked)) (node : ℕ) (ss : List Section)
+        → lookup (λ n. n == node) nodes ≡ Some ss
         → IsMadeFor (plan_of (devices_of nodes) ms) ss node }
 {}
 
@@ -85,6 +93,6 @@ pub fn plans_are_made_for_their_devices()
 /// of one.
 pub fn the_plan_asks_only_of_the_nodes_that_messages_name()
     ensures { (a b : List (ℕ × List Section)) (messages : Named)
-        → ((node : ℕ) → concern node messages ≡ true → lookup (λ n. n == node) a ≡ lookup (λ n. n == node) b)
+        → ((node : ℕ) → is_of_messages node messages ≡ true → lookup (λ n. n == node) a ≡ lookup (λ n. n == node) b)
         → plan_of (devices_of a) (map.entries messages) ≡ plan_of (devices_of b) (map.entries messages) }
 {}

@@ -26,6 +26,6 @@ pub use listed::Listed;
 pub use message_fault::MessageFault;
 pub use message_plan::Plan;
 pub use outcome::Outcome;
-pub use pdo_devices::Mapped;
+pub use pdo_stations::Mapped;
 pub use planned_message::PlannedMessage;
 pub use planning::plan;

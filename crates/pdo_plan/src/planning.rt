@@ -1,9 +1,9 @@
 //! The plan of messages, message by message.
 ghost use Rattle.std.specs.FinMap as map;
 ghost use Rattle.std.specs.Prelude.{◌≡◌, ◌∷◌, [], All, IfOk, IfSome, OnOk};
-ghost use Rattle.pdo_devices.specs.Devices.{devices_of};
+ghost use Rattle.pdo_stations.specs.Devices.{devices_of};
 ghost use Rattle.pdo_plan.specs.Plan.{clean, clean_of, IsWithin, plan_of};
-ghost use Rattle.pdo_devices.specs.Shown.{nodes_of};
+ghost use Rattle.pdo_stations.specs.Shown.{nodes_of};
 ghost use Rattle.pdo_plan.specs.Taken.{had_in, had_after};
 
 use crate::judging::judge;
@@ -14,7 +14,7 @@ use crate::taken::Taken;
 use co_base::Octets;
 use co_messages::Messages;
 use eds_device::Device;
-use pdo_devices::Stations;
+use pdo_stations::Stations;
 use std::alloc::{AllocError, Global};
 
 /// Takes what a message has, if it is clean.

@@ -3,12 +3,12 @@ ghost use Rattle.std.specs.Prelude.{◌≡◌, ◌≤◌, ◌&&◌, not};
 ghost use Rattle.pdo_plan.specs.Least.{least_free};
 ghost use Rattle.pdo_plan.specs.Plan.{rpdo_for};
 ghost use Rattle.pdo_plan.specs.Flags.{is_flagged, is_spare};
-ghost use Rattle.pdo_devices.specs.Stations.{devices_in};
+ghost use Rattle.pdo_stations.specs.Stations.{devices_in};
 ghost use Rattle.pdo_plan.specs.Taken.{had_in};
 
 use crate::taken::Taken;
 use crate::taken_rpdos::TakenRpdos;
-use pdo_devices::{Station, Stations};
+use pdo_stations::{Station, Stations};
 
 /// Whether an RPDO of a node isn't taken, and has what the writes of so many mapping entries name.
 #[tactic(auto, unfolding(crate::specs::Flags::is_spare))]

@@ -23,7 +23,8 @@ pub(crate) struct Taken {
 
 /// Takes an identifier.
 fn take_identifier(identifiers: &mut BTreeSet<u16>, identifier: u16) -> Result<(), AllocError>
-    ensures { OnOk result ((n : ℕ) → contains nat_cmp identifiers.new n ≡ (contains nat_cmp identifiers.old n || identifier == n)) }
+    ensures { OnOk result ((n : ℕ) → contains nat_cmp identifiers.new n
+        ≡ (contains nat_cmp identifiers.old n || identifier == n)) }
 {
     identifiers.insert(identifier)?;
     Ok(())
@@ -31,7 +32,8 @@ fn take_identifier(identifiers: &mut BTreeSet<u16>, identifier: u16) -> Result<(
 
 /// Takes the TPDO of a number at a node.
 fn take_tpdo(tpdos: &mut BTreeSet<(u8, u16)>, sender: u8, tpdo: u16) -> Result<(), AllocError>
-    ensures { OnOk result ((q : ℕ × ℕ) → contains pair_cmp tpdos.new q ≡ (contains pair_cmp tpdos.old q || ((sender == q.0) && (tpdo == q.1)))) }
+    ensures { OnOk result ((q : ℕ × ℕ) → contains pair_cmp tpdos.new q
+        ≡ (contains pair_cmp tpdos.old q || ((sender == q.0) && (tpdo == q.1)))) }
 {
     tpdos.insert((sender, tpdo))?;
     Ok(())
@@ -40,7 +42,8 @@ fn take_tpdo(tpdos: &mut BTreeSet<(u8, u16)>, sender: u8, tpdo: u16) -> Result<(
 /// Takes the RPDO of each consumer.
 fn take_rpdos(rpdos: &mut TakenRpdos, consumers: &[Consumer])
     requires { All (λ k. k.rpdo ≤ 512) consumers.now }
-    ensures { (node number : ℕ) → is_flagged rpdos.new.flags.items node number ≡ (is_flagged rpdos.old.flags.items node number || list_any (is_at_node node number) consumers.now) }
+    ensures { (node number : ℕ) → is_flagged rpdos.new.flags.items node number
+        ≡ (is_flagged rpdos.old.flags.items node number || list_any (is_at_node node number) consumers.now) }
 {
     for consumer in consumers {
         rpdos.take(consumer);

@@ -37,7 +37,8 @@ impl TakenRpdos {
     /// Takes the RPDO, up to 512, of a consumer.
     pub fn take(&mut self, consumer: &Consumer)
         requires { consumer.now.rpdo ≤ 512 }
-        ensures { (node number : ℕ) → is_flagged self.new.flags.items node number ≡ (is_flagged self.old.flags.items node number || is_at_node node number consumer.now) }
+        ensures { (node number : ℕ) → is_flagged self.new.flags.items node number
+            ≡ (is_flagged self.old.flags.items node number || is_at_node node number consumer.now) }
     {
         self.flags[NUMBERS * usize::from(consumer.node) + usize::from(consumer.rpdo)] = true;
     }

@@ -1,9 +1,11 @@
 -- The replies line by line are those byte by byte.
-use Rattle.std.proofs.Common.{◌≡◌, ℕ, true, false, cond, eqb, List, [], ◌∷◌, ◌++◌, length, sym, refl, ap, ◌∙◌, append_assoc, append-nil, arith}
+use Rattle.std.proofs.Common.{◌≡◌, ℕ, true, false, cond, eqb, List, [], ◌∷◌, ◌++◌, length, sym, refl, ap, ◌∙◌}
+use Rattle.std.proofs.Common.{append_assoc, append-nil, arith}
 use Rattle.std.proofs.lemmas.Bool.{ne_eqb}
 use Rattle.std.specs.List.{onto_first}
 use Rattle.co_text.specs.Lines.{lines_of}
-use Rattle.workbench.specs.Replies.{State, After, start, after_line, after_lines, cut_off, replies, complete_replies, lengthened, ended_lines}
+use Rattle.workbench.specs.Replies.{State, After, start, after_line, after_lines, cut_off, replies, complete_replies}
+use Rattle.workbench.specs.Replies.{lengthened, ended_lines}
 use Rattle.workbench.specs.Machine.{Cursor, first_cursor, after, at_break, joined, at_end}
 use Rattle.workbench.proofs.Runs.{unended}
 
@@ -44,33 +46,42 @@ at_end-none : (state : State) → at_end (record { state = state; line = [] }) �
 unfolding at_end
 at_end-none state = refl
 
-at_end-some : (state : State) (b : ℕ) (bs : List ℕ) → at_end (record { state = state; line = b ∷ bs }) ≡ all_of (after_line state (b ∷ bs))
+at_end-some : (state : State) (b : ℕ) (bs : List ℕ)
+    → at_end (record { state = state; line = b ∷ bs }) ≡ all_of (after_line state (b ∷ bs))
 unfolding at_end
-at_end-some state b bs = let e : eqb (length (b ∷ bs)) 0 ≡ false = ne_eqb (length (b ∷ bs)) 0 (λ h. omega arith) in rw e refl
+at_end-some state b bs = let e : eqb (length (b ∷ bs)) 0 ≡ false = ne_eqb (length (b ∷ bs)) 0 (λ h. omega arith)
+    in rw e refl
 
 all_of_line : (state : State) (line : List ℕ) → all_of (after_lines state (line ∷ [])) ≡ all_of (after_line state line)
-all_of_line state line = ap (λ (rs : List (List ℕ)). rs ++ cut_off (after_line state line).state.block) (append-nil (after_line state line).replies)
+all_of_line state line = ap (λ (rs : List (List ℕ)). rs ++ cut_off (after_line state line).state.block)
+    (append-nil (after_line state line).replies)
 
-at_end-lines : (state : State) (line : List ℕ) → at_end (record { state = state; line = line }) ≡ all_of (after_lines state (onto line []))
-at_end-lines state [] = at_end-none state ∙ ap (λ (ls : List (List ℕ)). all_of (after_lines state ls)) (sym (onto-nothing []))
+at_end-lines : (state : State) (line : List ℕ)
+    → at_end (record { state = state; line = line }) ≡ all_of (after_lines state (onto line []))
+at_end-lines state [] = at_end-none state ∙ ap (λ (ls : List (List ℕ)). all_of (after_lines state ls))
+    (sym (onto-nothing []))
 at_end-lines state (b ∷ bs) =
     at_end-some state b bs
     ∙ sym (all_of_line state (b ∷ bs))
     ∙ ap (λ (ls : List (List ℕ)). all_of (after_lines state ls)) (sym (onto-none b bs))
 
-bytewise : (state : State) (line bs : List ℕ) → rest_of (after (record { state = state; line = line }) bs) ≡ all_of (after_lines state (onto line (lines_of bs)))
+bytewise : (state : State) (line bs : List ℕ)
+    → rest_of (after (record { state = state; line = line }) bs) ≡ all_of (after_lines state (onto line (lines_of bs)))
 unfolding after lines_of
 bytewise state line [] = at_end-lines state line
 bytewise state line (b ∷ bs) =
     let q = after_line state line in
     elim (eqb b 10) as (λ t.
     let first : After Cursor = cond t (at_break q) (unended state (line ++ b ∷ [])) in
-    rest_of (joined first.replies (after first.state bs)) ≡ all_of (after_lines state (onto line (cond t ([] ∷ lines_of bs) (onto_first b (lines_of bs)))))) [
+    rest_of (joined first.replies (after first.state bs))
+    ≡ all_of (after_lines state (onto line (cond t ([] ∷ lines_of bs) (onto_first b (lines_of bs)))))) [
       | true ↦
           let r = after (record { state = q.state; line = [] }) bs in
           let others = after_lines q.state (lines_of bs) in
           append_assoc q.replies r.replies (at_end r.state)
-          ∙ ap (λ (rs : List (List ℕ)). q.replies ++ rs) (bytewise q.state [] bs ∙ ap (λ (ls : List (List ℕ)). all_of (after_lines q.state ls)) (onto-nothing (lines_of bs)))
+          ∙ ap (λ (rs : List (List ℕ)). q.replies ++ rs)
+          (bytewise q.state [] bs ∙ ap (λ (ls : List (List ℕ)). all_of (after_lines q.state ls))
+          (onto-nothing (lines_of bs)))
           ∙ sym (append_assoc q.replies others.replies (cut_off others.state.block))
           ∙ ap (λ (l : List ℕ). all_of (after_lines state (l ∷ lines_of bs))) (sym (append-nil line))
           ∙ ap (λ (ls : List (List ℕ)). all_of (after_lines state ls)) (sym (onto-line line [] (lines_of bs)))
@@ -79,9 +90,11 @@ bytewise state line (b ∷ bs) =
           ∙ ap (λ (ls : List (List ℕ)). all_of (after_lines state ls)) (sym (onto-byte line b (lines_of bs)))
     ]
 
-pub replies_bytewise : (input : List ℕ) → replies input ≡ (after first_cursor input).replies ++ at_end (after first_cursor input).state
+pub replies_bytewise : (input : List ℕ) → replies input
+    ≡ (after first_cursor input).replies ++ at_end (after first_cursor input).state
 unfolding replies
-replies_bytewise input = sym (bytewise start [] input ∙ ap (λ (ls : List (List ℕ)). all_of (after_lines start ls)) (onto-nothing (lines_of input)))
+replies_bytewise input = sym (bytewise start [] input ∙ ap (λ (ls : List (List ℕ)). all_of (after_lines start ls))
+    (onto-nothing (lines_of input)))
 
 -- ---- the lines that an LF ends
 
@@ -111,16 +124,19 @@ before-nothing ls = refl
 abbrev given : State → List (List ℕ) → List (List ℕ)
 given state ls = (after_lines state ls).replies
 
-ended : (state : State) (line bs : List ℕ) → (after (record { state = state; line = line }) bs).replies ≡ given state (before line (ended_lines bs))
+ended : (state : State) (line bs : List ℕ)
+    → (after (record { state = state; line = line }) bs).replies ≡ given state (before line (ended_lines bs))
 unfolding after ended_lines
 ended state line [] = ap (given state) (sym (before-none line))
 ended state line (b ∷ bs) =
     let q = after_line state line in
     elim (eqb b 10) as (λ t.
     let first : After Cursor = cond t (at_break q) (unended state (line ++ b ∷ [])) in
-    (joined first.replies (after first.state bs)).replies ≡ given state (before line (cond t ([] ∷ ended_lines bs) (lengthened b (ended_lines bs))))) [
+    (joined first.replies (after first.state bs)).replies
+    ≡ given state (before line (cond t ([] ∷ ended_lines bs) (lengthened b (ended_lines bs))))) [
       | true ↦
-          ap (λ (rs : List (List ℕ)). q.replies ++ rs) (ended q.state [] bs ∙ ap (given q.state) (before-nothing (ended_lines bs)))
+          ap (λ (rs : List (List ℕ)). q.replies ++ rs)
+          (ended q.state [] bs ∙ ap (given q.state) (before-nothing (ended_lines bs)))
           ∙ ap (λ (l : List ℕ). given state (l ∷ ended_lines bs)) (sym (append-nil line))
           ∙ ap (given state) (sym (before-line line [] (ended_lines bs)))
       | false ↦

@@ -1,5 +1,7 @@
 -- The first line of bytes in hexadecimal digits, the others, and their number.
-use Rattle.std.proofs.Common.{◌≡◌, ◌≢◌, ℕ, zero, suc, ◌+◌, ◌-◌, ◌/◌, ◌%◌, ◌<◌, ◌≤◌, true, false, cond, eqb, ltb, List, [], ◌∷◌, ◌++◌, length, take, drop, refl, sym, ap, ◌∙◌, append_assoc, append-nil, zero-add, arith, length-drop, length-append}
+use Rattle.std.proofs.Common.{◌≡◌, ◌≢◌, ℕ, zero, suc, ◌+◌, ◌-◌, ◌/◌, ◌%◌, ◌<◌, ◌≤◌, true, false, cond, eqb, ltb, List}
+use Rattle.std.proofs.Common.{[], ◌∷◌, ◌++◌, length, take, drop, refl, sym, ap, ◌∙◌, append_assoc, append-nil, zero-add}
+use Rattle.std.proofs.Common.{arith, length-drop, length-append}
 use Rattle.std.proofs.lemmas.List.{take_min, drop_min, take_all, drop_all, take_at, drop_at}
 use Rattle.std.proofs.lemmas.List.Sums.{sum_by-cons, sum_by-append}
 use Rattle.std.proofs.lemmas.Bool.{ne_eqb}
@@ -27,7 +29,8 @@ unfolding hex_text
 hex_text-none bs none = ap (λ n. flat_map hex_line (rows n bs)) (none_left (length bs) none)
 
 -- the loop's step
-pub hex_step : (out new row rest after all : List ℕ) → new ≡ out ++ hex_line row → row ≡ take (min 16 (length rest)) rest → after ≡ drop (min 16 (length rest)) rest
+pub hex_step : (out new row rest after all : List ℕ) → new ≡ out ++ hex_line row
+    → row ≡ take (min 16 (length rest)) rest → after ≡ drop (min 16 (length rest)) rest
     → 0 < length rest → out ++ hex_text rest ≡ all → new ++ hex_text after ≡ all
 hex_step out new row rest after all e r a some inv =
     ap (λ t. t ++ hex_text after) e
@@ -74,7 +77,8 @@ digit_not_lf n =
 count-cons : (b : ℕ) (bs : List ℕ) → count (b ∷ bs) ≡ is_lf b + count bs
 count-cons b bs = sum_by-cons is_lf b bs
 
-count-pair : (m n end k : ℕ) (rest : List ℕ) → is_lf end ≡ k → count (digit_glyph true m ∷ digit_glyph true n ∷ end ∷ rest) ≡ k + count rest
+count-pair : (m n end k : ℕ) (rest : List ℕ) → is_lf end ≡ k
+    → count (digit_glyph true m ∷ digit_glyph true n ∷ end ∷ rest) ≡ k + count rest
 count-pair m n end k rest e =
     count-cons (digit_glyph true m) (digit_glyph true n ∷ end ∷ rest)
     ∙ ap (λ x. x + count (digit_glyph true n ∷ end ∷ rest)) (digit_not_lf m)
@@ -87,7 +91,8 @@ count-pair m n end k rest e =
 
 count-line : (b : ℕ) (bs : List ℕ) → count (hex_line (b ∷ bs)) ≡ 1
 count-line b [] = count-pair (b / 16) (b % 16) line_feed 1 [] refl
-count-line b (c ∷ cs) = count-pair (b / 16) (b % 16) 32 0 (hex_line (c ∷ cs)) refl ∙ zero-add (count (hex_line (c ∷ cs))) ∙ count-line c cs
+count-line b (c ∷ cs) = count-pair (b / 16) (b % 16) 32 0 (hex_line (c ∷ cs)) refl
+    ∙ zero-add (count (hex_line (c ∷ cs))) ∙ count-line c cs
 
 count-row : (n : ℕ) (bs : List ℕ) → 0 < length bs → count (hex_line (take (suc n) bs)) ≡ 1
 count-row n [] some = absurd (omega arith)

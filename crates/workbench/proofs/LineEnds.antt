@@ -1,5 +1,6 @@
 -- Lines that have no CRs at their ends to lose.
-use Rattle.std.proofs.Common.{◌≡◌, ℕ, zero, suc, ◌-◌, Bool, true, false, nat_lt, List, [], ◌∷◌, map, reverse, length, take, Result, Ok, Err, None, refl, sym, ap, subst, ◌∙◌, arith}
+use Rattle.std.proofs.Common.{◌≡◌, ℕ, zero, suc, ◌-◌, Bool, true, false, nat_lt, List, [], ◌∷◌, map, reverse, length}
+use Rattle.std.proofs.Common.{take, Result, Ok, Err, None, refl, sym, ap, subst, ◌∙◌, arith}
 use Rattle.std.specs.Prelude.{◌==◌, if◌then◌else◌, codes}
 use Rattle.std.specs.List.{list_any, onto_first, prefix_len, suffix_len}
 use Rattle.std.specs.Str.{bytes_eq}
@@ -36,7 +37,8 @@ module _ (p : ℕ → Bool) where
   none_reversed [] h = refl
   none_reversed (b ∷ bs) h =
       let both = or_parts (p b) (list_any p bs) h in
-      ap (list_any p) (reverse-append (b ∷ []) bs) ∙ list_any-append p (reverse bs) (b ∷ []) ∙ rw (none_reversed bs both.1, both.0) refl
+      ap (list_any p) (reverse-append (b ∷ []) bs) ∙ list_any-append p (reverse bs) (b ∷ [])
+      ∙ rw (none_reversed bs both.1, both.0) refl
 
   -- where none passes, the first doesn't
   none_first : (bs : List ℕ) → list_any p bs ≡ false → prefix_len p bs ≡ 0
@@ -68,7 +70,8 @@ IsNamed (Ok (Block None lines)) = ⊥
 IsNamed (Ok other) = Unit {0}
 
 -- two steps ask nothing where the second one doesn't
-no_step : {A : Type 0} (r : Result A EditFault) (f : A → Result Request EditFault) → ((x : A) → IsNamed (f x) → ⊥) → IsNamed (r >>= f) → ⊥
+no_step : {A : Type 0} (r : Result A EditFault) (f : A → Result Request EditFault) → ((x : A) → IsNamed (f x) → ⊥)
+    → IsNamed (r >>= f) → ⊥
 no_step (Ok x) f h named = h x named
 no_step (Err fault) f h named = named
 
@@ -76,7 +79,8 @@ no_step (Err fault) f h named = named
 bad_unnamed : (rest : List ℕ) → IsNamed (block_asked true rest) → ⊥
 unfolding block_asked
 bad_unnamed rest =
-    no_step (last_word (after rest)) _ (λ last. no_step (decimal last) _ (λ number. no_step (block_lines number) _ (λ lines named. named)))
+    no_step (last_word (after rest)) _ (λ last. no_step (decimal last) _
+    (λ number. no_step (block_lines number) _ (λ lines named. named)))
 
 -- so a line that names its block, or asks for another thing, is no bad line
 named_is_good : (line : List ℕ) → IsNamed (request line) → is_bad_line line ≡ false
@@ -84,7 +88,8 @@ unfolding request
 named_is_good line named = by (bytes_eq (word line) (codes "eds")) (is_bad_line line) refl named
   where
     by : (eds bad : Bool) → is_bad_line line ≡ bad
-        → IsNamed (if eds then block_asked bad (after line) else if bad then Err Syntax else command_of (word line) (after line)) → is_bad_line line ≡ false
+        → IsNamed (if eds then block_asked bad (after line) else if bad then Err Syntax
+        else command_of (word line) (after line)) → is_bad_line line ≡ false
     by eds false h named = h
     by true true h named = absurd (bad_unnamed (after line) named)
     by false true h named = absurd named
@@ -117,7 +122,8 @@ unfolding lines_of
 lines_are [] = refl
 lines_are (b ∷ text) = by (b == 10) refl (lines_of text) (lines_are text)
   where
-    by : (t : Bool) → (b == 10) ≡ t → (lines : List (List ℕ)) → AreLines lines → AreLines (if t then [] ∷ lines else onto_first b lines)
+    by : (t : Bool) → (b == 10) ≡ t → (lines : List (List ℕ)) → AreLines lines
+        → AreLines (if t then [] ∷ lines else onto_first b lines)
     by true h lines are = are
     by false h [] are = rw h refl
     by false h (line ∷ lines) are = rw h are
@@ -138,7 +144,8 @@ given ((true, fault) ∷ tests) new taken h = cc
 given ((false, fault) ∷ tests) new taken h = given tests new taken h
 
 -- the lines of an EDS have no CRs at their ends
-pub eds_lines : (name text : List ℕ) → eds_edit name (lines_of text) ≡ Ok (edit.Eds name text) → map (trim_end is_cr) (lines_of text) ≡ lines_of text
+pub eds_lines : (name text : List ℕ) → eds_edit name (lines_of text) ≡ Ok (edit.Eds name text)
+    → map (trim_end is_cr) (lines_of text) ≡ lines_of text
 unfolding eds_edit
 eds_lines name text is =
     let lines = lines_of text in

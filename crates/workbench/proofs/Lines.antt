@@ -26,7 +26,8 @@ lines-last (b ∷ c ∷ cs) h =
     let both = neither (eqb b 10) (has_break (c ∷ cs)) h in
     rw both.0 (ap (onto_first b) (lines-last (c ∷ cs) both.1))
 
-lines-joined : (lines : List (List ℕ)) (last : List ℕ) → AreLines lines → has_break last ≡ false → lines_of (with_breaks lines ++ last) ≡ lines ++ if_some last
+lines-joined : (lines : List (List ℕ)) (last : List ℕ) → AreLines lines → has_break last ≡ false
+    → lines_of (with_breaks lines ++ last) ≡ lines ++ if_some last
 lines-joined [] last h e = lines-last last e
 lines-joined (l ∷ ls) last h e =
     let both = neither (has_break l) (list_any has_break ls) h in
@@ -34,9 +35,11 @@ lines-joined (l ∷ ls) last h e =
     ∙ lines-ended l (with_breaks ls ++ last) both.0
     ∙ ap (λ (t : List (List ℕ)). l ∷ t) (lines-joined ls last both.1 e)
 
-pub replies_line_by_line : (lines : List (List ℕ)) (last : List ℕ) → AreLines lines → has_break last ≡ false → replies (with_breaks lines ++ last) ≡ replies_to_lines (lines ++ if_some last)
+pub replies_line_by_line : (lines : List (List ℕ)) (last : List ℕ) → AreLines lines → has_break last ≡ false
+    → replies (with_breaks lines ++ last) ≡ replies_to_lines (lines ++ if_some last)
 unfolding replies
 replies_line_by_line lines last h e = ap replies_to_lines (lines-joined lines last h e)
 
-pub complete_come_first : (bytes rest : List ℕ) → (more : List (List ℕ)) × (replies (bytes ++ rest) ≡ complete_replies bytes ++ more)
+pub complete_come_first : (bytes rest : List ℕ)
+    → (more : List (List ℕ)) × (replies (bytes ++ rest) ≡ complete_replies bytes ++ more)
 complete_come_first bytes rest = (others bytes rest, replies-append bytes rest)

@@ -9,4 +9,5 @@ pub record Bench : Type 0 where
 
 -- a workbench is stored as its project
 abbrev pub bench_code : Coded Content → Coded Bench
-bench_code content_code = code_by Content content_code (λ bench. bench.project) (λ p. record { project = p }) (λ _. refl)
+bench_code content_code = code_by Content content_code (λ bench. bench.project) (λ p. record { project = p })
+    (λ _. refl)

@@ -1,4 +1,5 @@
--- Private: the same replies byte by byte, as the proofs of this crate walk. `Bytewise` of proofs/ joins them to Replies.
+-- Private: the same replies byte by byte, as the proofs of this crate walk. `Bytewise` of proofs/ joins them to
+-- Replies.
 use Rattle.std.specs.Prelude.{ℕ, List, [], ◌∷◌, ◌++◌, length, if◌then◌else◌, ◌==◌, Option, Some, None}
 use Rattle.co_text.specs.Lines.{line_feed}
 use Rattle.workbench.specs.Replies.{State, After, start, after_line, cut_off}

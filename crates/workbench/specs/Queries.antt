@@ -1,4 +1,5 @@
--- What queries are answered. The lines of a DCF are CiA 306's, the bytes of a concise DCF are CiA 302's; how replies show them is this profile's own.
+-- What queries are answered. The lines of a DCF are CiA 306's, the bytes of a concise DCF are CiA 302's; how replies
+-- show them is this profile's own.
 use Rattle.std.specs.Prelude.{ℕ, List, ◌∷◌, [], ◌++◌, codes, decimal, Option, Some, None, option_map, Result, Ok, Err}
 use Rattle.co_text.specs.Lines.{line_feed, line_count}
 use Rattle.ini_text.specs.Change.{text_of}
@@ -17,7 +18,7 @@ use Rattle.can_bus.specs.declared.line.Line.{Line}
 use Rattle.co_depend.specs.Image.{image_of}
 use Rattle.co_diag.specs.Found.{diagnostics_of}
 use Rattle.diag_lines.specs.Lines.{diag_text}
-use Rattle.co_network.specs.Network.{Member, member_at, writes_of}
+use Rattle.project_plan.specs.Network.{Member, member_at, writes_of}
 use Rattle.workbench.specs.Hex.{hex_text}
 
 -- what is named isn't there
@@ -32,21 +33,26 @@ pub record Configuration : Type 0 where
 
 -- those of the node of a number
 unfoldable pub configured_at : Content → ℕ → Option Configuration
-configured_at project id = option_map (λ m. record { member = m; writes = writes_of project m id }) (member_at project id)
+configured_at project id = option_map (λ m. record { member = m; writes = writes_of project m id })
+    (member_at project id)
 
 -- THE DCF (CiA 306) of the node of a number
 unfoldable pub dcf_of : Content → ℕ → Option (List ℕ)
-dcf_of project id = option_map (λ (c : Configuration). text_of (dcf_sections c.member.sections id c.member.node.name project.bitrate c.writes)) (configured_at project id)
+dcf_of project id =
+    option_map (λ (c : Configuration). text_of
+    (dcf_sections c.member.sections id c.member.node.name project.bitrate c.writes)) (configured_at project id)
 
 -- THE CONCISE DCF (CiA 302) of the node of a number
 unfoldable pub concise_of : Content → ℕ → Option (List ℕ)
 concise_of project id = option_map (λ (c : Configuration). concise_text c.writes) (configured_at project id)
 
--- THE TRACE of the network of a project: the lines of the run of its image, from power-on an instant at each microsecond, up to the horizon
+-- THE TRACE of the network of a project: the lines of the run of its image, from power-on an instant at each
+-- microsecond, up to the horizon
 unfoldable pub trace_of : Content → List Line
 trace_of project = trace (image_of project) project.horizon
 
--- THE ANSWER to a query: the lines of the DCF, the concise DCF in hexadecimal digits, the lines of all diagnostics, those of the trace, or the commands that make the project
+-- THE ANSWER to a query: the lines of the DCF, the concise DCF in hexadecimal digits, the lines of all diagnostics,
+-- those of the trace, or the commands that make the project
 abbrev pub answer : Content → Query → Result (List ℕ) EditFault
 answer project (Dcf id) = or_unknown (dcf_of project id)
 answer project (Cdcf id) = or_unknown (option_map hex_text (concise_of project id))
@@ -55,5 +61,5 @@ answer project Trace = Ok (lines_text (trace_of project))
 answer project Project = Ok (script project)
 
 -- how a reply shows lines, each ended by LF: `lines K`, and these K lines
-unfoldable pub shown : List ℕ → List ℕ
-shown text = codes "lines " ++ decimal (line_count text) ++ (line_feed ∷ []) ++ text
+unfoldable pub lines_reply : List ℕ → List ℕ
+lines_reply text = codes "lines " ++ decimal (line_count text) ++ (line_feed ∷ []) ++ text

@@ -1,5 +1,6 @@
 -- The replies to an input: a fold over its lines, from the first project (this profile's own).
-use Rattle.std.specs.Prelude.{ℕ, zero, suc, ◌-◌, Bool, ◌&&◌, length, nat_le, List, [], ◌∷◌, ◌++◌, codes, if◌then◌else◌, ◌==◌, Option, Some, None, Result, Ok, Err}
+use Rattle.std.specs.Prelude.{ℕ, zero, suc, ◌-◌, Bool, ◌&&◌, length, nat_le, List, [], ◌∷◌, ◌++◌, codes, if◌then◌else◌}
+use Rattle.std.specs.Prelude.{◌==◌, Option, Some, None, Result, Ok, Err}
 use Rattle.co_text.specs.Blanks.{is_blank_line, trim_end}
 use Rattle.co_text.specs.Lines.{line_feed, is_cr}
 use Rattle.co_text.specs.Lines.{lines_of}
@@ -12,9 +13,10 @@ use Rattle.co_commands.specs.declared.request.Request.TheVariants.{Edit as EditA
 use Rattle.co_commands.specs.Requests.{request}
 use Rattle.co_edits.specs.Eds.{eds_edit}
 use Rattle.co_project.specs.Project.{Content, first, accept}
-use Rattle.workbench.specs.Queries.{answer, shown}
+use Rattle.workbench.specs.Queries.{answer, lines_reply}
 
--- an `eds` command whose block isn't complete: its name (none where its line wasn't of its form; then the command is refused once its lines have come), how many lines are to come, those that came
+-- an `eds` command whose block isn't complete: its name (none where its line wasn't of its form; then the command is
+-- refused once its lines have come), how many lines are to come, those that came
 pub record OpenBlock : Type 0 where
   pub name : Option (List ℕ)
   pub left : ℕ
@@ -34,29 +36,29 @@ pub record After (S : Type 0) : Type 0 where
   pub state : S
   pub replies : List (List ℕ)
 
-abbrev pub silent : State → After State
-silent state = record { state = state; replies = [] }
+abbrev pub without_reply : State → After State
+without_reply state = record { state = state; replies = [] }
 
 -- the reply to an edit that was taken
-abbrev pub accepted : List ℕ
-accepted = codes "ok" ++ line_feed ∷ []
+abbrev pub ok_reply : List ℕ
+ok_reply = codes "ok" ++ line_feed ∷ []
 
-abbrev pub replied : Content → List ℕ → After State
-replied p text = record { state = record { project = p; block = None }; replies = text ∷ [] }
+abbrev pub with_reply : Content → List ℕ → After State
+with_reply p text = record { state = record { project = p; block = None }; replies = text ∷ [] }
 
 -- an edit: `ok` and the new project, or a refusal and the same project
-abbrev pub edited : Content → Result Content EditFault → After State
-edited p (Ok q) = replied q accepted
-edited p (Err fault) = replied p (refusal_text fault)
+abbrev pub after_verdict : Content → Result Content EditFault → After State
+after_verdict p (Ok q) = with_reply q ok_reply
+after_verdict p (Err fault) = with_reply p (refusal_text fault)
 
 abbrev pub after_edit : Content → Result Edit EditFault → After State
-after_edit p (Ok edit) = edited p (accept p edit)
-after_edit p (Err fault) = replied p (refusal_text fault)
+after_edit p (Ok edit) = after_verdict p (accept p edit)
+after_edit p (Err fault) = with_reply p (refusal_text fault)
 
 -- a query: its answer, or a refusal
-abbrev pub queried : Content → Result (List ℕ) EditFault → After State
-queried p (Ok text) = replied p (shown text)
-queried p (Err fault) = replied p (refusal_text fault)
+abbrev pub after_query : Content → Result (List ℕ) EditFault → After State
+after_query p (Ok text) = with_reply p (lines_reply text)
+after_query p (Err fault) = with_reply p (refusal_text fault)
 
 -- the edit of an `eds` line and its block
 abbrev pub block_edit : Option (List ℕ) → List (List ℕ) → Result Edit EditFault
@@ -66,28 +68,30 @@ block_edit (Some name) lines = eds_edit name lines
 -- an `eds` command with some lines of its block, and the number of those to come
 abbrev pub in_block : Content → Option (List ℕ) → ℕ → List (List ℕ) → After State
 in_block p name zero lines = after_edit p (block_edit name lines)
-in_block p name (suc n) lines = silent (record { project = p; block = Some (record { name = name; left = suc n; lines = lines }) })
+in_block p name (suc n) lines =
+    without_reply (record { project = p; block = Some (record { name = name; left = suc n; lines = lines }) })
 
-abbrev pub asked : Content → Result Request EditFault → After State
-asked p (Ok (EditAsked edit)) = edited p (accept p edit)
-asked p (Ok (QueryAsked query)) = queried p (answer p query)
-asked p (Ok (Block name n)) = in_block p name n []
-asked p (Err fault) = replied p (refusal_text fault)
+abbrev pub after_request : Content → Result Request EditFault → After State
+after_request p (Ok (EditAsked edit)) = after_verdict p (accept p edit)
+after_request p (Ok (QueryAsked query)) = after_query p (answer p query)
+after_request p (Ok (Block name n)) = in_block p name n []
+after_request p (Err fault) = with_reply p (refusal_text fault)
 
 -- at most 4,096 spaces and tabs, or nothing
 abbrev pub is_skipped : List ℕ → Bool
 is_skipped line = nat_le (length line) 4096 && is_blank_line line
 
-abbrev pub taken : Content → Option OpenBlock → List ℕ → After State
-taken p None line = if is_skipped line then silent (record { project = p; block = None }) else asked p (request line)
-taken p (Some block) line = in_block p block.name (block.left - 1) (block.lines ++ line ∷ [])
+abbrev pub after_command_line : Content → Option OpenBlock → List ℕ → After State
+after_command_line p None line = if is_skipped line then without_reply (record { project = p; block = None })
+    else after_request p (request line)
+after_command_line p (Some block) line = in_block p block.name (block.left - 1) (block.lines ++ line ∷ [])
 
 -- one more line: the CRs at its end are removed, and it belongs to the open block or is a command
 unfoldable pub after_line : State → List ℕ → After State
-after_line state line = taken state.project state.block (trim_end is_cr line)
+after_line state line = after_command_line state.project state.block (trim_end is_cr line)
 
 abbrev pub after_lines : State → List (List ℕ) → After State
-after_lines state [] = silent state
+after_lines state [] = without_reply state
 after_lines state (line ∷ lines) =
     let one = after_line state line in
     let others = after_lines one.state lines in

@@ -11,7 +11,7 @@ use Rattle.workbench.specs.declared.open_block.OpenBlock.{OpenBlock as TheBlock}
 use Rattle.workbench.specs.declared.reply.Reply.{Reply}
 use Rattle.workbench.specs.declared.reply.Reply.TheVariants.{Nothing, Fixed, Lines}
 use Rattle.workbench.specs.Machine.{Cursor}
-use Rattle.co_network.specs.Network.{Member}
+use Rattle.project_plan.specs.Network.{Member}
 use Rattle.workbench.specs.declared.configured.Configured.{Configured}
 use Rattle.workbench.specs.Queries.{Configuration}
 use Rattle.workbench.specs.Replies.{OpenBlock, State, After}
@@ -47,4 +47,7 @@ abbrev pub member_of : TheMember → Member
 member_of m = record { node = m.node.now; sections = m.device.sections }
 
 abbrev pub configuration_of : Configured → Configuration
-configuration_of c = record { member = record { node = c.node.now; sections = c.device.sections }; writes = c.writes.items }
+configuration_of c = record {
+  member = record { node = c.node.now; sections = c.device.sections };
+  writes = c.writes.items;
+}

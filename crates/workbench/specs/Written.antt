@@ -10,7 +10,8 @@ WroteAll old new replies = Appends old new (concat replies)
 
 -- the first of these replies were written, each whole
 abbrev pub WroteFirst : Option (List ℕ) → Option (List ℕ) → List (List ℕ) → Type 0
-WroteFirst old new replies = (first : List (List ℕ)) × (others : List (List ℕ)) × (replies ≡ first ++ others) × WroteAll old new first
+WroteFirst old new replies = (first : List (List ℕ)) × (others : List (List ℕ)) × (replies ≡ first ++ others)
+    × WroteAll old new first
 
 -- what was written is a front of these replies
 abbrev pub WroteFront : Option (List ℕ) → Option (List ℕ) → List (List ℕ) → Type 0
@@ -22,4 +23,5 @@ WroteAtLeast old new replies = (more : List ℕ) × Appends old new (concat repl
 
 -- private: the first of these replies were posted, each whole
 abbrev pub PostsFirst : Option (List ℕ) → List ℕ → Option (List ℕ) → List ℕ → List (List ℕ) → Type 0
-PostsFirst old waited new waits replies = (first : List (List ℕ)) × (others : List (List ℕ)) × (replies ≡ first ++ others) × Posts old waited new waits (concat first)
+PostsFirst old waited new waits replies = (first : List (List ℕ)) × (others : List (List ℕ))
+    × (replies ≡ first ++ others) × Posts old waited new waits (concat first)

@@ -5,7 +5,7 @@ ghost use Rattle.co_values.specs.Values.{Fits};
 ghost use Rattle.eds_device.specs.Described.{kind_at};
 ghost use Rattle.co_edits.specs.Faults.{is_memory};
 ghost use Rattle.co_project.specs.Tables.{node_at};
-ghost use Rattle.co_network.specs.Network.{project_plan};
+ghost use Rattle.project_plan.specs.Network.{plan_of_project};
 ghost use Rattle.workbench.specs.Queries.{or_unknown, configured_at};
 ghost use Rattle.workbench.specs.Views.{configuration_of};
 
@@ -33,13 +33,14 @@ pub(crate) fn configuration<'a>(
     plan: &mut Option<Plan>,
     id: u8,
 ) -> Result<Configured<'a>, EditFault>
-    requires { IfSome plan.old (λ plan. plan ≡ project_plan project.now) }
+    requires { IfSome plan.old (λ plan. plan ≡ plan_of_project project.now) }
     ensures configured { Gives is_memory configuration_of result (or_unknown (configured_at project.now id)) }
     ensures unknown { IsErrOf result EditFault.Unknown ↔ (node_at project.now.nodes id ≡ None) }
-    ensures plan { IfSome plan.new (λ plan. plan ≡ project_plan project.now) }
+    ensures plan { IfSome plan.new (λ plan. plan ≡ plan_of_project project.now) }
 
     // Each write is a value of its entry, of 1 to 512 bytes, and they can be counted in 32 bits.
-    ensures fits { IfOk result (λ c. All (λ w. Fits (kind_at c.device.sections (w.index, w.sub)) w.bytes) c.writes.items) }
+    ensures fits { IfOk result (λ c. All (λ w. Fits (kind_at c.device.sections (w.index, w.sub)) w.bytes)
+        c.writes.items) }
     ensures sizes { IfOk result (λ c. All (λ w. (1 ≤ length w.bytes) × (length w.bytes ≤ 512)) c.writes.items) }
     ensures count { IfOk result (λ c. length c.writes.items ≤ 4294967295) }
 {

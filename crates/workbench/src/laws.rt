@@ -7,7 +7,8 @@ ghost use Rattle.co_project.specs.Script.{edits, script};
 ghost use Rattle.co_project.specs.Sound.{IsSound};
 ghost use Rattle.workbench.specs.Hex.{hex_line, hex_text, row_count};
 ghost use Rattle.workbench.specs.Lines.{AreLines, has_break, with_breaks, if_some};
-ghost use Rattle.workbench.specs.Replies.{State, start, accepted, after_line, after_lines, replies, replies_to_lines, complete_replies};
+ghost use Rattle.workbench.specs.Replies.{State, start, ok_reply, after_line, after_lines, replies, replies_to_lines};
+ghost use Rattle.workbench.specs.Replies.{complete_replies};
 
 use co_commands::laws::{printed_blocks_are_read, printed_edits_are_lines, printed_lines_are_read};
 use co_project::laws::{script_has_edits, script_makes_the_project_again};
@@ -28,7 +29,7 @@ pub fn complete_come_first()
 
 /// A line that isn't answered by `ok` leaves the project as it was.
 pub fn refused_changes_nothing()
-    ensures { (state : State) (line : List ℕ) → (after_line state line).replies ≢ accepted ∷ []
+    ensures { (state : State) (line : List ℕ) → (after_line state line).replies ≢ ok_reply ∷ []
         → (after_line state line).state.project ≡ state.project }
 {}
 
@@ -50,7 +51,7 @@ pub fn last_row()
 /// The script of a project, as an input, has `ok` alone for replies, one for each edit, and makes the
 /// equal project. A session takes it where it is at most 64 MiB.
 pub fn script_is_fed_again()
-    ensures replies { (p : Content) → IsSound p → replies (script p) ≡ map (λ _. accepted) (edits p) }
+    ensures replies { (p : Content) → IsSound p → replies (script p) ≡ map (λ _. ok_reply) (edits p) }
     ensures project { (p : Content) → IsSound p
         → (after_lines start (lines_of (script p))).state ≡ record { project = p; block = None } }
 {

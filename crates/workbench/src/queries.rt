@@ -2,7 +2,7 @@
 ghost use Rattle.std.specs.Prelude.{◌≡◌, IfOk};
 ghost use Rattle.co_base.specs.Gives.{Gives};
 ghost use Rattle.co_edits.specs.Faults.{is_memory};
-ghost use Rattle.workbench.specs.Queries.{answer, shown};
+ghost use Rattle.workbench.specs.Queries.{answer, lines_reply};
 
 use crate::hex::hex_text;
 use crate::workbench::Workbench;
@@ -35,9 +35,9 @@ pub fn answer(alloc: Global, workbench: &mut Workbench, query: Query) -> Result<
 }
 
 /// `lines K`, and the K lines of the text.
-#[tactic(auto, unfolding(crate::specs::Queries::shown))]
+#[tactic(auto, unfolding(crate::specs::Queries::lines_reply))]
 pub fn shown(alloc: Global, text: &[u8]) -> Result<Vec<u8>, AllocError>
-    ensures { IfOk result (λ v. v.items ≡ shown text.now) }
+    ensures { IfOk result (λ v. v.items ≡ lines_reply text.now) }
 {
     let count = line_count(text);
     let head = format!(in alloc; "lines {count}\n")?;

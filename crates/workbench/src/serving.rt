@@ -1,5 +1,6 @@
 //! From a reader to a writer.
-ghost use Rattle.std.specs.Prelude.{◌≡◌, [], ◌≢◌, ◌<◌, ◌≤◌, ◌++◌, ◌⊎◌, ℕ, List, length, take, true, OnOk, OnErr, IfOk, IfSome, IsErrOf, Err};
+ghost use Rattle.std.specs.Prelude.{◌≡◌, [], ◌≢◌, ◌<◌, ◌≤◌, ◌++◌, ◌⊎◌, ℕ, List, length, take, true, OnOk, OnErr, IfOk};
+ghost use Rattle.std.specs.Prelude.{IfSome, IsErrOf, Err};
 ghost use Rattle.std.specs.Io.KnownBytes.{Consumes, IsAtEnd};
 ghost use Rattle.std.specs.List.{concat};
 ghost use Rattle.std.specs.Option.{option_map};
@@ -26,8 +27,10 @@ fn put_reply<W: Outlet>(
     writer: &mut W,
     reply: Reply,
 ) -> Result<(), SessionFault>
-    ensures ok { OnOk result (Posts (W.contents writer.old) outbox.old (W.contents writer.new) outbox.new (concat (replies_of reply))) }
-    ensures memory { IsErrOf result SessionFault.Memory → Posts (W.contents writer.old) outbox.old (W.contents writer.new) outbox.new [] }
+    ensures ok { OnOk result (Posts (W.contents writer.old) outbox.old (W.contents writer.new) outbox.new
+        (concat (replies_of reply))) }
+    ensures memory { IsErrOf result SessionFault.Memory
+        → Posts (W.contents writer.old) outbox.old (W.contents writer.new) outbox.new [] }
     ensures write { IsErrOf result SessionFault.Write → (W.failures writer.new ≢ W.failures writer.old)
         × Took (W.contents writer.old) (W.contents writer.new) (outbox.old ++ concat (replies_of reply)) }
     ensures quiet { result ≢ Err SessionFault.Write → W.failures writer.new ≡ W.failures writer.old }
@@ -48,9 +51,11 @@ fn put_lines<W: Outlet>(
     ensures ok { OnOk result (Posts (W.contents writer.old) outbox.old (W.contents writer.new) outbox.new
         (concat (after (cursor_of cursor.old) piece.now).replies)) }
     ensures memory { IsErrOf result SessionFault.Memory
-        → PostsFirst (W.contents writer.old) outbox.old (W.contents writer.new) outbox.new (after (cursor_of cursor.old) piece.now).replies }
+        → PostsFirst (W.contents writer.old) outbox.old (W.contents writer.new) outbox.new
+        (after (cursor_of cursor.old) piece.now).replies }
     ensures write { IsErrOf result SessionFault.Write → (W.failures writer.new ≢ W.failures writer.old)
-        × Took (W.contents writer.old) (W.contents writer.new) (outbox.old ++ concat (after (cursor_of cursor.old) piece.now).replies) }
+        × Took (W.contents writer.old) (W.contents writer.new)
+        (outbox.old ++ concat (after (cursor_of cursor.old) piece.now).replies) }
     ensures quiet { result ≢ Err SessionFault.Write → W.failures writer.new ≡ W.failures writer.old }
     ensures flushed { result ≢ Err SessionFault.Write → W.flushed writer.old ≡ true → W.flushed writer.new ≡ true }
     ensures never_read { result ≢ Err SessionFault.Read }
@@ -75,9 +80,11 @@ fn put_last_line<W: Outlet>(
     ensures cursor { OnOk result (cursor_of cursor.new ≡ (last_line (cursor_of cursor.old)).state) }
     ensures ok { OnOk result (Posts (W.contents writer.old) outbox.old (W.contents writer.new) outbox.new
         (concat (last_line (cursor_of cursor.old)).replies)) }
-    ensures memory { IsErrOf result SessionFault.Memory → Posts (W.contents writer.old) outbox.old (W.contents writer.new) outbox.new [] }
+    ensures memory { IsErrOf result SessionFault.Memory
+        → Posts (W.contents writer.old) outbox.old (W.contents writer.new) outbox.new [] }
     ensures write { IsErrOf result SessionFault.Write → (W.failures writer.new ≢ W.failures writer.old)
-        × Took (W.contents writer.old) (W.contents writer.new) (outbox.old ++ concat (last_line (cursor_of cursor.old)).replies) }
+        × Took (W.contents writer.old) (W.contents writer.new)
+        (outbox.old ++ concat (last_line (cursor_of cursor.old)).replies) }
     ensures quiet { result ≢ Err SessionFault.Write → W.failures writer.new ≡ W.failures writer.old }
     ensures flushed { result ≢ Err SessionFault.Write → W.flushed writer.old ≡ true → W.flushed writer.new ≡ true }
     ensures never_read { result ≢ Err SessionFault.Read }
@@ -97,9 +104,11 @@ fn put_cut_off<W: Outlet>(
 ) -> Result<(), SessionFault>
     ensures ok { OnOk result (Posts (W.contents writer.old) outbox.old (W.contents writer.new) outbox.new
         (concat (cut_off (cursor_of cursor.now).state.block))) }
-    ensures memory { IsErrOf result SessionFault.Memory → Posts (W.contents writer.old) outbox.old (W.contents writer.new) outbox.new [] }
+    ensures memory { IsErrOf result SessionFault.Memory
+        → Posts (W.contents writer.old) outbox.old (W.contents writer.new) outbox.new [] }
     ensures write { IsErrOf result SessionFault.Write → (W.failures writer.new ≢ W.failures writer.old)
-        × Took (W.contents writer.old) (W.contents writer.new) (outbox.old ++ concat (cut_off (cursor_of cursor.now).state.block)) }
+        × Took (W.contents writer.old) (W.contents writer.new)
+        (outbox.old ++ concat (cut_off (cursor_of cursor.now).state.block)) }
     ensures quiet { result ≢ Err SessionFault.Write → W.failures writer.new ≡ W.failures writer.old }
     ensures flushed { result ≢ Err SessionFault.Write → W.flushed writer.old ≡ true → W.flushed writer.new ≡ true }
     ensures never_read { result ≢ Err SessionFault.Read }
@@ -117,9 +126,11 @@ fn put_end<W: Outlet>(
     outbox: &mut Outbox,
     writer: &mut W,
 ) -> Result<(), SessionFault>
-    ensures ok { OnOk result (Posts (W.contents writer.old) outbox.old (W.contents writer.new) outbox.new (concat (at_end (cursor_of cursor.old)))) }
+    ensures ok { OnOk result (Posts (W.contents writer.old) outbox.old (W.contents writer.new) outbox.new
+        (concat (at_end (cursor_of cursor.old)))) }
     ensures memory { IsErrOf result SessionFault.Memory
-        → PostsFirst (W.contents writer.old) outbox.old (W.contents writer.new) outbox.new (at_end (cursor_of cursor.old)) }
+        → PostsFirst (W.contents writer.old) outbox.old (W.contents writer.new) outbox.new
+        (at_end (cursor_of cursor.old)) }
     ensures write { IsErrOf result SessionFault.Write → (W.failures writer.new ≢ W.failures writer.old)
         × Took (W.contents writer.old) (W.contents writer.new) (outbox.old ++ concat (at_end (cursor_of cursor.old))) }
     ensures quiet { result ≢ Err SessionFault.Write → W.failures writer.new ≡ W.failures writer.old }
@@ -137,7 +148,8 @@ fn put_turn<W: Outlet>(
     writer: &mut W,
     piece: Option<&[u8]>,
 ) -> Result<(), SessionFault>
-    ensures cursor { OnOk result (IfSome piece.entry (λ p. cursor_of cursor.new ≡ (after (cursor_of cursor.old) p.now).state)) }
+    ensures cursor { OnOk result (IfSome piece.entry (λ p. cursor_of cursor.new
+        ≡ (after (cursor_of cursor.old) p.now).state)) }
     ensures ok { OnOk result (Posts (W.contents writer.old) outbox.old (W.contents writer.new) outbox.new
         (concat (given (cursor_of cursor.old) (option_map (λ p. p.now) piece.entry)))) }
     ensures memory { IsErrOf result SessionFault.Memory
@@ -164,14 +176,17 @@ fn take_turn<W: Outlet>(
     piece: Option<&[u8]>,
 ) -> Result<(), SessionFault>
     requires { outbox.old ≡ [] }
-    ensures cursor { OnOk result (IfSome piece.entry (λ p. cursor_of cursor.new ≡ (after (cursor_of cursor.old) p.now).state)) }
+    ensures cursor { OnOk result (IfSome piece.entry (λ p. cursor_of cursor.new
+        ≡ (after (cursor_of cursor.old) p.now).state)) }
     ensures empty { OnOk result (outbox.new ≡ []) }
     ensures ok { OnOk result (WroteAll (W.contents writer.old) (W.contents writer.new)
         (given (cursor_of cursor.old) (option_map (λ p. p.now) piece.entry))) }
     ensures memory { IsErrOf result SessionFault.Memory
-        → WroteFirst (W.contents writer.old) (W.contents writer.new) (given (cursor_of cursor.old) (option_map (λ p. p.now) piece.entry)) }
+        → WroteFirst (W.contents writer.old) (W.contents writer.new)
+        (given (cursor_of cursor.old) (option_map (λ p. p.now) piece.entry)) }
     ensures write { IsErrOf result SessionFault.Write → (W.failures writer.new ≢ W.failures writer.old)
-        × WroteFront (W.contents writer.old) (W.contents writer.new) (given (cursor_of cursor.old) (option_map (λ p. p.now) piece.entry)) }
+        × WroteFront (W.contents writer.old) (W.contents writer.new)
+        (given (cursor_of cursor.old) (option_map (λ p. p.now) piece.entry)) }
     ensures quiet { result ≢ Err SessionFault.Write → W.failures writer.new ≡ W.failures writer.old }
     ensures flushed { result ≢ Err SessionFault.Write → W.flushed writer.old ≡ true → W.flushed writer.new ≡ true }
     ensures never_read { result ≢ Err SessionFault.Read }

@@ -4,7 +4,7 @@ ghost use Rattle.co_commands.specs.Requests.{request};
 ghost use Rattle.co_edits.specs.Eds.{lines_of};
 ghost use Rattle.co_project.specs.Project.{accept};
 ghost use Rattle.workbench.specs.Queries.{answer};
-ghost use Rattle.workbench.specs.Replies.{after_line, asked, in_block, edited, queried, is_skipped};
+ghost use Rattle.workbench.specs.Replies.{after_line, after_request, in_block, after_verdict, after_query, is_skipped};
 ghost use Rattle.workbench.specs.Views.{taken_at, block_of, Refuses};
 
 use crate::open_block::OpenBlock;
@@ -63,7 +63,8 @@ fn ask(
     workbench: &mut Workbench,
     line: &[u8],
 ) -> Result<(Reply, Option<OpenBlock>), AllocError>
-    ensures { IfOk result (λ r. taken_at workbench.new.project r.1 r.0 ≡ asked workbench.old.project (request line.now)) }
+    ensures { IfOk result (λ r. taken_at workbench.new.project r.1 r.0
+        ≡ after_request workbench.old.project (request line.now)) }
 {
     match Request::read(alloc, line) {
         Ok(Request::Edit(command)) => Ok((edit(workbench, command)?, None)),
@@ -99,7 +100,8 @@ fn go_on(
 }
 
 fn edit(workbench: &mut Workbench, command: Command) -> Result<Reply, AllocError>
-    ensures { IfOk result (λ reply. taken_at workbench.new.project None reply ≡ edited workbench.old.project (accept workbench.old.project command)) }
+    ensures { IfOk result (λ reply. taken_at workbench.new.project None reply
+        ≡ after_verdict workbench.old.project (accept workbench.old.project command)) }
 {
     match workbench.edit(command) {
         Ok(()) => Ok(Reply::Fixed(b"ok\n")),
@@ -110,7 +112,7 @@ fn edit(workbench: &mut Workbench, command: Command) -> Result<Reply, AllocError
 /// What is written for a query.
 fn reply_to(alloc: Global, workbench: &mut Workbench, query: Query) -> Result<Reply, AllocError>
     ensures { IfOk result (λ reply. taken_at workbench.new.project None reply
-        ≡ queried workbench.old.project (answer workbench.old.project query)) }
+        ≡ after_query workbench.old.project (answer workbench.old.project query)) }
 {
     match answer(alloc, workbench, query) {
         Ok(text) => Ok(Reply::Lines(shown(alloc, &text)?)),

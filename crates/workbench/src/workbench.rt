@@ -16,12 +16,12 @@ use crate::member::fill_plan;
 use can_bus::Line;
 use co_depend::ProjectParts;
 use co_diag::diagnostics_by;
-use co_network::Library;
 use co_project::{Command, EditFault, Project};
 use concise_dcf::{Write, encode};
 use diag_lines::Diag;
 use eds_dcf::dcf_text;
 use pdo_links::Plan;
+use project_plan::Library;
 use std::alloc::{AllocError, Global};
 use std::marker::Model;
 
@@ -42,7 +42,7 @@ pub struct Workbench {
 impl Model for Workbench {
     ghost use Rattle.co_project.specs.contracts.project.Project as held;
     ghost use Rattle.std.specs.Prelude.{◌≡◌, IfSome};
-    ghost use Rattle.co_network.specs.Network.{project_plan};
+    ghost use Rattle.project_plan.specs.Network.{plan_of_project};
     ghost use Rattle.workbench.specs.Bench.{Bench, bench_code};
 
     ghost Value = { Bench };
@@ -51,7 +51,7 @@ impl Model for Workbench {
 
     ghost view = { λ workbench. record { project = workbench.project } };
 
-    ghost invariant = { λ workbench. IfSome workbench.plan (λ plan. plan ≡ project_plan workbench.project) };
+    ghost invariant = { λ workbench. IfSome workbench.plan (λ plan. plan ≡ plan_of_project workbench.project) };
 }
 
 impl Workbench {

@@ -4,4 +4,5 @@ use Rattle.bus_devices.proofs.SenderLemmas.{winner_is}
 use Rattle.bus_devices.proofs.block.contends_with.Goals as goal
 
 pub returns : goal.returns
-returns c = c.is_same.ensures ∙ ap (is_contender c.args.contender.now) (winner_is _ c.contender.result c.contender.ensures)
+returns c = c.is_same.ensures ∙ ap (is_contender c.args.contender.now)
+    (winner_is _ c.contender.result c.contender.ensures)

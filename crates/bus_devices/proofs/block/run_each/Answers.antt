@@ -17,6 +17,11 @@ loop-device-preserved g c =
     record {
       state = each_state step ss i d t within image (rw old.kept at e.state) ∙ old.state;
       noted = each_noted step ss i d t within _ _ e.noted ∙ old.noted;
-      counted = omega (arith, each_counted step ss i d t within image (g.P.Asked.asks c.loop-device.shapes) (g.P.Asked.asks c.instant.new.shapes) (rw old.kept at e.counted), old.counted);
+      counted = omega (
+        arith,
+        each_counted step ss i d t within image (g.P.Asked.asks c.loop-device.shapes)
+            (g.P.Asked.asks c.instant.new.shapes) (rw old.kept at e.counted),
+        old.counted,
+      );
       kept = e.kept ∙ old.kept;
     }

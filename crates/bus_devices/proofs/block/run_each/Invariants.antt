@@ -1,6 +1,6 @@
 use Rattle.std.proofs.Common.{◌≡◌, ◌++◌, ◌≤◌, ◌+◌, length, take, drop}
 use Rattle.device_agenda.specs.Agenda.{at_instant}
-use Rattle.asking.specs.Asking.{outcome, followed, reads}
+use Rattle.asking.specs.Asking.{outcome, after_reads, reads}
 use Rattle.bus_events.specs.Each.{each}
 use Rattle.bus_devices.proofs.block.run_each.Given as goal
 
@@ -13,7 +13,8 @@ invariant-loop-device g l =
     let all = each step l.fn.devices in
     record {
       state : take l.device-index l.devices ++ outcome rest seen.image ≡ outcome all seen.image;
-      noted : followed rest (g.P.Asked.seen l.shapes) ≡ followed all seen;
-      counted : g.P.Asked.asks l.shapes + length (reads rest seen.image) ≤ g.P.Asked.asks l.fn.shapes + length (reads all seen.image);
+      noted : after_reads rest (g.P.Asked.seen l.shapes) ≡ after_reads all seen;
+      counted : g.P.Asked.asks l.shapes + length (reads rest seen.image)
+          ≤ g.P.Asked.asks l.fn.shapes + length (reads all seen.image);
       kept : (g.P.Asked.seen l.shapes).image ≡ seen.image;
     }

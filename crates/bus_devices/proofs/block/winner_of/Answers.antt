@@ -14,4 +14,6 @@ loop-device-preserved c =
       | in-Some w ↦ w.best-is ∙ w.lower-best.ensures ∙ ap (lower best) (sym w.in-Some.is)
       | in_default w ↦ w.best-is ∙ lower_none best ∙ ap (lower best) (sym w.in_default.is)
     ] in
-    winner_more (λ (d : Device). (d.number, d.waiting)) c.args.devices.now c.loop-device.device-index item.result best c.contender.result c.match-contender.best c.loop-device-test.true c.loop-device.invariant (rw item.is at c.contender.ensures) next
+    winner_more (λ (d : Device). (d.number, d.waiting)) c.args.devices.now c.loop-device.device-index item.result best
+    c.contender.result c.match-contender.best c.loop-device-test.true c.loop-device.invariant
+    (rw item.is at c.contender.ensures) next

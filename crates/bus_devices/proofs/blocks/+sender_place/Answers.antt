@@ -7,30 +7,40 @@ use Rattle.device_agenda.specs.Agenda.{IsAgendaOf}
 use Rattle.bus_devices.proofs.blocks.+sender_place.Goals as goal
 
 pub returns-in_err-agenda : goal.returns-in_err-agenda
-returns-in_err-agenda t c = c.from_residual.ensures ∙ nowhere_in c.args.contender.now c.args.agendas.now c.args.devices.now c.in_err-agenda.ensures.cases c.requires
+returns-in_err-agenda t c = c.from_residual.ensures
+    ∙ nowhere_in c.args.contender.now c.args.agendas.now c.args.devices.now c.in_err-agenda.ensures.cases c.requires
 
 pub place_in-requires : goal.place_in-requires
 place_in-requires t c =
     let ds = c.args.devices.now in
-    let front = front_is c.first_block.result ds c.split_at.result.0.now c.first_block.ensures c.split_at.ensures.front in
-    subst (IsAgendaOf c.in_ok-agenda.agenda.now) (sym front) (opened c.args.agendas.now c.in_ok-agenda.others.now c.in_ok-agenda.agenda.now ds c.in_ok-agenda.ensures.cases.0 c.requires).0
+    let front = front_is c.first_block.result ds c.split_at.result.0.now c.first_block.ensures c.split_at.ensures.front
+    in
+    subst (IsAgendaOf c.in_ok-agenda.agenda.now) (sym front)
+    (opened c.args.agendas.now c.in_ok-agenda.others.now c.in_ok-agenda.agenda.now ds c.in_ok-agenda.ensures.cases.0
+    c.requires).0
 
 pub returns-in-Some : goal.returns-in-Some
 returns-in-Some t c =
     let ds = c.args.devices.now in
-    let front = front_is c.first_block.result ds c.split_at.result.0.now c.first_block.ensures c.split_at.ensures.front in
+    let front = front_is c.first_block.result ds c.split_at.result.0.now c.first_block.ensures c.split_at.ensures.front
+    in
     sends_here c.args.contender.now ds c.in-Some.place (rw front at (sym c.in-Some.is ∙ c.place_in.ensures))
 
 pub returns-in_err-place : goal.returns-in_err-place
 returns-in_err-place t c =
     let ds = c.args.devices.now in
-    let front = front_is c.first_block.result ds c.split_at.result.0.now c.first_block.ensures c.split_at.ensures.front in
+    let front = front_is c.first_block.result ds c.split_at.result.0.now c.first_block.ensures c.split_at.ensures.front
+    in
     let back = back_is c.first_block.result ds c.split_at.result.1.now c.first_block.ensures c.split_at.ensures.back in
-    c.from_residual-in_err-place.ensures ∙ sends_nowhere c.args.contender.now ds (rw front at (sym c.in_default.is ∙ c.place_in.ensures)) (rw back at (sym c.in_err-place.was ∙ c.sender_place.ensures))
+    c.from_residual-in_err-place.ensures
+    ∙ sends_nowhere c.args.contender.now ds (rw front at (sym c.in_default.is ∙ c.place_in.ensures))
+    (rw back at (sym c.in_err-place.was ∙ c.sender_place.ensures))
 
 pub overflow_add-result : goal.overflow_add-result
 overflow_add-result t c =
-    let within : c.in_ok-place.place < length c.split_at.result.1.now = sends_within c.args.contender.now c.split_at.result.1.now c.in_ok-place.place (sym c.in_ok-place.was ∙ c.sender_place.ensures) in
+    let within : c.in_ok-place.place < length c.split_at.result.1.now =
+    sends_within c.args.contender.now c.split_at.result.1.now c.in_ok-place.place (sym c.in_ok-place.was
+    ∙ c.sender_place.ensures) in
     let long = c.split_at.ensures.back_len in
     let front = c.split_at.ensures.front_len in
     omega (arith, within, long, front)
@@ -38,7 +48,10 @@ overflow_add-result t c =
 pub returns : goal.returns
 returns t c =
     let ds = c.args.devices.now in
-    let front = front_is c.first_block.result ds c.split_at.result.0.now c.first_block.ensures c.split_at.ensures.front in
+    let front = front_is c.first_block.result ds c.split_at.result.0.now c.first_block.ensures c.split_at.ensures.front
+    in
     let back = back_is c.first_block.result ds c.split_at.result.1.now c.first_block.ensures c.split_at.ensures.back in
-    subst (λ (xs : List Device). Some (length xs + c.in_ok-place.place) ≡ sender_place c.args.contender.now ds) (sym front)
-    (sends_at c.args.contender.now ds c.in_ok-place.place (rw front at (sym c.in_default.is ∙ c.place_in.ensures)) (rw back at (sym c.in_ok-place.was ∙ c.sender_place.ensures)))
+    subst (λ (xs : List Device). Some (length xs + c.in_ok-place.place) ≡ sender_place c.args.contender.now ds)
+    (sym front)
+    (sends_at c.args.contender.now ds c.in_ok-place.place (rw front at (sym c.in_default.is ∙ c.place_in.ensures))
+    (rw back at (sym c.in_ok-place.was ∙ c.sender_place.ensures)))

@@ -7,6 +7,7 @@ use Rattle.bus_devices.proofs.blocks.first_of.Goals as goal
 
 pub returns : goal.returns
 returns c devices known asleep =
-    sym (none_more (λ (a : Agenda). moments_of a.due) c.args.agendas.now c.loop-agenda.agenda-index c.loop-agenda.first c.loop-agenda-test.false)
+    sym (none_more (λ (a : Agenda). moments_of a.due) c.args.agendas.now c.loop-agenda.agenda-index c.loop-agenda.first
+    c.loop-agenda-test.false)
     ∙ c.loop-agenda.invariant
     ∙ dues_are c.args.agendas.now devices known asleep

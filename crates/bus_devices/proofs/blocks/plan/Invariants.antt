@@ -5,7 +5,8 @@ use Rattle.bus_devices.proofs.blocks.plan.Given as goal
 
 -- with agendas of what is left, they are agendas of all
 abbrev pub invariant-planning : goal.invariant-planning
-invariant-planning l = (others : List Agenda) → AreAgendasOf others l.rest → AreAgendasOf (l.agendas.items ++ others) l.devices
+invariant-planning l = (others : List Agenda) → AreAgendasOf others l.rest
+    → AreAgendasOf (l.agendas.items ++ others) l.devices
 
 abbrev pub decreases-planning : goal.decreases-planning
 decreases-planning l = length l.rest

@@ -5,8 +5,12 @@ use Rattle.bus_devices.proofs.blocks.run_block.Goals as goal
 
 pub returns-then-sleeps_through-clause-state : goal.returns-then-sleeps_through-clause-state
 returns-then-sleeps_through-clause-state g c =
-    idle_state nothing_happens c.args.agenda.now c.args.devices.now c.args.t c.args.delivery.now (c.sleeps_through.ensures.bound c.if-sleeps_through.true) c.requires.known (sym c.sleeps_through.ensures.sleeps ∙ c.if-sleeps_through.true) (g.P.Asked.seen c.args.shapes.now).image
+    idle_state nothing_happens c.args.agenda.now c.args.devices.now c.args.t c.args.delivery.now
+    (c.sleeps_through.ensures.bound c.if-sleeps_through.true) c.requires.known (sym c.sleeps_through.ensures.sleeps
+    ∙ c.if-sleeps_through.true) (g.P.Asked.seen c.args.shapes.now).image
 
 pub returns-then-sleeps_through-clause-noted : goal.returns-then-sleeps_through-clause-noted
 returns-then-sleeps_through-clause-noted g c =
-    idle_noted nothing_happens c.args.agenda.now c.args.devices.now c.args.t c.args.delivery.now (c.sleeps_through.ensures.bound c.if-sleeps_through.true) c.requires.known (sym c.sleeps_through.ensures.sleeps ∙ c.if-sleeps_through.true) (g.P.Asked.seen c.args.shapes.now)
+    idle_noted nothing_happens c.args.agenda.now c.args.devices.now c.args.t c.args.delivery.now
+    (c.sleeps_through.ensures.bound c.if-sleeps_through.true) c.requires.known (sym c.sleeps_through.ensures.sleeps
+    ∙ c.if-sleeps_through.true) (g.P.Asked.seen c.args.shapes.now)

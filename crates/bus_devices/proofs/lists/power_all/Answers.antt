@@ -1,6 +1,6 @@
 use Rattle.std.proofs.Common.{◌<◌, ◌∙◌, length, arith}
 use Rattle.std.specs.Prelude.{true}
-use Rattle.co_device.specs.Device.{powered}
+use Rattle.co_device.specs.Device.{after_power}
 use Rattle.bus_events.proofs.EachLemmas.{each_state, each_noted, each_counted}
 use Rattle.bus_devices.proofs.lists.power_all.Goals as goal
 
@@ -8,7 +8,7 @@ pub loop-device-preserved : goal.loop-device-preserved
 loop-device-preserved g c =
     let old = c.loop-device.invariant in
     let image = (g.P.Asked.seen c.args.shapes.now).image in
-    let step = powered true 0 in
+    let step = after_power true 0 in
     let i = c.loop-device.device-index in
     let ss = c.loop-device.devices in
     let d = c.device-item.result in
@@ -18,6 +18,11 @@ loop-device-preserved g c =
     record {
       state = each_state step ss i d t within image (rw old.kept at e.state) ∙ old.state;
       noted = each_noted step ss i d t within _ _ e.noted ∙ old.noted;
-      counted = omega (arith, each_counted step ss i d t within image (g.P.Asked.asks c.loop-device.shapes) (g.P.Asked.asks c.power.new.shapes) (rw old.kept at e.counted), old.counted);
+      counted = omega (
+        arith,
+        each_counted step ss i d t within image (g.P.Asked.asks c.loop-device.shapes)
+            (g.P.Asked.asks c.power.new.shapes) (rw old.kept at e.counted),
+        old.counted,
+      );
       kept = e.kept ∙ old.kept;
     }

@@ -1,7 +1,7 @@
 use Rattle.std.proofs.Common.{◌≡◌, ◌++◌, ◌≤◌, ◌+◌, length, take, drop}
 use Rattle.std.specs.Prelude.{true}
-use Rattle.co_device.specs.Device.{powered}
-use Rattle.asking.specs.Asking.{outcome, followed, reads}
+use Rattle.co_device.specs.Device.{after_power}
+use Rattle.asking.specs.Asking.{outcome, after_reads, reads}
 use Rattle.bus_events.specs.Each.{each}
 use Rattle.bus_devices.proofs.lists.power_all.Given as goal
 
@@ -9,12 +9,13 @@ use Rattle.bus_devices.proofs.lists.power_all.Given as goal
 abbrev pub invariant-loop-device : goal.invariant-loop-device
 invariant-loop-device g l =
     let seen = g.P.Asked.seen l.fn.shapes in
-    let step = powered true 0 in
+    let step = after_power true 0 in
     let rest = each step (drop l.device-index l.devices) in
     let all = each step l.fn.devices in
     record {
       state : take l.device-index l.devices ++ outcome rest seen.image ≡ outcome all seen.image;
-      noted : followed rest (g.P.Asked.seen l.shapes) ≡ followed all seen;
-      counted : g.P.Asked.asks l.shapes + length (reads rest seen.image) ≤ g.P.Asked.asks l.fn.shapes + length (reads all seen.image);
+      noted : after_reads rest (g.P.Asked.seen l.shapes) ≡ after_reads all seen;
+      counted : g.P.Asked.asks l.shapes + length (reads rest seen.image)
+          ≤ g.P.Asked.asks l.fn.shapes + length (reads all seen.image);
       kept : (g.P.Asked.seen l.shapes).image ≡ seen.image;
     }

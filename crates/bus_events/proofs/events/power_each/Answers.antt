@@ -1,5 +1,5 @@
 use Rattle.std.proofs.Common.{◌<◌, ◌∙◌, length, arith}
-use Rattle.bus_events.specs.Events.{power_at}
+use Rattle.bus_events.specs.Events.{after_power_at}
 use Rattle.bus_events.proofs.EachLemmas.{each_state, each_noted, each_counted}
 use Rattle.bus_events.proofs.events.power_each.Goals as goal
 
@@ -7,7 +7,7 @@ pub loop-device-preserved : goal.loop-device-preserved
 loop-device-preserved g c =
     let old = c.loop-device.invariant in
     let image = (g.P.Asked.seen c.args.shapes.now).image in
-    let step = power_at c.args.t c.args.node c.args.on in
+    let step = after_power_at c.args.t c.args.node c.args.on in
     let i = c.loop-device.device-index in
     let ss = c.loop-device.devices in
     let d = c.device-item.result in
@@ -17,6 +17,11 @@ loop-device-preserved g c =
     record {
       state = each_state step ss i d t within image (rw old.kept at e.state) ∙ old.state;
       noted = each_noted step ss i d t within _ _ e.noted ∙ old.noted;
-      counted = omega (arith, each_counted step ss i d t within image (g.P.Asked.asks c.loop-device.shapes) (g.P.Asked.asks c.power_one.new.shapes) (rw old.kept at e.counted), old.counted);
+      counted = omega (
+        arith,
+        each_counted step ss i d t within image (g.P.Asked.asks c.loop-device.shapes)
+            (g.P.Asked.asks c.power_one.new.shapes) (rw old.kept at e.counted),
+        old.counted,
+      );
       kept = e.kept ∙ old.kept;
     }

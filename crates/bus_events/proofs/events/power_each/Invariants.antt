@@ -1,6 +1,6 @@
 use Rattle.std.proofs.Common.{◌≡◌, ◌++◌, ◌≤◌, ◌+◌, length, take, drop}
-use Rattle.bus_events.specs.Events.{power_at}
-use Rattle.asking.specs.Asking.{outcome, followed, reads}
+use Rattle.bus_events.specs.Events.{after_power_at}
+use Rattle.asking.specs.Asking.{outcome, after_reads, reads}
 use Rattle.bus_events.specs.Each.{each}
 use Rattle.bus_events.proofs.events.power_each.Given as goal
 
@@ -8,12 +8,13 @@ use Rattle.bus_events.proofs.events.power_each.Given as goal
 abbrev pub invariant-loop-device : goal.invariant-loop-device
 invariant-loop-device g l =
     let seen = g.P.Asked.seen l.fn.shapes in
-    let step = power_at l.fn.t l.fn.node l.fn.on in
+    let step = after_power_at l.fn.t l.fn.node l.fn.on in
     let rest = each step (drop l.device-index l.devices) in
     let all = each step l.fn.devices in
     record {
       state : take l.device-index l.devices ++ outcome rest seen.image ≡ outcome all seen.image;
-      noted : followed rest (g.P.Asked.seen l.shapes) ≡ followed all seen;
-      counted : g.P.Asked.asks l.shapes + length (reads rest seen.image) ≤ g.P.Asked.asks l.fn.shapes + length (reads all seen.image);
+      noted : after_reads rest (g.P.Asked.seen l.shapes) ≡ after_reads all seen;
+      counted : g.P.Asked.asks l.shapes + length (reads rest seen.image)
+          ≤ g.P.Asked.asks l.fn.shapes + length (reads all seen.image);
       kept : (g.P.Asked.seen l.shapes).image ≡ seen.image;
     }

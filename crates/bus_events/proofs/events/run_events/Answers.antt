@@ -28,24 +28,42 @@ loop-step-preserved g c =
     record {
       devices = ap (λ (nodes : List Device × Manager). nodes.0) state ∙ old.devices;
       manager = ap (λ (nodes : List Device × Manager). nodes.1) state ∙ old.manager;
-      noted = events_noted t steps i d within is ds after m n (g.P.Asked.seen c.loop-step.shapes) (g.P.Asked.seen c.happen.new.shapes) e.devices e.manager e.noted ∙ old.noted;
-      counted = omega (arith, events_counted t steps i d within is ds after m n seen.image (g.P.Asked.asks c.loop-step.shapes) (g.P.Asked.asks c.happen.new.shapes) devices manager (rw old.kept at e.counted), old.counted);
+      noted = events_noted t steps i d within is ds after m n (g.P.Asked.seen c.loop-step.shapes)
+          (g.P.Asked.seen c.happen.new.shapes) e.devices e.manager e.noted ∙ old.noted;
+      counted =
+          omega (
+            arith,
+            events_counted t steps i d within is ds after m n seen.image (g.P.Asked.asks c.loop-step.shapes)
+                (g.P.Asked.asks c.happen.new.shapes) devices manager (rw old.kept at e.counted),
+            old.counted,
+          );
       kept = e.kept ∙ old.kept;
     }
 
 pub returns-clause-devices : goal.returns-clause-devices
 returns-clause-devices g c =
     let seen = g.P.Asked.seen c.args.shapes.now in
-    let left = none_left c.args.t c.args.steps.now c.loop-step.step-index (c.loop-step.devices, c.loop-step.manager) c.loop-step-test.false in
-    ap (λ (none : Asking Part Content (List Device × Manager)). (outcome none seen.image).0) (sym left) ∙ c.loop-step.invariant.devices
+    let left = none_left c.args.t c.args.steps.now c.loop-step.step-index (
+      c.loop-step.devices,
+      c.loop-step.manager,
+    ) c.loop-step-test.false in
+    ap (λ (none : Asking Part Content (List Device × Manager)). (outcome none seen.image).0) (sym left)
+    ∙ c.loop-step.invariant.devices
 
 pub returns-clause-manager : goal.returns-clause-manager
 returns-clause-manager g c =
     let seen = g.P.Asked.seen c.args.shapes.now in
-    let left = none_left c.args.t c.args.steps.now c.loop-step.step-index (c.loop-step.devices, c.loop-step.manager) c.loop-step-test.false in
-    ap (λ (none : Asking Part Content (List Device × Manager)). (outcome none seen.image).1) (sym left) ∙ c.loop-step.invariant.manager
+    let left = none_left c.args.t c.args.steps.now c.loop-step.step-index (
+      c.loop-step.devices,
+      c.loop-step.manager,
+    ) c.loop-step-test.false in
+    ap (λ (none : Asking Part Content (List Device × Manager)). (outcome none seen.image).1) (sym left)
+    ∙ c.loop-step.invariant.manager
 
 pub returns-clause-noted : goal.returns-clause-noted
 returns-clause-noted g c =
-    none_noted c.args.t c.args.steps.now c.loop-step.step-index (c.loop-step.devices, c.loop-step.manager) c.loop-step-test.false (g.P.Asked.seen c.loop-step.shapes)
+    none_noted c.args.t c.args.steps.now c.loop-step.step-index (
+      c.loop-step.devices,
+      c.loop-step.manager,
+    ) c.loop-step-test.false (g.P.Asked.seen c.loop-step.shapes)
     ∙ c.loop-step.invariant.noted

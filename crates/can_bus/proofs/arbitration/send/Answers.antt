@@ -17,8 +17,10 @@ send-requires-in-None c =
 
 pub returns-in-Some-clause-frame : goal.returns-in-Some-clause-frame
 returns-in-Some-clause-frame c =
-    device_sends c.args.contender.now c.args.devices.now c.in-Some.i c.in-Some.ensures c.args.manager.now c.send.result c.send.ensures.frame
+    device_sends c.args.contender.now c.args.devices.now c.in-Some.i c.in-Some.ensures c.args.manager.now c.send.result
+    c.send.ensures.frame
 
 pub returns-in-None-clause-frame : goal.returns-in-None-clause-frame
 returns-in-None-clause-frame c =
-    manager_sends c.args.contender.now c.args.devices.now c.args.manager.now c.in-None.ensures c.send-in-None.result c.send-in-None.ensures.frame
+    manager_sends c.args.contender.now c.args.devices.now c.args.manager.now c.in-None.ensures c.send-in-None.result
+    c.send-in-None.ensures.frame

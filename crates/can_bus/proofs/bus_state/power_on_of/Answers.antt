@@ -8,5 +8,7 @@ pub returns-clause-state : goal.returns-clause-state
 returns-clause-state g c =
     let same : length c.power_all.new.devices ≡ c.in_ok-devices.devices.len = omega arith in
     rw (c.of.ensures, with_items_is c.in_ok-devices.devices c.power_all.new.devices same, c.none.ensures)
-    (switched_on_is c.args.roster.now (g.P.Asked.seen c.args.parts.now).image c.bit_time.result c.as_mut_slice.result.now c.power_all.new.devices c.in_ok-manager.manager
-    c.bit_time.ensures.time (c.as_mut_slice.ensures.value ∙ c.in_ok-devices.ensures ∙ ap without_power c.as_slice.ensures) c.in_ok-power_all.ensures.state c.in_ok-manager.ensures)
+    (switched_on_is c.args.roster.now (g.P.Asked.seen c.args.parts.now).image c.bit_time.result
+    c.as_mut_slice.result.now c.power_all.new.devices c.in_ok-manager.manager
+    c.bit_time.ensures.time (c.as_mut_slice.ensures.value ∙ c.in_ok-devices.ensures
+    ∙ ap without_power c.as_slice.ensures) c.in_ok-power_all.ensures.state c.in_ok-manager.ensures)

@@ -8,7 +8,8 @@ dues-init g c =
     let image = (g.P.Asked.seen c.args.parts.now).image in
     record {
       before = first_ready c.args.bus.now c.next_due-t.result c.requires.before c.next_due-t.ensures;
-      told = ap (λ ls. c.args.lines.now ++ ls) (first_told image c.args.end c.args.bus.now c.next_due-t.result c.requires.before c.next_due-t.ensures);
+      told = ap (λ ls. c.args.lines.now ++ ls)
+          (first_told image c.args.end c.args.bus.now c.next_due-t.result c.requires.before c.next_due-t.ensures);
       kept = refl;
     }
 
@@ -20,8 +21,11 @@ dues-preserved g c =
     let state = rw old.kept at i.state in
     let told = rw old.kept at i.told in
     record {
-      before = next_ready image c.requires.coherent c.dues.t c.dues.bus c.run_turn.new.bus old.before state c.next_due-t-in-dues.result c.next_due-t-in-dues.ensures;
-      told = next_told image c.requires.coherent c.dues.t c.dues.bus c.run_turn.new.bus old.before state c.args.end c.next_due-t-in-dues.result c.next_due-t-in-dues.ensures c.dues-test.true c.dues.lines c.run_turn.new.lines told ∙ old.told;
+      before = next_ready image c.requires.coherent c.dues.t c.dues.bus c.run_turn.new.bus old.before state
+          c.next_due-t-in-dues.result c.next_due-t-in-dues.ensures;
+      told = next_told image c.requires.coherent c.dues.t c.dues.bus c.run_turn.new.bus old.before state c.args.end
+          c.next_due-t-in-dues.result c.next_due-t-in-dues.ensures c.dues-test.true c.dues.lines c.run_turn.new.lines
+          told ∙ old.told;
       kept = i.kept ∙ old.kept;
     }
 
@@ -30,10 +34,13 @@ dues-smaller g c =
     let image = (g.P.Asked.seen c.args.parts.now).image in
     let old = c.dues.invariant in
     let state = rw old.kept at c.in_ok-run_turn.ensures.state in
-    let later : c.dues.t < c.next_due-t-in-dues.result = next_later image c.requires.coherent c.dues.t c.dues.bus c.run_turn.new.bus old.before state c.next_due-t-in-dues.result c.next_due-t-in-dues.ensures in
+    let later : c.dues.t < c.next_due-t-in-dues.result =
+    next_later image c.requires.coherent c.dues.t c.dues.bus c.run_turn.new.bus old.before state
+    c.next_due-t-in-dues.result c.next_due-t-in-dues.ensures in
     omega (arith, later, c.dues-test.true)
 
 pub returns-clause-told : goal.returns-clause-told
 returns-clause-told g c =
     let image = (g.P.Asked.seen c.args.parts.now).image in
-    sym (append-nil c.dues.lines) ∙ ap (λ ls. c.dues.lines ++ ls) (sym (none_from image c.args.end c.dues.t c.dues.bus c.dues-test.false)) ∙ c.dues.invariant.told
+    sym (append-nil c.dues.lines) ∙ ap (λ ls. c.dues.lines ++ ls)
+    (sym (none_from image c.args.end c.dues.t c.dues.bus c.dues-test.false)) ∙ c.dues.invariant.told

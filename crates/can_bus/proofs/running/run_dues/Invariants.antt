@@ -11,7 +11,8 @@ invariant-dues g l =
     let image = (g.P.Asked.seen l.fn.parts).image in
     record {
       before : IsJustBefore l.t l.bus;
-      told : l.lines ++ told_from image l.end l.t l.bus ≡ l.fn.lines ++ (outcome (turns instant l.end 0 l.fn.bus) image).1;
+      told : l.lines ++ told_from image l.end l.t l.bus
+          ≡ l.fn.lines ++ (outcome (turns instant l.end 0 l.fn.bus) image).1;
       kept : (g.P.Asked.seen l.parts).image ≡ image;
     }
 

@@ -10,6 +10,8 @@ loop-place-preserved c =
     let here = identifier_at c.args.frames.now c.loop-place.place c.index-frames-place.result c.loop-place-test.true in
     let best = identifier_at c.args.frames.now c.loop-place.least c.index-frames-least.result within in
     elim c.if-id.branch [
-      | then-id w ↦ rw w.least-is (least_takes (identifiers c.args.frames.now) c.loop-place.place c.loop-place.least c.loop-place.invariant (omega (arith, here, best, w.if-id.true)))
-      | else-id w ↦ rw w.least-is (least_keeps (identifiers c.args.frames.now) c.loop-place.place c.loop-place.least c.loop-place.invariant (omega (arith, here, best, w.if-id.false)))
+      | then-id w ↦ rw w.least-is (least_takes (identifiers c.args.frames.now) c.loop-place.place c.loop-place.least
+          c.loop-place.invariant (omega (arith, here, best, w.if-id.true)))
+      | else-id w ↦ rw w.least-is (least_keeps (identifiers c.args.frames.now) c.loop-place.place c.loop-place.least
+          c.loop-place.invariant (omega (arith, here, best, w.if-id.false)))
     ]

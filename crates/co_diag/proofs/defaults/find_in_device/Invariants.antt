@@ -4,4 +4,5 @@ use Rattle.co_diag.specs.Found.{unreadable_default}
 use Rattle.co_diag.proofs.defaults.find_in_device.Given as goal
 
 abbrev pub invariant-loop-index : goal.invariant-loop-index
-invariant-loop-index l = l.found.items ≡ l.fn.found.items ++ filter_map (unreadable_default (member_of l.id l.node l.device)) (take l.index-index l.index-items)
+invariant-loop-index l = l.found.items ≡ l.fn.found.items
+    ++ filter_map (unreadable_default (member_of l.id l.node l.device)) (take l.index-index l.index-items)

@@ -10,25 +10,35 @@ loop-id-preserved c =
     let e : ℕ × Node = (c.in-Some.id.now, c.in-Some.node.now) in
     let left : c.loop-id.id-iterator ≡ e ∷ c.next.new.self = search rules in
     record {
-      identifiers = walk_on (of_node (identifiers_by c.args.plan.now) c.args.library.now.project) _ c.loop-id.kept.identifiers.items c.keep_node.new.kept.identifiers.items e c.next.new.self c.loop-id.id-iterator left c.in_ok-keep_node.ensures.identifiers c.loop-id.invariant.identifiers;
-      consumers = walk_on (of_node (consumers_by c.args.plan.now) c.args.library.now.project) _ c.loop-id.kept.consumers.items c.keep_node.new.kept.consumers.items e c.next.new.self c.loop-id.id-iterator left c.in_ok-keep_node.ensures.consumers c.loop-id.invariant.consumers;
-      times = walk_on (of_node (times_by c.args.plan.now) c.args.library.now.project) _ c.loop-id.kept.times.items c.keep_node.new.kept.times.items e c.next.new.self c.loop-id.id-iterator left c.in_ok-keep_node.ensures.times c.loop-id.invariant.times;
+      identifiers = walk_on (of_node (identifiers_by c.args.plan.now) c.args.library.now.project) _
+          c.loop-id.kept.identifiers.items c.keep_node.new.kept.identifiers.items e c.next.new.self
+          c.loop-id.id-iterator left c.in_ok-keep_node.ensures.identifiers c.loop-id.invariant.identifiers;
+      consumers =
+          walk_on (of_node (consumers_by c.args.plan.now) c.args.library.now.project) _ c.loop-id.kept.consumers.items
+          c.keep_node.new.kept.consumers.items e c.next.new.self c.loop-id.id-iterator left
+          c.in_ok-keep_node.ensures.consumers c.loop-id.invariant.consumers;
+      times = walk_on (of_node (times_by c.args.plan.now) c.args.library.now.project) _ c.loop-id.kept.times.items
+          c.keep_node.new.kept.times.items e c.next.new.self c.loop-id.id-iterator left c.in_ok-keep_node.ensures.times
+          c.loop-id.invariant.times;
     }
 
 pub returns-clause-identifiers : goal.returns-clause-identifiers
 returns-clause-identifiers c =
     let ended : c.loop-id.id-iterator ≡ [] = search rules in
-    walk_ends (of_node (identifiers_by c.args.plan.now) c.args.library.now.project) _ c.loop-id.kept.identifiers.items c.loop-id.id-iterator ended c.loop-id.invariant.identifiers
+    walk_ends (of_node (identifiers_by c.args.plan.now) c.args.library.now.project) _ c.loop-id.kept.identifiers.items
+    c.loop-id.id-iterator ended c.loop-id.invariant.identifiers
     ∙ all_members (identifiers_by c.args.plan.now) c.args.library.now.project
 
 pub returns-clause-consumers : goal.returns-clause-consumers
 returns-clause-consumers c =
     let ended : c.loop-id.id-iterator ≡ [] = search rules in
-    walk_ends (of_node (consumers_by c.args.plan.now) c.args.library.now.project) _ c.loop-id.kept.consumers.items c.loop-id.id-iterator ended c.loop-id.invariant.consumers
+    walk_ends (of_node (consumers_by c.args.plan.now) c.args.library.now.project) _ c.loop-id.kept.consumers.items
+    c.loop-id.id-iterator ended c.loop-id.invariant.consumers
     ∙ all_members (consumers_by c.args.plan.now) c.args.library.now.project
 
 pub returns-clause-times : goal.returns-clause-times
 returns-clause-times c =
     let ended : c.loop-id.id-iterator ≡ [] = search rules in
-    walk_ends (of_node (times_by c.args.plan.now) c.args.library.now.project) _ c.loop-id.kept.times.items c.loop-id.id-iterator ended c.loop-id.invariant.times
+    walk_ends (of_node (times_by c.args.plan.now) c.args.library.now.project) _ c.loop-id.kept.times.items
+    c.loop-id.id-iterator ended c.loop-id.invariant.times
     ∙ all_members (times_by c.args.plan.now) c.args.library.now.project

@@ -8,7 +8,10 @@ use Rattle.co_diag.proofs.kept.keep_all.Given as goal
 -- with what is kept of the nodes that are left it is all
 abbrev pub invariant-loop-id : goal.invariant-loop-id
 invariant-loop-id l = record {
-  identifiers : l.kept.identifiers.items ++ flat_map (of_node (identifiers_by l.plan) l.library.project) l.id-iterator ≡ flat_map (of_node (identifiers_by l.plan) l.library.project) (entries l.library.project.nodes);
-  consumers : l.kept.consumers.items ++ flat_map (of_node (consumers_by l.plan) l.library.project) l.id-iterator ≡ flat_map (of_node (consumers_by l.plan) l.library.project) (entries l.library.project.nodes);
-  times : l.kept.times.items ++ flat_map (of_node (times_by l.plan) l.library.project) l.id-iterator ≡ flat_map (of_node (times_by l.plan) l.library.project) (entries l.library.project.nodes);
+  identifiers : l.kept.identifiers.items ++ flat_map (of_node (identifiers_by l.plan) l.library.project) l.id-iterator
+      ≡ flat_map (of_node (identifiers_by l.plan) l.library.project) (entries l.library.project.nodes);
+  consumers : l.kept.consumers.items ++ flat_map (of_node (consumers_by l.plan) l.library.project) l.id-iterator
+      ≡ flat_map (of_node (consumers_by l.plan) l.library.project) (entries l.library.project.nodes);
+  times : l.kept.times.items ++ flat_map (of_node (times_by l.plan) l.library.project) l.id-iterator
+      ≡ flat_map (of_node (times_by l.plan) l.library.project) (entries l.library.project.nodes);
 }

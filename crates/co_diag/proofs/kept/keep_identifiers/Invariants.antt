@@ -3,4 +3,6 @@ use Rattle.co_diag.specs.Configured.{identifier_among}
 use Rattle.co_diag.proofs.kept.keep_identifiers.Given as goal
 
 abbrev pub invariant-loop-index : goal.invariant-loop-index
-invariant-loop-index l = l.identifiers.items ≡ l.fn.identifiers.items ++ filter_map (identifier_among l.device.sections l.values) (take l.index-index l.index-items)
+invariant-loop-index l = l.identifiers.items
+    ≡ l.fn.identifiers.items ++ filter_map (identifier_among l.device.sections l.values)
+    (take l.index-index l.index-items)

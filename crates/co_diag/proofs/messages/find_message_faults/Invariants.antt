@@ -4,4 +4,5 @@ use Rattle.co_diag.specs.Found.{message_faults}
 use Rattle.co_diag.proofs.messages.find_message_faults.Given as goal
 
 abbrev pub invariant-loop-message : goal.invariant-loop-message
-invariant-loop-message l = l.found.items ≡ l.fn.found.items ++ flat_map message_faults (take l.message-index l.message-items)
+invariant-loop-message l = l.found.items
+    ≡ l.fn.found.items ++ flat_map message_faults (take l.message-index l.message-items)

@@ -6,4 +6,5 @@ use Rattle.co_diag.proofs.messages.find_remote_types.Given as goal
 
 -- with those of the messages that are left they are all
 abbrev pub invariant-loop-name : goal.invariant-loop-name
-invariant-loop-name l = l.found.items ++ filter_map remote_type (by_name l.name-iterator) ≡ l.fn.found.items ++ filter_map remote_type (entries l.project.messages)
+invariant-loop-name l = l.found.items ++ filter_map remote_type (by_name l.name-iterator)
+    ≡ l.fn.found.items ++ filter_map remote_type (entries l.project.messages)

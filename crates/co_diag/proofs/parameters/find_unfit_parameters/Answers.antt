@@ -10,11 +10,13 @@ pub loop-id-preserved : goal.loop-id-preserved
 loop-id-preserved c =
     let e : ℕ × Node = (c.in-Some.id.now, c.in-Some.node.now) in
     let left : c.loop-id.id-iterator ≡ e ∷ c.next.new.self = search rules in
-    walk_on (of_node unfit_parameters c.args.library.now.project) _ c.loop-id.found.items c.find_of_node.new.found.items e c.next.new.self c.loop-id.id-iterator left
+    walk_on (of_node unfit_parameters c.args.library.now.project) _ c.loop-id.found.items c.find_of_node.new.found.items
+    e c.next.new.self c.loop-id.id-iterator left
     c.in_ok-find_of_node.ensures c.loop-id.invariant
 
 pub returns : goal.returns
 returns c =
     let ended : c.loop-id.id-iterator ≡ [] = search rules in
-    walk_ends (of_node unfit_parameters c.args.library.now.project) _ c.loop-id.found.items c.loop-id.id-iterator ended c.loop-id.invariant
+    walk_ends (of_node unfit_parameters c.args.library.now.project) _ c.loop-id.found.items c.loop-id.id-iterator ended
+    c.loop-id.invariant
     ∙ ap (λ (ds : List Diag). c.args.found.now.items ++ ds) (all_members unfit_parameters c.args.library.now.project)

@@ -12,5 +12,7 @@ loop-identifier-preserved c = grind (arith, common_steps, filter_map-append)
 pub returns : goal.returns
 returns c =
     c.loop-identifier.invariant
-    ∙ ap (λ (ids : List ℕ). c.args.found.now.items ++ filter_map (shared_among c.of-counts.result.had) ids) (take_all c.loop-identifier.identifier-index c.args.identifiers.now (omega arith))
-    ∙ ap (λ (ds : List Diag). c.args.found.now.items ++ ds) (shared_by_counts c.of-counts.result.had c.args.identifiers.now c.of-counts.ensures)
+    ∙ ap (λ (ids : List ℕ). c.args.found.now.items ++ filter_map (shared_among c.of-counts.result.had) ids)
+    (take_all c.loop-identifier.identifier-index c.args.identifiers.now (omega arith))
+    ∙ ap (λ (ds : List Diag). c.args.found.now.items ++ ds)
+    (shared_by_counts c.of-counts.result.had c.args.identifiers.now c.of-counts.ensures)

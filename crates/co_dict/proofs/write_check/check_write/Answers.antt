@@ -12,27 +12,83 @@ check_value-requires c flag =
     let there : Some c.in_ok-entry.entry.now ≡ get c.args.shape.now.entries place = sym c.in_ok-entry.ensures.entry in
     let bytes : AreBytes c.args.bytes.now = search rules in
     let size : IsOk (length_check c.args.shape.now place (length c.args.bytes.now)) = search rules in
-    fits_passed c.args.shape.now place c.in_ok-entry.entry.now c.args.bytes.now there c.in_ok-entry.ensures.granted size flag bytes
+    fits_passed c.args.shape.now place c.in_ok-entry.entry.now c.args.bytes.now there c.in_ok-entry.ensures.granted size
+    flag bytes
 
 pub returns-in_err-entry-clause-answer : goal.returns-in_err-entry-clause-answer
 returns-in_err-entry-clause-answer c = rw (write_check_in_turn, c.in_err-entry.ensures.refused) (search rules)
 
 pub returns-in_err-check_length_of-clause-answer : goal.returns-in_err-check_length_of-clause-answer
-returns-in_err-check_length_of-clause-answer c = rw (write_check_in_turn, ok_is _ c.in_ok-entry.ensures.granted, ← c.check_length_of.ensures.answer c.args.shape.now (c.args.index, c.args.sub) c.in_ok-entry.ensures.entry, c.in_err-check_length_of.was) (search rules)
+returns-in_err-check_length_of-clause-answer c =
+    rw (
+      write_check_in_turn,
+      ok_is _ c.in_ok-entry.ensures.granted,
+      ← c.check_length_of.ensures.answer c.args.shape.now (c.args.index, c.args.sub) c.in_ok-entry.ensures.entry,
+      c.in_err-check_length_of.was,
+    ) (search rules)
 
 pub returns-in_err-check_value-clause-answer : goal.returns-in_err-check_value-clause-answer
 returns-in_err-check_value-clause-answer c =
-    let size : IsOk (length_check c.args.shape.now (c.args.index, c.args.sub) (length c.args.bytes.now)) = search rules in
-    rw (write_check_in_turn, ok_is _ c.in_ok-entry.ensures.granted, ok_is _ size, ← c.check_value.ensures c.args.shape.now (c.args.index, c.args.sub) c.in_ok-entry.ensures.entry, c.in_err-check_value.was) (search rules)
+    let size : IsOk (length_check c.args.shape.now (c.args.index, c.args.sub) (length c.args.bytes.now)) =
+    search rules in
+    rw (
+      write_check_in_turn,
+      ok_is _ c.in_ok-entry.ensures.granted,
+      ok_is _ size,
+      ← c.check_value.ensures c.args.shape.now (c.args.index, c.args.sub) c.in_ok-entry.ensures.entry,
+      c.in_err-check_value.was,
+    ) (search rules)
 
 pub returns-in_err-check_cob_id-clause-answer : goal.returns-in_err-check_cob_id-clause-answer
-returns-in_err-check_cob_id-clause-answer c = rw (write_check_in_turn, ok_is _ c.in_ok-entry.ensures.granted, ← c.check_length_of.ensures.answer c.args.shape.now (c.args.index, c.args.sub) c.in_ok-entry.ensures.entry, c.in_ok-check_length_of.was, ← c.check_value.ensures c.args.shape.now (c.args.index, c.args.sub) c.in_ok-entry.ensures.entry, c.in_ok-check_value.was, ← c.check_cob_id.ensures, c.in_err-check_cob_id.was) (search rules)
+returns-in_err-check_cob_id-clause-answer c =
+    rw (
+      write_check_in_turn,
+      ok_is _ c.in_ok-entry.ensures.granted,
+      ← c.check_length_of.ensures.answer c.args.shape.now (c.args.index, c.args.sub) c.in_ok-entry.ensures.entry,
+      c.in_ok-check_length_of.was,
+      ← c.check_value.ensures c.args.shape.now (
+        c.args.index,
+        c.args.sub,
+      ) c.in_ok-entry.ensures.entry,
+      c.in_ok-check_value.was,
+      ← c.check_cob_id.ensures,
+      c.in_err-check_cob_id.was,
+    ) (search rules)
 
 pub returns-in_err-check_mapping_object-clause-answer : goal.returns-in_err-check_mapping_object-clause-answer
-returns-in_err-check_mapping_object-clause-answer c = rw (write_check_in_turn, ok_is _ c.in_ok-entry.ensures.granted, ← c.check_length_of.ensures.answer c.args.shape.now (c.args.index, c.args.sub) c.in_ok-entry.ensures.entry, c.in_ok-check_length_of.was, ← c.check_value.ensures c.args.shape.now (c.args.index, c.args.sub) c.in_ok-entry.ensures.entry, c.in_ok-check_value.was, ← c.check_cob_id.ensures, c.in_ok-check_cob_id.was, ← c.check_mapping_object.ensures, c.in_err-check_mapping_object.was) (search rules)
+returns-in_err-check_mapping_object-clause-answer c =
+    rw (
+      write_check_in_turn,
+      ok_is _ c.in_ok-entry.ensures.granted,
+      ← c.check_length_of.ensures.answer c.args.shape.now (c.args.index, c.args.sub) c.in_ok-entry.ensures.entry,
+      c.in_ok-check_length_of.was,
+      ← c.check_value.ensures c.args.shape.now (
+        c.args.index,
+        c.args.sub,
+      ) c.in_ok-entry.ensures.entry,
+      c.in_ok-check_value.was,
+      ← c.check_cob_id.ensures,
+      c.in_ok-check_cob_id.was,
+      ← c.check_mapping_object.ensures,
+      c.in_err-check_mapping_object.was,
+    ) (search rules)
 
 pub returns-clause-answer : goal.returns-clause-answer
-returns-clause-answer c = rw (write_check_in_turn, ok_is _ c.in_ok-entry.ensures.granted, ← c.check_length_of.ensures.answer c.args.shape.now (c.args.index, c.args.sub) c.in_ok-entry.ensures.entry, c.in_ok-check_length_of.was, ← c.check_value.ensures c.args.shape.now (c.args.index, c.args.sub) c.in_ok-entry.ensures.entry, c.in_ok-check_value.was, ← c.check_cob_id.ensures, c.in_ok-check_cob_id.was, ← c.check_mapping_object.ensures, c.in_ok-check_mapping_object.was) c.check_new_count.ensures
+returns-clause-answer c = rw (
+  write_check_in_turn,
+  ok_is _ c.in_ok-entry.ensures.granted,
+  ← c.check_length_of.ensures.answer c.args.shape.now (c.args.index, c.args.sub) c.in_ok-entry.ensures.entry,
+  c.in_ok-check_length_of.was,
+  ← c.check_value.ensures c.args.shape.now (
+    c.args.index,
+    c.args.sub,
+  ) c.in_ok-entry.ensures.entry,
+  c.in_ok-check_value.was,
+  ← c.check_cob_id.ensures,
+  c.in_ok-check_cob_id.was,
+  ← c.check_mapping_object.ensures,
+  c.in_ok-check_mapping_object.was,
+) c.check_new_count.ensures
 
 pub returns-clause-short : goal.returns-clause-short
 returns-clause-short c = any_ok c.check_new_count.result (c.in_ok-check_length_of.ensures.short)

@@ -10,7 +10,8 @@ overflow_cast-result-3 c =
 
 pub returns-clause-moved : goal.returns-clause-moved
 returns-clause-moved c =
-    moved_is c.from.result c.args.length c.args.position c.requires ∙ ap (λ (n : ℕ). 2 ^ c.args.position * (n % 2 ^ c.args.length)) c.from.ensures
+    moved_is c.from.result c.args.length c.args.position c.requires
+    ∙ ap (λ (n : ℕ). 2 ^ c.args.position * (n % 2 ^ c.args.length)) c.from.ensures
 
 pub returns-clause-bound : goal.returns-clause-bound
 returns-clause-bound c =

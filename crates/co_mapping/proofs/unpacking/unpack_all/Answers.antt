@@ -6,7 +6,12 @@ use Rattle.co_mapping.proofs.UnpackLemmas.{entries_end, entry_next}
 use Rattle.co_mapping.proofs.unpacking.unpack_all.Goals as goal
 
 pub unpack_entry-requires : goal.unpack_entry-requires
-unpack_entry-requires c = omega (arith, bits_left c.args.mapping.now c.loop-entry.entry-index 0 c.loop-entry-test.true, c.loop-entry.invariant.length, c.requires)
+unpack_entry-requires c = omega (
+  arith,
+  bits_left c.args.mapping.now c.loop-entry.entry-index 0 c.loop-entry-test.true,
+  c.loop-entry.invariant.length,
+  c.requires,
+)
 
 pub loop-entry-preserved : goal.loop-entry-preserved
 loop-entry-preserved c =
@@ -19,10 +24,16 @@ loop-entry-preserved c =
     let next = entry_next turn c.args.mapping.now bits c.loop-entry.dict i position c.loop-entry-test.true in
     record {
       all = ap (λ (n : ℕ). after_entries turn (position + n) rest bits c.unpack_entry.new.dict) count
-          ∙ ap (after_entries turn (position + mapped_length (get_or c.args.mapping.now i 0)) rest bits) c.in_ok-_written.ensures.ok
+          ∙ ap (after_entries turn (position + mapped_length (get_or c.args.mapping.now i 0)) rest bits)
+          c.in_ok-_written.ensures.ok
           ∙ sym next
           ∙ c.loop-entry.invariant.all;
-      length = omega (arith, bits_left c.args.mapping.now i 0 c.loop-entry-test.true, count, c.loop-entry.invariant.length);
+      length = omega (
+        arith,
+        bits_left c.args.mapping.now i 0 c.loop-entry-test.true,
+        count,
+        c.loop-entry.invariant.length,
+      );
     }
 
 pub returns : goal.returns

@@ -8,6 +8,7 @@ abbrev pub invariant-loop-entry : goal.invariant-loop-entry
 invariant-loop-entry l =
     let rest = drop l.entry-index l.mapping in
     record {
-      all : after_entries (with_bits l.shape) l.position rest (frame_bits l.bytes) l.dict ≡ unpacked l.shape l.mapping l.bytes l.fn.dict;
+      all : after_entries (with_bits l.shape) l.position rest (frame_bits l.bytes) l.dict
+          ≡ unpacked l.shape l.mapping l.bytes l.fn.dict;
       length : l.position + mapping_bits rest ≡ mapping_bits l.mapping;
     }

@@ -10,10 +10,21 @@ loop-index-preserved c = grind (arith, common_steps, filter_map-append)
 
 pub returns-clause-sizes : goal.returns-clause-sizes
 returns-clause-sizes c =
-    let all = all_taken c.args.device.now.sections c.args.params.now c.args.node c.loop-index.writes.items c.pairs-index-items.result.now c.loop-index.index-index c.loop-index.invariant.0 c.pairs-index-items.ensures.pairs (omega arith) in
-    subst (λ (ws : List Write). All (λ w. (1 ≤ length w.bytes) × (length w.bytes ≤ 512)) ws) (sym all) (writes_sized c.args.device.now.sections c.args.params.now c.args.node)
+    let all = all_taken c.args.device.now.sections c.args.params.now c.args.node c.loop-index.writes.items
+    c.pairs-index-items.result.now c.loop-index.index-index c.loop-index.invariant.0
+    c.pairs-index-items.ensures.pairs (omega arith) in
+    subst (λ (ws : List Write). All (λ w. (1 ≤ length w.bytes) × (length w.bytes ≤ 512)) ws) (sym all)
+    (writes_sized c.args.device.now.sections c.args.params.now c.args.node)
 
 pub returns-clause-count : goal.returns-clause-count
 returns-clause-count c =
-    let all = all_taken c.args.device.now.sections c.args.params.now c.args.node c.loop-index.writes.items c.pairs-index-items.result.now c.loop-index.index-index c.loop-index.invariant.0 c.pairs-index-items.ensures.pairs (omega arith) in
-    omega (arith, ap (λ (ws : List Write). length ws) all, writes_few c.args.device.now.sections c.args.params.now c.args.node, ap length c.pairs-index-items.ensures.pairs, c.pairs-index-items.ensures.bound)
+    let all = all_taken c.args.device.now.sections c.args.params.now c.args.node c.loop-index.writes.items
+    c.pairs-index-items.result.now c.loop-index.index-index c.loop-index.invariant.0
+    c.pairs-index-items.ensures.pairs (omega arith) in
+    omega (
+      arith,
+      ap (λ (ws : List Write). length ws) all,
+      writes_few c.args.device.now.sections c.args.params.now c.args.node,
+      ap length c.pairs-index-items.ensures.pairs,
+      c.pairs-index-items.ensures.bound,
+    )

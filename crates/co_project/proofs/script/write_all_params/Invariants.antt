@@ -6,4 +6,5 @@ use Rattle.co_project.specs.Script.{param_edits}
 use Rattle.co_project.proofs.script.write_all_params.Given as goal
 
 abbrev pub invariant-loop-id : goal.invariant-loop-id
-invariant-loop-id l = l.out.items ++ flat_map text_of (flat_map param_edits l.id-iterator) ≡ l.fn.out.items ++ flat_map text_of (flat_map param_edits (entries l.nodes))
+invariant-loop-id l = l.out.items ++ flat_map text_of (flat_map param_edits l.id-iterator)
+    ≡ l.fn.out.items ++ flat_map text_of (flat_map param_edits (entries l.nodes))

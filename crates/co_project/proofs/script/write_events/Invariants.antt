@@ -6,4 +6,5 @@ use Rattle.co_project.specs.Script.{event_edit}
 use Rattle.co_project.proofs.script.write_events.Given as goal
 
 abbrev pub invariant-loop-number : goal.invariant-loop-number
-invariant-loop-number l = l.out.items ++ flat_map text_of (map event_edit l.number-iterator) ≡ l.fn.out.items ++ flat_map text_of (map event_edit (entries l.events))
+invariant-loop-number l = l.out.items ++ flat_map text_of (map event_edit l.number-iterator)
+    ≡ l.fn.out.items ++ flat_map text_of (map event_edit (entries l.events))

@@ -25,7 +25,9 @@ loop-name-preserved c =
     record {
       whole =
           message_written out c.write_linked.new.out.items m (by_name c.next.new.self)
-          (c.in_ok-write_linked.ensures ∙ ap (λ name. out ++ flat_map text_of (message_edits (name, m.1))) c.deref.ensures.value)
-          ∙ ap (λ (ms : List (List ℕ × Linked)). out ++ flat_map text_of (flat_map message_edits ms)) (sym left) ∙ c.loop-name.invariant.whole;
+          (c.in_ok-write_linked.ensures
+          ∙ ap (λ name. out ++ flat_map text_of (message_edits (name, m.1))) c.deref.ensures.value)
+          ∙ ap (λ (ms : List (List ℕ × Linked)). out ++ flat_map text_of (flat_map message_edits ms)) (sym left)
+          ∙ c.loop-name.invariant.whole;
       rest = All-tail OfLinked m (by_name c.next.new.self) (subst (All OfLinked) left c.loop-name.invariant.rest);
     }

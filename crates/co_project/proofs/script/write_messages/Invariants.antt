@@ -9,6 +9,7 @@ use Rattle.co_project.proofs.script.write_messages.Given as goal
 -- what is written and what the rest has is the whole, and the rest keeps to the limits of messages
 abbrev pub invariant-loop-name : goal.invariant-loop-name
 invariant-loop-name l = record {
-  whole : l.out.items ++ flat_map text_of (flat_map message_edits (by_name l.name-iterator)) ≡ l.fn.out.items ++ flat_map text_of (flat_map message_edits (entries l.messages));
+  whole : l.out.items ++ flat_map text_of (flat_map message_edits (by_name l.name-iterator))
+      ≡ l.fn.out.items ++ flat_map text_of (flat_map message_edits (entries l.messages));
   rest : All (λ e. IsLinked e.1) (by_name l.name-iterator);
 }

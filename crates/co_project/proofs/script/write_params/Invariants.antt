@@ -6,4 +6,5 @@ use Rattle.co_project.specs.Script.{param_edit}
 use Rattle.co_project.proofs.script.write_params.Given as goal
 
 abbrev pub invariant-loop-index : goal.invariant-loop-index
-invariant-loop-index l = l.out.items ++ flat_map text_of (map (param_edit l.id) l.index-iterator) ≡ l.fn.out.items ++ flat_map text_of (map (param_edit l.id) (entries l.params))
+invariant-loop-index l = l.out.items ++ flat_map text_of (map (param_edit l.id) l.index-iterator)
+    ≡ l.fn.out.items ++ flat_map text_of (map (param_edit l.id) (entries l.params))

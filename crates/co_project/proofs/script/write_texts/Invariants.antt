@@ -7,4 +7,5 @@ use Rattle.co_project.specs.Tables.{texts_of}
 use Rattle.co_project.proofs.script.write_texts.Given as goal
 
 abbrev pub invariant-loop-name : goal.invariant-loop-name
-invariant-loop-name l = l.out.items ++ flat_map text_of (map text_edit (texts_of l.name-iterator)) ≡ l.fn.out.items ++ flat_map text_of (map text_edit (entries l.texts))
+invariant-loop-name l = l.out.items ++ flat_map text_of (map text_edit (texts_of l.name-iterator))
+    ≡ l.fn.out.items ++ flat_map text_of (map text_edit (entries l.texts))

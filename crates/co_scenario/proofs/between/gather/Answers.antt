@@ -8,7 +8,8 @@ pub loop-number-preserved-in_ok-insert : goal.loop-number-preserved-in_ok-insert
 loop-number-preserved-in_ok-insert c =
     let e : ℕ × TimedEvent = (c.in-Some.number.now, c.in-Some.event.now) in
     let left : c.loop-number.number-iterator ≡ e ∷ c.next.new.self = c.in-Some.ensures.steps in
-    one_put c.args.first c.args.last e _ _ _ _ left (sym c.if-lies_between.ensures) (made_put moments_total moments_exact _ _ (e.1.time, e.0) tt c.in_ok-insert.ensures.updates.0)
+    one_put c.args.first c.args.last e _ _ _ _ left (sym c.if-lies_between.ensures)
+    (made_put moments_total moments_exact _ _ (e.1.time, e.0) tt c.in_ok-insert.ensures.updates.0)
     ∙ c.loop-number.invariant
 
 pub loop-number-preserved : goal.loop-number-preserved

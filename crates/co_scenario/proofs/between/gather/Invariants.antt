@@ -6,4 +6,5 @@ use Rattle.co_scenario.proofs.between.gather.Given as goal
 -- the events that are left, put to those that are there, are all
 abbrev pub invariant-loop-number : goal.invariant-loop-number
 invariant-loop-number l =
-    put_moments l.fn.first l.fn.last l.number-iterator (from_entries l.moments.entries) ≡ put_moments l.fn.first l.fn.last (entries l.fn.script) empty
+    put_moments l.fn.first l.fn.last l.number-iterator (from_entries l.moments.entries)
+    ≡ put_moments l.fn.first l.fn.last (entries l.fn.script) empty

@@ -13,8 +13,11 @@ returns-in-Err-clause-write g c = (
 pub returns-then-taken-eq0-clause-write : goal.returns-then-taken-eq0-clause-write
 returns-then-taken-eq0-clause-write g c = (
   refl,
-  rw c.loop-at.invariant.2 at (took_none _ _ c.in-Ok.taken _ c.if-taken-eq0.true (rw (slice-from c.args.text.now c.loop-at.at) (omega (arith, c.loop-at-test.true, length-drop c.loop-at.at c.args.text.now))) c.in-Ok.ensures.failed),
-  Took-take _ _ c.args.text.now _ (Appends-more _ _ _ c.args.text.now c.loop-at.at c.in-Ok.taken c.loop-at.invariant.1 c.in-Ok.ensures.bytes),
+  rw c.loop-at.invariant.2 at (took_none _ _ c.in-Ok.taken _ c.if-taken-eq0.true
+      (rw (slice-from c.args.text.now c.loop-at.at)
+      (omega (arith, c.loop-at-test.true, length-drop c.loop-at.at c.args.text.now))) c.in-Ok.ensures.failed),
+  Took-take _ _ c.args.text.now _ (Appends-more _ _ _ c.args.text.now c.loop-at.at c.in-Ok.taken c.loop-at.invariant.1
+      c.in-Ok.ensures.bytes),
 )
 
 pub loop-at-preserved : goal.loop-at-preserved

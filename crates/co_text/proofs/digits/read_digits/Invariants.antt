@@ -4,4 +4,5 @@ use Rattle.co_text.proofs.Capped.{digits_behind}
 use Rattle.co_text.proofs.digits.read_digits.Given as goal
 
 abbrev pub invariant-loop-byte : goal.invariant-loop-byte
-invariant-loop-byte l = (l.number ≤ 2 ^ 64) × (capped (digits_behind l.base l.number (drop l.byte-index l.text)) ≡ capped (digits_number l.base l.text))
+invariant-loop-byte l = (l.number ≤ 2 ^ 64)
+    × (capped (digits_behind l.base l.number (drop l.byte-index l.text)) ≡ capped (digits_number l.base l.text))

@@ -7,4 +7,5 @@ use Rattle.co_values.proofs.little.from_le.Goals as goal
 
 pub returns-clause-back : goal.returns-clause-back
 returns-clause-back c =
-    ap (little_bytes 8) c.read_u64.ensures ∙ spelled_again 8 c.args.bytes (search rules) (λ i. search rules) ∙ take_all 8 c.args.bytes (search rules)
+    ap (little_bytes 8) c.read_u64.ensures ∙ spelled_again 8 c.args.bytes (search rules) (λ i. search rules)
+    ∙ take_all 8 c.args.bytes (search rules)

@@ -8,7 +8,8 @@ use Rattle.co_values.proofs.reading.are_pairs.Goals as goal
 pub returns-then-text : goal.returns-then-text
 returns-then-text c =
     let fits : nat_le (length c.args.text.now) 1024 ≡ true = le-leb _ _ c.if-text.true in
-    c.is_paired.ensures ∙ sym (is_some-short c.args.text.now ∙ ap (λ (b : Bool). b && is_some (paired c.args.text.now)) fits)
+    c.is_paired.ensures ∙ sym (is_some-short c.args.text.now
+    ∙ ap (λ (b : Bool). b && is_some (paired c.args.text.now)) fits)
 
 pub returns-else-text : goal.returns-else-text
 returns-else-text c =

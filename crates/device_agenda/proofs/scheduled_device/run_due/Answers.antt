@@ -8,4 +8,5 @@ returns-clause-rests c = rw c.in_ok-on_instant.ensures.state (ran_rests c.args.t
 
 pub returns-clause-unspent : goal.returns-clause-unspent
 returns-clause-unspent c =
-    rw c.in_ok-on_instant.ensures.state ((instant_stays c.args.t c.args.device.now).spent ∙ sym c.spent.ensures ∙ c.if-spent.false)
+    rw c.in_ok-on_instant.ensures.state ((instant_stays c.args.t c.args.device.now).spent ∙ sym c.spent.ensures
+    ∙ c.if-spent.false)

@@ -1,7 +1,7 @@
 use Rattle.std.proofs.Common.{◌≡◌, ℕ, ◌<◌, false, drop}
 use Rattle.std.specs.List.{list_any}
 use Rattle.can_frame.specs.Identifiers.{error_control_id}
-use Rattle.co_profile.specs.Consumers.{expects}
+use Rattle.device_objects.specs.Consumers.{expects}
 use Rattle.device_agenda.specs.Groups.{Extends, includes}
 use Rattle.device_agenda.proofs.stirring.with_producers.Given as goal
 
@@ -9,4 +9,6 @@ use Rattle.device_agenda.proofs.stirring.with_producers.Given as goal
 abbrev pub invariant-loop-consumer : goal.invariant-loop-consumer
 invariant-loop-consumer l =
     Extends l.fn.groups l.groups
-    × ((producer : ℕ) → producer < 0x100 → includes l.groups (error_control_id producer) ≡ false → list_any (λ c. expects producer c.entry) (drop l.consumer-index l.consumers) ≡ false → list_any (λ c. expects producer c.entry) l.fn.consumers ≡ false)
+    × ((producer : ℕ) → producer < 0x100 → includes l.groups (error_control_id producer) ≡ false
+    → list_any (λ c. expects producer c.entry) (drop l.consumer-index l.consumers) ≡ false
+    → list_any (λ c. expects producer c.entry) l.fn.consumers ≡ false)

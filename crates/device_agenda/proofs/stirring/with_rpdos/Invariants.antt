@@ -8,4 +8,6 @@ use Rattle.device_agenda.proofs.stirring.with_rpdos.Given as goal
 abbrev pub invariant-loop-rpdo : goal.invariant-loop-rpdo
 invariant-loop-rpdo l =
     Extends l.fn.groups l.groups
-    × ((id : ℕ) → id < 0x800 → includes l.groups id ≡ false → list_any (λ p. has_identifier id p.configuration) (drop l.rpdo-index l.rpdos) ≡ false → list_any (λ p. has_identifier id p.configuration) l.fn.rpdos ≡ false)
+    × ((id : ℕ) → id < 0x800 → includes l.groups id ≡ false
+    → list_any (λ p. has_identifier id p.configuration) (drop l.rpdo-index l.rpdos) ≡ false
+    → list_any (λ p. has_identifier id p.configuration) l.fn.rpdos ≡ false)

@@ -6,4 +6,6 @@ use Rattle.eds_dcf.specs.Commissioning.{others_beside}
 use Rattle.eds_dcf.proofs.commissioning.put_others_beside.Given as goal
 
 abbrev pub invariant-loop-pair : goal.invariant-loop-pair
-invariant-loop-pair l = l.out.items ≡ l.fn.out.items ++ flat_map pair_text (others_beside (option_map_or (λ s. s.pairs) (option_copied l.first) []) (take l.pair-index l.pairs))
+invariant-loop-pair l = l.out.items ≡ l.fn.out.items
+    ++ flat_map pair_text (others_beside (option_map_or (λ s. s.pairs) (option_copied l.first) [])
+    (take l.pair-index l.pairs))

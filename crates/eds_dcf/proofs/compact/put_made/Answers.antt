@@ -10,19 +10,24 @@ use Rattle.eds_dcf.proofs.compact.put_made.Goals as goal
 pub returns-then-is_some : goal.returns-then-is_some
 returns-then-is_some c =
     nothing_more _ _ (not_made_beside c.args.device.now.sections (get c.args.values.now) c.args.index
-    (sym (ap is_some c.values_section.ensures) ∙ is_some_copied c.values_section.result ∙ sym c.is_some.ensures ∙ c.if-is_some.true))
+    (sym (ap is_some c.values_section.ensures) ∙ is_some_copied c.values_section.result ∙ sym c.is_some.ensures
+    ∙ c.if-is_some.true))
 
 pub returns-in_default : goal.returns-in_default
 returns-in_default c =
     nothing_more _ _ (not_made_of_others c.args.device.now.sections (get c.args.values.now) c.args.index
-    (sym (ap is_some c.values_section.ensures) ∙ is_some_copied c.values_section.result ∙ sym c.is_some.ensures ∙ c.if-is_some.false)
+    (sym (ap is_some c.values_section.ensures) ∙ is_some_copied c.values_section.result ∙ sym c.is_some.ensures
+    ∙ c.if-is_some.false)
     (sym c.compact_object.ensures ∙ ap (option_map (λ object. (object.0.now, object.1))) c.in_default.is))
 
 pub returns : goal.returns
 returns c =
     c.in_ok-put_new.ensures
-    ∙ ap (λ set. c.args.out.now.items ++ flat_map section_text (option_to_list (new_values c.args.index set))) (c.as_slice.ensures.value ∙ c.in_ok-set.ensures)
+    ∙ ap (λ set. c.args.out.now.items ++ flat_map section_text (option_to_list (new_values c.args.index set)))
+    (c.as_slice.ensures.value ∙ c.in_ok-set.ensures)
     ∙ ap (λ o. c.args.out.now.items ++ flat_map section_text (option_to_list o))
-    (made_of_compact c.args.device.now.sections (get c.args.values.now) c.args.index c.in-Some.field-0-0.now c.in-Some.highest
-    (sym (ap is_some c.values_section.ensures) ∙ is_some_copied c.values_section.result ∙ sym c.is_some.ensures ∙ c.if-is_some.false)
+    (made_of_compact c.args.device.now.sections (get c.args.values.now) c.args.index c.in-Some.field-0-0.now
+    c.in-Some.highest
+    (sym (ap is_some c.values_section.ensures) ∙ is_some_copied c.values_section.result ∙ sym c.is_some.ensures
+    ∙ c.if-is_some.false)
     (sym c.compact_object.ensures ∙ ap (option_map (λ object. (object.0.now, object.1))) c.in-Some.is))

@@ -6,4 +6,5 @@ pub returns-clause-sections : goal.returns-clause-sections
 returns-clause-sections c = λ ss params node name bitrate outside. carried ss params node name bitrate outside
 
 pub returns-clause-text : goal.returns-clause-text
-returns-clause-text c = λ ss params node name bitrate printable label lines outside. carried_text ss params node name bitrate printable label lines outside
+returns-clause-text c = λ ss params node name bitrate printable label lines outside. carried_text ss params node name
+    bitrate printable label lines outside

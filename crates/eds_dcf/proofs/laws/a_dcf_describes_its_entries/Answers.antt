@@ -5,4 +5,5 @@ pub returns-clause-entries : goal.returns-clause-entries
 returns-clause-entries c = λ ss node name bitrate writes. dcf_pairs ss node name bitrate writes
 
 pub returns-clause-described : goal.returns-clause-described
-returns-clause-described c = λ ss node name bitrate writes index sub. dcf_described ss node name bitrate writes index sub
+returns-clause-described c = λ ss node name bitrate writes index sub. dcf_described ss node name bitrate writes index
+    sub

@@ -7,4 +7,5 @@ use Rattle.eds_dcf.proofs.text.put_sections.Given as goal
 
 abbrev pub invariant-loop-section : goal.invariant-loop-section
 invariant-loop-section l =
-    l.out.items ≡ l.fn.out.items ++ text_of (map (with_values l.device.sections (get l.values)) (filter (λ s. not (is_commissioning s.name)) (take l.section-index l.section-items)))
+    l.out.items ≡ l.fn.out.items ++ text_of (map (with_values l.device.sections (get l.values))
+    (filter (λ s. not (is_commissioning s.name)) (take l.section-index l.section-items)))

@@ -19,22 +19,28 @@ pub returns-in-Some : goal.returns-in-Some
 returns-in-Some c =
     let place : ℕ × ℕ = (c.in-Some.index, c.in-Some.sub) in
     c.in_ok-put_entry.ensures
-    ∙ ap (λ (pairs : List Pair). c.args.out.now.items ++ section_text (record { name = c.args.section.now.name; pairs = pairs }))
+    ∙ ap (λ (pairs : List Pair). c.args.out.now.items
+    ++ section_text (record { name = c.args.section.now.name; pairs = pairs }))
     (with_parameter c.args.device.now.sections (get c.args.values.now) c.args.section.now place c.kind.result _
-    (sym (ap (parameter_place c.args.device.now.sections) c.name.ensures) ∙ sym c.parameter_place.ensures ∙ c.in-Some.is) c.kind.ensures c.read.ensures.value)
+    (sym (ap (parameter_place c.args.device.now.sections) c.name.ensures) ∙ sym c.parameter_place.ensures
+    ∙ c.in-Some.is) c.kind.ensures c.read.ensures.value)
 
 pub returns-in-Some-values_named : goal.returns-in-Some-values_named
 returns-in-Some-values_named c =
     c.in_ok-put_values_section.ensures
-    ∙ ap (λ (pairs : List Pair). c.args.out.now.items ++ section_text (record { name = c.args.section.now.name; pairs = pairs }))
+    ∙ ap (λ (pairs : List Pair). c.args.out.now.items
+    ++ section_text (record { name = c.args.section.now.name; pairs = pairs }))
     (with_compact c.args.device.now.sections (get c.args.values.now) c.args.section.now c.in-Some-values_named.index
-    (sym (ap (parameter_place c.args.device.now.sections) c.name.ensures) ∙ sym c.parameter_place.ensures ∙ c.in_default.is)
+    (sym (ap (parameter_place c.args.device.now.sections) c.name.ensures) ∙ sym c.parameter_place.ensures
+    ∙ c.in_default.is)
     (sym (ap values_named c.name-2.ensures) ∙ sym c.values_named.ensures ∙ c.in-Some-values_named.is))
 
 pub returns : goal.returns
 returns c =
     c.in_ok-put_section.ensures
-    ∙ ap (λ (pairs : List Pair). c.args.out.now.items ++ section_text (record { name = c.args.section.now.name; pairs = pairs }))
+    ∙ ap (λ (pairs : List Pair). c.args.out.now.items
+    ++ section_text (record { name = c.args.section.now.name; pairs = pairs }))
     (with_none c.args.device.now.sections (get c.args.values.now) c.args.section.now
-    (sym (ap (parameter_place c.args.device.now.sections) c.name.ensures) ∙ sym c.parameter_place.ensures ∙ c.in_default.is)
+    (sym (ap (parameter_place c.args.device.now.sections) c.name.ensures) ∙ sym c.parameter_place.ensures
+    ∙ c.in_default.is)
     (sym (ap values_named c.name-2.ensures) ∙ sym c.values_named.ensures ∙ c.in_default-values_named.is))

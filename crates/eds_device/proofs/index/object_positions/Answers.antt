@@ -9,6 +9,7 @@ loop-position-init c = no_sections nat_cmp (λ key s. is_index key (index_named 
 
 pub loop-position-preserved : goal.loop-position-preserved
 loop-position-preserved c =
-    one_more nat_cmp (λ key s. is_index key (index_named s.name)) _ _ _ _ c.index-sections-position.result c.loop-position-test.true c.index-sections-position.is
+    one_more nat_cmp (λ key s. is_index key (index_named s.name)) _ _ _ _ c.index-sections-position.result
+    c.loop-position-test.true c.index-sections-position.is
     (rw (c.index_named.ensures, c.name.ensures) at c.in_ok-note_index.ensures)
     c.loop-position.invariant

@@ -6,4 +6,5 @@ use Rattle.eds_device.specs.Index.{FindsFirsts}
 use Rattle.eds_device.proofs.index.object_positions.Given as goal
 
 abbrev pub invariant-loop-position : goal.invariant-loop-position
-invariant-loop-position l = FindsFirsts nat_cmp (λ key s. is_index key (index_named s.name)) l.table.entries l.sections (take l.position l.sections)
+invariant-loop-position l = FindsFirsts nat_cmp (λ key s. is_index key (index_named s.name)) l.table.entries l.sections
+    (take l.position l.sections)

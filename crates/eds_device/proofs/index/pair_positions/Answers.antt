@@ -6,10 +6,12 @@ use Rattle.eds_device.proofs.IndexLemmas.{no_sections, one_more}
 use Rattle.eds_device.proofs.index.pair_positions.Goals as goal
 
 pub loop-position-init : goal.loop-position-init
-loop-position-init c = no_sections nat_cmp (λ key (p : Pair). is_index key (sub_listed p.key)) _ _ c.new-table.ensures.empty
+loop-position-init c =
+    no_sections nat_cmp (λ key (p : Pair). is_index key (sub_listed p.key)) _ _ c.new-table.ensures.empty
 
 pub loop-position-preserved : goal.loop-position-preserved
 loop-position-preserved c =
-    one_more nat_cmp (λ key (p : Pair). is_index key (sub_listed p.key)) _ _ _ _ c.index-pairs-position.result c.loop-position-test.true c.index-pairs-position.is
+    one_more nat_cmp (λ key (p : Pair). is_index key (sub_listed p.key)) _ _ _ _ c.index-pairs-position.result
+    c.loop-position-test.true c.index-pairs-position.is
     (rw (c.sub_listed.ensures, c.key.ensures) at c.in_ok-note_sub.ensures)
     c.loop-position.invariant

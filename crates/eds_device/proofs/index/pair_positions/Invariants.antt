@@ -7,4 +7,5 @@ use Rattle.eds_device.specs.Origins.{is_index}
 use Rattle.eds_device.proofs.index.pair_positions.Given as goal
 
 abbrev pub invariant-loop-position : goal.invariant-loop-position
-invariant-loop-position l = FindsFirsts nat_cmp (λ key (p : Pair). is_index key (sub_listed p.key)) l.table.entries l.pairs (take l.position l.pairs)
+invariant-loop-position l = FindsFirsts nat_cmp (λ key (p : Pair). is_index key (sub_listed p.key)) l.table.entries
+    l.pairs (take l.position l.pairs)

@@ -9,6 +9,7 @@ loop-position-init c = no_sections place_cmp (λ key s. is_place key (place_name
 
 pub loop-position-preserved : goal.loop-position-preserved
 loop-position-preserved c =
-    one_more place_cmp (λ key s. is_place key (place_named s.name)) _ _ _ _ c.index-sections-position.result c.loop-position-test.true c.index-sections-position.is
+    one_more place_cmp (λ key s. is_place key (place_named s.name)) _ _ _ _ c.index-sections-position.result
+    c.loop-position-test.true c.index-sections-position.is
     (rw (c.place_named.ensures, c.name.ensures) at c.in_ok-note_place.ensures)
     c.loop-position.invariant

@@ -6,4 +6,5 @@ use Rattle.eds_device.specs.Index.{FindsFirsts}
 use Rattle.eds_device.proofs.index.sub_positions.Given as goal
 
 abbrev pub invariant-loop-position : goal.invariant-loop-position
-invariant-loop-position l = FindsFirsts place_cmp (λ key s. is_place key (place_named s.name)) l.table.entries l.sections (take l.position l.sections)
+invariant-loop-position l = FindsFirsts place_cmp (λ key s. is_place key (place_named s.name)) l.table.entries
+    l.sections (take l.position l.sections)

@@ -10,10 +10,12 @@ loop-position-init c = none_listed _ _ c.new-table.ensures.empty
 pub loop-position-preserved : goal.loop-position-preserved
 loop-position-preserved c =
     let listed : Listed = record { position = c.loop-position.position; pairs = c.in_ok-pairs.pairs } in
-    more_listed _ _ listed c.in-Some.index c.args.sections.now c.index-sections-position.result c.loop-position-test.true c.index-sections-position.is
+    more_listed _ _ listed c.in-Some.index c.args.sections.now c.index-sections-position.result
+    c.loop-position-test.true c.index-sections-position.is
     (ap values_named (sym c.name.ensures) ∙ sym c.in-Some.ensures)
     (rw c.pairs.ensures at c.in_ok-pairs.ensures) c.in_ok-note_values.ensures c.loop-position.invariant
 
 pub loop-position-preserved-in_default : goal.loop-position-preserved-in_default
 loop-position-preserved-in_default c =
-    more_unlisted _ _ _ _ c.loop-position-test.true c.index-sections-position.is (ap values_named (sym c.name.ensures) ∙ sym c.in_default.ensures) c.loop-position.invariant
+    more_unlisted _ _ _ _ c.loop-position-test.true c.index-sections-position.is (ap values_named (sym c.name.ensures)
+    ∙ sym c.in_default.ensures) c.loop-position.invariant

@@ -3,4 +3,5 @@ use Rattle.eds_device.proofs.NameLemmas.{four_digits}
 use Rattle.eds_device.proofs.name.index_named.Goals as goal
 
 pub overflow_cast-result : goal.overflow_cast-result
-overflow_cast-result c = omega (arith, four_digits (length c.args.name.now) c.in_ok-index.index (omega arith) c.in_ok-index.ensures.bound)
+overflow_cast-result c =
+    omega (arith, four_digits (length c.args.name.now) c.in_ok-index.index (omega arith) c.in_ok-index.ensures.bound)

@@ -3,4 +3,5 @@ use Rattle.eds_device.proofs.NameLemmas.{two_digits}
 use Rattle.eds_device.proofs.name.sub_named.Goals as goal
 
 pub overflow_cast-result : goal.overflow_cast-result
-overflow_cast-result c = omega (arith, two_digits (length c.args.digits.now) c.in_ok-sub.sub (omega arith) c.in_ok-sub.ensures.bound)
+overflow_cast-result c =
+    omega (arith, two_digits (length c.args.digits.now) c.in_ok-sub.sub (omega arith) c.in_ok-sub.ensures.bound)

@@ -5,4 +5,5 @@ use Rattle.eds_device.specs.Places.{places_given, put_in_order}
 use Rattle.eds_device.proofs.places.places_of.Given as goal
 
 abbrev pub invariant-loop-section : goal.invariant-loop-section
-invariant-loop-section l = (l.places.keys ≡ put_in_order [] (flat_map places_given (take l.section-index l.sections))) × (length l.places.keys ≤ most_entries)
+invariant-loop-section l = (l.places.keys ≡ put_in_order [] (flat_map places_given (take l.section-index l.sections)))
+    × (length l.places.keys ≤ most_entries)

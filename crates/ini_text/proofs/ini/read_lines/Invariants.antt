@@ -8,7 +8,8 @@ use Rattle.ini_text.proofs.ini.read_lines.Given as goal
 abbrev pub invariant-lines : goal.invariant-lines
 invariant-lines l = record {
   folded : AreFolded (λ (s : Section). s.name) l.sections.entries;
-  runs : run (state_of (values l.sections) l.warnings.items l.current l.count) (line_list l.rest) ≡ run start (line_list l.text);
+  runs : run (state_of (values l.sections) l.warnings.items l.current l.count) (line_list l.rest)
+      ≡ run start (line_list l.text);
   counts : l.count + length l.rest ≤ length l.text;
 }
 

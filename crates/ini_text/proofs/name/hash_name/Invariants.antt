@@ -4,4 +4,5 @@ use Rattle.ini_text.specs.Content.{folded}
 use Rattle.ini_text.proofs.name.hash_name.Given as goal
 
 abbrev pub invariant-loop-byte : goal.invariant-loop-byte
-invariant-loop-byte g l = l.state ≡ fold g.H.Hasher.write l.initial.state (flat_map fed.u8 (folded (take l.byte-index l.name)))
+invariant-loop-byte g l = l.state
+    ≡ fold g.H.Hasher.write l.initial.state (flat_map fed.u8 (folded (take l.byte-index l.name)))

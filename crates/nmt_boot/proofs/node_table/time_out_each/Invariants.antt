@@ -4,7 +4,10 @@ use Rattle.nmt_boot.proofs.node_table.time_out_each.Given as goal
 
 abbrev pub invariant-loop-node : goal.invariant-loop-node
 invariant-loop-node l = record {
-  state : take l.node-index l.nodes ++ map (node_after l.fn.t) (drop l.node-index l.nodes) ≡ map (node_after l.fn.t) l.fn.nodes;
-  queued : queue_after_all l.fn.t (drop l.node-index l.nodes) l.waiting ≡ queue_after_all l.fn.t l.fn.nodes l.fn.waiting;
-  notes : l.notes ++ notes_after_all l.fn.t (drop l.node-index l.nodes) ≡ l.fn.notes ++ notes_after_all l.fn.t l.fn.nodes;
+  state : take l.node-index l.nodes ++ map (node_after l.fn.t) (drop l.node-index l.nodes)
+      ≡ map (node_after l.fn.t) l.fn.nodes;
+  queued : queue_after_all l.fn.t (drop l.node-index l.nodes) l.waiting
+      ≡ queue_after_all l.fn.t l.fn.nodes l.fn.waiting;
+  notes : l.notes ++ notes_after_all l.fn.t (drop l.node-index l.nodes)
+      ≡ l.fn.notes ++ notes_after_all l.fn.t l.fn.nodes;
 }

@@ -7,6 +7,8 @@ loop-place-init c = (search rules, none_mapped)
 
 pub loop-place-preserved : goal.loop-place-preserved
 loop-place-preserved c = (
-  written_more _ c.args.mapping.now c.loop-place.place _ _ _ _ _ c.loop-place-test.true refl c.in_ok-put_mapped.ensures.writes c.loop-place.invariant.0,
-  one_more c.args.mapping.now c.loop-place.place _ _ c.loop-place-test.true refl c.put_mapped.ensures.bytes c.loop-place.invariant.1,
+  written_more _ c.args.mapping.now c.loop-place.place _ _ _ _ _ c.loop-place-test.true refl
+      c.in_ok-put_mapped.ensures.writes c.loop-place.invariant.0,
+  one_more c.args.mapping.now c.loop-place.place _ _ c.loop-place-test.true refl c.put_mapped.ensures.bytes
+      c.loop-place.invariant.1,
 )

@@ -6,4 +6,5 @@ use Rattle.pdo_links.proofs.mapping.put_entries.Given as goal
 -- the entries so far are written
 abbrev pub invariant-loop-place : goal.invariant-loop-place
 invariant-loop-place l =
-    (l.writes.items ≡ l.initial.writes.items ++ mapped_writes l.object 1 (take l.place l.mapping)) × AreMapped (take l.place l.mapping)
+    (l.writes.items ≡ l.initial.writes.items ++ mapped_writes l.object 1 (take l.place l.mapping))
+    × AreMapped (take l.place l.mapping)

@@ -12,5 +12,7 @@ use Rattle.pdo_links.proofs.rpdo.put_rpdos.Given as goal
 -- the RPDOs of the numbers so far are written
 abbrev pub invariant-loop-number : goal.invariant-loop-number
 invariant-loop-number l =
-    let written = so_far (at_number (λ (t : Clean × Consumer). rpdo_writes t.0 t.1) (filter_map (rpdo_of l.node) (clean l.plan))) l.number-counter in
-    (l.writes.items ≡ l.initial.writes.items ++ written) × ((ss : List Section) → IsMadeFor l.plan ss l.node → AreValues ss written)
+    let written = so_far (at_number (λ (t : Clean × Consumer). rpdo_writes t.0 t.1)
+    (filter_map (rpdo_of l.node) (clean l.plan))) l.number-counter in
+    (l.writes.items ≡ l.initial.writes.items ++ written)
+    × ((ss : List Section) → IsMadeFor l.plan ss l.node → AreValues ss written)

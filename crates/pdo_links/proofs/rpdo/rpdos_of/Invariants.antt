@@ -7,4 +7,6 @@ use Rattle.pdo_links.specs.Writes.{rpdo_of}
 use Rattle.pdo_links.proofs.rpdo.rpdos_of.Given as goal
 
 abbrev pub invariant-loop-planned : goal.invariant-loop-planned
-invariant-loop-planned l = IsTableOf (λ (t : Taken). (t.clean.now, t.consumer.now)) l.rpdos.entries (filter_map (rpdo_of l.node) (clean (take l.planned-index l.messages)))
+invariant-loop-planned l =
+    IsTableOf (λ (t : Taken). (t.clean.now, t.consumer.now)) l.rpdos.entries (filter_map (rpdo_of l.node)
+    (clean (take l.planned-index l.messages)))

@@ -10,8 +10,11 @@ loop-planned-init c = none_tabled (λ (c : Bor Clean). c.now) (tpdo_of c.args.no
 
 pub loop-planned-preserved : goal.loop-planned-preserved
 loop-planned-preserved c = elim c.match-tpdo_of.branch [
-  | in-Some+in_ok-put_first w ↦ rw w.tpdos-is (noted (λ (c : Bor Clean). c.now) (tpdo_of c.args.node) _ _ c.args.messages.now c.loop-planned.planned-index _ c.planned-item.result
-      w.in-Some.clean.now.message.tpdo w.in-Some.clean c.loop-planned-test.true c.planned-item.is w.in-Some.ensures w.in_ok-put_first.ensures c.loop-planned.invariant)
-  | in_default w ↦ rw w.tpdos-is (skipped (λ (c : Bor Clean). c.now) (tpdo_of c.args.node) _ c.args.messages.now c.loop-planned.planned-index _ c.planned-item.result
+  | in-Some+in_ok-put_first w ↦ rw w.tpdos-is (noted (λ (c : Bor Clean). c.now)
+      (tpdo_of c.args.node) _ _ c.args.messages.now c.loop-planned.planned-index _ c.planned-item.result
+      w.in-Some.clean.now.message.tpdo w.in-Some.clean c.loop-planned-test.true c.planned-item.is w.in-Some.ensures
+      w.in_ok-put_first.ensures c.loop-planned.invariant)
+  | in_default w ↦ rw w.tpdos-is (skipped (λ (c : Bor Clean). c.now)
+      (tpdo_of c.args.node) _ c.args.messages.now c.loop-planned.planned-index _ c.planned-item.result
       c.loop-planned-test.true c.planned-item.is w.in_default.ensures c.loop-planned.invariant)
 ]

@@ -7,4 +7,5 @@ use Rattle.pdo_links.specs.Writes.{tpdo_of}
 use Rattle.pdo_links.proofs.tpdo.tpdos_of.Given as goal
 
 abbrev pub invariant-loop-planned : goal.invariant-loop-planned
-invariant-loop-planned l = IsTableOf (λ (c : Bor Clean). c.now) l.tpdos.entries (filter_map (tpdo_of l.node) (clean (take l.planned-index l.messages)))
+invariant-loop-planned l = IsTableOf (λ (c : Bor Clean). c.now) l.tpdos.entries (filter_map (tpdo_of l.node)
+    (clean (take l.planned-index l.messages)))

@@ -1,7 +1,9 @@
 use Rattle.std.proofs.Common.{◌≡◌, not, [], ◌∷◌, nat_lt, ◌∙◌}
-use Rattle.pdo_plan.specs.declared.message_fault.MessageFault.TheVariants.{NoObjects, TpdoTaken, TooManyBits, NotMappable, Mismatched, NoRpdo, NoDummy, BadIdentifier, NoIdentifier, ReservedType}
-use Rattle.pdo_plan.specs.Plan.{noted}
-use Rattle.pdo_devices.specs.Stations.{devices_in}
+use Rattle.pdo_plan.specs.declared.message_fault.MessageFault.TheVariants.{NoObjects, TpdoTaken, TooManyBits}
+use Rattle.pdo_plan.specs.declared.message_fault.MessageFault.TheVariants.{NotMappable, Mismatched, NoRpdo, NoDummy}
+use Rattle.pdo_plan.specs.declared.message_fault.MessageFault.TheVariants.{BadIdentifier, NoIdentifier, ReservedType}
+use Rattle.pdo_plan.specs.Plan.{faults_that_hold}
+use Rattle.pdo_stations.specs.Stations.{devices_in}
 use Rattle.pdo_plan.specs.Taken.{had_in}
 use Rattle.pdo_plan.proofs.FaultLemmas.{tested, tested_are}
 use Rattle.pdo_plan.proofs.faults.faults.Goals as goal
@@ -11,12 +13,18 @@ returns c =
     let had = had_in c.args.taken.now in
     let devices = devices_in c.args.stations.now in
     let m = c.args.linked.now in
-    let tests : noted ((not c.has_tpdo.result, NoObjects) ∷ (c.contains.result, TpdoTaken) ∷ (nat_lt 64 c.total_bits.result, TooManyBits) ∷ (c.has_unmappable.result, NotMappable)
-    ∷ (c.has_mismatch.result, Mismatched) ∷ (c.lacks_rpdo.result, NoRpdo) ∷ (c.lacks_any_dummy.result, NoDummy) ∷ (c.is_bad.result, BadIdentifier)
+    let tests : faults_that_hold ((not c.has_tpdo.result, NoObjects) ∷ (c.contains.result, TpdoTaken)
+    ∷ (nat_lt 64 c.total_bits.result, TooManyBits) ∷ (c.has_unmappable.result, NotMappable)
+    ∷ (c.has_mismatch.result, Mismatched) ∷ (c.lacks_rpdo.result, NoRpdo) ∷ (c.lacks_any_dummy.result, NoDummy)
+    ∷ (c.is_bad.result, BadIdentifier)
     ∷ (c.lacks_identifier.result, NoIdentifier) ∷ (c.is_reserved.result, ReservedType) ∷ [])
     ≡ tested had devices m c.args.carried.now c.args.consumers.now c.args.has_identifier =
-    λ i. noted ((not (c.has_tpdo.ensures i), NoObjects) ∷ (c.contains.ensures i, TpdoTaken) ∷ (nat_lt 64 (c.total_bits.ensures i), TooManyBits) ∷ (c.has_unmappable.ensures i, NotMappable)
-    ∷ (c.has_mismatch.ensures i, Mismatched) ∷ (c.lacks_rpdo.ensures i, NoRpdo) ∷ (c.lacks_any_dummy.ensures i, NoDummy) ∷ (c.is_bad.ensures i, BadIdentifier)
+    λ i. faults_that_hold ((not (c.has_tpdo.ensures i), NoObjects) ∷ (c.contains.ensures i, TpdoTaken)
+    ∷ (nat_lt 64 (c.total_bits.ensures i), TooManyBits) ∷ (c.has_unmappable.ensures i, NotMappable)
+    ∷ (c.has_mismatch.ensures i, Mismatched) ∷ (c.lacks_rpdo.ensures i, NoRpdo) ∷ (c.lacks_any_dummy.ensures i, NoDummy)
+    ∷ (c.is_bad.ensures i, BadIdentifier)
     ∷ (c.lacks_identifier.ensures i, NoIdentifier) ∷ (c.is_reserved.ensures i, ReservedType) ∷ []) in
-    let all = tests ∙ tested_are had devices m c.args.carried.now c.args.consumers.now c.args.has_identifier c.requires.sources c.requires.consumers c.requires.identifier in
+    let all = tests
+    ∙ tested_are had devices m c.args.carried.now c.args.consumers.now c.args.has_identifier c.requires.sources
+    c.requires.consumers c.requires.identifier in
     c.from_vec.ensures ∙ c.in_ok-faults.ensures ∙ all

@@ -8,7 +8,8 @@ pub returns-then-not-contains : goal.returns-then-not-contains
 returns-then-not-contains c =
     let is_free : ℕ → Bool = λ n. not (contains nat_cmp c.args.identifiers.now n) in
     let free : is_free c.loop-number.number-counter ≡ true = search rules in
-    is_least_free is_free 0x681 95 (Some c.loop-number.number-counter) (omega arith, omega arith, free, c.loop-number.invariant)
+    is_least_free is_free 0x681 95 (Some c.loop-number.number-counter)
+    (omega arith, omega arith, free, c.loop-number.invariant)
 
 pub returns : goal.returns
 returns c =

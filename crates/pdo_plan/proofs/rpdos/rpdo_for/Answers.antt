@@ -4,7 +4,9 @@ use Rattle.pdo_plan.proofs.rpdos.rpdo_for.Goals as goal
 
 pub returns-in-Some : goal.returns-in-Some
 returns-in-Some c =
-    c.least_spare.ensures ∙ spare_free c.args.stations.now c.args.taken.now c.args.node c.args.count c.in-Some.station.now (sym c.in-Some.ensures)
+    c.least_spare.ensures
+    ∙ spare_free c.args.stations.now c.args.taken.now c.args.node c.args.count c.in-Some.station.now
+    (sym c.in-Some.ensures)
 
 pub returns-in-None : goal.returns-in-None
 returns-in-None c = none_free c.args.stations.now c.args.taken.now c.args.node c.args.count (sym c.in-None.ensures)

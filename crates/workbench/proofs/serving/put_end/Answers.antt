@@ -25,14 +25,22 @@ returns-clause-ok g c =
     let was = c.in_ok-put_last_line.ensures in
     on_ok_weaker c.put_cut_off.result
     (λ h. posts_replies _ _ _ _ _ _ last.replies (cut_off last.state.state.block) was.ok
-    (subst (λ (s : Cursor). Posts (g.W.Outlet.contents c.put_last_line.new.writer) c.put_last_line.new.outbox (g.W.Outlet.contents c.put_cut_off.new.writer) c.put_cut_off.new.outbox (concat (cut_off s.state.block))) was.cursor h))
+    (subst (λ (s : Cursor). Posts (g.W.Outlet.contents c.put_last_line.new.writer) c.put_last_line.new.outbox
+    (g.W.Outlet.contents c.put_cut_off.new.writer) c.put_cut_off.new.outbox (concat (cut_off s.state.block)))
+    was.cursor h))
     c.put_cut_off.ensures.ok
 
 pub returns-clause-memory : goal.returns-clause-memory
 unfolding at_end
 returns-clause-memory g c =
     let last = last_line (cursor_of c.args.cursor.now) in
-    λ e. (last.replies, cut_off last.state.state.block, refl, posts_still _ _ _ c.args.outbox.now c.put_last_line.new.outbox c.put_cut_off.new.outbox (concat last.replies) c.in_ok-put_last_line.ensures.ok (c.put_cut_off.ensures.memory e))
+    λ e. (
+      last.replies,
+      cut_off last.state.state.block,
+      refl,
+      posts_still _ _ _ c.args.outbox.now c.put_last_line.new.outbox c.put_cut_off.new.outbox (concat last.replies)
+          c.in_ok-put_last_line.ensures.ok (c.put_cut_off.ensures.memory e),
+    )
 
 pub returns-clause-write : goal.returns-clause-write
 unfolding at_end
@@ -43,5 +51,7 @@ returns-clause-write g c =
     let failed = c.put_cut_off.ensures.write e in (
       rw (was.quiet (λ h. cc)) at failed.0,
       posts_front_of _ _ _ _ _ last.replies (cut_off last.state.state.block) was.ok
-          (subst (λ (s : Cursor). Took (g.W.Outlet.contents c.put_last_line.new.writer) (g.W.Outlet.contents c.put_cut_off.new.writer) (c.put_last_line.new.outbox ++ concat (cut_off s.state.block))) was.cursor failed.1),
+          (subst (λ (s : Cursor). Took (g.W.Outlet.contents c.put_last_line.new.writer)
+          (g.W.Outlet.contents c.put_cut_off.new.writer)
+          (c.put_last_line.new.outbox ++ concat (cut_off s.state.block))) was.cursor failed.1),
     )

@@ -9,7 +9,8 @@ abbrev pub invariant-lines : goal.invariant-lines
 invariant-lines g l =
     (done : List (List ℕ))
     × Goes (cursor_of l.initial.cursor) l.piece (cursor_of l.cursor) l.rest done
-    × Posts (g.W.Outlet.contents l.initial.writer) l.initial.outbox (g.W.Outlet.contents l.writer) l.outbox (concat done)
+    × Posts (g.W.Outlet.contents l.initial.writer) l.initial.outbox (g.W.Outlet.contents l.writer) l.outbox
+    (concat done)
     × (g.W.Outlet.failures l.writer ≡ g.W.Outlet.failures l.initial.writer)
     × (g.W.Outlet.flushed l.initial.writer ≡ true → g.W.Outlet.flushed l.writer ≡ true)
 

@@ -3,7 +3,7 @@ use Rattle.std.specs.Bool.{OnFalse}
 use Rattle.std.proofs.lemmas.Result.{err_from_is_err_and}
 use Rattle.std.proofs.lemmas.Grind.{common_steps}
 use Rattle.eds_device.specs.Faults.{device_of}
-use Rattle.co_edits.specs.Faults.{is_memory, judged}
+use Rattle.co_edits.specs.Faults.{is_memory, device_verdict}
 use Rattle.co_edits.specs.Eds.{lines_of, text_of}
 use Rattle.co_edits.specs.Edits.{IsEdit}
 use Rattle.co_commands.proofs.EdsLemmas.{Passes, refused_so, taken_so, is_eds}
@@ -20,7 +20,9 @@ returns-in_err-check c =
       within = grind (arith, common_steps);
       good = grind (arith, common_steps);
     } in
-    let refused : OnFalse (is_memory c.in_err-check.field-0.0) (judged (device_of (text_of lines)) ≡ Err c.in_err-check.field-0.0) = rw (← text) c.in_err-check.ensures in
+    let refused : OnFalse (is_memory c.in_err-check.field-0.0)
+    (device_verdict (device_of (text_of lines)) ≡ Err c.in_err-check.field-0.0) = rw (← text) c.in_err-check.ensures
+    in
     let p = err_from_is_err_and c.from_residual-in_err-check.result c.from_residual-in_err-check.ensures.1 in
     rw (p.1, p.2) (refused_so c.args.name.now lines passes c.in_err-check.field-0.0 refused)
 
@@ -36,7 +38,7 @@ new-requires c =
       within = grind (arith, common_steps);
       good = grind (arith, common_steps);
     } in
-    let taken : judged (device_of (text_of lines)) ≡ Ok tt = rw (← text) c.in_ok-check.ensures in
+    let taken : device_verdict (device_of (text_of lines)) ≡ Ok tt = rw (← text) c.in_ok-check.ensures in
     rw (c.in_ok-name.ensures, c.from_vec.ensures, c.in_ok-text.ensures) (is_eds c.args.name.now lines passes taken)
 
 pub returns : goal.returns
@@ -50,5 +52,6 @@ returns c =
       within = grind (arith, common_steps);
       good = grind (arith, common_steps);
     } in
-    let taken : judged (device_of (text_of lines)) ≡ Ok tt = rw (← text) c.in_ok-check.ensures in
-    rw (c.new.ensures, c.in_ok-name.ensures, c.from_vec.ensures, c.in_ok-text.ensures) (taken_so c.args.name.now lines passes taken)
+    let taken : device_verdict (device_of (text_of lines)) ≡ Ok tt = rw (← text) c.in_ok-check.ensures in
+    rw (c.new.ensures, c.in_ok-name.ensures, c.from_vec.ensures, c.in_ok-text.ensures)
+    (taken_so c.args.name.now lines passes taken)

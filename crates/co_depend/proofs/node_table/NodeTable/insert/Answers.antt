@@ -7,5 +7,6 @@ use Rattle.co_depend.proofs.node_table.NodeTable.insert.Goals as goal
 
 pub returns : goal.returns
 returns c =
-    made_put nat_cmp_total exact_unsigned c.self.inside.nodes.entries c.insert.new.self.entries c.args.id c.args.parts c.in_ok-insert.ensures.updates.0
+    made_put nat_cmp_total exact_unsigned c.self.inside.nodes.entries c.insert.new.self.entries c.args.id c.args.parts
+    c.in_ok-insert.ensures.updates.0
     ∙ ap (λ nodes. map.insert nodes c.args.id c.args.parts) c.self.view_is

@@ -12,8 +12,10 @@ returns-in-Some-clause-fits c =
     let within : c.args.place < length pointers = rw c.deref.ensures.value at there.3.0 in
     let is = rw c.deref.ensures.value at there.1 in
     copied_fits IsBootWrite c.some_pointer.result write.value c.some_pointer.ensures
-    (there_fits IsBootWrite (behind pointers) c.args.place write.value (behind_at pointers c.args.place (behind pointers) refl write within is) c.self.invariant)
+    (there_fits IsBootWrite (behind pointers) c.args.place write.value
+    (behind_at pointers c.args.place (behind pointers) refl write within is) c.self.invariant)
 
 pub returns-in-None-clause-write : goal.returns-in-None-clause-write
 returns-in-None-clause-write c =
-    none_behind c.self.inside.writes.items c.args.place c.args.self.now c.self.view_is (rw c.deref.ensures.value at c.in-None.ensures.lookup.0)
+    none_behind c.self.inside.writes.items c.args.place c.args.self.now c.self.view_is
+    (rw c.deref.ensures.value at c.in-None.ensures.lookup.0)

@@ -6,4 +6,5 @@ use Rattle.co_base.proofs.TableLemmas.{get_made}
 use Rattle.co_depend.proofs.window_table.WindowTable.get.Goals as goal
 
 pub returns : goal.returns
-returns c = c.get.ensures.value ∙ sym (get_made nat_cmp_total exact_unsigned c.self.inside.windows.entries c.args.i) ∙ ap (λ windows. map.get windows c.args.i) c.self.view_is
+returns c = c.get.ensures.value ∙ sym (get_made nat_cmp_total exact_unsigned c.self.inside.windows.entries c.args.i)
+    ∙ ap (λ windows. map.get windows c.args.i) c.self.view_is

@@ -6,4 +6,5 @@ use Rattle.co_depend.specs.Held.{IsWindow}
 use Rattle.co_depend.proofs.window_table.WindowTable.new.Goals as goal
 
 pub invariant_of-result : goal.invariant_of-result
-invariant_of-result c = each_empty {R = nat_cmp} IsWindow (map.from_entries c.new.result.entries) (ap (map.from_entries {R = nat_cmp}) c.new.ensures.empty)
+invariant_of-result c = each_empty {R = nat_cmp} IsWindow (map.from_entries c.new.result.entries)
+    (ap (map.from_entries {R = nat_cmp}) c.new.ensures.empty)

@@ -9,9 +9,11 @@ use Rattle.co_depend.proofs.window_table.WindowTable.window.Goals as goal
 pub returns-in-Some-clause-fits : goal.returns-in-Some-clause-fits
 returns-in-Some-clause-fits c =
     handed_fits IsWindow (AllByRecursion (IsWithin c.args.i)) c.args.self.now c.args.i c.in-Some.window.now
-    (subst (λ (windows : Windows). Each IsWindow windows) c.self.view_is c.self.invariant) c.in-Some.ensures (λ is. is.0) c.pointer.result c.pointer.ensures
+    (subst (λ (windows : Windows). Each IsWindow windows) c.self.view_is c.self.invariant) c.in-Some.ensures
+    (λ is. is.0) c.pointer.result c.pointer.ensures
 
 pub returns-in-Some-clause-ordered : goal.returns-in-Some-clause-ordered
 returns-in-Some-clause-ordered c =
     handed_fits IsWindow AreInOrder c.args.self.now c.args.i c.in-Some.window.now
-    (subst (λ (windows : Windows). Each IsWindow windows) c.self.view_is c.self.invariant) c.in-Some.ensures (λ is. is.1) c.pointer.result c.pointer.ensures
+    (subst (λ (windows : Windows). Each IsWindow windows) c.self.view_is c.self.invariant) c.in-Some.ensures
+    (λ is. is.1) c.pointer.result c.pointer.ensures

@@ -1,6 +1,6 @@
 use Rattle.std.proofs.Common.{◌≡◌, ◌≤◌, ◌+◌, length}
-use Rattle.asking.specs.Asking.{outcome, followed, reads}
-use Rattle.co_device.specs.Receiving.{places, rpdo_received, walk}
+use Rattle.asking.specs.Asking.{outcome, after_reads, reads}
+use Rattle.co_device.specs.Receiving.{rpdo_places, after_rpdo, walk}
 use Rattle.co_device.proofs.WalkLemmas.{from}
 use Rattle.co_device.proofs.device_state.DeviceState.take_pdo.Given as goal
 
@@ -8,12 +8,13 @@ use Rattle.co_device.proofs.device_state.DeviceState.take_pdo.Given as goal
 abbrev pub invariant-loop-i : goal.invariant-loop-i
 invariant-loop-i g l =
     let seen = g.P.Asked.seen l.fn.shapes in
-    let rest = walk (rpdo_received l.fn.t l.fn.frame) (from l.i (length l.fn.self.rpdos)) l.self in
-    let all = walk (rpdo_received l.fn.t l.fn.frame) (places l.fn.self) l.fn.self in
+    let rest = walk (after_rpdo l.fn.t l.fn.frame) (from l.i (length l.fn.self.rpdos)) l.self in
+    let all = walk (after_rpdo l.fn.t l.fn.frame) (rpdo_places l.fn.self) l.fn.self in
     record {
       state : outcome rest seen.image ≡ outcome all seen.image;
-      noted : followed rest (g.P.Asked.seen l.shapes) ≡ followed all seen;
-      counted : g.P.Asked.asks l.shapes + length (reads rest seen.image) ≤ g.P.Asked.asks l.fn.shapes + length (reads all seen.image);
+      noted : after_reads rest (g.P.Asked.seen l.shapes) ≡ after_reads all seen;
+      counted : g.P.Asked.asks l.shapes + length (reads rest seen.image)
+          ≤ g.P.Asked.asks l.fn.shapes + length (reads all seen.image);
       kept : (g.P.Asked.seen l.shapes).image ≡ seen.image;
       many : length l.self.rpdos ≡ length l.fn.self.rpdos;
     }

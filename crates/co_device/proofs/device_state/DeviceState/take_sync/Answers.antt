@@ -1,6 +1,6 @@
 use Rattle.std.proofs.Common.{◌<◌, ◌∙◌, ap, length, arith}
 use Rattle.co_device.specs.Device.{Device}
-use Rattle.co_device.specs.Receiving.{rpdo_synced}
+use Rattle.co_device.specs.Receiving.{after_sync_at}
 use Rattle.co_device.proofs.RpdoLemmas.{synced_many}
 use Rattle.co_device.proofs.WalkLemmas.{walked_state, walked_noted, walked_counted}
 use Rattle.co_device.proofs.device_state.DeviceState.take_sync.Goals as goal
@@ -9,7 +9,7 @@ pub loop-i-preserved : goal.loop-i-preserved
 loop-i-preserved g c =
     let old = c.loop-i.invariant in
     let image = (g.P.Asked.seen c.args.shapes.now).image in
-    let step = rpdo_synced c.args.t in
+    let step = after_sync_at c.args.t in
     let i = c.loop-i.i in
     let n = length c.args.self.now.rpdos in
     let s = c.loop-i.self in
@@ -19,7 +19,13 @@ loop-i-preserved g c =
     record {
       state = walked_state step i n s s' within image (rw old.kept at e.state) ∙ old.state;
       noted = walked_noted step i n s s' within _ _ e.state e.noted ∙ old.noted;
-      counted = omega (arith, walked_counted step i n s s' within image (rw old.kept at e.state) (g.P.Asked.asks c.loop-i.shapes) (g.P.Asked.asks c.sync_rpdo.new.shapes) (rw old.kept at e.counted), old.counted);
+      counted = omega (
+        arith,
+        walked_counted step i n s s' within image (rw old.kept at e.state)
+            (g.P.Asked.asks c.loop-i.shapes) (g.P.Asked.asks c.sync_rpdo.new.shapes) (rw old.kept at e.counted),
+        old.counted,
+      );
       kept = e.kept ∙ old.kept;
-      many = ap (λ (x : Device). length x.rpdos) (rw old.kept at e.state) ∙ synced_many image c.args.t i c.loop-i.self ∙ old.many;
+      many = ap (λ (x : Device). length x.rpdos) (rw old.kept at e.state) ∙ synced_many image c.args.t i c.loop-i.self
+          ∙ old.many;
     }

@@ -4,4 +4,5 @@ use Rattle.co_diag.specs.Counts.{capped}
 use Rattle.co_diag.proofs.shared.Counts.of.Given as goal
 
 abbrev pub invariant-loop-identifier : goal.invariant-loop-identifier
-invariant-loop-identifier l = (q : ℕ) → slice_index_or l.counts.had q 0 ≡ capped (length (filter (λ n. n == q) (take l.identifier-index l.identifiers)))
+invariant-loop-identifier l = (q : ℕ) → slice_index_or l.counts.had q 0
+    ≡ capped (length (filter (λ n. n == q) (take l.identifier-index l.identifiers)))

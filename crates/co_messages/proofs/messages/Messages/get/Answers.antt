@@ -6,9 +6,11 @@ use Rattle.co_messages.proofs.messages.Messages.get.Goals as goal
 
 pub returns-clause-message : goal.returns-clause-message
 returns-clause-message c =
-    c.get.ensures.value ∙ sym (value_found c.self.inside.linked.entries c.args.name.now) ∙ ap (λ messages. map.get messages c.args.name.now) c.self.view_is
+    c.get.ensures.value ∙ sym (value_found c.self.inside.linked.entries c.args.name.now)
+    ∙ ap (λ messages. map.get messages c.args.name.now) c.self.view_is
 
 pub returns-clause-limits : goal.returns-clause-limits
 returns-clause-limits c =
     let es = c.self.inside.linked.entries in
-    limits_behind (made es) c.args.name.now c.get.result c.self.invariant (c.get.ensures.value ∙ sym (value_found es c.args.name.now))
+    limits_behind (made es) c.args.name.now c.get.result c.self.invariant (c.get.ensures.value
+    ∙ sym (value_found es c.args.name.now))

@@ -10,17 +10,21 @@ pub returns-in-Some-clause-ok : goal.returns-in-Some-clause-ok
 returns-in-Some-clause-ok c =
     let old = c.in-Some.linked.now in
     let new : Linked = record { message = c.args.message; sources = old.sources; sinks = old.sinks } in
-    message_sent c.self.inside.linked c.args.self.now c.as_slice.result.now c.self.view_is (c.get_mut.follows.lender new) old c.in-Some.ensures.value new (c.get_mut.follows.holds new) c.args.message refl
+    message_sent c.self.inside.linked c.args.self.now c.as_slice.result.now c.self.view_is
+    (c.get_mut.follows.lender new) old c.in-Some.ensures.value new (c.get_mut.follows.holds new) c.args.message refl
     ∙ ap (λ name. with_message c.args.self.now name c.args.message) c.as_slice.ensures
 
 pub invariant_of-self : goal.invariant_of-self
-invariant_of-self c = sent_within _ c.args.self.now c.args.name c.args.message (returns-in-Some-clause-ok c) (subst AreMessages c.self.view_is c.self.invariant) c.requires
+invariant_of-self c = sent_within _ c.args.self.now c.args.name c.args.message (returns-in-Some-clause-ok c)
+    (subst AreMessages c.self.view_is c.self.invariant) c.requires
 
 pub returns-in_err-insert-clause-absent : goal.returns-in_err-insert-clause-absent
 returns-in_err-insert-clause-absent c =
     let p = err_from_is_err_and c.from_residual.result c.from_residual.ensures.1 in
     rw p.1
-    (ap (map.get c.args.self.now) (sym c.as_slice.ensures) ∙ message_missing c.self.inside.linked c.args.self.now c.as_slice.result.now c.self.view_is c.in_default.ensures.value)
+    (ap (map.get c.args.self.now) (sym c.as_slice.ensures)
+    ∙ message_missing c.self.inside.linked c.args.self.now c.as_slice.result.now c.self.view_is
+    c.in_default.ensures.value)
 
 pub returns-clause-ok : goal.returns-clause-ok
 returns-clause-ok c =
@@ -29,8 +33,10 @@ returns-clause-ok c =
     let key = c.into_vec.result in
     let same = c.into_vec.ensures in
     let new : Linked = record { message = c.args.message; sources = c.new.result; sinks = c.new-2.result } in
-    let bare : List (ℕ × (ℕ × ℕ)) → List ((ℕ × ℕ) × (ℕ × ℕ)) → Linked = λ sources sinks. record { message = c.args.message; sources = sources; sinks = sinks } in
-    let none = message_missing c.self.inside.linked messages c.as_slice.result.now c.self.view_is c.in_default.ensures.value in
+    let bare : List (ℕ × (ℕ × ℕ)) → List ((ℕ × ℕ) × (ℕ × ℕ))
+    → Linked = λ sources sinks. record { message = c.args.message; sources = sources; sinks = sinks } in
+    let none = message_missing c.self.inside.linked messages c.as_slice.result.now c.self.view_is
+    c.in_default.ensures.value in
     message_added before c.insert.new.self messages key new c.args.message
     (messages_stay c.self.inside.linked messages c.args.name c.self.view_is before c.get_mut.follows.holds-at-none)
     (ap (map.get messages) (same ∙ sym c.as_slice.ensures) ∙ none)
@@ -39,4 +45,5 @@ returns-clause-ok c =
     ∙ ap (λ name. with_message messages name c.args.message) same
 
 pub invariant_of-self-2 : goal.invariant_of-self-2
-invariant_of-self-2 c = sent_within _ c.args.self.now c.args.name c.args.message (returns-clause-ok c) (subst AreMessages c.self.view_is c.self.invariant) c.requires
+invariant_of-self-2 c = sent_within _ c.args.self.now c.args.name c.args.message (returns-clause-ok c)
+    (subst AreMessages c.self.view_is c.self.invariant) c.requires

@@ -11,4 +11,5 @@ returns c =
     ∙ ap (λ messages. map.remove messages c.args.name.now) c.self.view_is
 
 pub invariant_of-self : goal.invariant_of-self
-invariant_of-self c = subst AreMessages (sym (returns c)) (messages_left c.args.self.now c.args.name.now (subst AreMessages c.self.view_is c.self.invariant))
+invariant_of-self c = subst AreMessages (sym (returns c))
+    (messages_left c.args.self.now c.args.name.now (subst AreMessages c.self.view_is c.self.invariant))

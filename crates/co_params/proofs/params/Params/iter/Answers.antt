@@ -4,4 +4,5 @@ use Rattle.co_dict.proofs.PlaceLemmas.{entries_made}
 use Rattle.co_params.proofs.params.Params.iter.Goals as goal
 
 pub returns : goal.returns
-returns c = c.iter.ensures.rest ∙ sym (entries_made c.self.inside.texts.entries c.iter.ensures.ordered) ∙ ap map.entries c.self.view_is
+returns c = c.iter.ensures.rest ∙ sym (entries_made c.self.inside.texts.entries c.iter.ensures.ordered)
+    ∙ ap map.entries c.self.view_is

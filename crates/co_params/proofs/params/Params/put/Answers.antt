@@ -14,4 +14,5 @@ pub returns-in_err-insert-clause-absent : goal.returns-in_err-insert-clause-abse
 returns-in_err-insert-clause-absent c =
     let place : ℕ × ℕ = (c.args.index, c.args.sub) in
     let p = err_from_is_err_and c.from_residual.result c.from_residual.ensures.1 in
-    rw p.1 (ap (λ texts. map.get texts place) (sym c.self.view_is) ∙ get_place c.self.inside.texts.entries place ∙ c.in_err-insert.ensures.absent)
+    rw p.1 (ap (λ texts. map.get texts place) (sym c.self.view_is) ∙ get_place c.self.inside.texts.entries place
+    ∙ c.in_err-insert.ensures.absent)

@@ -6,4 +6,5 @@ use Rattle.co_base.proofs.TableLemmas.{get_made}
 use Rattle.co_project.proofs.nodes.Nodes.get.Goals as goal
 
 pub returns : goal.returns
-returns c = c.get.ensures.value ∙ sym (get_made nat_cmp_total exact_unsigned c.self.inside.nodes.entries c.args.id) ∙ ap (λ nodes. map.get nodes c.args.id) c.self.view_is
+returns c = c.get.ensures.value ∙ sym (get_made nat_cmp_total exact_unsigned c.self.inside.nodes.entries c.args.id)
+    ∙ ap (λ nodes. map.get nodes c.args.id) c.self.view_is

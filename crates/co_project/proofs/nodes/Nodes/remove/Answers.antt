@@ -7,5 +7,6 @@ use Rattle.co_project.proofs.nodes.Nodes.remove.Goals as goal
 
 pub returns : goal.returns
 returns c =
-    made_removed nat_cmp_total exact_unsigned c.self.inside.nodes.entries c.remove.new.self.entries c.args.id c.remove.ensures.updates.0
+    made_removed nat_cmp_total exact_unsigned c.self.inside.nodes.entries c.remove.new.self.entries c.args.id
+    c.remove.ensures.updates.0
     ∙ ap (λ nodes. map.remove nodes c.args.id) c.self.view_is

@@ -8,6 +8,7 @@ use Rattle.co_project.proofs.project.Project.text.Goals as goal
 
 pub returns-clause-device : goal.returns-clause-device
 returns-clause-device c =
-    IfSome-copied (λ text. device_of text ≡ Ok (content_of text)) c.get.result (text_at c.self.inside.contents.texts c.args.name.now)
+    IfSome-copied (λ text. device_of text ≡ Ok (content_of text)) c.get.result
+    (text_at c.self.inside.contents.texts c.args.name.now)
     (c.get.ensures ∙ ap (λ (p : Inside). text_at p.contents.texts c.args.name.now) c.self-inside.view_is)
     (texts_are_devices c.self.inside.contents c.args.name.now c.self.invariant)

@@ -4,4 +4,5 @@ use Rattle.co_project.proofs.TextLemmas.{texts_counted}
 use Rattle.co_project.proofs.texts.Texts.len.Goals as goal
 
 pub returns : goal.returns
-returns c = c.len.ensures.len ∙ sym (texts_counted c.self.inside.texts.entries c.len.ensures.ordered) ∙ ap map.len c.self.view_is
+returns c = c.len.ensures.len ∙ sym (texts_counted c.self.inside.texts.entries c.len.ensures.ordered)
+    ∙ ap map.len c.self.view_is

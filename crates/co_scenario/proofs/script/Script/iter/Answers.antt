@@ -6,4 +6,6 @@ use Rattle.co_base.proofs.TableLemmas.{entries_made}
 use Rattle.co_scenario.proofs.script.Script.iter.Goals as goal
 
 pub returns : goal.returns
-returns c = c.iter.ensures.rest ∙ sym (entries_made nat_cmp_total exact_unsigned c.self.inside.events.entries c.iter.ensures.ordered) ∙ ap map.entries c.self.view_is
+returns c = c.iter.ensures.rest
+    ∙ sym (entries_made nat_cmp_total exact_unsigned c.self.inside.events.entries c.iter.ensures.ordered)
+    ∙ ap map.entries c.self.view_is

@@ -6,4 +6,6 @@ use Rattle.co_base.proofs.TableLemmas.{len_made}
 use Rattle.co_scenario.proofs.script.Script.len.Goals as goal
 
 pub returns : goal.returns
-returns c = c.len.ensures.len ∙ sym (len_made nat_cmp_total exact_unsigned c.self.inside.events.entries c.len.ensures.ordered) ∙ ap map.len c.self.view_is
+returns c = c.len.ensures.len
+    ∙ sym (len_made nat_cmp_total exact_unsigned c.self.inside.events.entries c.len.ensures.ordered)
+    ∙ ap map.len c.self.view_is

@@ -7,5 +7,6 @@ use Rattle.co_scenario.proofs.script.Script.remove.Goals as goal
 
 pub returns : goal.returns
 returns c =
-    made_removed nat_cmp_total exact_unsigned c.self.inside.events.entries c.remove.new.self.entries c.args.number c.remove.ensures.updates.0
+    made_removed nat_cmp_total exact_unsigned c.self.inside.events.entries c.remove.new.self.entries c.args.number
+    c.remove.ensures.updates.0
     ∙ ap (λ events. map.remove events c.args.number) c.self.view_is

@@ -4,8 +4,10 @@ use Rattle.device_agenda.proofs.scheduled_device.ScheduledDevice.instant.Goals a
 
 pub returns-then-does_nothing-clause-state : goal.returns-then-does_nothing-clause-state
 returns-then-does_nothing-clause-state g c =
-    same_state (at_instant c.args.t c.args.delivery.now c.args.self.now) c.args.self.now (c.does_nothing.ensures.nothing c.if-does_nothing.true) (g.P.Asked.seen c.args.shapes.now).image
+    same_state (at_instant c.args.t c.args.delivery.now c.args.self.now) c.args.self.now
+    (c.does_nothing.ensures.nothing c.if-does_nothing.true) (g.P.Asked.seen c.args.shapes.now).image
 
 pub returns-then-does_nothing-clause-noted : goal.returns-then-does_nothing-clause-noted
 returns-then-does_nothing-clause-noted g c =
-    none_noted (at_instant c.args.t c.args.delivery.now c.args.self.now) c.args.self.now (c.does_nothing.ensures.nothing c.if-does_nothing.true) (g.P.Asked.seen c.args.shapes.now)
+    none_noted (at_instant c.args.t c.args.delivery.now c.args.self.now) c.args.self.now
+    (c.does_nothing.ensures.nothing c.if-does_nothing.true) (g.P.Asked.seen c.args.shapes.now)

@@ -5,5 +5,6 @@ use Rattle.device_agenda.proofs.scheduled_device.ScheduledDevice.send.Goals as g
 pub invariant_of-self : goal.invariant_of-self
 invariant_of-self c =
     let d = c.self.inside.device in
-    sent_agenda c.self.inside.agenda d c.send-sent.new.self (remove d.waiting c.args.place) c.contender.result c.is_some-self-inside.result c.self.invariant c.send-sent.ensures.left c.contender.ensures
+    sent_agenda c.self.inside.agenda d c.send-sent.new.self (remove d.waiting c.args.place) c.contender.result
+    c.is_some-self-inside.result c.self.invariant c.send-sent.ensures.left c.contender.ensures
     c.is_some-self-inside.ensures

@@ -5,5 +5,6 @@ use Rattle.device_pdos.proofs.tpdo_state.TpdoState.look.Goals as goal
 
 pub slice_bounds-bytes-end : goal.slice_bounds-bytes-end
 slice_bounds-bytes-end c =
-    let within : c.pack-count.result.1 ≤ 8 = subst (λ (p : List ℕ × ℕ). p.1 ≤ 8) (sym c.pack-count.ensures) (few c.args.dict.now c.entries.result.now c.entries.ensures.fits) in
+    let within : c.pack-count.result.1 ≤ 8 = subst (λ (p : List ℕ × ℕ). p.1 ≤ 8) (sym c.pack-count.ensures)
+    (few c.args.dict.now c.entries.result.now c.entries.ensures.fits) in
     sym (length-take-le c.pack-count.result.1 c.pack-count.result.0 (omega arith))

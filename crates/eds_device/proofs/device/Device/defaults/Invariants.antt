@@ -5,4 +5,5 @@ use Rattle.eds_device.proofs.MapLemmas.{Has}
 use Rattle.eds_device.proofs.device.Device.defaults.Given as goal
 
 abbrev pub invariant-loop-place : goal.invariant-loop-place
-invariant-loop-place l = Has (λ p. default_at l.self.sections l.node p.0 p.1) l.dict (take l.place-index (pairs_of l.self.sections))
+invariant-loop-place l =
+    Has (λ p. default_at l.self.sections l.node p.0 p.1) l.dict (take l.place-index (pairs_of l.self.sections))

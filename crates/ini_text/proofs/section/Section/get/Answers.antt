@@ -6,4 +6,5 @@ use Rattle.ini_text.proofs.section.Section.get.Goals as goal
 
 pub returns : goal.returns
 returns c =
-    rw (← c.self.view_is) (ap Some c.value.ensures ∙ ap (option_map (λ (p : Pair). p.value)) c.in_ok-pair.ensures.key ∙ sym (value_found c.self.inside.pairs.keys c.args.key.now))
+    rw (← c.self.view_is) (ap Some c.value.ensures ∙ ap (option_map (λ (p : Pair). p.value)) c.in_ok-pair.ensures.key
+    ∙ sym (value_found c.self.inside.pairs.keys c.args.key.now))

@@ -7,8 +7,10 @@ pub returns-then-is_quiet-clause-state : goal.returns-then-is_quiet-clause-state
 returns-then-is_quiet-clause-state c = sym (nodes_stay c.args.t c.args.self.now (c.is_quiet.ensures c.if-is_quiet.true))
 
 pub returns-then-is_quiet-clause-queued : goal.returns-then-is_quiet-clause-queued
-returns-then-is_quiet-clause-queued c = sym (queue_stays c.args.t c.args.self.now c.args.waiting.now (c.is_quiet.ensures c.if-is_quiet.true))
+returns-then-is_quiet-clause-queued c =
+    sym (queue_stays c.args.t c.args.self.now c.args.waiting.now (c.is_quiet.ensures c.if-is_quiet.true))
 
 pub returns-then-is_quiet-clause-notes : goal.returns-then-is_quiet-clause-notes
 returns-then-is_quiet-clause-notes c =
-    rw (nothing_noted c.args.t c.args.self.now (c.is_quiet.ensures c.if-is_quiet.true)) (sym (append-nil c.args.notes.now))
+    rw (nothing_noted c.args.t c.args.self.now (c.is_quiet.ensures c.if-is_quiet.true))
+    (sym (append-nil c.args.notes.now))

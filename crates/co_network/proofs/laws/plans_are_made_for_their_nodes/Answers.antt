@@ -1,5 +1,0 @@
-use Rattle.co_network.proofs.NetworkLemmas.{made_for_member}
-use Rattle.co_network.proofs.laws.plans_are_made_for_their_nodes.Goals as goal
-
-pub returns : goal.returns
-returns c = made_for_member

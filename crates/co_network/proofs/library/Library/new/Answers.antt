@@ -1,5 +1,0 @@
-use Rattle.co_network.proofs.LibraryLemmas.{none_read}
-use Rattle.co_network.proofs.library.Library.new.Goals as goal
-
-pub invariant_of-result : goal.invariant_of-result
-invariant_of-result c = rw c.new.ensures.empty (none_read c.args.project.now)

@@ -1,9 +1,0 @@
-use Rattle.std.proofs.Common.{◌≡◌, ◌++◌, drop, map, take}
-use Rattle.co_profile.specs.Consumers.{expired}
-use Rattle.co_profile.proofs.consumers.expire.Given as goal
-
--- what is done and what is left give what all give
-abbrev pub invariant-loop-consumer : goal.invariant-loop-consumer
-invariant-loop-consumer l =
-    let step = expired l.fn.t in
-    take l.consumer-index l.consumers ++ map step (drop l.consumer-index l.consumers) ≡ map step l.fn.consumers

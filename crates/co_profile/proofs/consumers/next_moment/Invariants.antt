@@ -1,8 +1,0 @@
-use Rattle.std.proofs.Common.{◌≡◌, drop}
-use Rattle.co_parts.specs.Moments.{earlier, earliest}
-use Rattle.co_profile.specs.Consumers.{moments}
-use Rattle.co_profile.proofs.consumers.next_moment.Given as goal
-
--- the earliest so far, and what is left, give the earliest of all
-abbrev pub invariant-loop-consumer : goal.invariant-loop-consumer
-invariant-loop-consumer l = earlier l.next (earliest (moments (drop l.consumer-index l.consumers))) ≡ earliest (moments l.consumers)

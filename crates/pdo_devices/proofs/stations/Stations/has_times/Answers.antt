@@ -1,7 +1,0 @@
-use Rattle.std.proofs.Common.{sym, ◌∙◌}
-use Rattle.pdo_devices.specs.Devices.{tpdo_object}
-use Rattle.pdo_devices.proofs.AlikeLemmas.{times_at}
-use Rattle.pdo_devices.proofs.stations.Stations.has_times.Goals as goal
-
-pub returns-in-Some : goal.returns-in-Some
-returns-in-Some c = c.has_times.ensures ∙ times_at c.args.self.now c.args.node (tpdo_object c.args.number) c.args.inhibit c.args.event c.in-Some.station.now (sym c.in-Some.ensures)

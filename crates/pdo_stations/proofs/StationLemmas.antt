@@ -1,0 +1,129 @@
+-- What is looked up of the nodes is what their devices say.
+use Rattle.std.proofs.Common.{◌≡◌, ℕ, zero, suc, ◌+◌, ◌-◌, ◌<◌, ◌≤◌, ◌==◌, ◌&&◌, nat_le, Bool, true, false, cond, List}
+use Rattle.std.proofs.Common.{◌∷◌, length, drop, get_or, Option, Some, None, option_map, option_and_then, refl, sym, ap}
+use Rattle.std.proofs.Common.{◌∙◌, arith}
+use Rattle.std.specs.Prelude.{if◌then◌else◌}
+use Rattle.std.specs.BTreeMap.{is_at}
+use Rattle.std.specs.Borrow.{Bor}
+use Rattle.std.specs.FinMap.{get}
+use Rattle.std.specs.Map.{lookup}
+use Rattle.std.specs.Option.{option_map_or}
+use Rattle.std.specs.Ordering.{nat_cmp}
+use Rattle.std.proofs.lemmas.Bool.Decides.{nat_tests}
+use Rattle.std.proofs.lemmas.List.{drop_more}
+use Rattle.std.proofs.lemmas.Option.{slice_get-get_or, same_Some}
+use Rattle.ini_text.specs.Content.{Content, Section}
+use Rattle.co_dict.specs.Shapes.{Shaped, is_dummy_allowed}
+use Rattle.eds_device.specs.Entries.{entry_at, dummies_of, dummy_allowed, shape_of}
+use Rattle.eds_device.proofs.LawLemmas.{shape_at as shaped_at}
+use Rattle.pdo_stations.specs.Devices.{devices_of}
+use Rattle.pdo_stations.specs.Shown.{nodes_of}
+use Rattle.pdo_stations.specs.Stations.{shape_at, devices_in}
+
+-- ---- dummies
+
+dummies_at : (ss : List Section) (kind : ℕ) → 1 ≤ kind → kind ≤ 7
+    → get_or (dummies_of ss) (kind - 1) false ≡ dummy_allowed ss kind
+dummies_at ss zero low high = absurd (omega arith)
+dummies_at ss (suc zero) low high = refl
+dummies_at ss (suc (suc zero)) low high = refl
+dummies_at ss (suc (suc (suc zero))) low high = refl
+dummies_at ss (suc (suc (suc (suc zero)))) low high = refl
+dummies_at ss (suc (suc (suc (suc (suc zero))))) low high = refl
+dummies_at ss (suc (suc (suc (suc (suc (suc zero)))))) low high = refl
+dummies_at ss (suc (suc (suc (suc (suc (suc (suc zero))))))) low high = refl
+dummies_at ss (suc (suc (suc (suc (suc (suc (suc (suc n)))))))) low high = absurd (omega arith)
+
+low_kind : (ss : List Section) (kind : ℕ) → nat_le 1 kind ≡ false → false ≡ dummy_allowed ss kind
+unfolding dummy_allowed
+low_kind ss kind e = rw e refl
+
+high_kind : (ss : List Section) (kind : ℕ) → nat_le 1 kind ≡ true → nat_le kind 7 ≡ false
+    → false ≡ dummy_allowed ss kind
+unfolding dummy_allowed
+high_kind ss kind d e = rw (d, e) refl
+
+dummy_shaped : (ss : List Section) (node kind : ℕ) → is_dummy_allowed (shape_of ss node) kind ≡ dummy_allowed ss kind
+unfolding shape_of
+dummy_shaped ss node kind = by (nat_le 1 kind) (nat_le kind 7) refl refl
+  where
+    up : (m n : ℕ) → nat_le m n ≡ true → m ≤ n
+    up m n t = grind (arith, nat_tests)
+
+    by : (a b : Bool) → nat_le 1 kind ≡ a → nat_le kind 7 ≡ b
+        → (a && b && get_or (dummies_of ss) (kind - 1) false) ≡ dummy_allowed ss kind
+    by true true low high = dummies_at ss kind (up 1 kind low) (up kind 7 high)
+    by true false low high = high_kind ss kind low high
+    by false b low high = low_kind ss kind low
+
+-- ---- devices
+
+abbrev pub shaped : ℕ → List (ℕ × List Section) → Option Shaped
+shaped node nodes = option_map (λ ss. shape_of ss node) (lookup (λ n. n == node) nodes)
+
+entry_shaped : (node : ℕ) (place : ℕ × ℕ) (o : Option (List Section))
+    → option_and_then (λ (s : Shaped). get s.entries place) (option_map (λ ss. shape_of ss node) o)
+    ≡ option_and_then (λ ss. entry_at ss node place.0 place.1) o
+entry_shaped node place None = refl
+entry_shaped node place (Some ss) = shaped_at ss node place.0 place.1
+
+allowed_shaped : (node kind : ℕ) (o : Option (List Section))
+    → option_map_or (λ (s : Shaped). is_dummy_allowed s kind) (option_map (λ ss. shape_of ss node) o) false
+    ≡ option_map_or (λ ss. dummy_allowed ss kind) o false
+allowed_shaped node kind None = refl
+allowed_shaped node kind (Some ss) = dummy_shaped ss node kind
+
+pub devices_alike : (stations : List (ℕ × Shaped)) (nodes : List (ℕ × List Section))
+    → ((node : ℕ) → shape_at stations node ≡ shaped node nodes) → devices_in stations ≡ devices_of nodes
+devices_alike stations nodes same =
+    let entries : (node : ℕ) (place : ℕ × ℕ)
+    → (devices_in stations).entry node place ≡ (devices_of nodes).entry node place =
+    λ node place. ap (option_and_then (λ (s : Shaped). get s.entries place)) (same node)
+    ∙ entry_shaped node place (lookup (λ n. n == node) nodes) in
+    let dummies : (node kind : ℕ) → (devices_in stations).dummy node kind ≡ (devices_of nodes).dummy node kind =
+    λ node kind. ap (λ o. option_map_or (λ (s : Shaped). is_dummy_allowed s kind) o false) (same node)
+    ∙ allowed_shaped node kind (lookup (λ n. n == node) nodes) in
+    λ i. record { entry = λ node place. entries node place i; dummy = λ node kind. dummies node kind i }
+
+-- ---- one more node
+
+same_number : (a b : ℕ) → (a == b) ≡ true → a ≡ b
+same_number a b e = grind (arith, nat_tests)
+
+at_number : (a b : ℕ) → is_at (nat_cmp a) b ≡ (a == b)
+at_number a b = grind (arith, nat_tests)
+
+-- a node's station is put into its place
+pub station_put : (before after : List (ℕ × Shaped)) (number : ℕ) (ss : List Section) (station : Shaped)
+    → ((node : ℕ) → shape_at after node ≡ cond (is_at (nat_cmp number) node) (Some station) (shape_at before node))
+    → station ≡ shape_of ss number → (node : ℕ)
+    → shape_at after node ≡ (if number == node then Some (shape_of ss number) else shape_at before node)
+station_put before after number ss station put is node =
+    put node ∙ ap (λ t. cond t (Some station) (shape_at before node)) (at_number number node) ∙ by (number == node)
+  where
+    by : (b : Bool) → cond b (Some station) (shape_at before node)
+        ≡ (if b then Some (shape_of ss number) else shape_at before node)
+    by true = ap Some is
+    by false = refl
+
+pub stations_more : (before after : List (ℕ × Shaped)) (number : ℕ) (ss : List Section)
+    (nodes : List (ℕ × List Section))
+    → ((node : ℕ) → shape_at after node ≡ (if number == node then Some (shape_of ss number) else shape_at before node))
+    → ((node : ℕ) → shape_at before node ≡ shaped node nodes)
+    → (node : ℕ) → shape_at after node ≡ shaped node ((number, ss) ∷ nodes)
+stations_more before after number ss nodes put so_far node = put node ∙ by (number == node) refl
+  where
+    by : (b : Bool) → (number == node) ≡ b → (if b then Some (shape_of ss number) else shape_at before node)
+        ≡ option_map (λ ss. shape_of ss node) (cond b (Some ss) (lookup (λ n. n == node) nodes))
+    by true e = ap (λ n. Some (shape_of ss n)) (same_number number node e)
+    by false e = so_far node
+
+-- the node before the last ones
+pub node_before : (nodes : List (ℕ × Bor Content)) (i : ℕ) (a b : ℕ × Bor Content) → i < length nodes
+    → nodes_of (drop i nodes) ≡ ((get_or nodes i a).0, (get_or nodes i b).1.now.sections)
+    ∷ nodes_of (drop (i + 1) nodes)
+node_before nodes i a b below =
+    let same : get_or nodes i a ≡ get_or nodes i b = same_Some (get_or nodes i a) (get_or nodes i b)
+    (sym (slice_get-get_or nodes i a below) ∙ slice_get-get_or nodes i b below) in
+    ap nodes_of (drop_more nodes i a below) ∙ ap (λ (n : ℕ × Bor Content). ((get_or nodes i a).0, n.1.now.sections)
+    ∷ nodes_of (drop (i + 1) nodes)) same

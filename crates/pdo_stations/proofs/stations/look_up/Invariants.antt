@@ -1,0 +1,15 @@
+use Rattle.std.proofs.Common.{◌≡◌, ◌≤◌, ℕ, length, drop}
+use Rattle.pdo_stations.specs.Shown.{nodes_of}
+use Rattle.pdo_stations.specs.Stations.{shape_at}
+use Rattle.pdo_stations.proofs.StationLemmas.{shaped}
+use Rattle.pdo_stations.proofs.stations.look_up.Given as goal
+
+-- the stations of the last nodes
+abbrev pub invariant-nodes : goal.invariant-nodes
+invariant-nodes l = record {
+  within : l.count ≤ length l.nodes;
+  stations : (node : ℕ) → shape_at l.stations.entries node ≡ shaped node (nodes_of (drop l.count l.nodes));
+}
+
+abbrev pub decreases-nodes : goal.decreases-nodes
+decreases-nodes l = l.count

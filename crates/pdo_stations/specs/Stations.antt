@@ -1,0 +1,20 @@
+-- What is looked up once for each node.
+use Rattle.std.specs.Prelude.{ℕ, false, List, Option, option_and_then}
+use Rattle.std.specs.BTreeMap.{is_at}
+use Rattle.std.specs.FinMap.{get}
+use Rattle.std.specs.Map.{lookup}
+use Rattle.std.specs.Option.{option_map_or}
+use Rattle.std.specs.Ordering.{nat_cmp}
+use Rattle.co_dict.specs.Shapes.{Shaped, is_dummy_allowed}
+use Rattle.pdo_stations.specs.Devices.{Devices}
+
+-- the entries of a node, and its dummies
+abbrev pub shape_at : List (ℕ × Shaped) → ℕ → Option Shaped
+shape_at stations node = lookup (is_at (nat_cmp node)) stations
+
+-- the devices of the stations
+abbrev pub devices_in : List (ℕ × Shaped) → Devices
+devices_in stations = record {
+  entry = λ node place. option_and_then (λ (s : Shaped). get s.entries place) (shape_at stations node);
+  dummy = λ node kind. option_map_or (λ (s : Shaped). is_dummy_allowed s kind) (shape_at stations node) false;
+}

@@ -1,0 +1,165 @@
+//! All nodes as the plan of messages sees them.
+ghost use Rattle.std.specs.Prelude.{◌≡◌, ◌==◌, ◌≤◌, ℕ, if◌then◌else◌, Some, IfOk, OnOk};
+ghost use Rattle.std.specs.Option.{option_copied};
+ghost use Rattle.eds_device.specs.Entries.{shape_of};
+ghost use Rattle.pdo_stations.specs.Devices.{devices_of, can_map, has_pdo, has_times, tpdo_object, width_at};
+ghost use Rattle.pdo_stations.specs.Dummies.{dummy_for};
+ghost use Rattle.pdo_stations.specs.Shown.{nodes_of};
+ghost use Rattle.pdo_stations.specs.Stations.{shape_at, devices_in};
+
+use crate::dummy::dummy_type;
+use crate::mapped::Mapped;
+use crate::station::Station;
+use co_dict::{Direction, Entry};
+use co_values::width_bits;
+use eds_device::Device;
+use std::alloc::{AllocError, Global};
+use std::collections::BTreeMap;
+use std::marker::Model;
+
+/// All nodes as the plan of messages sees them. Contracts see the entries and dummies of each, by the
+/// nodes' numbers.
+///
+/// A call takes time by the logarithms of the number of nodes and of entries, and by the mapping
+/// entries that it counts.
+#[derive(Drop)]
+pub struct Stations {
+    by_number: BTreeMap<u8, Station>,
+}
+
+impl Model for Stations {
+    ghost use Rattle.std.specs.Prelude.{ℕ, List};
+    ghost use Rattle.std.specs.Coded.{coded_ℕ, coded_list, coded×};
+    ghost use Rattle.co_dict.specs.contracts.entry.Entry as described;
+    ghost use Rattle.co_dict.specs.Shapes.{Shaped, shaped_code};
+
+    ghost Value = { List (ℕ × Shaped) };
+
+    ghost coded = { coded_list (coded× coded_ℕ (shaped_code described.the_row.coded)) };
+
+    ghost view = { λ stations. stations.by_number.entries };
+}
+
+/// Looks the device of a node up, and puts it in the place of one that has its number.
+fn add_station(
+    alloc: Global,
+    stations: &mut BTreeMap<u8, Station>,
+    number: u8,
+    device: &Device,
+) -> Result<(), AllocError>
+    ensures { OnOk result ((node : ℕ) → shape_at stations.new.entries node
+        ≡ (if number == node then Some (shape_of device.now.sections number) else shape_at stations.old.entries node)) }
+{
+    let shape = device.shape(number)?;
+    let station = Station::new(alloc, shape)?;
+    stations.insert(number, station)?;
+    Ok(())
+}
+
+/// Looks the devices of the nodes up. Of two nodes with one number the first counts.
+fn look_up(alloc: Global, nodes: &[(u8, &Device)]) -> Result<BTreeMap<u8, Station>, AllocError>
+    ensures { IfOk result (λ stations. devices_in stations.entries ≡ devices_of (nodes_of nodes.now)) }
+{
+    let mut stations = BTreeMap::new(alloc);
+    let mut count = nodes.len();
+    'nodes: while count > 0 {
+        count -= 1;
+        let (number, device) = nodes[count];
+        add_station(alloc, &mut stations, number, device)?;
+    }
+    Ok(stations)
+}
+
+impl Stations {
+    /// Looks the devices of nodes up. Of two nodes with one number the first counts. Takes time by
+    /// the number of the devices' entries and its logarithm.
+    pub fn new(alloc: Global, nodes: &[(u8, &Device)]) -> Result<Stations, AllocError>
+        ensures { IfOk result (λ stations. devices_in stations ≡ devices_of (nodes_of nodes.now)) }
+    {
+        let by_number = look_up(alloc, nodes)?;
+        Ok(Stations { by_number })
+    }
+
+    /// The node of a number.
+    pub fn get(&self, node: u8) -> Option<&Station>
+        ensures { option_copied result ≡ shape_at self.now node }
+    {
+        self.by_number.get(&node)
+    }
+
+    /// The entry of a node at an index and sub, if there is one.
+    fn entry(&self, node: u8, place: (u16, u8)) -> Option<&Entry>
+        ensures { option_copied result ≡ (devices_in self.now).entry node place }
+    {
+        self.get(node)?.entry(place.0, place.1)
+    }
+
+    /// The bits of an entry of a node in a PDO, where it is there and BOOLEAN or an integer.
+    pub fn width(&self, node: u8, place: (u16, u8)) -> Option<u8>
+        ensures { result ≡ width_at (devices_in self.now) node place }
+    {
+        let bits = width_bits(self.entry(node, place)?.kind)?;
+        Some(bits as u8)
+    }
+
+    /// Whether an entry of a node is there and can be mapped in a direction.
+    pub fn can_map(&self, direction: Direction, node: u8, place: (u16, u8)) -> bool
+        ensures { result ≡ can_map direction (devices_in self.now) node place }
+    {
+        match self.entry(node, place) {
+            Some(entry) => entry.is_mappable(direction),
+            None => false,
+        }
+    }
+
+    /// Whether a node allows the dummy of a data type.
+    fn dummy_allowed(&self, node: u8, kind: u16) -> bool
+        ensures { result ≡ (devices_in self.now).dummy node kind }
+    {
+        match self.get(node) {
+            Some(station) => station.dummy_allowed(kind),
+            None => false,
+        }
+    }
+
+    /// The dummy of so many bits, where a node allows it.
+    pub fn dummy_for(&self, node: u8, bits: u8) -> Option<Mapped>
+        ensures { result ≡ dummy_for (devices_in self.now) node bits }
+    {
+        let index = dummy_type(bits)?;
+        if self.dummy_allowed(node, index) {
+            Some(Mapped {
+                index,
+                sub: 0,
+                bits,
+            })
+        } else {
+            None
+        }
+    }
+
+    /// Whether a node has a TPDO, up to 512, with what the writes of so many mapping entries, up to
+    /// 64, name.
+    pub fn has_tpdo(&self, node: u8, number: u16, count: usize) -> bool
+        requires high { number ≤ 512 }
+        requires few { count ≤ 64 }
+        ensures { result ≡ has_pdo (devices_in self.now) node (tpdo_object number) count }
+    {
+        match self.get(node) {
+            Some(station) => station.has_tpdo(number, count),
+            None => false,
+        }
+    }
+
+    /// Whether a node's TPDO, up to 512, has an UNSIGNED16 for its inhibit time and for its event
+    /// timer, each where that isn't 0.
+    pub fn has_times(&self, node: u8, number: u16, inhibit: u16, event: u16) -> bool
+        requires { number ≤ 512 }
+        ensures { result ≡ has_times (devices_in self.now) node (tpdo_object number) inhibit event }
+    {
+        match self.get(node) {
+            Some(station) => station.has_times(number, inhibit, event),
+            None => inhibit == 0 && event == 0,
+        }
+    }
+}

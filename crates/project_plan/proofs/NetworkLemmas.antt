@@ -1,0 +1,124 @@
+-- The plan of a project over the devices of the nodes that its messages name, and whom it is made for.
+use Rattle.std.proofs.Common.{◌≡◌, ◌∙◌, ℕ, ◌==◌, Bool, true, false, cond, List, [], ◌∷◌, filter_map, Option, Some, None}
+use Rattle.std.proofs.Common.{option_map, option_and_then, refl, sym, ap, subst}
+use Rattle.std.specs.FinMap.{entries, find, get, get-entries}
+use Rattle.std.specs.Cmp.{tied_itself}
+use Rattle.std.specs.List.{All, cons_option}
+use Rattle.std.specs.Map.{lookup}
+use Rattle.std.specs.Ordering.{eq_by_cmp, is_eq, nat_cmp}
+use Rattle.std.proofs.lemmas.Bool.{eq-eqb, eqb-true}
+use Rattle.std.proofs.lemmas.Cmp.{nat_cmp_total}
+use Rattle.std.proofs.lemmas.Map.Lookups.{exact_unsigned}
+use Rattle.ini_text.specs.Content.{Section, content_of}
+use Rattle.co_base.proofs.TableLemmas.{alike}
+use Rattle.co_messages.specs.Messages.{is_of_messages, Named}
+use Rattle.co_project.specs.declared.node.Node.{Node}
+use Rattle.co_project.specs.Project.{Content}
+use Rattle.co_project.specs.Tables.{node_at, text_at}
+use Rattle.pdo_plan.proofs.MadeLemmas.{made_for}
+use Rattle.pdo_plan.proofs.NamedLemmas.{named_alike}
+use Rattle.pdo_stations.specs.Devices.{devices_of}
+use Rattle.pdo_plan.specs.Plan.{plan_of, IsMadeFor}
+use Rattle.project_plan.specs.Library.{Read}
+use Rattle.project_plan.specs.Named.{is_flagged, member_if_read, IsReadIf}
+use Rattle.project_plan.specs.Network.{members_of, member_at, member_of, plan_of_project, with_sections, Member}
+use Rattle.project_plan.proofs.NamedLemmas.{in_text, shelf_alike}
+
+-- the plan over the devices that were read is that over all
+pub planned_over : (read : Read) (flags : List Bool)
+    → ((node : ℕ) → is_flagged flags node ≡ is_of_messages node read.project.messages)
+    → All (IsReadIf flags read) (entries read.project.nodes)
+    → plan_of (devices_of (filter_map (member_if_read flags read.devices) (entries read.project.nodes)))
+    (entries read.project.messages) ≡ plan_of_project read.project
+unfolding plan_of_project members_of
+planned_over read flags named all =
+    named_alike (filter_map (member_if_read flags read.devices) (entries read.project.nodes))
+    (members_of read.project) read.project.messages
+    (λ node concerned. shelf_alike flags read node (named node ∙ concerned) (entries read.project.nodes) all)
+
+-- as a library has them, and another that says the same of the project
+pub planned_with : (old read : Read) (flags : List Bool) (ms : Named) (nodes : List (ℕ × List Section))
+    → read.project ≡ old.project → ms ≡ old.project.messages
+    → ((node : ℕ) → is_flagged flags node ≡ is_of_messages node ms)
+    → All (IsReadIf flags read) (entries old.project.nodes)
+    → nodes ≡ filter_map (member_if_read flags read.devices) (entries read.project.nodes)
+    → plan_of (devices_of nodes) (entries ms) ≡ plan_of_project old.project
+planned_with old read flags ms nodes same are named all is =
+    let messages : ms ≡ read.project.messages = are ∙ ap (λ (p : Content). p.messages) (sym same) in
+    ap (λ (ns : List (ℕ × List Section)). plan_of (devices_of ns) (entries ms)) is
+    ∙ ap (λ (m : Named). plan_of (devices_of (filter_map (member_if_read flags read.devices)
+    (entries read.project.nodes))) (entries m)) messages
+    ∙ planned_over read flags (λ node. named node ∙ ap (is_of_messages node) messages)
+    (subst (λ (p : Content). All (IsReadIf flags read) (entries p.nodes)) (sym same) all)
+    ∙ ap plan_of_project same
+
+-- ---- whom the plan is made for
+
+eq_by_cmp_same : (a b : ℕ) → a ≡ b → eq_by_cmp nat_cmp b a ≡ true
+eq_by_cmp_same a b same = ap (λ n. eq_by_cmp nat_cmp b n) same ∙ ap is_eq (tied_itself nat_cmp_total b)
+
+module _ (project : Content) (id : ℕ) where
+  abbrev pub at_id : List (ℕ × List Section) → Option (List Section)
+  at_id nodes = lookup (λ n. n == id) nodes
+
+  -- a node of another number
+  skipped : (e : ℕ × Node) (nodes : List (ℕ × List Section)) → (e.0 == id) ≡ false → (o : Option (List ℕ))
+      → at_id (cons_option (option_map (in_text e.0) o) nodes) ≡ at_id nodes
+  skipped e nodes other None = refl
+  skipped e nodes other (Some text) = ap (λ t. cond t (Some (content_of text).sections) (at_id nodes)) other
+
+  -- a node of this one
+  taken : (e : ℕ × Node) (nodes : List (ℕ × List Section)) (text : List ℕ) → (e.0 == id) ≡ true
+      → text_at project.texts e.1.eds ≡ Some text
+      → at_id (cons_option (member_of project e) nodes) ≡ Some (content_of text).sections
+  taken e nodes text same there =
+      ap (λ o. at_id (cons_option (option_map (in_text e.0) o) nodes)) there
+      ∙ ap (λ t. cond t (Some (content_of text).sections) (at_id nodes)) same
+
+  -- the sections of a node that is listed
+  listed : (node : Node) (text : List ℕ) → text_at project.texts node.eds ≡ Some text → (nodes : List (ℕ × Node))
+      → find nat_cmp id nodes ≡ Some node
+      → at_id (filter_map (member_of project) nodes) ≡ Some (content_of text).sections
+  listed node text there [] found = cc
+  listed node text there (e ∷ nodes) found = by (eq_by_cmp nat_cmp id e.0) refl found (listed node text there nodes)
+    where
+      another : eq_by_cmp nat_cmp id e.0 ≡ false → (t : Bool) → (e.0 == id) ≡ t → t ≡ false
+      another other true same = sym (eq_by_cmp_same e.0 id (eqb-true e.0 id same)) ∙ other
+      another other false apart = refl
+
+      by : (t : Bool) → eq_by_cmp nat_cmp id e.0 ≡ t → cond t (Some e.1) (find nat_cmp id nodes) ≡ Some node
+          → (find nat_cmp id nodes ≡ Some node → at_id (filter_map (member_of project) nodes)
+          ≡ Some (content_of text).sections)
+          → at_id (filter_map (member_of project) (e ∷ nodes)) ≡ Some (content_of text).sections
+      by true same is rest =
+          let itself : e.1 ≡ node = cc in
+          taken e (filter_map (member_of project) nodes) text
+          (eq-eqb e.0 id (sym (alike nat_cmp_total exact_unsigned id e.0 same)))
+          (ap (λ (n : Node). text_at project.texts n.eds) itself ∙ there)
+      by false other is rest = skipped e (filter_map (member_of project) nodes) (another other (e.0 == id) refl)
+          (text_at project.texts e.1.eds) ∙ rest is
+
+  -- the sections of a member
+  described_at : (m : Member) → member_at project id ≡ Some m → at_id (members_of project) ≡ Some m.sections
+  unfolding members_of member_at
+  described_at m found = by (node_at project.nodes id) refl found
+    where
+      with : (node : Node) → get project.nodes id ≡ Some node → (o : Option (List ℕ))
+          → text_at project.texts node.eds ≡ o
+          → option_map (λ text. record { node = node; sections = (content_of text).sections }) o ≡ Some m
+          → at_id (filter_map (member_of project) (entries project.nodes)) ≡ Some m.sections
+      with node known None none is = cc
+      with node known (Some text) there is =
+          let sections : (content_of text).sections ≡ m.sections = cc in
+          listed node text there (entries project.nodes) (sym (get-entries project.nodes id) ∙ known) ∙ ap Some sections
+
+      by : (o : Option Node) → get project.nodes id ≡ o → option_and_then (with_sections project) o ≡ Some m
+          → at_id (filter_map (member_of project) (entries project.nodes)) ≡ Some m.sections
+      by None none is = cc
+      by (Some node) known is = with node known (text_at project.texts node.eds) refl is
+
+  -- the plan is made for it
+  pub made_for_member : (m : Member) → member_at project id ≡ Some m → IsMadeFor (plan_of_project project) m.sections id
+  unfolding plan_of_project
+  made_for_member m found = made_for (members_of project) id m.sections (described_at m found)
+      (entries project.messages)

@@ -1,0 +1,119 @@
+//! The devices of a project that were read.
+ghost use Rattle.std.specs.Prelude.{◌≡◌, IfOk, IfSome, OnOk, OnErr, Ok, Some, option_copied, option_map};
+ghost use Rattle.std.specs.FinMap as map;
+ghost use Rattle.eds_device.specs.Faults.{device_of};
+ghost use Rattle.ini_text.specs.Content.{content_of};
+ghost use Rattle.co_project.specs.Tables.{text_at};
+ghost use Rattle.project_plan.specs.Library.{with_device, IsRead};
+
+use co_project::Project;
+use eds_device::{Device, DeviceFault};
+use std::alloc::{AllocError, Global};
+use std::collections::BTreeMap;
+use std::marker::Model;
+
+/// The devices of a project that were read, by the names of their EDS: each text is read at most
+/// once. Contracts see it as a record with the project and these devices.
+#[derive(Drop)]
+pub struct Library<'a> {
+    alloc: Global,
+    project: &'a Project,
+    devices: BTreeMap<Vec<u8>, Device>,
+}
+
+impl<'a> Model for Library<'a> {
+    ghost use Rattle.co_messages.specs.Messages.{by_name};
+    ghost use Rattle.co_project.specs.contracts.project.Project as held;
+    ghost use Rattle.eds_device.specs.contracts.device.Device as device;
+    ghost use Rattle.std.specs.FinMap as map;
+    ghost use Rattle.project_plan.specs.Library.{Read, read_code, AreRead};
+
+    ghost Value = { Read };
+
+    ghost coded = { read_code held.the_row.coded device.the_row.coded };
+
+    ghost view = { λ l. record { project = l.project.now; devices = map.from_entries (by_name l.devices.entries) } };
+
+    ghost invariant = { λ l. AreRead l.project.now (map.from_entries (by_name l.devices.entries)) };
+}
+
+/// Reads the text of a device.
+fn read_device(alloc: Global, text: &[u8]) -> Result<Device, AllocError>
+    requires { device_of text.now ≡ Ok (content_of text.now) }
+    ensures { IfOk result (λ device. device ≡ content_of text.now) }
+{
+    match Device::read(alloc, text) {
+        Ok(device) => Ok(device),
+        Err(DeviceFault::Memory) => Err(AllocError),
+        Err(_fault) => unreachable!(),
+    }
+}
+
+impl<'a> Library<'a> {
+    /// The library of a project of which nothing was read.
+    pub fn new(alloc: Global, project: &'a Project) -> Self
+        ensures project { result.project ≡ project.now }
+        ensures devices { result.devices ≡ map.empty }
+    {
+        Library {
+            alloc,
+            project,
+            devices: BTreeMap::new(alloc),
+        }
+    }
+
+    /// The project.
+    pub fn project(&self) -> &'a Project
+        ensures { result.now ≡ self.now.project }
+    {
+        self.project
+    }
+
+    /// Reads the device of an EDS, unless it was read or there is no text of that name. Want of
+    /// memory changes nothing.
+    ///
+    /// Takes time by the length of the text and its logarithm, or by the logarithm of the number of
+    /// texts where it was read before.
+    pub fn read(&mut self, name: &[u8]) -> Result<(), AllocError>
+        ensures ok { OnOk result (self.new ≡ with_device self.old name.now) }
+        ensures err { OnErr result (self.new ≡ self.old) }
+
+        // So it is there afterwards, if there is such a text.
+        ensures read { OnOk result (IsRead self.new name.now) }
+    {
+        if self.devices.get(name).is_some() {
+            return Ok(());
+        }
+        let project = self.project;
+        let Some(text) = project.text(name) else {
+            return Ok(());
+        };
+        let device = read_device(self.alloc, text)?;
+        let name = Vec::from_slice(self.alloc, name)?;
+        self.devices.insert(name, device)?;
+        Ok(())
+    }
+
+    /// The device of an EDS, if it was read.
+    pub fn device(&self, name: &[u8]) -> Option<&Device>
+        ensures device { option_copied result ≡ map.get self.now.devices name.now }
+
+        // It is what the text of that name describes.
+        ensures described { IfSome result (λ device. option_map content_of (text_at self.now.project.texts name.now)
+            ≡ Some device.now) }
+    {
+        self.devices.get(name)
+    }
+
+    /// The device of an EDS, if it was read, without the others.
+    pub fn into_device(self, name: &[u8]) -> Option<Device>
+        ensures device { result ≡ map.get self.entry.devices name.now }
+
+        // It is what the text of that name describes.
+        ensures described { IfSome result (λ device. option_map content_of (text_at self.entry.project.texts name.now)
+            ≡ Some device) }
+    {
+        let mut devices = self.devices;
+        devices.remove(name)
+    }
+}
