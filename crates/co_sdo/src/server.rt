@@ -100,17 +100,17 @@ impl Server {
         }
     }
 
-    /// An equal server.
+    /// An equal server. A spent one has none.
     pub fn copy(&self) -> Result<Server, AllocError>
-        ensures { IfOk result (λ server. server ≡ self.now) }
+        ensures same { IfOk result (λ server. server ≡ self.now) }
+        ensures refused { self.now ≡ None → IsErr result }
     {
-        let transfer = match &self.transfer {
-            Some(transfer) => Some(copy(transfer)?),
-            None => None,
+        let Some(transfer) = &self.transfer else {
+            return Err(AllocError);
         };
         Ok(Server {
             alloc: self.alloc,
-            transfer,
+            transfer: Some(copy(transfer)?),
         })
     }
 

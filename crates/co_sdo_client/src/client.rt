@@ -87,17 +87,17 @@ impl Client {
         }
     }
 
-    /// An equal client.
+    /// An equal client. A spent one has none.
     pub fn copy(&self) -> Result<Client, AllocError>
-        ensures { IfOk result (λ client. client ≡ self.now) }
+        ensures same { IfOk result (λ client. client ≡ self.now) }
+        ensures refused { self.now ≡ None → IsErr result }
     {
-        let stage = match &self.stage {
-            Some(stage) => Some(copy(stage)?),
-            None => None,
+        let Some(stage) = &self.stage else {
+            return Err(AllocError);
         };
         Ok(Client {
             alloc: self.alloc,
-            stage,
+            stage: Some(copy(stage)?),
         })
     }
 
