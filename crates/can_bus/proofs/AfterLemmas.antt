@@ -34,7 +34,7 @@ use Rattle.nmt_boot.proofs.MomentLemmas.{command_ahead, due_later as timers_late
 use Rattle.nmt_boot.specs.Ahead.{IsAhead as IsManagerAhead}
 use Rattle.nmt_boot.specs.Manager as manager
 use Rattle.nmt_boot.specs.Manager.{Manager}
-use Rattle.nmt_boot.specs.declared.note.Note.{Note as Noted}
+use Rattle.node_boot.specs.declared.note.Note.{Note as Noted}
 use Rattle.bus_devices.specs.Senders.{device_at, sender_place}
 use Rattle.can_bus.specs.Bus.{Bus, after_delivery, devices_without_winner, ended_slot, after_events, from_delivery_on}
 use Rattle.can_bus.specs.Bus.{winning_frame, device_after_slot, instant, manager_after_delivery, manager_without_winner}

@@ -6,7 +6,7 @@ use Rattle.asking.proofs.QuestionLemmas.{outcome_bind, reads_bind, followed_last
 use Rattle.co_parts.specs.Contents.{Content, Image}
 use Rattle.co_parts.specs.declared.part.Part.{Part}
 use Rattle.nmt_boot.specs.Manager.{Manager, timers}
-use Rattle.nmt_boot.specs.declared.note.Note.{Note}
+use Rattle.node_boot.specs.declared.note.Note.{Note}
 use Rattle.can_bus.specs.Bus.{manager_after_delivery, manager_after_slot, manager_after_timers}
 use Rattle.can_bus.specs.declared.slot.Slot.{Slot}
 

@@ -8,7 +8,7 @@ use Rattle.asking.specs.Asking.{outcome, turns}
 use Rattle.asking.proofs.QuestionLemmas.{outcome_bind}
 use Rattle.asking.proofs.ToldLemmas.{told_to}
 use Rattle.co_parts.specs.Contents.{Image}
-use Rattle.nmt_boot.specs.declared.note.Note.{Note as Noted}
+use Rattle.node_boot.specs.declared.note.Note.{Note as Noted}
 use Rattle.can_bus.specs.Bus.{Bus, ended_slot, frame_lines, from_delivery_on, instant, nodes_after, note_lines}
 use Rattle.can_bus.specs.Bus.{power_on}
 use Rattle.can_bus.specs.Lines.{line_time}

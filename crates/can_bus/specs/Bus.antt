@@ -19,7 +19,7 @@ use Rattle.co_device.specs.Receiving.{after_frame}
 use Rattle.co_scenario.specs.declared.timed_step.TimedStep.{TimedStep}
 use Rattle.nmt_boot.specs.Manager as manager
 use Rattle.nmt_boot.specs.Manager.{Manager}
-use Rattle.nmt_boot.specs.declared.note.Note.{Note as Noted}
+use Rattle.node_boot.specs.declared.note.Note.{Note as Noted}
 use Rattle.bus_devices.specs.Senders.{device_at, sender_place}
 use Rattle.bus_events.specs.Each.{each}
 use Rattle.bus_events.specs.Events.{after_events_at}

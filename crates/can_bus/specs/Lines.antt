@@ -7,7 +7,7 @@ use Rattle.co_text.specs.Digits.{index_digits}
 use Rattle.co_text.specs.Lines.{line_feed}
 use Rattle.node_boot.specs.declared.note_kind.NoteKind.{NoteKind}
 use Rattle.node_boot.specs.declared.note_kind.NoteKind.TheVariants.{Lost, Configured, Difference, Aborted, TimedOut}
-use Rattle.nmt_boot.specs.declared.note.Note.{Note as Noted}
+use Rattle.node_boot.specs.declared.note.Note.{Note as Noted}
 use Rattle.can_bus.specs.declared.line.Line.{Line}
 use Rattle.can_bus.specs.declared.line.Line.TheVariants.{Frame, Note}
 

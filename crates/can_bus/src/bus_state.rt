@@ -21,7 +21,8 @@ use bus_events::StepsLeft;
 use can_frame::{Frame, bit_time, slot_bits};
 use co_base::Octets;
 use co_parts::{END, Roster};
-use nmt_boot::{Manager, Notes};
+use nmt_boot::Manager;
+use node_boot::Notes;
 use std::alloc::{AllocError, Global};
 use std::marker::Model;
 

@@ -5,7 +5,7 @@ ghost use Rattle.can_bus.specs.Lines.{line_text, line_time};
 
 use crate::note_line::note_line;
 use can_frame::{Frame, line};
-use nmt_boot::Note;
+use node_boot::Note;
 use std::alloc::{AllocError, Global};
 
 /// What a trace tells of a moment in microseconds.

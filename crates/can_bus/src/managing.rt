@@ -6,8 +6,8 @@ ghost use Rattle.can_bus.specs.Bus.{manager_after_delivery, manager_after_slot};
 
 use crate::slot::Slot;
 use co_parts::END;
-use nmt_boot::{Manager, Notes};
-use node_boot::Boots;
+use nmt_boot::Manager;
+use node_boot::{Boots, Notes};
 use std::alloc::AllocError;
 
 /// Gives the manager the frame of a slot that ends at the moment t, if it isn't its sender.

@@ -10,7 +10,8 @@ use crate::slot::Slot;
 use bus_devices::Devices;
 use co_parts::END;
 use device_agenda::Delivery;
-use nmt_boot::{Manager, Notes};
+use nmt_boot::Manager;
+use node_boot::Notes;
 use std::alloc::AllocError;
 
 /// What is delivered where a slot ends.

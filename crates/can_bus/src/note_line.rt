@@ -6,8 +6,7 @@ ghost use Rattle.can_frame.specs.TraceLines.{ten_digits};
 
 use co_dict::Abort;
 use co_text::index_digits;
-use nmt_boot::Note;
-use node_boot::NoteKind;
+use node_boot::{Note, NoteKind};
 use std::alloc::{AllocError, Global};
 
 /// The longest line has as many bytes.

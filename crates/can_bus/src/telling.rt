@@ -6,7 +6,7 @@ ghost use Rattle.can_bus.specs.Bus.{frame_lines, note_lines};
 use crate::line::Line;
 use crate::lines::Lines;
 use crate::slot::Slot;
-use nmt_boot::Note;
+use node_boot::Note;
 use std::alloc::AllocError;
 
 /// Tells of the frame of a slot that ends at a time.

@@ -6,8 +6,8 @@ use anyhow::Result;
 use can_frame::{Frame, Purpose, Waiting};
 use co_device::DeviceState;
 use co_dict::Dict;
-use nmt_boot::{Manager, Note};
-use node_boot::NoteKind;
+use nmt_boot::Manager;
+use node_boot::{Note, NoteKind};
 use std::io::Write;
 
 /// The word for what a frame is for.

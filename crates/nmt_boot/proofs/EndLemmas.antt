@@ -20,7 +20,7 @@ use Rattle.nmt_boot.specs.Ends.{configured_note, WritesEnd}
 use Rattle.nmt_boot.specs.Manager.{Manager, node_at, note_of_loss, notes_after, notes_after_all, notes_of, after_frame}
 use Rattle.nmt_boot.specs.Manager.{time_outs, timers}
 use Rattle.nmt_boot.specs.declared.booting.Booting.{Booting}
-use Rattle.nmt_boot.specs.declared.note.Note.{Note}
+use Rattle.node_boot.specs.declared.note.Note.{Note}
 
 -- ---- elements of short lists
 

@@ -14,7 +14,7 @@ use Rattle.nmt_boot.specs.Sending.{sending_of}
 use Rattle.can_frame.specs.declared.waiting.Waiting.{Waiting}
 use Rattle.nmt_boot.specs.declared.sent.Sent.{Sent}
 use Rattle.nmt_boot.specs.declared.booting.Booting.{Booting}
-use Rattle.nmt_boot.specs.declared.note.Note.{Note}
+use Rattle.node_boot.specs.declared.note.Note.{Note}
 
 module _ {A B : Type 0} (m : Asking Part Content A) (f : A → B) where
   outcome_then : (image : Image) → outcome (bind m (λ a. Answer (f a))) image ≡ f (outcome m image)

@@ -11,7 +11,7 @@ use Rattle.node_boot.proofs.ChoiceLemmas.{picked}
 use Rattle.node_boot.specs.Boot.{boot_nmt_slave, sdo_answer}
 use Rattle.nmt_boot.specs.Manager.{Manager, node_at, after_boot_start, after_step, after_boot_up, after_sdo_frame}
 use Rattle.nmt_boot.specs.Manager.{is_boot_up, place_of, after_frame}
-use Rattle.nmt_boot.specs.declared.note.Note.{Note}
+use Rattle.node_boot.specs.declared.note.Note.{Note}
 
 module _ (image : Image) (t : ℕ) (frame : BaseFrame) (m : Manager)
     (P : Manager × List Note → List (Part × Content) → Type 0)

@@ -15,7 +15,7 @@ use Rattle.nmt_boot.specs.Manager.{Manager, with_command, deadlines, heartbeat_f
 use Rattle.nmt_boot.specs.Manager.{notes_after_all, queue_after_all, sync_frame, syncs, time_outs, timers}
 use Rattle.node_boot.specs.declared.boot_stage.BootStage.{BootStage}
 use Rattle.nmt_boot.specs.declared.booting.Booting.{Booting}
-use Rattle.nmt_boot.specs.declared.note.Note.{Note}
+use Rattle.node_boot.specs.declared.note.Note.{Note}
 
 -- no deadline of these nodes lies before t
 abbrev pub AreFrom : ℕ → List Booting → Type 0

@@ -3,7 +3,7 @@ use Rattle.std.specs.Prelude.{◌≡◌, ℕ, ◌⊎◌, List}
 use Rattle.co_parts.specs.Contents.{Content, Image}
 use Rattle.co_parts.specs.declared.part.Part.{Part}
 use Rattle.nmt_boot.specs.Manager.{Manager, node_at}
-use Rattle.nmt_boot.specs.declared.note.Note.{Note}
+use Rattle.node_boot.specs.declared.note.Note.{Note}
 use Rattle.node_boot.specs.Ends.{IsAbsent, IsAtLast}
 use Rattle.node_boot.specs.declared.note_kind.NoteKind.TheVariants as kind
 

@@ -5,12 +5,11 @@ ghost use Rattle.asking.specs.Asking.{after_reads, outcome, reads};
 ghost use Rattle.node_boot.specs.Boot as rules;
 ghost use Rattle.nmt_boot.specs.Manager.{note_of_loss as lost_by, node_after, notes_after, queue_after};
 
-use crate::notes::Notes;
 use crate::sent::Sent;
 use crate::telling::tell;
 use can_frame::{Pending, Unwanted};
 use node_boot::{
-    BootStage, Boots, NoteKind, boot_nmt_slave, is_timed_out, sdo_answer, sdo_time_out,
+    BootStage, Boots, NoteKind, Notes, boot_nmt_slave, is_timed_out, sdo_answer, sdo_time_out,
 };
 use std::alloc::{AllocError, Global};
 use std::mem;

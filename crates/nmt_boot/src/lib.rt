@@ -5,12 +5,8 @@ mod booting;
 pub mod laws;
 mod manager;
 mod node_table;
-mod note;
-mod notes;
 mod sent;
 mod telling;
 
 pub use booting::Booting;
 pub use manager::Manager;
-pub use note::Note;
-pub use notes::Notes;

@@ -7,12 +7,11 @@ ghost use Rattle.can_frame.specs.Winner.{contenders_of, IsWinner};
 ghost use Rattle.nmt_boot.specs.Manager as rules;
 
 use crate::node_table::NodeTable;
-use crate::notes::Notes;
 use crate::telling::{note, send_command, tell};
 use can_frame::{Contender, Frame, Pending, Purpose, Unwanted, Waiting, identifiers};
 use co_parts::{END, Roster, earlier, is_due, moment_after};
 use co_scenario::NmtCommand;
-use node_boot::Boots;
+use node_boot::{Boots, Notes};
 use std::alloc::{AllocError, Global};
 use std::marker::Model;
 

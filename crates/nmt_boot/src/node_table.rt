@@ -9,11 +9,10 @@ ghost use Rattle.nmt_boot.specs.Manager.{place_of as is_place_of, queue_after_al
 ghost use Rattle.nmt_boot.specs.Sending.{sending_of};
 
 use crate::booting::Booting;
-use crate::notes::Notes;
 use crate::sent::Sent;
 use can_frame::Pending;
 use co_parts::earlier;
-use node_boot::{BootStage, Boots, NoteKind, deadline_of};
+use node_boot::{BootStage, Boots, NoteKind, Notes, deadline_of};
 use std::alloc::{AllocError, Global};
 use std::marker::Model;
 

@@ -5,12 +5,10 @@ ghost use Rattle.can_frame.specs.WaitingFrames.{waiting as queued};
 ghost use Rattle.can_frame.specs.declared.purpose.Purpose.TheVariants as purposes;
 ghost use Rattle.nmt_boot.specs.Manager.{nmt_frame as frame_of_command, notes_of, sdo_frames, start_frames};
 
-use crate::note::Note;
-use crate::notes::Notes;
 use crate::sent::Sent;
 use can_frame::{Frame, Pending, Purpose, identifiers};
 use co_scenario::NmtCommand;
-use node_boot::NoteKind;
+use node_boot::{Note, NoteKind, Notes};
 use std::alloc::AllocError;
 
 /// Queues an SDO frame to a node, if there is one.

@@ -7,7 +7,9 @@ mod boot_step;
 mod boots;
 mod download;
 mod identity_check;
+mod note;
 mod note_kind;
+mod notes;
 mod time_outs;
 
 pub use answers::sdo_answer;
@@ -15,5 +17,7 @@ pub use boot_stage::BootStage;
 pub use boot_step::BootStep;
 pub use boots::Boots;
 pub use identity_check::boot_nmt_slave;
+pub use note::Note;
 pub use note_kind::NoteKind;
+pub use notes::Notes;
 pub use time_outs::{deadline_of, is_timed_out, sdo_time_out};

@@ -1,6 +1,6 @@
 //! A note of a node.
 
-use node_boot::NoteKind;
+use crate::note_kind::NoteKind;
 
 /// What the manager notes of a node.
 #[derive(Clone, Copy, Debug, PartialEq, Eq)]

@@ -14,7 +14,7 @@ pub struct Notes {
 
 impl Model for Notes {
     ghost use Rattle.std.specs.Prelude.{List};
-    ghost use Rattle.nmt_boot.specs.declared.note.Note.{Note};
+    ghost use Rattle.node_boot.specs.declared.note.Note.{Note};
 
     ghost Value = { List Note };
 
