@@ -1,7 +1,7 @@
 mod Mappings
-mod Numbered
-mod OrderLemmas
+pub mod Numbered
+pub mod OrderLemmas
 mod Sizes
 mod Tabled
-mod Values
-mod WhoseLemmas
+pub mod Values
+pub mod WhoseLemmas

@@ -30,7 +30,7 @@ use Rattle.pdo_links.proofs.Numbered.{Sends, Takes, sends, takes, found, append_
 -- ---- elements
 
 -- an element of two lists behind one another is one of either
-of_either : {X : Type 0} (xs ys : List X) (x : X) → Contains (xs ++ ys) x → Contains xs x ⊎ Contains ys x
+pub of_either : {X : Type 0} (xs ys : List X) (x : X) → Contains (xs ++ ys) x → Contains xs x ⊎ Contains ys x
 of_either [] ys x has = inr has
 of_either (z ∷ xs) ys x (zero, lt, is) = inl (zero, omega arith, is)
 of_either {X} (z ∷ xs) ys x (suc k, lt, is) = by (of_either xs ys x (k, omega arith, is))
@@ -69,7 +69,7 @@ module _ {Y : Type 0} (f : Y → List Write) where
 
 -- ---- whose
 
-of_tpdos : (cs : List Clean) (ss : List Section) (node : ℕ) (w : Write)
+pub of_tpdos : (cs : List Clean) (ss : List Section) (node : ℕ) (w : Write)
     → Contains (by_number (tpdo_writes ss node) (filter_map (tpdo_of node) cs)) w → IsOfSent cs ss node w
 of_tpdos cs ss node w has =
     let b : Behind (tpdo_writes ss node) (filter_map (tpdo_of node) cs) w = behind_number (tpdo_writes ss node)
@@ -77,7 +77,7 @@ of_tpdos cs ss node w has =
     let s : Sends cs node b.0 b.1.0 = sends cs node b.0 b.1.0 b.1.1 in
     (b.1.0, s.message, s.sender, b.1.2)
 
-of_rpdos : (cs : List Clean) (node : ℕ) (w : Write)
+pub of_rpdos : (cs : List Clean) (node : ℕ) (w : Write)
     → Contains (by_number (λ (t : Clean × Consumer). rpdo_writes t.0 t.1) (filter_map (rpdo_of node) cs)) w
     → IsOfTaken cs node w
 of_rpdos cs node w has =
@@ -209,25 +209,18 @@ module _ {Y : Type 0} (f : Y → List Write) (pdos : List (ℕ × Y)) (number : 
       bounds : (n : ℕ) → is_between 1 512 n ≡ true → (1 ≤ n) × (n < 1 + 512)
       bounds n test = grind arith
 
-pub sent_written : (plan : List PlannedMessage) (params : Texts) (ss : List Section) (node : ℕ) (c : Clean) (w : Write)
-    → IsSentAlone (clean plan) node c → Contains (tpdo_writes ss node c) w
-    → Contains (node_writes plan params ss node) w
-unfolding node_writes link_writes
-sent_written plan params ss node c w sent has =
-    let pdos : List (ℕ × Clean) = filter_map (tpdo_of node) (clean plan) in
-    let f : Clean → List Write = tpdo_writes ss node in
+-- at the number of its TPDO a node has the writes of the message that it sends alone
+pub sent_at : (cs : List Clean) (ss : List Section) (node : ℕ) (c : Clean) → IsSentAlone cs node c
+    → at_number (tpdo_writes ss node) (filter_map (tpdo_of node) cs) c.message.tpdo ≡ tpdo_writes ss node c
+sent_at cs ss node c sent =
     let number : ℕ = c.message.tpdo in
     let given : tpdo_of node c ≡ Some (number, c) = own (c.message.node == node)
     (same_number c.message.node node sent.sender) in
-    let at : (z : Clean) × (lookup (is_at (nat_cmp number)) pdos ≡ Some z) = given_found (tpdo_of node)
-    (clean plan) c number c sent.there given in
-    let s : Sends (clean plan) node number at.0 = sends (clean plan) node number at.0 at.1 in
+    let at : (z : Clean) × (lookup (is_at (nat_cmp number)) (filter_map (tpdo_of node) cs) ≡ Some z) =
+    given_found (tpdo_of node) cs c number c sent.there given in
+    let s : Sends cs node number at.0 = sends cs node number at.0 at.1 in
     let same : at.0 ≡ c = sent.alone at.0 s.message s.sender s.numbered in
-    let here : at_number f pdos number ≡ f c = ap (λ (o : Option Clean). option_map_or f o []) at.1 ∙ ap f same in
-    in_second (parameter_writes ss params node) (link_writes plan ss node) w
-    (in_first (by_number f pdos) (by_number (λ (t : Clean × Consumer). rpdo_writes t.0 t.1)
-    (filter_map (rpdo_of node) (clean plan))) w
-    (in_numbers f pdos number w (subst (λ (ws : List Write). Contains ws w) (sym here) has) sent.numbered))
+    ap (λ (o : Option Clean). option_map_or (tpdo_writes ss node) o []) at.1 ∙ ap (tpdo_writes ss node) same
   where
     own : (b : Bool) → b ≡ true → (let none : Option (ℕ × Clean) = None in let o : Option (ℕ × Clean) = if b
         then Some (c.message.tpdo, c) else none in o ≡ Some (c.message.tpdo, c))
@@ -236,6 +229,19 @@ sent_written plan params ss node c w sent has =
 
     same_number : (m n : ℕ) → m ≡ n → (m == n) ≡ true
     same_number m n e = grind arith
+
+pub sent_written : (plan : List PlannedMessage) (params : Texts) (ss : List Section) (node : ℕ) (c : Clean) (w : Write)
+    → IsSentAlone (clean plan) node c → Contains (tpdo_writes ss node c) w
+    → Contains (node_writes plan params ss node) w
+unfolding node_writes link_writes
+sent_written plan params ss node c w sent has =
+    let pdos : List (ℕ × Clean) = filter_map (tpdo_of node) (clean plan) in
+    let f : Clean → List Write = tpdo_writes ss node in
+    in_second (parameter_writes ss params node) (link_writes plan ss node) w
+    (in_first (by_number f pdos) (by_number (λ (t : Clean × Consumer). rpdo_writes t.0 t.1)
+    (filter_map (rpdo_of node) (clean plan))) w
+    (in_numbers f pdos c.message.tpdo w (subst (λ (ws : List Write). Contains ws w)
+    (sym (sent_at (clean plan) ss node c sent)) has) sent.numbered))
 
 -- the consumer that is a node is found
 node_found : (node : ℕ) (ks : List Consumer) (k : Consumer) → Contains ks k → k.node ≡ node
@@ -253,12 +259,10 @@ node_found node (x ∷ ks) k (suc i, lt, is) e = by (x.node == node) (node_found
     by true r = (x, refl)
     by false r = r
 
-pub taken_written : (plan : List PlannedMessage) (params : Texts) (ss : List Section) (node : ℕ) (c : Clean)
-    (k : Consumer) (w : Write)
-    → IsTakenAlone (clean plan) node c k → Contains (rpdo_writes c k) w → Contains (node_writes plan params ss node) w
-unfolding node_writes link_writes
-taken_written plan params ss node c k w taken has =
-    let pdos : List (ℕ × (Clean × Consumer)) = filter_map (rpdo_of node) (clean plan) in
+-- at the number of its RPDO a node has the writes of the message that it takes alone
+pub taken_at : (cs : List Clean) (node : ℕ) (c : Clean) (k : Consumer) → IsTakenAlone cs node c k
+    → at_number (λ (t : Clean × Consumer). rpdo_writes t.0 t.1) (filter_map (rpdo_of node) cs) k.rpdo ≡ rpdo_writes c k
+taken_at cs node c k taken =
     let f : Clean × Consumer → List Write = λ (t : Clean × Consumer). rpdo_writes t.0 t.1 in
     let number : ℕ = k.rpdo in
     let there : (j : Consumer) × (find (λ (k : Consumer). k.node == node) c.consumers ≡ Some j) =
@@ -269,15 +273,23 @@ taken_written plan params ss node c k w taken has =
     let given : rpdo_of node c ≡ Some (number, (c, k)) =
     ap (option_map {U = ℕ × (Clean × Consumer)} (λ (k : Consumer). (k.rpdo, (c, k))))
     (there.1 ∙ ap (λ (i : Consumer). Some i) it) in
-    let at : (z : Clean × Consumer) × (lookup (is_at (nat_cmp number)) pdos ≡ Some z) = given_found (rpdo_of node)
-    (clean plan) c number (c, k) taken.there given in
-    let t : Takes (clean plan) node number at.0 = takes (clean plan) node number at.0 at.1 in
+    let at : (z : Clean × Consumer) × (lookup (is_at (nat_cmp number)) (filter_map (rpdo_of node) cs) ≡ Some z) =
+    given_found (rpdo_of node) cs c number (c, k) taken.there given in
+    let t : Takes cs node number at.0 = takes cs node number at.0 at.1 in
     let message : at.0.0 ≡ c = taken.alone at.0.0 at.0.1 t.message t.consumer t.taker t.numbered in
     let consumer : at.0.1
     ≡ k = taken.once at.0.1 (subst (λ (d : Clean). Contains d.consumers at.0.1) message t.consumer) t.taker in
-    let here : at_number f pdos number ≡ rpdo_writes c k =
-    ap (λ (o : Option (Clean × Consumer)). option_map_or f o []) at.1
-    ∙ ap (λ (d : Clean). rpdo_writes d at.0.1) message ∙ ap (rpdo_writes c) consumer in
+    ap (λ (o : Option (Clean × Consumer)). option_map_or f o []) at.1 ∙ ap (λ (d : Clean). rpdo_writes d at.0.1) message
+    ∙ ap (rpdo_writes c) consumer
+
+pub taken_written : (plan : List PlannedMessage) (params : Texts) (ss : List Section) (node : ℕ) (c : Clean)
+    (k : Consumer) (w : Write)
+    → IsTakenAlone (clean plan) node c k → Contains (rpdo_writes c k) w → Contains (node_writes plan params ss node) w
+unfolding node_writes link_writes
+taken_written plan params ss node c k w taken has =
+    let pdos : List (ℕ × (Clean × Consumer)) = filter_map (rpdo_of node) (clean plan) in
+    let f : Clean × Consumer → List Write = λ (t : Clean × Consumer). rpdo_writes t.0 t.1 in
     in_second (parameter_writes ss params node) (link_writes plan ss node) w
     (in_second (by_number (tpdo_writes ss node) (filter_map (tpdo_of node) (clean plan))) (by_number f pdos) w
-    (in_numbers f pdos number w (subst (λ (ws : List Write). Contains ws w) (sym here) has) taken.numbered))
+    (in_numbers f pdos k.rpdo w (subst (λ (ws : List Write). Contains ws w)
+    (sym (taken_at (clean plan) node c k taken)) has) taken.numbered))

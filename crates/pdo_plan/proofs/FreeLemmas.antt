@@ -210,7 +210,7 @@ module _ (devices : Devices) (ms : List (List ℕ × Linked)) where
   tpdos_apart i j c d ec ed node tpdo = one_place i j (later_tpdo i j c d ec ed node tpdo)
       (later_tpdo j i d c ed ec (sym node) (sym tpdo))
 
-  apart_at : (k : ℕ) (c : Clean) → slice_get (clean_plan devices ms) k ≡ Some c
+  pub apart_at : (k : ℕ) (c : Clean) → slice_get (clean_plan devices ms) k ≡ Some c
       → Apart (take k (clean_plan devices ms)) c
   apart_at k c e =
       at_place devices Apart (clean_plan devices ms) k c (each_clean devices Apart (consumers_apart devices) ms) e

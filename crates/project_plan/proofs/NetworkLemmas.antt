@@ -54,7 +54,7 @@ planned_with old read flags ms nodes same are named all is =
 
 -- ---- whom the plan is made for
 
-eq_by_cmp_same : (a b : ℕ) → a ≡ b → eq_by_cmp nat_cmp b a ≡ true
+pub eq_by_cmp_same : (a b : ℕ) → a ≡ b → eq_by_cmp nat_cmp b a ≡ true
 eq_by_cmp_same a b same = ap (λ n. eq_by_cmp nat_cmp b n) same ∙ ap is_eq (tied_itself nat_cmp_total b)
 
 module _ (project : Content) (id : ℕ) where
@@ -99,7 +99,7 @@ module _ (project : Content) (id : ℕ) where
           (text_at project.texts e.1.eds) ∙ rest is
 
   -- the sections of a member
-  described_at : (m : Member) → member_at project id ≡ Some m → at_id (members_of project) ≡ Some m.sections
+  pub described_at : (m : Member) → member_at project id ≡ Some m → at_id (members_of project) ≡ Some m.sections
   unfolding members_of member_at
   described_at m found = by (node_at project.nodes id) refl found
     where

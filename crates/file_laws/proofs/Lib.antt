@@ -1,0 +1,6 @@
+mod MemberLemmas
+mod AloneLemmas
+mod NamedLemmas
+mod PdoLemmas
+mod PlanLemmas
+mod WritesLemmas

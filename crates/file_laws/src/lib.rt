@@ -1,0 +1,5 @@
+//! Laws of the files and the plan of a project.
+#![tactic(auto)]
+
+pub mod plans;
+pub mod writes;
