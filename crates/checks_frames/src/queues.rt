@@ -50,20 +50,23 @@ fn take(lists: &mut [Pending], node: u8, place: usize) {
     }
 }
 
+/// Prints the winner, if a frame waits, and takes it out of its list.
+fn show_next(rt: &HostRuntime, lists: &mut [Pending]) -> Result<()> {
+    if let Some(best) = least(lists) {
+        println!(rt; "{:03X} {} {}", best.id, best.node, best.place)?;
+        take(lists, best.node, best.place);
+    }
+    Ok(())
+}
+
 /// Prints a thousand winners one after the other, each of which leaves its list.
 pub fn many(rt: &HostRuntime) -> Result<()> {
     let mut lists = filled(rt.alloc())?;
     for _ in 0..COUNT {
-        let Some(best) = least(&lists) else {
-            break;
-        };
-        println!(rt; "{:03X} {} {}", best.id, best.node, best.place)?;
-        take(&mut lists, best.node, best.place);
+        show_next(rt, &mut lists)?;
     }
-    println!(rt;
-        "left {}",
-        lists.iter().filter(|list| !list.is_empty()).count()
-    )?;
+    let left = lists.iter().filter(|list| !list.is_empty()).count();
+    println!(rt; "left {left}")?;
     Ok(())
 }
 
@@ -92,30 +95,90 @@ fn replace(list: &mut Pending, purpose: Purpose, id: u16) -> Result<(), AllocErr
     }
 }
 
-/// Prints a list after each change of it, and the winner of it and another with the same identifier.
-pub fn few(rt: &HostRuntime) -> Result<()> {
-    let mut list = Pending::new(rt.alloc());
-    add(&mut list, Purpose::Heartbeat, 0x705)?;
-    add(&mut list, Purpose::Tpdo(1), 0x185)?;
-    add(&mut list, Purpose::Sdo(5), 0x585)?;
-    add(&mut list, Purpose::Tpdo(2), 0x185)?;
-    show(rt, &list)?;
-    replace(&mut list, Purpose::Tpdo(1), 0x190)?;
-    replace(&mut list, Purpose::Emergency, 0x085)?;
-    replace(&mut list, Purpose::Heartbeat, 0x706)?;
-    show(rt, &list)?;
-    let copy = list.copy()?;
-    println!(rt; "same {}", list.same(&copy))?;
-    list.drop_of(Unwanted::Tpdos);
-    show(rt, &list)?;
-    println!(rt; "same {}", list.same(&copy))?;
-    list.drop_of(Unwanted::SdoOf(6));
-    list.drop_of(Unwanted::Emergencies);
-    show(rt, &list)?;
-    if let Some(best) = winner(&[(5, &list), (4, &copy), (3, &copy)]) {
+/// Prints the winner of a list and two others.
+fn show_winner(rt: &HostRuntime, list: &Pending, other: &Pending) -> Result<()> {
+    if let Some(best) = winner(&[(5, list), (4, other), (3, other)]) {
         println!(rt; "{:03X} {} {}", best.id, best.node, best.place)?;
     }
-    list.drop_of(Unwanted::All);
-    println!(rt; "none {}", winner(&[(5, &list)]).is_none())?;
+    Ok(())
+}
+
+/// A list, and a copy of what it was.
+#[derive(Drop)]
+struct Kept {
+    list: Pending,
+    copy: Pending,
+}
+
+/// What is done to a list, or printed of it.
+#[derive(Clone, Copy)]
+enum Turn {
+    Add(Purpose, u16),
+    Replace(Purpose, u16),
+    Drop(Unwanted),
+    Copy,
+    Show,
+    IsSame,
+    HasNone,
+    Winner,
+}
+
+/// Frames come, give way to others and are dropped.
+const TURNS: [Turn; 20] = [
+    Turn::Add(Purpose::Heartbeat, 0x705),
+    Turn::Add(Purpose::Tpdo(1), 0x185),
+    Turn::Add(Purpose::Sdo(5), 0x585),
+    Turn::Add(Purpose::Tpdo(2), 0x185),
+    Turn::Show,
+    Turn::Replace(Purpose::Tpdo(1), 0x190),
+    Turn::Replace(Purpose::Emergency, 0x085),
+    Turn::Replace(Purpose::Heartbeat, 0x706),
+    Turn::Show,
+    Turn::Copy,
+    Turn::IsSame,
+    Turn::Drop(Unwanted::Tpdos),
+    Turn::Show,
+    Turn::IsSame,
+    Turn::Drop(Unwanted::SdoOf(6)),
+    Turn::Drop(Unwanted::Emergencies),
+    Turn::Show,
+    Turn::Winner,
+    Turn::Drop(Unwanted::All),
+    Turn::HasNone,
+];
+
+/// Prints what a turn asks for.
+fn show_turn(rt: &HostRuntime, kept: &Kept, turn: &Turn) -> Result<()> {
+    match turn {
+        Turn::Show => show(rt, &kept.list),
+        Turn::Winner => show_winner(rt, &kept.list, &kept.copy),
+        Turn::IsSame => Ok(println!(rt; "same {}", kept.list.same(&kept.copy))?),
+        Turn::HasNone => Ok(println!(rt; "none {}", winner(&[(5, &kept.list)]).is_none())?),
+        _ => Ok(()),
+    }
+}
+
+/// Does what a turn says.
+fn take_turn(kept: &mut Kept, turn: &Turn) -> Result<(), AllocError> {
+    match turn {
+        Turn::Add(purpose, id) => add(&mut kept.list, *purpose, *id)?,
+        Turn::Replace(purpose, id) => replace(&mut kept.list, *purpose, *id)?,
+        Turn::Drop(unwanted) => kept.list.drop_of(*unwanted),
+        Turn::Copy => kept.copy = kept.list.copy()?,
+        _ => {}
+    }
+    Ok(())
+}
+
+/// Prints a list after changes of it, and the winner of it and another with the same identifier.
+pub fn few(rt: &HostRuntime) -> Result<()> {
+    let mut kept = Kept {
+        list: Pending::new(rt.alloc()),
+        copy: Pending::new(rt.alloc()),
+    };
+    for turn in &TURNS {
+        take_turn(&mut kept, turn)?;
+        show_turn(rt, &kept, turn)?;
+    }
     Ok(())
 }

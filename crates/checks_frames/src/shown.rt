@@ -1,4 +1,4 @@
-//! How answers are shown.
+//! How the answers of an SDO server and a client are shown.
 
 use co_sdo::Reply;
 use co_sdo_client::Progress;
@@ -19,15 +19,20 @@ pub fn show_frame<W: Write>(out: &mut W, frame: &[u8; 8]) -> io::Result<()> {
     show_bytes(out, frame)
 }
 
+/// Shows the answer of a server, if it has one.
+pub fn show_answer<W: Write>(out: &mut W, answer: &Option<[u8; 8]>) -> io::Result<()> {
+    match answer {
+        Some(frame) => show_frame(out, frame),
+        None => out.write_all(b"no answer\n"),
+    }
+}
+
 /// Shows the answer of a server, and which entry it wrote.
 pub fn show_reply<W: Write>(out: &mut W, reply: &Reply) -> io::Result<()> {
     if let Some((index, sub)) = reply.wrote {
         writeln!(out, "wrote {index:04X}:{sub:02X}")?;
     }
-    match &reply.answer {
-        Some(frame) => show_frame(out, frame),
-        None => out.write_all(b"no answer\n"),
-    }
+    show_answer(out, &reply.answer)
 }
 
 /// Shows how the transfer of a client goes on.
