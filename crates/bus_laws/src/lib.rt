@@ -2,3 +2,5 @@
 #![tactic(auto)]
 
 pub mod laws;
+pub mod read_laws;
+pub mod run_laws;

@@ -1,18 +1,21 @@
 //! Runs the networks that its input lays out from due moment to due moment, and prints the runs.
 //!
-//! A line is an edit of the project, as a session takes it, or `run`: a run to the horizon. Prints each
-//! line but those of data sheets, and of a run the number of its turns and of the lines that it told,
-//! whether a copy of the bus that was taken halfway was equal then, was left behind by the rest of the run,
-//! and came to the same by a run of its own, and the first moments.
+//! A line is an edit of the project, as a session takes it, or `run`: a run to the horizon; or `reads`: a run
+//! to the horizon and what it reads; or `new`, for the first project. Prints each line but those of data sheets, and
+//! of a run the number of its turns and of the lines that it told, whether a copy of the bus that was taken halfway
+//! was equal then, was left behind by the rest of the run, and came to the same by a run of its own, and the first
+//! moments; of what is read the number of calls that asked, of readings and of names, and the names in order.
 #![tactic(auto)]
 
 mod block;
 mod layout;
 mod outcome;
+mod record;
 mod run;
 
 use anyhow::Result;
 use layout::Layout;
+use record::read_project;
 use run::run_project;
 use std::alloc::Global;
 use std::io::Write;
@@ -23,11 +26,22 @@ fn show_run<W: Write>(alloc: Global, out: &mut W, layout: &Layout) -> Result<()>
     outcome.show(out)
 }
 
+/// Runs the network that is laid out, and shows what the run reads.
+fn show_reads<W: Write>(alloc: Global, out: &mut W, layout: &Layout) -> Result<()> {
+    let record = read_project(alloc, layout.project())?;
+    record.show(out)
+}
+
 /// Does what a line says that is none of a data sheet.
 fn obey<W: Write>(alloc: Global, out: &mut W, layout: &mut Layout, line: &str) -> Result<()> {
     writeln!(out, "{line}")?;
     if line == "run" {
         show_run(alloc, out, layout)
+    } else if line == "reads" {
+        show_reads(alloc, out, layout)
+    } else if line == "new" {
+        *layout = Layout::new(alloc);
+        Ok(())
     } else {
         layout.take_command(line)
     }

@@ -1,0 +1,9 @@
+pub mod SpanLemmas
+pub mod ThroughLemmas
+pub mod BeatLemmas
+pub mod LeftLemmas
+pub mod LeaveLemmas
+pub mod StageLemmas
+pub mod ReadLemmas
+pub mod AskLemmas
+pub mod RowLemmas

@@ -1,0 +1,4 @@
+pub mod Spans
+pub mod Starts
+pub mod Boots
+pub mod Reads

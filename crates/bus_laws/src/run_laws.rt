@@ -1,0 +1,78 @@
+//! Laws of the runs of a bus, each a function whose contract is the law.
+
+ghost use Rattle.std.specs.Prelude.{◌≡◌, ◌⊎◌, ◌↔◌, ◌+◌, ◌*◌, ℕ, [], Some, None, true};
+ghost use Rattle.asking.specs.Agenda.{IsSameUnder};
+ghost use Rattle.asking.specs.Asking.{outcome, turns};
+ghost use Rattle.bus_laws.specs.Boots.{FollowsWrite, IsBootUpOf};
+ghost use Rattle.bus_laws.specs.Spans.{bus_at, span};
+ghost use Rattle.bus_laws.specs.Starts.{but_for_frames, LeavesItsList};
+ghost use Rattle.can_bus.specs.Bus.{ended_slot, instant, waiting_lists, power_on, after_arbitration, Bus};
+ghost use Rattle.can_bus.specs.Runs.{run, StartsWith};
+ghost use Rattle.can_bus.specs.declared.slot.Slot.{Slot as Sent};
+ghost use Rattle.can_frame.specs.declared.contender.Contender.{Contender as Bid};
+ghost use Rattle.can_frame.specs.declared.waiting.Waiting.{Waiting as Queued};
+ghost use Rattle.co_parts.specs.Contents.{roster_of, Image};
+ghost use Rattle.co_parts.specs.Images.{IsCoherent};
+ghost use Rattle.co_parts.specs.Moments.{is_due};
+ghost use Rattle.co_parts.specs.declared.part.Part.TheVariants as part;
+ghost use Rattle.co_sdo_client.specs.declared.stage.Stage.{Stage as Transfer};
+ghost use Rattle.nmt_boot.specs.Beats.{IsMultiple};
+ghost use Rattle.nmt_boot.specs.Manager.{node_at};
+ghost use Rattle.node_boot.specs.Boot.{deadline_of};
+ghost use Rattle.node_boot.specs.declared.boot_stage.BootStage.TheVariants as stage;
+
+/// The spans of a run, one after another from the power-on on, are the run: the same lines, the same end and the
+/// same reads.
+pub fn spans_are_the_run()
+    ensures { (image : Image) (count : ℕ) (s : Bus)
+        → IsSameUnder image (turns span (count + 1) 0 s) (run (10000 * (count + 1))) }
+{}
+
+/// The buses of a run: that of the power-on, and then what each instant leaves.
+#[tactic(auto, using(crate::proofs::SpanLemmas::bus_first, crate::proofs::SpanLemmas::bus_next))]
+pub fn a_run_goes_instant_by_instant()
+    ensures first { (image : Image) → bus_at image 0 ≡ outcome power_on image }
+    ensures next { (image : Image) (t : ℕ) → bus_at image (t + 1) ≡ (outcome (instant t (bus_at image t)) image).0 }
+{}
+
+/// At every moment of a run the manager's heartbeat is due exactly at the whole multiples above 0 of its period by
+/// the roster, and its SYNC at those of the SYNC period.
+#[tactic(auto, using(crate::proofs::BeatLemmas::heartbeat_at_multiples, crate::proofs::BeatLemmas::sync_at_multiples_of_run))]
+pub fn heartbeat_and_sync_are_due_at_whole_multiples()
+    ensures heartbeat { (image : Image) (t : ℕ)
+        → (is_due t (bus_at image t).manager.heartbeat ≡ true)
+        ↔ IsMultiple t (1000 * (roster_of (image part.Roster)).heartbeat_ms) }
+    ensures sync { (image : Image) (t : ℕ)
+        → (is_due t (bus_at image t).manager.sync ≡ true) ↔ IsMultiple t (roster_of (image part.Roster)).sync_us }
+{}
+
+/// The frame that starts at an idle wire is the winner: it leaves its place in the list of its node, all other lists
+/// stay as they are, and so does all else of the bus.
+pub fn the_frame_that_starts_leaves_its_list()
+    ensures leaves { (t : ℕ) (s : Bus) (slot : Sent) → s.wire ≡ None → (after_arbitration t s).wire ≡ Some slot
+        → (c : Bid) × ((w : Queued) × (StartsWith t s slot c w
+        × LeavesItsList c w (waiting_lists s.devices s.manager)
+        (waiting_lists (after_arbitration t s).devices (after_arbitration t s).manager))) }
+    ensures stays { (t : ℕ) (s : Bus) → but_for_frames (after_arbitration t s) ≡ but_for_frames s }
+{}
+
+/// Under a coherent image no event is left at the start of a window, and the next window is the one that starts.
+#[tactic(auto, using(crate::proofs::LeftLemmas::none_is_left, crate::proofs::LeftLemmas::window_starts_there))]
+pub fn no_event_is_left_at_the_start_of_a_window()
+    ensures none { (image : Image) (i : ℕ) → IsCoherent image → (bus_at image (10000 * i)).steps ≡ [] }
+    ensures starts { (image : Image) (i : ℕ) → IsCoherent image → (bus_at image (10000 * i)).window ≡ 10000 * i }
+{}
+
+/// What an instant makes of the boot of a node. From a write on: the same write; once its SDO answer has confirmed
+/// it the next one, or the end where there is none; a failure; or what a boot-up message of the node begins anew. A
+/// boot that isn't under way stays as it is until a boot-up message of the node.
+pub fn a_boot_goes_on_write_by_write()
+    ensures write { (image : Image) (t : ℕ) (s : Bus) (i j : ℕ) (transfer : Transfer) (deadline : ℕ)
+        → (node_at s.manager.nodes i).stage ≡ stage.Writing j transfer deadline
+        → FollowsWrite image (node_at s.manager.nodes i).number (ended_slot t s.wire) j transfer
+        (node_at (outcome (instant t s) image).0.manager.nodes i).stage }
+    ensures rests { (image : Image) (t : ℕ) (s : Bus) (i : ℕ)
+        → deadline_of (node_at s.manager.nodes i).stage ≡ None
+        → ((node_at (outcome (instant t s) image).0.manager.nodes i).stage ≡ (node_at s.manager.nodes i).stage)
+        ⊎ IsBootUpOf (node_at s.manager.nodes i).number (ended_slot t s.wire) }
+{}
