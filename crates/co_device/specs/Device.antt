@@ -32,7 +32,7 @@ use Rattle.co_sdo.specs.declared.transfer.Transfer.TheVariants.{Idle}
 use Rattle.device_pdos.specs.Objects.{is_of_rpdos, is_of_tpdos}
 use Rattle.device_pdos.specs.Rpdos.{without_kept_frames, rpdos_of, rpdos_after_write}
 use Rattle.device_pdos.specs.Tpdos as tpdos
-use Rattle.device_pdos.specs.Tpdos.{without_memories, without_past_inhibits, tpdos_after_turns, tpdos_of}
+use Rattle.device_pdos.specs.Tpdos.{without_memories, tpdos_after_inhibit, tpdos_after_turns, tpdos_of}
 use Rattle.device_pdos.specs.Tpdos.{tpdos_after_write, with_tpdos}
 use Rattle.device_pdos.specs.declared.rpdo_state.RpdoState.{RpdoState}
 use Rattle.device_pdos.specs.declared.tpdo_state.TpdoState.{TpdoState}
@@ -315,7 +315,7 @@ after_tpdos t d =
       tpdos = tpdos_after_turns t d.synced d.values d.tpdos;
       waiting = with_tpdos t d.synced d.values d.tpdos d.waiting;
     }
-    else record d { synced = false; tpdos = without_past_inhibits t d.tpdos }
+    else record d { synced = false; tpdos = tpdos_after_inhibit t d.tpdos }
 
 -- WHAT A DEVICE DOES OF ITSELF AT A MOMENT: its timers, and then its TPDOs
 unfoldable pub after_instant : ℕ → Device → Device

@@ -8,7 +8,7 @@ use Rattle.co_parts.specs.Moments.{moments_of}
 use Rattle.device_objects.specs.Consumers as consumers
 use Rattle.device_objects.specs.declared.consumer.Consumer.{Consumer}
 use Rattle.device_pdos.specs.Tpdos as tpdos
-use Rattle.device_pdos.specs.Tpdos.{without_past_inhibits, tpdos_after_turns, with_tpdos}
+use Rattle.device_pdos.specs.Tpdos.{tpdos_after_inhibit, tpdos_after_turns, with_tpdos}
 use Rattle.device_pdos.specs.declared.tpdo_state.TpdoState.{TpdoState}
 use Rattle.device_pdos.proofs.LaterLemmas.{all_freed_later, looked_later}
 use Rattle.device_pdos.proofs.LookLemmas.{all_both, all_parts, quiet_freed}
@@ -103,8 +103,8 @@ module _ (u : ℕ) (d : Device) (rests : Rests d) where
       ∙ nothing_sent u d.values d.tpdos d.waiting unwanted h)
 
   freed_quiet : LieAfter u (tpdos.moments false d.tpdos)
-      → record d { synced = false; tpdos = without_past_inhibits u d.tpdos } ≡ d
-  freed_quiet h = equal d false (without_past_inhibits u d.tpdos) d.waiting (sym rests.unsynced)
+      → record d { synced = false; tpdos = tpdos_after_inhibit u d.tpdos } ≡ d
+  freed_quiet h = equal d false (tpdos_after_inhibit u d.tpdos) d.waiting (sym rests.unsynced)
       (quiet_freed u d.tpdos h) refl
 
   tpdos_quiet : LieAfter u (tpdos.moments (is_in Operational d) d.tpdos) → after_tpdos u d ≡ d
@@ -117,7 +117,7 @@ module _ (u : ℕ) (d : Device) (rests : Rests d) where
             tpdos = tpdos_after_turns u d.synced d.values d.tpdos;
             waiting = with_tpdos u d.synced d.values d.tpdos d.waiting;
           }
-          else record d { synced = false; tpdos = without_past_inhibits u d.tpdos }) ≡ d
+          else record d { synced = false; tpdos = tpdos_after_inhibit u d.tpdos }) ≡ d
       by true e k = looked_quiet e k
       by false e k = freed_quiet k
 
@@ -143,7 +143,7 @@ looked_after t d h =
     either (λ e. LieAfter t (moments e)) (is_in Operational d) _ _
     (λ e. all_after t d true (tpdos_after_turns t d.synced d.values d.tpdos) e h
     (looked_later t d.synced d.values d.tpdos))
-    (λ e. all_after t d false (without_past_inhibits t d.tpdos) e h (all_freed_later t d.tpdos))
+    (λ e. all_after t d false (tpdos_after_inhibit t d.tpdos) e h (all_freed_later t d.tpdos))
 
 pub ran_after : (t : ℕ) (d : Device) → IsAhead t d → LieAfter t (moments (after_instant t d))
 unfolding after_instant

@@ -10,7 +10,7 @@ use Rattle.device_objects.specs.Profile.{with_error_bits}
 use Rattle.co_scenario.specs.declared.nmt_command.NmtCommand.{NmtCommand}
 use Rattle.co_scenario.specs.declared.nmt_command.NmtCommand.TheVariants.{Start, Stop, EnterPreOperational, ResetNode}
 use Rattle.co_scenario.specs.declared.nmt_command.NmtCommand.TheVariants.{ResetCommunication}
-use Rattle.device_pdos.specs.Tpdos.{without_past_inhibits}
+use Rattle.device_pdos.specs.Tpdos.{tpdos_after_inhibit}
 use Rattle.co_device.specs.Device.{Device, after_failures, after_consumers, enter_pre_operational, after_heartbeat}
 use Rattle.co_device.specs.Device.{after_initialisation, is_in, next_due, nmt_service, out_of_operational, after_power}
 use Rattle.co_device.specs.Device.{after_instant, reset_communication, after_reset_node, after_timers, after_tpdos}
@@ -174,7 +174,7 @@ power_is_dark image t false d h = either IsDark d.has_power _ d (λ b. off_is_da
 
 nothing_runs : (t : ℕ) (spent : Bool) (number : ℕ)
     → after_instant t (without_power spent number) ≡ without_power spent number
-unfolding after_instant after_timers after_consumers after_heartbeat after_tpdos failures_at without_past_inhibits
+unfolding after_instant after_timers after_consumers after_heartbeat after_tpdos failures_at tpdos_after_inhibit
 nothing_runs t spent number = refl
 
 pub instant_is_dark : (t : ℕ) (d : Device) → IsDark d → IsDark (after_instant t d)

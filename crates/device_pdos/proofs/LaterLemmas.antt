@@ -17,8 +17,8 @@ use Rattle.co_pdos.specs.Tpdo.{without_past_inhibit, is_ahead, later, moment_fro
 use Rattle.co_pdos.specs.Tpdo.{turn_without_frame}
 use Rattle.co_pdos.specs.TransmissionTypes.{is_event_driven}
 use Rattle.co_pdos.proofs.TpdoLemmas.{event_sent, event_unsent, is_wanted_at}
-use Rattle.device_pdos.specs.Tpdos.{bytes_now, due_of, without_past_inhibit, tpdo_after_turn, moments, tpdo_moment}
-use Rattle.device_pdos.specs.Tpdos.{without_past_inhibits, tpdos_after_turns, turn, waits_for_event}
+use Rattle.device_pdos.specs.Tpdos.{bytes_now, due_of, tpdo_after_inhibit, tpdo_after_turn, moments, tpdo_moment}
+use Rattle.device_pdos.specs.Tpdos.{tpdos_after_inhibit, tpdos_after_turns, turn, waits_for_event}
 use Rattle.device_pdos.specs.declared.tpdo_state.TpdoState.{TpdoState}
 use Rattle.device_pdos.proofs.LookLemmas.{Ahead, all_both}
 
@@ -158,11 +158,11 @@ looked_later t at_sync values (p ∷ tpdos) =
     (later_by p.configuration t at_sync values p.remembered) (looked_later t at_sync values tpdos)
 
 pub all_freed_later : (t : ℕ) (tpdos : List TpdoState)
-    → AllByRecursion (λ m. t < m) (moments false (without_past_inhibits t tpdos))
-unfolding without_past_inhibits
+    → AllByRecursion (λ m. t < m) (moments false (tpdos_after_inhibit t tpdos))
+unfolding tpdos_after_inhibit
 all_freed_later t [] = tt
 all_freed_later t (p ∷ tpdos) =
-    all_both (λ m. t < m) (moments_of (tpdo_moment false (without_past_inhibit t p)))
-    (moments false (without_past_inhibits t tpdos))
+    all_both (λ m. t < m) (moments_of (tpdo_moment false (tpdo_after_inhibit t p)))
+    (moments false (tpdos_after_inhibit t tpdos))
     (inhibit_alone t (without_past_inhibit t p.remembered).inhibit (without_past_inhibit t p.remembered).event
     (freed_later t p.remembered)) (all_freed_later t tpdos)

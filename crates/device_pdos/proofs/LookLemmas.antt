@@ -16,9 +16,9 @@ use Rattle.co_pdos.specs.Tpdo.{Remembered, Turn, acyclic_turn, cyclic_turn, with
 use Rattle.co_pdos.specs.Tpdo.{turn_without_frame}
 use Rattle.co_pdos.specs.TransmissionTypes.{is_event_driven, is_synchronous}
 use Rattle.co_pdos.proofs.TpdoLemmas.{event_is_sent, event_unsent, held_by_type, still_held}
-use Rattle.device_pdos.specs.Tpdos.{bytes_now, due_of, frame_if, frame_of_turn, without_past_inhibit, goes_by_sync}
-use Rattle.device_pdos.specs.Tpdos.{tpdo_after_turn, moments, tpdo_moment, without_past_inhibits, tpdos_after_turns}
-use Rattle.device_pdos.specs.Tpdos.{turn, waits_for_event, with_frame, with_tpdos}
+use Rattle.device_pdos.specs.Tpdos.{bytes_now, due_of, frame_if, frame_of_turn, tpdo_after_inhibit, goes_by_sync}
+use Rattle.device_pdos.specs.Tpdos.{tpdo_after_turn, moments, tpdo_moment, tpdos_after_inhibit, tpdos_after_turns, turn}
+use Rattle.device_pdos.specs.Tpdos.{waits_for_event, with_frame, with_tpdos}
 use Rattle.device_pdos.specs.declared.tpdo_state.TpdoState.{TpdoState}
 
 -- what is told of a turn: what is remembered, and the frame
@@ -52,7 +52,7 @@ by_configuration (Some c) t values r e =
     (without_past_inhibit t r) (not_if _ c.identifier (bytes_now values c) e))
 
 unsent_kept : (t : ℕ) (values : Values) (p : TpdoState) → frame_of_turn t false values p ≡ None
-    → tpdo_after_turn t false values p ≡ without_past_inhibit t p
+    → tpdo_after_turn t false values p ≡ tpdo_after_inhibit t p
 unsent_kept t values p e = ap (λ (r : Remembered). record p { remembered = r })
     (by_configuration p.configuration t values p.remembered e)
 
@@ -80,7 +80,7 @@ module _ (t : ℕ) (values : Values) (p : TpdoState) (synchronous : goes_by_sync
   pub unsent_without_sync : frame_of_turn t false values p ≡ None
   unsent_without_sync = without_sync p.configuration t values p.remembered synchronous
 
-  pub kept_without_sync : tpdo_after_turn t false values p ≡ without_past_inhibit t p
+  pub kept_without_sync : tpdo_after_turn t false values p ≡ tpdo_after_inhibit t p
   kept_without_sync = unsent_kept t values p unsent_without_sync
 
 -- ---- the inhibit moment
@@ -163,14 +163,14 @@ quiet_tpdos t values (p ∷ tpdos) turn_without_frame ahead =
 
 -- outside Operational
 pub quiet_freed : (t : ℕ) (tpdos : List TpdoState) → AllByRecursion (λ m. t < m) (moments false tpdos)
-    → without_past_inhibits t tpdos ≡ tpdos
-unfolding without_past_inhibits
+    → tpdos_after_inhibit t tpdos ≡ tpdos
+unfolding tpdos_after_inhibit
 quiet_freed t [] ahead = refl
 quiet_freed t (p ∷ tpdos) ahead =
     let split = all_parts (λ m. t < m) (moments_of (tpdo_moment false p)) (moments false tpdos) ahead in
-    let one : without_past_inhibit t p ≡ p = ap (λ (r : Remembered). record p { remembered = r })
+    let one : tpdo_after_inhibit t p ≡ p = ap (λ (r : Remembered). record p { remembered = r })
     (held_ahead t false p.remembered split.0) in
-    ap (λ (q : TpdoState). q ∷ without_past_inhibits t tpdos) one ∙ ap (λ ps. p ∷ ps) (quiet_freed t tpdos split.1)
+    ap (λ (q : TpdoState). q ∷ tpdos_after_inhibit t tpdos) one ∙ ap (λ ps. p ∷ ps) (quiet_freed t tpdos split.1)
 
 pub quiet_waiting : (t : ℕ) (values : Values) (tpdos : List TpdoState) (frames : List Waiting)
     → AllByRecursion (λ p. frame_of_turn t false values p ≡ None) tpdos

@@ -55,11 +55,11 @@ unfoldable pub bytes_now : Values → Configuration → List ℕ
 bytes_now values c = take (packed values c.mapping).1 (packed values c.mapping).0
 
 -- an inhibit moment that has come is forgotten
-abbrev pub without_past_inhibit : ℕ → TpdoState → TpdoState
-without_past_inhibit t p = record p { remembered = without_past_inhibit t p.remembered }
+abbrev pub tpdo_after_inhibit : ℕ → TpdoState → TpdoState
+tpdo_after_inhibit t p = record p { remembered = without_past_inhibit t p.remembered }
 
-unfoldable pub without_past_inhibits : ℕ → List TpdoState → List TpdoState
-without_past_inhibits t tpdos = map (without_past_inhibit t) tpdos
+unfoldable pub tpdos_after_inhibit : ℕ → List TpdoState → List TpdoState
+tpdos_after_inhibit t tpdos = map (tpdo_after_inhibit t) tpdos
 
 -- its frame, if it is sent
 abbrev pub frame_if : Bool → ℕ → List ℕ → Option BaseFrame

@@ -7,10 +7,10 @@ ghost use Rattle.co_dict.specs.Shapes.{Shaped};
 ghost use Rattle.co_dict.specs.Values.{Values};
 ghost use Rattle.device_pdos.specs.Objects.{number_of_object};
 ghost use Rattle.device_pdos.specs.Rpdos.{rpdo, rpdo_after_write, rpdos_after_write};
-ghost use Rattle.device_pdos.specs.Tpdos.{frame_of_turn, without_past_inhibit, goes_by_sync, is_wanted};
-ghost use Rattle.device_pdos.specs.Tpdos.{tpdo_after_turn, moments, tpdo};
-ghost use Rattle.device_pdos.specs.Tpdos.{tpdo_after_write, without_past_inhibits, tpdos_after_turns};
-ghost use Rattle.device_pdos.specs.Tpdos.{tpdos_after_write, waits_for_event};
+ghost use Rattle.device_pdos.specs.Tpdos.{frame_of_turn, tpdo_after_inhibit, goes_by_sync, is_wanted, tpdo_after_turn};
+ghost use Rattle.device_pdos.specs.Tpdos.{moments, tpdo};
+ghost use Rattle.device_pdos.specs.Tpdos.{tpdo_after_write, tpdos_after_inhibit, tpdos_after_turns, tpdos_after_write};
+ghost use Rattle.device_pdos.specs.Tpdos.{waits_for_event};
 ghost use Rattle.device_pdos.specs.Tpdos.{with_tpdos};
 ghost use Rattle.device_pdos.specs.declared.rpdo_state.RpdoState.{RpdoState as Rpdo};
 ghost use Rattle.device_pdos.specs.declared.tpdo_state.TpdoState.{TpdoState as State};
@@ -47,7 +47,7 @@ pub fn without_a_sync_no_synchronous_tpdo_is_sent()
     ensures sent { (t : ℕ) (values : Values) (p : State) → goes_by_sync p.configuration ≡ true
         → frame_of_turn t false values p ≡ None }
     ensures kept { (t : ℕ) (values : Values) (p : State) → goes_by_sync p.configuration ≡ true
-        → tpdo_after_turn t false values p ≡ without_past_inhibit t p }
+        → tpdo_after_turn t false values p ≡ tpdo_after_inhibit t p }
 {}
 
 /// An event-driven TPDO whose inhibit moment is ahead isn't sent, and stays.
@@ -69,7 +69,7 @@ pub fn quiet_between_moments()
         → AllByRecursion (λ p. frame_of_turn t false values p ≡ None) tpdos
         → with_tpdos t false values tpdos frames ≡ frames }
     ensures freed { (t : ℕ) (tpdos : List State) → AllByRecursion (λ m. t < m) (moments false tpdos)
-        → without_past_inhibits t tpdos ≡ tpdos }
+        → tpdos_after_inhibit t tpdos ≡ tpdos }
 {}
 
 /// TPDOs that were looked at rest: none is wanted. As long as none is, and their moments lie ahead, none is sent
@@ -96,5 +96,5 @@ pub fn moments_lie_later()
     ensures looked { (t : ℕ) (at_sync : Bool) (values : Values) (tpdos : List State)
         → AllByRecursion (λ m. t < m) (moments true (tpdos_after_turns t at_sync values tpdos)) }
     ensures freed { (t : ℕ) (tpdos : List State)
-        → AllByRecursion (λ m. t < m) (moments false (without_past_inhibits t tpdos)) }
+        → AllByRecursion (λ m. t < m) (moments false (tpdos_after_inhibit t tpdos)) }
 {}

@@ -2,7 +2,7 @@
 
 ghost use Rattle.std.specs.Prelude.{◌≡◌, ◌<◌, ◌^◌, IfOk, OnOk, ◌↔◌, IsTrue};
 ghost use Rattle.co_parts.specs.Moments.{earliest};
-ghost use Rattle.device_pdos.specs.Tpdos.{moments, without_memories, without_past_inhibits, tpdos_after_turns};
+ghost use Rattle.device_pdos.specs.Tpdos.{moments, without_memories, tpdos_after_inhibit, tpdos_after_turns};
 ghost use Rattle.device_pdos.specs.Tpdos.{tpdos_of as tpdos_now, tpdos_after_write, with_tpdos};
 
 use crate::numbers::{LAST_PDO, number_of_object};
@@ -55,9 +55,9 @@ pub fn forget_tpdos(tpdos: &mut [TpdoState])
 }
 
 /// The inhibit moments that have come at t are forgotten.
-#[tactic(auto, unfolding(crate::specs::Tpdos::without_past_inhibits))]
+#[tactic(auto, unfolding(crate::specs::Tpdos::tpdos_after_inhibit))]
 pub fn free_tpdos(tpdos: &mut [TpdoState], t: u64)
-    ensures { tpdos.new ≡ without_past_inhibits t tpdos.old }
+    ensures { tpdos.new ≡ tpdos_after_inhibit t tpdos.old }
 {
     for tpdo in tpdos.iter_mut() {
         tpdo.remembered.end_inhibit(t);
