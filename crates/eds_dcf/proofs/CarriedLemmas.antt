@@ -62,7 +62,7 @@ module _ (ss : List Section) (node index sub : ℕ) where
       by true is = absurd (false≢true (ap (λ (x : Entry). is_writable x.access) is ∙ writable))
       by false is = ap (λ (x : Entry). is_modelled x.kind) is ∙ modelled
 
-  typed : (entry : Entry) → entry_at ss node index sub ≡ Some entry → is_modelled entry.kind ≡ true
+  pub typed : (entry : Entry) → entry_at ss node index sub ≡ Some entry → is_modelled entry.kind ≡ true
       → is_writable entry.access ≡ true → is_typed ss (index, sub) ≡ true
   unfolding entry_at description_of is_typed
   typed entry e modelled writable = typed_by (origin_of ss index sub) entry e modelled writable
@@ -169,16 +169,16 @@ module _ (ss : List Section) (params : Params) (node : ℕ) where
 
 -- ---- what is read of the DCF
 
-keep_some : (text : List ℕ) → 0 < length text → unless_empty text ≡ Some text
+pub keep_some : (text : List ℕ) → 0 < length text → unless_empty text ≡ Some text
 keep_some [] some = absurd (omega arith)
 keep_some (c ∷ cs) some = refl
 
-and_none : {X : Type 0} (f : List ℕ → Option X) (o : Option (List ℕ)) → ((text : List ℕ) → f text ≡ None)
+pub and_none : {X : Type 0} (f : List ℕ → Option X) (o : Option (List ℕ)) → ((text : List ℕ) → f text ≡ None)
     → option_and_then f o ≡ None
 and_none f None h = refl
 and_none f (Some text) h = h text
 
-text_stands : (ss : List Section) (place : ℕ × ℕ)
+pub text_stands : (ss : List Section) (place : ℕ × ℕ)
     → value_text ss place.0 place.1 ≡ option_and_then unless_empty (value_that_stands ss place)
 unfolding value_text value_that_stands
 text_stands ss place = refl
@@ -191,16 +191,23 @@ unset_text ss place =
     ap (λ (o : Option (List ℕ)). option_and_then unless_empty
     (option_or o (cond (is_of_pdos place.0) None (value_text ss place.0 place.1)))) (get-empty place_cmp place)
 
-module _ (ss : List Section) (params : Params) (node : ℕ) (name : List ℕ) (bitrate : ℕ) where
+-- at each place outside the objects of PDOs, what writes leave is what those of the parameters leave
+abbrev pub LeaveParameters : List Section → Params → ℕ → List Write → Type 0
+LeaveParameters ss params node ws = (place : ℕ × ℕ) → is_of_pdos place.0 ≡ false
+    → last_of ws place ≡ last_of (parameter_writes ss params node) place
+
+pub dcf_entry : (ss : List Section) (node : ℕ) (name : List ℕ) (bitrate : ℕ) (ws : List Write) (index sub : ℕ)
+    → entry_at (dcf_sections ss node name bitrate ws) node index sub ≡ entry_at ss node index sub
+unfolding dcf_sections
+dcf_entry ss node name bitrate ws index sub = entry_same ss (last_of ws) node name bitrate node index sub
+
+module _ (ss : List Section) (params : Params) (node : ℕ) (name : List ℕ) (bitrate : ℕ) (ws : List Write)
+    (left : LeaveParameters ss params node ws) where
   abbrev writes : List Write
   writes = parameter_writes ss params node
 
   abbrev dcf : List Section
-  dcf = dcf_sections ss node name bitrate writes
-
-  dcf_entry : (index sub : ℕ) → entry_at dcf node index sub ≡ entry_at ss node index sub
-  unfolding dcf_sections
-  dcf_entry index sub = entry_same ss (last_of writes) node name bitrate node index sub
+  dcf = dcf_sections ss node name bitrate ws
 
   -- a text that is read there
   dcf_text : (place : ℕ × ℕ) → is_of_pdos place.0 ≡ false → is_typed ss place ≡ true
@@ -210,8 +217,10 @@ module _ (ss : List Section) (params : Params) (node : ℕ) (name : List ℕ) (b
   dcf_text place other typed =
       unset_text dcf place
       ∙ ap (λ (t : Bool). option_and_then unless_empty (cond t None (value_text dcf place.0 place.1))) other
-      ∙ ap (option_and_then unless_empty) (text_stands dcf place
-      ∙ ap (option_and_then unless_empty) (dcf_stands ss node name bitrate writes place typed))
+      ∙ ap (option_and_then unless_empty)
+      (text_stands dcf place ∙ ap (option_and_then unless_empty)
+      (dcf_stands ss node name bitrate ws place typed ∙ ap (option_map (text_of_value (kind_at ss place)))
+      (left place other)))
 
   among_writes : (place : ℕ × ℕ) (w : Write) → Contains (pairs_of ss) place
       → parameter_write ss params node place ≡ Some w → Contains writes w
@@ -245,7 +254,8 @@ module _ (ss : List Section) (params : Params) (node : ℕ) (name : List ℕ) (b
       ∙ keep_some (text_of_value entry.kind w.bytes) some in
       let ok : parameter_bytes (entry_at dcf node place.0 place.1) (text_of_value entry.kind w.bytes) node
       ≡ Ok w.bytes =
-      ap (λ o. parameter_bytes o (text_of_value entry.kind w.bytes) node) (dcf_entry place.0 place.1 ∙ j.1)
+      ap (λ o. parameter_bytes o (text_of_value entry.kind w.bytes) node)
+      (dcf_entry ss node name bitrate ws place.0 place.1 ∙ j.1)
       ∙ (judged_suits entry (text_of_value entry.kind w.bytes) w.bytes node).1 (record {
         modelled = s.modelled;
         writable = s.writable;
@@ -274,7 +284,7 @@ module _ (ss : List Section) (params : Params) (node : ℕ) (name : List ℕ) (b
       by false p false h =
           ap (option_map (write_to place))
           (ap (λ o. option_and_then (λ text. result_ok (parameter_bytes o text node)) (parameter_text dcf empty place))
-          (dcf_entry place.0 place.1)
+          (dcf_entry ss node name bitrate ws place.0 place.1)
           ∙ and_none (λ text. result_ok (parameter_bytes (entry_at ss node place.0 place.1) text node))
           (parameter_text dcf empty place) (untyped ss node place.0 place.1 h))
 
@@ -294,19 +304,18 @@ filter_map_agree : {X Y : Type 0} (f g : X → Option Y) (xs : List X) → AllBy
 filter_map_agree f g [] h = refl
 filter_map_agree f g (x ∷ xs) h = λ i. cons_option (h.0 i) (filter_map_agree f g xs h.1 i)
 
-module _ (ss : List Section) (params : Params) (node : ℕ) (name : List ℕ) (bitrate : ℕ) where
-  -- THE DCF CARRIES THE PARAMETERS
-  pub carried : ((w : Write) → Contains (parameter_writes ss params node) w → is_of_pdos w.index ≡ false)
-      → parameter_writes (dcf_sections ss node name bitrate (parameter_writes ss params node)) empty node
-      ≡ parameter_writes ss params node
-  unfolding parameter_writes
-  carried outside =
-      let there = dcf_sections ss node name bitrate (filter_map (parameter_write ss params node) (pairs_of ss)) in
-      ap (filter_map (parameter_write there empty node))
-      (dcf_pairs ss node name bitrate (filter_map (parameter_write ss params node) (pairs_of ss)))
-      ∙ filter_map_agree (parameter_write there empty node) (parameter_write ss params node) (pairs_of ss)
-      (recursion_from_All (λ place. parameter_write there empty node place ≡ parameter_write ss params node place)
-      (pairs_of ss)
-      (All-weaker (Contains (pairs_of ss)) (λ place. parameter_write there empty node place
-      ≡ parameter_write ss params node place) (same_write ss params node name bitrate outside) (pairs_of ss)
-      (All-contains_itself (pairs_of ss))))
+-- THE DCF CARRIES THE PARAMETERS
+pub carried : (ss : List Section) (params : Params) (node : ℕ) (name : List ℕ) (bitrate : ℕ) (ws : List Write)
+    → LeaveParameters ss params node ws
+    → ((w : Write) → Contains (parameter_writes ss params node) w → is_of_pdos w.index ≡ false)
+    → parameter_writes (dcf_sections ss node name bitrate ws) empty node ≡ parameter_writes ss params node
+unfolding parameter_writes
+carried ss params node name bitrate ws left outside =
+    let there = dcf_sections ss node name bitrate ws in
+    ap (filter_map (parameter_write there empty node)) (dcf_pairs ss node name bitrate ws)
+    ∙ filter_map_agree (parameter_write there empty node) (parameter_write ss params node) (pairs_of ss)
+    (recursion_from_All (λ place. parameter_write there empty node place ≡ parameter_write ss params node place)
+    (pairs_of ss)
+    (All-weaker (Contains (pairs_of ss)) (λ place. parameter_write there empty node place
+    ≡ parameter_write ss params node place) (same_write ss params node name bitrate ws left outside) (pairs_of ss)
+    (All-contains_itself (pairs_of ss))))

@@ -1,39 +1,20 @@
--- The text of a DCF carries the parameters of its node.
-use Rattle.std.proofs.Common.{◌≡◌, ◌==◌, ℕ, Bool, true, false, cond, List, [], ◌∷◌, All, Contains, IfSome, Option, None}
-use Rattle.std.proofs.Common.{Some, option_map, option_and_then, codes, nat_le, sym, ap, subst, ◌∙◌}
-use Rattle.std.proofs.lemmas.List.Elements.{recursion_from_All}
-use Rattle.std.specs.BTreeMap.{is_at}
+-- The texts of parameters can stand in a line.
+use Rattle.std.proofs.Common.{◌==◌, ℕ, Bool, true, false, cond, List, [], ◌∷◌, IfSome, Option, None, Some, option_map}
+use Rattle.std.proofs.Common.{option_and_then, codes, nat_le}
 use Rattle.std.specs.List.{AllByRecursion, find}
-use Rattle.std.specs.Map.{lookup}
 use Rattle.std.specs.Option.{option_or}
-use Rattle.ini_text.specs.Change.{text_of}
-use Rattle.ini_text.specs.Content.{Pair, Section, content_of, same, value_at}
+use Rattle.ini_text.specs.Content.{Pair, Section, same, value_at}
 use Rattle.ini_text.specs.Printable.{IsPrintable, IsPrintablePair, IsPrintableSection, IsValue}
-use Rattle.concise_dcf.specs.declared.write.Write.{Write}
-use Rattle.co_values.specs.declared.data_type.DataType.{DataType}
-use Rattle.co_values.specs.declared.data_type.DataType.TheVariants.{VisibleString}
-use Rattle.co_values.specs.Values.{value}
 use Rattle.co_dict.specs.Pdos.{is_of_pdos}
-use Rattle.co_dict.specs.Places.{place_cmp}
-use Rattle.eds_device.specs.Described.{kind_at, listed_value, sub_listed, unless_empty, value_by, value_text}
-use Rattle.eds_device.specs.Entries.{entry_at}
+use Rattle.eds_device.specs.Described.{listed_value, sub_listed, unless_empty, value_by, value_text}
 use Rattle.eds_device.specs.Names.{index_named, place_named, values_named}
 use Rattle.eds_device.specs.Origins.{Origin, own, compact, is_index, is_place, object_section, origin_of, sub_section}
 use Rattle.eds_device.specs.Origins.{values_section}
-use Rattle.eds_device.specs.Places.{pairs_of}
 use Rattle.eds_device.specs.Sections.{compact_count, is_plain}
-use Rattle.co_params.proofs.JudgedLemmas.{judged_entry}
-use Rattle.co_params.proofs.ParameterLemmas.{behind, kind_of_entry}
-use Rattle.co_params.proofs.WrittenLemmas.{All-filter_map}
-use Rattle.std.specs.FinMap.{empty, get}
+use Rattle.std.specs.FinMap.{get}
 use Rattle.co_params.specs.Params.{Texts}
-use Rattle.co_params.specs.Parameters.{given_text, parameter_text, parameter_write, parameter_writes}
-use Rattle.eds_dcf.specs.Dcf.{dcf_sections}
-use Rattle.eds_dcf.specs.Printable.{StandsInLine}
+use Rattle.co_params.specs.Parameters.{given_text, parameter_text}
 use Rattle.eds_dcf.specs.Standing.{section_in}
-use Rattle.eds_dcf.proofs.AgainLemmas.{characters}
-use Rattle.eds_dcf.proofs.CarriedLemmas.{carried}
-use Rattle.eds_dcf.proofs.PrintedLemmas.{dcf_again}
 use Rattle.eds_dcf.proofs.SectionLemmas.{found_all}
 
 abbrev Params : Type 0
@@ -130,38 +111,10 @@ unless_pdo false o h = h
 
 module _ (ss : List Section) (params : Params) (node : ℕ) (printable : IsPrintable ss)
     (lines : (place : ℕ × ℕ) → IfSome (get params place) IsValue) where
-  text_all : (place : ℕ × ℕ) → IfSome (parameter_text ss params place) IsValue
+  pub text_all : (place : ℕ × ℕ) → IfSome (parameter_text ss params place) IsValue
   unfolding parameter_text
   text_all place =
       left_some (option_or (get params place) (given_text ss place))
       (either_value (get params place) (given_text ss place) (lines place)
       (unless_pdo (is_of_pdos place.0) (value_text ss place.0 place.1)
       (given_all ss place.0 place.1 printable.each)))
-
-  write_stands : (place : ℕ × ℕ) (w : Write) → parameter_write ss params node place ≡ Some w → StandsInLine ss w
-  write_stands place w e kind =
-      let b = behind ss params node place w e in
-      let j = judged_entry (entry_at ss node place.0 place.1) b.text w.bytes node b.judged_ok in
-      let of_entry : j.0.kind ≡ VisibleString = sym (kind_of_entry ss node place.0 place.1 j.0 j.1)
-      ∙ ap (kind_at ss) (sym b.at_place) ∙ kind in
-      let spelled : value VisibleString b.text node
-      ≡ Some w.bytes = subst (λ (k : DataType). value k b.text node ≡ Some w.bytes) of_entry j.2.spelled in
-      let text : IsValue b.text = subst (λ (o : Option (List ℕ)). IfSome o IsValue) b.there (text_all place) in
-      subst IsValue (characters b.text w.bytes node spelled) text
-
-  all_stand : All (StandsInLine ss) (parameter_writes ss params node)
-  unfolding parameter_writes
-  all_stand = All-filter_map (parameter_write ss params node) (StandsInLine ss) write_stands (pairs_of ss)
-
--- reading its text gives the parameters again
-pub carried_text : (ss : List Section) (params : Params) (node : ℕ) (name : List ℕ) (bitrate : ℕ) → IsPrintable ss
-    → IsValue name → ((place : ℕ × ℕ) → IfSome (get params place) IsValue)
-    → ((w : Write) → Contains (parameter_writes ss params node) w → is_of_pdos w.index ≡ false)
-    → parameter_writes
-    (content_of (text_of (dcf_sections ss node name bitrate (parameter_writes ss params node)))).sections empty node
-    ≡ parameter_writes ss params node
-carried_text ss params node name bitrate printable label lines outside =
-    let all = all_stand ss params node printable lines in
-    ap (λ sections. parameter_writes sections empty node)
-    (dcf_again ss node name bitrate (parameter_writes ss params node) printable label all)
-    ∙ carried ss params node name bitrate outside

@@ -1,21 +1,21 @@
-mod AgainLemmas
+pub mod AgainLemmas
 mod AlikeLemmas
 mod ApartLemmas
-mod CarriedLemmas
-mod CarriedTextLemmas
+pub mod CarriedLemmas
+pub mod CarriedTextLemmas
 mod ChangeLemmas
 mod CompactLemmas
 mod CountLemmas
-mod EntryLemmas
+pub mod EntryLemmas
 mod LastLemmas
 mod LawLemmas
-mod LineLemmas
+pub mod LineLemmas
 mod MadeLemmas
 mod NamedLemmas
 mod PrintableLemmas
-mod PrintedLemmas
+pub mod PrintedLemmas
 mod SectionLemmas
 mod StandingLemmas
 mod TextLemmas
 mod ValuesNameLemmas
-mod WholeLemmas
+pub mod WholeLemmas

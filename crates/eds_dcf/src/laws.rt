@@ -63,22 +63,6 @@ pub fn values_are_counted()
         ≡ Some (decimal (count_by (λ p. is_decimal p.key) section.pairs))) }
 {}
 
-/// A DCF carries the parameters of its node whole, where none is to an object of PDOs: read as a
-/// device of a node that has no texts of its own, it gives the writes that it was made of. So does
-/// its text, for sections that a text gave, and texts of the node that can stand in a line.
-pub fn a_dcf_carries_the_parameters()
-    ensures sections { (ss : List Section) (params : Texts) (node : ℕ) (name : List ℕ) (bitrate : ℕ)
-        → ((write : written) → Contains (parameter_writes ss params node) write → IsFalse (is_of_pdos write.index))
-        → parameter_writes (dcf_sections ss node name bitrate (parameter_writes ss params node)) map.empty node
-        ≡ parameter_writes ss params node }
-    ensures text { (ss : List Section) (params : Texts) (node : ℕ) (name : List ℕ) (bitrate : ℕ)
-        → IsPrintable ss → IsValue name → ((place : ℕ × ℕ) → IfSome (map.get params place) IsValue)
-        → ((write : written) → Contains (parameter_writes ss params node) write → IsFalse (is_of_pdos write.index))
-        → parameter_writes
-        (content_of (text_of (dcf_sections ss node name bitrate (parameter_writes ss params node)))).sections
-        map.empty node ≡ parameter_writes ss params node }
-{}
-
 /// The other keys of the section of a modelled entry have what they had.
 pub fn other_keys_stay()
     ensures { (ss : List Section) (writes : List written) (s : Section) (place : ℕ × ℕ) (key : List ℕ)

@@ -1,6 +1,11 @@
-mod MemberLemmas
 mod AloneLemmas
+mod DcfLemmas
+mod FileLemmas
+mod MappedLemmas
+mod MemberLemmas
 mod NamedLemmas
 mod PdoLemmas
 mod PlanLemmas
+mod TextLemmas
+mod ValueLemmas
 mod WritesLemmas

@@ -1,7 +1,7 @@
 -- The writes of a node to one PDO are those of the message that it sends or takes by it.
-use Rattle.std.proofs.Common.{◌≡◌, ◌∙◌, ℕ, zero, suc, ◌+◌, ◌<◌, ◌≤◌, ◌⊎◌, inl, inr, Bool, true, false, List, [], ◌∷◌}
-use Rattle.std.proofs.Common.{◌++◌, length, All, Contains, Option, Some, None, filter, filter_map, refl, sym, ap, subst}
-use Rattle.std.proofs.Common.{arith}
+use Rattle.std.proofs.Common.{◌≡◌, ◌∙◌, ℕ, zero, suc, ◌+◌, ◌<◌, ◌≤◌, ◌⊎◌, inl, inr, ⊎_elim, Bool, true, false, List, []}
+use Rattle.std.proofs.Common.{◌∷◌, ◌++◌, length, All, Contains, Option, Some, None, filter, filter_map, refl, sym, ap}
+use Rattle.std.proofs.Common.{subst, arith}
 use Rattle.std.specs.Prelude.{◌==◌, ◌||◌, if◌then◌else◌}
 use Rattle.std.specs.BTreeMap.{is_at}
 use Rattle.std.specs.FinMap.{get}
@@ -12,8 +12,8 @@ use Rattle.std.specs.Ordering.{nat_cmp}
 use Rattle.std.proofs.lemmas.Bool.{cases_eq}
 use Rattle.std.proofs.lemmas.Bool.Decides.{nat_tests}
 use Rattle.std.proofs.lemmas.List.{append-nil}
-use Rattle.std.proofs.lemmas.List.Elements.{All-append, All-cons, All-contains_itself, All-head, All-nil, All-tail}
-use Rattle.std.proofs.lemmas.List.Elements.{All-weaker, filter-append}
+use Rattle.std.proofs.lemmas.List.Elements.{All-append, All-cons, All-contains, All-contains_itself, All-head, All-nil}
+use Rattle.std.proofs.lemmas.List.Elements.{All-tail, All-weaker, filter-append}
 use Rattle.byteorder.specs.Endian.{little_bytes}
 use Rattle.co_base.specs.Ranges.{is_between}
 use Rattle.co_dict.specs.Pdos.{is_of_pdos}
@@ -30,14 +30,14 @@ use Rattle.pdo_plan.specs.declared.clean.Clean.{Clean}
 use Rattle.pdo_plan.specs.declared.consumer.Consumer.{Consumer}
 use Rattle.pdo_plan.specs.declared.planned_message.PlannedMessage.{PlannedMessage}
 use Rattle.pdo_plan.specs.Mapping.{mapped_bytes}
-use Rattle.pdo_plan.specs.Plan.{clean}
+use Rattle.pdo_plan.specs.Plan.{clean, IsNumbered, IsWithin}
 use Rattle.pdo_plan.proofs.LimitLemmas.{between}
-use Rattle.pdo_links.specs.Order.{IsSentAlone, IsTakenAlone}
+use Rattle.pdo_links.specs.Order.{IsOfSent, IsOfTaken, IsSentAlone, IsTakenAlone}
 use Rattle.pdo_links.specs.Writes.{write_at, cob_write, off_bit, no_rtr_bit, taken_type, mapped_writes, mapping_writes}
 use Rattle.pdo_links.specs.Writes.{time_write, tpdo_writes, rpdo_writes, at_number, by_number, tpdo_of, rpdo_of}
 use Rattle.pdo_links.specs.Writes.{link_writes, node_writes}
 use Rattle.pdo_links.proofs.Numbered.{Sends, Takes, sends, takes}
-use Rattle.pdo_links.proofs.WhoseLemmas.{sent_at, taken_at}
+use Rattle.pdo_links.proofs.WhoseLemmas.{of_either, of_rpdos, of_tpdos, sent_at, taken_at}
 use Rattle.file_laws.specs.Pdos.{is_to_pdo, to_pdo}
 
 -- ---- what a test takes
@@ -237,22 +237,24 @@ module _ (cs : List Clean) (ss : List Section) (node object : ℕ) where
           in rpdo_outside object t.0 t.1 (rpdo_object k) (ap rpdo_object s.numbered) first second
 
 -- the parameters are of other objects
+pub not_pdo : (ss : List Section) (params : Texts) (node : ℕ)
+    → ((place : ℕ × ℕ) → is_of_pdos place.0 ≡ true → get params place ≡ None)
+    → (w : Write) → Contains (parameter_writes ss params node) w → is_of_pdos w.index ≡ false
+not_pdo ss params node none w has = by (is_of_pdos w.index) refl
+  where
+    by : (b : Bool) → is_of_pdos w.index ≡ b → b ≡ false
+    by false e = refl
+    by true e =
+        let text : (text : List ℕ) × (parameter_text ss params (place_of w) ≡ Some text)
+        × _ = nothing_else ss params node w has in
+        let no_text : parameter_text ss params (place_of w) ≡ None = pdo_text ss params (place_of w)
+        (none (place_of w) e) e in
+        let contrary : (let n : Option (List ℕ) = None in n ≡ Some text.0) = sym no_text ∙ text.1 in
+        cc
+
 module _ (ss : List Section) (params : Texts) (node object : ℕ)
     (none : (place : ℕ × ℕ) → is_of_pdos place.0 ≡ true → get params place ≡ None)
     (low : 0x1400 ≤ object) (high : object + 0x200 ≤ 0x1BFF) where
-  pub not_pdo : (w : Write) → Contains (parameter_writes ss params node) w → is_of_pdos w.index ≡ false
-  not_pdo w has = by (is_of_pdos w.index) refl
-    where
-      by : (b : Bool) → is_of_pdos w.index ≡ b → b ≡ false
-      by false e = refl
-      by true e =
-          let text : (text : List ℕ) × (parameter_text ss params (place_of w) ≡ Some text)
-          × _ = nothing_else ss params node w has in
-          let no_text : parameter_text ss params (place_of w) ≡ None = pdo_text ss params (place_of w)
-          (none (place_of w) e) e in
-          let contrary : (let n : Option (List ℕ) = None in n ≡ Some text.0) = sym no_text ∙ text.1 in
-          cc
-
   outside : (index : ℕ) → is_between 0x1400 0x1BFF index ≡ false → IsApart object index
   outside index e = grind (arith, nat_tests)
 
@@ -260,7 +262,7 @@ module _ (ss : List Section) (params : Texts) (node object : ℕ)
   no_parameters =
       none_pass (is_to_pdo object) (parameter_writes ss params node)
       (All-weaker (Contains (parameter_writes ss params node)) (λ w. is_to_pdo object w ≡ false)
-      (λ w has. outside w.index (not_pdo w has)) (parameter_writes ss params node)
+      (λ w has. outside w.index (not_pdo ss params node none w has)) (parameter_writes ss params node)
       (All-contains_itself (parameter_writes ss params node)))
 
 -- ---- all writes of a node
@@ -334,3 +336,45 @@ module _ (plan : List PlannedMessage) (params : Texts) (ss : List Section) (node
       ∙ ap (λ (ws : List Write). ws ++ (filter p tpdos ++ filter p rpdos)) parameters
       ∙ ap (λ (ws : List Write). ws ++ filter p rpdos) others
       ∙ own ∙ ap (filter p) (taken_at cs node c k alone) ∙ rpdo_inside object c k refl
+
+-- ---- the writes of PDOs alone
+
+pdo_index : (index : ℕ) → 0x1400 ≤ index → index ≤ 0x1BFF → is_of_pdos index ≡ true
+pdo_index index from to = grind (arith, nat_tests)
+
+pub links_pdo : (plan : List PlannedMessage) (ss : List Section) (node : ℕ)
+    → ((c : Clean) → Contains (clean plan) c → IsWithin c)
+    → (w : Write) → Contains (link_writes plan ss node) w → is_of_pdos w.index ≡ true
+unfolding link_writes
+links_pdo plan ss node within w has =
+    ⊎_elim sent taken (of_either (by_number (tpdo_writes ss node) (filter_map (tpdo_of node) (clean plan)))
+    (by_number (λ (t : Clean × Consumer). rpdo_writes t.0 t.1) (filter_map (rpdo_of node) (clean plan))) w has)
+  where
+    sent : Contains (by_number (tpdo_writes ss node) (filter_map (tpdo_of node) (clean plan))) w
+        → is_of_pdos w.index ≡ true
+    sent there =
+        let of : IsOfSent (clean plan) ss node w = of_tpdos (clean plan) ss node w there in
+        let numbered : (1 ≤ of.0.message.tpdo) × (of.0.message.tpdo ≤ 512) =
+        between 1 512 of.0.message.tpdo (within of.0 of.1).sent.0 in
+        let low : 1 ≤ of.0.message.tpdo = numbered.0 in
+        let high : of.0.message.tpdo ≤ 512 = numbered.1 in
+        let object : ℕ = tpdo_object of.0.message.tpdo in
+        All-contains (λ w. is_of_pdos w.index ≡ true) (tpdo_writes ss node of.0) w
+        (tpdo_all (λ w. is_of_pdos w.index ≡ true) object (λ sub bytes. pdo_index object (omega arith) (omega arith))
+        (λ sub bytes. pdo_index (mapping_of object) (omega arith) (omega arith)) ss node of.0 refl) of.3
+
+    taken : Contains (by_number (λ (t : Clean × Consumer). rpdo_writes t.0 t.1)
+        (filter_map (rpdo_of node) (clean plan))) w → is_of_pdos w.index ≡ true
+    taken there =
+        let of : IsOfTaken (clean plan) node w = of_rpdos (clean plan) node w there in
+        let k : Consumer = of.2.0 in
+        let is : IsNumbered k.rpdo k.mapping =
+        All-contains (λ (k : Consumer). IsNumbered k.rpdo k.mapping) of.0.consumers k (within of.0 of.1).taken
+        of.2.1 in
+        let numbered : (1 ≤ k.rpdo) × (k.rpdo ≤ 512) = between 1 512 k.rpdo is.0 in
+        let low : 1 ≤ k.rpdo = numbered.0 in
+        let high : k.rpdo ≤ 512 = numbered.1 in
+        let object : ℕ = rpdo_object k.rpdo in
+        All-contains (λ w. is_of_pdos w.index ≡ true) (rpdo_writes of.0 k) w
+        (rpdo_all (λ w. is_of_pdos w.index ≡ true) object (λ sub bytes. pdo_index object (omega arith) (omega arith))
+        (λ sub bytes. pdo_index (mapping_of object) (omega arith) (omega arith)) of.0 k refl) of.2.3

@@ -1,10 +1,10 @@
 -- The writes of a PDO are values of their entries.
 use Rattle.std.proofs.Common.{◌≡◌, ℕ, zero, suc, ◌+◌, ◌<◌, Bool, true, false, ◌&&◌, cond, List, [], ◌∷◌, ◌++◌, length}
-use Rattle.std.proofs.Common.{Option, Some, None, option_map, refl, ◌∙◌, arith}
+use Rattle.std.proofs.Common.{All, Option, Some, None, option_map, refl, ◌∙◌, arith}
 use Rattle.std.specs.Prelude.{◌==◌, if◌then◌else◌, option_and_then}
 use Rattle.std.specs.List.{list_all, range_with_len}
 use Rattle.std.specs.Option.{option_map_or}
-use Rattle.std.proofs.lemmas.List.Elements.{All-nil, All-cons, All-head, All-tail, All-append}
+use Rattle.std.proofs.lemmas.List.Elements.{All-nil, All-cons, All-head, All-tail, All-append, All-weaker}
 use Rattle.byteorder.specs.Endian.{little_bytes}
 use Rattle.co_base.specs.Bytes.{AreBytes}
 use Rattle.co_values.specs.declared.data_type.DataType.TheVariants.{NotModelled}
@@ -32,11 +32,11 @@ use Rattle.pdo_links.specs.Writes.{tpdo_writes, rpdo_writes, off_bit, no_rtr_bit
 
 -- ---- tests
 
-first_of : (a b : Bool) → a && b ≡ true → a ≡ true
+pub first_of : (a b : Bool) → a && b ≡ true → a ≡ true
 first_of true b e = refl
 first_of false b e = cc
 
-second_of : (a b : Bool) → a && b ≡ true → b ≡ true
+pub second_of : (a b : Bool) → a && b ≡ true → b ≡ true
 second_of true b e = e
 second_of false b e = cc
 
@@ -63,8 +63,8 @@ same_width Bits64 Bits8 e = cc
 same_width Bits64 Bits16 e = cc
 same_width Bits64 Bits32 e = cc
 
-fits_form : (width : Width) (f : Form) (bytes : List ℕ) → is_unsigned_form width f ≡ true → length bytes ≡ octets width
-    → FitsForm f bytes
+pub fits_form : (width : Width) (f : Form) (bytes : List ℕ) → is_unsigned_form width f ≡ true
+    → length bytes ≡ octets width → FitsForm f bytes
 fits_form width (Unsigned w) bytes e len = len ∙ same_width width w e
 fits_form width Flag bytes e len = cc
 fits_form width (Signed w) bytes e len = cc
@@ -88,12 +88,19 @@ taken_fits ss node index sub width bytes test are len = by (description_of ss in
           (is_writable d.access) e) len,
     )
 
+-- a write's entry takes its bytes as a number
+pub record IsTaken (ss : List Section) (node : ℕ) (w : Write) : Type 0 where
+  pub width : Width
+  pub takes : option_map_or (takes_unsigned width) (entry_at ss node w.index w.sub) false ≡ true
+  pub are : AreBytes w.bytes
+  pub long : length w.bytes ≡ octets width
+
 -- the same of the plan's words
-has_fits : (ss : List Section) (node index sub : ℕ) (width : Width) (bytes : List ℕ)
+has_taken : (ss : List Section) (node index sub : ℕ) (width : Width) (bytes : List ℕ)
     → has_unsigned (devices_of ((node, ss) ∷ [])) node width (index, sub) ≡ true → AreBytes bytes
-    → length bytes ≡ octets width → Fits (kind_at ss (index, sub)) bytes
-has_fits ss node index sub width bytes test are len =
-    taken_fits ss node index sub width bytes (by (node == node) (same_number node) test) are len
+    → length bytes ≡ octets width → IsTaken ss node (write_at index sub bytes)
+has_taken ss node index sub width bytes test are long =
+    record { width = width; takes = by (node == node) (same_number node) test; are = are; long = long }
   where
     by : (b : Bool) → b ≡ true → option_map_or (takes_unsigned width)
         (option_and_then (λ (s : List Section). entry_at s node index sub) (cond b (Some ss) None)) false ≡ true
@@ -107,7 +114,7 @@ one_byte : (n : ℕ) → n < 256 → AreBytes (n ∷ [])
 one_byte n lt zero = lt
 one_byte n lt (suc i) = omega arith
 
-two_bytes : (n : ℕ) → AreBytes (little_bytes 2 n)
+pub two_bytes : (n : ℕ) → AreBytes (little_bytes 2 n)
 two_bytes n zero = omega arith
 two_bytes n (suc zero) = omega arith
 two_bytes n (suc (suc i)) = omega arith
@@ -129,101 +136,138 @@ module _ (ss : List Section) where
   unfolding AreValues
   no_values = All-nil IsValue
 
-  pub one_value : (w : Write) (ws : List Write) → Fits (kind_at ss (w.index, w.sub)) w.bytes → AreValues ss ws
-      → AreValues ss (w ∷ ws)
-  unfolding AreValues
-  one_value w ws fits rest = All-cons IsValue w ws fits rest
-
   pub both_values : (xs ys : List Write) → AreValues ss xs → AreValues ss ys → AreValues ss (xs ++ ys)
   unfolding AreValues
   both_values xs ys a b = All-append IsValue xs ys a b
 
-  time_value : (node object sub time : ℕ) → AreValues ss (time_write ss node object sub time)
-  time_value node object sub time = by (option_map_or (takes_unsigned Bits16) (entry_at ss node object sub) false) refl
-    where
-      by : (b : Bool) → option_map_or (takes_unsigned Bits16) (entry_at ss node object sub) false ≡ b
-          → let ws : List Write = if b then write_at object sub (little_bytes 2 time) ∷ [] else [] in AreValues ss ws
-      by true is =
-          one_value (write_at object sub (little_bytes 2 time)) []
-          (taken_fits ss node object sub Bits16 (little_bytes 2 time) is (two_bytes time) refl) no_values
-      by false is = no_values
+  module _ (node : ℕ) where
+    abbrev AreTaken : List Write → Type 0
+    AreTaken ws = All (IsTaken ss node) ws
 
-  entry_values : (node object first : ℕ) (mapping : List Mapped)
-      → list_all (λ sub. has_unsigned (devices_of ((node, ss) ∷ [])) node Bits32 (object, sub))
-      (range_with_len first (length mapping)) ≡ true
-      → AreMapped mapping → AreValues ss (mapped_writes object first mapping)
-  unfolding AreMapped
-  entry_values node object first [] test are = no_values
-  entry_values node object first (m ∷ ms) test are =
-      let P : Mapped → Type 0 = λ m. AreBytes (mapped_bytes m) in
-      let here : has_unsigned (devices_of ((node, ss) ∷ [])) node Bits32 (object, first) ≡ true = first_of _ _ test in
-      let rest : list_all (λ sub. has_unsigned (devices_of ((node, ss) ∷ [])) node Bits32 (object, sub))
-      (range_with_len (first + 1) (length ms)) ≡ true = second_of _ _ test in
-      one_value (write_at object first (mapped_bytes m)) (mapped_writes object (first + 1) ms)
-      (has_fits ss node object first Bits32 (mapped_bytes m) here (All-head P m ms are) refl)
-      (entry_values node object (first + 1) ms rest (All-tail P m ms are))
+    one_taken : (w : Write) (ws : List Write) → IsTaken ss node w → AreTaken ws → AreTaken (w ∷ ws)
+    one_taken w ws is rest = All-cons (IsTaken ss node) w ws is rest
 
-  mapping_values : (node object : ℕ) (mapping : List Mapped)
-      → has_mapping (devices_of ((node, ss) ∷ [])) node object (length mapping) ≡ true
-      → length mapping < 256 → AreMapped mapping → AreValues ss (mapping_writes object mapping)
-  unfolding has_mapping
-  mapping_values node object mapping test short are =
-      let count : has_unsigned (devices_of ((node, ss) ∷ [])) node Bits8 (object, 0) ≡ true = first_of _ _ test in
-      one_value (write_at object 0 (0 ∷ [])) (mapped_writes object 1 mapping ++ write_at object 0 (length mapping ∷ [])
-      ∷ [])
-      (has_fits ss node object 0 Bits8 (0 ∷ []) count (one_byte 0 (omega arith)) refl)
-      (both_values (mapped_writes object 1 mapping) (write_at object 0 (length mapping ∷ []) ∷ [])
-      (entry_values node object 1 mapping (second_of _ _ test) are)
-      (one_value (write_at object 0 (length mapping ∷ [])) []
-      (has_fits ss node object 0 Bits8 (length mapping ∷ []) count (one_byte (length mapping) short) refl)
-      no_values))
+    none_taken : AreTaken []
+    none_taken = All-nil (IsTaken ss node)
 
-  cob_value : (node object cob : ℕ) → has_unsigned (devices_of ((node, ss) ∷ [])) node Bits32 (object, 1) ≡ true
-      → Fits (kind_at ss (object, 1)) (little_bytes 4 cob)
-  cob_value node object cob test = has_fits ss node object 1 Bits32 (little_bytes 4 cob) test (four_bytes cob) refl
+    both_taken : (xs ys : List Write) → AreTaken xs → AreTaken ys → AreTaken (xs ++ ys)
+    both_taken xs ys a b = All-append (IsTaken ss node) xs ys a b
 
-  -- ---- PDOs
+    taken_values : (ws : List Write) → AreTaken ws → AreValues ss ws
+    unfolding AreValues
+    taken_values ws all =
+        All-weaker (IsTaken ss node) IsValue (λ w is. taken_fits ss node w.index w.sub is.width w.bytes is.takes is.are
+        is.long) ws all
+
+    time_taken : (object sub time : ℕ) → AreTaken (time_write ss node object sub time)
+    time_taken object sub time = by (option_map_or (takes_unsigned Bits16) (entry_at ss node object sub) false) refl
+      where
+        by : (b : Bool) → option_map_or (takes_unsigned Bits16) (entry_at ss node object sub) false ≡ b
+            → let ws : List Write = if b then write_at object sub (little_bytes 2 time) ∷ [] else [] in AreTaken ws
+        by true is =
+            one_taken (write_at object sub (little_bytes 2 time)) [] (record {
+              width = Bits16;
+              takes = is;
+              are = two_bytes time;
+              long = refl;
+            }) none_taken
+        by false is = none_taken
+
+    entries_taken : (object first : ℕ) (mapping : List Mapped)
+        → list_all (λ sub. has_unsigned (devices_of ((node, ss) ∷ [])) node Bits32 (object, sub))
+        (range_with_len first (length mapping)) ≡ true
+        → AreMapped mapping → AreTaken (mapped_writes object first mapping)
+    unfolding AreMapped
+    entries_taken object first [] test are = none_taken
+    entries_taken object first (m ∷ ms) test are =
+        let P : Mapped → Type 0 = λ m. AreBytes (mapped_bytes m) in
+        let here : has_unsigned (devices_of ((node, ss) ∷ [])) node Bits32 (object, first) ≡ true = first_of _ _ test in
+        let rest : list_all (λ sub. has_unsigned (devices_of ((node, ss) ∷ [])) node Bits32 (object, sub))
+        (range_with_len (first + 1) (length ms)) ≡ true = second_of _ _ test in
+        one_taken (write_at object first (mapped_bytes m)) (mapped_writes object (first + 1) ms)
+        (has_taken ss node object first Bits32 (mapped_bytes m) here (All-head P m ms are) refl)
+        (entries_taken object (first + 1) ms rest (All-tail P m ms are))
+
+    mapping_taken : (object : ℕ) (mapping : List Mapped)
+        → has_mapping (devices_of ((node, ss) ∷ [])) node object (length mapping) ≡ true
+        → length mapping < 256 → AreMapped mapping → AreTaken (mapping_writes object mapping)
+    unfolding has_mapping
+    mapping_taken object mapping test short are =
+        let count : has_unsigned (devices_of ((node, ss) ∷ [])) node Bits8 (object, 0) ≡ true = first_of _ _ test in
+        let last : List Write = write_at object 0 (length mapping ∷ []) ∷ [] in
+        one_taken (write_at object 0 (0 ∷ [])) (mapped_writes object 1 mapping ++ last)
+        (has_taken ss node object 0 Bits8 (0 ∷ []) count (one_byte 0 (omega arith)) refl)
+        (both_taken (mapped_writes object 1 mapping) last
+        (entries_taken object 1 mapping (second_of _ _ test) are)
+        (one_taken (write_at object 0 (length mapping ∷ [])) []
+        (has_taken ss node object 0 Bits8 (length mapping ∷ []) count (one_byte (length mapping) short) refl)
+        none_taken))
+
+    cob_taken : (object cob : ℕ) → has_unsigned (devices_of ((node, ss) ∷ [])) node Bits32 (object, 1) ≡ true
+        → IsTaken ss node (cob_write object cob)
+    cob_taken object cob test = has_taken ss node object 1 Bits32 (little_bytes 4 cob) test (four_bytes cob) refl
+
+    -- ---- PDOs
+
+    pub tpdo_taken : (c : Clean) → HasPdo ss node (tpdo_object c.message.tpdo) (length c.mapping)
+        → c.message.transmission < 256
+        → length c.mapping < 256 → AreMapped c.mapping → All (IsTaken ss node) (tpdo_writes ss node c)
+    unfolding tpdo_writes
+    tpdo_taken c has transmission short are =
+        let object : ℕ = tpdo_object c.message.tpdo in
+        let cob : has_unsigned (devices_of ((node, ss) ∷ [])) node Bits32 (object, 1)
+        ≡ true = first_of _ _ (first_of _ _ has) in
+        let kind : has_unsigned (devices_of ((node, ss) ∷ [])) node Bits8 (object, 2)
+        ≡ true = second_of _ _ (first_of _ _ has) in
+        let off : ℕ = off_bit + (no_rtr_bit + c.identifier) in
+        let type : List ℕ = c.message.transmission ∷ [] in
+        let times : List Write = time_write ss node object 3 c.message.inhibit
+        ++ time_write ss node object 5 c.message.event in
+        let rest : List Write = times ++ mapping_writes (mapping_of object) c.mapping in
+        let on : List Write = cob_write object (no_rtr_bit + c.identifier) ∷ [] in
+        one_taken (cob_write object off) (write_at object 2 type ∷ (rest ++ on)) (cob_taken object off cob)
+        (one_taken (write_at object 2 type) (rest ++ on)
+        (has_taken ss node object 2 Bits8 type kind (one_byte c.message.transmission transmission) refl)
+        (both_taken rest on
+        (both_taken times (mapping_writes (mapping_of object) c.mapping)
+        (both_taken (time_write ss node object 3 c.message.inhibit) (time_write ss node object 5 c.message.event)
+        (time_taken object 3 c.message.inhibit) (time_taken object 5 c.message.event))
+        (mapping_taken (mapping_of object) c.mapping (second_of _ _ has) short are))
+        (one_taken (cob_write object (no_rtr_bit + c.identifier)) [] (cob_taken object (no_rtr_bit + c.identifier) cob)
+        none_taken)))
+
+    taken_byte : (transmission : ℕ) → taken_type transmission < 256
+    taken_byte transmission = grind arith
+
+    pub rpdo_taken : (c : Clean) (k : Consumer) → HasPdo ss node (rpdo_object k.rpdo) (length k.mapping)
+        → length k.mapping < 256 → AreMapped k.mapping → All (IsTaken ss node) (rpdo_writes c k)
+    unfolding rpdo_writes
+    rpdo_taken c k has short are =
+        let object : ℕ = rpdo_object k.rpdo in
+        let cob : has_unsigned (devices_of ((node, ss) ∷ [])) node Bits32 (object, 1)
+        ≡ true = first_of _ _ (first_of _ _ has) in
+        let kind : has_unsigned (devices_of ((node, ss) ∷ [])) node Bits8 (object, 2)
+        ≡ true = second_of _ _ (first_of _ _ has) in
+        let type : List ℕ = taken_type c.message.transmission ∷ [] in
+        let rest : List Write = mapping_writes (mapping_of object) k.mapping in
+        let on : List Write = cob_write object c.identifier ∷ [] in
+        one_taken (cob_write object (off_bit + c.identifier)) (write_at object 2 type ∷ (rest ++ on))
+        (cob_taken object (off_bit + c.identifier) cob)
+        (one_taken (write_at object 2 type) (rest ++ on)
+        (has_taken ss node object 2 Bits8 type kind (one_byte (taken_type c.message.transmission)
+        (taken_byte c.message.transmission)) refl)
+        (both_taken rest on
+        (mapping_taken (mapping_of object) k.mapping (second_of _ _ has) short are)
+        (one_taken (cob_write object c.identifier) [] (cob_taken object c.identifier cob) none_taken)))
+
+  -- ---- their values
 
   pub tpdo_values : (node : ℕ) (c : Clean) → HasPdo ss node (tpdo_object c.message.tpdo) (length c.mapping)
       → c.message.transmission < 256
       → length c.mapping < 256 → AreMapped c.mapping → AreValues ss (tpdo_writes ss node c)
-  unfolding tpdo_writes
-  tpdo_values node c has transmission short are =
-      let object : ℕ = tpdo_object c.message.tpdo in
-      let cob : has_unsigned (devices_of ((node, ss) ∷ [])) node Bits32 (object, 1)
-      ≡ true = first_of _ _ (first_of _ _ has) in
-      let kind : has_unsigned (devices_of ((node, ss) ∷ [])) node Bits8 (object, 2)
-      ≡ true = second_of _ _ (first_of _ _ has) in
-      one_value (cob_write object (off_bit + (no_rtr_bit + c.identifier))) _
-      (cob_value node object (off_bit + (no_rtr_bit + c.identifier)) cob)
-      (one_value (write_at object 2 (c.message.transmission ∷ [])) _
-      (has_fits ss node object 2 Bits8 (c.message.transmission
-      ∷ []) kind (one_byte c.message.transmission transmission) refl)
-      (both_values (time_write ss node object 3 c.message.inhibit ++ time_write ss node object 5 c.message.event
-      ++ mapping_writes (mapping_of object) c.mapping) _
-      (both_values (time_write ss node object 3 c.message.inhibit ++ time_write ss node object 5 c.message.event) _
-      (both_values (time_write ss node object 3 c.message.inhibit) _ (time_value node object 3 c.message.inhibit)
-      (time_value node object 5 c.message.event))
-      (mapping_values node (mapping_of object) c.mapping (second_of _ _ has) short are))
-      (one_value (cob_write object (no_rtr_bit + c.identifier)) []
-      (cob_value node object (no_rtr_bit + c.identifier) cob) no_values)))
-
-  taken_byte : (transmission : ℕ) → taken_type transmission < 256
-  taken_byte transmission = grind arith
+  tpdo_values node c has transmission short are = taken_values node (tpdo_writes ss node c)
+      (tpdo_taken node c has transmission short are)
 
   pub rpdo_values : (node : ℕ) (c : Clean) (k : Consumer) → HasPdo ss node (rpdo_object k.rpdo) (length k.mapping)
       → length k.mapping < 256 → AreMapped k.mapping → AreValues ss (rpdo_writes c k)
-  unfolding rpdo_writes
-  rpdo_values node c k has short are =
-      let object : ℕ = rpdo_object k.rpdo in
-      let cob : has_unsigned (devices_of ((node, ss) ∷ [])) node Bits32 (object, 1)
-      ≡ true = first_of _ _ (first_of _ _ has) in
-      let kind : has_unsigned (devices_of ((node, ss) ∷ [])) node Bits8 (object, 2)
-      ≡ true = second_of _ _ (first_of _ _ has) in
-      let type : ℕ = taken_type c.message.transmission in
-      one_value (cob_write object (off_bit + c.identifier)) _ (cob_value node object (off_bit + c.identifier) cob)
-      (one_value (write_at object 2 (type ∷ [])) _
-      (has_fits ss node object 2 Bits8 (type ∷ []) kind (one_byte type (taken_byte c.message.transmission)) refl)
-      (both_values (mapping_writes (mapping_of object) k.mapping) _
-      (mapping_values node (mapping_of object) k.mapping (second_of _ _ has) short are)
-      (one_value (cob_write object c.identifier) [] (cob_value node object c.identifier cob) no_values)))
+  rpdo_values node c k has short are = taken_values node (rpdo_writes c k) (rpdo_taken node c k has short are)

@@ -1,0 +1,124 @@
+-- The DCF of a node of a sound project, read again.
+use Rattle.std.proofs.Common.{◌≡◌, ◌∙◌, ℕ, Bool, true, false, cond, List, length, All, Contains, IfSome, Option, Some}
+use Rattle.std.proofs.Common.{None, Ok, Err, refl, sym, ap, subst, nat_lt}
+use Rattle.std.specs.FinMap.{empty, get}
+use Rattle.std.proofs.lemmas.List.Elements.{All-contains_itself, All-weaker}
+use Rattle.ini_text.specs.Content.{Section, content_of}
+use Rattle.ini_text.specs.Printable.{IsPrintable, IsValue}
+use Rattle.ini_text.specs.Text.{has_bad_byte, is_out_of_range}
+use Rattle.ini_text.proofs.ReadLemmas.{read_is_printable}
+use Rattle.concise_dcf.specs.declared.write.Write.{Write}
+use Rattle.co_edits.specs.Edits.{IsSetting}
+use Rattle.eds_device.specs.Entries.{entry_at}
+use Rattle.eds_device.specs.declared.fault.DeviceFault.TheVariants.{BadByte, Limit, Range}
+use Rattle.eds_device.specs.Faults.{device_of, most_entries}
+use Rattle.eds_device.specs.Places.{pairs_of}
+use Rattle.co_params.specs.Parameters.{parameter_writes}
+use Rattle.eds_dcf.specs.Dcf.{dcf_sections}
+use Rattle.eds_dcf.specs.Printable.{StandsInLine}
+use Rattle.eds_dcf.specs.Writes.{is_to, last_of}
+use Rattle.eds_dcf.proofs.CarriedLemmas.{carried, dcf_entry, LeaveParameters}
+use Rattle.eds_dcf.proofs.PrintedLemmas.{dcf_again}
+use Rattle.eds_dcf.proofs.WholeLemmas.{dcf_pairs}
+use Rattle.pdo_links.specs.Writes.{link_writes, node_writes}
+use Rattle.co_project.specs.Project.{Content}
+use Rattle.co_project.specs.Sound.{IsNodeOf}
+use Rattle.project_plan.specs.Network.{plan_of_project, writes_of, Member}
+use Rattle.project_plan.proofs.NetworkLemmas.{made_for_member}
+use Rattle.file_laws.specs.Files.{dcf_text, value_given}
+use Rattle.file_laws.specs.Nodes.{IsSoundNode}
+use Rattle.file_laws.proofs.AloneLemmas.{all_within, within}
+use Rattle.file_laws.proofs.DcfLemmas.{given, left_alone, to_another}
+use Rattle.file_laws.proofs.MappedLemmas.{all_writable}
+use Rattle.file_laws.proofs.MemberLemmas.{is_device, is_node, is_setting, member, no_pdo_params, IsMember}
+use Rattle.file_laws.proofs.PdoLemmas.{links_pdo, not_pdo}
+use Rattle.file_laws.proofs.TextLemmas.{name_value, text_value}
+use Rattle.file_laws.proofs.ValueLemmas.{all_given, stands, IsGiven}
+
+module _ (project : Content) (id : ℕ) (m : Member) (node : IsSoundNode project id m) where
+  here : IsMember project id m
+  here = member project id m node.there
+
+  printable : IsPrintable m.sections
+  printable = subst IsPrintable here.sections (read_is_printable here.text)
+
+  label : IsValue m.node.name
+  unfolding IsNodeOf
+  label = name_value m.node.name (is_node project id m node.sound here).2
+
+  lines : (place : ℕ × ℕ) → IfSome (get m.node.params place) IsValue
+  unfolding IsSetting
+  lines place = by (get m.node.params place) refl
+    where
+      by : (o : Option (List ℕ)) → get m.node.params place ≡ o → IfSome o IsValue
+      by None e = tt
+      by (Some text) e = text_value text (is_setting project id m node.sound here place text e).2
+
+  all : All (λ (w : Write). IsGiven m.sections id (w.index, w.sub) w.bytes) (writes_of project m id)
+  unfolding writes_of
+  all = all_given m.sections id (plan_of_project project) (made_for_member project id m node.there)
+      (all_within project node.sound) (all_writable project node.sound) m.node.params printable lines
+
+  all_stand : All (StandsInLine m.sections) (writes_of project m id)
+  all_stand = All-weaker (λ (w : Write). IsGiven m.sections id (w.index, w.sub) w.bytes) (StandsInLine m.sections)
+      (stands m.sections id) (writes_of project m id) all
+
+  again : (content_of (dcf_text project id m)).sections
+      ≡ dcf_sections m.sections id m.node.name project.bitrate (writes_of project m id)
+  unfolding dcf_text
+  again = dcf_again m.sections id m.node.name project.bitrate (writes_of project m id) printable label all_stand
+
+  pub values : (place : ℕ × ℕ) → value_given (content_of (dcf_text project id m)).sections id place
+      ≡ last_of (writes_of project m id) place
+  values place = ap (λ (ss : List Section). value_given ss id place) again
+      ∙ given m.sections id m.node.name project.bitrate (writes_of project m id) all place
+
+  -- what the plan writes leaves the parameters
+  parameters_left : LeaveParameters m.sections m.node.params id (writes_of project m id)
+  unfolding writes_of node_writes
+  parameters_left place other =
+      let links : List Write = link_writes (plan_of_project project) m.sections id in
+      left_alone place (parameter_writes m.sections m.node.params id) links
+      (All-weaker (Contains links) (λ w. is_to place w ≡ false)
+      (λ w has. to_another place w other (links_pdo (plan_of_project project) m.sections id
+      (within project node.sound) w has)) links (All-contains_itself links))
+
+  pub parameters : parameter_writes (content_of (dcf_text project id m)).sections empty id
+      ≡ parameter_writes m.sections m.node.params id
+  parameters =
+      ap (λ (ss : List Section). parameter_writes ss empty id) again
+      ∙ carried m.sections m.node.params id m.node.name project.bitrate (writes_of project m id) parameters_left
+      (not_pdo m.sections m.node.params id (no_pdo_params project id m node.sound here))
+
+  pub entries : (index sub : ℕ) → entry_at (content_of (dcf_text project id m)).sections id index sub
+      ≡ entry_at m.sections id index sub
+  entries index sub = ap (λ (ss : List Section). entry_at ss id index sub) again
+      ∙ dcf_entry m.sections id m.node.name project.bitrate (writes_of project m id) index sub
+
+  -- ---- the text of a device
+
+  places : pairs_of (content_of (dcf_text project id m)).sections ≡ pairs_of (content_of here.text).sections
+  places = ap pairs_of again ∙ dcf_pairs m.sections id m.node.name project.bitrate (writes_of project m id)
+      ∙ ap pairs_of (sym here.sections)
+
+  few : (text : List ℕ) → device_of text ≡ Ok (content_of text)
+      → nat_lt most_entries (length (pairs_of (content_of text).sections)) ≡ false
+  unfolding device_of
+  few text is = by (is_out_of_range text) (has_bad_byte text)
+      (nat_lt most_entries (length (pairs_of (content_of text).sections))) is
+    where
+      by : (long bad many : Bool) → cond long (Err Range)
+          (cond bad (Err BadByte) (cond many (Err Limit) (Ok (content_of text)))) ≡ Ok (content_of text) → many ≡ false
+      by true bad many e = cc
+      by false true many e = cc
+      by false false true e = cc
+      by false false false e = refl
+
+  pub device : is_out_of_range (dcf_text project id m) ≡ false → has_bad_byte (dcf_text project id m) ≡ false
+      → device_of (dcf_text project id m) ≡ Ok (content_of (dcf_text project id m))
+  unfolding device_of
+  device short good =
+      let same : nat_lt most_entries (length (pairs_of (content_of (dcf_text project id m)).sections)) ≡ false =
+      ap (λ (ps : List (ℕ × ℕ)). nat_lt most_entries (length ps)) places
+      ∙ few here.text (is_device project id m node.sound here) in
+      rw (short, good, same) refl

@@ -1,0 +1,38 @@
+//! Laws of the DCF of a node of a sound project (CiA 306), read again.
+ghost use Rattle.std.specs.Prelude.{◌≡◌, ℕ, false, Ok};
+ghost use Rattle.std.specs.FinMap as map;
+ghost use Rattle.ini_text.specs.Content.{content_of};
+ghost use Rattle.ini_text.specs.Text.{is_out_of_range, has_bad_byte};
+ghost use Rattle.eds_device.specs.Entries.{entry_at};
+ghost use Rattle.eds_device.specs.Faults.{device_of};
+ghost use Rattle.co_params.specs.Parameters.{parameter_writes};
+ghost use Rattle.eds_dcf.specs.Writes.{last_of};
+ghost use Rattle.co_project.specs.Project.{Content};
+ghost use Rattle.project_plan.specs.Network.{writes_of, Member};
+ghost use Rattle.file_laws.specs.Files.{dcf_text, value_given};
+ghost use Rattle.file_laws.specs.Nodes.{IsSoundNode};
+
+/// The values that a DCF gives are exactly those that the writes of its node leave, of its parameters
+/// and of the PDOs that the plan gives it: each written entry has its last value, and no other entry
+/// has one.
+pub fn a_dcf_gives_what_its_node_is_written()
+    ensures { (project : Content) (id : ℕ) (m : Member) (place : ℕ × ℕ) → IsSoundNode project id m
+        → value_given (content_of (dcf_text project id m)).sections id place ≡ last_of (writes_of project m id) place }
+{}
+
+/// Read as the device of a node that sets nothing itself, a DCF gives the parameters of its node.
+pub fn a_dcf_gives_the_parameters_of_its_node()
+    ensures { (project : Content) (id : ℕ) (m : Member) → IsSoundNode project id m
+        → parameter_writes (content_of (dcf_text project id m)).sections map.empty id
+        ≡ parameter_writes m.sections m.node.params id }
+{}
+
+/// A DCF within the limits of a text, without a bad byte, can be taken in as an EDS: it is the text of
+/// a device, which has the entries of its node's EDS as that describes them.
+pub fn a_dcf_is_the_text_of_a_device()
+    ensures device { (project : Content) (id : ℕ) (m : Member) → IsSoundNode project id m
+        → is_out_of_range (dcf_text project id m) ≡ false → has_bad_byte (dcf_text project id m) ≡ false
+        → device_of (dcf_text project id m) ≡ Ok (content_of (dcf_text project id m)) }
+    ensures entries { (project : Content) (id : ℕ) (m : Member) (index sub : ℕ) → IsSoundNode project id m
+        → entry_at (content_of (dcf_text project id m)).sections id index sub ≡ entry_at m.sections id index sub }
+{}
