@@ -9,9 +9,9 @@ use Rattle.std.proofs.lemmas.Bool.{eq-eqb, le-leb}
 use Rattle.std.proofs.lemmas.List.Folds.{list_any-append}
 use Rattle.co_dict.specs.Places.{place_cmp}
 use Rattle.ini_text.specs.Content.{Section, content_of}
-use Rattle.eds_device.specs.Names.{index_named, place_named}
+use Rattle.eds_entries.specs.Names.{index_named, place_named}
 use Rattle.eds_device.specs.Places.{first_subs, object_places, places_given, pairs_of}
-use Rattle.eds_device.specs.Sections.{is_plain, compact_count}
+use Rattle.eds_entries.specs.Sections.{is_plain, compact_count}
 use Rattle.eds_device.specs.Origins.{Origin, own, compact, is_index, is_place, sub_section, object_section, from_object}
 use Rattle.eds_device.specs.Origins.{from_compact, origin_of}
 use Rattle.eds_device.proofs.LawLemmas.{given_by_some, contains_has, rules_give}

@@ -7,7 +7,7 @@ pub mod LengthLemmas
 pub mod LimitLemmas
 pub mod ListedLemmas
 pub mod MapLemmas
-pub mod NameLemmas
 pub mod OnceLemmas
 pub mod PlaceLemmas
 pub mod ReadLemmas
+pub mod TableLemmas

@@ -13,7 +13,7 @@ use Rattle.std.proofs.lemmas.Option.{slice_get-get_or}
 use Rattle.ini_text.specs.Content.{Section, Pair}
 use Rattle.eds_device.specs.declared.index.Listed.{Listed}
 use Rattle.eds_device.specs.Described.{sub_listed, listed_value}
-use Rattle.eds_device.specs.Names.{values_named}
+use Rattle.eds_entries.specs.Names.{values_named}
 use Rattle.eds_device.specs.Index.{FindsFirsts, IsListed, FindsListed}
 use Rattle.eds_device.specs.Origins.{is_index, values_section}
 

@@ -12,7 +12,7 @@ use Rattle.ini_text.specs.Content.{Section, folded, same, content_of}
 use Rattle.ini_text.specs.Printable.{AreApart, same_name}
 use Rattle.ini_text.proofs.NameLemmas.{same_sym}
 use Rattle.ini_text.proofs.ReadLemmas.{read_is_printable}
-use Rattle.eds_device.specs.Names.{index_named}
+use Rattle.eds_entries.specs.Names.{index_named}
 
 -- no two sections are named for one object
 abbrev pub AreNamedOnce : List Section → Type 0

@@ -17,14 +17,14 @@ use Rattle.co_text.specs.Digits.{digits_number}
 use Rattle.co_dict.proofs.PlaceLemmas.{places_exact, places_total}
 use Rattle.co_dict.specs.Places.{place_cmp}
 use Rattle.ini_text.specs.Content.{Section}
-use Rattle.eds_device.specs.declared.object_type.ObjectType.{ObjectType}
-use Rattle.eds_device.specs.declared.object_type.ObjectType.TheVariants.{Domain, Variable, Array, Record, Other}
-use Rattle.eds_device.specs.Names.{index_named, place_named}
+use Rattle.eds_entries.specs.declared.object_type.ObjectType.{ObjectType}
+use Rattle.eds_entries.specs.declared.object_type.ObjectType.TheVariants.{Domain, Variable, Array, Record, Other}
+use Rattle.eds_entries.specs.Names.{index_named, place_named}
 use Rattle.eds_device.specs.Places.{first_subs, object_places, places_given, put_in_order, pairs_of}
-use Rattle.eds_device.specs.Sections.{is_plain, is_plain_type, is_compact_type, object_type, compact_count, number_at}
-use Rattle.eds_device.specs.Sections.{in_subs}
+use Rattle.eds_entries.specs.Sections.{is_plain, is_plain_type, is_compact_type, object_type, compact_count, number_at}
+use Rattle.eds_entries.specs.Sections.{in_subs}
 use Rattle.eds_device.specs.Origins.{Origin, own, compact, is_index, is_place, sub_section, object_section, origin_of}
-use Rattle.eds_device.proofs.NameLemmas.{short_for_place}
+use Rattle.eds_entries.proofs.NameLemmas.{short_for_place}
 
 -- ---- in order
 

@@ -1,18 +1,21 @@
 -- The program's own index of a content, which no contract of a public call shows: each table has the position of the
 -- first section of a name.
-use Rattle.std.specs.Prelude.{◌≡◌, ℕ, Bool, List, ◌≤◌, length, Option, Some, None, option_map, MatchOption}
+use Rattle.std.specs.Prelude.{◌≡◌, ℕ, Bool, List, ◌≤◌, length, map, Option, Some, None, option_map, MatchOption}
 use Rattle.std.specs.declared.cmp.Ordering.{Ordering}
 use Rattle.std.specs.BTreeMap.{is_at}
 use Rattle.std.specs.Map.{lookup}
 use Rattle.std.specs.List.{find, slice_get}
 use Rattle.std.specs.Ordering.{nat_cmp}
 use Rattle.ini_text.specs.Content.{Section}
+use Rattle.eds_entries.specs.declared.said.Said.{Said}
+use Rattle.eds_entries.specs.Said.{said_in}
 use Rattle.eds_device.specs.declared.index.Listed.{Listed}
+use Rattle.eds_device.specs.declared.table.Stand.{Stand}
+use Rattle.eds_device.specs.Table.{AreStands}
 use Rattle.eds_device.specs.Described.{sub_listed}
-use Rattle.eds_device.specs.Names.{index_named, place_named, values_named}
-use Rattle.co_dict.specs.Places.{place_cmp}
+use Rattle.eds_entries.specs.Names.{index_named, values_named}
 use Rattle.eds_device.specs.Places.{pairs_of}
-use Rattle.eds_device.specs.Origins.{is_index, is_place}
+use Rattle.eds_device.specs.Origins.{is_index}
 use Rattle.eds_device.specs.Faults.{most_entries}
 
 -- the elements at the positions that a table has are the first ones, of those seen, that pass
@@ -35,11 +38,12 @@ FindsListed entries all seen =
     (key : ℕ) → let first = find (λ s. is_index key (values_named s.name)) seen
     in MatchOption (lookup (is_at (nat_cmp key)) entries) (first ≡ None) (λ listed. IsListed listed first all)
 
--- the tables and the list of entries are those of the sections
-pub record IsIndexed (sections : List Section) (subs : List ((ℕ × ℕ) × ℕ)) (objects : List (ℕ × ℕ))
-    (values : List (ℕ × Listed)) (places : List (ℕ × ℕ)) : Type 0 where
-  pub finds_subs : FindsFirsts place_cmp (λ key s. is_place key (place_named s.name)) subs sections sections
+-- the tables and the lists of entries are those of the sections
+pub record IsIndexed (sections : List Section) (said : List Said) (objects : List (ℕ × ℕ)) (values : List (ℕ × Listed))
+    (places : List (ℕ × ℕ)) (stands : List (Option Stand)) : Type 0 where
+  pub all_said : said ≡ map said_in sections
   pub finds_objects : FindsFirsts nat_cmp (λ key s. is_index key (index_named s.name)) objects sections sections
   pub finds_values : FindsListed values sections sections
   pub all_places : places ≡ pairs_of sections
   pub not_too_many : length places ≤ most_entries
+  pub all_stands : AreStands sections places stands

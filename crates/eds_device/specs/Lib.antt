@@ -9,4 +9,5 @@ pub mod Names
 pub mod Places
 pub mod Sections
 pub mod Shown
+pub mod Table
 pub mod Origins

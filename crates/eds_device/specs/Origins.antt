@@ -4,8 +4,8 @@ use Rattle.std.specs.Prelude.{option_and_then}
 use Rattle.std.specs.List.{find}
 use Rattle.std.specs.Option.{option_or, option_map_or}
 use Rattle.ini_text.specs.Content.{Section}
-use Rattle.eds_device.specs.Names.{index_named, place_named, values_named}
-use Rattle.eds_device.specs.Sections.{is_plain, compact_count}
+use Rattle.eds_entries.specs.Names.{index_named, place_named, values_named}
+use Rattle.eds_entries.specs.Sections.{is_plain, compact_count}
 
 -- an entry's own section; or a compact object's, with its highest sub-index
 pub data Origin : Type 0 where

@@ -5,8 +5,8 @@ use Rattle.std.specs.List.{flat_map}
 use Rattle.std.specs.Option.{option_map_or}
 use Rattle.ini_text.specs.Content.{Section}
 use Rattle.co_dict.specs.Places.{place_cmp}
-use Rattle.eds_device.specs.Names.{index_named, place_named}
-use Rattle.eds_device.specs.Sections.{is_plain, compact_count}
+use Rattle.eds_entries.specs.Names.{index_named, place_named}
+use Rattle.eds_entries.specs.Sections.{is_plain, compact_count}
 
 -- the first subs of an object, as many as n
 abbrev pub first_subs : ℕ → ℕ → List (ℕ × ℕ)

@@ -1,29 +1,10 @@
 -- What an `Origin`, a `Described` and a `DefaultText` of the program are.
 use Rattle.eds_device.specs.declared.origin.Origin.{Origin as Read}
 use Rattle.eds_device.specs.declared.origin.Origin.TheVariants.{Own, Compact}
-use Rattle.eds_device.specs.declared.described.DefaultText.{DefaultText}
-use Rattle.eds_device.specs.declared.described.DefaultText.TheVariants.{Written, Count}
-use Rattle.eds_device.specs.declared.described.Described.{Described as ReadDescribed}
-use Rattle.eds_device.specs.Described.{Default, written, count, Described}
+pub use Rattle.eds_entries.specs.Shown.{default_shown, description_shown}
 use Rattle.eds_device.specs.Origins.{Origin, own, compact}
 
 -- where an entry stands
 abbrev pub origin_shown : Read → Origin
 origin_shown (Own section) = own section.now
 origin_shown (Compact section highest) = compact section.now highest
-
--- a default
-abbrev pub default_shown : DefaultText → Default
-default_shown (Written text) = written text.now
-default_shown (Count n) = count n
-
--- what is said of an entry
-abbrev pub description_shown : ReadDescribed → Described
-description_shown d = record {
-  kind = d.kind;
-  access = d.access;
-  mappable = d.mappable;
-  default = default_shown d.default;
-  low = d.low.now;
-  high = d.high.now;
-}

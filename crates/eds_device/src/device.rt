@@ -1,24 +1,28 @@
 //! A device, and where its entries stand.
-ghost use Rattle.std.specs.Prelude.{◌≡◌, ◌≤◌, length, IfOk, IsTrue, ◌↔◌, IsErrOf};
+ghost use Rattle.std.specs.Prelude.{◌≡◌, ◌≤◌, length, IfOk, IfSome, IsTrue, ◌↔◌, IsErrOf};
 ghost use Rattle.std.specs.Bool.{IsFalse};
 ghost use Rattle.std.specs.Option.{option_and_then, option_copied, option_map};
 ghost use Rattle.std.specs.List.{find, slice_get};
 ghost use Rattle.std.specs.Ordering.{nat_cmp};
 ghost use Rattle.eds_device.specs.Index.{FindsFirsts};
 ghost use Rattle.ini_text.specs.Content.{content_at};
-ghost use Rattle.eds_device.specs.Described.{listed_value, sub_listed};
+ghost use Rattle.eds_entries.specs.Names.{sub_listed};
+ghost use Rattle.eds_entries.specs.Said.{said_in};
+ghost use Rattle.eds_device.specs.Described.{listed_value};
 ghost use Rattle.ini_text.specs.Text.{is_out_of_range, has_bad_byte};
 ghost use Rattle.co_base.specs.Gives.{Gives};
 ghost use Rattle.eds_device.specs.Faults.{is_memory, device_of, most_entries};
 ghost use Rattle.eds_device.specs.Places.{pairs_of};
 ghost use Rattle.eds_device.specs.Shown.{origin_shown};
-ghost use Rattle.eds_device.specs.Origins.{is_index, sub_section, object_section, values_section, origin_of};
+ghost use Rattle.eds_device.specs.Table.{standing};
+ghost use Rattle.eds_device.specs.Origins.{is_index, object_section, values_section, origin_of};
 
 use crate::fault::DeviceFault;
 use crate::index::{Listed, object_positions, sub_positions, values_positions};
 use crate::origin::Origin;
 use crate::places::places_of;
-use crate::section::{compact_count, is_plain};
+use crate::table::{Stand, find_stand, stands};
+use eds_entries::Said;
 use ini_text::{Ini, Pair, Section};
 use std::alloc::Global;
 use std::collections::BTreeMap;
@@ -30,10 +34,11 @@ use std::marker::Model;
 #[derive(Drop)]
 pub struct Device {
     ini: Ini,
-    subs: BTreeMap<(u16, u8), usize>,
+    said: Vec<Said>,
     objects: BTreeMap<u16, usize>,
     values: BTreeMap<u16, Listed>,
     places: Vec<(u16, u8)>,
+    stands: Vec<Option<Stand>>,
 }
 
 impl Model for Device {
@@ -44,7 +49,8 @@ impl Model for Device {
 
     ghost view = { λ a. a.ini };
 
-    ghost invariant = { λ a. IsIndexed a.ini.sections a.subs.entries a.objects.entries a.values.entries a.places.items };
+    ghost invariant = { λ a. IsIndexed a.ini.sections a.said.items a.objects.entries a.values.entries a.places.items
+        a.stands.items };
 }
 
 /// The section at a position that a table has.
@@ -86,12 +92,15 @@ impl Device {
         let subs = sub_positions(alloc, ini.sections())?;
         let objects = object_positions(alloc, ini.sections())?;
         let values = values_positions(alloc, ini.sections())?;
+        let stands = stands(alloc, ini.sections(), &subs, &objects, &places)?;
+        let said = Said::of_all(alloc, ini.sections())?;
         Ok(Device {
             ini,
-            subs,
+            said,
             objects,
             values,
             places,
+            stands,
         })
     }
 
@@ -120,13 +129,6 @@ impl Device {
         ensures bound { length result.now ≤ most_entries }
     {
         self.places.as_slice()
-    }
-
-    /// The first section that is named for an entry, as `[1018sub1]`.
-    fn sub_section(&self, index: u16, sub: u8) -> Option<&Section>
-        ensures { option_copied result ≡ sub_section self.now.sections index sub }
-    {
-        section_at(self.ini.sections(), self.subs.get(&(index, sub)))
     }
 
     /// The first section that is named for an object, as `[1018]`.
@@ -163,24 +165,33 @@ impl Device {
         Some(pair.value())
     }
 
+    /// Where an entry stands, by the position of its section.
+    pub(crate) fn stand(&self, index: u16, sub: u8) -> Option<Stand>
+        ensures { standing self.now.sections result ≡ origin_of self.now.sections index sub }
+    {
+        find_stand(self.ini.sections(), &self.places, &self.stands, index, sub)
+    }
+
+    /// The section at a position, with what it says.
+    pub(crate) fn said_at(&self, position: usize) -> Option<(&Section, &Said)>
+        ensures section { option_map (λ p. p.0.now) result ≡ slice_get self.now.sections position }
+        ensures said { IfSome result (λ p. p.1.now ≡ said_in p.0.now) }
+    {
+        let section = self.ini.sections().get(position)?;
+        let said = self.said.get(position)?;
+        Some((section, said))
+    }
+
     /// Where an entry stands: in `[xxxxsubN]`; else, of sub 0, in `[xxxx]` of a VAR or DOMAIN; else in
     /// `[xxxx]` of a compact object. `None` where there is no such entry.
-    #[tactic(auto, unfolding(crate::specs::Origins::origin_of))]
     pub fn origin(&self, index: u16, sub: u8) -> Option<Origin<'_>>
         ensures { option_map origin_shown result ≡ origin_of self.now.sections index sub }
     {
-        if let Some(section) = self.sub_section(index, sub) {
-            return Some(Origin::Own(section));
-        }
-        let object = self.object_section(index)?;
-        if sub == 0 && is_plain(object) {
-            return Some(Origin::Own(object));
-        }
-        let highest = compact_count(object)?;
-        if sub <= highest {
-            Some(Origin::Compact(object, highest))
-        } else {
-            None
+        let stand = self.stand(index, sub)?;
+        let section = self.ini.sections().get(stand.position)?;
+        match stand.highest {
+            None => Some(Origin::Own(section)),
+            Some(highest) => Some(Origin::Compact(section, highest)),
         }
     }
 }

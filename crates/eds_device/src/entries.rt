@@ -3,13 +3,13 @@ ghost use Rattle.std.specs.Prelude.{◌≡◌, ◌≤◌, IfOk, IfSome, length};
 ghost use Rattle.co_values.specs.Values.{longest_value};
 ghost use Rattle.std.specs.Option.{option_copied, option_map, option_map_or};
 ghost use Rattle.eds_device.specs.Entries.{limit_at, entry_at, default_bytes, default_at, dummy_allowed};
-ghost use Rattle.eds_device.specs.Shown.{default_shown};
+ghost use Rattle.eds_entries.specs.Shown.{default_shown};
 
-use crate::described::{DefaultText, is_not_zero};
 use crate::device::Device;
 use co_base::Octets;
 use co_dict::Entry;
 use co_values::{DataType, default_value, integer_of, read_number, value_of};
+use eds_entries::{DefaultText, is_not_zero};
 use std::alloc::{AllocError, Global};
 
 /// The limit that a text is for integers of a type at a node.

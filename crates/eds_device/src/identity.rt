@@ -1,11 +1,11 @@
 //! The identity of a device (CiA 301).
 ghost use Rattle.std.specs.Prelude.{◌≡◌};
 ghost use Rattle.eds_device.specs.Identity.{four_bytes, is_identity_type, identity_by, identity_number, identity};
-ghost use Rattle.eds_device.specs.Shown.{description_shown};
+ghost use Rattle.eds_entries.specs.Shown.{description_shown};
 
-use crate::described::{DefaultText, Described};
 use crate::device::Device;
 use co_values::{DataType, integer_of};
+use eds_entries::{DefaultText, Described};
 
 /// A number, where it has four bytes, else 0.
 fn four_bytes(number: i128) -> u32

@@ -5,12 +5,11 @@ ghost use Rattle.std.specs.BTreeMap.{is_at};
 ghost use Rattle.std.specs.Ordering.{nat_cmp};
 ghost use Rattle.std.specs.Map.{lookup};
 ghost use Rattle.eds_device.specs.Index.{FindsFirsts, FindsListed};
-ghost use Rattle.eds_device.specs.Described.{sub_listed};
-ghost use Rattle.eds_device.specs.Names.{index_named, place_named, values_named};
+ghost use Rattle.eds_entries.specs.Names.{index_named, place_named, sub_listed, values_named};
 ghost use Rattle.co_dict.specs.Places.{place_cmp};
 ghost use Rattle.eds_device.specs.Origins.{is_index, is_place};
 
-use crate::name::{index_named, place_named, sub_listed, values_named};
+use eds_entries::{index_named, place_named, sub_listed, values_named};
 use ini_text::{Pair, Section};
 use std::alloc::{AllocError, Global};
 use std::collections::BTreeMap;

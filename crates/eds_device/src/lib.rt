@@ -8,17 +8,15 @@ mod fault;
 mod identity;
 mod index;
 pub mod laws;
-mod name;
-mod object_type;
 mod origin;
 mod places;
-mod section;
+mod table;
 mod values;
 
 pub use device::Device;
+pub use eds_entries::{
+    ObjectType, compact_count, index_named, kind_of, place_named, sub_listed, values_named,
+};
 pub use fault::DeviceFault;
 pub use ini_text::{Pair, Section};
-pub use name::{index_named, place_named, sub_listed, values_named};
-pub use object_type::ObjectType;
 pub use origin::Origin;
-pub use section::{compact_count, kind_of};

@@ -6,8 +6,7 @@ ghost use Rattle.eds_device.specs.Places.{first_subs, object_places, places_give
 ghost use Rattle.eds_device.specs.Adding.{with_places};
 
 use crate::fault::DeviceFault;
-use crate::name::{index_named, place_named};
-use crate::section::{compact_count, is_plain};
+use eds_entries::{compact_count, index_named, is_plain, place_named};
 use ini_text::Section;
 use std::alloc::{AllocError, Global};
 use std::collections::BTreeSet;

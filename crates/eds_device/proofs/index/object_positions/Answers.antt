@@ -1,5 +1,5 @@
 use Rattle.std.specs.Ordering.{nat_cmp}
-use Rattle.eds_device.specs.Names.{index_named}
+use Rattle.eds_entries.specs.Names.{index_named}
 use Rattle.eds_device.specs.Origins.{is_index}
 use Rattle.eds_device.proofs.IndexLemmas.{no_sections, one_more}
 use Rattle.eds_device.proofs.index.object_positions.Goals as goal

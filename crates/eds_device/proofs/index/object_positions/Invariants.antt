@@ -1,6 +1,6 @@
 use Rattle.std.proofs.Common.{take}
 use Rattle.std.specs.Ordering.{nat_cmp}
-use Rattle.eds_device.specs.Names.{index_named}
+use Rattle.eds_entries.specs.Names.{index_named}
 use Rattle.eds_device.specs.Origins.{is_index}
 use Rattle.eds_device.specs.Index.{FindsFirsts}
 use Rattle.eds_device.proofs.index.object_positions.Given as goal

@@ -1,4 +1,4 @@
-use Rattle.eds_device.specs.Names.{place_named}
+use Rattle.eds_entries.specs.Names.{place_named}
 use Rattle.co_dict.specs.Places.{place_cmp}
 use Rattle.eds_device.specs.Origins.{is_place}
 use Rattle.eds_device.proofs.IndexLemmas.{no_sections, one_more}

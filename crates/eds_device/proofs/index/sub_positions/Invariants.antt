@@ -1,5 +1,5 @@
 use Rattle.std.proofs.Common.{take}
-use Rattle.eds_device.specs.Names.{place_named}
+use Rattle.eds_entries.specs.Names.{place_named}
 use Rattle.co_dict.specs.Places.{place_cmp}
 use Rattle.eds_device.specs.Origins.{is_place}
 use Rattle.eds_device.specs.Index.{FindsFirsts}

@@ -1,5 +1,5 @@
 use Rattle.std.proofs.Common.{sym, ◌∙◌, ap}
-use Rattle.eds_device.specs.Names.{values_named}
+use Rattle.eds_entries.specs.Names.{values_named}
 use Rattle.eds_device.specs.declared.index.Listed.{Listed}
 use Rattle.eds_device.proofs.ListedLemmas.{none_listed, more_unlisted, more_listed}
 use Rattle.eds_device.proofs.index.values_positions.Goals as goal

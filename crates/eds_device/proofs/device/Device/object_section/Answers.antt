@@ -3,7 +3,7 @@ use Rattle.std.specs.List.{slice_get}
 use Rattle.std.specs.Option.{option_and_then, option_copied}
 use Rattle.std.specs.Ordering.{nat_cmp}
 use Rattle.ini_text.specs.Content.{Section}
-use Rattle.eds_device.specs.Names.{index_named}
+use Rattle.eds_entries.specs.Names.{index_named}
 use Rattle.eds_device.specs.Origins.{is_index, object_section}
 use Rattle.eds_device.proofs.IndexLemmas.{finds}
 use Rattle.eds_device.proofs.device.Device.object_section.Goals as goal

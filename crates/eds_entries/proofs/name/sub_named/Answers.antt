@@ -1,6 +1,6 @@
 use Rattle.std.proofs.Common.{arith, length}
-use Rattle.eds_device.proofs.NameLemmas.{two_digits}
-use Rattle.eds_device.proofs.name.sub_named.Goals as goal
+use Rattle.eds_entries.proofs.NameLemmas.{two_digits}
+use Rattle.eds_entries.proofs.name.sub_named.Goals as goal
 
 pub overflow_cast-result : goal.overflow_cast-result
 overflow_cast-result c =

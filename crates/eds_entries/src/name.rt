@@ -1,8 +1,7 @@
 //! What the names of sections say (CiA 306).
 ghost use Rattle.std.specs.Prelude.{◌≡◌};
-ghost use Rattle.eds_device.specs.Described.{sub_listed};
 ghost use Rattle.ini_text.specs.Content.{same};
-ghost use Rattle.eds_device.specs.Names.{index_named, sub_named, place_named, values_named};
+ghost use Rattle.eds_entries.specs.Names.{index_named, sub_named, sub_listed, place_named, values_named};
 
 use co_text::read_digits;
 
@@ -63,7 +62,7 @@ pub fn values_named(name: &[u8]) -> Option<u16>
 }
 
 /// The sub-index that a key of decimal digits alone is, as `7` or `007`.
-#[tactic(auto, unfolding(crate::specs::Described::sub_listed))]
+#[tactic(auto, unfolding(crate::specs::Names::sub_listed))]
 pub fn sub_listed(key: &[u8]) -> Option<u8>
     ensures { result ≡ sub_listed key.now }
 {

@@ -7,7 +7,7 @@ use Rattle.std.proofs.Math.Nat.{pow-le-pow_right}
 use Rattle.std.proofs.lemmas.Bool.Decides.{same_from_decides}
 use Rattle.std.proofs.lemmas.Slice.Eq.{bytes_eq-Decides}
 use Rattle.ini_text.specs.Content.{folded, same}
-use Rattle.eds_device.specs.Names.{sub_named, place_named, values_named}
+use Rattle.eds_entries.specs.Names.{sub_named, place_named, values_named}
 
 -- a test that says whether two names are equal without case
 pub same_is : (r : Bool) (a b : List ℕ) → (IsTrue r ↔ (folded a ≡ folded b)) → r ≡ same a b

@@ -1,6 +1,6 @@
 //! The kinds of objects.
 ghost use Rattle.std.specs.Prelude.{◌≡◌};
-ghost use Rattle.eds_device.specs.Sections.{object_of_number};
+ghost use Rattle.eds_entries.specs.Sections.{object_of_number};
 
 /// What an object of a dictionary is, as CiA 301's object codes say.
 #[derive(Clone, Copy, Debug, PartialEq, Eq)]

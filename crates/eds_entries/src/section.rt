@@ -1,8 +1,10 @@
 //! What one object section says (CiA 306).
 ghost use Rattle.std.specs.Prelude.{◌≡◌, ◌≤◌, IfSome};
-ghost use Rattle.eds_device.specs.Sections.{number_at, object_type as type_of_object, is_plain, compact_count, kind_of};
+ghost use Rattle.eds_entries.specs.Sections.{number_at, object_type as type_of_object, is_plain, compact_count};
+ghost use Rattle.eds_entries.specs.Sections.{kind_of};
 
 use crate::object_type::ObjectType;
+use crate::text::value_at;
 use co_values::{DataType, read_number};
 use ini_text::Section;
 
@@ -11,7 +13,7 @@ use ini_text::Section;
 pub(crate) fn number_at(section: &Section, key: &[u8]) -> Option<i128>
     ensures { result ≡ number_at section.now key.now }
 {
-    let text = section.get(key)?;
+    let text = value_at(section, key)?;
     read_number(text)
 }
 
@@ -20,7 +22,7 @@ pub(crate) fn number_at(section: &Section, key: &[u8]) -> Option<i128>
 fn object_type(section: &Section) -> ObjectType
     ensures { result ≡ type_of_object section.now }
 {
-    let Some(text) = section.get(b"ObjectType") else {
+    let Some(text) = value_at(section, b"ObjectType") else {
         return ObjectType::Variable;
     };
     match read_number(text) {
@@ -31,7 +33,7 @@ fn object_type(section: &Section) -> ObjectType
 
 /// Whether a section is that of one entry: a VAR or a DOMAIN.
 #[tactic(auto, unfolding(crate::specs::Sections::is_plain))]
-pub(crate) fn is_plain(section: &Section) -> bool
+pub fn is_plain(section: &Section) -> bool
     ensures { result ≡ is_plain section.now }
 {
     match object_type(section) {
@@ -64,7 +66,7 @@ pub fn compact_count(section: &Section) -> Option<u8>
 pub fn kind_of(section: &Section) -> DataType
     ensures { result ≡ kind_of section.now }
 {
-    if let Some(text) = section.get(b"DataType") {
+    if let Some(text) = value_at(section, b"DataType") {
         return match read_number(text) {
             Some(number) => DataType::of_code(number),
             None => DataType::NotModelled,

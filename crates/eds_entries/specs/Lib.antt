@@ -1,0 +1,5 @@
+pub mod Described
+pub mod Names
+pub mod Said
+pub mod Sections
+pub mod Shown

@@ -1,0 +1,93 @@
+//! What a section says of its entry, read from it once.
+ghost use Rattle.std.specs.Prelude.{◌≡◌, unwrap_or, [], map, IfOk, codes};
+ghost use Rattle.std.specs.Option.{option_copied};
+ghost use Rattle.ini_text.specs.Content.{value_at};
+ghost use Rattle.eds_entries.specs.Described.{description_in};
+ghost use Rattle.eds_entries.specs.Said.{said_in, value_from};
+ghost use Rattle.eds_entries.specs.Shown.{description_shown};
+
+use crate::access::{access_of, is_set};
+use crate::described::{DefaultText, Described};
+use crate::section::kind_of;
+use crate::text::{pair_of, value_from};
+use co_dict::Access;
+use co_values::DataType;
+use ini_text::Section;
+use std::alloc::{AllocError, Global};
+
+/// What a section says of its entry, as it is kept beside the section: its texts by the positions of
+/// their pairs.
+#[derive(Clone, Copy)]
+pub struct Said {
+    kind: DataType,
+    access: Access,
+    mappable: bool,
+    default: Option<usize>,
+    low: Option<usize>,
+    high: Option<usize>,
+    value: Option<usize>,
+}
+
+/// The value of the pair at a position, empty where there is none.
+fn text_from(section: &Section, at: Option<usize>) -> &[u8]
+    ensures { result.now ≡ unwrap_or (value_from section.now at) [] }
+{
+    match value_from(section, at) {
+        Some(text) => text,
+        None => &[],
+    }
+}
+
+impl Said {
+    /// What a section says. Takes time by the number of its keys.
+    #[tactic(auto, unfolding(crate::specs::Said::said_in))]
+    fn of(section: &Section) -> Said
+        ensures { result ≡ said_in section.now }
+    {
+        Said {
+            kind: kind_of(section),
+            access: access_of(section),
+            mappable: is_set(section, b"PDOMapping"),
+            default: pair_of(section, b"DefaultValue"),
+            low: pair_of(section, b"LowLimit"),
+            high: pair_of(section, b"HighLimit"),
+            value: pair_of(section, b"ParameterValue"),
+        }
+    }
+
+    /// What each of the sections says, in their order. Takes time by the number of their keys.
+    pub fn of_all(alloc: Global, sections: &[Section]) -> Result<Vec<Said>, AllocError>
+        ensures { IfOk result (λ said. said.items ≡ map said_in sections.now) }
+    {
+        let mut said = Vec::with_capacity(alloc, sections.len())?;
+        for section in sections {
+            said.push(Said::of(section))?;
+        }
+        Ok(said)
+    }
+
+    /// What the section says of its entry, with its texts.
+    #[tactic(auto, using(crate::proofs::TextLemmas::value_is_from), unfolding(crate::specs::Said::said_in))]
+    pub fn described<'a>(&self, section: &'a Section) -> Described<'a>
+        requires { self.now ≡ said_in section.now }
+        ensures { description_shown result ≡ description_in section.now }
+    {
+        Described {
+            kind: self.kind,
+            access: self.access,
+            mappable: self.mappable,
+            default: DefaultText::Written(text_from(section, self.default)),
+            low: text_from(section, self.low),
+            high: text_from(section, self.high),
+        }
+    }
+
+    /// The text of ParameterValue.
+    #[tactic(auto, using(crate::proofs::TextLemmas::value_is_from), unfolding(crate::specs::Said::said_in))]
+    pub fn value<'a>(&self, section: &'a Section) -> Option<&'a [u8]>
+        requires { self.now ≡ said_in section.now }
+        ensures { option_copied result ≡ value_at section.now.pairs (codes "ParameterValue") }
+    {
+        value_from(section, self.value)
+    }
+}
