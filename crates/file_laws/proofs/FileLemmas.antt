@@ -1,6 +1,6 @@
 -- The DCF of a node of a sound project, read again.
-use Rattle.std.proofs.Common.{◌≡◌, ◌∙◌, ℕ, Bool, true, false, cond, List, length, All, Contains, IfSome, Option, Some}
-use Rattle.std.proofs.Common.{None, Ok, Err, refl, sym, ap, subst, nat_lt}
+use Rattle.std.proofs.Common.{◌≡◌, ◌≤◌, ◌∙◌, ℕ, Bool, true, false, cond, List, length, All, Contains, IfSome, Option}
+use Rattle.std.proofs.Common.{Some, None, Ok, Err, refl, sym, ap, subst, nat_lt}
 use Rattle.std.specs.FinMap.{empty, get}
 use Rattle.std.proofs.lemmas.List.Elements.{All-contains_itself, All-weaker}
 use Rattle.ini_text.specs.Content.{Section, content_of}
@@ -8,7 +8,10 @@ use Rattle.ini_text.specs.Printable.{IsPrintable, IsValue}
 use Rattle.ini_text.specs.Text.{has_bad_byte, is_out_of_range}
 use Rattle.ini_text.proofs.ReadLemmas.{read_is_printable}
 use Rattle.concise_dcf.specs.declared.write.Write.{Write}
+use Rattle.co_text.specs.Lines.{lines_of}
+use Rattle.co_edits.specs.Eds.{most_lines, text_of as kept_text, IsEds}
 use Rattle.co_edits.specs.Edits.{IsSetting}
+use Rattle.co_edits.specs.Forms.{is_name}
 use Rattle.eds_device.specs.Entries.{entry_at}
 use Rattle.eds_device.specs.declared.fault.DeviceFault.TheVariants.{BadByte, Limit, Range}
 use Rattle.eds_device.specs.Faults.{device_of, most_entries}
@@ -18,7 +21,7 @@ use Rattle.eds_dcf.specs.Dcf.{dcf_sections}
 use Rattle.eds_dcf.specs.Printable.{StandsInLine}
 use Rattle.eds_dcf.specs.Writes.{is_to, last_of}
 use Rattle.eds_dcf.proofs.CarriedLemmas.{carried, dcf_entry, LeaveParameters}
-use Rattle.eds_dcf.proofs.PrintedLemmas.{dcf_again}
+use Rattle.eds_dcf.proofs.PrintedLemmas.{dcf_again, dcf_printable}
 use Rattle.eds_dcf.proofs.WholeLemmas.{dcf_pairs}
 use Rattle.pdo_links.specs.Writes.{link_writes, node_writes}
 use Rattle.co_project.specs.Project.{Content}
@@ -32,7 +35,7 @@ use Rattle.file_laws.proofs.DcfLemmas.{given, left_alone, to_another}
 use Rattle.file_laws.proofs.MappedLemmas.{all_writable}
 use Rattle.file_laws.proofs.MemberLemmas.{is_device, is_node, is_setting, member, no_pdo_params, IsMember}
 use Rattle.file_laws.proofs.PdoLemmas.{links_pdo, not_pdo}
-use Rattle.file_laws.proofs.TextLemmas.{name_value, text_value}
+use Rattle.file_laws.proofs.TextLemmas.{name_value, sections_again, text_value}
 use Rattle.file_laws.proofs.ValueLemmas.{all_given, stands, IsGiven}
 
 module _ (project : Content) (id : ℕ) (m : Member) (node : IsSoundNode project id m) where
@@ -122,3 +125,15 @@ module _ (project : Content) (id : ℕ) (m : Member) (node : IsSoundNode project
       ap (λ (ps : List (ℕ × ℕ)). nat_lt most_entries (length ps)) places
       ∙ few here.text (is_device project id m node.sound here) in
       rw (short, good, same) refl
+
+  kept : kept_text (lines_of (dcf_text project id m)) ≡ dcf_text project id m
+  unfolding dcf_text
+  kept =
+      sections_again (dcf_sections m.sections id m.node.name project.bitrate (writes_of project m id))
+      (dcf_printable m.sections id m.node.name project.bitrate (writes_of project m id) printable label all_stand).each
+
+  -- and it is kept as it is by an `eds` command
+  pub taken_in : (name : List ℕ) → is_name name ≡ true → length (lines_of (dcf_text project id m)) ≤ most_lines
+      → is_out_of_range (dcf_text project id m) ≡ false → has_bad_byte (dcf_text project id m) ≡ false
+      → IsEds name (dcf_text project id m)
+  taken_in name named few short good = record { name = named; lines = few; ended = kept; device = device short good }

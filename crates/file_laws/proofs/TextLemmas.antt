@@ -1,7 +1,8 @@
 -- Names and texts of a project can stand in lines of INI text.
 use Rattle.std.proofs.Common.{◌≡◌, ◌∙◌, ℕ, ◌+◌, ◌-◌, ◌==◌, ◌&&◌, not, ◌≤◌, Bool, true, false, cond, List, [], ◌∷◌, ◌++◌}
-use Rattle.std.proofs.Common.{length, take, drop, reverse, refl, sym, ap, subst, arith, length-drop}
-use Rattle.std.specs.List.{list_all, list_any, prefix_len, suffix_len, AllByRecursion}
+use Rattle.std.proofs.Common.{length, take, drop, reverse, refl, sym, ap, subst, arith, length-drop, append_assoc}
+use Rattle.std.proofs.Common.{take_all}
+use Rattle.std.specs.List.{flat_map, list_all, list_any, onto_first, prefix_len, suffix_len, AllByRecursion}
 use Rattle.std.specs.Str.{byte, bytes_eq}
 use Rattle.std.proofs.lemmas.Bool.{or_parts}
 use Rattle.std.proofs.lemmas.Bool.Decides.{nat_tests}
@@ -9,11 +10,15 @@ use Rattle.std.proofs.lemmas.List.{length-take, reverse-append}
 use Rattle.std.proofs.lemmas.List.Sums.{prefix_len-le-length, suffix_len-le-length}
 use Rattle.std.proofs.lemmas.Slice.Eq.{bytes_eq-Decides}
 use Rattle.co_base.specs.Ranges.{is_between}
-use Rattle.co_text.specs.Blanks.{is_blank, trimmed}
+use Rattle.co_text.specs.Blanks.{is_blank, trim_end, trimmed}
+use Rattle.co_text.specs.Lines.{is_cr, lines_of}
+use Rattle.co_edits.specs.Eds.{text_of as kept_text}
 use Rattle.co_edits.specs.Forms.{is_control, is_name, is_name_byte, is_plain, is_text}
 use Rattle.ini_text.specs.Text as ini
-use Rattle.ini_text.specs.Printable.{has_byte, IsValue}
-use Rattle.ini_text.proofs.BytesLemmas.{trimmed_sharp, IsSharp}
+use Rattle.ini_text.specs.Change.{pair_text, section_text, text_of}
+use Rattle.ini_text.specs.Content.{Pair, Section}
+use Rattle.ini_text.specs.Printable.{has_byte, IsPrintablePair, IsPrintableSection, IsValue}
+use Rattle.ini_text.proofs.BytesLemmas.{none_append, sharp_end_if_trim, trimmed_sharp, IsSharp}
 use Rattle.eds_dcf.proofs.LineLemmas.{plain_value, IsPlain}
 
 and_left : (a b : Bool) → (a && b) ≡ true → a ≡ true
@@ -113,3 +118,89 @@ text_value text e =
           (sharp_first (reverse text) (plain_reverse text each) ends.1);
       on_one_line = no_feeds text none;
     }
+
+-- ---- lines
+
+-- a line that ends in no CR is kept whole
+no_cr_at_end : (bs : List ℕ) → IsSharp (reverse bs) → trim_end is_cr bs ≡ bs
+no_cr_at_end bs sharp =
+    let none : suffix_len is_cr bs ≡ 0 = by (reverse bs) sharp in
+    let whole : length bs ≤ length bs - suffix_len is_cr bs = omega (arith, none) in
+    take_all (length bs - suffix_len is_cr bs) bs whole
+  where
+    other : (b : ℕ) → ini.is_blank b ≡ false → is_cr b ≡ false
+    other b e = grind (arith, nat_tests)
+
+    by : (cs : List ℕ) → IsSharp cs → prefix_len is_cr cs ≡ 0
+    by [] h = refl
+    by (c ∷ cs) h = rw (other c h) refl
+
+-- a line up to its LF
+first_line : (bs rest : List ℕ) → has_byte 10 bs ≡ false → lines_of (bs ++ 10 ∷ rest) ≡ bs ∷ lines_of rest
+unfolding lines_of
+first_line [] rest none = refl
+first_line (b ∷ bs) rest none = let parts = or_parts (b == 10) (has_byte 10 bs) none
+    in rw parts.0 (ap (onto_first b) (first_line bs rest parts.1))
+
+line_again : (bs rest : List ℕ) → has_byte 10 bs ≡ false → IsSharp (reverse bs)
+    → kept_text (lines_of (bs ++ 10 ∷ rest)) ≡ bs ++ 10 ∷ kept_text (lines_of rest)
+line_again bs rest none sharp =
+    ap kept_text (first_line bs rest none)
+    ∙ ap (λ (line : List ℕ). (line ++ 10 ∷ []) ++ kept_text (lines_of rest)) (no_cr_at_end bs sharp)
+    ∙ append_assoc bs (10 ∷ []) (kept_text (lines_of rest))
+
+-- a line that ends as one of its parts does, or in a byte that is no blank
+sharp_behind : (first last : List ℕ) (b : ℕ) → ini.is_blank b ≡ false → IsSharp (reverse last)
+    → IsSharp (reverse (first ++ b ∷ last))
+sharp_behind first last b other sharp =
+    subst IsSharp (sym (reverse-append first (b ∷ last)
+    ∙ ap (λ (xs : List ℕ). xs ++ reverse first) (reverse-append (b ∷ []) last)))
+    (by (reverse last) sharp)
+  where
+    by : (cs : List ℕ) → IsSharp cs → IsSharp ((cs ++ b ∷ []) ++ reverse first)
+    by [] h = other
+    by (c ∷ cs) h = h
+
+none_before : (first last : List ℕ) (b : ℕ) → has_byte 10 first ≡ false → (b == 10) ≡ false → has_byte 10 last ≡ false
+    → has_byte 10 (first ++ b ∷ last) ≡ false
+none_before first last b before apart behind =
+    none_append (λ c. c == 10) first (b ∷ last) before (rw (apart, behind) refl)
+
+pair_again : (p : Pair) (rest : List ℕ) → IsPrintablePair p
+    → kept_text (lines_of (pair_text p ++ rest)) ≡ pair_text p ++ kept_text (lines_of rest)
+pair_again p rest is =
+    let line : List ℕ = p.key ++ byte "=" ∷ p.value in
+    let spelled : (xs : List ℕ) → pair_text p ++ xs ≡ line ++ 10 ∷ xs = λ xs. simp append_assoc in
+    ap (λ (bs : List ℕ). kept_text (lines_of bs)) (spelled rest)
+    ∙ line_again line rest (none_before p.key p.value (byte "=") is.key.on_one_line refl is.value.on_one_line)
+    (sharp_behind p.key p.value (byte "=") refl (sharp_end_if_trim p.value is.value.trim))
+    ∙ sym (spelled (kept_text (lines_of rest)))
+
+pairs_again : (ps : List Pair) (rest : List ℕ) → AllByRecursion IsPrintablePair ps
+    → kept_text (lines_of (flat_map pair_text ps ++ rest)) ≡ flat_map pair_text ps ++ kept_text (lines_of rest)
+pairs_again [] rest each = refl
+pairs_again (p ∷ ps) rest each =
+    ap (λ (bs : List ℕ). kept_text (lines_of bs)) (append_assoc (pair_text p) (flat_map pair_text ps) rest)
+    ∙ pair_again p (flat_map pair_text ps ++ rest) each.0
+    ∙ ap (λ (xs : List ℕ). pair_text p ++ xs) (pairs_again ps rest each.1)
+    ∙ sym (append_assoc (pair_text p) (flat_map pair_text ps) (kept_text (lines_of rest)))
+
+section_again : (s : Section) (rest : List ℕ) → IsPrintableSection s
+    → kept_text (lines_of (section_text s ++ rest)) ≡ section_text s ++ kept_text (lines_of rest)
+section_again s rest is =
+    let header : List ℕ = (byte "[" ∷ s.name) ++ byte "]" ∷ [] in
+    let pairs : List ℕ = flat_map pair_text s.pairs in
+    let spelled : (xs : List ℕ) → section_text s ++ xs ≡ header ++ 10 ∷ (pairs ++ xs) = λ xs. simp append_assoc in
+    ap (λ (bs : List ℕ). kept_text (lines_of bs)) (spelled rest)
+    ∙ line_again header (pairs ++ rest) (none_before (byte "[" ∷ s.name) [] (byte "]") is.name.on_one_line refl refl)
+    (sharp_behind (byte "[" ∷ s.name) [] (byte "]") refl tt)
+    ∙ ap (λ (xs : List ℕ). header ++ 10 ∷ xs) (pairs_again s.pairs rest is.pairs)
+    ∙ sym (spelled (kept_text (lines_of rest)))
+
+-- what is printed is kept as it is: no line of it ends in a CR
+pub sections_again : (ss : List Section) → AllByRecursion IsPrintableSection ss
+    → kept_text (lines_of (text_of ss)) ≡ text_of ss
+unfolding lines_of
+sections_again [] each = refl
+sections_again (s ∷ ss) each = section_again s (text_of ss) each.0
+    ∙ ap (λ (xs : List ℕ). section_text s ++ xs) (sections_again ss each.1)

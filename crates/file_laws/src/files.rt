@@ -1,8 +1,11 @@
 //! Laws of the DCF of a node of a sound project (CiA 306), read again.
-ghost use Rattle.std.specs.Prelude.{◌≡◌, ℕ, false, Ok};
+ghost use Rattle.std.specs.Prelude.{◌≡◌, ◌≤◌, ℕ, List, length, false, true, Ok};
 ghost use Rattle.std.specs.FinMap as map;
 ghost use Rattle.ini_text.specs.Content.{content_of};
 ghost use Rattle.ini_text.specs.Text.{is_out_of_range, has_bad_byte};
+ghost use Rattle.co_text.specs.Lines.{lines_of};
+ghost use Rattle.co_edits.specs.Eds.{most_lines, IsEds};
+ghost use Rattle.co_edits.specs.Forms.{is_name};
 ghost use Rattle.eds_device.specs.Entries.{entry_at};
 ghost use Rattle.eds_device.specs.Faults.{device_of};
 ghost use Rattle.co_params.specs.Parameters.{parameter_writes};
@@ -35,4 +38,12 @@ pub fn a_dcf_is_the_text_of_a_device()
         → device_of (dcf_text project id m) ≡ Ok (content_of (dcf_text project id m)) }
     ensures entries { (project : Content) (id : ℕ) (m : Member) (index sub : ℕ) → IsSoundNode project id m
         → entry_at (content_of (dcf_text project id m)).sections id index sub ≡ entry_at m.sections id index sub }
+{}
+
+/// So the `eds` command takes a DCF in as an EDS, where it has also at most 65,536 lines.
+pub fn a_dcf_can_be_taken_in()
+    ensures { (project : Content) (id : ℕ) (m : Member) (name : List ℕ) → IsSoundNode project id m → is_name name ≡ true
+        → length (lines_of (dcf_text project id m)) ≤ most_lines
+        → is_out_of_range (dcf_text project id m) ≡ false → has_bad_byte (dcf_text project id m) ≡ false
+        → IsEds name (dcf_text project id m) }
 {}
