@@ -3,3 +3,4 @@ pub mod LoopLemmas
 pub mod BlockLemmas
 pub mod ToldLemmas
 pub mod DueLemmas
+pub mod RecordLemmas

@@ -2,6 +2,7 @@
 
 ghost use Rattle.std.specs.Prelude.{◌≡◌, ◌<◌, ◌≤◌, ◌+◌, length, OnOk};
 ghost use Rattle.asking.specs.Asking.{after_reads, outcome, reads};
+ghost use Rattle.asking.specs.Record.{BeginsWith};
 ghost use Rattle.bus_devices.specs.Senders.{contends_with as contends, device_lists, is_contender, sender_place};
 ghost use Rattle.bus_events.specs.Each.{each};
 ghost use Rattle.can_frame.specs.Winner.{contenders, IsWinner};
@@ -42,6 +43,7 @@ pub(crate) fn run_each<P: Shapes>(
     ensures counted { OnOk result (P.asks shapes.new
         ≤ P.asks shapes.old + length (reads (each (at_instant t delivery.now) devices.old) (P.seen shapes.old).image)) }
     ensures kept { (P.seen shapes.new).image ≡ (P.seen shapes.old).image }
+    ensures asked_before { BeginsWith (P.seen shapes.new).asked (P.seen shapes.old).asked }
 {
     for device in devices.iter_mut() {
         device.instant(t, delivery, shapes)?;

@@ -3,6 +3,7 @@
 ghost use Rattle.std.specs.List.{flat_map, list_any};
 ghost use Rattle.std.specs.Prelude.{false, ◌≡◌, ◌<◌, ◌≤◌, ◌+◌, List, length, min, OnOk};
 ghost use Rattle.asking.specs.Asking.{after_reads, outcome, reads};
+ghost use Rattle.asking.specs.Record.{BeginsWith};
 ghost use Rattle.bus_devices.specs.Blocks.{AreAgendasOf};
 ghost use Rattle.bus_devices.specs.Senders.{device_lists, sender_place as place_of};
 ghost use Rattle.bus_events.specs.Each.{each};
@@ -61,6 +62,7 @@ fn run_block<P: Shapes>(
     ensures counted { OnOk result (P.asks shapes.new
         ≤ P.asks shapes.old + length (reads (each (at_instant t delivery.now) devices.old) (P.seen shapes.old).image)) }
     ensures kept { (P.seen shapes.new).image ≡ (P.seen shapes.old).image }
+    ensures asked_before { BeginsWith (P.seen shapes.new).asked (P.seen shapes.old).asked }
 {
     if agenda.sleeps_through(t, delivery) {
         return Ok(());
@@ -88,6 +90,7 @@ pub(crate) fn run_blocks<P: Shapes>(
     ensures counted { OnOk result (P.asks shapes.new
         ≤ P.asks shapes.old + length (reads (each (at_instant t delivery.now) devices.old) (P.seen shapes.old).image)) }
     ensures kept { (P.seen shapes.new).image ≡ (P.seen shapes.old).image }
+    ensures asked_before { BeginsWith (P.seen shapes.new).asked (P.seen shapes.old).asked }
 {
     if agendas.is_empty() {
         return Ok(());

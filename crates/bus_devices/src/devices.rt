@@ -3,6 +3,7 @@
 ghost use Rattle.std.specs.Prelude.{◌≡◌, ◌<◌, ◌≤◌, ◌+◌, ◌↔◌, [], length, slice_get, Some, IfOk, IsTrue, OnOk};
 ghost use Rattle.std.specs.List.{flat_map};
 ghost use Rattle.asking.specs.Asking.{after_reads, outcome, reads};
+ghost use Rattle.asking.specs.Record.{BeginsWith};
 ghost use Rattle.bus_devices.specs.Senders.{device_at, device_lists, sender_place as place_of, with_sent};
 ghost use Rattle.bus_events.specs.Each.{each};
 ghost use Rattle.can_frame.specs.Winner.{contenders, IsWinner};
@@ -110,6 +111,7 @@ impl Devices {
             ≤ P.asks shapes.old + length (reads (each (at_instant t delivery.now) self.old)
             (P.seen shapes.old).image)) }
         ensures kept { (P.seen shapes.new).image ≡ (P.seen shapes.old).image }
+        ensures asked_before { BeginsWith (P.seen shapes.new).asked (P.seen shapes.old).asked }
     {
         if !self.known {
             plan(&mut self.agendas, &self.devices)?;

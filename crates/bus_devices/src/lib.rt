@@ -1,5 +1,5 @@
 //! The devices of a bus, of which only those run that have to.
-#![tactic(auto)]
+#![tactic(auto, using(asking::proofs::RecordLemmas::record_laws))]
 
 mod block;
 mod blocks;

@@ -2,6 +2,7 @@
 
 ghost use Rattle.std.specs.Prelude.{◌≡◌, ◌≤◌, ◌+◌, ◌↔◌, false, true, length, map, IfOk, IsTrue, OnOk};
 ghost use Rattle.asking.specs.Asking.{after_reads, outcome, reads};
+ghost use Rattle.asking.specs.Record.{BeginsWith};
 ghost use Rattle.bus_events.specs.Each.{each};
 ghost use Rattle.co_device.specs.Device.{after_power, without_power};
 
@@ -62,6 +63,7 @@ pub fn power_all<P: Shapes>(
     ensures counted { OnOk result (P.asks shapes.new
         ≤ P.asks shapes.old + length (reads (each (after_power true 0) devices.old) (P.seen shapes.old).image)) }
     ensures kept { (P.seen shapes.new).image ≡ (P.seen shapes.old).image }
+    ensures asked_before { BeginsWith (P.seen shapes.new).asked (P.seen shapes.old).asked }
 {
     for device in devices.iter_mut() {
         device.power(true, 0, shapes)?;

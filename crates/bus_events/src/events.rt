@@ -2,6 +2,7 @@
 
 ghost use Rattle.std.specs.Prelude.{◌≡◌, ◌<◌, ◌≤◌, ◌+◌, false, length, map, OnOk};
 ghost use Rattle.asking.specs.Asking.{after_reads, outcome, reads};
+ghost use Rattle.asking.specs.Record.{BeginsWith};
 ghost use Rattle.bus_events.specs.Each.{each};
 ghost use Rattle.bus_events.specs.Events.{after_events_at, after_event, after_power_at, after_set_at};
 ghost use Rattle.bus_events.specs.Steps.{AreFree};
@@ -70,6 +71,7 @@ fn power_one<P: Shapes>(
     ensures counted { OnOk result (P.asks shapes.new
         ≤ P.asks shapes.old + length (reads (after_power_at t node on device.old) (P.seen shapes.old).image)) }
     ensures kept { (P.seen shapes.new).image ≡ (P.seen shapes.old).image }
+    ensures asked_before { BeginsWith (P.seen shapes.new).asked (P.seen shapes.old).asked }
 {
     if device.number() != node {
         return Ok(());
@@ -93,6 +95,7 @@ fn power_each<P: Shapes>(
     ensures counted { OnOk result (P.asks shapes.new
         ≤ P.asks shapes.old + length (reads (each (after_power_at t node on) devices.old) (P.seen shapes.old).image)) }
     ensures kept { (P.seen shapes.new).image ≡ (P.seen shapes.old).image }
+    ensures asked_before { BeginsWith (P.seen shapes.new).asked (P.seen shapes.old).asked }
 {
     for device in devices.iter_mut() {
         power_one(device, t, node, on, shapes)?;
@@ -121,6 +124,7 @@ fn happen<P: Shapes>(
         ≤ P.asks shapes.old + length (reads (after_event t step.now (devices.old, manager.old))
         (P.seen shapes.old).image)) }
     ensures kept { (P.seen shapes.new).image ≡ (P.seen shapes.old).image }
+    ensures asked_before { BeginsWith (P.seen shapes.new).asked (P.seen shapes.old).asked }
 {
     match step {
         Step::Set {
@@ -154,6 +158,7 @@ pub fn run_events<P: Shapes>(
         ≤ P.asks shapes.old + length (reads (after_events_at t steps.now (devices.old, manager.old))
         (P.seen shapes.old).image)) }
     ensures kept { (P.seen shapes.new).image ≡ (P.seen shapes.old).image }
+    ensures asked_before { BeginsWith (P.seen shapes.new).asked (P.seen shapes.old).asked }
 {
     for step in steps {
         happen(devices, manager, t, &step.step, shapes)?;

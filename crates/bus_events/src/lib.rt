@@ -1,5 +1,5 @@
 //! The events of a scenario on a CAN bus.
-#![tactic(auto)]
+#![tactic(auto, using(asking::proofs::RecordLemmas::record_laws))]
 
 mod events;
 pub mod laws;

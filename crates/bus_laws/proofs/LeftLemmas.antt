@@ -18,10 +18,6 @@ use Rattle.can_bus.proofs.TimeLemmas.{goes_on, in_time_after, in_time_first, ins
 use Rattle.bus_laws.specs.Spans.{bus_at}
 use Rattle.bus_laws.proofs.SpanLemmas.{at_each_moment}
 
--- the events that have not run lie before a moment
-AreBefore : ℕ → List TimedStep → Type 0
-AreBefore moment steps = AllByRecursion (λ step. step.time < moment) steps
-
 drop_before : (n moment : ℕ) (steps : List TimedStep) → AllByRecursion (λ step. step.time < moment) steps
     → AllByRecursion (λ step. step.time < moment) (drop n steps)
 drop_before zero moment steps h = h

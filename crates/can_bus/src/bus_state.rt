@@ -2,6 +2,7 @@
 
 ghost use Rattle.std.specs.Prelude.{◌≡◌, ◌<◌, ◌≤◌, ◌+◌, ◌*◌, ◌++◌, ◌↔◌, length, IfOk, OnOk, OnErr, IsErr, IsTrue};
 ghost use Rattle.asking.specs.Asking.{after_reads, outcome, reads};
+ghost use Rattle.asking.specs.Record.{BeginsWith};
 ghost use Rattle.can_bus.specs.Bus.{blank_bus, ended_slot, from_delivery_on, instant, open_slot, power_on, power_on_of};
 ghost use Rattle.can_bus.specs.Bus.{after_arbitration};
 ghost use Rattle.can_bus.specs.Dues.{next_due};
@@ -91,6 +92,7 @@ fn power_on_of<P: Parts>(
     ensures counted { OnOk result (P.asks parts.new ≤ P.asks parts.old + length (reads (power_on_of roster.now)
         (P.seen parts.old).image)) }
     ensures kept { (P.seen parts.new).image ≡ (P.seen parts.old).image }
+    ensures asked_before { BeginsWith (P.seen parts.new).asked (P.seen parts.old).asked }
 {
     let mut devices = new_devices(alloc, roster.nodes.as_slice())?;
     power_all(devices.as_mut_slice(), parts)?;
@@ -172,10 +174,12 @@ fn run_from_delivery<P: Parts>(
     ensures state { OnOk result (bus.new ≡ (outcome (from_delivery_on t bus.old) (P.seen parts.old).image).0) }
     ensures told { OnOk result (lines.new ≡ lines.old
         ++ (outcome (from_delivery_on t bus.old) (P.seen parts.old).image).1) }
+    ensures lines_before { BeginsWith lines.new lines.old }
     ensures noted { OnOk result (P.seen parts.new ≡ after_reads (from_delivery_on t bus.old) (P.seen parts.old)) }
     ensures counted { OnOk result (P.asks parts.new ≤ P.asks parts.old + length (reads (from_delivery_on t bus.old)
         (P.seen parts.old).image)) }
     ensures kept { (P.seen parts.new).image ≡ (P.seen parts.old).image }
+    ensures asked_before { BeginsWith (P.seen parts.new).asked (P.seen parts.old).asked }
 {
     let ended = take_ended(&mut bus.wire, t);
     let mut notes = Notes::new(bus.alloc);
@@ -203,10 +207,12 @@ fn run_instant<P: Parts>(
     requires { t < END }
     ensures state { OnOk result (bus.new ≡ (outcome (instant t bus.old) (P.seen parts.old).image).0) }
     ensures told { OnOk result (lines.new ≡ lines.old ++ (outcome (instant t bus.old) (P.seen parts.old).image).1) }
+    ensures lines_before { BeginsWith lines.new lines.old }
     ensures noted { OnOk result (P.seen parts.new ≡ after_reads (instant t bus.old) (P.seen parts.old)) }
     ensures counted { OnOk result (P.asks parts.new ≤ P.asks parts.old + length (reads (instant t bus.old)
         (P.seen parts.old).image)) }
     ensures kept { (P.seen parts.new).image ≡ (P.seen parts.old).image }
+    ensures asked_before { BeginsWith (P.seen parts.new).asked (P.seen parts.old).asked }
 {
     begin_window(bus, t, parts)?;
     run_due(bus, t, parts)?;
@@ -238,6 +244,7 @@ impl BusState {
         ensures counted { OnOk result (P.asks parts.new
             ≤ P.asks parts.old + length (reads power_on (P.seen parts.old).image)) }
         ensures kept { (P.seen parts.new).image ≡ (P.seen parts.old).image }
+        ensures asked_before { BeginsWith (P.seen parts.new).asked (P.seen parts.old).asked }
     {
         let roster = parts.roster()?;
         match roster {
@@ -321,7 +328,7 @@ impl BusState {
     /// devices that have to run, and by an eighth of all; by all of them where events run, and in the first
     /// instant of a bus that was switched on or copied, or whose events have run. That one takes memory for
     /// agendas, an eighth as many as devices; else one in which nothing is due and no window starts takes none.
-    /// Want of memory may leave lines added.
+    /// Want of memory may leave lines added, and reads noted: what stood there before comes first, unchanged.
     pub fn instant<P: Parts>(
         &mut self,
         t: u64,
@@ -332,10 +339,12 @@ impl BusState {
         ensures state { OnOk result (self.new ≡ (outcome (instant t self.old) (P.seen parts.old).image).0) }
         ensures told { OnOk result (lines.new ≡ lines.old
             ++ (outcome (instant t self.old) (P.seen parts.old).image).1) }
+        ensures lines_before { BeginsWith lines.new lines.old }
         ensures noted { OnOk result (P.seen parts.new ≡ after_reads (instant t self.old) (P.seen parts.old)) }
         ensures counted { OnOk result (P.asks parts.new ≤ P.asks parts.old + length (reads (instant t self.old)
             (P.seen parts.old).image)) }
         ensures kept { (P.seen parts.new).image ≡ (P.seen parts.old).image }
+        ensures asked_before { BeginsWith (P.seen parts.new).asked (P.seen parts.old).asked }
         ensures refused { IsTrue self.old.spent → IsErr result }
         ensures spent { OnErr result (IsTrue self.new.spent) }
     {

@@ -2,6 +2,7 @@
 
 ghost use Rattle.std.specs.Prelude.{◌≡◌, ◌<◌, ◌≤◌, ◌+◌, ◌++◌, length, OnOk};
 ghost use Rattle.asking.specs.Asking.{after_reads, outcome, reads};
+ghost use Rattle.asking.specs.Record.{BeginsWith};
 ghost use Rattle.can_bus.specs.Bus.{delivery_of as delivery_of_slot, nodes_after};
 
 use crate::managing::manage;
@@ -41,12 +42,14 @@ pub(crate) fn run_nodes<P: Parts>(
         ≡ (outcome (nodes_after t ended.now devices.old manager.old) (P.seen parts.old).image).1.0) }
     ensures notes { OnOk result (notes.new ≡ notes.old
         ++ (outcome (nodes_after t ended.now devices.old manager.old) (P.seen parts.old).image).1.1) }
+    ensures notes_before { BeginsWith notes.new notes.old }
     ensures noted { OnOk result (P.seen parts.new ≡ after_reads (nodes_after t ended.now devices.old manager.old)
         (P.seen parts.old)) }
     ensures counted { OnOk result (P.asks parts.new
         ≤ P.asks parts.old + length (reads (nodes_after t ended.now devices.old manager.old)
         (P.seen parts.old).image)) }
     ensures kept { (P.seen parts.new).image ≡ (P.seen parts.old).image }
+    ensures asked_before { BeginsWith (P.seen parts.new).asked (P.seen parts.old).asked }
 {
     let delivery = delivery_of(ended);
     devices.instant(t, &delivery, parts)?;

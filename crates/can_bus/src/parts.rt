@@ -2,6 +2,7 @@
 
 ghost use Rattle.std.specs.Prelude.{◌≡◌, ◌+◌, ◌-◌, ◌^◌, [], min, IfOk, IfSome, OnOk};
 ghost use Rattle.asking.specs.Asking.{after_ask};
+ghost use Rattle.asking.specs.Record.{BeginsWith};
 ghost use Rattle.co_parts.specs.Contents.{EventsAre, RosterIs};
 ghost use Rattle.co_parts.specs.Images.{IsRoster, IsWithin};
 ghost use Rattle.co_parts.specs.Shared.{shared};
@@ -21,7 +22,8 @@ pub trait Parts: Shapes + Boots {
         ensures fits { IfOk result (λ r. IfSome (shared r) IsRoster) }
         ensures noted { OnOk result (Self.seen self.new ≡ after_ask Part.Roster (Self.seen self.old)) }
         ensures counted { Self.asks self.new ≡ min (Self.asks self.old + 1) (2 ^ 64 - 1) }
-        ensures kept { (Self.seen self.new).image ≡ (Self.seen self.old).image };
+        ensures kept { (Self.seen self.new).image ≡ (Self.seen self.old).image }
+        ensures asked_before { BeginsWith (Self.seen self.new).asked (Self.seen self.old).asked };
 
     /// The events of window i, or none: each has its time there, and sets no object of a PDO and no value of
     /// more than 512 bytes.
@@ -30,7 +32,8 @@ pub trait Parts: Shapes + Boots {
         ensures fits { IfOk result (λ r. IfSome (shared r) (AllByRecursion (IsWithin i))) }
         ensures noted { OnOk result (Self.seen self.new ≡ after_ask (Part.Events i) (Self.seen self.old)) }
         ensures counted { Self.asks self.new ≡ min (Self.asks self.old + 1) (2 ^ 64 - 1) }
-        ensures kept { (Self.seen self.new).image ≡ (Self.seen self.old).image };
+        ensures kept { (Self.seen self.new).image ≡ (Self.seen self.old).image }
+        ensures asked_before { BeginsWith (Self.seen self.new).asked (Self.seen self.old).asked };
 
     /// Hands the record of what was asked over, and empties it.
     fn take_asked(&mut self) -> Vec<Read>

@@ -1,6 +1,7 @@
 //! What an instant tells.
 
 ghost use Rattle.std.specs.Prelude.{◌≡◌, ◌++◌, OnOk};
+ghost use Rattle.asking.specs.Record.{BeginsWith};
 ghost use Rattle.can_bus.specs.Bus.{frame_lines, note_lines};
 
 use crate::line::Line;
@@ -11,7 +12,8 @@ use std::alloc::AllocError;
 
 /// Tells of the frame of a slot that ends at a time.
 fn tell_frame(lines: &mut Lines, time: u32, ended: &Option<Slot>) -> Result<(), AllocError>
-    ensures { OnOk result (lines.new ≡ lines.old ++ frame_lines time ended.now) }
+    ensures told { OnOk result (lines.new ≡ lines.old ++ frame_lines time ended.now) }
+    ensures lines_before { BeginsWith lines.new lines.old }
 {
     match ended {
         None => Ok(()),
@@ -24,7 +26,8 @@ fn tell_frame(lines: &mut Lines, time: u32, ended: &Option<Slot>) -> Result<(), 
 
 /// Tells what the manager noted at a time.
 fn tell_notes(lines: &mut Lines, time: u32, notes: &[Note]) -> Result<(), AllocError>
-    ensures { OnOk result (lines.new ≡ lines.old ++ note_lines time notes.now) }
+    ensures told { OnOk result (lines.new ≡ lines.old ++ note_lines time notes.now) }
+    ensures lines_before { BeginsWith lines.new lines.old }
 {
     for note in notes {
         lines.add(Line::Note { time, note: *note })?;
@@ -39,7 +42,8 @@ pub(crate) fn tell(
     ended: &Option<Slot>,
     notes: &[Note],
 ) -> Result<(), AllocError>
-    ensures { OnOk result (lines.new ≡ lines.old ++ (frame_lines time ended.now ++ note_lines time notes.now)) }
+    ensures told { OnOk result (lines.new ≡ lines.old ++ (frame_lines time ended.now ++ note_lines time notes.now)) }
+    ensures lines_before { BeginsWith lines.new lines.old }
 {
     tell_frame(lines, time, ended)?;
     tell_notes(lines, time, notes)

@@ -2,6 +2,7 @@
 
 ghost use Rattle.std.specs.Prelude.{◌≡◌, ◌<◌, ◌≤◌, ◌+◌, length, OnOk};
 ghost use Rattle.asking.specs.Asking.{after_reads, outcome, reads};
+ghost use Rattle.asking.specs.Record.{BeginsWith};
 ghost use Rattle.can_bus.specs.Bus.{after_events, after_window_start};
 
 use crate::bus_state::BusState;
@@ -28,6 +29,7 @@ pub(crate) fn begin_window<P: Parts>(
     ensures counted { OnOk result (P.asks parts.new ≤ P.asks parts.old + length (reads (after_window_start t bus.old)
         (P.seen parts.old).image)) }
     ensures kept { (P.seen parts.new).image ≡ (P.seen parts.old).image }
+    ensures asked_before { BeginsWith (P.seen parts.new).asked (P.seen parts.old).asked }
 {
     if t != bus.window {
         return Ok(());
@@ -47,6 +49,7 @@ pub(crate) fn run_due<P: Parts>(bus: &mut BusState, t: u64, parts: &mut P) -> Re
     ensures counted { OnOk result (P.asks parts.new ≤ P.asks parts.old + length (reads (after_events t bus.old)
         (P.seen parts.old).image)) }
     ensures kept { (P.seen parts.new).image ≡ (P.seen parts.old).image }
+    ensures asked_before { BeginsWith (P.seen parts.new).asked (P.seen parts.old).asked }
 {
     let steps = bus.steps.due(t);
     if steps.is_empty() {

@@ -57,6 +57,7 @@ impl Asked<Part, PartContent> for OneNode {
 }
 
 impl Shapes for OneNode {
+    #[tactic(auto, using(asking::proofs::RecordLemmas::record_laws))]
     fn defaults(&mut self, node: u8) -> Result<Option<Rc<Dict>>, AllocError> {
         self.asks = self.asks.saturating_add(1);
         let answer = pointer(&self.defaults)?;
@@ -65,6 +66,7 @@ impl Shapes for OneNode {
         Ok(answer)
     }
 
+    #[tactic(auto, using(asking::proofs::RecordLemmas::record_laws))]
     fn shape(&mut self, node: u8) -> Result<Option<Rc<Shape>>, AllocError> {
         self.asks = self.asks.saturating_add(1);
         let answer = pointer(&self.shape)?;
@@ -76,6 +78,7 @@ impl Shapes for OneNode {
 }
 
 impl Boots for OneNode {
+    #[tactic(auto, using(asking::proofs::RecordLemmas::record_laws))]
     fn expect(&mut self, node: u8) -> Result<Option<Rc<Identity>>, AllocError> {
         self.asks = self.asks.saturating_add(1);
         let answer = Some(Rc::new(self.alloc, self.expect)?);
@@ -84,6 +87,7 @@ impl Boots for OneNode {
         Ok(answer)
     }
 
+    #[tactic(auto, using(asking::proofs::RecordLemmas::record_laws))]
     fn boot(&mut self, node: u8, place: u32) -> Result<Option<Rc<Write>>, AllocError> {
         self.asks = self.asks.saturating_add(1);
         let answer = write_at(self.alloc, &self.writes, place)?;

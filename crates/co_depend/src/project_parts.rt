@@ -98,6 +98,7 @@ impl Asked<Part, PartContent> for ProjectParts {
 }
 
 impl Shapes for ProjectParts {
+    #[tactic(auto, using(asking::proofs::RecordLemmas::record_laws))]
     fn defaults(&mut self, node: u8) -> Result<Option<Rc<Dict>>, AllocError> {
         self.asks = self.asks.saturating_add(1);
         let answer = self.nodes.defaults(node)?;
@@ -106,6 +107,7 @@ impl Shapes for ProjectParts {
         Ok(answer)
     }
 
+    #[tactic(auto, using(asking::proofs::RecordLemmas::record_laws))]
     fn shape(&mut self, node: u8) -> Result<Option<Rc<Shape>>, AllocError> {
         self.asks = self.asks.saturating_add(1);
         let answer = self.nodes.shape(node)?;
@@ -117,6 +119,7 @@ impl Shapes for ProjectParts {
 }
 
 impl Boots for ProjectParts {
+    #[tactic(auto, using(asking::proofs::RecordLemmas::record_laws))]
     fn expect(&mut self, node: u8) -> Result<Option<Rc<Identity>>, AllocError> {
         self.asks = self.asks.saturating_add(1);
         let answer = self.nodes.expect(node)?;
@@ -125,6 +128,7 @@ impl Boots for ProjectParts {
         Ok(answer)
     }
 
+    #[tactic(auto, using(asking::proofs::RecordLemmas::record_laws))]
     fn boot(&mut self, node: u8, place: u32) -> Result<Option<Rc<Write>>, AllocError> {
         self.asks = self.asks.saturating_add(1);
         let answer = self.nodes.write(node, place)?;
@@ -135,6 +139,7 @@ impl Boots for ProjectParts {
 }
 
 impl Parts for ProjectParts {
+    #[tactic(auto, using(asking::proofs::RecordLemmas::record_laws))]
     fn roster(&mut self) -> Result<Option<Rc<Roster>>, AllocError> {
         self.asks = self.asks.saturating_add(1);
         let answer = some_pointer(&self.roster)?;
@@ -144,6 +149,7 @@ impl Parts for ProjectParts {
         Ok(answer)
     }
 
+    #[tactic(auto, using(asking::proofs::RecordLemmas::record_laws))]
     fn events(&mut self, i: u32) -> Result<Option<Rc<Window>>, AllocError> {
         self.asks = self.asks.saturating_add(1);
         let answer = self.windows.window(i)?;

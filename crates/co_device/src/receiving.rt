@@ -2,6 +2,7 @@
 
 ghost use Rattle.std.specs.Prelude.{◌≡◌, ◌<◌, ◌≤◌, ◌+◌, length, OnOk};
 ghost use Rattle.asking.specs.Asking.{after_reads, outcome, reads};
+ghost use Rattle.asking.specs.Record.{BeginsWith};
 ghost use Rattle.co_device.specs.Receiving.{after_frame};
 
 use crate::device_state::DeviceState;
@@ -28,6 +29,7 @@ impl DeviceState {
         ensures counted { OnOk result (P.asks shapes.new
             ≤ P.asks shapes.old + length (reads (after_frame t frame.now self.old) (P.seen shapes.old).image)) }
         ensures kept { (P.seen shapes.new).image ≡ (P.seen shapes.old).image }
+        ensures asked_before { BeginsWith (P.seen shapes.new).asked (P.seen shapes.old).asked }
     {
         if !self.has_power {
             return Ok(());

@@ -2,6 +2,7 @@
 
 ghost use Rattle.std.specs.Prelude.{◌≡◌, ◌<◌, ◌≤◌, ◌+◌, length, OnOk};
 ghost use Rattle.asking.specs.Asking.{after_reads, outcome, reads};
+ghost use Rattle.asking.specs.Record.{BeginsWith};
 ghost use Rattle.co_device.specs.Device.{after_initialisation, after_power, reset_communication, after_reset_node};
 ghost use Rattle.co_device.specs.Device.{without_power};
 
@@ -70,6 +71,7 @@ impl DeviceState {
         ensures counted { OnOk result (P.asks shapes.new
             ≤ P.asks shapes.old + length (reads (after_reset_node t self.old) (P.seen shapes.old).image)) }
         ensures kept { (P.seen shapes.new).image ≡ (P.seen shapes.old).image }
+        ensures asked_before { BeginsWith (P.seen shapes.new).asked (P.seen shapes.old).asked }
     {
         let defaults = shapes.defaults(self.number)?;
         let shape = shapes.shape(self.number)?;
@@ -92,6 +94,7 @@ impl DeviceState {
         ensures counted { OnOk result (P.asks shapes.new
             ≤ P.asks shapes.old + length (reads (reset_communication t self.old) (P.seen shapes.old).image)) }
         ensures kept { (P.seen shapes.new).image ≡ (P.seen shapes.old).image }
+        ensures asked_before { BeginsWith (P.seen shapes.new).asked (P.seen shapes.old).asked }
     {
         let defaults = shapes.defaults(self.number)?;
         let shape = shapes.shape(self.number)?;
@@ -114,6 +117,7 @@ impl DeviceState {
         ensures counted { OnOk result (P.asks shapes.new ≤ P.asks shapes.old + length (reads (after_power on t self.old)
             (P.seen shapes.old).image)) }
         ensures kept { (P.seen shapes.new).image ≡ (P.seen shapes.old).image }
+        ensures asked_before { BeginsWith (P.seen shapes.new).asked (P.seen shapes.old).asked }
     {
         if on == self.has_power {
             return Ok(());

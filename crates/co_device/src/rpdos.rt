@@ -2,6 +2,7 @@
 
 ghost use Rattle.std.specs.Prelude.{◌≡◌, ◌<◌, ◌≤◌, ◌+◌, length, OnOk};
 ghost use Rattle.asking.specs.Asking.{after_reads, outcome, reads};
+ghost use Rattle.asking.specs.Record.{BeginsWith};
 ghost use Rattle.co_dict.specs.Mappings.{mapped_length as length_mapped, mapping_bits};
 ghost use Rattle.co_mapping.specs.Packing.{bits_for, frame_bits};
 ghost use Rattle.device_pdos.specs.Rpdos.{mapping_of_rpdo};
@@ -95,6 +96,7 @@ impl DeviceState {
             ≤ P.asks shapes.old + length (reads (after_mapping t (mapping_of_rpdo configuration.now) frame.now self.old)
             (P.seen shapes.old).image)) }
         ensures kept { (P.seen shapes.new).image ≡ (P.seen shapes.old).image }
+        ensures asked_before { BeginsWith (P.seen shapes.new).asked (P.seen shapes.old).asked }
     {
         let shape = shapes.shape(self.number)?;
         let none = without_entries(self.alloc);
@@ -119,6 +121,7 @@ impl DeviceState {
         ensures counted { OnOk result (P.asks shapes.new
             ≤ P.asks shapes.old + length (reads (after_rpdo t frame.now i self.old) (P.seen shapes.old).image)) }
         ensures kept { (P.seen shapes.new).image ≡ (P.seen shapes.old).image }
+        ensures asked_before { BeginsWith (P.seen shapes.new).asked (P.seen shapes.old).asked }
     {
         let rpdo = self.rpdos[i];
         match rpdo.receive(frame) {
@@ -147,6 +150,7 @@ impl DeviceState {
         ensures counted { OnOk result (P.asks shapes.new
             ≤ P.asks shapes.old + length (reads (after_pdo t frame.now self.old) (P.seen shapes.old).image)) }
         ensures kept { (P.seen shapes.new).image ≡ (P.seen shapes.old).image }
+        ensures asked_before { BeginsWith (P.seen shapes.new).asked (P.seen shapes.old).asked }
     {
         if !self.is_in(NmtState::Operational) {
             return Ok(());
@@ -166,6 +170,7 @@ impl DeviceState {
         ensures counted { OnOk result (P.asks shapes.new
             ≤ P.asks shapes.old + length (reads (after_sync_at t i self.old) (P.seen shapes.old).image)) }
         ensures kept { (P.seen shapes.new).image ≡ (P.seen shapes.old).image }
+        ensures asked_before { BeginsWith (P.seen shapes.new).asked (P.seen shapes.old).asked }
     {
         let rpdo = self.rpdos[i];
         match rpdo.kept {
@@ -187,6 +192,7 @@ impl DeviceState {
         ensures counted { OnOk result (P.asks shapes.new ≤ P.asks shapes.old + length (reads (after_sync t self.old)
             (P.seen shapes.old).image)) }
         ensures kept { (P.seen shapes.new).image ≡ (P.seen shapes.old).image }
+        ensures asked_before { BeginsWith (P.seen shapes.new).asked (P.seen shapes.old).asked }
     {
         if self.is_in(NmtState::Operational) {
             self.synced = true;

@@ -3,6 +3,7 @@
 ghost use Rattle.std.specs.Prelude.{◌≡◌, ◌↔◌, ◌<◌, ◌≤◌, ◌+◌, ◌∷◌, [], Some, true, false, length, remove, slice_get};
 ghost use Rattle.std.specs.Prelude.{IfOk, IfSome, OnOk, OnErr, IsErr, IsTrue};
 ghost use Rattle.asking.specs.Asking.{Answer, after_reads, outcome, reads};
+ghost use Rattle.asking.specs.Record.{BeginsWith};
 ghost use Rattle.can_frame.specs.Winner.{contenders_of, IsWinner};
 ghost use Rattle.co_base.specs.Ranges.{is_between};
 ghost use Rattle.co_values.specs.Values.{longest_value};
@@ -89,6 +90,7 @@ fn hear<P: Shapes>(
     ensures counted { OnOk result (P.asks shapes.new
         ≤ P.asks shapes.old + length (reads (hears t delivery.now device.old) (P.seen shapes.old).image)) }
     ensures kept { (P.seen shapes.new).image ≡ (P.seen shapes.old).image }
+    ensures asked_before { BeginsWith (P.seen shapes.new).asked (P.seen shapes.old).asked }
     ensures still { OnOk result (IsTrue device.old.spent → IsTrue device.new.spent) }
     ensures spent { OnErr result (IsTrue device.new.spent) }
 {
@@ -130,6 +132,7 @@ fn run<P: Shapes>(
     ensures counted { OnOk result (P.asks shapes.new
         ≤ P.asks shapes.old + length (reads (at_instant t delivery.now device.old) (P.seen shapes.old).image)) }
     ensures kept { (P.seen shapes.new).image ≡ (P.seen shapes.old).image }
+    ensures asked_before { BeginsWith (P.seen shapes.new).asked (P.seen shapes.old).asked }
     ensures refused { IsTrue device.old.spent → IsErr result }
     ensures spent { OnErr result (IsTrue device.new.spent) }
     ensures rests { OnOk result (Rests device.new) }
@@ -243,6 +246,7 @@ impl ScheduledDevice {
         ensures counted { OnOk result (P.asks shapes.new ≤ P.asks shapes.old + length (reads (after_power on t self.old)
             (P.seen shapes.old).image)) }
         ensures kept { (P.seen shapes.new).image ≡ (P.seen shapes.old).image }
+        ensures asked_before { BeginsWith (P.seen shapes.new).asked (P.seen shapes.old).asked }
         ensures refused { IsTrue self.old.spent → IsErr result }
         ensures spent { OnErr result (IsTrue self.new.spent) }
     {
@@ -281,6 +285,7 @@ impl ScheduledDevice {
         ensures counted { OnOk result (P.asks shapes.new
             ≤ P.asks shapes.old + length (reads (at_instant t delivery.now self.old) (P.seen shapes.old).image)) }
         ensures kept { (P.seen shapes.new).image ≡ (P.seen shapes.old).image }
+        ensures asked_before { BeginsWith (P.seen shapes.new).asked (P.seen shapes.old).asked }
         ensures refused { IsTrue self.old.spent → IsErr result }
         ensures spent { OnErr result (IsTrue self.new.spent) }
     {

@@ -2,6 +2,7 @@
 
 ghost use Rattle.std.specs.Prelude.{◌≡◌, ◌≤◌, ◌+◌, ◌++◌, ◌↔◌, length, IfOk, IsTrue, OnOk};
 ghost use Rattle.asking.specs.Asking.{after_reads, outcome, reads};
+ghost use Rattle.asking.specs.Record.{BeginsWith};
 ghost use Rattle.node_boot.specs.Boot as rules;
 ghost use Rattle.nmt_boot.specs.Manager.{note_of_loss as lost_by, node_after, notes_after, queue_after};
 
@@ -68,6 +69,7 @@ impl Booting {
             ≤ P.asks boots.old + length (reads (rules.boot_nmt_slave deadline self.old.number)
             (P.seen boots.old).image)) }
         ensures kept { (P.seen boots.new).image ≡ (P.seen boots.old).image }
+        ensures asked_before { BeginsWith (P.seen boots.new).asked (P.seen boots.old).asked }
     {
         let step = boot_nmt_slave(alloc, deadline, self.number, boots)?;
         self.stage = step.stage;
@@ -95,6 +97,7 @@ impl Booting {
             ≤ P.asks boots.old + length (reads (rules.sdo_answer deadline self.old.number self.old.stage answer.now)
             (P.seen boots.old).image)) }
         ensures kept { (P.seen boots.new).image ≡ (P.seen boots.old).image }
+        ensures asked_before { BeginsWith (P.seen boots.new).asked (P.seen boots.old).asked }
     {
         let stage = mem::replace(&mut self.stage, BootStage::Unseen);
         let step = sdo_answer(alloc, deadline, self.number, stage, answer, boots)?;
@@ -115,6 +118,7 @@ impl Booting {
         ensures state { OnOk result (self.new ≡ node_after t self.old) }
         ensures queued { OnOk result (waiting.new ≡ queue_after t self.old waiting.old) }
         ensures notes { OnOk result (notes.new ≡ notes.old ++ notes_after t self.old) }
+        ensures notes_before { BeginsWith notes.new notes.old }
     {
         if !is_timed_out(t, &self.stage) {
             return Ok(());

@@ -1,5 +1,5 @@
 //! The NMT manager of a network (CiA 302).
-#![tactic(auto)]
+#![tactic(auto, using(asking::proofs::RecordLemmas::record_laws))]
 
 mod booting;
 pub mod laws;

@@ -3,6 +3,7 @@
 ghost use Rattle.std.specs.Prelude.{◌≡◌, ◌<◌, ◌≤◌, ◌+◌, ◌*◌, ◌^◌, ◌++◌, ◌↔◌, Some, length, remove, slice_get, IfOk};
 ghost use Rattle.std.specs.Prelude.{IfSome, OnOk, OnErr, IsErr, IsTrue};
 ghost use Rattle.asking.specs.Asking.{after_reads, outcome, reads};
+ghost use Rattle.asking.specs.Record.{BeginsWith};
 ghost use Rattle.can_frame.specs.Winner.{contenders_of, IsWinner};
 ghost use Rattle.nmt_boot.specs.Manager as rules;
 
@@ -274,11 +275,13 @@ impl Manager {
             (P.seen boots.old).image).0) }
         ensures notes { OnOk result (notes.new ≡ notes.old
             ++ (outcome (rules.after_boot_at t i self.old) (P.seen boots.old).image).1) }
+        ensures notes_before { BeginsWith notes.new notes.old }
         ensures noted { OnOk result (P.seen boots.new ≡ after_reads (rules.after_boot_at t i self.old)
             (P.seen boots.old)) }
         ensures counted { OnOk result (P.asks boots.new
             ≤ P.asks boots.old + length (reads (rules.after_boot_at t i self.old) (P.seen boots.old).image)) }
         ensures kept { (P.seen boots.new).image ≡ (P.seen boots.old).image }
+        ensures asked_before { BeginsWith (P.seen boots.new).asked (P.seen boots.old).asked }
     {
         let deadline = t + self.timeout();
         let number = self.nodes.number_at(i);
@@ -305,12 +308,14 @@ impl Manager {
             (P.seen boots.old).image).0) }
         ensures notes { OnOk result (notes.new ≡ notes.old
             ++ (outcome (rules.after_answer_at t answer.now i self.old) (P.seen boots.old).image).1) }
+        ensures notes_before { BeginsWith notes.new notes.old }
         ensures noted { OnOk result (P.seen boots.new ≡ after_reads (rules.after_answer_at t answer.now i self.old)
             (P.seen boots.old)) }
         ensures counted { OnOk result (P.asks boots.new
             ≤ P.asks boots.old + length (reads (rules.after_answer_at t answer.now i self.old)
             (P.seen boots.old).image)) }
         ensures kept { (P.seen boots.new).image ≡ (P.seen boots.old).image }
+        ensures asked_before { BeginsWith (P.seen boots.new).asked (P.seen boots.old).asked }
     {
         let deadline = t + self.timeout();
         let number = self.nodes.number_at(i);
@@ -336,11 +341,13 @@ impl Manager {
             (P.seen boots.old).image).0) }
         ensures notes { OnOk result (notes.new ≡ notes.old
             ++ (outcome (rules.after_boot_up t place self.old) (P.seen boots.old).image).1) }
+        ensures notes_before { BeginsWith notes.new notes.old }
         ensures noted { OnOk result (P.seen boots.new ≡ after_reads (rules.after_boot_up t place self.old)
             (P.seen boots.old)) }
         ensures counted { OnOk result (P.asks boots.new
             ≤ P.asks boots.old + length (reads (rules.after_boot_up t place self.old) (P.seen boots.old).image)) }
         ensures kept { (P.seen boots.new).image ≡ (P.seen boots.old).image }
+        ensures asked_before { BeginsWith (P.seen boots.new).asked (P.seen boots.old).asked }
     {
         match place {
             None => Ok(()),
@@ -364,12 +371,14 @@ impl Manager {
             (P.seen boots.old).image).0) }
         ensures notes { OnOk result (notes.new ≡ notes.old
             ++ (outcome (rules.after_sdo_frame t answer.now place self.old) (P.seen boots.old).image).1) }
+        ensures notes_before { BeginsWith notes.new notes.old }
         ensures noted { OnOk result (P.seen boots.new ≡ after_reads (rules.after_sdo_frame t answer.now place self.old)
             (P.seen boots.old)) }
         ensures counted { OnOk result (P.asks boots.new
             ≤ P.asks boots.old + length (reads (rules.after_sdo_frame t answer.now place self.old)
             (P.seen boots.old).image)) }
         ensures kept { (P.seen boots.new).image ≡ (P.seen boots.old).image }
+        ensures asked_before { BeginsWith (P.seen boots.new).asked (P.seen boots.old).asked }
     {
         match place {
             None => Ok(()),
@@ -391,11 +400,13 @@ impl Manager {
             (P.seen boots.old).image).0) }
         ensures notes { OnOk result (notes.new ≡ notes.old
             ++ (outcome (rules.after_frame t frame.now self.old) (P.seen boots.old).image).1) }
+        ensures notes_before { BeginsWith notes.new notes.old }
         ensures noted { OnOk result (P.seen boots.new ≡ after_reads (rules.after_frame t frame.now self.old)
             (P.seen boots.old)) }
         ensures counted { OnOk result (P.asks boots.new
             ≤ P.asks boots.old + length (reads (rules.after_frame t frame.now self.old) (P.seen boots.old).image)) }
         ensures kept { (P.seen boots.new).image ≡ (P.seen boots.old).image }
+        ensures asked_before { BeginsWith (P.seen boots.new).asked (P.seen boots.old).asked }
     {
         let bytes = frame.bytes();
         if is_boot_up(bytes) {
@@ -416,6 +427,7 @@ impl Manager {
     fn time_out(&mut self, t: u64, notes: &mut Notes) -> Result<(), AllocError>
         ensures state { OnOk result (self.new ≡ (rules.time_outs t self.old).0) }
         ensures notes { OnOk result (notes.new ≡ notes.old ++ (rules.time_outs t self.old).1) }
+        ensures notes_before { BeginsWith notes.new notes.old }
     {
         self.nodes.time_outs(t, &mut self.waiting, notes)
     }
@@ -453,6 +465,7 @@ impl Manager {
         requires { t < END }
         ensures state { OnOk result (self.new ≡ (rules.timers t self.old).0) }
         ensures notes { OnOk result (notes.new ≡ notes.old ++ (rules.timers t self.old).1) }
+        ensures notes_before { BeginsWith notes.new notes.old }
     {
         self.time_out(t, notes)?;
         self.beat(t)?;
@@ -473,11 +486,13 @@ impl Manager {
             (P.seen boots.old).image).0) }
         ensures notes { OnOk result (notes.new ≡ notes.old
             ++ (outcome (rules.after_frame t frame.now self.old) (P.seen boots.old).image).1) }
+        ensures notes_before { BeginsWith notes.new notes.old }
         ensures noted { OnOk result (P.seen boots.new ≡ after_reads (rules.after_frame t frame.now self.old)
             (P.seen boots.old)) }
         ensures counted { OnOk result (P.asks boots.new
             ≤ P.asks boots.old + length (reads (rules.after_frame t frame.now self.old) (P.seen boots.old).image)) }
         ensures kept { (P.seen boots.new).image ≡ (P.seen boots.old).image }
+        ensures asked_before { BeginsWith (P.seen boots.new).asked (P.seen boots.old).asked }
         ensures refused { IsTrue self.old.spent → IsErr result }
         ensures spent { OnErr result (IsTrue self.new.spent) }
     {
@@ -497,6 +512,7 @@ impl Manager {
         requires { t < END }
         ensures state { OnOk result (self.new ≡ (rules.timers t self.old).0) }
         ensures notes { OnOk result (notes.new ≡ notes.old ++ (rules.timers t self.old).1) }
+        ensures notes_before { BeginsWith notes.new notes.old }
         ensures refused { IsTrue self.old.spent → IsErr result }
         ensures spent { OnErr result (IsTrue self.new.spent) }
     {

@@ -2,6 +2,7 @@
 
 ghost use Rattle.std.specs.Prelude.{◌≡◌, ◌≤◌, ◌<◌, ◌+◌, ◌++◌, ◌↔◌, [], length, map, IfOk, IfSome, IsTrue, OnOk};
 ghost use Rattle.asking.specs.Asking.{after_reads, outcome, reads};
+ghost use Rattle.asking.specs.Record.{BeginsWith};
 ghost use Rattle.co_parts.specs.Moments.{earliest};
 ghost use Rattle.node_boot.specs.Boot.{boot_nmt_slave, sdo_answer};
 ghost use Rattle.nmt_boot.specs.Manager.{deadlines, note_of_loss, node_after, node_at, notes_after_all};
@@ -112,6 +113,7 @@ fn boot_in<P: Boots>(
         ≤ P.asks boots.old + length (reads (boot_nmt_slave deadline (node_at nodes.old i).number)
         (P.seen boots.old).image)) }
     ensures kept { (P.seen boots.new).image ≡ (P.seen boots.old).image }
+    ensures asked_before { BeginsWith (P.seen boots.new).asked (P.seen boots.old).asked }
 {
     nodes[i].boot(alloc, deadline, boots)
 }
@@ -141,6 +143,7 @@ fn answer_in<P: Boots>(
         + length (reads (sdo_answer deadline (node_at nodes.old i).number (node_at nodes.old i).stage answer.now)
         (P.seen boots.old).image)) }
     ensures kept { (P.seen boots.new).image ≡ (P.seen boots.old).image }
+    ensures asked_before { BeginsWith (P.seen boots.new).asked (P.seen boots.old).asked }
 {
     nodes[i].take_answer(alloc, deadline, answer, boots)
 }
@@ -155,6 +158,7 @@ fn time_out_each(
     ensures state { OnOk result (nodes.new ≡ map (node_after t) nodes.old) }
     ensures queued { OnOk result (waiting.new ≡ queue_after_all t nodes.old waiting.old) }
     ensures notes { OnOk result (notes.new ≡ notes.old ++ notes_after_all t nodes.old) }
+    ensures notes_before { BeginsWith notes.new notes.old }
 {
     for node in nodes.iter_mut() {
         node.time_out(t, waiting, notes)?;
@@ -300,6 +304,7 @@ impl NodeTable {
             ≤ P.asks boots.old + length (reads (boot_nmt_slave deadline (node_at self.old i).number)
             (P.seen boots.old).image)) }
         ensures kept { (P.seen boots.new).image ≡ (P.seen boots.old).image }
+        ensures asked_before { BeginsWith (P.seen boots.new).asked (P.seen boots.old).asked }
     {
         self.known = false;
         let sent = boot_in(alloc, &mut self.nodes, i, deadline, boots)?;
@@ -333,6 +338,7 @@ impl NodeTable {
             + length (reads (sdo_answer deadline (node_at self.old i).number (node_at self.old i).stage answer.now)
             (P.seen boots.old).image)) }
         ensures kept { (P.seen boots.new).image ≡ (P.seen boots.old).image }
+        ensures asked_before { BeginsWith (P.seen boots.new).asked (P.seen boots.old).asked }
     {
         self.known = false;
         let sent = answer_in(alloc, &mut self.nodes, i, deadline, answer, boots)?;
@@ -351,6 +357,7 @@ impl NodeTable {
         ensures state { OnOk result (self.new ≡ map (node_after t) self.old) }
         ensures queued { OnOk result (waiting.new ≡ queue_after_all t self.old waiting.old) }
         ensures notes { OnOk result (notes.new ≡ notes.old ++ notes_after_all t self.old) }
+        ensures notes_before { BeginsWith notes.new notes.old }
     {
         if self.is_quiet(t) {
             return Ok(());

@@ -1,6 +1,7 @@
 //! What a rule of a boot queues at the manager, and notes.
 
 ghost use Rattle.std.specs.Prelude.{◌≡◌, ◌++◌, ◌∷◌, [], OnOk};
+ghost use Rattle.asking.specs.Record.{BeginsWith};
 ghost use Rattle.can_frame.specs.WaitingFrames.{waiting as queued};
 ghost use Rattle.can_frame.specs.declared.purpose.Purpose.TheVariants as purposes;
 ghost use Rattle.nmt_boot.specs.Manager.{nmt_frame as frame_of_command, notes_of, sdo_frames, start_frames};
@@ -52,7 +53,8 @@ fn start(waiting: &mut Pending, node: u8, note: Option<NoteKind>) -> Result<(), 
 
 /// Notes what there is to note of a node, if there is one.
 pub(crate) fn note(notes: &mut Notes, node: u8, note: Option<NoteKind>) -> Result<(), AllocError>
-    ensures { OnOk result (notes.new ≡ notes.old ++ notes_of node note) }
+    ensures notes { OnOk result (notes.new ≡ notes.old ++ notes_of node note) }
+    ensures notes_before { BeginsWith notes.new notes.old }
 {
     if let Some(kind) = note {
         notes.add(Note { node, kind })?;
@@ -70,6 +72,7 @@ pub(crate) fn tell(
     ensures queued { OnOk result (waiting.new ≡ (waiting.old ++ sdo_frames node sent.request)
         ++ start_frames node sent.note) }
     ensures notes { OnOk result (notes.new ≡ notes.old ++ notes_of node sent.note) }
+    ensures notes_before { BeginsWith notes.new notes.old }
 {
     send_request(waiting, node, sent.request)?;
     start(waiting, node, sent.note)?;

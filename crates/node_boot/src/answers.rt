@@ -2,6 +2,7 @@
 
 ghost use Rattle.std.specs.Prelude.{◌≡◌, ◌≤◌, ◌+◌, length, IfOk, OnOk};
 ghost use Rattle.asking.specs.Asking.{after_reads, outcome, reads};
+ghost use Rattle.asking.specs.Record.{BeginsWith};
 ghost use Rattle.node_boot.specs.Boot as rules;
 ghost use Rattle.node_boot.specs.declared.boot_stage.BootStage.TheVariants.{Comparing, Writing};
 
@@ -37,6 +38,7 @@ fn after_compare<P: Boots>(
         + length (reads (rules.after_compare deadline old node place expected advance.stage advance.progress)
         (P.seen boots.old).image)) }
     ensures kept { (P.seen boots.new).image ≡ (P.seen boots.old).image }
+    ensures asked_before { BeginsWith (P.seen boots.new).asked (P.seen boots.old).asked }
 {
     let transfer = advance.stage;
     match advance.progress {
@@ -101,6 +103,7 @@ fn after_write<P: Boots>(
         ≤ P.asks boots.old + length (reads (rules.after_write deadline old node place advance.stage advance.progress)
         (P.seen boots.old).image)) }
     ensures kept { (P.seen boots.new).image ≡ (P.seen boots.old).image }
+    ensures asked_before { BeginsWith (P.seen boots.new).asked (P.seen boots.old).asked }
 {
     let transfer = advance.stage;
     match advance.progress {
@@ -136,6 +139,7 @@ pub fn sdo_answer<P: Boots>(
         ≤ P.asks boots.old + length (reads (rules.sdo_answer deadline node stage answer.now)
         (P.seen boots.old).image)) }
     ensures kept { (P.seen boots.new).image ≡ (P.seen boots.old).image }
+    ensures asked_before { BeginsWith (P.seen boots.new).asked (P.seen boots.old).asked }
 {
     match stage {
         BootStage::Comparing {

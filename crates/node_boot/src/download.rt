@@ -2,6 +2,7 @@
 
 ghost use Rattle.std.specs.Prelude.{◌≡◌, ◌≤◌, ◌+◌, length, IfOk, IfSome, OnOk};
 ghost use Rattle.asking.specs.Asking.{after_reads, outcome, reads};
+ghost use Rattle.asking.specs.Record.{BeginsWith};
 ghost use Rattle.co_parts.specs.Images.{IsBootWrite};
 ghost use Rattle.co_parts.specs.Shared.{shared};
 ghost use Rattle.node_boot.specs.Boot as rules;
@@ -60,6 +61,7 @@ pub(crate) fn download_configuration<P: Boots>(
         ≤ P.asks boots.old + length (reads (rules.download_configuration deadline node place)
         (P.seen boots.old).image)) }
     ensures kept { (P.seen boots.new).image ≡ (P.seen boots.old).image }
+    ensures asked_before { BeginsWith (P.seen boots.new).asked (P.seen boots.old).asked }
 {
     let next = boots.boot(node, place)?;
     write(alloc, deadline, place, &next)
@@ -80,6 +82,7 @@ pub(crate) fn download_next<P: Boots>(
     ensures counted { OnOk result (P.asks boots.new
         ≤ P.asks boots.old + length (reads (rules.download_next deadline node place) (P.seen boots.old).image)) }
     ensures kept { (P.seen boots.new).image ≡ (P.seen boots.old).image }
+    ensures asked_before { BeginsWith (P.seen boots.new).asked (P.seen boots.old).asked }
 {
     if place == LAST_WRITE {
         return Ok(BootStep::configured());

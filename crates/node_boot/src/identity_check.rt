@@ -2,6 +2,7 @@
 
 ghost use Rattle.std.specs.Prelude.{◌≡◌, ◌≤◌, ◌+◌, length, IfOk, OnOk};
 ghost use Rattle.asking.specs.Asking.{after_reads, outcome, reads};
+ghost use Rattle.asking.specs.Record.{BeginsWith};
 ghost use Rattle.byteorder.specs.Endian.{little_number};
 ghost use Rattle.co_parts.specs.Contents.{no_identity, or_else};
 ghost use Rattle.co_parts.specs.Shared.{shared};
@@ -93,6 +94,7 @@ pub(crate) fn check_identity<P: Boots>(
         ≤ P.asks boots.old + length (reads (rules.check_identity deadline node expected place)
         (P.seen boots.old).image)) }
     ensures kept { (P.seen boots.new).image ≡ (P.seen boots.old).image }
+    ensures asked_before { BeginsWith (P.seen boots.new).asked (P.seen boots.old).asked }
 {
     let next = next_compared(&expected, place);
     if next == 5 {
@@ -127,6 +129,7 @@ pub fn boot_nmt_slave<P: Boots>(
     ensures counted { OnOk result (P.asks boots.new
         ≤ P.asks boots.old + length (reads (rules.boot_nmt_slave deadline node) (P.seen boots.old).image)) }
     ensures kept { (P.seen boots.new).image ≡ (P.seen boots.old).image }
+    ensures asked_before { BeginsWith (P.seen boots.new).asked (P.seen boots.old).asked }
 {
     let identity = boots.expect(node)?;
     check_identity(alloc, deadline, node, identity_of(&identity), 0, boots)

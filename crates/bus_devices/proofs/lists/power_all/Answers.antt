@@ -1,4 +1,5 @@
 use Rattle.std.proofs.Common.{◌<◌, ◌∙◌, length, arith}
+use Rattle.asking.proofs.RecordLemmas.{in_turn}
 use Rattle.std.specs.Prelude.{true}
 use Rattle.co_device.specs.Device.{after_power}
 use Rattle.bus_events.proofs.EachLemmas.{each_state, each_noted, each_counted}
@@ -25,4 +26,5 @@ loop-device-preserved g c =
         old.counted,
       );
       kept = e.kept ∙ old.kept;
+      asked_before = in_turn old.asked_before e.asked_before;
     }

@@ -1,4 +1,5 @@
 use Rattle.std.proofs.Common.{◌<◌, ◌∙◌, length, arith}
+use Rattle.asking.proofs.RecordLemmas.{in_turn}
 use Rattle.bus_events.specs.Events.{after_power_at}
 use Rattle.bus_events.proofs.EachLemmas.{each_state, each_noted, each_counted}
 use Rattle.bus_events.proofs.events.power_each.Goals as goal
@@ -24,4 +25,5 @@ loop-device-preserved g c =
         old.counted,
       );
       kept = e.kept ∙ old.kept;
+      asked_before = in_turn old.asked_before e.asked_before;
     }

@@ -1,4 +1,5 @@
 use Rattle.std.proofs.Common.{◌<◌, ◌∙◌, ap, sym, length, List, arith}
+use Rattle.asking.proofs.RecordLemmas.{in_turn}
 use Rattle.asking.specs.Asking.{Asking, outcome}
 use Rattle.co_device.specs.Device.{Device}
 use Rattle.co_parts.specs.Contents.{Content}
@@ -38,6 +39,7 @@ loop-step-preserved g c =
             old.counted,
           );
       kept = e.kept ∙ old.kept;
+      asked_before = in_turn old.asked_before e.asked_before;
     }
 
 pub returns-clause-devices : goal.returns-clause-devices

@@ -1,4 +1,5 @@
 use Rattle.std.proofs.Common.{◌≡◌, ◌++◌, map, take, drop}
+use Rattle.asking.specs.Record.{BeginsWith}
 use Rattle.nmt_boot.specs.Manager.{node_after, queue_after_all, notes_after_all}
 use Rattle.nmt_boot.proofs.node_table.time_out_each.Given as goal
 
@@ -8,6 +9,7 @@ invariant-loop-node l = record {
       ≡ map (node_after l.fn.t) l.fn.nodes;
   queued : queue_after_all l.fn.t (drop l.node-index l.nodes) l.waiting
       ≡ queue_after_all l.fn.t l.fn.nodes l.fn.waiting;
+  notes_before : BeginsWith l.notes l.fn.notes;
   notes : l.notes ++ notes_after_all l.fn.t (drop l.node-index l.nodes)
       ≡ l.fn.notes ++ notes_after_all l.fn.t l.fn.nodes;
 }

@@ -1,4 +1,5 @@
 use Rattle.std.proofs.Common.{◌<◌, ◌∙◌, ap, length, arith}
+use Rattle.asking.proofs.RecordLemmas.{in_turn}
 use Rattle.co_device.specs.Device.{Device}
 use Rattle.co_device.specs.Receiving.{after_rpdo}
 use Rattle.co_device.proofs.RpdoLemmas.{received_many}
@@ -26,6 +27,7 @@ loop-i-preserved g c =
         old.counted,
       );
       kept = e.kept ∙ old.kept;
+      asked_before = in_turn old.asked_before e.asked_before;
       many = ap (λ (x : Device). length x.rpdos) (rw old.kept at e.state)
           ∙ received_many image c.args.t c.loop-i.self c.args.frame.now i ∙ old.many;
     }

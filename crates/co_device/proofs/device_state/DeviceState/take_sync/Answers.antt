@@ -1,4 +1,5 @@
 use Rattle.std.proofs.Common.{◌<◌, ◌∙◌, ap, length, arith}
+use Rattle.asking.proofs.RecordLemmas.{in_turn}
 use Rattle.co_device.specs.Device.{Device}
 use Rattle.co_device.specs.Receiving.{after_sync_at}
 use Rattle.co_device.proofs.RpdoLemmas.{synced_many}
@@ -26,6 +27,7 @@ loop-i-preserved g c =
         old.counted,
       );
       kept = e.kept ∙ old.kept;
+      asked_before = in_turn old.asked_before e.asked_before;
       many = ap (λ (x : Device). length x.rpdos) (rw old.kept at e.state) ∙ synced_many image c.args.t i c.loop-i.self
           ∙ old.many;
     }

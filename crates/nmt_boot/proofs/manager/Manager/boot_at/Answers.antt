@@ -22,7 +22,7 @@ returns-clause-notes g c =
     let m = the_view c.self.inside in
     let image = (g.P.Asked.seen c.args.boots.now).image in
     let done = rw (c.timeout.ensures.timeout, ← c.self.view_is) at c.in_ok-sent.ensures in
-    let between = rw (c.lost_at.ensures, c.number_at-number.ensures) at c.in_ok-note.ensures in
+    let between = rw (c.lost_at.ensures, c.number_at-number.ensures) at c.in_ok-note.ensures.notes in
     let after = rw c.number_at-number.ensures at c.in_ok-tell.ensures.notes in
     rw (← c.self.view_is)
     (boots_notes c.args.t c.args.i m image c.in_ok-sent.sent c.boot_at.new.self c.tell.new.waiting c.args.notes.now
