@@ -1,4 +1,4 @@
-//! Any reader or writer, with the number of its failed calls.
+//! Any reader or writer, with the numbers of its reads and of its failed calls.
 ghost use Rattle.std.specs.Prelude.{◌≡◌, true};
 
 use crate::intake::Intake;
@@ -6,24 +6,28 @@ use crate::outlet::Outlet;
 use std::io;
 use std::io::{Read, Write};
 
-/// Any reader or writer, with the number of its failed calls, and whether what it took was flushed.
-/// Each call is passed on as it is.
+/// Any reader or writer, with the numbers of its reads and of its failed calls, and whether what it
+/// took was flushed. Each call is passed on as it is. The number of reads stops at 2^64 - 1, that of
+/// failed calls goes round there.
 #[derive(Drop)]
 pub struct Counted<T> {
     inner: T,
+    reads: u64,
     failures: u64,
     flushed: bool,
 }
 
 impl<T> Counted<T> {
-    /// The reader or writer, of which no call has failed yet.
+    /// The reader or writer, which wasn't read yet, and of which no call has failed.
     pub fn new(inner: T) -> Self
         ensures inner { result.inner ≡ inner }
+        ensures reads { result.reads ≡ 0 }
         ensures failures { result.failures ≡ 0 }
         ensures flushed { result.flushed ≡ true }
     {
         Counted {
             inner,
+            reads: 0,
             failures: 0,
             flushed: true,
         }
@@ -40,9 +44,12 @@ impl<T> Counted<T> {
 impl<T: Read> Intake for Counted<T> {
     ghost remaining = { λ c. T.remaining c.inner };
 
+    ghost reads = { λ c. c.reads };
+
     ghost failures = { λ c. c.failures };
 
     fn read(&mut self, buf: &mut [u8]) -> io::Result<usize> {
+        self.reads = self.reads.saturating_add(1);
         let outcome = self.inner.read(buf);
         if outcome.is_err() {
             self.failures = self.failures.wrapping_add(1);

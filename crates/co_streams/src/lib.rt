@@ -1,4 +1,4 @@
-//! From a reader to a writer: streams whose failed calls are counted, and texts that are sent whole.
+//! From a reader to a writer: streams whose reads and failed calls are counted, and texts that are sent whole.
 #![tactic(auto)]
 
 mod counted;

@@ -1,6 +1,7 @@
 //! Texts on their way to a writer.
 ghost use Rattle.std.specs.Prelude.{◌≡◌, ◌≢◌, ◌++◌, [], true, OnOk, IfOk, IfErr, IsErrOf, Err};
 ghost use Rattle.std.specs.Io.KnownBytes.{Appends};
+ghost use Rattle.co_streams.specs.Streams.{OneFailed};
 ghost use Rattle.co_streams.specs.Written.{Took, Posts};
 
 use crate::fault::SessionFault;
@@ -41,7 +42,7 @@ impl Outbox {
         ensures ok { OnOk result (Posts (W.contents writer.old) self.old (W.contents writer.new) self.new text.now) }
         ensures memory { IsErrOf result SessionFault.Memory
             → Posts (W.contents writer.old) self.old (W.contents writer.new) self.new [] }
-        ensures write { IsErrOf result SessionFault.Write → (W.failures writer.new ≢ W.failures writer.old)
+        ensures write { IsErrOf result SessionFault.Write → OneFailed (W.failures writer.old) (W.failures writer.new)
             × Took (W.contents writer.old) (W.contents writer.new) (self.old ++ text.now) }
         ensures quiet { result ≢ Err SessionFault.Write → W.failures writer.new ≡ W.failures writer.old }
         ensures flushed { result ≢ Err SessionFault.Write → W.flushed writer.old ≡ true → W.flushed writer.new ≡ true }
@@ -63,7 +64,8 @@ impl Outbox {
         ensures empty { OnOk result (self.new ≡ []) }
         ensures quiet { OnOk result (W.failures writer.new ≡ W.failures writer.old) }
         ensures flushed { OnOk result (W.flushed writer.old ≡ true → W.flushed writer.new ≡ true) }
-        ensures write { IfErr result (λ e. (e ≡ SessionFault.Write) × (W.failures writer.new ≢ W.failures writer.old)
+        ensures write { IfErr result (λ e. (e ≡ SessionFault.Write)
+            × OneFailed (W.failures writer.old) (W.failures writer.new)
             × Took (W.contents writer.old) (W.contents writer.new) self.old) }
     {
         if self.waiting.is_empty() {
@@ -80,7 +82,8 @@ fn write_all<W: Outlet>(writer: &mut W, text: &[u8]) -> Result<(), SessionFault>
     ensures ok { OnOk result (Appends (W.contents writer.old) (W.contents writer.new) text.now) }
     ensures quiet { OnOk result (W.failures writer.new ≡ W.failures writer.old) }
     ensures flushed { OnOk result (W.flushed writer.new ≡ true) }
-    ensures write { IfErr result (λ e. (e ≡ SessionFault.Write) × (W.failures writer.new ≢ W.failures writer.old)
+    ensures write { IfErr result (λ e. (e ≡ SessionFault.Write)
+        × OneFailed (W.failures writer.old) (W.failures writer.new)
         × Took (W.contents writer.old) (W.contents writer.new) text.now) }
 {
     let mut at = 0;

@@ -11,7 +11,8 @@ pub trait Outlet {
     /// The bytes that the writer holds, where they are known.
     ghost contents: { Self → Option (List ℕ) };
 
-    /// The number of failed calls. A write of at least one byte that takes none is one.
+    /// The number of failed calls. A write of at least one byte that takes none is one. The number can
+    /// go round, but not with one call.
     ghost failures: { Self → ℕ };
 
     /// Whether no byte was taken since the last flush that didn't fail.

@@ -1,9 +1,10 @@
 //! From a reader to a writer.
-ghost use Rattle.std.specs.Prelude.{◌≡◌, [], ◌≢◌, ◌<◌, ◌≤◌, ◌++◌, ◌⊎◌, ℕ, List, length, take, true, OnOk, OnErr, IfOk};
-ghost use Rattle.std.specs.Prelude.{IfSome, IsErrOf, Err};
+ghost use Rattle.std.specs.Prelude.{◌≡◌, [], ◌≢◌, ◌<◌, ◌≤◌, ◌+◌, ◌++◌, ◌⊎◌, ℕ, List, length, take, true, OnOk, OnErr};
+ghost use Rattle.std.specs.Prelude.{IfOk, IfSome, IsErrOf, Err};
 ghost use Rattle.std.specs.Io.KnownBytes.{Consumes, IsAtEnd};
 ghost use Rattle.std.specs.List.{concat};
 ghost use Rattle.std.specs.Option.{option_map};
+ghost use Rattle.co_streams.specs.Streams.{OneFailed};
 ghost use Rattle.co_streams.specs.Written.{Took, Posts};
 ghost use Rattle.workbench.specs.Replies.{replies, complete_replies, cut_off};
 ghost use Rattle.workbench.specs.Machine.{after, at_end, last_line, given};
@@ -31,7 +32,7 @@ fn put_reply<W: Outlet>(
         (concat (replies_of reply))) }
     ensures memory { IsErrOf result SessionFault.Memory
         → Posts (W.contents writer.old) outbox.old (W.contents writer.new) outbox.new [] }
-    ensures write { IsErrOf result SessionFault.Write → (W.failures writer.new ≢ W.failures writer.old)
+    ensures write { IsErrOf result SessionFault.Write → OneFailed (W.failures writer.old) (W.failures writer.new)
         × Took (W.contents writer.old) (W.contents writer.new) (outbox.old ++ concat (replies_of reply)) }
     ensures quiet { result ≢ Err SessionFault.Write → W.failures writer.new ≡ W.failures writer.old }
     ensures flushed { result ≢ Err SessionFault.Write → W.flushed writer.old ≡ true → W.flushed writer.new ≡ true }
@@ -53,7 +54,7 @@ fn put_lines<W: Outlet>(
     ensures memory { IsErrOf result SessionFault.Memory
         → PostsFirst (W.contents writer.old) outbox.old (W.contents writer.new) outbox.new
         (after (cursor_of cursor.old) piece.now).replies }
-    ensures write { IsErrOf result SessionFault.Write → (W.failures writer.new ≢ W.failures writer.old)
+    ensures write { IsErrOf result SessionFault.Write → OneFailed (W.failures writer.old) (W.failures writer.new)
         × Took (W.contents writer.old) (W.contents writer.new)
         (outbox.old ++ concat (after (cursor_of cursor.old) piece.now).replies) }
     ensures quiet { result ≢ Err SessionFault.Write → W.failures writer.new ≡ W.failures writer.old }
@@ -82,7 +83,7 @@ fn put_last_line<W: Outlet>(
         (concat (last_line (cursor_of cursor.old)).replies)) }
     ensures memory { IsErrOf result SessionFault.Memory
         → Posts (W.contents writer.old) outbox.old (W.contents writer.new) outbox.new [] }
-    ensures write { IsErrOf result SessionFault.Write → (W.failures writer.new ≢ W.failures writer.old)
+    ensures write { IsErrOf result SessionFault.Write → OneFailed (W.failures writer.old) (W.failures writer.new)
         × Took (W.contents writer.old) (W.contents writer.new)
         (outbox.old ++ concat (last_line (cursor_of cursor.old)).replies) }
     ensures quiet { result ≢ Err SessionFault.Write → W.failures writer.new ≡ W.failures writer.old }
@@ -106,7 +107,7 @@ fn put_cut_off<W: Outlet>(
         (concat (cut_off (cursor_of cursor.now).state.block))) }
     ensures memory { IsErrOf result SessionFault.Memory
         → Posts (W.contents writer.old) outbox.old (W.contents writer.new) outbox.new [] }
-    ensures write { IsErrOf result SessionFault.Write → (W.failures writer.new ≢ W.failures writer.old)
+    ensures write { IsErrOf result SessionFault.Write → OneFailed (W.failures writer.old) (W.failures writer.new)
         × Took (W.contents writer.old) (W.contents writer.new)
         (outbox.old ++ concat (cut_off (cursor_of cursor.now).state.block)) }
     ensures quiet { result ≢ Err SessionFault.Write → W.failures writer.new ≡ W.failures writer.old }
@@ -131,7 +132,7 @@ fn put_end<W: Outlet>(
     ensures memory { IsErrOf result SessionFault.Memory
         → PostsFirst (W.contents writer.old) outbox.old (W.contents writer.new) outbox.new
         (at_end (cursor_of cursor.old)) }
-    ensures write { IsErrOf result SessionFault.Write → (W.failures writer.new ≢ W.failures writer.old)
+    ensures write { IsErrOf result SessionFault.Write → OneFailed (W.failures writer.old) (W.failures writer.new)
         × Took (W.contents writer.old) (W.contents writer.new) (outbox.old ++ concat (at_end (cursor_of cursor.old))) }
     ensures quiet { result ≢ Err SessionFault.Write → W.failures writer.new ≡ W.failures writer.old }
     ensures flushed { result ≢ Err SessionFault.Write → W.flushed writer.old ≡ true → W.flushed writer.new ≡ true }
@@ -155,7 +156,7 @@ fn put_turn<W: Outlet>(
     ensures memory { IsErrOf result SessionFault.Memory
         → PostsFirst (W.contents writer.old) outbox.old (W.contents writer.new) outbox.new
         (given (cursor_of cursor.old) (option_map (λ p. p.now) piece.entry)) }
-    ensures write { IsErrOf result SessionFault.Write → (W.failures writer.new ≢ W.failures writer.old)
+    ensures write { IsErrOf result SessionFault.Write → OneFailed (W.failures writer.old) (W.failures writer.new)
         × Took (W.contents writer.old) (W.contents writer.new)
         (outbox.old ++ concat (given (cursor_of cursor.old) (option_map (λ p. p.now) piece.entry))) }
     ensures quiet { result ≢ Err SessionFault.Write → W.failures writer.new ≡ W.failures writer.old }
@@ -184,7 +185,7 @@ fn take_turn<W: Outlet>(
     ensures memory { IsErrOf result SessionFault.Memory
         → WroteFirst (W.contents writer.old) (W.contents writer.new)
         (given (cursor_of cursor.old) (option_map (λ p. p.now) piece.entry)) }
-    ensures write { IsErrOf result SessionFault.Write → (W.failures writer.new ≢ W.failures writer.old)
+    ensures write { IsErrOf result SessionFault.Write → OneFailed (W.failures writer.old) (W.failures writer.new)
         × WroteFront (W.contents writer.old) (W.contents writer.new)
         (given (cursor_of cursor.old) (option_map (λ p. p.now) piece.entry)) }
     ensures quiet { result ≢ Err SessionFault.Write → W.failures writer.new ≡ W.failures writer.old }
@@ -201,13 +202,15 @@ fn take_turn<W: Outlet>(
     }
 }
 
-/// Reads commands until the input ends, and answers each: the replies to what one read gave are
-/// written, and flushed, before the next.
+/// Reads commands until the input ends, and answers each. The replies to what one read gave go out
+/// before the next read; contracts say of this what stands where a read fails, or memory runs out, and
+/// not when each reply went out.
 ///
-/// A session makes at most 67,108,865 reads. It takes time linear in its input, up to a logarithm
-/// where an EDS is read or a table is searched; `node` and `drop-eds` also walk the nodes, `drop-node`
-/// the messages, their sinks and the events, and `drop-message` its sources and sinks. A query takes
-/// the time and memory of its call of `Workbench`, and of its reply's length.
+/// A session makes at most 67,108,865 reads. At most one call of the reader or the writer fails in it:
+/// then it ends. It takes time linear in its input, up to a logarithm where an EDS is read or a table is
+/// searched; `node` and `drop-eds` also walk the nodes, `drop-node` the messages, their sinks and the
+/// events, and `drop-message` its sources and sinks. A query takes the time and memory of its call of
+/// `Workbench`, and of its reply's length.
 ///
 /// # Errors
 /// - Memory: a growth was refused. The replies to the commands before were written, each whole;
@@ -244,13 +247,16 @@ pub fn session<R: Intake, W: Outlet>(
     // Where reading stops, the replies to the commands that are complete in what was read.
     ensures read { IsErrOf result SessionFault.Read → (bytes : List ℕ)
         × Consumes (R.remaining reader.old) (R.remaining reader.new) bytes
-        × ((R.failures reader.new ≢ R.failures reader.old) ⊎ (LIMIT < length bytes))
+        × (OneFailed (R.failures reader.old) (R.failures reader.new) ⊎ (LIMIT < length bytes))
         × WroteAll (W.contents writer.old) (W.contents writer.new) (complete_replies (take LIMIT bytes)) }
 
     // Where writing stops, a front of the replies.
-    ensures write { IsErrOf result SessionFault.Write → W.failures writer.new ≢ W.failures writer.old }
+    ensures write { IsErrOf result SessionFault.Write → OneFailed (W.failures writer.old) (W.failures writer.new) }
     ensures taken { IsErrOf result SessionFault.Write → IfSome (R.remaining reader.old) (λ input.
         WroteFront (W.contents writer.old) (W.contents writer.new) (replies input)) }
+
+    // It makes at most 67,108,865 reads.
+    ensures reads { R.reads reader.new ≤ R.reads reader.old + (LIMIT + 1) }
 
     // No failure is passed over: the reader fails with Read alone, and the writer with Write alone.
     ensures reader_quiet { result ≢ Err SessionFault.Read → R.failures reader.new ≡ R.failures reader.old }

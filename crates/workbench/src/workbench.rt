@@ -1,11 +1,11 @@
 //! The workbench.
-ghost use Rattle.std.specs.Prelude.{◌≡◌, ◌↔◌, ◌≤◌, All, IfOk, IsErrOf, None, length};
+ghost use Rattle.std.specs.Prelude.{◌≡◌, ◌↔◌, ◌≤◌, All, IfOk, IsErrOf, IsTrue, None, length};
 ghost use Rattle.co_base.specs.Gives.{Gives};
 ghost use Rattle.concise_dcf.specs.Concise.{text_of as concise_text};
 ghost use Rattle.co_diag.specs.Found.{diagnostics_of};
 ghost use Rattle.co_edits.specs.Accepts.{Accepts};
 ghost use Rattle.co_edits.specs.Faults.{is_memory};
-ghost use Rattle.co_project.specs.Project.{accept, first};
+ghost use Rattle.co_project.specs.Project.{accept, adds, first};
 ghost use Rattle.co_project.specs.Script.{script};
 ghost use Rattle.co_project.specs.Sound.{IsSound};
 ghost use Rattle.co_project.specs.Tables.{node_at};
@@ -67,13 +67,23 @@ impl Workbench {
     }
 
     /// Takes an edit, or refuses it with the first fault that applies and changes nothing. Memory
-    /// can come in place of each, and changes nothing either.
+    /// can come in place of each where the edit adds something, and changes nothing either.
     pub fn edit(&mut self, command: Command) -> Result<(), EditFault>
-        ensures { Accepts self.old.project self.new.project result (accept self.old.project command) }
+        ensures accepts { Accepts self.old.project self.new.project result (accept self.old.project command) }
+
+        // Memory comes only of edits that add something.
+        ensures memory { IsErrOf result EditFault.Memory → IsTrue (adds self.old.project command) }
     {
         self.project.accept(command)?;
         self.plan = None;
         Ok(())
+    }
+
+    /// What each project keeps to, this one too.
+    pub fn keeps_to_rules(&self)
+        ensures { IsSound self.now.project }
+    {
+        self.project.keeps_to_rules();
     }
 
     /// The device configuration file (CiA 306) of a node, of the project as it is now.

@@ -125,6 +125,7 @@ loop-turn-preserved g c =
       λ h. was.flushed (λ e. cc) (inv.8 h),
       c.read.auto.buf ∙ inv.9,
       was.empty,
+      omega (arith, c.in-Ok.ensures.counted, inv.11),
     )
 
 pub loop-turn-init : goal.loop-turn-init
@@ -140,4 +141,5 @@ loop-turn-init g c = (
   λ h. h,
   search rules,
   c.in_ok-outbox.ensures,
+  omega arith,
 )

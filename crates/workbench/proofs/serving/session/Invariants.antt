@@ -20,3 +20,4 @@ invariant-loop-turn g l =
     × (g.W.Outlet.flushed l.initial.writer ≡ true → g.W.Outlet.flushed l.writer ≡ true)
     × (length l.buffer ≡ 4096)
     × (l.outbox ≡ [])
+    × (g.R.Intake.reads l.reader ≤ g.R.Intake.reads l.initial.reader + l._turn)
