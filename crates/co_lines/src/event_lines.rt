@@ -1,7 +1,9 @@
-//! Events of the scenario as text, written at the end of an output.
+//! Events of the scenario as text, written at the end of an output. Where memory runs out, what stood
+//! there is the beginning of what stands there then, and a part of the text may follow.
 #![tactic(auto, unfolding(crate::specs::Lines::event_words))]
 
-ghost use Rattle.std.specs.Prelude.{◌≡◌, ◌++◌, ◌∷◌, OnOk, codes, decimal};
+ghost use Rattle.std.specs.Prelude.{◌≡◌, ◌++◌, ◌∷◌, OnOk, OnErr, codes, decimal};
+ghost use Rattle.std.specs.Io.{StartsWith};
 ghost use Rattle.co_scenario.specs.declared.event.Event.TheVariants as event;
 ghost use Rattle.co_lines.specs.Lines.{event_words, spaced, text_of};
 ghost use Rattle.co_edits.specs.declared.edit.Edit.TheVariants as edit;
@@ -20,8 +22,9 @@ fn write_set(
     sub: u8,
     text: &[u8],
 ) -> Result<(), AllocError>
-    ensures { OnOk result (out.new.items ≡ out.old.items ++ byte " "
-        ∷ spaced (event_words (event.Set node index sub text.now))) }
+    ensures written { OnOk result (out.new.items
+        ≡ out.old.items ++ byte " " ∷ spaced (event_words (event.Set node index sub text.now))) }
+    ensures kept { OnErr result (StartsWith out.new.items out.old.items) }
 {
     write_word(out, b"set")?;
     write_number(out, alloc, u64::from(node))?;
@@ -33,7 +36,9 @@ fn write_set(
 
 /// Writes ` power ID on` or ` power ID off`.
 fn write_power(out: &mut Vec<u8>, alloc: Global, node: u8, on: bool) -> Result<(), AllocError>
-    ensures { OnOk result (out.new.items ≡ out.old.items ++ byte " " ∷ spaced (event_words (event.Power node on))) }
+    ensures written { OnOk result (out.new.items
+        ≡ out.old.items ++ byte " " ∷ spaced (event_words (event.Power node on))) }
+    ensures kept { OnErr result (StartsWith out.new.items out.old.items) }
 {
     write_word(out, b"power")?;
     write_number(out, alloc, u64::from(node))?;
@@ -48,7 +53,9 @@ fn write_command(
     node: u8,
     command: NmtCommand,
 ) -> Result<(), AllocError>
-    ensures { OnOk result (out.new.items ≡ out.old.items ++ byte " " ∷ spaced (event_words (event.Nmt node command))) }
+    ensures written { OnOk result (out.new.items
+        ≡ out.old.items ++ byte " " ∷ spaced (event_words (event.Nmt node command))) }
+    ensures kept { OnErr result (StartsWith out.new.items out.old.items) }
 {
     write_word(out, b"nmt")?;
     write_number(out, alloc, u64::from(command.number()))?;
@@ -58,7 +65,8 @@ fn write_command(
 
 /// Writes a space and what happens to a node.
 fn write_words(out: &mut Vec<u8>, alloc: Global, event: &Event) -> Result<(), AllocError>
-    ensures { OnOk result (out.new.items ≡ out.old.items ++ byte " " ∷ spaced (event_words event.now)) }
+    ensures written { OnOk result (out.new.items ≡ out.old.items ++ byte " " ∷ spaced (event_words event.now)) }
+    ensures kept { OnErr result (StartsWith out.new.items out.old.items) }
 {
     match event {
         Event::Set {
@@ -74,8 +82,9 @@ fn write_words(out: &mut Vec<u8>, alloc: Global, event: &Event) -> Result<(), Al
 
 /// Writes `event K TIME`.
 fn write_moment(out: &mut Vec<u8>, alloc: Global, number: u16, time: u32) -> Result<(), AllocError>
-    ensures { OnOk result (out.new.items ≡ out.old.items ++ codes "event" ++ byte " " ∷ decimal number ++ byte " "
-        ∷ decimal time) }
+    ensures written { OnOk result (out.new.items ≡ out.old.items ++ codes "event" ++ byte " " ∷ decimal number
+        ++ byte " " ∷ decimal time) }
+    ensures kept { OnErr result (StartsWith out.new.items out.old.items) }
 {
     out.extend_from_slice(b"event")?;
     write_number(out, alloc, u64::from(number))?;
@@ -90,7 +99,8 @@ pub fn write_event(
     number: u16,
     event: &TimedEvent,
 ) -> Result<(), AllocError>
-    ensures { OnOk result (out.new.items ≡ out.old.items ++ text_of (edit.Event number event.now)) }
+    ensures written { OnOk result (out.new.items ≡ out.old.items ++ text_of (edit.Event number event.now)) }
+    ensures kept { OnErr result (StartsWith out.new.items out.old.items) }
 {
     write_moment(out, alloc, number, event.time)?;
     write_words(out, alloc, &event.event)?;

@@ -1,10 +1,11 @@
 //! Messages, their sources and their sinks as text, written at the end of an output. Where memory runs
-//! out, a part of the text may stand there.
+//! out, what stood there is the beginning of what stands there then, and a part of the text may follow.
 #![tactic(auto, unfolding(crate::specs::Lines::text_of, crate::specs::Lines::line_of, crate::specs::Lines::words_of))]
 
-ghost use Rattle.std.specs.Prelude.{◌≡◌, ◌++◌, ◌∷◌, ◌<◌, OnOk, decimal};
+ghost use Rattle.std.specs.Prelude.{◌≡◌, ◌++◌, ◌∷◌, ◌<◌, OnOk, OnErr, decimal};
+ghost use Rattle.std.specs.Io.{StartsWith};
 ghost use Rattle.std.specs.Str.{byte};
-ghost use Rattle.co_text.specs.Digits.{identifier_digits};
+ghost use Rattle.co_text.specs.Digits.{byte_digits, identifier_digits, index_digits};
 ghost use Rattle.co_lines.specs.Lines.{text_of};
 ghost use Rattle.co_edits.specs.declared.edit.Edit.TheVariants as edit;
 
@@ -15,10 +16,11 @@ use std::alloc::{AllocError, Global};
 /// Writes ` ID TPDO TYPE INHIBIT EVENT COB`.
 fn write_numbers(out: &mut Vec<u8>, alloc: Global, message: &Message) -> Result<(), AllocError>
     requires { message.now.cob < 4096 }
-    ensures { OnOk result (out.new.items ≡ out.old.items ++ byte " " ∷ decimal message.now.node
+    ensures written { OnOk result (out.new.items ≡ out.old.items ++ byte " " ∷ decimal message.now.node
         ++ byte " " ∷ decimal message.now.tpdo ++ byte " " ∷ decimal message.now.transmission
         ++ byte " " ∷ decimal message.now.inhibit ++ byte " " ∷ decimal message.now.event
         ++ byte " " ∷ identifier_digits message.now.cob) }
+    ensures kept { OnErr result (StartsWith out.new.items out.old.items) }
 {
     write_number(out, alloc, u64::from(message.node))?;
     write_number(out, alloc, u64::from(message.tpdo))?;
@@ -37,7 +39,8 @@ pub fn write_message(
     message: &Message,
 ) -> Result<(), AllocError>
     requires { message.now.cob < 4096 }
-    ensures { OnOk result (out.new.items ≡ out.old.items ++ text_of (edit.Message name.now message.now)) }
+    ensures written { OnOk result (out.new.items ≡ out.old.items ++ text_of (edit.Message name.now message.now)) }
+    ensures kept { OnErr result (StartsWith out.new.items out.old.items) }
 {
     out.extend_from_slice(b"message")?;
     write_word(out, name)?;
@@ -55,7 +58,9 @@ pub fn write_source(
     index: u16,
     sub: u8,
 ) -> Result<(), AllocError>
-    ensures { OnOk result (out.new.items ≡ out.old.items ++ text_of (edit.Source message.now position index sub)) }
+    ensures written { OnOk result (out.new.items
+        ≡ out.old.items ++ text_of (edit.Source message.now position index sub)) }
+    ensures kept { OnErr result (StartsWith out.new.items out.old.items) }
 {
     out.extend_from_slice(b"source")?;
     write_word(out, message)?;
@@ -63,6 +68,24 @@ pub fn write_source(
     write_index(out, index)?;
     write_sub(out, sub)?;
     out.push(b'\n')?;
+    Ok(())
+}
+
+/// Writes ` ID INDEX SUB`.
+fn write_target(
+    out: &mut Vec<u8>,
+    alloc: Global,
+    node: u8,
+    index: u16,
+    sub: u8,
+) -> Result<(), AllocError>
+    ensures written { OnOk result (out.new.items ≡ out.old.items ++ byte " " ∷ decimal node
+        ++ byte " " ∷ index_digits index ++ byte " " ∷ byte_digits sub) }
+    ensures kept { OnErr result (StartsWith out.new.items out.old.items) }
+{
+    write_number(out, alloc, u64::from(node))?;
+    write_index(out, index)?;
+    write_sub(out, sub)?;
     Ok(())
 }
 
@@ -76,14 +99,14 @@ pub fn write_sink(
     index: u16,
     sub: u8,
 ) -> Result<(), AllocError>
-    ensures { OnOk result (out.new.items ≡ out.old.items ++ text_of (edit.Sink message.now position node index sub)) }
+    ensures written { OnOk result (out.new.items
+        ≡ out.old.items ++ text_of (edit.Sink message.now position node index sub)) }
+    ensures kept { OnErr result (StartsWith out.new.items out.old.items) }
 {
     out.extend_from_slice(b"sink")?;
     write_word(out, message)?;
     write_number(out, alloc, u64::from(position))?;
-    write_number(out, alloc, u64::from(node))?;
-    write_index(out, index)?;
-    write_sub(out, sub)?;
+    write_target(out, alloc, node, index, sub)?;
     out.push(b'\n')?;
     Ok(())
 }

@@ -1,8 +1,10 @@
-//! Edits of the network as text, written at the end of an output. Where memory runs out, a part of
-//! the text may stand there.
+//! Edits of the network as text, written at the end of an output. Where memory runs out, what stood
+//! there is the beginning of what stands there then, and a part of the text may follow.
 #![tactic(auto, unfolding(crate::specs::Lines::text_of, crate::specs::Lines::line_of, crate::specs::Lines::words_of))]
 
-ghost use Rattle.std.specs.Prelude.{◌≡◌, ◌++◌, ◌∷◌, OnOk};
+ghost use Rattle.std.specs.Prelude.{◌≡◌, ◌++◌, ◌∷◌, OnOk, OnErr, decimal};
+ghost use Rattle.std.specs.Io.{StartsWith};
+ghost use Rattle.std.specs.Str.{byte};
 ghost use Rattle.co_lines.specs.Lines.{text_of};
 ghost use Rattle.co_edits.specs.declared.edit.Edit.TheVariants as edit;
 
@@ -13,7 +15,8 @@ use std::alloc::{AllocError, Global};
 
 /// Writes `bitrate K`.
 pub fn write_bitrate(out: &mut Vec<u8>, alloc: Global, rate: u16) -> Result<(), AllocError>
-    ensures { OnOk result (out.new.items ≡ out.old.items ++ text_of (edit.Bitrate rate)) }
+    ensures written { OnOk result (out.new.items ≡ out.old.items ++ text_of (edit.Bitrate rate)) }
+    ensures kept { OnErr result (StartsWith out.new.items out.old.items) }
 {
     out.extend_from_slice(b"bitrate")?;
     write_number(out, alloc, u64::from(rate))?;
@@ -23,11 +26,28 @@ pub fn write_bitrate(out: &mut Vec<u8>, alloc: Global, rate: u16) -> Result<(), 
 
 /// Writes `horizon US`.
 pub fn write_horizon(out: &mut Vec<u8>, alloc: Global, time: u32) -> Result<(), AllocError>
-    ensures { OnOk result (out.new.items ≡ out.old.items ++ text_of (edit.Horizon time)) }
+    ensures written { OnOk result (out.new.items ≡ out.old.items ++ text_of (edit.Horizon time)) }
+    ensures kept { OnErr result (StartsWith out.new.items out.old.items) }
 {
     out.extend_from_slice(b"horizon")?;
     write_number(out, alloc, u64::from(time))?;
     out.push(b'\n')?;
+    Ok(())
+}
+
+/// Writes ` SYNC_US HB_MS TIMEOUT_MS`.
+fn write_periods(
+    out: &mut Vec<u8>,
+    alloc: Global,
+    manager: ManagerSettings,
+) -> Result<(), AllocError>
+    ensures written { OnOk result (out.new.items ≡ out.old.items ++ byte " " ∷ decimal manager.sync_us
+        ++ byte " " ∷ decimal manager.heartbeat_ms ++ byte " " ∷ decimal manager.timeout_ms) }
+    ensures kept { OnErr result (StartsWith out.new.items out.old.items) }
+{
+    write_number(out, alloc, u64::from(manager.sync_us))?;
+    write_number(out, alloc, u64::from(manager.heartbeat_ms))?;
+    write_number(out, alloc, u64::from(manager.timeout_ms))?;
     Ok(())
 }
 
@@ -37,13 +57,12 @@ pub fn write_manager(
     alloc: Global,
     manager: ManagerSettings,
 ) -> Result<(), AllocError>
-    ensures { OnOk result (out.new.items ≡ out.old.items ++ text_of (edit.Manager manager)) }
+    ensures written { OnOk result (out.new.items ≡ out.old.items ++ text_of (edit.Manager manager)) }
+    ensures kept { OnErr result (StartsWith out.new.items out.old.items) }
 {
     out.extend_from_slice(b"manager")?;
     write_number(out, alloc, u64::from(manager.id))?;
-    write_number(out, alloc, u64::from(manager.sync_us))?;
-    write_number(out, alloc, u64::from(manager.heartbeat_ms))?;
-    write_number(out, alloc, u64::from(manager.timeout_ms))?;
+    write_periods(out, alloc, manager)?;
     out.push(b'\n')?;
     Ok(())
 }
@@ -55,7 +74,8 @@ pub fn write_eds(
     name: &[u8],
     text: &[u8],
 ) -> Result<(), AllocError>
-    ensures { OnOk result (out.new.items ≡ out.old.items ++ text_of (edit.Eds name.now text.now)) }
+    ensures written { OnOk result (out.new.items ≡ out.old.items ++ text_of (edit.Eds name.now text.now)) }
+    ensures kept { OnErr result (StartsWith out.new.items out.old.items) }
 {
     out.extend_from_slice(b"eds")?;
     write_word(out, name)?;
@@ -73,7 +93,8 @@ pub fn write_node(
     name: &[u8],
     eds: &[u8],
 ) -> Result<(), AllocError>
-    ensures { OnOk result (out.new.items ≡ out.old.items ++ text_of (edit.Node id name.now eds.now)) }
+    ensures written { OnOk result (out.new.items ≡ out.old.items ++ text_of (edit.Node id name.now eds.now)) }
+    ensures kept { OnErr result (StartsWith out.new.items out.old.items) }
 {
     out.extend_from_slice(b"node")?;
     write_number(out, alloc, u64::from(id))?;
@@ -92,7 +113,8 @@ pub fn write_param(
     sub: u8,
     text: &[u8],
 ) -> Result<(), AllocError>
-    ensures { OnOk result (out.new.items ≡ out.old.items ++ text_of (edit.Param id index sub text.now)) }
+    ensures written { OnOk result (out.new.items ≡ out.old.items ++ text_of (edit.Param id index sub text.now)) }
+    ensures kept { OnErr result (StartsWith out.new.items out.old.items) }
 {
     out.extend_from_slice(b"param")?;
     write_number(out, alloc, u64::from(id))?;
