@@ -21,7 +21,7 @@ use Rattle.co_scenario.specs.declared.timed_step.TimedStep.{TimedStep}
 use Rattle.co_sdo_client.specs.Client.{after_answer}
 use Rattle.co_sdo_client.specs.declared.progress.Progress.{Progress}
 use Rattle.co_sdo_client.specs.declared.progress.Progress.TheVariants as progress
-use Rattle.co_sdo_client.specs.declared.stage.Stage.{Stage as Transfer}
+use Rattle.co_sdo_client.specs.declared.client_transfer.ClientTransfer.{ClientTransfer as Transfer}
 use Rattle.nmt_boot.proofs.EventLemmas.{answered_reads, boots_reads}
 use Rattle.nmt_boot.specs.Manager.{Manager, after_boot_up, is_boot_up, node_at, place_of, after_frame, after_sdo_frame}
 use Rattle.node_boot.specs.Boot.{after_compare, after_write, boot_nmt_slave, check_identity, download_configuration}

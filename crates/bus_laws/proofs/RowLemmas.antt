@@ -14,7 +14,7 @@ use Rattle.co_parts.specs.declared.part.Part.TheVariants.{Boot, Defaults, Expect
 use Rattle.co_sdo_client.specs.Client.{after_answer}
 use Rattle.co_sdo_client.specs.declared.progress.Progress.{Progress}
 use Rattle.co_sdo_client.specs.declared.progress.Progress.TheVariants as progress
-use Rattle.co_sdo_client.specs.declared.stage.Stage.{Stage as Transfer}
+use Rattle.co_sdo_client.specs.declared.client_transfer.ClientTransfer.{ClientTransfer as Transfer}
 use Rattle.device_pdos.specs.Rpdos.{rpdo_at}
 use Rattle.node_boot.specs.Boot.{after_compare, after_write, boot_nmt_slave, check_identity, download_configuration}
 use Rattle.node_boot.specs.Boot.{boot_failed, is_as_expected, last_write, next_compared, sdo_answer}

@@ -17,7 +17,7 @@ use Rattle.co_parts.specs.declared.part.Part.TheVariants.{Boot, Expect}
 use Rattle.co_sdo_client.specs.Client.{after_answer}
 use Rattle.co_sdo_client.specs.declared.progress.Progress.{Progress}
 use Rattle.co_sdo_client.specs.declared.progress.Progress.TheVariants as progress
-use Rattle.co_sdo_client.specs.declared.stage.Stage.{Stage as Transfer}
+use Rattle.co_sdo_client.specs.declared.client_transfer.ClientTransfer.{ClientTransfer as Transfer}
 use Rattle.concise_dcf.specs.declared.write.Write.{Write}
 use Rattle.node_boot.specs.Boot.{after_write, boot_nmt_slave, check_identity, comparison_started, boot_completed}
 use Rattle.node_boot.specs.Boot.{deadline_of, download_configuration, download_next, is_at, is_timed_out, last_write}

@@ -20,7 +20,7 @@ use Rattle.co_scenario.specs.declared.step.Step.TheVariants.{Power}
 use Rattle.co_scenario.specs.declared.timed_step.TimedStep.{TimedStep}
 use Rattle.co_sdo_client.specs.Client.{after_answer}
 use Rattle.co_sdo_client.specs.declared.progress.Progress.TheVariants as progress
-use Rattle.co_sdo_client.specs.declared.stage.Stage.{Stage as Transfer}
+use Rattle.co_sdo_client.specs.declared.client_transfer.ClientTransfer.{ClientTransfer as Transfer}
 use Rattle.device_laws.specs.Ahead.{IsOwnPart}
 use Rattle.device_pdos.specs.Rpdos.{receipt_of, rpdo_at}
 use Rattle.nmt_boot.specs.Manager.{Manager, node_at}

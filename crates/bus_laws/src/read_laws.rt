@@ -12,7 +12,7 @@ ghost use Rattle.co_parts.specs.declared.identity.Identity.{Identity};
 ghost use Rattle.co_parts.specs.declared.part.Part.TheVariants as part;
 ghost use Rattle.co_sdo_client.specs.Client.{after_answer};
 ghost use Rattle.co_sdo_client.specs.declared.progress.Progress.TheVariants as progress;
-ghost use Rattle.co_sdo_client.specs.declared.stage.Stage.{Stage as Transfer};
+ghost use Rattle.co_sdo_client.specs.declared.client_transfer.ClientTransfer.{ClientTransfer as Transfer};
 ghost use Rattle.device_pdos.specs.Rpdos.{rpdo_at};
 ghost use Rattle.node_boot.specs.Boot.{boot_nmt_slave, is_as_expected, last_write, next_compared, sdo_answer};
 ghost use Rattle.node_boot.specs.declared.boot_stage.BootStage.TheVariants as stage;

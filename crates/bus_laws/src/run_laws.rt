@@ -15,7 +15,7 @@ ghost use Rattle.co_parts.specs.Contents.{roster_of, Image};
 ghost use Rattle.co_parts.specs.Images.{IsCoherent};
 ghost use Rattle.co_parts.specs.Moments.{is_due};
 ghost use Rattle.co_parts.specs.declared.part.Part.TheVariants as part;
-ghost use Rattle.co_sdo_client.specs.declared.stage.Stage.{Stage as Transfer};
+ghost use Rattle.co_sdo_client.specs.declared.client_transfer.ClientTransfer.{ClientTransfer as Transfer};
 ghost use Rattle.nmt_boot.specs.Beats.{IsMultiple};
 ghost use Rattle.nmt_boot.specs.Manager.{node_at};
 ghost use Rattle.node_boot.specs.Boot.{deadline_of};

@@ -32,8 +32,8 @@ fn find_of_configured(
 ) -> Result<(), AllocError>
     requires read { AreAllRead library.now }
     requires plan { plan.now ≡ plan_of_project library.now.project }
-    ensures { OnOk result (diagnostics_found.new.items
-        ≡ diagnostics_found.old.items ++ flat_map (unfit_consumers library.now.project) (members library.now.project)
+    ensures { OnOk result (found.new.items
+        ≡ found.old.items ++ flat_map (unfit_consumers library.now.project) (members library.now.project)
         ++ shared_identifiers library.now.project) }
 {
     let kept = keep_all(alloc, library, plan)?;
@@ -49,7 +49,7 @@ fn find_of_messages(
     project: &Project,
     plan: &Plan,
 ) -> Result<(), AllocError>
-    ensures { OnOk result (diagnostics_found.new.items ≡ diagnostics_found.old.items ++ flat_map message_faults plan.now
+    ensures { OnOk result (found.new.items ≡ found.old.items ++ flat_map message_faults plan.now
         ++ filter_map remote_type (table.entries project.now.messages) ++ filter_map (no_sync project.now)
         (table.entries project.now.messages)) }
 {
