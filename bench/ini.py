@@ -1,8 +1,8 @@
 #!/usr/bin/env python3
 """Times the reading of INI texts, and takes its peak memory.
 
-Builds crates/bench_ini (which proves it and what it stands on, where that hasn't been done), and
-reads texts of 1 MiB (1,048,576 bytes, the longest that is read) and of a tenth of that:
+Builds crates/checks_files (which proves it and what it stands on, where that hasn't been done), and
+has it read texts of 1 MiB (1,048,576 bytes, the longest that is read) and of a tenth of that:
 
     one      65,536 lines, all pairs of one section
     own      65,536 lines, each the header of a section of its own
@@ -22,8 +22,8 @@ import sys
 import tempfile
 
 ROOT = os.path.dirname(os.path.dirname(os.path.abspath(__file__)))
-CRATE = os.path.join(ROOT, "crates", "bench_ini")
-PROGRAM = os.path.join(CRATE, "out", "bench_ini")
+CRATE = os.path.join(ROOT, "crates", "checks_files")
+PROGRAM = os.path.join(CRATE, "out", "checks_files")
 LARGE = 1 << 20
 SMALL = LARGE // 10
 MEMORY = 64 << 20
@@ -75,10 +75,10 @@ JUDGED_BY_RATIO = [one, own, name, eds]
 
 def run(text):
     """The processor's seconds, the peak bytes and the answer of one process that reads the text."""
-    with tempfile.TemporaryFile() as file:
+    with tempfile.NamedTemporaryFile() as file:
         file.write(text)
-        file.seek(0)
-        child = subprocess.Popen([PROGRAM], stdin=file, stdout=subprocess.PIPE)
+        file.flush()
+        child = subprocess.Popen([PROGRAM, file.name], stdin=subprocess.DEVNULL, stdout=subprocess.PIPE)
         answer = child.stdout.read()
         _, status, usage = os.wait4(child.pid, 0)
         child.stdout.close()

@@ -1,7 +1,12 @@
 //! The entries and the values of a dictionary.
+
+use crate::bytes::{number, place, show_text};
+use anyhow::Result;
 use co_dict::{Access, Dict, Entry, Shape};
 use co_values::DataType;
 use std::alloc::{AllocError, Global};
+use std::io;
+use std::io::Write;
 
 /// A heartbeat time of at most 1,000 milliseconds.
 const HEARTBEAT: Entry = Entry {
@@ -21,81 +26,72 @@ const NAME: Entry = Entry {
     mappable: false,
 };
 
-fn a_write_changes_one_value(alloc: Global) -> Result<bool, AllocError> {
-    let mut dict = Dict::new(alloc);
-    dict.write(0x1017, 0, &[0x64, 0])?;
-    dict.write(0x2001, 0xFF, b"")?;
-    dict.write(0x1017, 0, &[0xC8, 0])?;
-    Ok(
-        dict.read(0x1017, 0) == Some([0xC8, 0].as_slice())
-            && dict.read(0x2001, 0xFF) == Some([].as_slice())
-            && dict.read(0x1017, 1).is_none()
-            && dict.read(0x1016, 0).is_none(),
-    )
+/// Values, a copy of what they were, and a shape.
+#[derive(Drop)]
+pub struct Kept {
+    dict: Dict,
+    copy: Dict,
+    shape: Shape,
 }
 
-fn a_copy_stays(alloc: Global) -> Result<bool, AllocError> {
-    let mut dict = Dict::new(alloc);
-    dict.write(0x1017, 0, &[0x64, 0])?;
-    let copy = dict.copy()?;
-    dict.write(0x1017, 0, &[1, 0])?;
-    dict.write(0x1018, 0, &[4])?;
-    Ok(copy.read(0x1017, 0) == Some([0x64, 0].as_slice()) && copy.read(0x1018, 0).is_none())
+impl Kept {
+    /// No values, and a shape of no entry, which allows the dummies 0002h and 0007h.
+    pub fn new(alloc: Global) -> Kept {
+        Kept {
+            dict: Dict::new(alloc),
+            copy: Dict::new(alloc),
+            shape: Shape::new(alloc, [false, true, false, false, false, false, true]),
+        }
+    }
+
+    /// Takes what a line changes.
+    fn change(&mut self, word: &str, text: &[u8]) -> Result<(), AllocError> {
+        let (index, sub, bytes) = place(text);
+        match word {
+            "write" if bytes.len() <= 512 => self.dict.write(index, sub, bytes)?,
+            "copy" => self.copy = self.dict.copy()?,
+            "heartbeat" => self.shape.insert(index, sub, HEARTBEAT)?,
+            "name" => self.shape.insert(index, sub, NAME)?,
+            _ => {}
+        }
+        Ok(())
+    }
+
+    /// Shows the value of an entry, that in the copy, and whether the two have the same values.
+    fn show_values<W: Write>(&self, out: &mut W, index: u16, sub: u8) -> io::Result<()> {
+        show_text(out, self.dict.read(index, sub))?;
+        show_text(out, self.copy.read(index, sub))?;
+        writeln!(out, "  same: {}", self.dict.same(&self.copy))
+    }
+
+    /// Shows an entry of the shape, whether its index is there, and how many entries there are.
+    fn show_entry<W: Write>(&self, out: &mut W, index: u16, sub: u8) -> io::Result<()> {
+        match self.shape.entry(index, sub) {
+            Some(entry) => writeln!(out, "  {:?} {:?}", entry.kind, entry.access)?,
+            None => out.write_all(b"  no entry\n")?,
+        }
+        let (has_index, is_empty) = (self.shape.has_index(index), self.shape.is_empty());
+        writeln!(
+            out,
+            "  index: {has_index}, of {}, none: {is_empty}",
+            self.shape.len()
+        )
+    }
 }
 
-/// A shape of two entries, which allows the dummies 0002h and 0007h.
-fn shape_of_two(alloc: Global) -> Result<Shape, AllocError> {
-    let mut shape = Shape::new(alloc, [false, true, false, false, false, false, true]);
-    shape.insert(0x1008, 0, HEARTBEAT)?;
-    shape.insert(0x1017, 2, HEARTBEAT)?;
-    shape.insert(0x1008, 0, NAME)?;
-    Ok(shape)
-}
-
-fn a_shape_has_its_entries(alloc: Global) -> Result<bool, AllocError> {
-    let shape = shape_of_two(alloc)?;
-    Ok(
-        shape.len() == 2
-            && !shape.is_empty()
-            && shape.entry(0x1008, 0).copied() == Some(NAME)
-            && shape.entry(0x1017, 2).copied() == Some(HEARTBEAT)
-            && shape.entry(0x1017, 0).is_none(),
-    )
-}
-
-fn a_shape_has_its_indices(alloc: Global) -> Result<bool, AllocError> {
-    let shape = shape_of_two(alloc)?;
-    Ok(
-        shape.has_index(0x1008)
-            && shape.has_index(0x1017)
-            && !shape.has_index(0x1016)
-            && !shape.has_index(0x1018),
-    )
-}
-
-fn a_shape_allows_its_dummies(alloc: Global) -> Result<bool, AllocError> {
-    let shape = shape_of_two(alloc)?;
-    Ok(
-        shape.dummy_allowed(2)
-            && shape.dummy_allowed(7)
-            && !shape.dummy_allowed(0)
-            && !shape.dummy_allowed(1)
-            && !shape.dummy_allowed(8),
-    )
-}
-
-#[test]
-fn dictionaries_keep_values(rt: HostRuntime) -> Result<(), AllocError> {
-    assert!(rt; a_write_changes_one_value(rt.alloc())?);
-    assert!(rt; a_copy_stays(rt.alloc())?);
-    Ok(())
-}
-
-#[test]
-fn shapes_have_entries_indices_and_dummies(rt: HostRuntime) -> Result<(), AllocError> {
-    assert!(rt; a_shape_has_its_entries(rt.alloc())?);
-    assert!(rt; a_shape_has_its_indices(rt.alloc())?);
-    assert!(rt; a_shape_allows_its_dummies(rt.alloc())?);
-    assert!(rt; Shape::new(rt.alloc(), [false; 7]).is_empty());
+/// Shows the value of an entry (`value-of`), an entry of the shape (`entry`), or whether RPDOs may map the
+/// dummy of a type (`dummy`). All other words change values and entries: `write`, `copy`, `heartbeat` and
+/// `name`.
+pub fn show_kept<W: Write>(out: &mut W, kept: &mut Kept, word: &str, text: &[u8]) -> Result<()> {
+    let (index, sub, _bytes) = place(text);
+    match word {
+        "value-of" => kept.show_values(out, index, sub)?,
+        "entry" => kept.show_entry(out, index, sub)?,
+        "dummy" => {
+            let kind = (number(text) % 0x10000) as u16;
+            writeln!(out, "  {}", kept.shape.dummy_allowed(kind))?;
+        }
+        _ => kept.change(word, text)?,
+    }
     Ok(())
 }
