@@ -97,19 +97,26 @@ fn show_moment<W: Write>(out: &mut W, device: &mut DeviceState, t: u64) -> Resul
     Ok(())
 }
 
+/// A node with these entries, of which a boot asks for nothing.
+fn node_of(alloc: Global, entries: &Entries) -> Result<OneNode, AllocError> {
+    let defaults = entries.defaults()?;
+    let shape = entries.shape()?;
+    Ok(OneNode {
+        alloc,
+        defaults: Rc::new(alloc, defaults)?,
+        shape: Rc::new(alloc, shape)?,
+        expect: Identity { numbers: [0; 5] },
+        writes: Vec::new(alloc),
+        asked: Vec::new(alloc),
+        asks: 0,
+    })
+}
+
 impl Bench {
     /// A device without power and a manager of no network.
     pub fn new(alloc: Global) -> Result<Bench> {
         let entries = Entries::new(alloc)?;
-        let node = OneNode {
-            alloc,
-            defaults: Rc::new(alloc, entries.defaults()?)?,
-            shape: Rc::new(alloc, entries.shape()?)?,
-            expect: Identity { numbers: [0; 5] },
-            writes: Vec::new(alloc),
-            asked: Vec::new(alloc),
-            asks: 0,
-        };
+        let node = node_of(alloc, &entries)?;
         Ok(Bench {
             alloc,
             entries,
@@ -134,16 +141,21 @@ impl Bench {
             return Ok(());
         }
         let step = Step::read(self.alloc, text)?;
+        self.play_step(out, word, &step)
+    }
+
+    /// Plays the step of a word.
+    fn play_step<W: Write>(&mut self, out: &mut W, word: &str, step: &Step) -> Result<()> {
         match word {
             "on" | "off" | "anew" | "device" | "beat" | "run" | "set" | "sends" => {
-                self.play_device(out, word, &step)
+                self.play_device(out, word, step)
             }
             "network" | "manager" | "clock" | "command" | "orders" => {
-                self.play_manager(out, word, &step)
+                self.play_manager(out, word, step)
             }
-            "value" => self.show_values(out, &step),
-            "expect" | "write" | "forget" => self.change_boot(word, &step),
-            _ => self.change_entries(word, &step),
+            "value" => self.show_values(out, step),
+            "expect" | "write" | "forget" => self.change_boot(word, step),
+            _ => self.change_entries(word, step),
         }
     }
 
@@ -183,14 +195,16 @@ impl Bench {
     /// Gives the device a frame, and lets it run what is due.
     fn play_frame<W: Write>(&mut self, out: &mut W, word: &str, step: &Step) -> Result<()> {
         match word {
-            "run" => self.run_until(out, step)?,
-            "beat" => {
-                self.receive(step.time, step)?;
-                run(&mut self.device, step.time)?;
-            }
-            _ => self.receive(step.time, step)?,
+            "run" => self.run_until(out, step),
+            "beat" => Ok(self.beat(step.time, step)?),
+            _ => Ok(self.receive(step.time, step)?),
         }
-        Ok(())
+    }
+
+    /// The device takes the frame of a step, and runs what is due.
+    fn beat(&mut self, t: u64, step: &Step) -> Result<(), AllocError> {
+        self.receive(t, step)?;
+        run(&mut self.device, t)
     }
 
     /// The device takes the frame of a step, if that has one.
@@ -208,25 +222,32 @@ impl Bench {
     /// before to the step's. Shows the frames that come of it, and takes them.
     fn run_until<W: Write>(&mut self, out: &mut W, step: &Step) -> Result<()> {
         for t in self.last..=step.time {
-            self.receive(t, step)?;
-            run(&mut self.device, t)?;
+            self.beat(t, step)?;
             show_moment(out, &mut self.device, t)?;
         }
         Ok(())
     }
 
-    /// Makes the manager of a network, gives it a frame or a command, runs what is due, or takes its winner.
+    /// Plays a line that speaks of the manager.
     fn play_manager<W: Write>(&mut self, out: &mut W, word: &str, step: &Step) -> Result<()> {
         let before = self.manager.copy()?;
-        match word {
-            "network" => self.manager = powered_on(self.alloc, step)?,
-            "orders" => show_taken(out, take_of_manager(&mut self.manager, true))?,
-            "command" => self.command(step)?,
-            _ => self.tell_manager(word, step)?,
-        }
+        self.change_manager(out, word, step)?;
         show_notes(out, self.notes.as_slice())?;
         self.notes.clear();
         show_manager(out, &self.manager, &before)
+    }
+
+    /// Makes the manager of a network, gives it a frame or a command, runs what is due, or takes its winner.
+    fn change_manager<W: Write>(&mut self, out: &mut W, word: &str, step: &Step) -> Result<()> {
+        match word {
+            "network" => {
+                self.manager = powered_on(self.alloc, step)?;
+                Ok(())
+            }
+            "orders" => show_taken(out, take_of_manager(&mut self.manager, true)),
+            "command" => self.command(step),
+            _ => self.tell_manager(word, step),
+        }
     }
 
     /// Gives the manager a command for a node, by their numbers.
@@ -255,12 +276,11 @@ impl Bench {
 
     /// Shows the values of one or two entries of the device.
     fn show_values<W: Write>(&self, out: &mut W, step: &Step) -> Result<()> {
-        if let Some(place) = step.place() {
-            show_value(out, self.device.values(), place)?;
-        }
-        if let Some(place) = step.other_place() {
+        let values = self.device.values();
+        show_value(out, values, step.place())?;
+        if step.other_place().is_some() {
             out.write_all(b" |")?;
-            show_value(out, self.device.values(), place)?;
+            show_value(out, values, step.other_place())?;
         }
         writeln!(out, "")?;
         Ok(())

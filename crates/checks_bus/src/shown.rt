@@ -31,13 +31,15 @@ fn show_bytes<W: Write>(out: &mut W, bytes: &[u8]) -> Result<()> {
     Ok(())
 }
 
-/// Shows the value of an entry, if it has one.
-pub fn show_value<W: Write>(out: &mut W, values: &Dict, place: (u16, u8)) -> Result<()> {
-    match values.read(place.0, place.1) {
-        Some(bytes) => show_bytes(out, bytes)?,
-        None => out.write_all(b" none")?,
+/// Shows the value of an entry, if one is named and has one.
+pub fn show_value<W: Write>(out: &mut W, values: &Dict, place: Option<(u16, u8)>) -> Result<()> {
+    let Some((index, sub)) = place else {
+        return Ok(());
+    };
+    match values.read(index, sub) {
+        Some(bytes) => show_bytes(out, bytes),
+        None => Ok(out.write_all(b" none")?),
     }
-    Ok(())
 }
 
 /// Shows what a frame is for: of a TPDO with its number.
@@ -141,17 +143,23 @@ pub fn show_manager<W: Write>(out: &mut W, manager: &Manager, before: &Manager) 
     Ok(())
 }
 
+/// Shows a note.
+fn show_note<W: Write>(out: &mut W, note: &Note) -> Result<()> {
+    let node = note.node;
+    match note.kind {
+        NoteKind::Lost => writeln!(out, "  note {node} lost")?,
+        NoteKind::Configured => writeln!(out, "  note {node} configured")?,
+        NoteKind::Difference => writeln!(out, "  note {node} failed difference")?,
+        NoteKind::Aborted(abort) => writeln!(out, "  note {node} failed {:08X}", abort.code())?,
+        NoteKind::TimedOut => writeln!(out, "  note {node} failed timeout")?,
+    }
+    Ok(())
+}
+
 /// Shows notes in their order, a line each.
 pub fn show_notes<W: Write>(out: &mut W, notes: &[Note]) -> Result<()> {
     for note in notes {
-        let node = note.node;
-        match note.kind {
-            NoteKind::Lost => writeln!(out, "  note {node} lost")?,
-            NoteKind::Configured => writeln!(out, "  note {node} configured")?,
-            NoteKind::Difference => writeln!(out, "  note {node} failed difference")?,
-            NoteKind::Aborted(abort) => writeln!(out, "  note {node} failed {:08X}", abort.code())?,
-            NoteKind::TimedOut => writeln!(out, "  note {node} failed timeout")?,
-        }
+        show_note(out, note)?;
     }
     Ok(())
 }
