@@ -3,7 +3,7 @@
 ghost use Rattle.std.specs.Prelude.{◌≡◌, ◌≢◌, ◌↔◌, ◌<◌, ◌+◌, ◌*◌, ◌∷◌, [], ℕ, All, Some, None, filter};
 ghost use Rattle.asking.specs.Agenda.{IsSameUnder};
 ghost use Rattle.asking.specs.Alike.{AreAlike};
-ghost use Rattle.asking.specs.Asking.{Agrees, Answer, outcome, reads};
+ghost use Rattle.asking.specs.Asking.{Agrees, Answer, outcome, reads, turns};
 ghost use Rattle.bus_laws.specs.Spans.{span};
 ghost use Rattle.bus_events.specs.Steps.{has_time, steps_due, steps_left};
 ghost use Rattle.can_bus.specs.Bus.{device_after_slot, instant, power_on, after_arbitration, after_window_start, Bus};
@@ -20,8 +20,8 @@ ghost use Rattle.co_parts.specs.Contents.{Image};
 ghost use Rattle.co_parts.specs.Images.{IsCoherent};
 ghost use Rattle.co_parts.specs.declared.part.Part.TheVariants as part;
 
-/// Under two images that agree on what an instant, a run or a span reads under the one, it is the same: the same
-/// end, the same lines and the same reads. Span i has the instants of window i, and span 0 begins with the power-on.
+/// Under two images that agree on what an instant, a run, a span or the instants of a window read under the one, it is
+/// the same: the same end, the same lines and the same reads. Span i has the instants of window i, and span 0 begins with the power-on.
 #[tactic(auto, using(asking::proofs::QuestionLemmas::two_images))]
 pub fn two_images()
     ensures instants { (first second : Image) (t : ℕ) (s : Bus) → Agrees second (reads (instant t s) first)
@@ -30,6 +30,9 @@ pub fn two_images()
         → AreAlike (run end) first second }
     ensures spans { (first second : Image) (i : ℕ) (s : Bus) → Agrees second (reads (span i s) first)
         → AreAlike (span i s) first second }
+    ensures windows { (first second : Image) (i : ℕ) (s : Bus)
+        → Agrees second (reads (turns instant 10000 (10000 * i) s) first)
+        → AreAlike (turns instant 10000 (10000 * i) s) first second }
 {}
 
 /// A bus at rest does nothing before its next due moment: an instant changes nothing, tells nothing and reads
