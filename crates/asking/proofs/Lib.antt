@@ -4,3 +4,4 @@ pub mod BlockLemmas
 pub mod ToldLemmas
 pub mod DueLemmas
 pub mod RecordLemmas
+pub mod EachLemmas

@@ -7,8 +7,8 @@ use Rattle.std.proofs.lemmas.List.{append-nil, drop_all, drop_at, drop_min, leng
 use Rattle.std.proofs.lemmas.List.{take_all, take_at, take_min, take_more}
 use Rattle.asking.specs.Asking.{Asking, Seen, after_reads, outcome, reads}
 use Rattle.bus_devices.specs.Blocks.{AreAgendasOf}
-use Rattle.bus_events.specs.Each.{each}
-use Rattle.bus_events.proofs.EachLemmas.{outcome_each, reads_each}
+use Rattle.asking.specs.Each.{each}
+use Rattle.asking.proofs.EachLemmas.{outcome_each, reads_each}
 use Rattle.co_device.specs.Device.{Device}
 use Rattle.co_parts.specs.Contents.{Content, Image}
 use Rattle.co_parts.specs.declared.part.Part.{Part}

@@ -1,11 +1,10 @@
 -- The devices that contend for a bus.
-use Rattle.std.specs.Prelude.{ℕ, ◌==◌, ◌&&◌, Bool, false, List, map, remove, slice_index_or, slice_set, Option, Some}
-use Rattle.std.specs.Prelude.{None}
+use Rattle.std.specs.Prelude.{ℕ, ◌==◌, ◌&&◌, Bool, false, List, map, remove, slice_set, Option, Some, None}
 use Rattle.std.specs.List.{position}
+use Rattle.bus_events.specs.Places.{device_at}
 use Rattle.can_frame.specs.Winner.{contenders_of, winner_of}
 use Rattle.can_frame.specs.declared.contender.Contender.{Contender}
 use Rattle.can_frame.specs.declared.waiting.Waiting.{Waiting}
-use Rattle.co_device.specs.Device as device
 use Rattle.co_device.specs.Device.{Device}
 
 -- the lists of the frames that wait at devices, with their numbers
@@ -23,9 +22,6 @@ contends_with c d = is_contender c (winner_of (contenders_of (d.number, d.waitin
 -- the place of the first device that contends with the frame
 unfoldable pub sender_place : Contender → List Device → Option ℕ
 sender_place c ds = position (contends_with c) ds
-
-abbrev pub device_at : List Device → ℕ → Device
-device_at ds i = slice_index_or ds i (device.without_power false 0)
 
 -- the frame at a place of its list leaves the device at a place
 abbrev pub with_sent : List Device → ℕ → ℕ → List Device

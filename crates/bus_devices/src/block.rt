@@ -4,7 +4,7 @@ ghost use Rattle.std.specs.Prelude.{◌≡◌, ◌<◌, ◌≤◌, ◌+◌, leng
 ghost use Rattle.asking.specs.Asking.{after_reads, outcome, reads};
 ghost use Rattle.asking.specs.Record.{BeginsWith};
 ghost use Rattle.bus_devices.specs.Senders.{contends_with as contends, device_lists, is_contender, sender_place};
-ghost use Rattle.bus_events.specs.Each.{each};
+ghost use Rattle.asking.specs.Each.{each};
 ghost use Rattle.can_frame.specs.Winner.{contenders, IsWinner};
 ghost use Rattle.co_parts.specs.Moments.{earliest};
 ghost use Rattle.co_device.specs.Device.{moments};
@@ -12,9 +12,9 @@ ghost use Rattle.std.specs.List.{flat_map};
 ghost use Rattle.device_agenda.specs.Agenda.{at_instant, IsAgendaOf};
 
 use can_frame::Contender;
-use co_device::Shapes;
 use co_parts::{END, earlier};
 use device_agenda::{Agenda, Delivery, ScheduledDevice};
+use device_objects::Shapes;
 use std::alloc::AllocError;
 
 /// The agenda of devices.

@@ -6,7 +6,7 @@ ghost use Rattle.asking.specs.Asking.{after_reads, outcome, reads};
 ghost use Rattle.asking.specs.Record.{BeginsWith};
 ghost use Rattle.bus_devices.specs.Blocks.{AreAgendasOf};
 ghost use Rattle.bus_devices.specs.Senders.{device_lists, sender_place as place_of};
-ghost use Rattle.bus_events.specs.Each.{each};
+ghost use Rattle.asking.specs.Each.{each};
 ghost use Rattle.can_frame.specs.Winner.{contenders, IsWinner};
 ghost use Rattle.co_device.specs.Device.{Device, moments};
 ghost use Rattle.co_parts.specs.Moments.{earliest};
@@ -14,9 +14,9 @@ ghost use Rattle.device_agenda.specs.Agenda.{at_instant, IsAgendaOf};
 
 use crate::block::{agenda_of, place_of_sender, run_each, winner_of};
 use can_frame::Contender;
-use co_device::Shapes;
 use co_parts::{END, earlier};
 use device_agenda::{Agenda, Delivery, ScheduledDevice};
+use device_objects::Shapes;
 use std::alloc::AllocError;
 
 /// The number of devices of a block; the last one may have fewer.

@@ -4,8 +4,9 @@ ghost use Rattle.std.specs.Prelude.{◌≡◌, ◌<◌, ◌≤◌, ◌+◌, ◌�
 ghost use Rattle.std.specs.List.{flat_map};
 ghost use Rattle.asking.specs.Asking.{after_reads, outcome, reads};
 ghost use Rattle.asking.specs.Record.{BeginsWith};
-ghost use Rattle.bus_devices.specs.Senders.{device_at, device_lists, sender_place as place_of, with_sent};
-ghost use Rattle.bus_events.specs.Each.{each};
+ghost use Rattle.asking.specs.Each.{each};
+ghost use Rattle.bus_devices.specs.Senders.{device_lists, sender_place as place_of, with_sent};
+ghost use Rattle.bus_events.specs.Places.{device_at};
 ghost use Rattle.can_frame.specs.Winner.{contenders, IsWinner};
 ghost use Rattle.co_device.specs.Device.{moments};
 ghost use Rattle.co_parts.specs.Moments.{earliest};
@@ -15,9 +16,9 @@ use crate::block::{first_due, place_of_sender, winner_of};
 use crate::blocks::{first_of, is_awake, plan, plan_block, run_blocks, sender_place, winner};
 use crate::lists::{copy_all, same_all};
 use can_frame::{Contender, Waiting};
-use co_device::Shapes;
 use co_parts::END;
 use device_agenda::{Agenda, Delivery, ScheduledDevice};
+use device_objects::Shapes;
 use std::alloc::{AllocError, Global};
 use std::marker::Model;
 

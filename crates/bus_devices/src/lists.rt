@@ -3,11 +3,11 @@
 ghost use Rattle.std.specs.Prelude.{◌≡◌, ◌≤◌, ◌+◌, ◌↔◌, false, true, length, map, IfOk, IsTrue, OnOk};
 ghost use Rattle.asking.specs.Asking.{after_reads, outcome, reads};
 ghost use Rattle.asking.specs.Record.{BeginsWith};
-ghost use Rattle.bus_events.specs.Each.{each};
+ghost use Rattle.asking.specs.Each.{each};
 ghost use Rattle.co_device.specs.Device.{after_power, without_power};
 
-use co_device::Shapes;
 use device_agenda::ScheduledDevice;
+use device_objects::Shapes;
 use std::alloc::{AllocError, Global};
 
 /// The devices of these numbers without power.

@@ -12,7 +12,7 @@ use Rattle.co_scenario.specs.declared.nmt_command.NmtCommand.{NmtCommand}
 use Rattle.co_scenario.specs.declared.step.Step.TheVariants.{Set, Power, Nmt}
 use Rattle.co_scenario.specs.declared.timed_step.TimedStep.{TimedStep}
 use Rattle.nmt_boot.specs.Manager.{Manager, with_command}
-use Rattle.bus_events.specs.Each.{each}
+use Rattle.asking.specs.Each.{each}
 use Rattle.bus_events.specs.Events.{after_events_at, after_event, after_power_at, after_set_at}
 
 -- ---- one event

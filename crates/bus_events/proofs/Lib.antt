@@ -1,4 +1,3 @@
-pub mod EachLemmas
 pub mod EventLemmas
 pub mod OtherLemmas
 pub mod StepLemmas

@@ -9,10 +9,11 @@ use Rattle.co_parts.specs.declared.part.Part.{Part}
 use Rattle.co_scenario.specs.declared.nmt_command.NmtCommand.{NmtCommand}
 use Rattle.co_scenario.specs.declared.step.Step.TheVariants.{Set, Power, Nmt}
 use Rattle.nmt_boot.specs.Manager.{Manager}
-use Rattle.bus_events.specs.Each.{each}
+use Rattle.asking.specs.Each.{each}
 use Rattle.bus_events.specs.Events.{after_event, after_power_at, after_set_at}
-use Rattle.bus_events.specs.Others.{OthersStay, device_in}
-use Rattle.bus_events.proofs.EachLemmas.{outcome_each}
+use Rattle.bus_events.specs.Others.{OthersStay}
+use Rattle.bus_events.specs.Places.{device_at}
+use Rattle.asking.proofs.EachLemmas.{outcome_each}
 use Rattle.bus_events.proofs.EventLemmas.{outcome_power}
 
 another : (number node : ℕ) → number ≢ node → (number == node) ≡ false
@@ -63,8 +64,8 @@ module _ (image : Image) (t : ℕ) (ds : List Device) (m : Manager) where
   pub power_others : (node : ℕ) (on : Bool)
       → OthersStay node ds (outcome (after_event t (Power node on) (ds, m)) image).0
   power_others node on i differ =
-      ap (λ (nodes : List Device × Manager). device_in nodes.0 i) (outcome_power t ds m node on image)
-      ∙ ap (λ (after : List Device). device_in after i) (each_is image (after_power_at t node on) ds)
+      ap (λ (nodes : List Device × Manager). device_at nodes.0 i) (outcome_power t ds m node on image)
+      ∙ ap (λ (after : List Device). device_at after i) (each_is image (after_power_at t node on) ds)
       ∙ others node (λ (d : Device). outcome (after_power_at t node on d) image)
       (power_leaves image t node on) ds i differ
 

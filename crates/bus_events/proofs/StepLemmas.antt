@@ -1,12 +1,12 @@
 -- Events in order of time.
 use Rattle.std.proofs.Common.{◌≡◌, ℕ, zero, suc, ◌+◌, ◌<◌, ◌≤◌, Bool, true, false, List, [], ◌∷◌, ◌++◌, length, get_or}
-use Rattle.std.proofs.Common.{take, drop, refl, ap, arith, sym, ◌∙◌}
+use Rattle.std.proofs.Common.{take, drop, inl, inr, refl, ap, arith, sym, ◌∙◌}
 use Rattle.std.specs.Prelude.{◌==◌, All, filter, nat_le}
 use Rattle.std.specs.List.{AllByRecursion, prefix_len}
 use Rattle.std.proofs.lemmas.Bool.Decides.{nat_tests}
 use Rattle.std.proofs.lemmas.List.{take-append-drop}
 use Rattle.std.proofs.lemmas.List.Elements.{All-cons, All-head, All-nil, All-tail}
-use Rattle.co_parts.specs.Images.{AreInOrder, IsFree, IsWithin}
+use Rattle.co_parts.specs.Images.{AreInOrder, ComesBefore, IsFree, IsWithin}
 use Rattle.co_scenario.specs.declared.timed_step.TimedStep.{TimedStep}
 use Rattle.bus_events.specs.Steps.{AreFree, LieFrom, has_time, steps_due, steps_from, steps_left}
 
@@ -82,13 +82,19 @@ rest_in_order : (s : TimedStep) (steps : List TimedStep) → AreInOrder (s ∷ s
 rest_in_order s [] order = tt
 rest_in_order s (next ∷ steps) order = order.1
 
+-- what comes before has no later time
+not_later : (a b : TimedStep) → ComesBefore a b → a.time ≤ b.time
+not_later a b (inl sooner) = omega (arith, sooner)
+not_later a b (inr at_once) = let same = at_once.0 in omega (arith, same)
+
 in_order_from : (u : ℕ) (s : TimedStep) (steps : List TimedStep) → AreInOrder (s ∷ steps) → u ≤ s.time
     → LieFrom u (s ∷ steps)
 in_order_from u s [] order h =
     All-cons (λ (step : TimedStep). u ≤ step.time) s [] h (All-nil (λ (step : TimedStep). u ≤ step.time))
 in_order_from u s (next ∷ steps) order h =
+    let later = not_later s next order.0 in
     All-cons (λ (step : TimedStep). u ≤ step.time) s (next
-    ∷ steps) h (in_order_from u next steps order.1 (omega (arith, h, order.0)))
+    ∷ steps) h (in_order_from u next steps order.1 (omega (arith, h, later)))
 
 pub left_later : (t : ℕ) (steps : List TimedStep) → AreInOrder steps → LieFrom t steps
     → LieFrom (t + 1) (steps_left t steps)

@@ -9,7 +9,7 @@ use Rattle.co_scenario.specs.declared.step.Step.{Step}
 use Rattle.co_scenario.specs.declared.step.Step.TheVariants.{Set, Power, Nmt}
 use Rattle.co_scenario.specs.declared.timed_step.TimedStep.{TimedStep}
 use Rattle.nmt_boot.specs.Manager.{Manager, with_command}
-use Rattle.bus_events.specs.Each.{each}
+use Rattle.asking.specs.Each.{each}
 
 -- the application of a node sets an entry, at this node alone
 unfoldable pub after_set_at : ℕ → ℕ → ℕ × ℕ → List ℕ → Device → Device

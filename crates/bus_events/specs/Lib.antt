@@ -1,4 +1,4 @@
-pub mod Each
 pub mod Steps
 pub mod Events
 pub mod Others
+pub mod Places

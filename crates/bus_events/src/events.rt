@@ -3,16 +3,16 @@
 ghost use Rattle.std.specs.Prelude.{◌≡◌, ◌<◌, ◌≤◌, ◌+◌, false, length, map, OnOk};
 ghost use Rattle.asking.specs.Asking.{after_reads, outcome, reads};
 ghost use Rattle.asking.specs.Record.{BeginsWith};
-ghost use Rattle.bus_events.specs.Each.{each};
+ghost use Rattle.asking.specs.Each.{each};
 ghost use Rattle.bus_events.specs.Events.{after_events_at, after_event, after_power_at, after_set_at};
 ghost use Rattle.bus_events.specs.Steps.{AreFree};
 ghost use Rattle.co_base.specs.Ranges.{is_between};
 ghost use Rattle.co_parts.specs.Images.{IsFree};
 
-use co_device::Shapes;
 use co_parts::END;
 use co_scenario::{Step, TimedStep};
 use device_agenda::ScheduledDevice;
+use device_objects::Shapes;
 use nmt_boot::Manager;
 use std::alloc::AllocError;
 

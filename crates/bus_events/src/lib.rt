@@ -3,7 +3,6 @@
 
 mod events;
 pub mod laws;
-mod same_steps;
 mod steps_left;
 
 pub use events::run_events;

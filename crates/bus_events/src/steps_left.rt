@@ -5,9 +5,8 @@ ghost use Rattle.std.specs.List.{prefix_len};
 ghost use Rattle.co_parts.specs.Moments.{earliest};
 ghost use Rattle.bus_events.specs.Steps.{has_time, in_window, steps_due, steps_left as are_left, times, AreFree};
 
-use crate::same_steps::same_steps;
 use co_parts::{Window, earlier};
-use co_scenario::TimedStep;
+use co_scenario::{TimedStep, same_steps};
 use std::alloc::AllocError;
 use std::marker::Model;
 use std::rc::Rc;

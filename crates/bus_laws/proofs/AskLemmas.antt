@@ -4,10 +4,10 @@ use Rattle.std.proofs.Common.{inr, refl, sym, ap, ◌∙◌, subst, arith}
 use Rattle.std.specs.Prelude.{Contains, ◌==◌}
 use Rattle.std.proofs.lemmas.List.Elements.{All-from_recursion}
 use Rattle.asking.specs.Asking.{outcome, reads}
-use Rattle.bus_events.specs.Each.{each}
+use Rattle.asking.specs.Each.{each}
 use Rattle.bus_events.specs.Events.{after_events_at, after_event, after_power_at}
 use Rattle.bus_events.specs.Steps.{steps_due}
-use Rattle.bus_events.proofs.EachLemmas.{reads_each}
+use Rattle.asking.proofs.EachLemmas.{reads_each}
 use Rattle.bus_events.proofs.EventLemmas.{reads_events, reads_power}
 use Rattle.can_frame.specs.Identifiers.{error_control_id, sdo_answer_id}
 use Rattle.co_device.specs.Device.{Device, after_power, after_reset_node}
@@ -22,13 +22,14 @@ use Rattle.co_sdo_client.specs.Client.{after_answer}
 use Rattle.co_sdo_client.specs.declared.progress.Progress.{Progress}
 use Rattle.co_sdo_client.specs.declared.progress.Progress.TheVariants as progress
 use Rattle.co_sdo_client.specs.declared.client_transfer.ClientTransfer.{ClientTransfer as Transfer}
+use Rattle.device_agenda.specs.Agenda.{hears}
 use Rattle.nmt_boot.proofs.EventLemmas.{answered_reads, boots_reads}
 use Rattle.nmt_boot.specs.Manager.{Manager, after_boot_up, is_boot_up, node_at, place_of, after_frame, after_sdo_frame}
-use Rattle.node_boot.specs.Boot.{after_compare, after_write, boot_nmt_slave, check_identity, download_configuration}
-use Rattle.node_boot.specs.Boot.{is_as_expected, last_write, next_compared, sdo_answer}
+use Rattle.node_boot.specs.Boot.{after_compare, after_write, boot_nmt_slave, check_identity, compared_next}
+use Rattle.node_boot.specs.Boot.{download_configuration, is_as_expected, next_compared, sdo_answer}
 use Rattle.node_boot.specs.declared.boot_stage.BootStage.{BootStage}
 use Rattle.node_boot.specs.declared.boot_stage.BootStage.TheVariants.{Unseen, Comparing, Writing, Configured, Failed}
-use Rattle.can_bus.specs.Bus.{Bus, after_delivery, ended_slot, after_events, from_delivery_on, device_after_slot}
+use Rattle.can_bus.specs.Bus.{Bus, after_delivery, ended_slot, after_events, from_delivery_on, delivered_of}
 use Rattle.can_bus.specs.Bus.{instant, manager_after_slot, after_window_start}
 use Rattle.can_bus.specs.declared.slot.Slot.{Slot}
 use Rattle.can_bus.proofs.InstantLemmas.{begun, reads_delivery, reads_instant, run_by_events}
@@ -54,12 +55,15 @@ module _ (image : Image) (t : ℕ) (slot : Slot) (m : Manager) where
 
     -- the first write, once no number is left to be compared
     checked_reads : (deadline : ℕ) (expected : Identity) (place : ℕ)
-        → (next_compared expected place ≡ 5 → AsksForWriteNow image slot (node_at m.nodes k) 0)
+        → (next_compared expected place ≡ None → AsksForWriteNow image slot (node_at m.nodes k) 0)
         → AreFor R (reads (check_identity deadline number expected place) image)
     unfolding check_identity download_configuration
-    checked_reads deadline expected place h =
-        picked image R (next_compared expected place == 5) _ _
-        (λ e. (inr (k, (0, (refl, h (it_is (next_compared expected place) 5 e)))), tt)) (λ e. tt)
+    checked_reads deadline expected place h = by (next_compared expected place) h
+      where
+        by : (next : Option ℕ) → (next ≡ None → AsksForWriteNow image slot (node_at m.nodes k) 0)
+            → AreFor R (reads (compared_next deadline number expected next) image)
+        by None asks = (inr (k, (0, (refl, asks refl))), tt)
+        by (Some left) asks = tt
 
     booted_reads : (deadline : ℕ) → IsBootUpOf number (Some slot)
         → AreFor R (reads (boot_nmt_slave deadline number) image)
@@ -92,22 +96,20 @@ module _ (image : Image) (t : ℕ) (slot : Slot) (m : Manager) where
       unfolding download_configuration
       write_reads place transfer old at left None e = tt
       write_reads place transfer old at left (Some (progress.Ask request)) e = tt
-      write_reads place transfer old at left (Some progress.Written) e =
-          picked image R (place == last_write) _ _ (λ last. tt)
-          (λ more. (
-            inr (
-              k,
-              (
-                place + 1,
-                (
-                  refl,
-                  inl (subst (λ (stage : BootStage). AsksForWrite number slot stage (place + 1)) (sym at)
-                      (refl, (id, e))),
-                ),
-              ),
+      write_reads place transfer old at left (Some progress.Written) e = (
+        inr (
+          k,
+          (
+            place + 1,
+            (
+              refl,
+              inl (subst (λ (stage : BootStage). AsksForWrite number slot stage (place + 1)) (sym at)
+                  (refl, (id, e))),
             ),
-            tt,
-          ))
+          ),
+        ),
+        tt,
+      )
       write_reads place transfer old at left (Some (progress.Read bytes)) e = tt
       write_reads place transfer old at left (Some (progress.Failed abort frame)) e = tt
 
@@ -212,19 +214,19 @@ module _ (image : Image) (t : ℕ) (slot : Slot) (s : Bus) where
   abbrev D : Part → Type 0
   D part = IsReadAtDelivery image slot s part
 
-  device_hears : (d : Device) → Contains s.devices d → AreFor D (reads (device_after_slot t slot d) image)
-  unfolding device_after_slot
+  device_hears : (d : Device) → Contains s.devices d → AreFor D (reads (hears t (delivered_of slot) d) image)
+  unfolding hears
   device_hears d there =
       picked image D (d.number == slot.sender) _ _ (λ own. tt)
       (λ other. weaker (λ part. (d.has_power ≡ true) × IsReadByDevice slot.frame d part) D
       (λ part h. inl (d, (there, (it_is_not d.number slot.sender other, h)))) _ (frame_reads image t slot.frame d))
 
   devices_hear : (ds : List Device) → ((x : Device) → Contains ds x → Contains s.devices x)
-      → AreFor D (reads (each (device_after_slot t slot) ds) image)
+      → AreFor D (reads (each (hears t (delivered_of slot)) ds) image)
   devices_hear [] h = tt
   devices_hear (d ∷ ds) h =
-      rw (reads_each (device_after_slot t slot) d ds image)
-      (both_for D (reads (device_after_slot t slot d) image) _ (device_hears d (h d (0, omega arith, refl)))
+      rw (reads_each (hears t (delivered_of slot)) d ds image)
+      (both_for D (reads (hears t (delivered_of slot) d) image) _ (device_hears d (h d (0, omega arith, refl)))
       (devices_hear ds (λ x c. h x (suc c.0, omega (arith, c.1), c.2))))
 
   manager_there : AreFor D (reads (manager_after_slot t (Some slot) s.manager) image)

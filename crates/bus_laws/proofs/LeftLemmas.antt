@@ -8,7 +8,7 @@ use Rattle.std.proofs.lemmas.List.Elements.{All-head}
 use Rattle.asking.specs.Asking.{outcome}
 use Rattle.bus_events.specs.Steps.{has_time, steps_left}
 use Rattle.co_parts.specs.Contents.{Image, roster_of}
-use Rattle.co_parts.specs.Images.{IsCoherent, IsWithin}
+use Rattle.co_parts.specs.Images.{IsImage, IsWithin}
 use Rattle.co_parts.specs.declared.part.Part.TheVariants.{Roster}
 use Rattle.co_scenario.specs.declared.timed_step.TimedStep.{TimedStep}
 use Rattle.can_bus.specs.Bus.{Bus, instant, power_on, after_window_start}
@@ -49,10 +49,10 @@ record IsInWindow (t : ℕ) (s : Bus) : Type 0 where
   in_time : IsInTime t s
   before : AllByRecursion (λ step. step.time < s.window) s.steps
 
-begun_before : (image : Image) (t : ℕ) (s : Bus) → IsCoherent image → IsInWindow t s
+begun_before : (image : Image) (t : ℕ) (s : Bus) → IsImage image → IsInWindow t s
     → AllByRecursion (λ step. step.time < (outcome (after_window_start t s) image).window)
     (outcome (after_window_start t s) image).steps
-begun_before image t s coherent h = by (t == s.window) refl
+begun_before image t s fits h = by (t == s.window) refl
   where
     by : (b : Bool) → (t == s.window) ≡ b
         → AllByRecursion (λ step. step.time < (outcome (after_window_start t s) image).window)
@@ -61,16 +61,16 @@ begun_before image t s coherent h = by (t == s.window) refl
         let multiple = h.in_time.window.multiple in
         rw (starts image t s e) (within_before (t / 10000)
         (t + 10000) _ (window_end t s.window multiple.0 (it_is t s.window e) multiple.1)
-        (coherent.within (t / 10000)))
+        (fits.within (t / 10000)))
     by false e = rw (goes_on image t s e) h.before
 
-next_in_window : (image : Image) → IsCoherent image → (t : ℕ) (s : Bus) → IsInWindow t s
+next_in_window : (image : Image) → IsImage image → (t : ℕ) (s : Bus) → IsInWindow t s
     → IsInWindow (t + 1) (outcome (instant t s) image).0
-next_in_window image coherent t s h = record {
-  in_time = in_time_after image t s coherent h.in_time;
+next_in_window image fits t s h = record {
+  in_time = in_time_after image t s fits h.in_time;
   before = rw (instant_window image t s, instant_steps image t s)
       (left_before t (outcome (after_window_start t s) image).window (outcome (after_window_start t s) image).steps
-      (begun_before image t s coherent h));
+      (begun_before image t s fits h));
 }
 
 none_first : (image : Image) → (outcome power_on image).steps ≡ []
@@ -80,8 +80,8 @@ none_first image = rw (outcome_power_on_of (roster_of (image Roster)) image) ref
 first_in_window : (image : Image) → IsInWindow 0 (outcome power_on image)
 first_in_window image = record { in_time = in_time_first image; before = rw (none_first image) tt }
 
-in_window : (image : Image) → IsCoherent image → (t : ℕ) → IsInWindow t (bus_at image t)
-in_window image coherent = at_each_moment image IsInWindow (first_in_window image) (next_in_window image coherent)
+in_window : (image : Image) → IsImage image → (t : ℕ) → IsInWindow t (bus_at image t)
+in_window image fits = at_each_moment image IsInWindow (first_in_window image) (next_in_window image fits)
 
 none_between : (t : ℕ) (steps : List TimedStep) → All (λ (step : TimedStep). t ≤ step.time) steps
     → AllByRecursion (λ step. step.time < t) steps → steps ≡ []
@@ -99,15 +99,15 @@ its_window i moment h =
     let first = h.first in
     omega (arith, is, from, first)
 
-pub none_is_left : (image : Image) → IsCoherent image → (i : ℕ) → (bus_at image (10000 * i)).steps ≡ []
-none_is_left image coherent i =
+pub none_is_left : (image : Image) → IsImage image → (i : ℕ) → (bus_at image (10000 * i)).steps ≡ []
+none_is_left image fits i =
     let s = bus_at image (10000 * i) in
-    let h = in_window image coherent (10000 * i) in
+    let h = in_window image fits (10000 * i) in
     let before : AllByRecursion (λ step. step.time < 10000 * i) s.steps =
     rw (its_window i s.window h.in_time.window) at h.before in
     none_between (10000 * i) s.steps h.in_time.from before
 
 -- and the next window starts there
-pub window_starts_there : (image : Image) → IsCoherent image → (i : ℕ) → (bus_at image (10000 * i)).window ≡ 10000 * i
-window_starts_there image coherent i =
-    its_window i (bus_at image (10000 * i)).window (in_window image coherent (10000 * i)).in_time.window
+pub window_starts_there : (image : Image) → IsImage image → (i : ℕ) → (bus_at image (10000 * i)).window ≡ 10000 * i
+window_starts_there image fits i =
+    its_window i (bus_at image (10000 * i)).window (in_window image fits (10000 * i)).in_time.window

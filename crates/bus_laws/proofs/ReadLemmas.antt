@@ -13,7 +13,7 @@ use Rattle.co_device.specs.Device.{Device, is_addressed, is_error_control, is_in
 use Rattle.co_device.specs.Device.{after_reset_node, after_sdo_request, with_emergency}
 use Rattle.co_device.specs.Receiving.{after_mapping, after_kept_frame, after_pdo, rpdo_places, after_frame, after_rpdo}
 use Rattle.co_device.specs.Receiving.{after_sync_at, after_sync, after_receipt, walk}
-use Rattle.co_device.specs.declared.nmt_state.NmtState.TheVariants.{Operational, Stopped}
+use Rattle.co_fields.specs.declared.nmt_state.NmtState.TheVariants.{Operational, Stopped}
 use Rattle.co_parts.specs.Contents.{Content, Image}
 use Rattle.co_parts.specs.declared.part.Part.{Part}
 use Rattle.co_parts.specs.declared.part.Part.TheVariants.{Defaults, Shape}

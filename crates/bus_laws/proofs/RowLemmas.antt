@@ -16,8 +16,8 @@ use Rattle.co_sdo_client.specs.declared.progress.Progress.{Progress}
 use Rattle.co_sdo_client.specs.declared.progress.Progress.TheVariants as progress
 use Rattle.co_sdo_client.specs.declared.client_transfer.ClientTransfer.{ClientTransfer as Transfer}
 use Rattle.device_pdos.specs.Rpdos.{rpdo_at}
-use Rattle.node_boot.specs.Boot.{after_compare, after_write, boot_nmt_slave, check_identity, download_configuration}
-use Rattle.node_boot.specs.Boot.{boot_failed, is_as_expected, last_write, next_compared, sdo_answer}
+use Rattle.node_boot.specs.Boot.{after_compare, after_write, boot_nmt_slave, check_identity, compared_next}
+use Rattle.node_boot.specs.Boot.{download_configuration, boot_failed, is_as_expected, next_compared, sdo_answer}
 use Rattle.node_boot.specs.declared.boot_stage.BootStage.TheVariants.{Comparing, Writing}
 use Rattle.node_boot.specs.declared.note_kind.NoteKind.TheVariants as word
 
@@ -71,23 +71,27 @@ module _ (image : Image) where
   -- ---- the manager
 
   module _ (deadline node : ℕ) where
-    first_write : (expected : Identity) (place : ℕ) → next_compared expected place ≡ 5
+    first_write : (expected : Identity) (place : ℕ) → next_compared expected place ≡ None
         → reads (check_identity deadline node expected place) image ≡ (Boot node 0, image (Boot node 0)) ∷ []
     unfolding check_identity download_configuration
     first_write expected place e = rw e refl
 
-    no_write : (expected : Identity) (place : ℕ) → next_compared expected place ≢ 5
+    no_write : (expected : Identity) (place : ℕ) → next_compared expected place ≢ None
         → reads (check_identity deadline node expected place) image ≡ []
     unfolding check_identity
-    no_write expected place differ = rw (is_other (next_compared expected place) 5 differ) refl
+    no_write expected place differ = by (next_compared expected place) differ
+      where
+        by : (next : Option ℕ) → next ≢ None → reads (compared_next deadline node expected next) image ≡ []
+        by None other = absurd (other refl)
+        by (Some left) other = refl
 
-    pub boot_up_compares : next_compared (identity_of (image (Expect node))) 0 ≢ 5
+    pub boot_up_compares : next_compared (identity_of (image (Expect node))) 0 ≢ None
         → reads (boot_nmt_slave deadline node) image ≡ (Expect node, image (Expect node)) ∷ []
     unfolding boot_nmt_slave
     boot_up_compares differ = ap (λ (rs : List (Part × Content)). (Expect node, image (Expect node)) ∷ rs)
         (no_write (identity_of (image (Expect node))) 0 differ)
 
-    pub boot_up_writes : next_compared (identity_of (image (Expect node))) 0 ≡ 5
+    pub boot_up_writes : next_compared (identity_of (image (Expect node))) 0 ≡ None
         → reads (boot_nmt_slave deadline node) image
         ≡ (Expect node, image (Expect node)) ∷ (Boot node 0, image (Boot node 0)) ∷ []
     unfolding boot_nmt_slave
@@ -97,7 +101,7 @@ module _ (image : Image) where
     module _ (transfer : Transfer) (old : ℕ) (answer : List ℕ) where
       pub compared_writes : (expected : Identity) (place : ℕ) (bytes : List ℕ)
           → (after_answer transfer answer).progress ≡ Some (progress.Read bytes)
-          → is_as_expected expected place bytes ≡ true → next_compared expected (place + 1) ≡ 5
+          → is_as_expected expected place bytes ≡ true → next_compared expected (place + 1) ≡ None
           → reads (sdo_answer deadline node (Comparing place expected transfer old) answer) image
           ≡ (Boot node 0, image (Boot node 0)) ∷ []
       unfolding sdo_answer
@@ -108,11 +112,10 @@ module _ (image : Image) where
           else Answer (boot_failed word.Difference None)) image) same
           ∙ first_write expected (place + 1) over
 
-      pub confirmed_writes : (j : ℕ) → (after_answer transfer answer).progress ≡ Some progress.Written → j ≢ last_write
+      pub confirmed_writes : (j : ℕ) → (after_answer transfer answer).progress ≡ Some progress.Written
           → reads (sdo_answer deadline node (Writing j transfer old) answer) image
           ≡ (Boot node (j + 1), image (Boot node (j + 1))) ∷ []
       unfolding sdo_answer download_configuration
-      confirmed_writes j written differ =
+      confirmed_writes j written =
           ap (λ (p : Option Progress). reads (after_write deadline old node j (after_answer transfer answer).stage p)
           image) written
-          ∙ rw (is_other j last_write differ) refl

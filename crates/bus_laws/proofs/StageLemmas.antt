@@ -19,9 +19,9 @@ use Rattle.co_sdo_client.specs.declared.progress.Progress.{Progress}
 use Rattle.co_sdo_client.specs.declared.progress.Progress.TheVariants as progress
 use Rattle.co_sdo_client.specs.declared.client_transfer.ClientTransfer.{ClientTransfer as Transfer}
 use Rattle.concise_dcf.specs.declared.write.Write.{Write}
-use Rattle.node_boot.specs.Boot.{after_write, boot_nmt_slave, check_identity, comparison_started, boot_completed}
-use Rattle.node_boot.specs.Boot.{deadline_of, download_configuration, download_next, is_at, is_timed_out, last_write}
-use Rattle.node_boot.specs.Boot.{next_compared, sdo_answer, sdo_time_out, write_started}
+use Rattle.node_boot.specs.Boot.{after_write, boot_nmt_slave, check_identity, comparison_started}
+use Rattle.node_boot.specs.Boot.{deadline_of, download_configuration, is_at, is_timed_out}
+use Rattle.node_boot.specs.Boot.{compared_next, next_compared, sdo_answer, sdo_time_out, write_started}
 use Rattle.node_boot.specs.declared.boot_stage.BootStage.{BootStage}
 use Rattle.node_boot.specs.declared.boot_stage.BootStage.TheVariants.{Unseen, Comparing, Writing, Configured, Failed}
 use Rattle.nmt_boot.proofs.EventLemmas.{answered_outcome, boots_outcome}
@@ -58,13 +58,11 @@ module _ (image : Image) (node : ℕ) (heard : Option Slot) (j : ℕ) (transfer 
     checked_follows : (expected : Identity) (place : ℕ)
         → Follows (outcome (check_identity deadline node expected place) image).stage
     unfolding check_identity
-    checked_follows expected place = by (next_compared expected place == 5)
+    checked_follows expected place = by (next_compared expected place)
       where
-        by : (x : Bool)
-            → Follows (outcome (if x then download_configuration deadline node 0
-            else Answer (comparison_started deadline expected (next_compared expected place))) image).stage
-        by true = download_follows
-        by false = compared_follows expected (next_compared expected place)
+        by : (next : Option ℕ) → Follows (outcome (compared_next deadline node expected next) image).stage
+        by None = download_follows
+        by (Some left) = compared_follows expected left
 
     pub boot_follows : Follows (outcome (boot_nmt_slave deadline node) image).stage
     unfolding boot_nmt_slave
@@ -75,24 +73,12 @@ module _ (image : Image) (node : ℕ) (heard : Option Slot) (j : ℕ) (transfer 
     next_follows : (w : Option Write) → write_of (image (Boot node (j + 1))) ≡ w
         → Follows (write_started deadline (j + 1) w).stage
     unfolding write_started
-    next_follows None e = inl (inl e, c)
+    next_follows None e = inl (e, c)
     next_follows (Some w) e = inr (inl (refl, c))
 
-    downloaded_follows : Follows (outcome (download_configuration deadline node (j + 1)) image).stage
+    pub confirmed_follows : Follows (outcome (download_configuration deadline node (j + 1)) image).stage
     unfolding download_configuration
-    downloaded_follows = next_follows (write_of (image (Boot node (j + 1)))) refl
-
-    is_last : (j == last_write) ≡ true → j ≡ last_write
-    is_last e = grind (arith, nat_tests)
-
-    pub confirmed_follows : Follows (outcome (download_next deadline node j) image).stage
-    confirmed_follows = by (j == last_write) refl
-      where
-        by : (x : Bool) → (j == last_write) ≡ x
-            → Follows (outcome (if x then Answer boot_completed
-            else download_configuration deadline node (j + 1)) image).stage
-        by true e = inl (inr (is_last e), c)
-        by false e = downloaded_follows
+    confirmed_follows = next_follows (write_of (image (Boot node (j + 1)))) refl
 
   -- an answer to the request that is under way
   pub answer_follows : (deadline old : ℕ) (left : Transfer) (p : Option Progress)

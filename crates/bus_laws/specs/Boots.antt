@@ -6,7 +6,6 @@ use Rattle.co_parts.specs.declared.part.Part.TheVariants.{Boot}
 use Rattle.co_sdo_client.specs.Client.{after_answer}
 use Rattle.co_sdo_client.specs.declared.progress.Progress.TheVariants as progress
 use Rattle.co_sdo_client.specs.declared.client_transfer.ClientTransfer.{ClientTransfer as Transfer}
-use Rattle.node_boot.specs.Boot.{last_write}
 use Rattle.node_boot.specs.declared.boot_stage.BootStage.{BootStage}
 use Rattle.node_boot.specs.declared.boot_stage.BootStage.TheVariants.{Unseen, Comparing, Writing, Configured, Failed}
 use Rattle.can_bus.specs.declared.slot.Slot.{Slot}
@@ -24,7 +23,7 @@ IsConfirmedBy node transfer (Some slot) =
 
 -- no write comes after this one
 abbrev pub IsLastWrite : Image → ℕ → ℕ → Type 0
-IsLastWrite image node place = (write_of (image (Boot node (place + 1))) ≡ None) ⊎ (place ≡ last_write)
+IsLastWrite image node place = write_of (image (Boot node (place + 1))) ≡ None
 
 -- WHAT CAN FOLLOW WRITE j: the same write; once it is confirmed the next one, or the end where there is none; a
 -- failure; and what a boot-up message of the node begins anew

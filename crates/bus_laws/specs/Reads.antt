@@ -1,12 +1,12 @@
 -- Why an instant reads a part: the table of parts, row by row.
 use Rattle.std.specs.Prelude.{◌≡◌, ◌≢◌, ◌⊎◌, ℕ, ◌+◌, ◌/◌, true, false, Contains, List, length, slice_index_or, Option}
-use Rattle.std.specs.Prelude.{Some}
+use Rattle.std.specs.Prelude.{Some, None}
 use Rattle.asking.specs.Asking.{outcome}
 use Rattle.bus_events.specs.Steps.{steps_due}
 use Rattle.can_frame.specs.Frames.{BaseFrame}
 use Rattle.can_frame.specs.Identifiers.{nmt_id, sdo_answer_id, sdo_request_id}
 use Rattle.co_device.specs.Device.{Device, is_addressed, is_in}
-use Rattle.co_device.specs.declared.nmt_state.NmtState.TheVariants.{Operational, Stopped}
+use Rattle.co_fields.specs.declared.nmt_state.NmtState.TheVariants.{Operational, Stopped}
 use Rattle.co_parts.specs.Contents.{Image, identity_of}
 use Rattle.co_parts.specs.declared.identity.Identity.{Identity}
 use Rattle.co_parts.specs.declared.part.Part.{Part}
@@ -83,7 +83,7 @@ pub record EndsIdentity (node place : ℕ) (expected : Identity) (transfer : Tra
   pub bytes : List ℕ
   pub read : (after_answer transfer frame.bytes).progress ≡ Some (progress.Read bytes)
   pub same : is_as_expected expected place bytes ≡ true
-  pub none_left : next_compared expected (place + 1) ≡ 5
+  pub none_left : next_compared expected (place + 1) ≡ None
 
 -- the write of this number is asked for at a stage: the first once all numbers are compared, and each other once
 -- the one before it is confirmed
@@ -100,7 +100,8 @@ abbrev pub AsksForWriteNow : Image → Slot → Booting → ℕ → Type 0
 AsksForWriteNow image slot booting j =
     AsksForWrite booting.number slot booting.stage j
     ⊎ ((j ≡ 0)
-    × (IsBootUpOf booting.number (Some slot) × (next_compared (identity_of (image (Expect booting.number))) 0 ≡ 5)))
+    × (IsBootUpOf booting.number (Some slot)
+    × (next_compared (identity_of (image (Expect booting.number))) 0 ≡ None)))
 
 -- WHAT THE MANAGER READS OF A FRAME: what it expects of a node at the node's boot-up, and a write before it is sent
 abbrev pub IsReadByManager : Image → Slot → Manager → Part → Type 0

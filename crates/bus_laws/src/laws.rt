@@ -6,7 +6,7 @@ ghost use Rattle.asking.specs.Alike.{AreAlike};
 ghost use Rattle.asking.specs.Asking.{Agrees, Answer, outcome, reads, turns};
 ghost use Rattle.bus_laws.specs.Spans.{span};
 ghost use Rattle.bus_events.specs.Steps.{has_time, steps_due, steps_left};
-ghost use Rattle.can_bus.specs.Bus.{device_after_slot, instant, power_on, after_arbitration, after_window_start, Bus};
+ghost use Rattle.can_bus.specs.Bus.{delivered_of, instant, power_on, after_arbitration, after_window_start, Bus};
 ghost use Rattle.can_bus.specs.Dues.{IsAtRest, IsJustBefore, due_run, moments, next_due};
 ghost use Rattle.can_bus.specs.Lines.{line_time};
 ghost use Rattle.can_bus.specs.Runs.{is_shown, power_on_reads, run, trace, window_of, HasItsEvents, IsInTime};
@@ -17,11 +17,13 @@ ghost use Rattle.can_frame.specs.declared.contender.Contender.{Contender as Bid}
 ghost use Rattle.can_frame.specs.declared.waiting.Waiting.{Waiting as Queued};
 ghost use Rattle.co_device.specs.Device.{Device};
 ghost use Rattle.co_parts.specs.Contents.{Image};
-ghost use Rattle.co_parts.specs.Images.{IsCoherent};
+ghost use Rattle.co_parts.specs.Images.{IsImage};
 ghost use Rattle.co_parts.specs.declared.part.Part.TheVariants as part;
+ghost use Rattle.device_agenda.specs.Agenda.{hears};
 
 /// Under two images that agree on what an instant, a run, a span or the instants of a window read under the one, it is
-/// the same: the same end, the same lines and the same reads. Span i has the instants of window i, and span 0 begins with the power-on.
+/// the same: the same end, the same lines and the same reads. Span i has the instants of window i, and span 0 begins
+/// with the power-on.
 #[tactic(auto, using(asking::proofs::QuestionLemmas::two_images))]
 pub fn two_images()
     ensures instants { (first second : Image) (t : ℕ) (s : Bus) → Agrees second (reads (instant t s) first)
@@ -43,22 +45,22 @@ pub fn before_a_due_moment_nothing_happens()
     ensures quiet { (t : ℕ) (s : Bus) → IsAtRest s → t < next_due s → instant t s ≡ Answer (s, []) }
 {}
 
-/// Under a coherent image each instant from the power-on on leaves a bus at rest, whose due moments all lie
+/// Under every image each instant from the power-on on leaves a bus at rest, whose due moments all lie
 /// ahead.
 #[tactic(auto, using(can_bus::proofs::DueRunLemmas::before_first, can_bus::proofs::DueRunLemmas::before_next, can_bus::proofs::DueRunLemmas::due_past))]
 pub fn each_instant_leaves_a_bus_at_rest()
-    ensures first { (image : Image) → IsCoherent image → IsJustBefore 0 (outcome power_on image) }
-    ensures each { (image : Image) → IsCoherent image → (t : ℕ) (s : Bus) → IsJustBefore t s
+    ensures first { (image : Image) → IsImage image → IsJustBefore 0 (outcome power_on image) }
+    ensures each { (image : Image) → IsImage image → (t : ℕ) (s : Bus) → IsJustBefore t s
         → IsJustBefore (t + 1) (outcome (instant t s) image).0 }
     ensures rest { (image : Image) (t : ℕ) (s : Bus) → IsJustBefore t s → IsAtRest (outcome (instant t s) image).0 }
-    ensures later { (image : Image) → IsCoherent image → (t : ℕ) (s : Bus) → IsJustBefore t s
+    ensures later { (image : Image) → IsImage image → (t : ℕ) (s : Bus) → IsJustBefore t s
         → t < next_due (outcome (instant t s) image).0 }
 {}
 
-/// Under a coherent image the run over due moments is the run over all moments: the same lines, the same end
+/// Under every image the run over due moments is the run over all moments: the same lines, the same end
 /// and the same reads.
 pub fn the_run_over_due_moments_is_the_run()
-    ensures { (image : Image) (end : ℕ) → IsCoherent image → IsSameUnder image (due_run end) (run end) }
+    ensures { (image : Image) (end : ℕ) → IsImage image → IsSameUnder image (due_run end) (run end) }
 {}
 
 /// Power-on reads the roster, and then the values and the entries of each node.
@@ -98,7 +100,7 @@ pub fn the_winner_starts()
 /// A frame isn't delivered to the node that sends it.
 #[tactic(auto, using(can_bus::proofs::ReadLemmas::own_frame_unheard))]
 pub fn no_device_hears_its_own_frame()
-    ensures { (t : ℕ) (slot : Sent) (d : Device) → d.number ≡ slot.sender → device_after_slot t slot d ≡ Answer d }
+    ensures { (t : ℕ) (slot : Sent) (d : Device) → d.number ≡ slot.sender → hears t (delivered_of slot) d ≡ Answer d }
 {}
 
 /// Windows start at the whole multiples of 10,000 microseconds, and at no other moment. Where one starts, its
@@ -112,24 +114,24 @@ pub fn windows_start_at_whole_multiples()
     ensures quiet { (t : ℕ) (s : Bus) → t ≢ s.window → after_window_start t s ≡ Answer s }
 {}
 
-/// Under a coherent image the next window starts at its moment, and the events that have not run are in order
+/// Under every image the next window starts at its moment, and the events that have not run are in order
 /// of time and lie ahead: at power-on, and after each instant. An event that has run isn't among them.
 #[tactic(auto, using(can_bus::proofs::TimeLemmas::in_time_first, can_bus::proofs::TimeLemmas::in_time_after, can_bus::proofs::TimeLemmas::instant_steps))]
 pub fn events_that_are_left_lie_ahead()
     ensures first { (image : Image) → IsInTime 0 (outcome power_on image) }
-    ensures each { (image : Image) (t : ℕ) (s : Bus) → IsCoherent image → IsInTime t s
+    ensures each { (image : Image) (t : ℕ) (s : Bus) → IsImage image → IsInTime t s
         → IsInTime (t + 1) (outcome (instant t s) image).0 }
     ensures left { (image : Image) (t : ℕ) (s : Bus)
         → (outcome (instant t s) image).0.steps ≡ steps_left t (outcome (after_window_start t s) image).steps }
 {}
 
-/// Under a coherent image the events that run in the instant at the moment t are those with this time in the
+/// Under every image the events that run in the instant at the moment t are those with this time in the
 /// window in which t lies, all of them, by number.
 #[tactic(auto, using(can_bus::proofs::TimeLemmas::has_events_first, can_bus::proofs::TimeLemmas::has_events_after, can_bus::proofs::TimeLemmas::due_are_its_events))]
 pub fn each_event_runs_at_its_time()
     ensures first { (image : Image) → HasItsEvents image 0 (outcome power_on image) }
-    ensures each { (image : Image) (t : ℕ) (s : Bus) → IsCoherent image → HasItsEvents image t s
+    ensures each { (image : Image) (t : ℕ) (s : Bus) → IsImage image → HasItsEvents image t s
         → HasItsEvents image (t + 1) (outcome (instant t s) image).0 }
-    ensures due { (image : Image) (t : ℕ) (s : Bus) → IsCoherent image → HasItsEvents image t s
+    ensures due { (image : Image) (t : ℕ) (s : Bus) → IsImage image → HasItsEvents image t s
         → steps_due t (outcome (after_window_start t s) image).steps ≡ filter (has_time t) (window_of image t) }
 {}

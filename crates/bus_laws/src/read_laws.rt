@@ -14,7 +14,7 @@ ghost use Rattle.co_sdo_client.specs.Client.{after_answer};
 ghost use Rattle.co_sdo_client.specs.declared.progress.Progress.TheVariants as progress;
 ghost use Rattle.co_sdo_client.specs.declared.client_transfer.ClientTransfer.{ClientTransfer as Transfer};
 ghost use Rattle.device_pdos.specs.Rpdos.{rpdo_at};
-ghost use Rattle.node_boot.specs.Boot.{boot_nmt_slave, is_as_expected, last_write, next_compared, sdo_answer};
+ghost use Rattle.node_boot.specs.Boot.{boot_nmt_slave, is_as_expected, next_compared, sdo_answer};
 ghost use Rattle.node_boot.specs.declared.boot_stage.BootStage.TheVariants as stage;
 
 /// An instant reads nothing but what the table of parts says: the events of a window that starts; the values and
@@ -31,11 +31,14 @@ pub fn an_instant_reads_nothing_else()
 #[tactic(auto, using(crate::proofs::RowLemmas::node_reads, crate::proofs::RowLemmas::communication_reads, crate::proofs::RowLemmas::switched_reads, crate::proofs::RowLemmas::on_reads, crate::proofs::RowLemmas::off_reads))]
 pub fn a_reset_reads_values_and_entries()
     ensures node { (image : Image) (t : ℕ) (d : Device) → reads (after_reset_node t d) image
-        ≡ (part.Defaults d.number, image (part.Defaults d.number)) ∷ (part.Shape d.number, image (part.Shape d.number)) ∷ [] }
+        ≡ (part.Defaults d.number, image (part.Defaults d.number))
+        ∷ (part.Shape d.number, image (part.Shape d.number)) ∷ [] }
     ensures communication { (image : Image) (t : ℕ) (d : Device) → reads (reset_communication t d) image
-        ≡ (part.Defaults d.number, image (part.Defaults d.number)) ∷ (part.Shape d.number, image (part.Shape d.number)) ∷ [] }
+        ≡ (part.Defaults d.number, image (part.Defaults d.number))
+        ∷ (part.Shape d.number, image (part.Shape d.number)) ∷ [] }
     ensures power { (image : Image) (t : ℕ) (d : Device) → d.has_power ≡ false → reads (after_power true t d) image
-        ≡ (part.Defaults d.number, image (part.Defaults d.number)) ∷ (part.Shape d.number, image (part.Shape d.number)) ∷ [] }
+        ≡ (part.Defaults d.number, image (part.Defaults d.number))
+        ∷ (part.Shape d.number, image (part.Shape d.number)) ∷ [] }
     ensures stays { (image : Image) (t : ℕ) (d : Device) → d.has_power ≡ true
         → reads (after_power true t d) image ≡ [] }
     ensures goes { (image : Image) (t : ℕ) (d : Device) → reads (after_power false t d) image ≡ [] }
@@ -54,9 +57,10 @@ pub fn a_sync_reads_entries_for_each_kept_frame()
 /// A boot-up message has what is expected of the node read, and its first write where no number is expected.
 #[tactic(auto, using(crate::proofs::RowLemmas::boot_up_compares, crate::proofs::RowLemmas::boot_up_writes))]
 pub fn a_boot_up_reads_what_is_expected()
-    ensures numbers { (image : Image) (deadline node : ℕ) → next_compared (identity_of (image (part.Expect node))) 0 ≢ 5
+    ensures numbers { (image : Image) (deadline node : ℕ)
+        → next_compared (identity_of (image (part.Expect node))) 0 ≢ None
         → reads (boot_nmt_slave deadline node) image ≡ (part.Expect node, image (part.Expect node)) ∷ [] }
-    ensures none { (image : Image) (deadline node : ℕ) → next_compared (identity_of (image (part.Expect node))) 0 ≡ 5
+    ensures none { (image : Image) (deadline node : ℕ) → next_compared (identity_of (image (part.Expect node))) 0 ≡ None
         → reads (boot_nmt_slave deadline node) image
         ≡ (part.Expect node, image (part.Expect node)) ∷ (part.Boot node 0, image (part.Boot node 0)) ∷ [] }
 {}
@@ -68,11 +72,11 @@ pub fn each_write_is_read_in_its_turn()
     ensures first { (image : Image) (deadline node : ℕ) (transfer : Transfer) (old : ℕ) (answer : List ℕ)
         (expected : Identity) (place : ℕ) (bytes : List ℕ)
         → (after_answer transfer answer).progress ≡ Some (progress.Read bytes)
-        → is_as_expected expected place bytes ≡ true → next_compared expected (place + 1) ≡ 5
+        → is_as_expected expected place bytes ≡ true → next_compared expected (place + 1) ≡ None
         → reads (sdo_answer deadline node (stage.Comparing place expected transfer old) answer) image
         ≡ (part.Boot node 0, image (part.Boot node 0)) ∷ [] }
     ensures next { (image : Image) (deadline node : ℕ) (transfer : Transfer) (old : ℕ) (answer : List ℕ) (j : ℕ)
-        → (after_answer transfer answer).progress ≡ Some progress.Written → j ≢ last_write
+        → (after_answer transfer answer).progress ≡ Some progress.Written
         → reads (sdo_answer deadline node (stage.Writing j transfer old) answer) image
         ≡ (part.Boot node (j + 1), image (part.Boot node (j + 1))) ∷ [] }
 {}

@@ -12,7 +12,7 @@ ghost use Rattle.can_bus.specs.declared.slot.Slot.{Slot as Sent};
 ghost use Rattle.can_frame.specs.declared.contender.Contender.{Contender as Bid};
 ghost use Rattle.can_frame.specs.declared.waiting.Waiting.{Waiting as Queued};
 ghost use Rattle.co_parts.specs.Contents.{roster_of, Image};
-ghost use Rattle.co_parts.specs.Images.{IsCoherent};
+ghost use Rattle.co_parts.specs.Images.{IsImage};
 ghost use Rattle.co_parts.specs.Moments.{is_due};
 ghost use Rattle.co_parts.specs.declared.part.Part.TheVariants as part;
 ghost use Rattle.co_sdo_client.specs.declared.client_transfer.ClientTransfer.{ClientTransfer as Transfer};
@@ -56,11 +56,11 @@ pub fn the_frame_that_starts_leaves_its_list()
     ensures stays { (t : ℕ) (s : Bus) → but_for_frames (after_arbitration t s) ≡ but_for_frames s }
 {}
 
-/// Under a coherent image no event is left at the start of a window, and the next window is the one that starts.
+/// Under every image no event is left at the start of a window, and the next window is the one that starts.
 #[tactic(auto, using(crate::proofs::LeftLemmas::none_is_left, crate::proofs::LeftLemmas::window_starts_there))]
 pub fn no_event_is_left_at_the_start_of_a_window()
-    ensures none { (image : Image) (i : ℕ) → IsCoherent image → (bus_at image (10000 * i)).steps ≡ [] }
-    ensures starts { (image : Image) (i : ℕ) → IsCoherent image → (bus_at image (10000 * i)).window ≡ 10000 * i }
+    ensures none { (image : Image) (i : ℕ) → IsImage image → (bus_at image (10000 * i)).steps ≡ [] }
+    ensures starts { (image : Image) (i : ℕ) → IsImage image → (bus_at image (10000 * i)).window ≡ 10000 * i }
 {}
 
 /// What an instant makes of the boot of a node. From a write on: the same write; once its SDO answer has confirmed

@@ -6,10 +6,10 @@ use Rattle.std.specs.List.{AllByRecursion}
 use Rattle.std.proofs.lemmas.Bool.Decides.{nat_tests}
 use Rattle.std.proofs.lemmas.List.Elements.{All-cons, All-head, All-nil}
 use Rattle.asking.specs.Asking.{Asking, outcome}
-use Rattle.bus_events.specs.Each.{each}
+use Rattle.asking.specs.Each.{each}
 use Rattle.bus_events.specs.Events.{after_events_at, after_event, after_power_at, after_set_at}
 use Rattle.bus_events.specs.Steps.{steps_due}
-use Rattle.bus_events.proofs.EachLemmas.{outcome_each}
+use Rattle.asking.proofs.EachLemmas.{outcome_each}
 use Rattle.bus_events.proofs.EventLemmas.{happens_nmt, happens_set, outcome_events, outcome_power}
 use Rattle.can_frame.specs.Frames.{slot_bits}
 use Rattle.can_frame.specs.declared.contender.Contender.{Contender}
@@ -24,6 +24,7 @@ use Rattle.device_objects.specs.declared.consumer.Consumer.{Consumer}
 use Rattle.co_scenario.specs.declared.step.Step.{Step}
 use Rattle.co_scenario.specs.declared.step.Step.TheVariants.{Set, Power, Nmt}
 use Rattle.co_scenario.specs.declared.timed_step.TimedStep.{TimedStep}
+use Rattle.device_agenda.specs.Agenda.{hears}
 use Rattle.device_laws.specs.Ahead.{AreAhead, IsAhead, NotBefore}
 use Rattle.device_laws.specs.Rest.{Rests}
 use Rattle.device_laws.proofs.AheadLemmas.{frame_ahead, power_ahead, set_ahead}
@@ -35,9 +36,10 @@ use Rattle.nmt_boot.specs.Ahead.{IsAhead as IsManagerAhead}
 use Rattle.nmt_boot.specs.Manager as manager
 use Rattle.nmt_boot.specs.Manager.{Manager}
 use Rattle.node_boot.specs.declared.note.Note.{Note as Noted}
-use Rattle.bus_devices.specs.Senders.{device_at, sender_place}
+use Rattle.bus_devices.specs.Senders.{sender_place}
+use Rattle.bus_events.specs.Places.{device_at}
 use Rattle.can_bus.specs.Bus.{Bus, after_delivery, devices_without_winner, ended_slot, after_events, from_delivery_on}
-use Rattle.can_bus.specs.Bus.{winning_frame, device_after_slot, instant, manager_after_delivery, manager_without_winner}
+use Rattle.can_bus.specs.Bus.{winning_frame, delivered_of, instant, manager_after_delivery, manager_without_winner}
 use Rattle.can_bus.specs.Bus.{manager_after_slot, open_slot, after_arbitration, after_start_on, with_slot_of}
 use Rattle.can_bus.specs.Bus.{after_window_start, winner}
 use Rattle.can_bus.specs.declared.slot.Slot.{Slot}
@@ -129,8 +131,8 @@ module _ (image : Image) (t : ℕ) where
       let both = one_event step.step ds m h k in
       rw (outcome_events t step steps (ds, m) image) (all_events steps after.0 after.1 both.devices both.manager)
 
-  one_hears : (slot : Slot) (d : Device) → IsAhead t d → IsAhead t (outcome (device_after_slot t slot d) image)
-  unfolding device_after_slot
+  one_hears : (slot : Slot) (d : Device) → IsAhead t d → IsAhead t (outcome (hears t (delivered_of slot) d) image)
+  unfolding hears
   one_hears slot d h = picked image (IsAhead t) (d.number == slot.sender) _ _ (λ e. h)
       (λ e. frame_ahead t t now image slot.frame d h)
 
@@ -138,7 +140,7 @@ module _ (image : Image) (t : ℕ) where
       → DevicesAhead t (outcome (after_delivery t slot ds) image)
   unfolding after_delivery
   all_hear None ds h = h
-  all_hear (Some slot) ds h = each_ahead (device_after_slot t slot) (one_hears slot) ds h
+  all_hear (Some slot) ds h = each_ahead (hears t (delivered_of slot)) (one_hears slot) ds h
 
   manager_ahead : (slot : Option Slot) (m : Manager) → IsManagerAhead t m
       → IsManagerAhead t (outcome (manager_after_slot t slot m) image).0

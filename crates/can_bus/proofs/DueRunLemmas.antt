@@ -1,5 +1,5 @@
 -- The run over due moments is the run.
-use Rattle.bus_events.specs.Each.{each}
+use Rattle.asking.specs.Each.{each}
 use Rattle.std.proofs.Common.{true, ◌≡◌, ℕ, zero, suc, ◌+◌, ◌<◌, ◌≤◌, List, [], ◌∷◌, ◌++◌, length, get_or, refl, sym}
 use Rattle.std.proofs.Common.{ap, ◌∙◌, arith}
 use Rattle.std.specs.Prelude.{All}
@@ -13,7 +13,7 @@ use Rattle.can_frame.specs.Frames.{bit_time}
 use Rattle.co_device.specs.Device as device
 use Rattle.co_device.specs.Device.{Device, after_instant}
 use Rattle.co_parts.specs.Contents.{Image, roster_of}
-use Rattle.co_parts.specs.Images.{IsCoherent, IsRoster, bit_rates}
+use Rattle.co_parts.specs.Images.{IsImage, IsRoster, bit_rates}
 use Rattle.co_parts.specs.declared.part.Part.TheVariants.{Roster}
 use Rattle.co_parts.specs.declared.roster.Roster.{Roster as Network}
 use Rattle.device_laws.specs.Rest.{Rests}
@@ -75,17 +75,17 @@ power_on_due image =
     in
     rw (outcome_power_on_of roster image) (none_sooner (moments s))
 
-bit_time_first : (image : Image) → IsCoherent image → 1 ≤ (outcome power_on image).bit_time
+bit_time_first : (image : Image) → IsImage image → 1 ≤ (outcome power_on image).bit_time
 unfolding power_on
-bit_time_first image coherent = rw (outcome_power_on_of (roster_of (image Roster)) image)
-    (has_bit_time (roster_of (image Roster)) coherent.roster)
+bit_time_first image fits = rw (outcome_power_on_of (roster_of (image Roster)) image)
+    (has_bit_time (roster_of (image Roster)) fits.roster)
 
 none_before : (n : ℕ) → n ≡ 0 → 0 < n → ⊥
 none_before n e h = omega (arith, e, h)
 
-pub before_first : (image : Image) → IsCoherent image → IsJustBefore 0 (outcome power_on image)
-before_first image coherent = record {
-  bit_time = bit_time_first image coherent;
+pub before_first : (image : Image) → IsImage image → IsJustBefore 0 (outcome power_on image)
+before_first image fits = record {
+  bit_time = bit_time_first image fits;
   in_time = in_time_first image;
   from = any_from (moments (outcome power_on image));
   rests = λ h. absurd (none_before (next_due (outcome power_on image)) (power_on_due image) h);
@@ -101,11 +101,11 @@ at_rest_after image t s h =
       devices = All-from_recursion Rests (outcome (instant t s) image).0.devices past.rest;
     }
 
-pub before_next : (image : Image) → IsCoherent image → (t : ℕ) (s : Bus) → IsJustBefore t s
+pub before_next : (image : Image) → IsImage image → (t : ℕ) (s : Bus) → IsJustBefore t s
     → IsJustBefore (t + 1) (outcome (instant t s) image).0
-before_next image coherent t s h =
+before_next image fits t s h =
     let past = instant_past image t s h.bit_time (parts_from t s h.from) in
-    let next = in_time_after image t s coherent h.in_time in
+    let next = in_time_after image t s fits h.in_time in
     record {
       bit_time = past.bit_time;
       in_time = next;
@@ -122,24 +122,24 @@ before_next image coherent t s h =
 due_ahead : (t : ℕ) (s : Bus) → IsJustBefore t s → t ≤ next_due s
 due_ahead t s h = due_from t s h.in_time.window.from h.from
 
-pub due_past : (image : Image) → IsCoherent image → (t : ℕ) (s : Bus) → IsJustBefore t s
+pub due_past : (image : Image) → IsImage image → (t : ℕ) (s : Bus) → IsJustBefore t s
     → t < next_due (outcome (instant t s) image).0
-due_past image coherent t s h =
-    let ahead = due_ahead (t + 1) (outcome (instant t s) image).0 (before_next image coherent t s h) in
+due_past image fits t s h =
+    let ahead = due_ahead (t + 1) (outcome (instant t s) image).0 (before_next image fits t s h) in
     omega (arith, ahead)
 
-pub dues_are_turns : (image : Image) (end k t : ℕ) (s : Bus) → IsCoherent image → IsJustBefore t s → t + k ≡ end
+pub dues_are_turns : (image : Image) (end k t : ℕ) (s : Bus) → IsImage image → IsJustBefore t s → t + k ≡ end
     → IsSameUnder image (dues instant next_due end k s) (turns instant k t s)
-dues_are_turns image end k t s coherent h ends =
+dues_are_turns image end k t s fits h ends =
     dues_same instant next_due image end IsJustBefore due_ahead (λ t s h soon. quiet t s (h.rests soon) soon)
-    (before_next image coherent) k t s k h ends (omega arith)
+    (before_next image fits) k t s k h ends (omega arith)
 
 -- THE RUN OVER DUE MOMENTS IS THE RUN: the same end, the same lines and the same reads
-pub due_run_is_run : (image : Image) (end : ℕ) → IsCoherent image → IsSameUnder image (due_run end) (run end)
+pub due_run_is_run : (image : Image) (end : ℕ) → IsImage image → IsSameUnder image (due_run end) (run end)
 unfolding due_run run
-due_run_is_run image end coherent =
+due_run_is_run image end fits =
     let s = outcome power_on image in
-    let same = dues_are_turns image end end 0 s coherent (before_first image coherent) (omega arith) in
+    let same = dues_are_turns image end end 0 s fits (before_first image fits) (omega arith) in
     record {
       outcomes = outcome_bind power_on (dues instant next_due end end) image ∙ same.outcomes
           ∙ sym (outcome_bind power_on (turns instant end 0) image);

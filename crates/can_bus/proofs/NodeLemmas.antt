@@ -8,10 +8,10 @@ use Rattle.co_parts.specs.Contents.{Content, Image}
 use Rattle.co_parts.specs.declared.part.Part.{Part}
 use Rattle.co_device.specs.Device.{Device, after_instant}
 use Rattle.nmt_boot.specs.Manager.{Manager}
-use Rattle.bus_events.specs.Each.{each}
-use Rattle.bus_events.proofs.EachLemmas.{outcome_each, reads_each}
-use Rattle.device_agenda.specs.Agenda.{at_instant}
-use Rattle.can_bus.specs.Bus.{nodes_after_devices, after_delivery, delivery_of, device_after_slot}
+use Rattle.asking.specs.Each.{each}
+use Rattle.asking.proofs.EachLemmas.{outcome_each, reads_each}
+use Rattle.device_agenda.specs.Agenda.{at_instant, hears}
+use Rattle.can_bus.specs.Bus.{nodes_after_devices, after_delivery, delivered_of, delivery_of}
 use Rattle.can_bus.specs.Bus.{manager_after_delivery, nodes_after}
 use Rattle.can_bus.specs.declared.slot.Slot.{Slot}
 
@@ -39,33 +39,33 @@ module _ (t : ℕ) where
   module _ (slot : Slot) where
     one_hears : (d : Device) (image : Image)
         → outcome (at_instant t (delivery_of (Some slot)) d) image
-        ≡ after_instant t (outcome (device_after_slot t slot d) image)
-    unfolding at_instant device_after_slot Rattle.device_agenda.specs.Agenda.hears
-    one_hears d image = outcome_bind (device_after_slot t slot d) (λ heard. Answer (after_instant t heard)) image
+        ≡ after_instant t (outcome (hears t (delivered_of slot) d) image)
+    unfolding at_instant
+    one_hears d image = outcome_bind (hears t (delivered_of slot) d) (λ heard. Answer (after_instant t heard)) image
 
     one_asks : (d : Device) (image : Image) → reads (at_instant t (delivery_of (Some slot)) d) image
-        ≡ reads (device_after_slot t slot d) image
-    unfolding at_instant device_after_slot Rattle.device_agenda.specs.Agenda.hears
-    one_asks d image = reads_bind (device_after_slot t slot d) (λ heard. Answer (after_instant t heard)) image
+        ≡ reads (hears t (delivered_of slot) d) image
+    unfolding at_instant
+    one_asks d image = reads_bind (hears t (delivered_of slot) d) (λ heard. Answer (after_instant t heard)) image
         ∙ append-nil _
 
     all_hear : (ds : List Device) (image : Image)
         → outcome (each (at_instant t (delivery_of (Some slot))) ds) image
-        ≡ map (after_instant t) (outcome (each (device_after_slot t slot) ds) image)
+        ≡ map (after_instant t) (outcome (each (hears t (delivered_of slot)) ds) image)
     all_hear [] image = refl
     all_hear (d ∷ ds) image =
         outcome_each (at_instant t (delivery_of (Some slot))) d ds image
         ∙ rw (one_hears d image, all_hear ds image) refl
-        ∙ ap (map (after_instant t)) (sym (outcome_each (device_after_slot t slot) d ds image))
+        ∙ ap (map (after_instant t)) (sym (outcome_each (hears t (delivered_of slot)) d ds image))
 
     all_ask : (ds : List Device) (image : Image)
         → reads (each (at_instant t (delivery_of (Some slot))) ds) image
-        ≡ reads (each (device_after_slot t slot) ds) image
+        ≡ reads (each (hears t (delivered_of slot)) ds) image
     all_ask [] image = refl
     all_ask (d ∷ ds) image =
         reads_each (at_instant t (delivery_of (Some slot))) d ds image
         ∙ rw (one_asks d image, all_ask ds image) refl
-        ∙ sym (reads_each (device_after_slot t slot) d ds image)
+        ∙ sym (reads_each (hears t (delivered_of slot)) d ds image)
 
   pub all_outcome : (slot : Option Slot) (ds : List Device) (image : Image)
       → outcome (each (at_instant t (delivery_of slot)) ds) image

@@ -12,7 +12,7 @@ use Rattle.can_frame.specs.Frames.{bit_time}
 use Rattle.co_device.specs.Device.{Device, after_power}
 use Rattle.nmt_boot.specs.Manager.{Manager, manager_at_power_on}
 use Rattle.can_bus.specs.Bus.{Bus, power_on_of, bus_with_power, without_power}
-use Rattle.bus_events.specs.Each.{each}
+use Rattle.asking.specs.Each.{each}
 
 -- no bit rate is 0
 not_zero : (xs : List ℕ) (x k : ℕ) → AllByRecursion (λ b. 1 ≤ b) xs → k < length xs → get_or xs k x ≡ x → 1 ≤ x

@@ -8,11 +8,12 @@ use Rattle.co_parts.specs.declared.part.Part.{Part}
 use Rattle.co_parts.specs.declared.part.Part.TheVariants.{Defaults, Roster, Shape}
 use Rattle.co_device.specs.Device as device
 use Rattle.co_device.specs.Device.{Device, after_power, after_reset_node}
-use Rattle.can_bus.specs.Bus.{device_after_slot, power_on, without_power}
-use Rattle.bus_events.specs.Each.{each}
+use Rattle.can_bus.specs.Bus.{delivered_of, power_on, without_power}
+use Rattle.asking.specs.Each.{each}
+use Rattle.device_agenda.specs.Agenda.{hears}
 use Rattle.can_bus.specs.Runs.{power_on_reads}
 use Rattle.can_bus.specs.declared.slot.Slot.{Slot}
-use Rattle.bus_events.proofs.EachLemmas.{reads_each}
+use Rattle.asking.proofs.EachLemmas.{reads_each}
 use Rattle.can_bus.proofs.PowerLemmas.{reads_power_on_of}
 
 parts_of : Image → ℕ → List (Part × Content)
@@ -38,8 +39,8 @@ power_on_reads_all image =
     ap (λ rs. (Roster, image Roster) ∷ rs) (reads_power_on_of roster image ∙ nodes_read image roster.nodes)
 
 pub own_frame_unheard : (t : ℕ) (slot : Slot) (d : Device) → d.number ≡ slot.sender
-    → device_after_slot t slot d ≡ Answer d
-unfolding device_after_slot
+    → hears t (delivered_of slot) d ≡ Answer d
+unfolding hears
 own_frame_unheard t slot d e = rw (e, same_number slot.sender) refl
   where
     same_number : (n : ℕ) → (n == n) ≡ true

@@ -12,7 +12,8 @@ use Rattle.can_frame.specs.declared.waiting.Waiting.{Waiting}
 use Rattle.can_frame.proofs.WinnerLemmas.{contender_at, length-contenders_of, winner_of-wins}
 use Rattle.co_device.specs.Device.{Device, without_power}
 use Rattle.nmt_boot.specs.Manager.{Manager}
-use Rattle.bus_devices.specs.Senders.{contends_with, device_at, sender_place}
+use Rattle.bus_devices.specs.Senders.{contends_with, sender_place}
+use Rattle.bus_events.specs.Places.{device_at}
 use Rattle.can_bus.specs.Bus.{Bus, winning_frame, waiting_lists, slot_of, after_arbitration, after_start_on}
 use Rattle.can_bus.specs.Bus.{with_slot_of, winner}
 use Rattle.can_bus.specs.Runs.{StartsWith}

@@ -10,7 +10,7 @@ use Rattle.bus_events.specs.Steps.{LieFrom, has_time, steps_due, steps_from, ste
 use Rattle.bus_events.proofs.StepLemmas.{all_stay, due_of_all, left_in_order, left_later, left_of_all}
 use Rattle.can_frame.specs.declared.contender.Contender.{Contender}
 use Rattle.co_parts.specs.Contents.{Image, roster_of, steps_of}
-use Rattle.co_parts.specs.Images.{AreInOrder, IsCoherent, IsWithin}
+use Rattle.co_parts.specs.Images.{AreInOrder, IsImage, IsWithin}
 use Rattle.co_parts.specs.declared.part.Part.TheVariants.{Events, Roster}
 use Rattle.co_scenario.specs.declared.timed_step.TimedStep.{TimedStep}
 use Rattle.can_bus.specs.Bus.{Bus, ended_slot, from_delivery_on, with_window, instant, nodes_after, open_slot, power_on}
@@ -156,24 +156,24 @@ record HasSteps (t : ℕ) (s : Bus) : Type 0 where
   order : AreInOrder s.steps
   from : LieFrom t s.steps
 
-begun_steps : (image : Image) (t : ℕ) (s : Bus) → IsCoherent image → IsInTime t s
+begun_steps : (image : Image) (t : ℕ) (s : Bus) → IsImage image → IsInTime t s
     → HasSteps t (outcome (after_window_start t s) image)
-begun_steps image t s coherent h = by (t == s.window) refl
+begun_steps image t s fits h = by (t == s.window) refl
   where
     by : (b : Bool) → (t == s.window) ≡ b → HasSteps t (outcome (after_window_start t s) image)
     by true e =
         rw (starts image t s e)
         (record {
-          order = coherent.ordered (t / 10000);
+          order = fits.ordered (t / 10000);
           from = rw (window_from t s.window (it_is t s.window e) h.window) at (within_from (t / 10000)
-              (handed_out image t s) (coherent.within (t / 10000)));
+              (handed_out image t s) (fits.within (t / 10000)));
         })
     by false e = rw (goes_on image t s e) (record { order = h.order; from = h.from })
 
-pub in_time_after : (image : Image) (t : ℕ) (s : Bus) → IsCoherent image → IsInTime t s
+pub in_time_after : (image : Image) (t : ℕ) (s : Bus) → IsImage image → IsInTime t s
     → IsInTime (t + 1) (outcome (instant t s) image).0
-in_time_after image t s coherent h =
-    let steps = begun_steps image t s coherent h in
+in_time_after image t s fits h =
+    let steps = begun_steps image t s fits h in
     record {
       window = each_window image t s h.window;
       order = rw (instant_steps image t s) (left_in_order t (outcome (after_window_start t s) image).steps steps.order);
@@ -194,30 +194,30 @@ in_time_first image =
 -- ---- the events of each moment
 
 -- what has not run once a window was begun, if one is
-begun_has : (image : Image) (t : ℕ) (s : Bus) → IsCoherent image → HasItsEvents image t s
+begun_has : (image : Image) (t : ℕ) (s : Bus) → IsImage image → HasItsEvents image t s
     → (outcome (after_window_start t s) image).steps ≡ steps_from t (window_of image t)
-begun_has image t s coherent h = by (t == s.window) refl
+begun_has image t s fits h = by (t == s.window) refl
   where
     by : (b : Bool) → (t == s.window) ≡ b → (outcome (after_window_start t s) image).steps
         ≡ steps_from t (window_of image t)
     by true e =
         let from : LieFrom t (window_of image t) =
         rw (window_from t s.window (it_is t s.window e) h.window) at (within_from (t / 10000) (window_of image t)
-        (coherent.within (t / 10000))) in
+        (fits.within (t / 10000))) in
         rw (starts image t s e) (sym (all_stay t (window_of image t) from))
     by false e = rw (goes_on image t s e) (h.steps (omega (arith, it_is_later t s.window e h.window.from)))
 
-pub due_are_its_events : (image : Image) (t : ℕ) (s : Bus) → IsCoherent image → HasItsEvents image t s
+pub due_are_its_events : (image : Image) (t : ℕ) (s : Bus) → IsImage image → HasItsEvents image t s
     → steps_due t (outcome (after_window_start t s) image).steps ≡ filter (has_time t) (window_of image t)
-due_are_its_events image t s coherent h =
-    ap (steps_due t) (begun_has image t s coherent h) ∙ due_of_all t (window_of image t) (coherent.ordered (t / 10000))
+due_are_its_events image t s fits h =
+    ap (steps_due t) (begun_has image t s fits h) ∙ due_of_all t (window_of image t) (fits.ordered (t / 10000))
 
 same_number : (t i : ℕ) → t + 1 < 10000 * i → 10000 * i < t + 1 + 10000 → (t + 1) / 10000 ≡ t / 10000
 same_number t i h k = omega (arith, h, k)
 
-pub has_events_after : (image : Image) (t : ℕ) (s : Bus) → IsCoherent image → HasItsEvents image t s
+pub has_events_after : (image : Image) (t : ℕ) (s : Bus) → IsImage image → HasItsEvents image t s
     → HasItsEvents image (t + 1) (outcome (instant t s) image).0
-has_events_after image t s coherent h =
+has_events_after image t s fits h =
     let next = each_window image t s h.window in
     record {
       window = next;
@@ -225,8 +225,8 @@ has_events_after image t s coherent h =
           let is = next.multiple.1 in
           let number = same_number t next.multiple.0 (omega (arith, within, is)) (omega (arith, next.first, is)) in
           instant_steps image t s
-          ∙ ap (steps_left t) (begun_has image t s coherent h)
-          ∙ left_of_all t (window_of image t) (coherent.ordered (t / 10000))
+          ∙ ap (steps_left t) (begun_has image t s fits h)
+          ∙ left_of_all t (window_of image t) (fits.ordered (t / 10000))
           ∙ ap (λ (i : ℕ). steps_from (t + 1) (steps_of (image (Events i)))) (sym number);
     }
 

@@ -5,7 +5,7 @@ use Rattle.std.proofs.lemmas.Bool.Decides.{nat_tests}
 use Rattle.asking.specs.Asking.{Answer, outcome, turns}
 use Rattle.asking.proofs.LoopLemmas.{jumped, turned_told}
 use Rattle.co_parts.specs.Contents.{Image}
-use Rattle.co_parts.specs.Images.{IsCoherent}
+use Rattle.co_parts.specs.Images.{IsImage}
 use Rattle.can_bus.specs.Bus.{Bus, instant}
 use Rattle.can_bus.specs.Dues.{IsJustBefore, next_due}
 use Rattle.can_bus.specs.declared.line.Line.{Line}
@@ -80,10 +80,10 @@ jumps image end t s h = by (nat_le (next_due s) end) refl
         no_turns_left image (next_due s) end s (omega (arith, over)) ∙ sym (late (nat_le t end) refl over)
 
 -- an instant at a due moment, and where the next one is
-module _ (image : Image) (coherent : IsCoherent image) (t : ℕ) (s after : Bus) (h : IsJustBefore t s)
+module _ (image : Image) (fits : IsImage image) (t : ℕ) (s after : Bus) (h : IsJustBefore t s)
     (is : after ≡ (outcome (instant t s) image).0) where
   next : IsJustBefore (t + 1) after
-  next = rw is (before_next image coherent t s h)
+  next = rw is (before_next image fits t s h)
 
   pub next_ready : (due : ℕ) → due ≡ next_due after → IsJustBefore due after
   next_ready due e = rw e (at_due (t + 1) after next)

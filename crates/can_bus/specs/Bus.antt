@@ -1,7 +1,7 @@
 -- The bus at a moment, and one instant of it. All moments are absolute, in microseconds from the power-on of the
 -- network.
 use Rattle.std.specs.Prelude.{ℕ, ◌+◌, ◌*◌, ◌/◌, ◌==◌, Bool, false, true, List, [], ◌∷◌, ◌++◌, map, remove}
-use Rattle.std.specs.Prelude.{slice_index_or, slice_set, Option, Some, None, if◌then◌else◌}
+use Rattle.std.specs.Prelude.{slice_index_or, Option, Some, None, if◌then◌else◌}
 use Rattle.asking.specs.Asking.{Asking, Answer, Ask, bind}
 use Rattle.can_frame.specs.Frames.{BaseFrame, bit_time, slot_bits}
 use Rattle.can_frame.specs.Winner.{contenders, winner_of}
@@ -15,15 +15,16 @@ use Rattle.co_parts.specs.declared.part.Part.TheVariants.{Events, Roster}
 use Rattle.co_parts.specs.declared.roster.Roster.{Roster as Network}
 use Rattle.co_device.specs.Device as device
 use Rattle.co_device.specs.Device.{Device}
-use Rattle.co_device.specs.Receiving.{after_frame}
 use Rattle.co_scenario.specs.declared.timed_step.TimedStep.{TimedStep}
 use Rattle.nmt_boot.specs.Manager as manager
 use Rattle.nmt_boot.specs.Manager.{Manager}
 use Rattle.node_boot.specs.declared.note.Note.{Note as Noted}
-use Rattle.bus_devices.specs.Senders.{device_at, sender_place}
-use Rattle.bus_events.specs.Each.{each}
+use Rattle.bus_devices.specs.Senders.{device_lists, sender_place, with_sent}
+use Rattle.asking.specs.Each.{each}
 use Rattle.bus_events.specs.Events.{after_events_at}
+use Rattle.bus_events.specs.Places.{device_at}
 use Rattle.bus_events.specs.Steps.{steps_due, steps_left}
+use Rattle.device_agenda.specs.Agenda.{hears}
 use Rattle.device_agenda.specs.Delivered.{Delivered}
 use Rattle.can_bus.specs.declared.line.Line.{Line}
 use Rattle.can_bus.specs.declared.line.Line.TheVariants.{Frame, Note}
@@ -116,17 +117,17 @@ frame_lines t (Some slot) = Frame t slot.frame ∷ []
 
 -- ---- it is delivered to each other device, by number
 
-unfoldable pub device_after_slot : ℕ → Slot → Device → Asking Part Content Device
-device_after_slot t slot d = if d.number == slot.sender then Answer d else after_frame t slot.frame d
+-- the frame with its sender
+abbrev pub delivered_of : Slot → Delivered
+delivered_of slot = record { sender = slot.sender; frame = slot.frame }
+
+abbrev pub delivery_of : Option Slot → Option Delivered
+delivery_of None = None
+delivery_of (Some slot) = Some (delivered_of slot)
 
 unfoldable pub after_delivery : ℕ → Option Slot → List Device → Asking Part Content (List Device)
 after_delivery t None ds = Answer ds
-after_delivery t (Some slot) ds = each (device_after_slot t slot) ds
-
--- the frame with its sender
-abbrev pub delivery_of : Option Slot → Option Delivered
-delivery_of None = None
-delivery_of (Some slot) = Some (record { sender = slot.sender; frame = slot.frame })
+after_delivery t (Some slot) ds = each (hears t (delivered_of slot)) ds
 
 -- ---- the manager: the delivered frame, and then its timers
 
@@ -148,7 +149,7 @@ note_lines t notes = map (Note t) notes
 
 -- the lists of the devices and that of the manager
 abbrev pub waiting_lists : List Device → Manager → List (ℕ × List Waiting)
-waiting_lists ds m = map (λ d. (d.number, d.waiting)) ds ++ (m.number, m.waiting) ∷ []
+waiting_lists ds m = device_lists ds ++ (m.number, m.waiting) ∷ []
 
 -- the frame that waits at a place
 abbrev pub waiting_frame_at : List Waiting → ℕ → BaseFrame
@@ -165,8 +166,7 @@ winning_frame c (Some i) ds m = waiting_frame_at (device_at ds i).waiting c.plac
 -- it leaves its list
 abbrev pub devices_without_winner : Contender → Option ℕ → List Device → List Device
 devices_without_winner c None ds = ds
-devices_without_winner c (Some i) ds =
-    slice_set ds i (record (device_at ds i) { waiting = remove (device_at ds i).waiting c.place })
+devices_without_winner c (Some i) ds = with_sent ds i c.place
 
 abbrev pub manager_without_winner : Contender → Option ℕ → Manager → Manager
 manager_without_winner c None m = record m { waiting = remove m.waiting c.place }

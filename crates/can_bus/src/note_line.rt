@@ -2,8 +2,8 @@
 
 ghost use Rattle.std.specs.Prelude.{◌≡◌, ◌++◌, IfOk, OnOk};
 ghost use Rattle.can_bus.specs.Lines.{abort_digits, note_line as line_of_note, kind_text};
-ghost use Rattle.can_frame.specs.TraceLines.{ten_digits};
 
+use can_frame::write_time;
 use co_dict::Abort;
 use co_text::index_digits;
 use node_boot::{Note, NoteKind};
@@ -11,9 +11,6 @@ use std::alloc::{AllocError, Global};
 
 /// The longest line has as many bytes.
 const LONGEST_LINE: usize = 37;
-
-/// A time has as many digits.
-const ZEROS: [u8; 10] = *b"0000000000";
 
 /// The line of a note at a time in microseconds: the time in ten digits, the node, and what is noted of it; it
 /// has no line feed.
@@ -28,16 +25,6 @@ pub(crate) fn note_line(alloc: Global, time: u32, note: &Note) -> Result<Vec<u8>
     out.push(b' ')?;
     write_kind(&mut out, note.kind)?;
     Ok(out)
-}
-
-/// Writes a time in ten digits.
-fn write_time(out: &mut Vec<u8>, alloc: Global, time: u32) -> Result<(), AllocError>
-    ensures { OnOk result (out.new.items ≡ out.old.items ++ ten_digits time) }
-{
-    let digits = time.to_string(alloc)?;
-    out.extend_from_slice(&ZEROS[..ZEROS.len().saturating_sub(digits.len())])?;
-    out.extend_from_slice(digits.as_bytes())?;
-    Ok(())
 }
 
 /// Writes what is noted of a node.

@@ -4,12 +4,12 @@ ghost use Rattle.std.specs.Prelude.{◌≡◌, ◌+◌, ◌-◌, ◌^◌, [], mi
 ghost use Rattle.asking.specs.Asking.{after_ask};
 ghost use Rattle.asking.specs.Record.{BeginsWith};
 ghost use Rattle.co_parts.specs.Contents.{EventsAre, RosterIs};
-ghost use Rattle.co_parts.specs.Images.{IsRoster, IsWithin};
+ghost use Rattle.co_parts.specs.Images.{AreInOrder, IsRoster, IsWithin};
 ghost use Rattle.co_parts.specs.Shared.{shared};
 ghost use Rattle.std.specs.List.{AllByRecursion};
 
-use co_device::Shapes;
 use co_parts::{Part, Read, Roster, Window};
+use device_objects::Shapes;
 use node_boot::Boots;
 use std::alloc::AllocError;
 use std::rc::Rc;
@@ -25,11 +25,12 @@ pub trait Parts: Shapes + Boots {
         ensures kept { (Self.seen self.new).image ≡ (Self.seen self.old).image }
         ensures asked_before { BeginsWith (Self.seen self.new).asked (Self.seen self.old).asked };
 
-    /// The events of window i, or none: each has its time there, and sets no object of a PDO and no value of
-    /// more than 512 bytes.
+    /// The events of window i, or none, by time and then by number: each has its time there, and sets no object of
+    /// a PDO and no value of more than 512 bytes.
     fn events(&mut self, i: u32) -> Result<Option<Rc<Window>>, AllocError>
         ensures value { IfOk result (λ r. (Self.seen self.old).image (Part.Events i) ≡ EventsAre (shared r)) }
         ensures fits { IfOk result (λ r. IfSome (shared r) (AllByRecursion (IsWithin i))) }
+        ensures ordered { IfOk result (λ r. IfSome (shared r) AreInOrder) }
         ensures noted { OnOk result (Self.seen self.new ≡ after_ask (Part.Events i) (Self.seen self.old)) }
         ensures counted { Self.asks self.new ≡ min (Self.asks self.old + 1) (2 ^ 64 - 1) }
         ensures kept { (Self.seen self.new).image ≡ (Self.seen self.old).image }

@@ -5,7 +5,7 @@ ghost use Rattle.asking.specs.Asking.{outcome, turns};
 ghost use Rattle.can_bus.specs.Bus.{instant};
 ghost use Rattle.can_bus.specs.Dues.{IsJustBefore};
 ghost use Rattle.can_bus.specs.Runs.{trace as trace_of};
-ghost use Rattle.co_parts.specs.Images.{IsCoherent};
+ghost use Rattle.co_parts.specs.Images.{IsImage};
 
 use crate::bus_state::BusState;
 use crate::lines::Lines;
@@ -39,7 +39,7 @@ fn run_dues<P: Parts>(
 ) -> Result<(), AllocError>
     requires end { end ≤ END }
     requires before { IsJustBefore 0 bus.old }
-    requires coherent { IsCoherent (P.seen parts.old).image }
+    requires image { IsImage (P.seen parts.old).image }
     ensures told { OnOk result (lines.new ≡ lines.old
         ++ (outcome (turns instant end 0 bus.old) (P.seen parts.old).image).1) }
     ensures kept { (P.seen parts.new).image ≡ (P.seen parts.old).image }
@@ -60,7 +60,7 @@ fn run_dues<P: Parts>(
 #[tactic(auto, using(crate::proofs::RunLemmas::run_tells, crate::proofs::DueRunLemmas::before_first))]
 pub fn trace<P: Parts>(alloc: Global, parts: &mut P, horizon: u32) -> Result<Lines, AllocError>
     requires soon { horizon < END }
-    requires coherent { IsCoherent (P.seen parts.old).image }
+    requires image { IsImage (P.seen parts.old).image }
     ensures lines { IfOk result (λ lines. lines ≡ trace_of (P.seen parts.old).image horizon) }
     ensures kept { (P.seen parts.new).image ≡ (P.seen parts.old).image }
 {

@@ -11,10 +11,10 @@ use Rattle.std.proofs.lemmas.Fmt.{decimal_is_IsNumeral, length-decimal-le}
 use Rattle.std.proofs.lemmas.List.{length-append, length-replicate, take-replicate}
 use Rattle.std.proofs.lemmas.Option.{same_Some}
 use Rattle.co_base.specs.Bytes.{AreBytes}
-use Rattle.co_text.specs.Digits.{byte_digits, digits_number}
+use Rattle.co_text.specs.Digits.{byte_digits, digits_number, identifier_digits}
 use Rattle.co_text.proofs.DigitLemmas.{byte_again, digit_value-glyph}
 use Rattle.can_frame.specs.Frames.{BaseFrame, IsFrame}
-use Rattle.can_frame.specs.TraceLines.{byte_count, frame_line, identifier_digits, spaced_bytes, ten_digits}
+use Rattle.can_frame.specs.TraceLines.{byte_count, frame_line, spaced_bytes, ten_digits}
 
 -- digits behind as many of ten zeros as they lack
 pub zeros_and_digits : (out digits : List ℕ) (len : ℕ) → len ≡ length digits

@@ -1,18 +1,14 @@
 -- The lines of a trace (this profile's own).
-use Rattle.std.specs.Prelude.{ℕ, ◌/◌, ◌%◌, ◌-◌, true, List, [], ◌∷◌, ◌++◌, length, replicate, codes, decimal}
+use Rattle.std.specs.Prelude.{ℕ, ◌-◌, true, List, ◌∷◌, ◌++◌, length, replicate, codes, decimal}
 use Rattle.std.specs.Fmt.{digit_glyph}
 use Rattle.std.specs.List.{flat_map}
 use Rattle.std.specs.Str.{byte}
-use Rattle.co_text.specs.Digits.{byte_digits}
+use Rattle.co_text.specs.Digits.{byte_digits, identifier_digits}
 use Rattle.can_frame.specs.Frames.{BaseFrame}
 
 -- a number in ten decimal digits: 0 for each that it lacks
 abbrev pub ten_digits : ℕ → List ℕ
 ten_digits n = replicate (10 - length (decimal n)) (byte "0") ++ decimal n
-
--- an identifier in three upper-case hexadecimal digits
-abbrev pub identifier_digits : ℕ → List ℕ
-identifier_digits id = digit_glyph true (id / 256) ∷ digit_glyph true (id / 16 % 16) ∷ digit_glyph true (id % 16) ∷ []
 
 -- a number of bytes, at most 8, in brackets
 abbrev pub byte_count : ℕ → List ℕ

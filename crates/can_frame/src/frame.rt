@@ -73,6 +73,16 @@ impl Frame {
         &self.bytes[..usize::from(self.count)]
     }
 
+    /// The bytes of a frame that has eight of them.
+    pub fn eight(&self) -> [u8; 8]
+        requires { length self.now.bytes ≡ 8 }
+        ensures { result ≡ self.now.bytes }
+    {
+        let mut copy = [0; LONGEST];
+        copy.copy_from_slice(self.bytes());
+        copy
+    }
+
     /// Whether two frames have the same identifier and the same bytes.
     pub fn same(&self, other: &Frame) -> bool
         ensures { IsTrue result ↔ (self.now ≡ other.now) }

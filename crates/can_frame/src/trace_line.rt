@@ -1,9 +1,9 @@
 //! The line of a frame in a trace.
-ghost use Rattle.std.specs.Prelude.{◌≡◌, ◌<◌, ◌≤◌, ◌++◌, ◌∷◌, [], length, IfOk, OnOk};
-ghost use Rattle.can_frame.specs.TraceLines.{byte_count, frame_line, identifier_digits, spaced_bytes, ten_digits};
+ghost use Rattle.std.specs.Prelude.{◌≡◌, ◌≤◌, ◌++◌, ◌∷◌, [], length, IfOk, OnOk};
+ghost use Rattle.can_frame.specs.TraceLines.{byte_count, frame_line, spaced_bytes, ten_digits};
 
 use crate::frame::Frame;
-use co_text::{byte_digits, upper_digit};
+use co_text::{byte_digits, identifier_digits, upper_digit};
 use std::alloc::{AllocError, Global};
 
 /// That of a frame of 8 bytes has as many bytes.
@@ -26,25 +26,13 @@ pub fn line(alloc: Global, time: u32, frame: &Frame) -> Result<Vec<u8>, AllocErr
 }
 
 /// Writes a time in ten digits.
-fn write_time(out: &mut Vec<u8>, alloc: Global, time: u32) -> Result<(), AllocError>
+pub fn write_time(out: &mut Vec<u8>, alloc: Global, time: u32) -> Result<(), AllocError>
     ensures { OnOk result (out.new.items ≡ out.old.items ++ ten_digits time) }
 {
     let digits = time.to_string(alloc)?;
     out.extend_from_slice(&ZEROS[..ZEROS.len().saturating_sub(digits.len())])?;
     out.extend_from_slice(digits.as_bytes())?;
     Ok(())
-}
-
-/// An identifier as three upper-case hexadecimal digits.
-fn identifier_digits(id: u16) -> [u8; 3]
-    requires { id < 0x800 }
-    ensures { result ≡ identifier_digits id }
-{
-    [
-        upper_digit((id / 256) as u8),
-        upper_digit((id / 16 % 16) as u8),
-        upper_digit((id % 16) as u8),
-    ]
 }
 
 /// A byte as a space and two digits.

@@ -1,10 +1,11 @@
 //! Runs the networks that its input lays out from due moment to due moment, and prints the runs.
 //!
 //! A line is an edit of the project, as a session takes it, or `run`: a run to the horizon; or `reads`: a run
-//! to the horizon and what it reads; or `new`, for the first project. Prints each line but those of data sheets, and
-//! of a run the number of its turns and of the lines that it told, whether a copy of the bus that was taken halfway
-//! was equal then, was left behind by the rest of the run, and came to the same by a run of its own, and the first
-//! moments; of what is read the number of calls that asked, of readings and of names, and the names in order.
+//! to the horizon and what it reads; or `diag`: all that is wrong with the project; or `new`, for the first project.
+//! Prints each line but those of data sheets, and of a run the number of its turns and of the lines that it told,
+//! whether a copy of the bus that was taken halfway was equal then, was left behind by the rest of the run, and came to
+//! the same by a run of its own, and the first moments; of what is read the number of calls that asked, of readings
+//! and of names, and the names in order; and the line of each diagnostic.
 #![tactic(auto)]
 
 mod block;
@@ -12,6 +13,7 @@ mod layout;
 mod outcome;
 mod record;
 mod run;
+mod wrong;
 
 use anyhow::Result;
 use layout::Layout;
@@ -19,6 +21,7 @@ use record::read_project;
 use run::run_project;
 use std::alloc::Global;
 use std::io::Write;
+use wrong::show_wrong;
 
 /// Runs the network that is laid out, and shows the run.
 fn show_run<W: Write>(alloc: Global, out: &mut W, layout: &Layout) -> Result<()> {
@@ -39,6 +42,8 @@ fn obey<W: Write>(alloc: Global, out: &mut W, layout: &mut Layout, line: &str) -
         show_run(alloc, out, layout)
     } else if line == "reads" {
         show_reads(alloc, out, layout)
+    } else if line == "diag" {
+        show_wrong(alloc, out, layout.project())
     } else if line == "new" {
         *layout = Layout::new(alloc);
         Ok(())

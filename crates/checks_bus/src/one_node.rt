@@ -1,15 +1,15 @@
 //! The parts of nodes that are all alike.
 
-ghost use Rattle.std.specs.Prelude.{◌≡◌, IfOk, IfSome, option_and_then, slice_get};
-ghost use Rattle.co_parts.specs.Images.{IsBootWrite};
+ghost use Rattle.std.specs.Prelude.{◌≡◌, ◌<◌, IfOk, IfSome, option_and_then, slice_get};
+ghost use Rattle.co_parts.specs.Images.{greatest_place, IsBootWrite};
 ghost use Rattle.co_parts.specs.Shared.{shared};
 ghost use Rattle.checks_bus.specs.Alike.{fitting};
 
 use asking::Asked;
-use co_device::Shapes;
 use co_dict::{Dict, Shape};
 use co_parts::{Identity, Part, PartContent, Read};
 use concise_dcf::Write;
+use device_objects::Shapes;
 use node_boot::Boots;
 use std::alloc::{AllocError, Global};
 use std::rc::Rc;
@@ -34,13 +34,18 @@ fn pointer<T: Drop>(part: &Rc<T>) -> Result<Option<Rc<T>>, AllocError>
     Ok(Some(copy))
 }
 
-/// The write at a place, if it is there and has 1 to 512 bytes.
+/// The greatest number of a part, which no write has.
+const GREATEST_PLACE: u32 = 4_294_967_295;
+
+/// The write at a place, if it is there, has 1 to 512 bytes, and its number isn't the greatest.
 fn write_at(alloc: Global, writes: &[Write], place: u32) -> Result<Option<Rc<Write>>, AllocError>
-    ensures write { IfOk result (λ write. shared write ≡ option_and_then fitting (slice_get writes.now place)) }
+    ensures write { IfOk result (λ write. shared write ≡ option_and_then (fitting place) (slice_get writes.now place)) }
     ensures fits { IfOk result (λ write. IfSome (shared write) IsBootWrite) }
+    ensures last { IfOk result (λ write. IfSome (shared write) (λ one. place < greatest_place)) }
 {
     match writes.get(place as usize) {
-        Some(write) if write.bytes.len() >= 1 && write.bytes.len() <= 512 => {
+        Some(write)
+            if place < GREATEST_PLACE && write.bytes.len() >= 1 && write.bytes.len() <= 512 => {
             let copy = write.clone()?;
             Ok(Some(Rc::new(alloc, copy)?))
         }

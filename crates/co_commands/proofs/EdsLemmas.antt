@@ -1,10 +1,9 @@
 -- An EDS from handed lines: the lines of its text, and the device that it is the text of.
 use Rattle.std.proofs.Common.{◌≡◌, ℕ, zero, suc, Bool, true, false, ◌==◌, ◌-◌, List, [], ◌∷◌, ◌++◌, map, take, length}
-use Rattle.std.proofs.Common.{refl, ap, ◌∙◌, append_assoc, Err, Ok, nat_lt, if◌then◌else◌, arith}
+use Rattle.std.proofs.Common.{refl, ap, ◌∙◌, append_assoc, Err, Ok, nat_lt, if◌then◌else◌}
 use Rattle.std.specs.Bool.{OnFalse}
 use Rattle.std.specs.List.{list_any, suffix_len, onto_first}
-use Rattle.std.proofs.lemmas.Bool.{or_parts, ltb-false}
-use Rattle.std.proofs.lemmas.Bool.Decides.{nat_tests}
+use Rattle.std.proofs.lemmas.Bool.{or_from, or_parts, ltb-false}
 use Rattle.std.proofs.lemmas.List.{length-map}
 use Rattle.std.proofs.lemmas.List.Folds.{list_any-append}
 use Rattle.co_text.specs.Blanks.{trim_end}
@@ -19,7 +18,7 @@ use Rattle.co_edits.specs.declared.fault.EditFault.TheVariants.{Limit}
 use Rattle.co_edits.specs.declared.edit.Edit.TheVariants.{Eds}
 use Rattle.co_edits.specs.Faults.{is_memory, device_verdict}
 use Rattle.co_edits.specs.Forms.{is_name}
-use Rattle.co_edits.specs.Eds.{text_line, text_of, is_bad_byte, has_bad_line, has_long_line, has_too_many_entries}
+use Rattle.co_edits.specs.Eds.{text_line, text_of, is_bad_in_line, has_bad_line, has_long_line, has_too_many_entries}
 use Rattle.co_edits.specs.Eds.{most_bytes, most_lines, eds_edit, IsEds}
 use Rattle.co_commands.proofs.TextLemmas.{trim_end_again}
 
@@ -40,20 +39,20 @@ none_taken p (suc n) [] h = h
 none_taken p (suc n) (b ∷ bs) h = let both = or_parts (p b) (list_any p bs) h in rw both.0 (none_taken p n bs both.1)
 
 -- a line without bad bytes has none without its CRs
-good_kept : (line : List ℕ) → list_any is_bad_byte line ≡ false → list_any is_bad_byte (kept line) ≡ false
-good_kept line good = none_taken is_bad_byte (length line - suffix_len is_cr line) line good
+good_kept : (line : List ℕ) → list_any is_bad_in_line line ≡ false → list_any is_bad_in_line (kept line) ≡ false
+good_kept line good = none_taken is_bad_in_line (length line - suffix_len is_cr line) line good
 
 -- a byte that isn't bad is no LF
-no_lf : (b : ℕ) → is_bad_byte b ≡ false → (b == 10) ≡ false
-no_lf b h = grind (arith, nat_tests)
+no_lf : (b : ℕ) → is_bad_in_line b ≡ false → (b == 10) ≡ false
+no_lf b h = (or_parts (ini.is_bad_byte b) (b == 10) h).1
 
 -- a line without bad bytes, ended by LF, is the first line
-first_line : (line rest : List ℕ) → list_any is_bad_byte line ≡ false
+first_line : (line rest : List ℕ) → list_any is_bad_in_line line ≡ false
     → text_lines (line ++ 10 ∷ rest) ≡ line ∷ text_lines rest
 unfolding text_lines
 first_line [] rest h = refl
 first_line (b ∷ line) rest h =
-    let both = or_parts (is_bad_byte b) (list_any is_bad_byte line) h in
+    let both = or_parts (is_bad_in_line b) (list_any is_bad_in_line line) h in
     rw (no_lf b both.0) (ap (onto_first b) (first_line line rest both.1))
 
 -- the lines of the text are those that were handed over, without the CRs at their ends
@@ -61,7 +60,7 @@ lines_again : (lines : List (List ℕ)) → has_bad_line lines ≡ false → tex
 unfolding text_lines
 lines_again [] h = refl
 lines_again (line ∷ lines) h =
-    let both = or_parts (list_any is_bad_byte line) (has_bad_line lines) h in
+    let both = or_parts (list_any is_bad_in_line line) (has_bad_line lines) h in
     ap text_lines (append_assoc (kept line) (10 ∷ []) (text_of lines))
     ∙ first_line (kept line) (text_of lines) (good_kept line both.0)
     ∙ ap (λ ls. kept line ∷ ls) (lines_again lines both.1)
@@ -79,26 +78,26 @@ long_again (line ∷ lines) = rw (trim_end_again is_cr line, long_again lines) r
 -- ---- bad bytes
 
 -- a byte that a text may not have is bad in a line
-good_byte : (b : ℕ) → is_bad_byte b ≡ false → ini.is_bad_byte b ≡ false
-good_byte b h = grind (arith, nat_tests)
+good_byte : (b : ℕ) → is_bad_in_line b ≡ false → ini.is_bad_byte b ≡ false
+good_byte b h = (or_parts (ini.is_bad_byte b) (b == 10) h).0
 
-good_bytes : (line : List ℕ) → list_any is_bad_byte line ≡ false → list_any ini.is_bad_byte line ≡ false
+good_bytes : (line : List ℕ) → list_any is_bad_in_line line ≡ false → list_any ini.is_bad_byte line ≡ false
 good_bytes [] h = refl
-good_bytes (b ∷ line) h = let both = or_parts (is_bad_byte b) (list_any is_bad_byte line) h
+good_bytes (b ∷ line) h = let both = or_parts (is_bad_in_line b) (list_any is_bad_in_line line) h
     in rw (good_byte b both.0) (good_bytes line both.1)
 
 -- a text has no bad byte where its lines have none
 good_text : (lines : List (List ℕ)) → has_bad_line lines ≡ false → ini.has_bad_byte (text_of lines) ≡ false
 good_text [] h = refl
 good_text (line ∷ lines) h =
-    let both = or_parts (list_any is_bad_byte line) (has_bad_line lines) h in
+    let both = or_parts (list_any is_bad_in_line line) (has_bad_line lines) h in
     list_any-append ini.is_bad_byte (text_line line) (text_of lines)
     ∙ rw (list_any-append ini.is_bad_byte (kept line) (10 ∷ []), good_bytes (kept line) (good_kept line both.0))
     (good_text lines both.1)
 
 -- a byte of a text but LF is good in a line
-good_in_line : (b : ℕ) → ini.is_bad_byte b ≡ false → (b == 10) ≡ false → is_bad_byte b ≡ false
-good_in_line b h other = grind (arith, nat_tests)
+good_in_line : (b : ℕ) → ini.is_bad_byte b ≡ false → (b == 10) ≡ false → is_bad_in_line b ≡ false
+good_in_line b h other = or_from (ini.is_bad_byte b) (b == 10) h other
 
 -- the lines of a text have no bad byte where it has none
 pub good_lines : (text : List ℕ) → ini.has_bad_byte text ≡ false → has_bad_line (text_lines text) ≡ false

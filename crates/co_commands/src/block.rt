@@ -1,22 +1,20 @@
 //! The lines of an EDS.
 ghost use Rattle.std.specs.Prelude.{◌≡◌, IfOk};
 ghost use Rattle.std.specs.List.{list_any};
-ghost use Rattle.ini_text.specs.Text.{is_long_line};
 ghost use Rattle.co_base.specs.Gives.{Gives};
 ghost use Rattle.eds_device.specs.Faults.{device_of};
 ghost use Rattle.co_edits.specs.Faults.{is_memory, device_verdict};
-ghost use Rattle.co_edits.specs.Eds.{lines_of, text_of, is_bad_byte, has_bad_line, has_long_line};
+ghost use Rattle.co_edits.specs.Eds.{block_lines, text_of, is_bad_in_line, has_bad_line, has_long_line};
 
 use co_edits::EditFault;
 use co_text::without_crs;
 use eds_device::Device;
+use ini_text::{is_bad_byte, is_long_line};
 use std::alloc::{AllocError, Global};
-
-const MAX_LINE: usize = 4096;
 
 /// The text of the lines.
 pub(crate) fn text_of(alloc: Global, lines: &[Vec<u8>]) -> Result<Vec<u8>, AllocError>
-    ensures { IfOk result (λ text. text.items ≡ text_of (lines_of lines.now)) }
+    ensures { IfOk result (λ text. text.items ≡ text_of (block_lines lines.now)) }
 {
     let mut text = Vec::new(alloc);
     for line in lines {
@@ -26,15 +24,9 @@ pub(crate) fn text_of(alloc: Global, lines: &[Vec<u8>]) -> Result<Vec<u8>, Alloc
     Ok(text)
 }
 
-fn is_long_line(line: &[u8]) -> bool
-    ensures { result ≡ is_long_line line.now }
-{
-    without_crs(line).len() > MAX_LINE
-}
-
 /// Whether a line has over 4,096 bytes, the CRs at its end not counted.
 pub(crate) fn has_long_line(lines: &[Vec<u8>]) -> bool
-    ensures { result ≡ has_long_line (lines_of lines.now) }
+    ensures { result ≡ has_long_line (block_lines lines.now) }
 {
     for line in lines {
         if is_long_line(line) {
@@ -44,21 +36,21 @@ pub(crate) fn has_long_line(lines: &[Vec<u8>]) -> bool
     false
 }
 
-fn is_bad_byte(byte: u8) -> bool
-    ensures { result ≡ is_bad_byte byte }
+fn is_bad_in_line(byte: u8) -> bool
+    ensures { result ≡ is_bad_in_line byte }
 {
-    byte < b' ' && !(byte == b'\t' || byte == b'\r')
+    is_bad_byte(byte) || byte == b'\n'
 }
 
 fn has_bad_byte(line: &[u8]) -> bool
-    ensures { result ≡ list_any is_bad_byte line.now }
+    ensures { result ≡ list_any is_bad_in_line line.now }
 {
-    line.iter().any(|b| is_bad_byte(*b))
+    line.iter().any(|b| is_bad_in_line(*b))
 }
 
 /// Whether a line has a byte that no line of an EDS may have.
 pub(crate) fn has_bad_line(lines: &[Vec<u8>]) -> bool
-    ensures { result ≡ has_bad_line (lines_of lines.now) }
+    ensures { result ≡ has_bad_line (block_lines lines.now) }
 {
     for line in lines {
         if has_bad_byte(line) {

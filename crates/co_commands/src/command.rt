@@ -2,7 +2,7 @@
 ghost use Rattle.std.specs.Prelude.{◌≡◌};
 ghost use Rattle.co_base.specs.Gives.{Gives};
 ghost use Rattle.co_edits.specs.Faults.{is_memory};
-ghost use Rattle.co_edits.specs.Eds.{lines_of, eds_edit};
+ghost use Rattle.co_edits.specs.Eds.{block_lines, eds_edit};
 ghost use Rattle.co_edits.specs.Edits.{IsEdit};
 
 use crate::block::{check, has_bad_line, has_long_line, text_of};
@@ -42,7 +42,7 @@ impl Command {
     /// over 4,096 entries. Memory can come in place of each.
     #[tactic(auto, unfolding(co_edits::specs::Eds::eds_edit))]
     pub fn eds(alloc: Global, name: &[u8], lines: &[Vec<u8>]) -> Result<Command, EditFault>
-        ensures { Gives is_memory (λ c. c) result (eds_edit name.now (lines_of lines.now)) }
+        ensures { Gives is_memory (λ c. c) result (eds_edit name.now (block_lines lines.now)) }
     {
         if !is_name(name) {
             return Err(EditFault::Syntax);

@@ -24,9 +24,10 @@ use Rattle.co_parts.specs.declared.part.Part.{Part}
 use Rattle.co_parts.specs.declared.part.Part.TheVariants as part
 use Rattle.co_parts.specs.declared.roster.Roster.{Roster}
 use Rattle.co_depend.specs.Held.{held_of, shapes_held, with_held, AllHeld, Held, Windows}
-use Rattle.co_depend.specs.Image.{defaults_of_node, identity_of_node, image_of, roster_of_project, shape_of_node}
+use Rattle.project_plan.specs.Events.{shape_of_node, Shapes}
+use Rattle.co_depend.specs.Image.{defaults_of_node, identity_of_node, image_of, roster_of_project}
 use Rattle.co_depend.specs.Image.{window_steps, write_of_node}
-use Rattle.co_depend.specs.Steps.{steps_in, unless_none, Shapes}
+use Rattle.co_depend.specs.Steps.{steps_in, unless_none}
 use Rattle.co_depend.specs.Supply.{image_held}
 
 -- the parts of a node with a plan and a device

@@ -1,4 +1,5 @@
 pub mod CoherentLemmas
+pub mod CountLemmas
 pub mod HeldLemmas
 pub mod PartsLemmas
 pub mod PointerLemmas

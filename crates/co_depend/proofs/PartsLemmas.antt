@@ -13,7 +13,8 @@ use Rattle.co_project.specs.Tables.{node_at, text_at}
 use Rattle.co_project.proofs.SoundLemmas.{nodes_have_texts}
 use Rattle.co_parts.specs.Contents.{BootIs, DefaultsAre, ExpectIs, ShapeIs}
 use Rattle.co_parts.specs.declared.identity.Identity.{Identity}
-use Rattle.co_depend.specs.Image.{defaults_of_node, identity_of_node, shape_of_node, write_of_node}
+use Rattle.project_plan.specs.Events.{shape_of_node}
+use Rattle.co_depend.specs.Image.{defaults_of_node, identity_of_node, write_of_node}
 use Rattle.co_depend.specs.Parts.{HasNoParts, HasParts}
 
 module _ (p : Project) (id : ℕ) where

@@ -1,6 +1,6 @@
 -- Lists of pointers, and what lies behind them.
 use Rattle.std.proofs.Common.{◌≡◌, ℕ, zero, suc, ◌<◌, ◌≤◌, false, length, arith, List, [], ◌∷◌, Result, Ok, Err, Option}
-use Rattle.std.proofs.Common.{Some, None, IfOk, IfSome, All, option_map, sym, ap, subst, ◌∙◌, slice_get}
+use Rattle.std.proofs.Common.{refl, Some, None, IfOk, IfSome, All, option_map, sym, ap, subst, ◌∙◌, slice_get}
 use Rattle.std.proofs.lemmas.List.Elements.{All-head, All-tail}
 use Rattle.std.proofs.lemmas.Option.{slice_get-get_or, slice_get-map, slice_get_past}
 use Rattle.std.specs.Prelude.{get_or, nat_lt}
@@ -38,3 +38,22 @@ copied_fits P (Err e) x is p = tt
 -- what holds at a place holds of the value there
 pub there_fits : {X : Type 0} (P : X → Type 0) (xs : List X) (k : ℕ) (x : X) → slice_get xs k ≡ Some x → All P xs → P x
 there_fits P xs k x is all = subst (λ o. IfSome o P) is (all_at P xs k all)
+
+-- where a value is, the place lies in the list
+there_within : {X : Type 0} (xs : List X) (k : ℕ) (x : X) → slice_get xs k ≡ Some x → k < length xs
+there_within [] k x is = cc
+there_within (y ∷ xs) zero x is = omega arith
+there_within (y ∷ xs) (suc k) x is = let rest = there_within xs k x is in omega (arith, rest)
+
+-- so it is below what the list's length is at most
+pub there_below : {X : Type 0} (xs : List X) (k most : ℕ) (x : X) → slice_get xs k ≡ Some x → length xs ≤ most
+    → k < most
+there_below xs k most x is few = let within = there_within xs k x is in omega (arith, within, few)
+
+pub place_below : {X : Type 0} (xs : List X) (k most : ℕ) → length xs ≤ most
+    → IfSome (slice_get xs k) (λ x. k < most)
+place_below {X = X} xs k most few = by (slice_get xs k) refl
+  where
+    by : (o : Option X) → slice_get xs k ≡ o → IfSome o (λ x. k < most)
+    by None is = tt
+    by (Some x) is = there_below xs k most x is few

@@ -1,10 +1,11 @@
 -- The roster of a project is one.
-use Rattle.std.proofs.Common.{◌≡◌, ℕ, ◌<◌, ◌≤◌, ◌==◌, ◌||◌, ◌⊎◌, Bool, true, false, T, List, [], ◌∷◌, All, refl, arith}
-use Rattle.std.proofs.Common.{inl, inr}
+use Rattle.std.proofs.Common.{◌≡◌, ◌≢◌, ℕ, ◌<◌, ◌≤◌, ◌==◌, ◌||◌, ◌⊎◌, Bool, true, false, T, List, [], ◌∷◌}
+use Rattle.std.proofs.Common.{All, refl, arith, inl, inr}
 use Rattle.std.specs.Prelude.{map, nat_eq}
 use Rattle.std.specs.List.{AllByRecursion}
 use Rattle.std.specs.Ordering.{nat_cmp, is_lt}
 use Rattle.std.specs.FinMap.{entries, entries_sorted, is_sorted}
+use Rattle.std.specs.FinMap.Entries.{below_all}
 use Rattle.std.proofs.lemmas.Bool.{eq-eqb, eqb-true}
 use Rattle.std.proofs.lemmas.Bool.Decides.{nat_tests}
 use Rattle.std.proofs.lemmas.Cmp.{nat_cmp_total}
@@ -19,7 +20,7 @@ use Rattle.co_edits.specs.Forms.{is_sync_period}
 use Rattle.co_project.specs.declared.node.Node.{Node}
 use Rattle.co_project.specs.Project.{Content as Project}
 use Rattle.co_project.specs.Sound.{IsNodeOf, IsSound}
-use Rattle.co_parts.specs.Images.{bit_rates, IsNode, IsRoster, Rise}
+use Rattle.co_parts.specs.Images.{AllDiffer, bit_rates, IsNode, IsRoster}
 use Rattle.co_depend.specs.Image.{roster_of_project}
 
 -- none, or from a millisecond to ten seconds
@@ -45,14 +46,18 @@ numbers_apart p (e ∷ nodes) all =
 less : (a b : ℕ) → T (is_lt (nat_cmp a b)) → a < b
 less a b h = grind (arith, nat_tests)
 
--- the keys of a table rise
-keys_rise : {X : Type 0} (es : List (ℕ × X)) → T (is_sorted nat_cmp es) → Rise (map (λ e. e.0) es)
-keys_rise [] sorted = tt
-keys_rise (e ∷ []) sorted = tt
-keys_rise (e ∷ f ∷ es) sorted = (
-  less e.0 f.0 (first_part _ _ (first_part _ _ sorted)),
-  keys_rise (f ∷ es) (second_part _ _ sorted),
-)
+other : (a b : ℕ) → a < b → a ≢ b
+other a b h same = omega (arith, h, same)
+
+-- the keys of a table differ
+apart : {X : Type 0} (k : ℕ) (es : List (ℕ × X)) → T (below_all nat_cmp k es)
+    → AllByRecursion (λ b. k ≢ b) (map (λ e. e.0) es)
+apart k [] below = tt
+apart k (e ∷ es) below = (other k e.0 (less k e.0 (first_part _ _ below)), apart k es (second_part _ _ below))
+
+keys_differ : {X : Type 0} (es : List (ℕ × X)) → T (is_sorted nat_cmp es) → AllDiffer (map (λ e. e.0) es)
+keys_differ [] sorted = tt
+keys_differ (e ∷ es) sorted = (apart e.0 es (first_part _ _ sorted), keys_differ es (second_part _ _ sorted))
 
 pub is_roster : (p : Project) → IsSound p → IsRoster (roster_of_project p)
 unfolding roster_of_project IsManager
@@ -63,5 +68,5 @@ is_roster p sound = record {
   heartbeat = let most = between 0 65535 p.manager.heartbeat_ms sound.manager.2 in omega (arith, most.1);
   timeout = let range = between 1 65535 p.manager.timeout_ms sound.manager.3 in (range.0, omega (arith, range.1));
   nodes = numbers_apart p (entries p.nodes) (all_entries nat_cmp_total exact_unsigned (IsNodeOf p) p.nodes sound.nodes);
-  rise = keys_rise (entries p.nodes) (entries_sorted p.nodes);
+  differ = keys_differ (entries p.nodes) (entries_sorted p.nodes);
 }

@@ -10,6 +10,7 @@ use Rattle.std.specs.Ordering.{nat_cmp}
 use Rattle.std.proofs.lemmas.List.Elements.{All-append, All-cons, All-nil}
 use Rattle.byteorder.specs.Endian.{little_bytes}
 use Rattle.co_values.specs.declared.form.Width.TheVariants.{Bits16}
+use Rattle.co_fields.specs.CobIds.{no_rtr_bit, off_bit}
 use Rattle.concise_dcf.specs.declared.write.Write.{Write}
 use Rattle.ini_text.specs.Content.{Section}
 use Rattle.co_params.specs.Parameters.{parameter_writes}
@@ -24,7 +25,7 @@ use Rattle.pdo_plan.specs.declared.planned_message.PlannedMessage.{PlannedMessag
 use Rattle.pdo_plan.specs.Mapping.{mapped_bytes}
 use Rattle.pdo_plan.specs.Plan.{clean}
 use Rattle.pdo_links.specs.Writes.{at_number, by_number, cob_write, link_writes, mapped_writes, mapping_writes}
-use Rattle.pdo_links.specs.Writes.{no_rtr_bit, node_writes, off_bit, rpdo_of, rpdo_writes, taken_type, time_write}
+use Rattle.pdo_links.specs.Writes.{node_writes, rpdo_of, rpdo_writes, taken_type, time_write}
 use Rattle.pdo_links.specs.Writes.{tpdo_of, tpdo_writes, write_at}
 use Rattle.project_plan.specs.Network.{plan_of_project, writes_of, Member}
 use Rattle.co_parts.specs.Images.{IsBootWrite}

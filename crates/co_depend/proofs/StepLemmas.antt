@@ -1,14 +1,16 @@
 -- The steps of windows: within their window, in order of time, and of the lengths of their entries' types.
 use Rattle.std.proofs.Common.{◌≡◌, ℕ, ◌+◌, ◌*◌, ◌≤◌, not, Bool, true, false, List, [], ◌∷◌, Option, Some, None, Result}
 use Rattle.std.proofs.Common.{Ok, Err, IfOk, Contains, length, option_map, option_and_then, filter_map, refl, sym, ap}
-use Rattle.std.proofs.Common.{subst, ◌∙◌, arith}
+use Rattle.std.proofs.Common.{subst, ◌∙◌, ◌<◌, ◌⊎◌, inl, inr, arith}
 use Rattle.std.specs.Prelude.{if◌then◌else◌, MatchOption, ◌↔◌}
 use Rattle.std.specs.FinMap.{get}
 use Rattle.std.specs.List.{AllByRecursion, cons_option}
 use Rattle.std.specs.List.Sorted.{IsStrictlySortedBy}
 use Rattle.std.specs.Option.{option_map_or, unwrap_or}
 use Rattle.std.specs.Result.{result_ok}
-use Rattle.std.specs.declared.cmp.Ordering.TheVariants.{Less}
+use Rattle.std.specs.Ordering.{nat_cmp, ordering_then}
+use Rattle.std.specs.declared.cmp.Ordering.{Ordering}
+use Rattle.std.specs.declared.cmp.Ordering.TheVariants.{Less, Equal, Greater}
 use Rattle.std.proofs.lemmas.Bool.Decides.{nat_tests}
 use Rattle.std.proofs.lemmas.List.Elements.{All-contains_itself, recursion_from_All}
 use Rattle.co_base.proofs.EachLemmas.{each_found}
@@ -40,14 +42,14 @@ use Rattle.co_scenario.specs.declared.step.Step.TheVariants as step
 use Rattle.co_scenario.specs.declared.timed_event.TimedEvent.{TimedEvent}
 use Rattle.co_scenario.specs.declared.timed_step.TimedStep.{TimedStep}
 use Rattle.co_parts.specs.Contents.{no_shape, or_else}
-use Rattle.co_parts.specs.Images.{AreInOrder, FitsShape, IsFree, IsWithin}
+use Rattle.co_parts.specs.Images.{AreInOrder, ComesBefore, FitsShape, IsFree, IsWithin}
 use Rattle.co_depend.specs.Held.{shapes_held, AllHeld, Held, IsWindow}
-use Rattle.co_depend.specs.Image.{image_of, shape_of_node, window_steps}
-use Rattle.co_depend.specs.Steps.{IsStepIn, at_moment, bytes_set, set_step, step_of, steps_in, timed_step_of}
-use Rattle.co_depend.specs.Steps.{unless_none, Shapes}
+use Rattle.project_plan.specs.Events.{bytes_set, set_step, shape_of_node, step_of, Shapes}
+use Rattle.co_depend.specs.Image.{image_of, window_steps}
+use Rattle.co_depend.specs.Steps.{IsStepIn, at_moment, steps_in, timed_step_of, unless_none}
 
 -- what holds of each that is picked
-picked : {X Y : Type 0} (f : X → Option Y) (P : X → Type 0) (Q : Y → Type 0)
+pub picked : {X Y : Type 0} (f : X → Option Y) (P : X → Type 0) (Q : Y → Type 0)
     → ((x : X) (y : Y) → P x → f x ≡ Some y → Q y)
     → (xs : List X) → AllByRecursion P xs → AllByRecursion Q (filter_map f xs)
 picked f P Q follows [] all = tt
@@ -115,7 +117,7 @@ module _ (shapes : Shapes) (events : Events) where
 
   Ascend : List TimedStep → Type 0
   Ascend [] = Unit {0}
-  Ascend (a ∷ rest) = AllByRecursion (λ b. a.time ≤ b.time) rest × Ascend rest
+  Ascend (a ∷ rest) = AllByRecursion (ComesBefore a) rest × Ascend rest
 
   in_order : (steps : List TimedStep) → Ascend steps → AreInOrder steps
   unfolding Ascend
@@ -123,8 +125,30 @@ module _ (shapes : Shapes) (events : Events) where
   in_order (a ∷ []) are = tt
   in_order (a ∷ b ∷ rest) are = (are.0.0, in_order (b ∷ rest) are.1)
 
-  not_before : (a b : ℕ × ℕ) → moment_cmp a b ≡ Less → a.0 ≤ b.0
-  not_before a b less = grind (arith, nat_tests)
+  sooner : (a b : ℕ) → nat_cmp a b ≡ Less → a < b
+  sooner a b less = grind (arith, nat_tests)
+
+  at_once : (a b : ℕ) → nat_cmp a b ≡ Equal → a ≡ b
+  at_once a b equal = grind (arith, nat_tests)
+
+  -- by time, and at one time by number
+  by_moment : (a b : ℕ × ℕ) (o : Ordering) → nat_cmp a.0 b.0 ≡ o → ordering_then o (nat_cmp a.1 b.1) ≡ Less
+      → (a.0 < b.0) ⊎ ((a.0 ≡ b.0) × (a.1 < b.1))
+  by_moment a b Less is less = inl (sooner a.0 b.0 is)
+  by_moment a b Equal is less = inr (at_once a.0 b.0 is, sooner a.1 b.1 less)
+  by_moment a b Greater is less = cc
+
+  comes_before : (a b : ℕ × ℕ) → moment_cmp a b ≡ Less → (a.0 < b.0) ⊎ ((a.0 ≡ b.0) × (a.1 < b.1))
+  comes_before a b less = by_moment a b (nat_cmp a.0 b.0) refl less
+
+  -- so do the steps of the moments
+  steps_come : (a b : TimedStep) (m n : ℕ × ℕ) → a.time ≡ m.0 → a.number ≡ m.1 → b.time ≡ n.0 → b.number ≡ n.1
+      → (m.0 < n.0) ⊎ ((m.0 ≡ n.0) × (m.1 < n.1)) → ComesBefore a b
+  steps_come a b m n at by there its (inl before) = inl (omega (arith, at, there, before))
+  steps_come a b m n at by there its (inr same) =
+      let time = same.0 in
+      let number = same.1 in
+      inr (at ∙ time ∙ sym there, omega (arith, by, its, number))
 
   ascend : (moments : List (ℕ × ℕ)) → IsStrictlySortedBy moment_cmp moments
       → Ascend (filter_map (timed_step_of shapes events) moments)
@@ -138,10 +162,11 @@ module _ (shapes : Shapes) (events : Events) where
       by : Ascend rest → (o : Option TimedStep) → timed_step_of shapes events m ≡ o → Ascend (cons_option o rest)
       by are None is = are
       by are (Some s) is =
-          let after : AllByRecursion (λ (b : TimedStep). s.time ≤ b.time) rest =
-          picked (timed_step_of shapes events) (λ n. moment_cmp m n ≡ Less) (λ (b : TimedStep). s.time ≤ b.time)
-          (λ n b less found. let here = (made m s is).time in let there = (made n b found).time
-          in let order = not_before m n less in omega (arith, here, there, order)) moments rises.0 in
+          let after : AllByRecursion (ComesBefore s) rest =
+          picked (timed_step_of shapes events) (λ n. moment_cmp m n ≡ Less) (ComesBefore s)
+          (λ n b less found. let here = made m s is in let there = made n b found
+          in steps_come s b m n here.time here.number there.time there.number (comes_before m n less)) moments rises.0
+          in
           (after, are)
 
   pub steps_in_order : (i : ℕ) → AreInOrder (steps_in shapes events i)

@@ -14,7 +14,7 @@ use Rattle.std.specs.List.{AllByRecursion}
 use Rattle.co_parts.specs.Images.{AreInOrder, IsWithin}
 use Rattle.co_parts.specs.declared.identity.Identity.{Identity}
 use Rattle.co_scenario.specs.declared.timed_step.TimedStep.{TimedStep}
-use Rattle.co_depend.specs.Steps.{Shapes}
+use Rattle.project_plan.specs.Events.{Shapes}
 use Rattle.eds_device.specs.Entries.{defaults_of, shape_of}
 use Rattle.eds_device.specs.Identity.{identity}
 
@@ -45,7 +45,7 @@ shapes_held nodes node = option_map (λ (h : Held). h.shape) (get nodes node)
 abbrev pub Windows : Type 0
 Windows = FinMap nat_cmp (List TimedStep)
 
--- each step of a window has its time there and sets no PDO object, and they are in order of time
+-- each step of a window has its time there and sets no PDO object, and they are in order
 abbrev pub IsWindow : ℕ → List TimedStep → Type 0
 IsWindow i steps = AllByRecursion (IsWithin i) steps × AreInOrder steps
 

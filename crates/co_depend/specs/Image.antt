@@ -2,10 +2,10 @@
 use Rattle.std.specs.Prelude.{ℕ, List, Option, Some, option_map, option_and_then, slice_get}
 use Rattle.std.specs.FinMap.{keys}
 use Rattle.concise_dcf.specs.declared.write.Write.{Write}
-use Rattle.co_dict.specs.Shapes.{Shaped}
 use Rattle.co_dict.specs.Values.{Values}
-use Rattle.eds_device.specs.Entries.{defaults_of, shape_of}
+use Rattle.eds_device.specs.Entries.{defaults_of}
 use Rattle.eds_device.specs.Identity.{identity}
+use Rattle.project_plan.specs.Events.{shape_of_node}
 use Rattle.project_plan.specs.Network.{member_at, writes_of, Member}
 use Rattle.co_project.specs.Project.{Content as Project}
 use Rattle.co_scenario.specs.declared.timed_step.TimedStep.{TimedStep}
@@ -29,10 +29,6 @@ roster_of_project project = record {
 -- the default values of the device of its EDS, at its number
 unfoldable pub defaults_of_node : Project → ℕ → Option Values
 defaults_of_node project node = option_map (λ (m : Member). defaults_of m.sections node) (member_at project node)
-
--- the entries of the device of its EDS, at its number
-unfoldable pub shape_of_node : Project → ℕ → Option Shaped
-shape_of_node project node = option_map (λ (m : Member). shape_of m.sections node) (member_at project node)
 
 -- the device type and the identity of the device of its EDS
 unfoldable pub identity_of_node : Project → ℕ → Option Identity

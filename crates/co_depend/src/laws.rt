@@ -5,15 +5,17 @@ ghost use Rattle.co_project.specs.declared.node.Node.{Node as member};
 ghost use Rattle.co_project.specs.Project.{Content as Project};
 ghost use Rattle.co_project.specs.Sound.{IsSound};
 ghost use Rattle.co_project.specs.Tables.{node_at, text_at};
-ghost use Rattle.co_parts.specs.Images.{IsCoherent};
-ghost use Rattle.co_depend.specs.Image.{image_of, shape_of_node, window_steps};
+ghost use Rattle.co_parts.specs.Images.{IsCoherent, IsImage};
+ghost use Rattle.project_plan.specs.Events.{shape_of_node};
+ghost use Rattle.co_depend.specs.Image.{image_of, window_steps};
 ghost use Rattle.co_scenario.specs.declared.timed_step.TimedStep.{TimedStep};
 ghost use Rattle.co_depend.specs.Steps.{IsStepIn};
 ghost use Rattle.co_depend.specs.Parts.{HasNoParts, HasParts};
 
-/// The image of each project is coherent.
+/// What holds of every image holds of that of each project, and it is coherent.
 pub fn the_image_is_coherent()
-    ensures { (project : Project) → IsSound project → IsCoherent (image_of project) }
+    ensures image { (project : Project) → IsSound project → IsImage (image_of project) }
+    ensures coherent { (project : Project) → IsCoherent (image_of project) }
 {}
 
 /// The steps of a window are what the events of its 10,000 microseconds do, each with the time and the

@@ -1,10 +1,10 @@
 //! The parts of a node.
-ghost use Rattle.std.specs.Prelude.{◌≡◌, IfOk, IfSome, option_copied, slice_get};
+ghost use Rattle.std.specs.Prelude.{◌≡◌, ◌<◌, IfOk, IfSome, option_copied, slice_get};
 ghost use Rattle.std.specs.FinMap as map;
 ghost use Rattle.eds_device.specs.Entries.{defaults_of, shape_of};
 ghost use Rattle.eds_device.specs.Identity.{identity};
 ghost use Rattle.pdo_links.specs.Writes.{node_writes};
-ghost use Rattle.co_parts.specs.Images.{IsBootWrite};
+ghost use Rattle.co_parts.specs.Images.{greatest_place, IsBootWrite};
 ghost use Rattle.co_parts.specs.Shared.{shared};
 
 use crate::made::{make_defaults, make_expect, make_shape, make_writes};
@@ -104,6 +104,7 @@ impl NodeParts {
     pub fn write(&self, place: u32) -> Result<Option<Rc<Write>>, AllocError>
         ensures write { IfOk result (λ write. shared write ≡ slice_get self.now.writes place) }
         ensures fits { IfOk result (λ write. IfSome (shared write) IsBootWrite) }
+        ensures last { IfOk result (λ write. IfSome (shared write) (λ one. place < greatest_place)) }
     {
         self.writes.get(place)
     }

@@ -1,8 +1,9 @@
 //! The parts of nodes by number.
-ghost use Rattle.std.specs.Prelude.{◌≡◌, IfOk, IfSome, OnOk, option_copied, option_map, option_and_then, slice_get};
+ghost use Rattle.std.specs.Prelude.{◌≡◌, ◌<◌, IfOk, IfSome, OnOk, option_copied, option_map, option_and_then};
+ghost use Rattle.std.specs.Prelude.{slice_get};
 ghost use Rattle.std.specs.FinMap as map;
 ghost use Rattle.co_depend.specs.Held.{Held};
-ghost use Rattle.co_parts.specs.Images.{IsBootWrite};
+ghost use Rattle.co_parts.specs.Images.{greatest_place, IsBootWrite};
 ghost use Rattle.co_parts.specs.Shared.{shared};
 
 use crate::node_parts::NodeParts;
@@ -95,6 +96,7 @@ impl NodeTable {
         ensures write { IfOk result (λ write. shared write ≡ option_and_then (λ (h : Held). slice_get h.writes place)
             (map.get self.now id)) }
         ensures fits { IfOk result (λ write. IfSome (shared write) IsBootWrite) }
+        ensures last { IfOk result (λ write. IfSome (shared write) (λ one. place < greatest_place)) }
     {
         match self.get(id) {
             Some(parts) => parts.write(place),

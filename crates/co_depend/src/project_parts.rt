@@ -1,6 +1,6 @@
 //! What hands out the parts of a project.
 ghost use Rattle.std.specs.Prelude.{◌≡◌, [], IfOk};
-ghost use Rattle.co_parts.specs.Images.{IsCoherent};
+ghost use Rattle.co_parts.specs.Images.{IsCoherent, IsImage};
 ghost use Rattle.co_depend.specs.Image.{image_of};
 ghost use Rattle.co_depend.specs.Supply.{seen_of};
 
@@ -12,11 +12,11 @@ use crate::window_table::WindowTable;
 use crate::windows::make_windows;
 use asking::Asked;
 use can_bus::Parts;
-use co_device::Shapes;
 use co_dict::{Dict, Shape};
 use co_parts::{Identity, Part, PartContent, Read, Roster, Window};
 use co_project::Project;
 use concise_dcf::Write;
+use device_objects::Shapes;
 use node_boot::Boots;
 use std::alloc::{AllocError, Global};
 use std::marker::Model;
@@ -70,7 +70,8 @@ impl ProjectParts {
         ensures seen { IfOk result (λ parts. seen_of parts ≡ record { image = image_of project.now; asked = [] }) }
         ensures asks { IfOk result (λ parts. parts.asks ≡ 0) }
 
-        // So it is coherent.
+        // So what holds of every image holds of it, and it is coherent.
+        ensures image { IfOk result (λ parts. IsImage (seen_of parts).image) }
         ensures coherent { IfOk result (λ parts. IsCoherent (seen_of parts).image) }
     {
         project.keeps_to_rules();

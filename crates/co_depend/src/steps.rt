@@ -2,7 +2,8 @@
 ghost use Rattle.std.specs.Prelude.{◌≡◌, ◌≤◌, IfOk, filter_map};
 ghost use Rattle.co_values.specs.Values.{value};
 ghost use Rattle.co_depend.specs.Held.{shapes_held};
-ghost use Rattle.co_depend.specs.Steps.{bytes_set, step_of, steps_in, timed_step_of};
+ghost use Rattle.co_depend.specs.Steps.{steps_in, timed_step_of};
+ghost use Rattle.project_plan.specs.Events.{bytes_set, step_of};
 
 use crate::node_table::NodeTable;
 use co_base::Octets;

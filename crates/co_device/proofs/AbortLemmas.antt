@@ -11,7 +11,7 @@ use Rattle.co_sdo.specs.Server.{AfterRequest, server_answer}
 use Rattle.co_sdo.specs.declared.transfer.Transfer.{Transfer}
 use Rattle.co_sdo.specs.declared.transfer.Transfer.TheVariants.{Idle}
 use Rattle.co_device.specs.Device.{Device, after_request, is_in, after_sdo_request}
-use Rattle.co_device.specs.declared.nmt_state.NmtState.TheVariants.{Stopped}
+use Rattle.co_fields.specs.declared.nmt_state.NmtState.TheVariants.{Stopped}
 
 abort_answered : (shape : Shaped) (values : Values) (transfer : Transfer) (request : List ℕ) → command request ≡ 0x80
     → server_answer shape values transfer request

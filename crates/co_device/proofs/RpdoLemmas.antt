@@ -18,7 +18,7 @@ use Rattle.co_device.specs.Device.{Device, after_own_write, after_write, after_w
 use Rattle.co_device.specs.Device.{is_producer_time, with_emergency, without_error_if}
 use Rattle.co_device.specs.Receiving.{after_mapping, after_entry, after_kept_frame, after_rpdo, after_sync_at}
 use Rattle.co_device.specs.Receiving.{after_receipt}
-use Rattle.co_device.specs.declared.nmt_state.NmtState.TheVariants.{Stopped}
+use Rattle.co_fields.specs.declared.nmt_state.NmtState.TheVariants.{Stopped}
 
 -- ---- as many RPDOs as before
 

@@ -11,6 +11,7 @@ use Rattle.can_frame.specs.declared.purpose.Purpose.TheVariants.{BootUp, Emergen
 use Rattle.can_frame.specs.declared.unwanted.Unwanted.TheVariants.{Emergencies, Sdos, Tpdos}
 use Rattle.can_frame.specs.declared.waiting.Waiting.{Waiting}
 use Rattle.co_base.specs.Ranges.{is_between}
+use Rattle.co_fields.specs.NmtStates.{state_byte}
 use Rattle.co_dict.specs.Restored.{with_restored}
 use Rattle.co_dict.specs.Shapes.{Shaped}
 use Rattle.co_dict.specs.Values.{Values}
@@ -36,8 +37,8 @@ use Rattle.device_pdos.specs.Tpdos.{without_memories, tpdos_after_inhibit, tpdos
 use Rattle.device_pdos.specs.Tpdos.{tpdos_after_write, with_tpdos}
 use Rattle.device_pdos.specs.declared.rpdo_state.RpdoState.{RpdoState}
 use Rattle.device_pdos.specs.declared.tpdo_state.TpdoState.{TpdoState}
-use Rattle.co_device.specs.declared.nmt_state.NmtState.{NmtState}
-use Rattle.co_device.specs.declared.nmt_state.NmtState.TheVariants.{PreOperational, Operational, Stopped}
+use Rattle.co_fields.specs.declared.nmt_state.NmtState.{NmtState}
+use Rattle.co_fields.specs.declared.nmt_state.NmtState.TheVariants.{PreOperational, Operational, Stopped}
 
 -- its values by entry, its heartbeat consumers by sub-index, its PDOs by number; whether a SYNC came in this instant;
 -- the moment of its next heartbeat; the frames that wait; the open transfer of its SDO server
@@ -55,12 +56,6 @@ pub record Device : Type 0 where
   pub heartbeat : Option ℕ
   pub waiting : List Waiting
   pub transfer : Transfer
-
--- the byte by which a heartbeat tells the NMT state
-abbrev pub state_byte : NmtState → ℕ
-state_byte Stopped = 4
-state_byte Operational = 5
-state_byte PreOperational = 127
 
 abbrev pub is_in : NmtState → Device → Bool
 is_in state d = state_byte d.state == state_byte state

@@ -19,7 +19,7 @@ use Rattle.co_scenario.specs.Commands.{command_of}
 use Rattle.device_pdos.specs.Rpdos.{any_has_identifier, mapping_of_rpdo, receipt_of, rpdo_at, with_kept}
 use Rattle.co_device.specs.Device.{Device, after_write, after_error_control, is_addressed, is_error_control, is_in}
 use Rattle.co_device.specs.Device.{nmt_service, after_sdo_request, with_emergency}
-use Rattle.co_device.specs.declared.nmt_state.NmtState.TheVariants.{Operational, Stopped}
+use Rattle.co_fields.specs.declared.nmt_state.NmtState.TheVariants.{Operational, Stopped}
 
 -- ---- a list of steps over one device, each on what the last one left
 

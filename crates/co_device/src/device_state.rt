@@ -11,13 +11,12 @@ ghost use Rattle.co_device.specs.Device.{is_in as is_in_state, next_due, after_p
 ghost use Rattle.co_device.specs.Device.{without_power};
 ghost use Rattle.co_device.specs.Receiving.{after_frame};
 
-use crate::nmt_state::NmtState;
-use crate::shapes::Shapes;
 use can_frame::{Contender, Frame, Pending, Waiting};
 use co_dict::Dict;
+use co_fields::NmtState;
 use co_parts::{END, earlier};
 use co_sdo::transfer::{self, Transfer};
-use device_objects::{Consumer, Learnt, same_consumers};
+use device_objects::{Consumer, Learnt, Shapes, same_consumers};
 use device_pdos::{RpdoState, TpdoState, same_rpdos, same_tpdos};
 use std::alloc::{AllocError, Global};
 use std::marker::Model;

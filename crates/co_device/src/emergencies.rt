@@ -6,8 +6,8 @@ ghost use Rattle.device_objects.specs.Profile.{emergency_frame as frame_of_emerg
 ghost use Rattle.co_device.specs.Device.{with_emergencies, with_emergency};
 
 use crate::device_state::DeviceState;
-use crate::nmt_state::NmtState;
 use can_frame::{Frame, Pending, Purpose};
+use co_fields::NmtState;
 use device_objects::{emergency_frame, error_register};
 use std::alloc::AllocError;
 

@@ -6,12 +6,12 @@ ghost use Rattle.asking.specs.Record.{BeginsWith};
 ghost use Rattle.co_device.specs.Device.{enter_pre_operational, nmt_service, out_of_operational, stop_remote_node};
 
 use crate::device_state::DeviceState;
-use crate::nmt_state::NmtState;
-use crate::shapes::Shapes;
 use can_frame::Unwanted;
+use co_fields::NmtState;
 use co_parts::END;
 use co_scenario::NmtCommand;
 use co_sdo::transfer::Transfer;
+use device_objects::Shapes;
 use device_pdos::{empty_rpdos, forget_tpdos};
 use std::alloc::AllocError;
 

@@ -6,11 +6,10 @@ ghost use Rattle.asking.specs.Record.{BeginsWith};
 ghost use Rattle.co_device.specs.Receiving.{after_frame};
 
 use crate::device_state::DeviceState;
-use crate::shapes::Shapes;
 use can_frame::{Frame, identifiers};
 use co_parts::END;
 use co_scenario::NmtCommand;
-use device_objects::{command, eight, is_addressed, producer_of, sync_identifier};
+use device_objects::{Shapes, command, is_addressed, producer_of, sync_identifier};
 use std::alloc::AllocError;
 
 impl DeviceState {
@@ -46,7 +45,7 @@ impl DeviceState {
             return self.take_sync(t, shapes);
         }
         if frame.id() == identifiers::sdo_request(self.number) && bytes.len() == 8 {
-            return self.take_request(t, &eight(bytes), shapes);
+            return self.take_request(t, &frame.eight(), shapes);
         }
         if let Some(producer) = producer_of(frame) {
             return self.take_error_control(t, producer);

@@ -6,13 +6,13 @@ ghost use Rattle.asking.specs.Record.{BeginsWith};
 ghost use Rattle.co_device.specs.Device.{after_request, answer_frames, after_sdo_request};
 
 use crate::device_state::DeviceState;
-use crate::nmt_state::NmtState;
-use crate::shapes::{Shapes, shape_or, without_entries};
 use can_frame::{Frame, Purpose, identifiers};
 use co_dict::Shape;
+use co_fields::NmtState;
 use co_parts::END;
 use co_sdo::transfer::Transfer;
 use co_sdo::{Step, answered};
+use device_objects::{Shapes, shape_or, without_entries};
 use std::alloc::AllocError;
 use std::mem::replace;
 

@@ -7,13 +7,15 @@ ghost use Rattle.co_device.specs.Device.{after_initialisation, after_power, rese
 ghost use Rattle.co_device.specs.Device.{without_power};
 
 use crate::device_state::DeviceState;
-use crate::nmt_state::NmtState;
-use crate::shapes::{Shapes, shape_or, without_entries};
 use can_frame::{Frame, Pending, Purpose, identifiers};
 use co_dict::{Dict, Shape};
+use co_fields::NmtState;
 use co_parts::END;
 use co_sdo::transfer::Transfer;
-use device_objects::{Learnt, communication_restored, consumers_of, next_heartbeat, values_of};
+use device_objects::{
+    Learnt, Shapes, communication_restored, consumers_of, next_heartbeat, shape_or, values_of,
+    without_entries,
+};
 use device_pdos::{rpdos_of, tpdos_of};
 use std::alloc::AllocError;
 

@@ -10,13 +10,13 @@ ghost use Rattle.co_device.specs.Receiving.{after_mapping, device_after_entries,
 ghost use Rattle.co_device.specs.Receiving.{after_sync_at, after_sync};
 
 use crate::device_state::DeviceState;
-use crate::nmt_state::NmtState;
-use crate::shapes::{Shapes, shape_or, without_entries};
 use can_frame::Frame;
 use co_dict::{Shape, mapped_length, mapped_place};
+use co_fields::NmtState;
 use co_mapping::unpack_entry;
 use co_parts::END;
 use co_pdos::{Configuration, Receipt};
+use device_objects::{Shapes, shape_or, without_entries};
 use device_pdos::keep;
 use std::alloc::AllocError;
 

@@ -4,8 +4,8 @@ ghost use Rattle.std.specs.Prelude.{◌≡◌, ◌<◌, OnOk};
 ghost use Rattle.co_device.specs.Device.{after_consumers, after_heartbeat, after_instant, after_timers, after_tpdos};
 
 use crate::device_state::DeviceState;
-use crate::nmt_state::NmtState;
 use can_frame::{Frame, Purpose, identifiers};
+use co_fields::NmtState;
 use co_parts::END;
 use device_objects::{expire, failures, set_error};
 use device_pdos::{free_tpdos, look_at_tpdos};

@@ -8,11 +8,11 @@ use Rattle.std.proofs.lemmas.Bool.{eqb-true}
 use Rattle.byteorder.specs.Endian.{little_number}
 use Rattle.co_values.specs.declared.form.Width.{Width}
 use Rattle.co_values.specs.declared.form.Width.TheVariants.{Bits32}
-use Rattle.co_values.specs.Types.{form, octets}
+use Rattle.co_values.specs.Types.{octets}
 use Rattle.eds_device.specs.Described.{kind_at}
 use Rattle.eds_device.specs.Places.{pairs_of}
 use Rattle.co_params.proofs.WrittenLemmas.{Contains-filter_map, from_filter_map}
-use Rattle.pdo_stations.specs.Devices.{is_unsigned_form}
+use Rattle.pdo_stations.specs.Devices.{is_unsigned}
 use Rattle.co_project.specs.Project.{Content}
 use Rattle.project_plan.specs.Network.{Member}
 use Rattle.diag_lines.specs.declared.code.Code.TheVariants.{UnfitConsumer}
@@ -85,9 +85,9 @@ consumers_hold p d c =
 pub number_there : (width : Width) (p : Content) (m : Member) (node : ℕ) (place : ℕ × ℕ) (n : ℕ)
     → number_after width p m node place ≡ Some n → Contains (pairs_of m.sections) place
 unfolding number_after
-number_there width p m node place n h = by (is_unsigned_form width (form (kind_at m.sections place))) refl h
+number_there width p m node place n h = by (is_unsigned (kind_at m.sections place) width) refl h
   where
-    by : (b : Bool) → is_unsigned_form width (form (kind_at m.sections place)) ≡ b
+    by : (b : Bool) → is_unsigned (kind_at m.sections place) width ≡ b
         → (if b then option_map (little_number (octets width)) (get (values_after p m node) place) else None) ≡ Some n
         → Contains (pairs_of m.sections) place
     by true is h = unsigned_there m.sections place width is

@@ -6,9 +6,11 @@ use Rattle.std.specs.List.{cons_option, find, flat_map}
 use Rattle.std.specs.Option.{option_map_or, unwrap_or}
 use Rattle.std.proofs.lemmas.Bool.{eq-eqb, eqb-true}
 use Rattle.std.proofs.lemmas.List.Elements.{filter_map-append}
+use Rattle.co_fields.specs.ConsumerHeartbeatTimes.{consumed_node, consumer_time}
 use Rattle.co_values.specs.declared.form.Width.TheVariants.{Bits16, Bits32}
 use Rattle.eds_device.specs.Places.{pairs_of}
 use Rattle.pdo_plan.specs.declared.planned_message.PlannedMessage.{PlannedMessage}
+use Rattle.pdo_links.specs.Writes.{node_writes}
 use Rattle.co_project.specs.Project.{Content}
 use Rattle.project_plan.specs.Network.{Member, member_at, plan_of_project, writes_of}
 use Rattle.diag_lines.specs.declared.code.Code.TheVariants.{UnfitConsumer}
@@ -19,16 +21,18 @@ use Rattle.co_diag.specs.Configured.{consumer_among, consumers_by, identifiers_b
 use Rattle.co_diag.specs.Configured.{unfit_among, unfit_diagnostic}
 use Rattle.co_diag.specs.Found.{diagnostic, identifier_of, identifiers, shared_identifiers, shared_in, unfit_consumer}
 use Rattle.co_diag.specs.Found.{unfit_consumers}
-use Rattle.co_diag.specs.Holds.{consumed_node, consumer_time, is_unfit, producer_time}
+use Rattle.co_diag.specs.Holds.{is_unfit, producer_time}
 use Rattle.co_diag.specs.Values.{members, number_after, values_after}
 use Rattle.diag_lines.proofs.ListLemmas.{Contains-nil, Contains-first, Contains-later, Contains-cases}
+use Rattle.co_diag.proofs.ConfiguredLemmas.{consumer_asked, identifier_asked, number_asked}
 use Rattle.co_diag.proofs.MemberLemmas.{member_found, member_listed}
 
 -- ---- identifiers
 
 pub all_identifiers : (p : Content) → flat_map (identifiers_by (plan_of_project p)) (members p) ≡ identifiers p
 unfolding identifiers identifier_of number_after values_after writes_of
-all_identifiers p = refl
+all_identifiers p = λ i. flat_map (λ (e : ℕ × Member). filter_map (λ place. identifier_asked e.1.sections e.0
+    (node_writes (plan_of_project p) e.1.node.params e.1.sections e.0) place i) (pairs_of e.1.sections)) (members p)
 
 -- ---- times
 
@@ -88,18 +92,32 @@ module _ (node : ℕ) where
     abbrev time_of : ℕ × Member → ℕ
     time_of e = unwrap_or (number_after Bits16 p e.1 e.0 (0x1017, 0)) 0
 
-    time_found : (es : List (ℕ × Member)) → find (λ t. t.0 == node) (flat_map (times_by (plan_of_project p)) es)
-        ≡ option_map (λ e. (e.0, time_of e)) (find is_of es)
+    abbrev times_of : List (ℕ × Member) → List (ℕ × ℕ)
+    times_of es = flat_map (λ e. (e.0, time_of e) ∷ []) es
+
+    times_are : (es : List (ℕ × Member)) → flat_map (times_by (plan_of_project p)) es ≡ times_of es
     unfolding number_after values_after writes_of
-    time_found [] = refl
-    time_found (e ∷ es) = by (e.0 == node) (time_found es)
+    times_are es = λ i. flat_map (λ (e : ℕ × Member). (
+      e.0,
+      unwrap_or (number_asked e.1.sections e.0
+          (node_writes (plan_of_project p) e.1.node.params e.1.sections e.0) Bits16 (0x1017, 0) refl i) 0,
+    ) ∷ []) es
+
+    time_among : (es : List (ℕ × Member)) → find (λ t. t.0 == node) (times_of es)
+        ≡ option_map (λ e. (e.0, time_of e)) (find is_of es)
+    time_among [] = refl
+    time_among (e ∷ es) = by (e.0 == node) (time_among es)
       where
-        by : (t : Bool) → find (λ t. t.0 == node) (flat_map (times_by (plan_of_project p)) es)
+        by : (t : Bool) → find (λ t. t.0 == node) (times_of es)
             ≡ option_map (λ e. (e.0, time_of e)) (find is_of es)
-            → cond t (Some (e.0, time_of e)) (find (λ t. t.0 == node) (flat_map (times_by (plan_of_project p)) es))
+            → cond t (Some (e.0, time_of e)) (find (λ t. t.0 == node) (times_of es))
             ≡ option_map (λ e. (e.0, time_of e)) (cond t (Some e) (find is_of es))
         by true rest = refl
         by false rest = rest
+
+    time_found : (es : List (ℕ × Member)) → find (λ t. t.0 == node) (flat_map (times_by (plan_of_project p)) es)
+        ≡ option_map (λ e. (e.0, time_of e)) (find is_of es)
+    time_found es = ap (find (λ t. t.0 == node)) (times_are es) ∙ time_among es
 
     producer_is : producer_among p.manager (flat_map (times_by (plan_of_project p)) (members p)) node
         ≡ producer_time p node
@@ -166,7 +184,10 @@ module _ (p : Content) where
   of_member : (e : ℕ × Member) → filter_map (unfit_diagnostic p.manager times) (consumers_by (plan_of_project p) e)
       ≡ unfit_consumers p e
   unfolding unfit_consumers values_after writes_of
-  of_member e = picked (consumer_among e.0 e.1.sections (values_after p e.1 e.0)) (unfit_diagnostic p.manager times)
+  of_member e =
+      (λ i. filter_map (unfit_diagnostic p.manager times) (filter_map (λ place. consumer_asked e.1.sections e.0
+      (node_writes (plan_of_project p) e.1.node.params e.1.sections e.0) place i) (pairs_of e.1.sections)))
+      ∙ picked (consumer_among e.0 e.1.sections (values_after p e.1 e.0)) (unfit_diagnostic p.manager times)
       (unfit_consumer p e) (said_is e) (pairs_of e.1.sections)
 
   pub all_consumers : filter_map (unfit_diagnostic p.manager times)

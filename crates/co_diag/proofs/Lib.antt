@@ -13,3 +13,4 @@ pub mod WalkLemmas
 pub mod ConfiguredLemmas
 pub mod CountLemmas
 pub mod ConsumerWalk
+pub mod SetFound

@@ -15,14 +15,13 @@ use Rattle.co_base.proofs.EachLemmas.{all_entries, each_there}
 use Rattle.co_base.proofs.TableLemmas.{alike}
 use Rattle.co_values.specs.declared.form.Width.{Width}
 use Rattle.co_values.specs.declared.data_type.DataType.TheVariants.{NotModelled}
-use Rattle.co_values.specs.Types.{form}
 use Rattle.eds_device.specs.Described.{Described, description_of, description_by, kind_at, unless_empty, value_by}
 use Rattle.eds_device.specs.Described.{value_text}
 use Rattle.eds_device.specs.Origins.{Origin, origin_of}
 use Rattle.eds_device.specs.Places.{pairs_of}
 use Rattle.eds_device.proofs.LawLemmas.{rules_give}
 use Rattle.co_params.proofs.WrittenLemmas.{Contains-filter_map, from_filter_map}
-use Rattle.pdo_stations.specs.Devices.{is_unsigned_form}
+use Rattle.pdo_stations.specs.Devices.{is_unsigned}
 use Rattle.co_project.specs.declared.node.Node.{Node}
 use Rattle.co_project.specs.Project.{Content}
 use Rattle.project_plan.specs.Network.{Member, with_sections, member_at}
@@ -106,13 +105,13 @@ module _ (ss : List Section) (place : ℕ × ℕ) where
       by (Some origin) is h = rules_give ss place.0 place.1 origin is
 
   -- only what is described has a type
-  pub unsigned_there : (width : Width) → is_unsigned_form width (form (kind_at ss place)) ≡ true
+  pub unsigned_there : (width : Width) → is_unsigned (kind_at ss place) width ≡ true
       → Contains (pairs_of ss) place
   unfolding kind_at
   unsigned_there width h = by (description_of ss place.0 place.1) refl h
     where
       by : (o : Option Described) → description_of ss place.0 place.1 ≡ o
-          → is_unsigned_form width (form (option_map_or (λ (d : Described). d.kind) o NotModelled)) ≡ true
+          → is_unsigned (option_map_or (λ (d : Described). d.kind) o NotModelled) width ≡ true
           → Contains (pairs_of ss) place
       by None is h = cc
       by (Some d) is h = described_there d is

@@ -1,12 +1,13 @@
 -- The faults and transmission types of messages are found.
 use Rattle.std.proofs.Common.{◌≡◌, ◌&&◌, ℕ, Bool, true, false, List, filter_map, map, Contains, Option, Some, None}
 use Rattle.std.proofs.Common.{refl, sym, subst}
-use Rattle.std.specs.Prelude.{◌==◌, if◌then◌else◌, nat_le}
+use Rattle.std.specs.Prelude.{◌==◌, if◌then◌else◌}
 use Rattle.std.specs.FinMap.{entries}
 use Rattle.std.specs.List.{flat_map}
 use Rattle.std.proofs.lemmas.Cmp.{nat_list_cmp_total}
 use Rattle.std.proofs.lemmas.Map.Lookups.{exact_bytes}
-use Rattle.co_base.specs.Ranges.{is_between}
+use Rattle.co_fields.specs.TransmissionTypes.{is_on_request, is_synchronous, type_of_byte}
+use Rattle.co_fields.specs.declared.transmission_type.TransmissionType.{TransmissionType}
 use Rattle.co_messages.specs.declared.linked.Linked.{Linked}
 use Rattle.co_params.proofs.WrittenLemmas.{Contains-filter_map, from_filter_map}
 use Rattle.pdo_plan.specs.declared.message_fault.MessageFault.{MessageFault}
@@ -74,17 +75,19 @@ messages_listed p fault name h =
 -- ---- transmission types
 
 -- what is said of a message whose transmission type passes a test
-abbrev typed : Code → (ℕ → Bool) → List ℕ × Linked → Option Diag
-typed code test m = if test m.1.message.transmission then Some (diagnostic code (of.Message m.0)) else None
+abbrev typed : Code → (TransmissionType → Bool) → List ℕ × Linked → Option Diag
+typed code test m =
+    if test (type_of_byte m.1.message.transmission) then Some (diagnostic code (of.Message m.0)) else None
 
-type_by : (p : Content) (code : Code) (test : ℕ → Bool) (d : Diag)
+type_by : (p : Content) (code : Code) (test : TransmissionType → Bool) (d : Diag)
     → Contains (filter_map (typed code test) (entries p.messages)) d
     → (name : List ℕ) × HasType p test name × (diagnostic code (of.Message name) ≡ d)
 type_by p code test d c =
     let one = from_filter_map (typed code test) (entries p.messages) d c in
-    by one.0 one.1 (test one.0.1.message.transmission) refl one.2
+    by one.0 one.1 (test (type_of_byte one.0.1.message.transmission)) refl one.2
   where
-    by : (m : List ℕ × Linked) → Contains (entries p.messages) m → (b : Bool) → test m.1.message.transmission ≡ b
+    by : (m : List ℕ × Linked) → Contains (entries p.messages) m → (b : Bool)
+        → test (type_of_byte m.1.message.transmission) ≡ b
         → (if b then Some (diagnostic code (of.Message m.0)) else None) ≡ Some d
         → (name : List ℕ) × HasType p test name × (diagnostic code (of.Message name) ≡ d)
     by m c true fits h =
@@ -95,7 +98,7 @@ type_by p code test d c =
         )
     by m c false fits h = cc
 
-type_listed : (p : Content) (code : Code) (test : ℕ → Bool) (name : List ℕ) → HasType p test name
+type_listed : (p : Content) (code : Code) (test : TransmissionType → Bool) (name : List ℕ) → HasType p test name
     → Contains (filter_map (typed code test) (entries p.messages)) (diagnostic code (of.Message name))
 type_listed p code test name h =
     let found : typed code test (name, h.linked) ≡ Some (diagnostic code (of.Message name)) = rw h.fits refl in
@@ -105,19 +108,20 @@ type_listed p code test name h =
 pub remote_types_hold : (p : Content) (d : Diag) → Contains (filter_map remote_type (entries p.messages)) d → Holds p d
 unfolding Holds
 remote_types_hold p d c =
-    let one = type_by p RemoteType (is_between 252 253) d c in
+    let one = type_by p RemoteType is_on_request d c in
     subst (λ (x : Diag). HoldsOf p x.code x.subject) one.2 one.1
 
-pub remote_types_listed : (p : Content) (name : List ℕ) → HasType p (is_between 252 253) name
+pub remote_types_listed : (p : Content) (name : List ℕ) → HasType p is_on_request name
     → Contains (filter_map remote_type (entries p.messages)) (diagnostic RemoteType (of.Message name))
-remote_types_listed p name h = type_listed p RemoteType (is_between 252 253) name h
+remote_types_listed p name h = type_listed p RemoteType is_on_request name h
 
 pub no_syncs_hold : (p : Content) (d : Diag) → Contains (filter_map (no_sync p) (entries p.messages)) d → Holds p d
 unfolding Holds
 no_syncs_hold p d c =
-    let one = type_by p NoSync (λ type. nat_le type 240 && p.manager.sync_us == 0) d c in
+    let one = type_by p NoSync (λ type. is_synchronous type && p.manager.sync_us == 0) d c in
     subst (λ (x : Diag). HoldsOf p x.code x.subject) one.2 one.1
 
-pub no_syncs_listed : (p : Content) (name : List ℕ) → HasType p (λ type. nat_le type 240 && p.manager.sync_us == 0) name
+pub no_syncs_listed : (p : Content) (name : List ℕ)
+    → HasType p (λ type. is_synchronous type && p.manager.sync_us == 0) name
     → Contains (filter_map (no_sync p) (entries p.messages)) (diagnostic NoSync (of.Message name))
-no_syncs_listed p name h = type_listed p NoSync (λ type. nat_le type 240 && p.manager.sync_us == 0) name h
+no_syncs_listed p name h = type_listed p NoSync (λ type. is_synchronous type && p.manager.sync_us == 0) name h

@@ -1,20 +1,15 @@
 -- Private: what is kept of each node once it is configured.
 use Rattle.std.specs.Prelude.{ℕ, ◌==◌, ◌&&◌, ◌||◌, not, Bool, true, nat_le, if◌then◌else◌, List, [], ◌∷◌, Option, Some}
 use Rattle.std.specs.Prelude.{None, option_map, option_and_then, filter_map}
-use Rattle.std.specs.FinMap.{get}
+use Rattle.std.specs.FinMap.{from_entries}
 use Rattle.std.specs.List.{find}
 use Rattle.std.specs.Option.{option_map_or, unwrap_or}
-use Rattle.byteorder.specs.Endian.{little_number}
 use Rattle.co_base.specs.Ranges.{is_between}
 use Rattle.ini_text.specs.Content.{Section}
-use Rattle.co_values.specs.declared.form.Width.{Width}
 use Rattle.co_values.specs.declared.form.Width.TheVariants.{Bits16, Bits32}
-use Rattle.co_values.specs.Types.{form, octets}
 use Rattle.co_dict.specs.Values.{Values}
-use Rattle.eds_device.specs.Described.{kind_at}
-use Rattle.eds_device.specs.Entries.{defaults_of}
+use Rattle.eds_device.specs.Entries.{default_at, given_at}
 use Rattle.eds_device.specs.Places.{pairs_of}
-use Rattle.pdo_stations.specs.Devices.{is_unsigned_form}
 use Rattle.pdo_plan.specs.declared.planned_message.PlannedMessage.{PlannedMessage}
 use Rattle.pdo_links.specs.Writes.{node_writes}
 use Rattle.co_edits.specs.declared.manager_settings.ManagerSettings.{ManagerSettings}
@@ -23,20 +18,28 @@ use Rattle.diag_lines.specs.declared.code.Code.TheVariants.{UnfitConsumer}
 use Rattle.co_diag.specs.declared.consumer.HeartbeatConsumer.{HeartbeatConsumer}
 use Rattle.diag_lines.specs.declared.diag.Diag.{Diag}
 use Rattle.diag_lines.specs.declared.subject.Subject.TheVariants as of
-use Rattle.diag_lines.specs.Identifiers.{identifier_in}
-use Rattle.co_diag.specs.Holds.{is_on, consumed_node, consumer_time}
+use Rattle.co_fields.specs.CobIds.{identifier_in}
+use Rattle.co_fields.specs.ConsumerHeartbeatTimes.{consumed_node, consumer_time}
+use Rattle.co_diag.specs.Holds.{is_on}
 use Rattle.co_diag.specs.Found.{diagnostic}
-use Rattle.co_diag.specs.Values.{after_writes}
+use Rattle.co_diag.specs.Values.{after_writes, number_among}
 
--- the values of a node once it is configured by a plan
+-- whether the values of an object's entries are asked for: the COB-IDs of TPDOs (1800h to 19FFh), the heartbeat
+-- consumers (1016h) and the heartbeat time (1017h)
+abbrev pub is_asked : ℕ → Bool
+is_asked index = is_between 0x1800 0x19FF index || is_between 0x1016 0x1017 index
+
+-- the default of an entry, where it is asked for
+abbrev pub asked_default : List Section → ℕ → ℕ × ℕ → Option (List ℕ)
+asked_default ss node place = if is_asked place.0 then default_at ss node place.0 place.1 else None
+
+-- all defaults that are asked for at a node
+unfoldable pub asked_defaults : List Section → ℕ → Values
+asked_defaults ss node = from_entries (given_at (asked_default ss node) (pairs_of ss))
+
+-- the values that are asked for of a node once it is configured by a plan
 abbrev pub values_by : List PlannedMessage → ℕ × Member → Values
-values_by plan e = after_writes (defaults_of e.1.sections e.0) (node_writes plan e.1.node.params e.1.sections e.0)
-
--- the number that an entry has among values, where it is there and unsigned of this width
-abbrev pub number_among : Width → List Section → Values → ℕ × ℕ → Option ℕ
-number_among width ss values place =
-    if is_unsigned_form width (form (kind_at ss place))
-    then option_map (little_number (octets width)) (get values place) else None
+values_by plan e = after_writes (asked_defaults e.1.sections e.0) (node_writes plan e.1.node.params e.1.sections e.0)
 
 -- the identifier with which a TPDO is on
 abbrev pub identifier_among : List Section → Values → ℕ × ℕ → Option ℕ

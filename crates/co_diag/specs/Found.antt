@@ -1,7 +1,7 @@
 -- The diagnostics of a project as a list. Which they are is said by `Holds`: a law says that the list has exactly what
 -- holds, each once, in order.
-use Rattle.std.specs.Prelude.{ℕ, false, ◌==◌, ◌&&◌, not, nat_le, if◌then◌else◌, List, [], ◌++◌, length, map, filter}
-use Rattle.std.specs.Prelude.{filter_map, Option, Some, None, option_map, option_and_then, is_none}
+use Rattle.std.specs.Prelude.{◌≡◌, ℕ, false, ◌==◌, ◌&&◌, not, nat_le, if◌then◌else◌, List, [], ◌++◌, length, map}
+use Rattle.std.specs.Prelude.{filter, filter_map, Contains, Option, Some, None, option_map, option_and_then, is_none}
 use Rattle.std.specs.FinMap.{entries}
 use Rattle.std.specs.List.{flat_map}
 use Rattle.std.specs.Option.{option_map_or}
@@ -11,6 +11,7 @@ use Rattle.ini_text.specs.Content.{content_of}
 use Rattle.co_values.specs.declared.form.Width.TheVariants.{Bits32}
 use Rattle.co_values.specs.Types.{is_modelled}
 use Rattle.co_values.specs.Values.{value}
+use Rattle.co_fields.specs.TransmissionTypes.{is_on_request, is_synchronous, type_of_byte}
 use Rattle.co_dict.specs.declared.entry.Entry.{Entry}
 use Rattle.co_dict.specs.Pdos.{is_restricted}
 use Rattle.eds_device.specs.Described.{default_text}
@@ -34,7 +35,7 @@ use Rattle.diag_lines.specs.declared.subject.Subject.{Subject}
 use Rattle.diag_lines.specs.declared.subject.Subject.TheVariants as of
 use Rattle.diag_lines.specs.declared.diag.Diag.{Diag}
 use Rattle.co_diag.specs.Faults.{parameter_code, message_code}
-use Rattle.diag_lines.specs.Identifiers.{identifier_in}
+use Rattle.co_fields.specs.CobIds.{identifier_in}
 use Rattle.co_diag.specs.Holds.{is_on, is_unfit}
 use Rattle.diag_lines.specs.Order.{diag_cmp}
 use Rattle.diag_lines.specs.Sets.{sorted_set}
@@ -112,12 +113,12 @@ message_faults m = message_diagnostics m.name m.outcome
 
 -- a transmission type that asks for remote frames
 abbrev pub remote_type : List ℕ × Linked → Option Diag
-remote_type m = if is_between 252 253 m.1.message.transmission then Some (diagnostic RemoteType (of.Message m.0))
-    else None
+remote_type m = if is_on_request (type_of_byte m.1.message.transmission)
+    then Some (diagnostic RemoteType (of.Message m.0)) else None
 
 -- a transmission type that waits for a SYNC, where there is none
 abbrev pub no_sync : Content → List ℕ × Linked → Option Diag
-no_sync p m = if nat_le m.1.message.transmission 240 && p.manager.sync_us == 0
+no_sync p m = if is_synchronous (type_of_byte m.1.message.transmission) && p.manager.sync_us == 0
     then Some (diagnostic NoSync (of.Message m.0)) else None
 
 -- ---- events
@@ -156,3 +157,7 @@ diagnostics_found p =
 -- THE DIAGNOSTICS of a project: exactly what holds, each once, in order
 unfoldable pub diagnostics_of : Content → List Diag
 diagnostics_of p = sorted_set diag_cmp (diagnostics_found p)
+
+-- nothing is listed of an event
+abbrev pub IsUnlisted : Content → ℕ → Type 0
+IsUnlisted p number = (d : Diag) → Contains (diagnostics_of p) d → d.subject ≡ of.Event number → ⊥

@@ -1,6 +1,6 @@
 -- What is wrong with a project: one predicate for each code (CiA 301 and 306 say what an entry, a PDO, an identifier
 -- and a heartbeat consumer may be; the codes are this profile's own).
-use Rattle.std.specs.Prelude.{◌≡◌, ◌≤◌, ℕ, ◌/◌, ◌%◌, ◌==◌, ◌&&◌, ◌||◌, not, Bool, true, false, nat_lt, nat_le}
+use Rattle.std.specs.Prelude.{◌≡◌, ◌≤◌, ℕ, ◌==◌, ◌&&◌, ◌||◌, not, Bool, true, false, nat_le}
 use Rattle.std.specs.Prelude.{if◌then◌else◌, List, length, filter, map, Option, Some, None, option_map, Err, Contains}
 use Rattle.std.specs.FinMap.{get}
 use Rattle.std.specs.List.{flat_map}
@@ -10,6 +10,9 @@ use Rattle.ini_text.specs.Content.{content_of}
 use Rattle.co_values.specs.declared.form.Width.TheVariants.{Bits16, Bits32}
 use Rattle.co_values.specs.Types.{is_modelled}
 use Rattle.co_values.specs.Values.{value}
+use Rattle.co_fields.specs.ConsumerHeartbeatTimes.{consumed_node, consumer_time}
+use Rattle.co_fields.specs.TransmissionTypes.{is_on_request, is_synchronous, type_of_byte}
+use Rattle.co_fields.specs.declared.transmission_type.TransmissionType.{TransmissionType}
 use Rattle.co_dict.specs.declared.entry.Entry.{Entry}
 use Rattle.co_dict.specs.Pdos.{is_restricted}
 use Rattle.eds_device.specs.Described.{default_text}
@@ -36,7 +39,7 @@ use Rattle.diag_lines.specs.declared.code.Code.TheVariants.{UnfitConsumer, Skipp
 use Rattle.diag_lines.specs.declared.subject.Subject.{Subject}
 use Rattle.diag_lines.specs.declared.subject.Subject.TheVariants as of
 use Rattle.diag_lines.specs.declared.diag.Diag.{Diag}
-use Rattle.diag_lines.specs.Identifiers.{identifier_in}
+use Rattle.co_fields.specs.CobIds.{identifier_in, is_of_base_frames, is_valid}
 use Rattle.co_diag.specs.Values.{members, number_after}
 
 -- a parameter of a node, its own or one of the EDS, has this fault
@@ -80,14 +83,14 @@ pub record HasMessageFault (p : Content) (fault : MessageFault) (name : List ℕ
   pub has : Contains faults fault
 
 -- a message of a transmission type that passes a test, whether it is clean or not
-pub record HasType (p : Content) (test : ℕ → Bool) (name : List ℕ) : Type 0 where
+pub record HasType (p : Content) (test : TransmissionType → Bool) (name : List ℕ) : Type 0 where
   pub linked : Linked
   pub there : get p.messages name ≡ Some linked
-  pub fits : test linked.message.transmission ≡ true
+  pub fits : test (type_of_byte linked.message.transmission) ≡ true
 
 -- the COB-ID of a PDO (CiA 301): it is on and of 11 bits where bits 31 and 29 are clear
 abbrev pub is_on : ℕ → Bool
-is_on cob = nat_lt cob 0x80000000 && cob / 0x20000000 % 2 == 0
+is_on cob = is_valid cob && is_of_base_frames cob
 
 -- a TPDO of a node that is on with an identifier
 unfoldable pub sends_with : Content → ℕ → ℕ × Member → ℕ × ℕ → Bool
@@ -111,14 +114,7 @@ producer_time p node =
     if node == p.manager.id then Some p.manager.heartbeat_ms
     else option_map (λ m. unwrap_or (number_after Bits16 p m node (0x1017, 0)) 0) (member_at p node)
 
--- a heartbeat consumer (CiA 301, 1016h): bits 16 to 23 name a node, bits 0 to 15 are its time in milliseconds
-abbrev pub consumed_node : ℕ → ℕ
-consumed_node consumer = consumer / 0x10000 % 0x100
-
-abbrev pub consumer_time : ℕ → ℕ
-consumer_time consumer = consumer % 0x10000
-
--- it is on, and no such node is there, or its heartbeat doesn't come within the time
+-- a heartbeat consumer is on, and no such node is there, or its heartbeat doesn't come within the time
 unfoldable pub is_unfit : Content → ℕ → Bool
 is_unfit p consumer =
     not (consumed_node consumer == 0) && not (consumer_time consumer == 0)
@@ -162,8 +158,8 @@ HoldsOf p BadIdentifier (of.Message name) = HasMessageFault p message.BadIdentif
 HoldsOf p NoIdentifier (of.Message name) = HasMessageFault p message.NoIdentifier name
 HoldsOf p ReservedType (of.Message name) = HasMessageFault p message.ReservedType name
 HoldsOf p SharedIdentifier (of.Cob id) = IsShared p id
-HoldsOf p RemoteType (of.Message name) = HasType p (is_between 252 253) name
-HoldsOf p NoSync (of.Message name) = HasType p (λ type. nat_le type 240 && p.manager.sync_us == 0) name
+HoldsOf p RemoteType (of.Message name) = HasType p is_on_request name
+HoldsOf p NoSync (of.Message name) = HasType p (λ type. is_synchronous type && p.manager.sync_us == 0) name
 HoldsOf p UnfitConsumer (of.Node node sub) = HasUnfitConsumer p node sub
 HoldsOf p SkippedLine (of.Eds name line) = SkipsLine p name line
 HoldsOf p code subject = ⊥

@@ -4,6 +4,7 @@ ghost use Rattle.std.specs.List.{find};
 ghost use Rattle.co_diag.specs.Configured.{producer_among, unfit_among, unfit_diagnostic};
 
 use crate::consumer::HeartbeatConsumer;
+use co_fields::ConsumerHeartbeatTime;
 use co_project::Project;
 use diag_lines::{Code, Diag, Subject};
 use std::alloc::AllocError;
@@ -32,13 +33,13 @@ fn producer_time(project: &Project, times: &[(u8, u16)], node: u8) -> Option<u16
 fn is_unfit(project: &Project, times: &[(u8, u16)], consumer: u32) -> bool
     ensures { result ≡ unfit_among project.now.manager times.now consumer }
 {
-    let node = consumer / 0x1_0000 % 0x100;
-    let time = consumer % 0x1_0000;
+    let consumer = ConsumerHeartbeatTime::of(consumer);
+    let (node, time) = (consumer.node(), consumer.time());
     if node == 0 || time == 0 {
         return false;
     }
-    match producer_time(project, times, node as u8) {
-        Some(period) => period == 0 || time <= u32::from(period),
+    match producer_time(project, times, node) {
+        Some(period) => period == 0 || time <= period,
         None => true,
     }
 }

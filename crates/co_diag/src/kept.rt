@@ -10,8 +10,8 @@ use crate::configured::{configured_values, unsigned_16, unsigned_32};
 use crate::consumer::HeartbeatConsumer;
 use crate::devices::device_of;
 use co_dict::Dict;
+use co_fields::{CobId, Identifier};
 use co_project::Node;
-use diag_lines::Identifier;
 use eds_device::Device;
 use pdo_plan::Plan;
 use project_plan::Library;
@@ -35,9 +35,9 @@ fn identifier_among(device: &Device, values: &Dict, index: u16, sub: u8) -> Opti
     if !matches!(index, 0x1800..=0x19FF) || sub != 1 {
         return None;
     }
-    let cob = unsigned_32(device, values, index, sub)?;
-    if cob < 0x8000_0000 && cob / 0x2000_0000 % 2 == 0 {
-        Some(Identifier::of_cob(cob))
+    let cob_id = CobId::of(unsigned_32(device, values, index, sub)?);
+    if cob_id.is_valid() && cob_id.is_of_base_frames() {
+        Some(cob_id.identifier())
     } else {
         None
     }

@@ -6,6 +6,7 @@ ghost use Rattle.diag_lines.specs.declared.subject.Subject.TheVariants as of;
 ghost use Rattle.co_diag.specs.Faults.{message_code};
 ghost use Rattle.co_diag.specs.Found.{diagnostic, message_faults, remote_type, no_sync};
 
+use co_fields::TransmissionType;
 use co_messages::Linked;
 use co_project::Project;
 use diag_lines::{Code, Diag, Name, Subject};
@@ -92,7 +93,7 @@ pub(crate) fn find_message_faults(
 fn remote_type(alloc: Global, name: &[u8], linked: &Linked) -> Result<Option<Diag>, AllocError>
     ensures { IfOk result (λ diag. diag ≡ remote_type (name.now, linked.now)) }
 {
-    if !matches!(linked.message.transmission, 252..=253) {
+    if !TransmissionType::of(linked.message.transmission).is_on_request() {
         return Ok(None);
     }
     let diag = said_of(alloc, Code::RemoteType, name)?;
@@ -125,7 +126,9 @@ fn no_sync(
 ) -> Result<Option<Diag>, AllocError>
     ensures { IfOk result (λ diag. diag ≡ no_sync project.now (name.now, linked.now)) }
 {
-    if linked.message.transmission > 240 || project.manager().sync_us != 0 {
+    if !TransmissionType::of(linked.message.transmission).is_synchronous()
+        || project.manager().sync_us != 0
+    {
         return Ok(None);
     }
     let diag = said_of(alloc, Code::NoSync, name)?;

@@ -5,7 +5,8 @@ ghost use Rattle.co_diag.specs.Counts.{capped, one_more, shared_among};
 ghost use Rattle.co_diag.specs.Found.{shared_in};
 
 use co_dict::is_restricted;
-use diag_lines::{Code, Diag, Identifier, Subject};
+use co_fields::Identifier;
+use diag_lines::{Code, Diag, Subject};
 use std::alloc::AllocError;
 
 /// How often each identifier is had: never, once, or 2 for twice and more.
@@ -52,7 +53,7 @@ fn shared_among(counts: &Counts, identifier: &Identifier) -> Option<Diag>
     }
     Some(Diag {
         code: Code::SharedIdentifier,
-        subject: Subject::Cob(identifier.copy()),
+        subject: Subject::Cob(*identifier),
     })
 }
 

@@ -5,7 +5,7 @@ use Rattle.std.specs.List.{list_any, range_with_len}
 use Rattle.byteorder.specs.Endian.{little_number}
 use Rattle.co_values.specs.declared.form.Form.{Form}
 use Rattle.co_values.specs.declared.form.Form.TheVariants.{Unsigned}
-use Rattle.co_values.specs.declared.form.Width.TheVariants.{Bits8, Bits32}
+use Rattle.co_values.specs.declared.form.Width.TheVariants.{Bits8, Bits16, Bits32}
 use Rattle.co_values.specs.Types.{form}
 use Rattle.co_dict.specs.declared.abort.Abort.{Abort}
 use Rattle.co_dict.specs.Aborts.{unsupported_access, invalid_value, cannot_be_mapped, pdo_length_exceeded}
@@ -19,6 +19,10 @@ use Rattle.co_dict.specs.Values.{Values, number_at}
 abbrev pub is_unsigned8 : Form → Bool
 is_unsigned8 (Unsigned Bits8) = true
 is_unsigned8 other = false
+
+abbrev pub is_unsigned16 : Form → Bool
+is_unsigned16 (Unsigned Bits16) = true
+is_unsigned16 other = false
 
 abbrev pub is_unsigned32 : Form → Bool
 is_unsigned32 (Unsigned Bits32) = true

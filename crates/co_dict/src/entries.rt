@@ -47,7 +47,8 @@ fn put_if(
     value: &Octets,
 ) -> Result<(), AllocError>
     ensures { OnOk result (map.from_entries {R = place_cmp} values.new.entries
-        ≡ (if kept then map.insert (map.from_entries values.old.entries) place value.now else map.from_entries values.old.entries)) }
+        ≡ (if kept then map.insert (map.from_entries values.old.entries) place value.now
+        else map.from_entries values.old.entries)) }
 {
     if kept {
         values.insert(place, value.clone()?)?;

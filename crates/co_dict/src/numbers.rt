@@ -20,14 +20,14 @@ pub(crate) fn number_8(bytes: &[u8]) -> u8
 }
 
 /// The number in the first two bytes.
-pub(crate) fn number_16(bytes: &[u8]) -> u16
+pub fn number_16(bytes: &[u8]) -> u16
     ensures { result ≡ little_number 2 bytes.now }
 {
     LittleEndian::read_u16(&[byte_at(bytes, 0), byte_at(bytes, 1)])
 }
 
 /// The number in the first four bytes.
-pub(crate) fn number_32(bytes: &[u8]) -> u32
+pub fn number_32(bytes: &[u8]) -> u32
     ensures { result ≡ little_number 4 bytes.now }
 {
     LittleEndian::read_u32(&[

@@ -9,7 +9,7 @@ ghost use Rattle.co_dict.specs.Mappings.{direction_of as direction_of_object, du
 ghost use Rattle.co_dict.specs.Mappings.{width_mapped as width_of_mapped, can_be_mapped as can_be_mapped_whole};
 ghost use Rattle.co_dict.specs.Mappings.{mapping_bits, mapping_of};
 ghost use Rattle.co_dict.specs.Checks.{first_refusal};
-ghost use Rattle.co_dict.specs.PdoChecks.{has_type, is_unsigned8, is_unsigned32, is_cob_id, takes_restricted};
+ghost use Rattle.co_dict.specs.PdoChecks.{is_cob_id, takes_restricted};
 ghost use Rattle.co_dict.specs.PdoChecks.{changes_frames, cob_id_lines, has_valid_pdo, is_mapping_enabled};
 ghost use Rattle.co_dict.specs.PdoChecks.{mapping_lines, is_bad_entry, count_lines, mapping_check, new_count_lines};
 
@@ -40,26 +40,6 @@ const MAX_ENTRIES: u8 = 64;
 /// The most bits of a frame.
 const MAX_BITS: u32 = 64;
 
-/// Whether there is such an entry, an UNSIGNED8.
-fn has_unsigned_8(shape: &Shape, index: u16, sub: u8) -> bool
-    ensures { result ≡ has_type is_unsigned8 shape.now (index, sub) }
-{
-    match shape.entry(index, sub) {
-        Some(entry) => matches!(entry.kind, DataType::Unsigned8),
-        None => false,
-    }
-}
-
-/// Whether there is such an entry, an UNSIGNED32.
-fn has_unsigned_32(shape: &Shape, index: u16, sub: u8) -> bool
-    ensures { result ≡ has_type is_unsigned32 shape.now (index, sub) }
-{
-    match shape.entry(index, sub) {
-        Some(entry) => matches!(entry.kind, DataType::Unsigned32),
-        None => false,
-    }
-}
-
 /// Whether a COB-ID is that of a PDO that exists: its bit 31 is clear.
 fn is_valid(cob_id: u32) -> bool
     ensures { result ≡ is_valid cob_id }
@@ -73,7 +53,7 @@ fn is_cob_id(shape: &Shape, index: u16, sub: u8) -> bool
 {
     matches!(index, 0x1400..=0x15FF | 0x1800..=0x19FF)
         && sub == 1
-        && has_unsigned_32(shape, index, sub)
+        && shape.has_unsigned32(index, sub)
 }
 
 /// Whether a COB-ID makes a PDO exist under an identifier that no PDO may have.
@@ -126,14 +106,14 @@ fn has_valid_pdo(shape: &Shape, dict: &Dict, object: u16) -> bool
     ensures { result ≡ has_valid_pdo shape.now dict.now object }
 {
     let communication = object - MAPPING_OFFSET;
-    has_unsigned_32(shape, communication, 1) && is_valid(dict.number_32(communication, 1))
+    shape.has_unsigned32(communication, 1) && is_valid(dict.number_32(communication, 1))
 }
 
 /// Whether the mapping of a mapping object is in force.
 fn is_mapping_enabled(shape: &Shape, dict: &Dict, object: u16) -> bool
     ensures { result ≡ is_mapping_enabled shape.now dict.now object }
 {
-    has_unsigned_8(shape, object, 0) && dict.number_8(object, 0) > 0
+    shape.has_unsigned8(object, 0) && dict.number_8(object, 0) > 0
 }
 
 /// Whether an entry can be written now, where it is one of a mapping object.
@@ -208,7 +188,7 @@ fn can_be_mapped(direction: Direction, shape: &Shape, entry: u32) -> bool
 fn is_bad_entry(shape: &Shape, dict: &Dict, object: u16, sub: u8) -> bool
     ensures { result ≡ is_bad_entry shape.now dict.now object sub }
 {
-    !(has_unsigned_32(shape, object, sub)
+    !(shape.has_unsigned32(object, sub)
         && can_be_mapped(direction_of(object), shape, dict.number_32(object, sub)))
 }
 
@@ -270,7 +250,7 @@ pub(crate) fn check_new_count(
 ) -> Result<(), Abort>
     ensures { result ≡ first_refusal (new_count_lines shape.now dict.now (index, sub) bytes.now) }
 {
-    if is_mapping_object(index) && sub == 0 && has_unsigned_8(shape, index, sub) {
+    if is_mapping_object(index) && sub == 0 && shape.has_unsigned8(index, sub) {
         check_mapping(shape, dict, index, number_8(bytes))
     } else {
         Ok(())

@@ -1,12 +1,10 @@
 -- The EDS that an edit keeps (its text is CiA 306's; limits and faults are this profile's own).
-use Rattle.std.specs.Prelude.{◌≡◌, ◌≤◌, ℕ, Bool, true, ◌||◌, ◌&&◌, not, List, [], ◌∷◌, ◌++◌, map, length, nat_lt, ◌==◌}
+use Rattle.std.specs.Prelude.{◌≡◌, ◌≤◌, ℕ, Bool, true, ◌||◌, not, List, [], ◌∷◌, ◌++◌, map, length, nat_lt, ◌==◌}
 use Rattle.std.specs.Prelude.{Result, Ok, Vec}
 use Rattle.std.specs.List.{flat_map, list_any}
-use Rattle.std.specs.Str.{byte}
-use Rattle.co_text.specs.Blanks.{tab, trim_end}
-use Rattle.co_text.specs.Lines.{line_feed, carriage_return, is_cr}
-use Rattle.co_text.specs.Lines.{lines_of as text_lines}
-use Rattle.ini_text.specs.Text.{is_long_line}
+use Rattle.co_text.specs.Blanks.{trim_end}
+use Rattle.co_text.specs.Lines.{is_cr, line_feed, lines_of}
+use Rattle.ini_text.specs.Text.{is_bad_byte, is_long_line}
 use Rattle.ini_text.specs.Content.{content_of}
 use Rattle.eds_device.specs.Faults.{most_entries, device_of}
 use Rattle.eds_device.specs.Places.{pairs_of}
@@ -19,8 +17,8 @@ use Rattle.co_edits.specs.Forms.{is_name}
 
 module _ {A : Type 0} where
   -- the lines of a block as contracts see them
-  abbrev pub lines_of : List (Vec ℕ A) → List (List ℕ)
-  lines_of lines = map (λ line. line.items) lines
+  abbrev pub block_lines : List (Vec ℕ A) → List (List ℕ)
+  block_lines lines = map (λ line. line.items) lines
 
 -- the most lines of an EDS
 abbrev pub most_lines : ℕ
@@ -38,13 +36,13 @@ text_line line = trim_end is_cr line ++ line_feed ∷ []
 abbrev pub text_of : List (List ℕ) → List ℕ
 text_of lines = flat_map text_line lines
 
--- a byte 00h to 1Fh other than tab and CR, which no line of an EDS may have
-abbrev pub is_bad_byte : ℕ → Bool
-is_bad_byte b = nat_lt b (byte " ") && not (b == tab || b == carriage_return)
+-- a byte that no line of an EDS may have: one that no text may have, or LF
+abbrev pub is_bad_in_line : ℕ → Bool
+is_bad_in_line b = is_bad_byte b || (b == line_feed)
 
 -- some line has a bad byte
 abbrev pub has_bad_line : List (List ℕ) → Bool
-has_bad_line lines = list_any (λ line. list_any is_bad_byte line) lines
+has_bad_line lines = list_any (λ line. list_any is_bad_in_line line) lines
 
 -- some line has over 4,096 bytes, the CRs at its end not counted
 abbrev pub has_long_line : List (List ℕ) → Bool
@@ -71,6 +69,6 @@ eds_edit name lines =
 -- ends, each ended by LF; and it is the text of a device
 pub record IsEds (called text : List ℕ) : Type 0 where
   pub name : is_name called ≡ true
-  pub lines : length (text_lines text) ≤ most_lines
-  pub ended : text_of (text_lines text) ≡ text
+  pub lines : length (lines_of text) ≤ most_lines
+  pub ended : text_of (lines_of text) ≡ text
   pub device : device_of text ≡ Ok (content_of text)

@@ -44,49 +44,25 @@ or_else a (Some b) = b
 
 abbrev pub roster_of : Content → Roster
 roster_of (RosterIs roster) = or_else first_roster roster
-roster_of (DefaultsAre values) = first_roster
-roster_of (ShapeIs shape) = first_roster
-roster_of (ExpectIs identity) = first_roster
-roster_of (BootIs write) = first_roster
-roster_of (EventsAre steps) = first_roster
+roster_of _ = first_roster
 
 abbrev pub values_of : Content → Values
 values_of (DefaultsAre values) = or_else map.empty values
-values_of (RosterIs roster) = map.empty
-values_of (ShapeIs shape) = map.empty
-values_of (ExpectIs identity) = map.empty
-values_of (BootIs write) = map.empty
-values_of (EventsAre steps) = map.empty
+values_of _ = map.empty
 
 abbrev pub shape_of : Content → Shaped
 shape_of (ShapeIs shape) = or_else no_shape shape
-shape_of (RosterIs roster) = no_shape
-shape_of (DefaultsAre values) = no_shape
-shape_of (ExpectIs identity) = no_shape
-shape_of (BootIs write) = no_shape
-shape_of (EventsAre steps) = no_shape
+shape_of _ = no_shape
 
 abbrev pub identity_of : Content → Identity
 identity_of (ExpectIs identity) = or_else no_identity identity
-identity_of (RosterIs roster) = no_identity
-identity_of (DefaultsAre values) = no_identity
-identity_of (ShapeIs shape) = no_identity
-identity_of (BootIs write) = no_identity
-identity_of (EventsAre steps) = no_identity
+identity_of _ = no_identity
 
 -- None is the end of the writes
 abbrev pub write_of : Content → Option Write
 write_of (BootIs write) = write
-write_of (RosterIs roster) = None
-write_of (DefaultsAre values) = None
-write_of (ShapeIs shape) = None
-write_of (ExpectIs identity) = None
-write_of (EventsAre steps) = None
+write_of _ = None
 
 abbrev pub steps_of : Content → List TimedStep
 steps_of (EventsAre steps) = or_else [] steps
-steps_of (RosterIs roster) = []
-steps_of (DefaultsAre values) = []
-steps_of (ShapeIs shape) = []
-steps_of (ExpectIs identity) = []
-steps_of (BootIs write) = []
+steps_of _ = []

@@ -26,11 +26,10 @@ bit_rates = 10 ∷ 20 ∷ 50 ∷ 125 ∷ 250 ∷ 500 ∷ 1000 ∷ []
 abbrev pub IsNode : ℕ → ℕ → Type 0
 IsNode manager node = (1 ≤ node) × (node ≤ 127) × (node ≢ manager)
 
--- numbers rise from one to the next
-abbrev pub Rise : List ℕ → Type 0
-Rise [] = Unit {0}
-Rise (a ∷ []) = Unit {0}
-Rise (a ∷ b ∷ rest) = (a < b) × Rise (b ∷ rest)
+-- numbers differ from one another
+abbrev pub AllDiffer : List ℕ → Type 0
+AllDiffer [] = Unit {0}
+AllDiffer (a ∷ rest) = AllByRecursion (λ b. a ≢ b) rest × AllDiffer rest
 
 -- a roster has a bit rate and numbers of the manager within their limits, and node numbers that differ from one
 -- another and from the manager's
@@ -41,7 +40,11 @@ pub record IsRoster (roster : Roster) : Type 0 where
   pub heartbeat : roster.heartbeat_ms < 2 ^ 16
   pub timeout : (1 ≤ roster.timeout_ms) × (roster.timeout_ms < 2 ^ 16)
   pub nodes : AllByRecursion (IsNode roster.manager) roster.nodes
-  pub rise : Rise roster.nodes
+  pub differ : AllDiffer roster.nodes
+
+-- the greatest number that a part can have, which no write has: so each write has a next number
+abbrev pub greatest_place : ℕ
+greatest_place = 4294967295
 
 -- a write of a concise DCF has data of 1 to 512 bytes
 abbrev pub IsBootWrite : Write → Type 0
@@ -57,11 +60,24 @@ IsFree (Nmt node command) = Unit {0}
 abbrev pub IsWithin : ℕ → TimedStep → Type 0
 IsWithin i step = (10000 * i ≤ step.time) × (step.time < 10000 * i + 10000) × IsFree step.step
 
--- steps are in order of time
+-- a step comes before another: by time, and at one time by number
+abbrev pub ComesBefore : TimedStep → TimedStep → Type 0
+ComesBefore a b = (a.time < b.time) ⊎ ((a.time ≡ b.time) × (a.number < b.number))
+
+-- each step comes before the next
 abbrev pub AreInOrder : List TimedStep → Type 0
 AreInOrder [] = Unit {0}
 AreInOrder (a ∷ []) = Unit {0}
-AreInOrder (a ∷ b ∷ rest) = (a.time ≤ b.time) × AreInOrder (b ∷ rest)
+AreInOrder (a ∷ b ∷ rest) = ComesBefore a b × AreInOrder (b ∷ rest)
+
+-- WHAT HOLDS OF EVERY IMAGE: its roster is one, its writes have 1 to 512 bytes and none has the greatest number, and
+-- the events of each window lie in it and are in order
+pub record IsImage (image : Image) : Type 0 where
+  pub roster : IsRoster (roster_of (image part.Roster))
+  pub writes : (node place : ℕ) → IfSome (write_of (image (part.Boot node place))) IsBootWrite
+  pub last : (node place : ℕ) → IfSome (write_of (image (part.Boot node place))) (λ write. place < greatest_place)
+  pub within : (i : ℕ) → AllByRecursion (IsWithin i) (steps_of (image (part.Events i)))
+  pub ordered : (i : ℕ) → AreInOrder (steps_of (image (part.Events i)))
 
 -- ---- coherent images
 
@@ -76,13 +92,9 @@ FitsShape image step = Sets image step.step
     Sets image (Power node on) = Unit {0}
     Sets image (Nmt node command) = Unit {0}
 
--- AN IMAGE IS COHERENT: its parts are what those of an image are, and each modelled entry of a node's shape has by its
--- defaults, and gets by each event, a value of its type's length
+-- AN IMAGE IS COHERENT: each modelled entry of a node's shape has by its defaults, and gets by each event, a value of
+-- its type's length
 pub record IsCoherent (image : Image) : Type 0 where
-  pub roster : IsRoster (roster_of (image part.Roster))
-  pub writes : (node place : ℕ) → IfSome (write_of (image (part.Boot node place))) IsBootWrite
-  pub within : (i : ℕ) → AllByRecursion (IsWithin i) (steps_of (image (part.Events i)))
-  pub ordered : (i : ℕ) → AreInOrder (steps_of (image (part.Events i)))
   pub defaults : (node : ℕ)
       → HoldEach (shape_of (image (part.Shape node))).entries (values_of (image (part.Defaults node)))
   pub steps : (i : ℕ) → AllByRecursion (FitsShape image) (steps_of (image (part.Events i)))

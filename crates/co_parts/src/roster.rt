@@ -15,6 +15,6 @@ pub struct Roster {
     pub heartbeat_ms: u16,
     /// The longest wait of the manager for an SDO answer in milliseconds.
     pub timeout_ms: u16,
-    /// The numbers of the nodes beside the manager, in rising order.
+    /// The numbers of the nodes beside the manager, each once: the devices of a bus stand in their order.
     pub nodes: Octets,
 }

@@ -4,9 +4,9 @@ use Rattle.std.proofs.Common.{Some, None, IfSome, refl, ap, sym, ◌∙◌, arit
 use Rattle.std.specs.Prelude.{if◌then◌else◌, nat_le, nat_lt}
 use Rattle.std.proofs.lemmas.Bool.Decides.{nat_tests}
 use Rattle.co_pdos.specs.declared.communication.Communication.{Communication}
-use Rattle.co_pdos.specs.declared.transmission_type.TransmissionType.{TransmissionType}
-use Rattle.co_pdos.specs.declared.transmission_type.TransmissionType.TheVariants.{Acyclic, Cyclic, EventDriven}
-use Rattle.co_pdos.specs.declared.transmission_type.TransmissionType.TheVariants.{Reserved}
+use Rattle.co_fields.specs.declared.transmission_type.TransmissionType.{TransmissionType}
+use Rattle.co_fields.specs.declared.transmission_type.TransmissionType.TheVariants.{Acyclic, Cyclic, EventDriven}
+use Rattle.co_fields.specs.declared.transmission_type.TransmissionType.TheVariants.{Reserved, OnRequest}
 use Rattle.co_pdos.specs.Tpdo.{Remembered, acyclic_turn, cyclic_turn, differs, event_moment, event_turn, has_come}
 use Rattle.co_pdos.specs.Tpdo.{without_past_inhibit, is_ahead, later, moment_from, turn_with_frame, turn_by_type}
 use Rattle.co_pdos.specs.Tpdo.{turn_without_frame}
@@ -156,6 +156,7 @@ last_is (Some (Cyclic n)) c false t bytes r = refl
 last_is (Some (Cyclic n)) c true t bytes r = last_of bytes r.last (nat_le n (r.syncs + 1)) (record r { syncs = 0 })
     (record r { syncs = r.syncs + 1 }) refl
 last_is (Some Reserved) c at_sync t bytes r = refl
+last_is (Some OnRequest) c at_sync t bytes r = refl
 last_is (Some EventDriven) c at_sync t bytes r = last_of bytes r.last (is_wanted_at t bytes r)
     (moments_set c t r) r refl
 

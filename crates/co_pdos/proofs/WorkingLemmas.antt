@@ -4,13 +4,14 @@ use Rattle.std.specs.Prelude.{is_ok, nat_lt}
 use Rattle.co_dict.specs.declared.abort.Abort.{Abort}
 use Rattle.co_dict.specs.Mappings.{mapping_bits, mapping_of}
 use Rattle.co_dict.specs.PdoChecks.{count_lines, mapping_check}
-use Rattle.co_dict.specs.Pdos.{identifier, is_restricted, is_valid}
+use Rattle.co_fields.specs.CobIds.{identifier_in, is_of_base_frames, is_valid}
+use Rattle.co_dict.specs.Pdos.{is_restricted}
 use Rattle.co_dict.specs.Shapes.{Shaped}
 use Rattle.co_dict.specs.Values.{Values}
 use Rattle.co_dict.proofs.CheckLaws.{mapping_fits}
 use Rattle.co_dict.proofs.CheckLemmas.{no_more, none_holds}
-use Rattle.co_pdos.specs.Working.{cob_id_of, count_of, has_frames, has_mapping, identifier_of, is_of_base_frames}
-use Rattle.co_pdos.specs.Working.{is_pdo, mapping_object, works}
+use Rattle.co_pdos.specs.Working.{cob_id_of, count_of, has_frames, has_mapping, identifier_of, is_pdo}
+use Rattle.co_pdos.specs.Working.{mapping_object, works}
 
 left_of : (a b : Bool) → (a && b) ≡ true → a ≡ true
 left_of true b e = refl
@@ -45,7 +46,7 @@ module _ (shape : Shaped) (values : Values) (object : ℕ) (e : works shape valu
   unfolding has_frames
   allowed =
       let cob_id = cob_id_of values object in
-      is_clear (is_restricted (identifier cob_id)) (right_of (is_valid cob_id && is_of_base_frames cob_id) _ framed)
+      is_clear (is_restricted (identifier_in cob_id)) (right_of (is_valid cob_id && is_of_base_frames cob_id) _ framed)
 
   pub fits : mapping_bits (mapping_of values (mapping_object object) (count_of values object)) ≤ 64
   unfolding has_mapping

@@ -3,5 +3,4 @@ pub mod Payloads
 pub mod Rpdo
 pub mod StoredMappings
 pub mod Tpdo
-pub mod TransmissionTypes
 pub mod Working

@@ -1,16 +1,14 @@
 -- The PDOs of a device (CiA 301): their objects, which of them work, and their communication parameters. All times are
 -- in microseconds.
-use Rattle.std.specs.Prelude.{ℕ, ◌+◌, ◌*◌, ◌/◌, ◌%◌, ◌==◌, not, ◌&&◌, nat_lt, Bool, true, false, Option, Some, None}
+use Rattle.std.specs.Prelude.{ℕ, ◌+◌, ◌*◌, not, ◌&&◌, nat_lt, Bool, true, false, Option, Some, None}
 use Rattle.std.specs.Prelude.{is_ok, if◌then◌else◌}
-use Rattle.co_values.specs.declared.form.Form.{Form}
-use Rattle.co_values.specs.declared.form.Form.TheVariants.{Unsigned}
-use Rattle.co_values.specs.declared.form.Width.TheVariants.{Bits16}
-use Rattle.co_dict.specs.PdoChecks.{has_type, is_unsigned8, is_unsigned32, mapping_check}
-use Rattle.co_dict.specs.Pdos.{identifier, is_restricted, is_valid}
+use Rattle.co_dict.specs.PdoChecks.{has_type, is_unsigned8, is_unsigned16, is_unsigned32, mapping_check}
+use Rattle.co_dict.specs.Pdos.{is_restricted}
 use Rattle.co_dict.specs.Shapes.{Shaped}
 use Rattle.co_dict.specs.Values.{Values, number_at}
-use Rattle.co_pdos.specs.TransmissionTypes.{type_of_number}
-use Rattle.co_pdos.specs.declared.transmission_type.TransmissionType.{TransmissionType}
+use Rattle.co_fields.specs.CobIds.{identifier_in, is_of_base_frames, is_valid}
+use Rattle.co_fields.specs.TransmissionTypes.{type_of_byte}
+use Rattle.co_fields.specs.declared.transmission_type.TransmissionType.{TransmissionType}
 
 -- ---- the objects of a PDO
 
@@ -38,15 +36,11 @@ cob_id_of values object = number_at 4 values (object, 1)
 
 -- the identifier of the PDO's frames
 abbrev pub identifier_of : Values → ℕ → ℕ
-identifier_of values object = identifier (cob_id_of values object)
-
--- bit 29 of a COB-ID: clear for an identifier of 11 bits
-abbrev pub is_of_base_frames : ℕ → Bool
-is_of_base_frames cob_id = cob_id / 0x20000000 % 2 == 0
+identifier_of values object = identifier_in (cob_id_of values object)
 
 -- the PDO exists, with base frames of an identifier that a PDO may have
 unfoldable pub has_frames : ℕ → Bool
-has_frames cob_id = is_valid cob_id && is_of_base_frames cob_id && not (is_restricted (identifier cob_id))
+has_frames cob_id = is_valid cob_id && is_of_base_frames cob_id && not (is_restricted (identifier_in cob_id))
 
 -- the number of mapped entries: sub-index 0 of the mapping object
 abbrev pub count_of : Values → ℕ → ℕ
@@ -65,14 +59,10 @@ works shape values object = is_pdo shape object && has_frames (cob_id_of values 
 
 -- ---- its communication parameters
 
-abbrev pub is_unsigned16 : Form → Bool
-is_unsigned16 (Unsigned Bits16) = true
-is_unsigned16 other = false
-
 -- the transmission type: sub-index 2; none where that isn't an UNSIGNED8
 unfoldable pub transmission_type : Shaped → Values → ℕ → Option TransmissionType
 transmission_type shape values object =
-    if has_type is_unsigned8 shape (object, 2) then Some (type_of_number (number_at 1 values (object, 2))) else None
+    if has_type is_unsigned8 shape (object, 2) then Some (type_of_byte (number_at 1 values (object, 2))) else None
 
 -- the number of an UNSIGNED16; 0 where the entry isn't one
 abbrev pub number_of_unsigned16 : Shaped → Values → ℕ × ℕ → ℕ

@@ -1,14 +1,11 @@
 //! The communication parameters of a PDO.
 
 ghost use Rattle.std.specs.Prelude.{◌≡◌, ◌≤◌};
-ghost use Rattle.co_dict.specs.PdoChecks.{has_type};
-ghost use Rattle.co_pdos.specs.Working.{event_time, inhibit_time, is_unsigned16, number_of_unsigned16};
+ghost use Rattle.co_pdos.specs.Working.{event_time, inhibit_time, number_of_unsigned16};
 ghost use Rattle.co_pdos.specs.Working.{transmission_type as type_of};
 
-use crate::transmission_type::TransmissionType;
-use crate::working::has_unsigned_8;
 use co_dict::{Dict, Shape};
-use co_values::DataType;
+use co_fields::TransmissionType;
 
 /// The communication parameters of a PDO (CiA 301) that say when it is sent or taken.
 #[derive(Clone, Copy, Debug, PartialEq, Eq)]
@@ -21,21 +18,11 @@ pub struct Communication {
     pub event_time: u32,
 }
 
-/// Whether there is such an entry, an UNSIGNED16.
-fn has_unsigned_16(shape: &Shape, index: u16, sub: u8) -> bool
-    ensures { result ≡ has_type is_unsigned16 shape.now (index, sub) }
-{
-    match shape.entry(index, sub) {
-        Some(entry) => matches!(entry.kind, DataType::Unsigned16),
-        None => false,
-    }
-}
-
 /// The number of an UNSIGNED16; 0 where the entry isn't one.
 fn unsigned_16(shape: &Shape, dict: &Dict, index: u16, sub: u8) -> u16
     ensures { result ≡ number_of_unsigned16 shape.now dict.now (index, sub) }
 {
-    if has_unsigned_16(shape, index, sub) {
+    if shape.has_unsigned16(index, sub) {
         dict.number_16(index, sub)
     } else {
         0
@@ -48,7 +35,7 @@ fn unsigned_16(shape: &Shape, dict: &Dict, index: u16, sub: u8) -> u16
 fn transmission_type(shape: &Shape, dict: &Dict, object: u16) -> Option<TransmissionType>
     ensures { result ≡ type_of shape.now dict.now object }
 {
-    if has_unsigned_8(shape, object, 2) {
+    if shape.has_unsigned8(object, 2) {
         Some(TransmissionType::of(dict.number_8(object, 2)))
     } else {
         None

@@ -6,10 +6,10 @@ ghost use Rattle.co_pdos.specs.Configured.{configuration_of, mapping_now};
 ghost use Rattle.co_pdos.specs.Working.{count_of, works as works_now};
 
 use crate::communication::Communication;
-use crate::frame_identifier::FrameIdentifier;
 use crate::mapping::Mapping;
 use crate::working::{identifier, works};
 use co_dict::{Dict, Shape};
+use co_fields::Identifier;
 
 /// The sub-index of a mapping object that has the count of its entries.
 const COUNT: u8 = 0;
@@ -18,7 +18,7 @@ const COUNT: u8 = 0;
 #[derive(Clone, Copy, Debug)]
 pub struct Configuration {
     /// The identifier of its frames.
-    pub identifier: FrameIdentifier,
+    pub identifier: Identifier,
     /// When it is sent or taken.
     pub communication: Communication,
     /// What it carries.
@@ -53,7 +53,7 @@ impl Configuration {
             return None;
         }
         Some(Configuration {
-            identifier: FrameIdentifier::of(identifier(dict, object)),
+            identifier: identifier(dict, object),
             communication: Communication::of(shape, dict, object),
             mapping: mapping_of_pdo(dict, object),
         })
@@ -63,7 +63,7 @@ impl Configuration {
     pub fn same(&self, other: &Configuration) -> bool
         ensures { IsTrue result ↔ (self.now ≡ other.now) }
     {
-        self.identifier.number() == other.identifier.number()
+        self.identifier == other.identifier
             && self.communication == other.communication
             && self.mapping.same(&other.mapping)
     }

@@ -10,7 +10,7 @@ ghost use Rattle.co_pdos.specs.declared.communication.Communication.{Communicati
 ghost use Rattle.co_pdos.specs.Tpdo.{Remembered, without_past_inhibit, turn_by_type, turn_without_frame};
 ghost use Rattle.co_pdos.specs.Working.{count_of, identifier_of, is_pdo, mapping_object, works};
 
-use crate::transmission_type::TransmissionType;
+use co_fields::TransmissionType;
 
 /// A PDO that works is one, has an identifier that a PDO may have, and a mapping that fits a frame.
 #[tactic(auto, using(crate::proofs::WorkingLemmas::is_one, crate::proofs::WorkingLemmas::allowed, crate::proofs::WorkingLemmas::fits))]
@@ -37,7 +37,8 @@ pub fn a_sent_tpdo_is_inhibited()
         → (turn_by_type (Some TransmissionType.EventDriven) c at_sync t bytes r).is_sent ≡ true
         → (next : Bool) (u : ℕ) (others : List ℕ) → 0 < c.inhibit_time → u < t + c.inhibit_time
         → (let now = (turn_by_type (Some TransmissionType.EventDriven) c at_sync t bytes r).remembered in
-        turn_by_type (Some TransmissionType.EventDriven) c next u others (without_past_inhibit u now) ≡ turn_without_frame now) }
+        turn_by_type (Some TransmissionType.EventDriven) c next u others (without_past_inhibit u now)
+        ≡ turn_without_frame now) }
 {}
 
 /// The moments that an event-driven TPDO sets lie after now, and its event moment isn't before its inhibit

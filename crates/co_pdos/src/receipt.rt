@@ -3,7 +3,7 @@
 ghost use Rattle.std.specs.Prelude.{◌≡◌};
 ghost use Rattle.co_pdos.specs.Rpdo.{frame_receipt as receipt_of_frame};
 
-use crate::transmission_type::TransmissionType;
+use co_fields::TransmissionType;
 
 /// What becomes of a frame that a working RPDO receives (CiA 301).
 #[derive(Clone, Copy, Debug, PartialEq, Eq)]
@@ -31,6 +31,6 @@ pub fn received(transmission: Option<TransmissionType>, mapped: usize, count: us
     match transmission {
         Some(TransmissionType::Acyclic | TransmissionType::Cyclic(_)) => Receipt::Kept,
         Some(TransmissionType::EventDriven) => Receipt::AtOnce,
-        Some(TransmissionType::Reserved) | None => Receipt::Ignored,
+        Some(TransmissionType::Reserved | TransmissionType::OnRequest) | None => Receipt::Ignored,
     }
 }

@@ -7,7 +7,7 @@ ghost use Rattle.co_pdos.specs.Tpdo.{without_past_inhibit, is_ahead, moment_from
 
 use crate::communication::Communication;
 use crate::payload::Payload;
-use crate::transmission_type::TransmissionType;
+use co_fields::TransmissionType;
 use std::marker::Model;
 
 /// What a TPDO remembers (CiA 301): the bytes that were last queued, its inhibit and event moments in
@@ -226,7 +226,7 @@ impl Tpdo {
             Some(TransmissionType::Acyclic) => self.at_change(at_sync, bytes),
             Some(TransmissionType::Cyclic(n)) => self.at_nth(n, at_sync, bytes),
             Some(TransmissionType::EventDriven) => self.at_event(communication, t, bytes),
-            Some(TransmissionType::Reserved) | None => false,
+            Some(TransmissionType::Reserved | TransmissionType::OnRequest) | None => false,
         }
     }
 }

@@ -16,7 +16,7 @@ use Rattle.co_base.proofs.TableLemmas.{removed_elsewhere}
 use Rattle.co_messages.specs.declared.linked.Linked.{Linked}
 use Rattle.co_messages.specs.declared.message.Message.{Message}
 use Rattle.co_messages.specs.Messages.{with_changed, is_of_messages, is_full_for as is_full_of, linked_to, with_message}
-use Rattle.co_messages.specs.Messages.{with_sink, with_source, without_sink, without_source, Named}
+use Rattle.co_messages.specs.Messages.{with_sink, with_source, without_sink, without_source, name_cmp, Named}
 use Rattle.co_edits.specs.declared.fault.EditFault.{EditFault}
 use Rattle.co_edits.specs.declared.manager_settings.ManagerSettings.{ManagerSettings}
 use Rattle.co_edits.specs.declared.edit.Edit.{Edit}
@@ -29,7 +29,7 @@ use Rattle.co_dict.specs.Places.{place_cmp}
 use Rattle.co_dict.proofs.PlaceLemmas.{places_exact, places_total}
 use Rattle.co_params.specs.Params.{Texts as Params, is_full_for}
 use Rattle.co_project.specs.declared.node.Node.{Node}
-use Rattle.co_project.specs.Tables.{Texts, Nodes, name_cmp, name_taken, has_no_room, is_used, is_named, is_of}
+use Rattle.co_project.specs.Tables.{Texts, Nodes, name_taken, has_no_room, is_used, is_named, is_of}
 use Rattle.co_project.specs.Tables.{is_of_known, put_node, node_after_put, with_param, without_param}
 use Rattle.co_project.specs.Project.{Content, first, accept, with_nodes}
 use Rattle.co_base.specs.Tables.{Each}

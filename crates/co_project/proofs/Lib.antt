@@ -7,5 +7,4 @@ pub mod NodeLemmas
 pub mod RoundTrip
 pub mod ScriptEdits
 pub mod SoundLemmas
-pub mod TextLemmas
 pub mod ToCome

@@ -1,14 +1,13 @@
 -- The tables of a project: texts of EDS by name, nodes by number and their parameters by entry, events by number (this
 -- profile's own).
-use Rattle.std.specs.Prelude.{ℕ, Bool, true, false, not, ◌&&◌, ◌==◌, nat_le, List, [], ◌∷◌, map, Option, Some, None}
-use Rattle.std.specs.Prelude.{Result, Err, Vec}
+use Rattle.std.specs.Prelude.{ℕ, Bool, true, false, not, ◌&&◌, ◌==◌, nat_le, List, [], ◌∷◌, Option, Some, None}
+use Rattle.std.specs.Prelude.{Result, Err}
 use Rattle.std.specs.List.{list_any}
 use Rattle.std.specs.Str.{bytes_eq}
 use Rattle.std.specs.Ordering.{nat_cmp}
-use Rattle.std.specs.declared.cmp.Ordering.{Ordering}
-use Rattle.std.specs.Cmp.Lexicographic.{slice_cmp}
 use Rattle.std.specs.FinMap.{FinMap, contains_key, empty, entries, get, insert, len, remove}
 use Rattle.std.specs.Option.{option_map_or}
+use Rattle.co_messages.specs.Messages.{name_cmp}
 use Rattle.co_scenario.specs.declared.event.Event.{Event}
 use Rattle.co_scenario.specs.Scenario.{Events, node_of}
 use Rattle.co_params.specs.Params.{is_full_for}
@@ -16,10 +15,6 @@ use Rattle.co_project.specs.declared.node.Node.{Node}
 use Rattle.co_edits.specs.declared.fault.EditFault.{EditFault}
 use Rattle.co_edits.specs.declared.fault.EditFault.TheVariants.{Unknown, Limit}
 use Rattle.co_edits.specs.Accepts.{unless}
-
--- names in the order of their bytes
-abbrev pub name_cmp : List ℕ → List ℕ → Ordering
-name_cmp = slice_cmp nat_cmp
 
 -- the text of each EDS by its name
 abbrev pub Texts : Type 0
@@ -95,8 +90,3 @@ without_param nodes id place (Some node) =
 -- the nodes, where that of a number loses a parameter
 abbrev pub drop_param : Nodes → ℕ → ℕ × ℕ → Result Nodes EditFault
 drop_param nodes id place = without_param nodes id place (get nodes id)
-
-module _ {A : Type 0} where
-  -- the texts in the order of their names, as what goes over the map gives them
-  abbrev pub texts_of : List (Vec ℕ A × List ℕ) → List (List ℕ × List ℕ)
-  texts_of texts = map (λ e. (e.0.items, e.1)) texts

@@ -4,7 +4,8 @@ ghost use Rattle.std.specs.FinMap as map;
 ghost use Rattle.eds_device.specs.Faults.{device_of};
 ghost use Rattle.ini_text.specs.Content.{content_of};
 ghost use Rattle.co_edits.specs.Accepts.{Accepts};
-ghost use Rattle.co_project.specs.Tables.{texts_of, text_at, node_at};
+ghost use Rattle.co_messages.specs.Messages.{by_name};
+ghost use Rattle.co_project.specs.Tables.{text_at, node_at};
 ghost use Rattle.co_project.specs.Project.{accept, adds, first};
 ghost use Rattle.co_project.specs.Script.{script};
 ghost use Rattle.co_project.specs.Sound.{IsSound};
@@ -103,7 +104,7 @@ impl Project {
 
     /// The texts of EDS by name.
     pub fn texts(&self) -> Iter<'_, Vec<u8>, Octets>
-        ensures { texts_of result ≡ map.entries self.now.texts }
+        ensures { by_name result ≡ map.entries self.now.texts }
     {
         self.contents.texts.iter()
     }

@@ -1,7 +1,8 @@
 //! The texts of EDS by name.
 ghost use Rattle.std.specs.Prelude.{◌≡◌, None, OnOk, OnErr, option_copied};
 ghost use Rattle.std.specs.FinMap as map;
-ghost use Rattle.co_project.specs.Tables.{texts_of, text_at, has_no_room};
+ghost use Rattle.co_messages.specs.Messages.{by_name};
+ghost use Rattle.co_project.specs.Tables.{text_at, has_no_room};
 
 use co_base::Octets;
 use std::alloc::{AllocError, Global};
@@ -20,13 +21,14 @@ pub(crate) struct Texts {
 impl Model for Texts {
     ghost use Rattle.std.specs.Coded.{coded_ℕ, coded_list};
     ghost use Rattle.std.specs.FinMap as map;
-    ghost use Rattle.co_project.specs.Tables.{Texts as by_name, texts_of};
+    ghost use Rattle.co_messages.specs.Messages.{by_name};
+    ghost use Rattle.co_project.specs.Tables.{Texts as TextsByName};
 
-    ghost Value = { by_name };
+    ghost Value = { TextsByName };
 
     ghost coded = { map.code (coded_list coded_ℕ) (coded_list coded_ℕ) };
 
-    ghost view = { λ t. map.from_entries (texts_of t.texts.entries) };
+    ghost view = { λ t. map.from_entries (by_name t.texts.entries) };
 }
 
 impl Texts {
@@ -67,7 +69,7 @@ impl Texts {
     }
 
     pub fn iter(&self) -> Iter<'_, Vec<u8>, Octets>
-        ensures { texts_of result ≡ map.entries self.now }
+        ensures { by_name result ≡ map.entries self.now }
     {
         self.texts.iter()
     }

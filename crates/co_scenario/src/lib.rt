@@ -2,6 +2,7 @@
 #![tactic(auto)]
 
 mod between;
+mod comparing;
 mod event;
 pub mod laws;
 mod nmt_command;
@@ -10,6 +11,7 @@ mod step;
 mod timed_event;
 mod timed_step;
 
+pub use comparing::same_steps;
 pub use event::Event;
 pub use nmt_command::NmtCommand;
 pub use script::Script;

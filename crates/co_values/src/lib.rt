@@ -22,4 +22,4 @@ pub use little::{from_le, to_le};
 pub use number::read_number;
 pub use printing::hex_text;
 pub use reading::value_of;
-pub use value::{Value, default_value, fits, number_in};
+pub use value::{Value, default_value, number_in};

@@ -1,7 +1,7 @@
 //! Values.
 
-ghost use Rattle.std.specs.Prelude.{◌≡◌, ◌↔◌, IsTrue, IfOk};
-ghost use Rattle.co_values.specs.Values.{Fits, FitsForm, number_in as number_of_bytes, zero_value};
+ghost use Rattle.std.specs.Prelude.{◌≡◌, IfOk};
+ghost use Rattle.co_values.specs.Values.{Fits, number_in as number_of_bytes, zero_value};
 
 use crate::data_type::DataType;
 use crate::form::Form;
@@ -17,26 +17,6 @@ pub(crate) const LONGEST_VALUE: usize = 512;
 pub struct Value {
     pub kind: DataType,
     pub bytes: Octets,
-}
-
-/// Whether bytes are a value of a form.
-fn fits_form(form: Form, bytes: &[u8]) -> bool
-    ensures { IsTrue result ↔ FitsForm form bytes.now }
-{
-    match form {
-        Form::Flag => bytes.len() == 1 && bytes[0] < 2,
-        Form::Signed(width) | Form::Unsigned(width) => bytes.len() == width.octets(),
-        Form::Characters | Form::HexPairs => bytes.len() <= LONGEST_VALUE,
-        Form::Unmodelled => false,
-    }
-}
-
-/// Whether bytes are a value of a type: one byte 0 or 1 for BOOLEAN, as many as the type has for
-/// the integers, up to 512 for the other modelled types. `value_of` gives no others.
-pub fn fits(kind: DataType, bytes: &[u8]) -> bool
-    ensures { IsTrue result ↔ Fits kind bytes.now }
-{
-    fits_form(kind.form(), bytes)
 }
 
 /// The number that the bytes of a BOOLEAN or an integer are, from -2^63 to 2^64 - 1; `None` for the

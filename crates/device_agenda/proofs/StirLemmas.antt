@@ -20,7 +20,7 @@ use Rattle.device_pdos.specs.declared.rpdo_state.RpdoState.{RpdoState}
 use Rattle.device_pdos.specs.declared.tpdo_state.TpdoState.{TpdoState}
 use Rattle.co_device.specs.Device.{Device, is_error_control, is_in}
 use Rattle.co_device.specs.Receiving.{is_ignored}
-use Rattle.co_device.specs.declared.nmt_state.NmtState.TheVariants.{Operational}
+use Rattle.co_fields.specs.declared.nmt_state.NmtState.TheVariants.{Operational}
 use Rattle.device_agenda.specs.Groups.{Extends, group_of, includes}
 use Rattle.device_agenda.specs.declared.groups.Groups.{Groups}
 use Rattle.device_agenda.proofs.GroupLemmas.{left_out, neither, with_extends}

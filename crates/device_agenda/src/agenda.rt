@@ -1,6 +1,6 @@
 //! When devices have to run.
 
-ghost use Rattle.std.specs.Prelude.{◌≡◌, ◌<◌, ◌||◌, ◌++◌, List, [], false, IfSome, IsTrue};
+ghost use Rattle.std.specs.Prelude.{◌≡◌, ◌<◌, ◌++◌, List, [], false, IfSome, IsTrue};
 ghost use Rattle.co_device.specs.Device.{Device};
 ghost use Rattle.device_agenda.specs.Agenda.{has_come as come, IsAgendaOf, sleeps_through};
 
@@ -30,13 +30,6 @@ pub(crate) fn has_come(t: u64, due: Option<u64>) -> bool
         Some(due) => due <= t,
         None => false,
     }
-}
-
-/// Whether one of two holds.
-pub(crate) fn either(one: bool, other: bool) -> bool
-    ensures { result ≡ one || other }
-{
-    one || other
 }
 
 impl Agenda {
@@ -69,10 +62,10 @@ impl Agenda {
         ensures { (ds es : List Device) → IsAgendaOf self ds → IsAgendaOf other es → IsAgendaOf result (ds ++ es) }
     {
         Agenda {
-            awake: either(self.awake, other.awake),
+            awake: self.awake | other.awake,
             due: earlier(self.due, other.due),
             groups: self.groups.and(other.groups),
-            waits: either(self.waits, other.waits),
+            waits: self.waits | other.waits,
         }
     }
 

@@ -4,7 +4,8 @@ ghost use Rattle.std.specs.Prelude.{◌≡◌};
 ghost use Rattle.co_device.specs.Receiving.{is_ignored};
 
 use can_frame::{Frame, identifiers};
-use co_device::{DeviceState, NmtState};
+use co_device::DeviceState;
+use co_fields::NmtState;
 use device_objects::{any_expects, is_addressed, producer_of, sync_identifier};
 use device_pdos::any_has_identifier;
 

@@ -17,9 +17,10 @@ use crate::delivery::Delivery;
 use crate::ignored::ignores;
 use crate::stirring::stirring;
 use can_frame::{Contender, Waiting};
-use co_device::{DeviceState, Shapes};
+use co_device::DeviceState;
 use co_dict::Dict;
 use co_parts::END;
+use device_objects::Shapes;
 use std::alloc::{AllocError, Global};
 use std::marker::Model;
 

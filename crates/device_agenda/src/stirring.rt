@@ -4,17 +4,18 @@ ghost use Rattle.std.specs.Prelude.{◌≡◌, ◌<◌, ℕ, false, is_some};
 ghost use Rattle.std.specs.List.{list_any};
 ghost use Rattle.can_frame.specs.Frames.{BaseFrame};
 ghost use Rattle.can_frame.specs.Identifiers.{error_control_id};
-ghost use Rattle.device_objects.specs.Consumers.{expects, producer_of};
+ghost use Rattle.co_fields.specs.ConsumerHeartbeatTimes.{consumed_node};
+ghost use Rattle.device_objects.specs.Consumers.{expects};
 ghost use Rattle.device_objects.specs.Profile.{sync_identifier as identifier_of_sync};
 ghost use Rattle.device_agenda.specs.Groups.{Extends, includes};
 ghost use Rattle.device_laws.specs.Deaf.{AwaitsNoSync, IsDeafTo};
 ghost use Rattle.device_pdos.specs.Rpdos.{has_identifier};
 ghost use Rattle.device_pdos.specs.Tpdos.{goes_by_sync};
 
-use crate::agenda::either;
 use crate::groups::Groups;
 use can_frame::identifiers;
 use co_device::DeviceState;
+use co_fields::ConsumerHeartbeatTime;
 use co_pdos::Configuration;
 use device_objects::{Consumer, sync_identifier};
 use device_pdos::{RpdoState, TpdoState};
@@ -37,7 +38,7 @@ fn any_goes_by_sync(tpdos: &[TpdoState]) -> bool
 fn awaits_sync(device: &DeviceState) -> bool
     ensures { result ≡ false → AwaitsNoSync device.now }
 {
-    either(any_keeps(device.rpdos()), any_goes_by_sync(device.tpdos()))
+    any_keeps(device.rpdos()) | any_goes_by_sync(device.tpdos())
 }
 
 /// Adds the group of SYNC, where something of a device may wait for one.
@@ -53,11 +54,11 @@ fn with_sync(groups: Groups, device: &DeviceState) -> Groups
     }
 }
 
-/// The node whose heartbeat a consumer expects: bits 16 to 23 of its consumer heartbeat time.
+/// The node whose heartbeat a consumer expects.
 fn expected(consumer: &Consumer) -> u8
-    ensures { result ≡ producer_of consumer.now.entry }
+    ensures { result ≡ consumed_node consumer.now.entry }
 {
-    (consumer.entry / 0x1_0000 % 0x100) as u8
+    ConsumerHeartbeatTime::of(consumer.entry).node()
 }
 
 /// Adds the group of the heartbeats that a consumer may expect.
@@ -66,7 +67,7 @@ fn with_producer(groups: Groups, consumer: &Consumer) -> Groups
     ensures producer { (producer : ℕ) → producer < 0x100 → includes result (error_control_id producer) ≡ false
         → expects producer consumer.now.entry ≡ false }
 {
-    if consumer.entry % 0x1_0000 > 0 {
+    if ConsumerHeartbeatTime::of(consumer.entry).time() > 0 {
         groups.with(identifiers::error_control(expected(consumer)))
     } else {
         groups

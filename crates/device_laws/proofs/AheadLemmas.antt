@@ -9,9 +9,10 @@ use Rattle.co_dict.specs.Shapes.{Shaped}
 use Rattle.co_dict.specs.Values.{Values}
 use Rattle.co_parts.specs.Contents.{Image}
 use Rattle.co_parts.specs.Moments.{is_due}
-use Rattle.device_objects.specs.Consumers.{consumers_after_time, consumers_after_heartbeat, consumer_time, consumers_of}
+use Rattle.co_fields.specs.ConsumerHeartbeatTimes.{consumed_node, consumer_time}
+use Rattle.device_objects.specs.Consumers.{consumers_after_time, consumers_after_heartbeat, consumers_of}
 use Rattle.device_objects.specs.Consumers.{consumers_after_write, expects, consumer_after_time, failures_at}
-use Rattle.device_objects.specs.Consumers.{consumer_after_heartbeat, producer_of, consumer_after_write}
+use Rattle.device_objects.specs.Consumers.{consumer_after_heartbeat, consumer_after_write}
 use Rattle.device_objects.specs.Consumers.{waiting_for_start}
 use Rattle.device_objects.specs.Profile.{with_error_bits, next_heartbeat, producer_heartbeat_time}
 use Rattle.device_objects.specs.declared.consumer.Consumer.{Consumer}
@@ -24,7 +25,7 @@ use Rattle.co_device.specs.Device.{after_initialisation, is_in, nmt_service, out
 use Rattle.co_device.specs.Device.{reset_communication, after_reset_node, stop_remote_node, after_timers, after_set}
 use Rattle.co_device.specs.Device.{with_emergencies, without_power}
 use Rattle.co_device.specs.Receiving.{after_frame}
-use Rattle.co_device.specs.declared.nmt_state.NmtState.TheVariants.{Operational, Stopped}
+use Rattle.co_fields.specs.declared.nmt_state.NmtState.TheVariants.{Operational, Stopped}
 use Rattle.device_laws.specs.Ahead.{AreAhead, IsAhead, NotBefore}
 use Rattle.device_laws.proofs.CaseLemmas.{either, one_of, picked}
 use Rattle.device_laws.proofs.KeptLemmas.{IsKept, frame_kept, set_kept}
@@ -152,7 +153,7 @@ due_later t d h =
 -- ---- what comes at a moment
 
 time_of : (producer entry : ℕ) → expects producer entry ≡ true → 0 < consumer_time entry
-time_of producer entry e = by (producer_of entry == producer) e
+time_of producer entry e = by (consumed_node entry == producer) e
   where
     by : (test : Bool) → test && nat_lt 0 (consumer_time entry) ≡ true → 0 < consumer_time entry
     by true f = grind (arith, nat_tests)

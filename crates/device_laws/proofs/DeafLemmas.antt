@@ -13,12 +13,12 @@ use Rattle.co_dict.specs.Values.{Values}
 use Rattle.co_parts.specs.Contents.{Content}
 use Rattle.co_parts.specs.declared.part.Part.{Part}
 use Rattle.co_pdos.specs.Tpdo.{Remembered, without_past_inhibit, turn_by_type}
-use Rattle.co_pdos.specs.TransmissionTypes.{is_synchronous}
+use Rattle.co_fields.specs.TransmissionTypes.{is_synchronous}
 use Rattle.co_pdos.specs.declared.communication.Communication.{Communication}
 use Rattle.co_pdos.specs.declared.configuration.Configuration.{Configuration}
-use Rattle.co_pdos.specs.declared.transmission_type.TransmissionType.{TransmissionType}
-use Rattle.co_pdos.specs.declared.transmission_type.TransmissionType.TheVariants.{Acyclic, Cyclic, EventDriven}
-use Rattle.co_pdos.specs.declared.transmission_type.TransmissionType.TheVariants.{Reserved}
+use Rattle.co_fields.specs.declared.transmission_type.TransmissionType.{TransmissionType}
+use Rattle.co_fields.specs.declared.transmission_type.TransmissionType.TheVariants.{Acyclic, Cyclic, EventDriven}
+use Rattle.co_fields.specs.declared.transmission_type.TransmissionType.TheVariants.{Reserved, OnRequest}
 use Rattle.device_objects.specs.Profile.{sync_identifier}
 use Rattle.device_pdos.specs.Rpdos.{rpdo_at}
 use Rattle.device_pdos.specs.Tpdos as tpdos
@@ -30,7 +30,7 @@ use Rattle.device_pdos.proofs.LookLemmas.{told}
 use Rattle.device_pdos.proofs.RestLemmas.{nothing_sent, tpdos_rest}
 use Rattle.co_device.specs.Device.{Device, is_in, moments, after_instant, after_tpdos}
 use Rattle.co_device.specs.Receiving.{after_kept_frame, rpdo_places, after_frame, after_sync_at, after_sync, walk}
-use Rattle.co_device.specs.declared.nmt_state.NmtState.TheVariants.{Operational}
+use Rattle.co_fields.specs.declared.nmt_state.NmtState.TheVariants.{Operational}
 use Rattle.device_laws.specs.Deaf.{AwaitsNoSync, IsDeafTo, IsIdleSync}
 use Rattle.device_laws.specs.Rest.{Rests}
 use Rattle.device_laws.proofs.AheadLemmas.{quiet}
@@ -66,6 +66,7 @@ turn_alike None c t bytes r h = refl
 turn_alike (Some Acyclic) c t bytes r h = absurd cc
 turn_alike (Some (Cyclic n)) c t bytes r h = absurd cc
 turn_alike (Some Reserved) c t bytes r h = refl
+turn_alike (Some OnRequest) c t bytes r h = refl
 turn_alike (Some EventDriven) c t bytes r h = refl
 
 module _ (t : ℕ) (values : Values) where

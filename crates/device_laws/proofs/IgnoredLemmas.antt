@@ -20,7 +20,7 @@ use Rattle.co_device.specs.Device.{Device, after_error_control, is_addressed, is
 use Rattle.co_device.specs.Device.{after_sdo_request}
 use Rattle.co_device.specs.Receiving.{is_ignored, after_nmt_frame, after_pdo, rpdo_places, after_frame, after_rpdo}
 use Rattle.co_device.specs.Receiving.{after_sync, after_receipt, walk}
-use Rattle.co_device.specs.declared.nmt_state.NmtState.TheVariants.{Operational, Stopped}
+use Rattle.co_fields.specs.declared.nmt_state.NmtState.TheVariants.{Operational, Stopped}
 
 neither : (a b : Bool) → a || b ≡ false → (a ≡ false) × (b ≡ false)
 neither true b h = absurd cc

@@ -30,7 +30,7 @@ use Rattle.co_device.specs.Device.{is_error_control, is_in, is_producer_time, nm
 use Rattle.co_device.specs.Device.{with_emergency, without_error_if}
 use Rattle.co_device.specs.Receiving.{after_mapping, after_entry, after_kept_frame, after_pdo, rpdo_places, after_frame}
 use Rattle.co_device.specs.Receiving.{after_rpdo, after_sync_at, after_sync, after_receipt}
-use Rattle.co_device.specs.declared.nmt_state.NmtState.TheVariants.{Operational, Stopped}
+use Rattle.co_fields.specs.declared.nmt_state.NmtState.TheVariants.{Operational, Stopped}
 use Rattle.device_laws.proofs.CaseLemmas.{one_of, picked, turned, walk_keeps}
 
 -- it holds whatever the values, the PDOs, the frames that wait and the transfer are, and is kept where the heartbeat

@@ -22,7 +22,7 @@ use Rattle.co_device.specs.Device.{Device, is_addressed, is_error_control, is_in
 use Rattle.co_device.specs.Device.{reset_communication, after_reset_node, after_sdo_request}
 use Rattle.co_device.specs.Receiving.{after_mapping, after_kept_frame, after_pdo, rpdo_places, after_frame, after_rpdo}
 use Rattle.co_device.specs.Receiving.{after_sync_at, after_sync, after_receipt, walk}
-use Rattle.co_device.specs.declared.nmt_state.NmtState.TheVariants.{Operational, Stopped}
+use Rattle.co_fields.specs.declared.nmt_state.NmtState.TheVariants.{Operational, Stopped}
 use Rattle.device_laws.specs.Ahead.{IsOwnPart}
 use Rattle.device_laws.proofs.KeptLemmas.{rpdo_kept, synced_kept}
 use Rattle.device_laws.proofs.SelfLemmas.{HasNumber, number_kept}

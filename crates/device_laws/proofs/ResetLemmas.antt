@@ -17,7 +17,7 @@ use Rattle.co_device.specs.Device.{Device, after_own_write, after_write, after_s
 use Rattle.co_device.specs.Device.{after_write_of_consumer, after_initialisation, is_in, is_producer_time}
 use Rattle.co_device.specs.Device.{reset_communication, after_reset_node, after_sdo_request, after_set}
 use Rattle.co_device.specs.Device.{without_error_if}
-use Rattle.co_device.specs.declared.nmt_state.NmtState.TheVariants.{Stopped}
+use Rattle.co_fields.specs.declared.nmt_state.NmtState.TheVariants.{Stopped}
 use Rattle.device_laws.proofs.CaseLemmas.{either, not_both, one_of, picked}
 
 module _ (image : Image) (t : ℕ) (d : Device) where

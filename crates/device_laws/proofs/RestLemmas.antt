@@ -14,7 +14,7 @@ use Rattle.device_pdos.proofs.LaterLemmas.{all_freed_later, looked_later}
 use Rattle.device_pdos.proofs.LookLemmas.{all_both, all_parts, quiet_freed}
 use Rattle.device_pdos.proofs.RestLemmas.{none_wanted, nothing_sent, tpdos_rest}
 use Rattle.co_device.specs.Device.{Device, is_in, moments, after_instant, after_timers, after_tpdos}
-use Rattle.co_device.specs.declared.nmt_state.NmtState.TheVariants.{Operational}
+use Rattle.co_fields.specs.declared.nmt_state.NmtState.TheVariants.{Operational}
 use Rattle.device_laws.specs.Ahead.{AreAhead, IsAhead, NotBefore}
 use Rattle.device_laws.specs.Rest.{Rests}
 use Rattle.device_laws.proofs.AheadLemmas.{due_later, quiet}

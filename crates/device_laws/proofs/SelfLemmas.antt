@@ -16,7 +16,7 @@ use Rattle.co_device.specs.Device.{after_initialisation, is_in, next_due, nmt_se
 use Rattle.co_device.specs.Device.{after_instant, reset_communication, after_reset_node, after_timers, after_tpdos}
 use Rattle.co_device.specs.Device.{after_set, with_emergencies, without_power}
 use Rattle.co_device.specs.Receiving.{after_frame}
-use Rattle.co_device.specs.declared.nmt_state.NmtState.TheVariants.{Operational, Stopped}
+use Rattle.co_fields.specs.declared.nmt_state.NmtState.TheVariants.{Operational, Stopped}
 use Rattle.device_laws.specs.States.{IsDark, StaysItself}
 use Rattle.device_laws.proofs.CaseLemmas.{either, not_both, one_of, picked}
 use Rattle.device_laws.proofs.KeptLemmas.{IsKept, frame_kept, set_kept}

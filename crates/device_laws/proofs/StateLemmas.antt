@@ -36,11 +36,12 @@ use Rattle.co_device.specs.Device.{Device, after_failures, after_own_write, afte
 use Rattle.co_device.specs.Device.{enter_pre_operational, after_error_control, after_heartbeat, after_initialisation}
 use Rattle.co_device.specs.Device.{is_addressed, is_error_control, is_in, is_producer_time, nmt_service}
 use Rattle.co_device.specs.Device.{out_of_operational, after_power, after_instant, reset_communication}
-use Rattle.co_device.specs.Device.{after_reset_node, after_sdo_request, state_byte, stop_remote_node, after_timers}
+use Rattle.co_device.specs.Device.{after_reset_node, after_sdo_request, stop_remote_node, after_timers}
 use Rattle.co_device.specs.Device.{after_tpdos, after_set, with_emergencies, with_emergency, without_error_if}
 use Rattle.co_device.specs.Receiving.{after_mapping, after_pdo, after_frame, after_rpdo, after_sync, after_receipt}
-use Rattle.co_device.specs.declared.nmt_state.NmtState.{NmtState}
-use Rattle.co_device.specs.declared.nmt_state.NmtState.TheVariants.{Operational, PreOperational, Stopped}
+use Rattle.co_fields.specs.NmtStates.{state_byte}
+use Rattle.co_fields.specs.declared.nmt_state.NmtState.{NmtState}
+use Rattle.co_fields.specs.declared.nmt_state.NmtState.TheVariants.{Operational, PreOperational, Stopped}
 use Rattle.device_laws.specs.States.{HasBooted, HasNoPdo, IsSilent, SaysNothing, nmt_message}
 use Rattle.device_laws.proofs.CaseLemmas.{either, not_both, one_of, picked}
 use Rattle.device_laws.proofs.KeptLemmas.{IsKept, pdo_kept, request_kept, sync_kept}

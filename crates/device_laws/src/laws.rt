@@ -29,7 +29,7 @@ ghost use Rattle.device_laws.specs.Rest.{Rests};
 ghost use Rattle.device_laws.specs.States.{HasBooted, HasNoPdo, IsDark, IsSilent, SaysNothing, StaysItself};
 ghost use Rattle.device_laws.specs.States.{nmt_message};
 
-use co_device::NmtState;
+use co_fields::NmtState;
 use co_parts::Part;
 use co_pdos::Receipt;
 use co_sdo::transfer::Transfer;
@@ -192,7 +192,8 @@ pub fn a_reset_restores_its_entries()
         → (outcome (after_reset_node t d) image).values ≡ values_of (image (Part.Defaults d.number)) }
     ensures communication { (image : Image) (t : ℕ) (d : Device) (place : ℕ × ℕ)
         → map.get (outcome (reset_communication t d) image).values place
-        ≡ (if is_between 0x1000 0x1FFF place.0 then map.get (values_of (image (Part.Defaults d.number))) place else map.get d.values place) }
+        ≡ (if is_between 0x1000 0x1FFF place.0 then map.get (values_of (image (Part.Defaults d.number))) place
+        else map.get d.values place) }
 {}
 
 /// A write of the producer heartbeat time, by SDO or by the application, starts the heartbeat anew,

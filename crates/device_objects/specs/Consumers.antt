@@ -1,7 +1,8 @@
 -- The heartbeat consumers of a device (CiA 301, object 1016h), by sub-index.
-use Rattle.std.specs.Prelude.{ℕ, ◌+◌, ◌*◌, ◌/◌, ◌%◌, ◌==◌, not, ◌&&◌, nat_lt, Bool, true, false, List, filter, flat_map}
+use Rattle.std.specs.Prelude.{ℕ, ◌+◌, ◌*◌, ◌==◌, not, ◌&&◌, nat_lt, Bool, true, false, List, filter, flat_map}
 use Rattle.std.specs.Prelude.{length, map, Some, None, if◌then◌else◌}
 use Rattle.std.specs.List.{list_any, range_with_len}
+use Rattle.co_fields.specs.ConsumerHeartbeatTimes.{consumed_node, consumer_time}
 use Rattle.co_dict.specs.PdoChecks.{has_type, is_unsigned32}
 use Rattle.co_dict.specs.Shapes.{Shaped}
 use Rattle.co_dict.specs.Values.{Values, number_at}
@@ -13,17 +14,9 @@ use Rattle.device_objects.specs.declared.consumer.Consumer.{Consumer}
 abbrev pub consumer_entry : Values → ℕ → ℕ
 consumer_entry values sub = number_at 4 values (0x1016, sub)
 
--- bits 16 to 23: the node whose heartbeat is expected
-abbrev pub producer_of : ℕ → ℕ
-producer_of entry = entry / 0x10000 % 0x100
-
--- bits 0 to 15: the time in milliseconds; 0 is off
-abbrev pub consumer_time : ℕ → ℕ
-consumer_time entry = entry % 0x10000
-
 -- it expects the heartbeat of this node
 abbrev pub expects : ℕ → ℕ → Bool
-expects producer entry = (producer_of entry == producer) && nat_lt 0 (consumer_time entry)
+expects producer entry = (consumed_node entry == producer) && nat_lt 0 (consumer_time entry)
 
 -- ---- the consumers of a device
 

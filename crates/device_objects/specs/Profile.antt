@@ -4,12 +4,11 @@ use Rattle.std.specs.Prelude.{ℕ, ◌*◌, ◌/◌, ◌%◌, ◌-◌, bit_and, 
 use Rattle.std.specs.FinMap.{insert}
 use Rattle.can_frame.specs.Frames.{BaseFrame}
 use Rattle.can_frame.specs.Identifiers.{emergency_id, sync_id}
-use Rattle.co_dict.specs.PdoChecks.{has_type, is_unsigned8, is_unsigned32}
-use Rattle.co_dict.specs.Pdos.{identifier}
+use Rattle.co_fields.specs.CobIds.{identifier_in}
+use Rattle.co_dict.specs.PdoChecks.{has_type, is_unsigned8, is_unsigned16, is_unsigned32}
 use Rattle.co_dict.specs.Shapes.{Shaped}
 use Rattle.co_dict.specs.Values.{Values, number_at}
 use Rattle.co_parts.specs.Moments.{moment_after}
-use Rattle.co_pdos.specs.Working.{is_unsigned16}
 use Rattle.device_objects.specs.declared.learnt.Learnt.{Learnt}
 
 -- what a device learns of its entries at power-on and at each reset: which of these objects are there with their types
@@ -24,7 +23,8 @@ learnt_of shape = record {
 
 -- the identifier of SYNC messages: bits 0 to 10; 080h where the device has none
 unfoldable pub sync_identifier : Learnt → Values → ℕ
-sync_identifier learnt values = if learnt.has_sync_cob_id then identifier (number_at 4 values (0x1005, 0)) else sync_id
+sync_identifier learnt values =
+    if learnt.has_sync_cob_id then identifier_in (number_at 4 values (0x1005, 0)) else sync_id
 
 -- ---- object 1017h: producer heartbeat time
 

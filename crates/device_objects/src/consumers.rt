@@ -1,7 +1,6 @@
 //! The heartbeat consumers of a device, by sub-index.
 
 ghost use Rattle.std.specs.Prelude.{◌≡◌, ◌<◌, IfOk, ◌↔◌, IsTrue};
-ghost use Rattle.co_dict.specs.PdoChecks.{has_type, is_unsigned32};
 ghost use Rattle.co_parts.specs.Moments.{earliest};
 ghost use Rattle.device_objects.specs.Consumers.{consumers_after_time, consumers_after_heartbeat, any_expects};
 ghost use Rattle.device_objects.specs.Consumers.{any_failed as some_failed, consumers_of as consumers_now};
@@ -10,22 +9,12 @@ ghost use Rattle.device_objects.specs.Consumers.{consumer_after_heartbeat, momen
 
 use crate::consumer::{CONSUMER_HEARTBEAT_TIME, Consumer};
 use co_dict::{Dict, Shape};
+use co_fields::ConsumerHeartbeatTime;
 use co_parts::{END, earlier, is_due};
-use co_values::DataType;
 use std::alloc::{AllocError, Global};
 
 /// The last sub-index of an object.
 const LAST_SUB: u8 = 255;
-
-/// Whether there is such an entry, an UNSIGNED32.
-fn has_unsigned_32(shape: &Shape, index: u16, sub: u8) -> bool
-    ensures { result ≡ has_type is_unsigned32 shape.now (index, sub) }
-{
-    match shape.entry(index, sub) {
-        Some(entry) => matches!(entry.kind, DataType::Unsigned32),
-        None => false,
-    }
-}
 
 /// The heartbeat consumers of a device (CiA 301): the sub-indices of 1016h from 1 on that are there as
 /// UNSIGNED32, each with its value. None has started.
@@ -40,19 +29,20 @@ pub fn consumers_of(
     let mut consumers = Vec::new(alloc);
     for i in 0..LAST_SUB {
         let sub = i + 1;
-        if has_unsigned_32(shape, CONSUMER_HEARTBEAT_TIME, sub) {
+        if shape.has_unsigned32(CONSUMER_HEARTBEAT_TIME, sub) {
             consumers.push(Consumer::waiting_for_start(sub, values))?;
         }
     }
     Ok(consumers)
 }
 
-/// Whether a consumer heartbeat time expects the heartbeat of a node: bits 16 to 23 are its number, and
-/// the time isn't 0.
+/// Whether a consumer heartbeat time expects the heartbeat of a node: it names the node, and the time
+/// isn't 0.
 fn expects(producer: u8, entry: u32) -> bool
     ensures { result ≡ expects producer entry }
 {
-    entry / 0x1_0000 % 0x100 == u32::from(producer) && entry % 0x1_0000 > 0
+    let time = ConsumerHeartbeatTime::of(entry);
+    time.node() == producer && time.time() > 0
 }
 
 /// A consumer at an error control frame of a node that comes at the moment t.
@@ -62,7 +52,7 @@ fn hear_one(consumer: &mut Consumer, t: u64, producer: u8)
 {
     let entry = consumer.entry;
     if expects(producer, entry) {
-        consumer.moment = Some(t + 1000 * u64::from(entry % 0x1_0000));
+        consumer.moment = Some(t + 1000 * u64::from(ConsumerHeartbeatTime::of(entry).time()));
         consumer.failed = false;
     }
 }

@@ -1,12 +1,9 @@
 //! What a device learns of its entries.
 
 ghost use Rattle.std.specs.Prelude.{◌≡◌, false, ◌↔◌, IsTrue};
-ghost use Rattle.co_dict.specs.PdoChecks.{has_type, is_unsigned8, is_unsigned32};
-ghost use Rattle.co_pdos.specs.Working.{is_unsigned16};
 ghost use Rattle.device_objects.specs.Profile.{learnt_of};
 
 use co_dict::Shape;
-use co_values::DataType;
 
 /// What a device learns of its entries at power-on and at each reset: which objects of the communication
 /// profile area (CiA 301) are there with their types.
@@ -18,36 +15,6 @@ pub struct Learnt {
     pub has_sync_cob_id: bool,
     /// The producer heartbeat time, 1017h:00, as UNSIGNED16.
     pub has_producer_time: bool,
-}
-
-/// Whether the error register is there, an UNSIGNED8.
-fn has_error_register(shape: &Shape) -> bool
-    ensures { result ≡ has_type is_unsigned8 shape.now (0x1001, 0) }
-{
-    match shape.entry(0x1001, 0) {
-        Some(entry) => matches!(entry.kind, DataType::Unsigned8),
-        None => false,
-    }
-}
-
-/// Whether the COB-ID of SYNC messages is there, an UNSIGNED32.
-fn has_sync_cob_id(shape: &Shape) -> bool
-    ensures { result ≡ has_type is_unsigned32 shape.now (0x1005, 0) }
-{
-    match shape.entry(0x1005, 0) {
-        Some(entry) => matches!(entry.kind, DataType::Unsigned32),
-        None => false,
-    }
-}
-
-/// Whether the producer heartbeat time is there, an UNSIGNED16.
-fn has_producer_time(shape: &Shape) -> bool
-    ensures { result ≡ has_type is_unsigned16 shape.now (0x1017, 0) }
-{
-    match shape.entry(0x1017, 0) {
-        Some(entry) => matches!(entry.kind, DataType::Unsigned16),
-        None => false,
-    }
 }
 
 impl Learnt {
@@ -68,9 +35,9 @@ impl Learnt {
         ensures { result ≡ learnt_of shape.now }
     {
         Learnt {
-            has_error_register: has_error_register(shape),
-            has_sync_cob_id: has_sync_cob_id(shape),
-            has_producer_time: has_producer_time(shape),
+            has_error_register: shape.has_unsigned8(0x1001, 0),
+            has_sync_cob_id: shape.has_unsigned32(0x1005, 0),
+            has_producer_time: shape.has_unsigned16(0x1017, 0),
         }
     }
     /// Whether the other one is the same.

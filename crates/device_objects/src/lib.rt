@@ -1,5 +1,5 @@
 //! The objects of the communication profile area that a device goes by (CiA 301): error register, COB-ID
-//! SYNC, consumer and producer heartbeat time.
+//! SYNC, consumer and producer heartbeat time; and the values and entries that it asks for.
 #![tactic(auto)]
 
 mod consumer;
@@ -10,6 +10,7 @@ pub mod laws;
 mod learnt;
 mod messages;
 mod profile;
+mod shapes;
 
 pub use consumer::Consumer;
 pub use consumers::{
@@ -19,5 +20,6 @@ pub use consumers::{
 pub use defaults::{communication_restored, values_of};
 pub use emergencies::emergency_frame;
 pub use learnt::Learnt;
-pub use messages::{command, eight, is_addressed, producer_of};
+pub use messages::{command, is_addressed, producer_of};
 pub use profile::{clear_error, error_register, next_heartbeat, set_error, sync_identifier};
+pub use shapes::{Shapes, shape_or, without_entries};

@@ -32,13 +32,3 @@ pub fn producer_of(frame: &Frame) -> Option<u8>
         _ => None,
     }
 }
-
-/// The eight bytes of an SDO request.
-pub fn eight(bytes: &[u8]) -> [u8; 8]
-    requires { length bytes.now ≡ 8 }
-    ensures { result ≡ bytes.now }
-{
-    let mut copy = [0; 8];
-    copy.copy_from_slice(bytes);
-    copy
-}

@@ -8,6 +8,7 @@ ghost use Rattle.device_objects.specs.Profile.{sync_identifier as identifier_of_
 use crate::learnt::Learnt;
 use can_frame::identifiers;
 use co_dict::Dict;
+use co_fields::CobId;
 use co_parts::{END, moment_after};
 use std::alloc::AllocError;
 
@@ -23,9 +24,6 @@ const PRODUCER_HEARTBEAT_TIME: u16 = 0x1017;
 /// Bit 0 of the error register, generic error, and bit 4, communication error.
 const ERROR_BITS: u8 = 0x11;
 
-/// Bits 0 to 10 of a COB-ID: the identifier.
-const IDENTIFIER_BITS: u32 = 0x7FF;
-
 /// The identifier of SYNC messages (CiA 301), 0 to 7FFh: bits 0 to 10 of their COB-ID, and 080h where the
 /// device has none.
 #[tactic(auto, unfolding(crate::specs::Profile::sync_identifier))]
@@ -33,7 +31,9 @@ pub fn sync_identifier(learnt: Learnt, values: &Dict) -> u16
     ensures { result ≡ identifier_of_sync learnt values.now }
 {
     if learnt.has_sync_cob_id {
-        (values.number_32(SYNC_COB_ID, 0) & IDENTIFIER_BITS) as u16
+        CobId::of(values.number_32(SYNC_COB_ID, 0))
+            .identifier()
+            .number()
     } else {
         identifiers::sync()
     }

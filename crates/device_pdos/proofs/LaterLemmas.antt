@@ -9,13 +9,13 @@ use Rattle.co_dict.specs.Values.{Values}
 use Rattle.co_parts.specs.Moments.{moments_of}
 use Rattle.co_pdos.specs.declared.communication.Communication.{Communication}
 use Rattle.co_pdos.specs.declared.configuration.Configuration.{Configuration}
-use Rattle.co_pdos.specs.declared.transmission_type.TransmissionType.{TransmissionType}
-use Rattle.co_pdos.specs.declared.transmission_type.TransmissionType.TheVariants.{Acyclic, Cyclic, EventDriven}
-use Rattle.co_pdos.specs.declared.transmission_type.TransmissionType.TheVariants.{Reserved}
+use Rattle.co_fields.specs.declared.transmission_type.TransmissionType.{TransmissionType}
+use Rattle.co_fields.specs.declared.transmission_type.TransmissionType.TheVariants.{Acyclic, Cyclic, EventDriven}
+use Rattle.co_fields.specs.declared.transmission_type.TransmissionType.TheVariants.{Reserved, OnRequest}
 use Rattle.co_pdos.specs.Tpdo.{Remembered, acyclic_turn, cyclic_turn, differs, event_moment, event_turn, has_come}
 use Rattle.co_pdos.specs.Tpdo.{without_past_inhibit, is_ahead, later, moment_from, turn_with_frame, turn_by_type}
 use Rattle.co_pdos.specs.Tpdo.{turn_without_frame}
-use Rattle.co_pdos.specs.TransmissionTypes.{is_event_driven}
+use Rattle.co_fields.specs.TransmissionTypes.{is_event_driven}
 use Rattle.co_pdos.proofs.TpdoLemmas.{event_sent, event_unsent, is_wanted_at}
 use Rattle.device_pdos.specs.Tpdos.{bytes_now, due_of, tpdo_after_inhibit, tpdo_after_turn, moments, tpdo_moment}
 use Rattle.device_pdos.specs.Tpdos.{tpdos_after_inhibit, tpdos_after_turns, turn, waits_for_event}
@@ -135,6 +135,7 @@ later_by_type transmission c at_sync t bytes r h = by transmission
     by (Some Acyclic) = still (acyclic_turn at_sync bytes r).remembered (acyclic_inhibit at_sync bytes r)
     by (Some (Cyclic n)) = still (cyclic_turn n at_sync bytes r).remembered (cyclic_inhibit n at_sync bytes r)
     by (Some Reserved) = still r refl
+    by (Some OnRequest) = still r refl
     by (Some EventDriven) = event_later c t bytes r h
 
 -- ---- one TPDO, and all of a device

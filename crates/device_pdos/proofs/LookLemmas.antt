@@ -9,12 +9,12 @@ use Rattle.co_dict.specs.Values.{Values}
 use Rattle.co_parts.specs.Moments.{moments_of}
 use Rattle.co_pdos.specs.declared.communication.Communication.{Communication}
 use Rattle.co_pdos.specs.declared.configuration.Configuration.{Configuration}
-use Rattle.co_pdos.specs.declared.transmission_type.TransmissionType.{TransmissionType}
-use Rattle.co_pdos.specs.declared.transmission_type.TransmissionType.TheVariants.{Acyclic, Cyclic, EventDriven}
-use Rattle.co_pdos.specs.declared.transmission_type.TransmissionType.TheVariants.{Reserved}
+use Rattle.co_fields.specs.declared.transmission_type.TransmissionType.{TransmissionType}
+use Rattle.co_fields.specs.declared.transmission_type.TransmissionType.TheVariants.{Acyclic, Cyclic, EventDriven}
+use Rattle.co_fields.specs.declared.transmission_type.TransmissionType.TheVariants.{Reserved, OnRequest}
 use Rattle.co_pdos.specs.Tpdo.{Remembered, Turn, acyclic_turn, cyclic_turn, without_past_inhibit, turn_by_type}
 use Rattle.co_pdos.specs.Tpdo.{turn_without_frame}
-use Rattle.co_pdos.specs.TransmissionTypes.{is_event_driven, is_synchronous}
+use Rattle.co_fields.specs.TransmissionTypes.{is_event_driven, is_synchronous}
 use Rattle.co_pdos.proofs.TpdoLemmas.{event_is_sent, event_unsent, held_by_type, still_held}
 use Rattle.device_pdos.specs.Tpdos.{bytes_now, due_of, frame_if, frame_of_turn, tpdo_after_inhibit, goes_by_sync}
 use Rattle.device_pdos.specs.Tpdos.{tpdo_after_turn, moments, tpdo_moment, tpdos_after_inhibit, tpdos_after_turns}
@@ -35,6 +35,7 @@ unsent_stays None c t bytes r e = refl
 unsent_stays (Some Acyclic) c t bytes r e = refl
 unsent_stays (Some (Cyclic n)) c t bytes r e = refl
 unsent_stays (Some Reserved) c t bytes r e = refl
+unsent_stays (Some OnRequest) c t bytes r e = refl
 unsent_stays (Some EventDriven) c t bytes r e = event_unsent c t bytes r (sym (event_is_sent c t bytes r) ∙ e)
 
 not_if : (is_sent : Bool) (id : ℕ) (bytes : List ℕ) → frame_if is_sent id bytes ≡ None → is_sent ≡ false
@@ -66,6 +67,7 @@ silent None c t bytes r e = absurd cc
 silent (Some Acyclic) c t bytes r e = refl
 silent (Some (Cyclic n)) c t bytes r e = refl
 silent (Some Reserved) c t bytes r e = absurd cc
+silent (Some OnRequest) c t bytes r e = absurd cc
 silent (Some EventDriven) c t bytes r e = absurd cc
 
 without_sync : (configuration : Option Configuration) (t : ℕ) (values : Values) (r : Remembered)
@@ -93,6 +95,7 @@ held_type None c at_sync t m bytes r event e h = absurd cc
 held_type (Some Acyclic) c at_sync t m bytes r event e h = absurd cc
 held_type (Some (Cyclic n)) c at_sync t m bytes r event e h = absurd cc
 held_type (Some Reserved) c at_sync t m bytes r event e h = absurd cc
+held_type (Some OnRequest) c at_sync t m bytes r event e h = absurd cc
 held_type (Some EventDriven) c at_sync t m bytes r event e h = held_by_type c at_sync t m bytes r e h
 
 held_turn : (configuration : Option Configuration) (at_sync : Bool) (t m : ℕ) (values : Values) (r : Remembered)

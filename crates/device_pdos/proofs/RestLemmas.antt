@@ -11,12 +11,12 @@ use Rattle.co_dict.specs.Values.{Values}
 use Rattle.co_parts.specs.Moments.{moments_of}
 use Rattle.co_pdos.specs.declared.communication.Communication.{Communication}
 use Rattle.co_pdos.specs.declared.configuration.Configuration.{Configuration}
-use Rattle.co_pdos.specs.declared.transmission_type.TransmissionType.{TransmissionType}
-use Rattle.co_pdos.specs.declared.transmission_type.TransmissionType.TheVariants.{Acyclic, Cyclic, EventDriven}
-use Rattle.co_pdos.specs.declared.transmission_type.TransmissionType.TheVariants.{Reserved}
+use Rattle.co_fields.specs.declared.transmission_type.TransmissionType.{TransmissionType}
+use Rattle.co_fields.specs.declared.transmission_type.TransmissionType.TheVariants.{Acyclic, Cyclic, EventDriven}
+use Rattle.co_fields.specs.declared.transmission_type.TransmissionType.TheVariants.{Reserved, OnRequest}
 use Rattle.co_pdos.specs.Tpdo.{Remembered, acyclic_turn, cyclic_turn, differs, event_turn, has_come}
 use Rattle.co_pdos.specs.Tpdo.{without_past_inhibit, is_ahead, turn_by_type}
-use Rattle.co_pdos.specs.TransmissionTypes.{is_event_driven}
+use Rattle.co_fields.specs.TransmissionTypes.{is_event_driven}
 use Rattle.co_pdos.proofs.TpdoLemmas.{event_is_sent, event_sent, event_unsent, is_wanted_at, moments_set}
 use Rattle.device_pdos.specs.Tpdos.{bytes_now, due_of, frame_if, frame_of_turn, is_wanted, is_wanted_by, moments}
 use Rattle.device_pdos.specs.Tpdos.{tpdo_moment, tpdos_after_turns, turn, waits_for_event, with_tpdos}
@@ -110,6 +110,7 @@ looked_idle None c at_sync t bytes r = refl
 looked_idle (Some Acyclic) c at_sync t bytes r = refl
 looked_idle (Some (Cyclic n)) c at_sync t bytes r = refl
 looked_idle (Some Reserved) c at_sync t bytes r = refl
+looked_idle (Some OnRequest) c at_sync t bytes r = refl
 looked_idle (Some EventDriven) c at_sync t bytes r = event_unwanted c t bytes r
 
 idle_unsent : (transmission : Option TransmissionType) (c : Communication) (u : ℕ) (bytes : List ℕ) (r : Remembered)
@@ -120,6 +121,7 @@ idle_unsent None c u bytes r ahead unwanted = refl
 idle_unsent (Some Acyclic) c u bytes r ahead unwanted = refl
 idle_unsent (Some (Cyclic n)) c u bytes r ahead unwanted = refl
 idle_unsent (Some Reserved) c u bytes r ahead unwanted = refl
+idle_unsent (Some OnRequest) c u bytes r ahead unwanted = refl
 idle_unsent (Some EventDriven) c u bytes r ahead unwanted = event_is_sent c u bytes r
     ∙ unwanted_unsent u bytes r ahead unwanted
 

@@ -12,11 +12,11 @@ use Rattle.co_mapping.specs.Packing.{packed}
 use Rattle.co_parts.specs.Moments.{moments_of}
 use Rattle.co_pdos.specs.Configured.{configuration_of}
 use Rattle.co_pdos.specs.Tpdo.{Remembered, Turn, differs, remembering_nothing, without_past_inhibit, turn_by_type}
-use Rattle.co_pdos.specs.TransmissionTypes.{is_event_driven, is_synchronous}
+use Rattle.co_fields.specs.TransmissionTypes.{is_event_driven, is_synchronous}
 use Rattle.co_pdos.specs.Working.{tpdo_object}
 use Rattle.co_pdos.specs.declared.communication.Communication.{Communication}
 use Rattle.co_pdos.specs.declared.configuration.Configuration.{Configuration}
-use Rattle.co_pdos.specs.declared.transmission_type.TransmissionType.{TransmissionType}
+use Rattle.co_fields.specs.declared.transmission_type.TransmissionType.{TransmissionType}
 use Rattle.device_pdos.specs.Objects.{number_of_object, numbers_of}
 use Rattle.device_pdos.specs.declared.tpdo_state.TpdoState.{TpdoState}
 

@@ -1,5 +1,4 @@
 pub mod Codes
-pub mod Identifiers
 pub mod Order
 pub mod Sets
 pub mod Lines

@@ -3,7 +3,6 @@
 
 mod code;
 mod diag;
-mod identifier;
 mod lines;
 mod name;
 mod sorting;
@@ -11,7 +10,6 @@ mod subject;
 
 pub use code::Code;
 pub use diag::Diag;
-pub use identifier::Identifier;
 pub use lines::text;
 pub use name::Name;
 pub use sorting::sort_once;

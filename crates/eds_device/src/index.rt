@@ -28,7 +28,8 @@ fn note_place(
     position: usize,
 ) -> Result<(), AllocError>
     ensures { OnOk result ((key : ℕ × ℕ) → lookup (is_at (place_cmp key)) table.new.entries
-        ≡ option_or (lookup (is_at (place_cmp key)) table.old.entries) (if is_place key named then Some position else None)) }
+        ≡ option_or (lookup (is_at (place_cmp key)) table.old.entries)
+        (if is_place key named then Some position else None)) }
 {
     if let Some(place) = named
         && !table.contains_key(&place)
@@ -45,7 +46,8 @@ fn note_index(
     position: usize,
 ) -> Result<(), AllocError>
     ensures { OnOk result ((key : ℕ) → lookup (is_at (nat_cmp key)) table.new.entries
-        ≡ option_or (lookup (is_at (nat_cmp key)) table.old.entries) (if is_index key named then Some position else None)) }
+        ≡ option_or (lookup (is_at (nat_cmp key)) table.old.entries)
+        (if is_index key named then Some position else None)) }
 {
     if let Some(index) = named
         && !table.contains_key(&index)
@@ -62,7 +64,8 @@ fn note_sub(
     position: usize,
 ) -> Result<(), AllocError>
     ensures { OnOk result ((key : ℕ) → lookup (is_at (nat_cmp key)) table.new.entries
-        ≡ option_or (lookup (is_at (nat_cmp key)) table.old.entries) (if is_index key named then Some position else None)) }
+        ≡ option_or (lookup (is_at (nat_cmp key)) table.old.entries)
+        (if is_index key named then Some position else None)) }
 {
     if let Some(sub) = named
         && !table.contains_key(&sub)
@@ -79,7 +82,8 @@ fn note_values(
     listed: Listed,
 ) -> Result<(), AllocError>
     ensures { OnOk result ((key : ℕ) → lookup (is_at (nat_cmp key)) table.new.entries
-        ≡ option_or (lookup (is_at (nat_cmp key)) table.old.entries) (if is_index key (Some index) then Some listed else None)) }
+        ≡ option_or (lookup (is_at (nat_cmp key)) table.old.entries)
+        (if is_index key (Some index) then Some listed else None)) }
 {
     if !table.contains_key(&index) {
         table.insert(index, listed)?;

@@ -18,6 +18,7 @@ use Rattle.byteorder.specs.Endian.{little_bytes}
 use Rattle.co_base.specs.Ranges.{is_between}
 use Rattle.co_dict.specs.Pdos.{is_of_pdos}
 use Rattle.co_values.specs.declared.form.Width.TheVariants.{Bits16}
+use Rattle.co_fields.specs.CobIds.{no_rtr_bit, off_bit}
 use Rattle.concise_dcf.specs.declared.write.Write.{Write}
 use Rattle.ini_text.specs.Content.{Section}
 use Rattle.co_params.specs.Params.{Texts}
@@ -33,7 +34,7 @@ use Rattle.pdo_plan.specs.Mapping.{mapped_bytes}
 use Rattle.pdo_plan.specs.Plan.{clean, IsNumbered, IsWithin}
 use Rattle.pdo_plan.proofs.LimitLemmas.{between}
 use Rattle.pdo_links.specs.Order.{IsOfSent, IsOfTaken, IsSentAlone, IsTakenAlone}
-use Rattle.pdo_links.specs.Writes.{write_at, cob_write, off_bit, no_rtr_bit, taken_type, mapped_writes, mapping_writes}
+use Rattle.pdo_links.specs.Writes.{write_at, cob_write, taken_type, mapped_writes, mapping_writes}
 use Rattle.pdo_links.specs.Writes.{time_write, tpdo_writes, rpdo_writes, at_number, by_number, tpdo_of, rpdo_of}
 use Rattle.pdo_links.specs.Writes.{link_writes, node_writes}
 use Rattle.pdo_links.proofs.Numbered.{Sends, Takes, sends, takes}

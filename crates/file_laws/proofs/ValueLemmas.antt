@@ -9,8 +9,7 @@ use Rattle.ini_text.specs.Printable.{IsPrintable, IsValue}
 use Rattle.concise_dcf.specs.declared.write.Write.{Write}
 use Rattle.co_values.specs.declared.data_type.DataType.{DataType}
 use Rattle.co_values.specs.declared.data_type.DataType.TheVariants.{VisibleString}
-use Rattle.co_values.specs.declared.form.Form.{Form}
-use Rattle.co_values.specs.declared.form.Form.TheVariants.{Flag, Signed, Unsigned, Characters, HexPairs, Unmodelled}
+use Rattle.co_values.specs.declared.form.Form.TheVariants.{Unsigned, Characters}
 use Rattle.co_values.specs.declared.form.Width.{Width}
 use Rattle.co_values.specs.declared.form.Width.TheVariants.{Bits8, Bits16, Bits32, Bits64}
 use Rattle.co_values.specs.Types.{form, is_modelled, is_modelled_form, octets}
@@ -24,7 +23,8 @@ use Rattle.co_params.specs.Judgement.{Suits}
 use Rattle.co_params.specs.Parameters.{parameter_writes, place_of}
 use Rattle.co_params.proofs.JudgedLemmas.{judged_entry}
 use Rattle.co_params.proofs.ParameterLemmas.{kind_of_entry, nothing_else, writes_sized}
-use Rattle.pdo_stations.specs.Devices.{is_unsigned_form, takes_unsigned}
+use Rattle.pdo_stations.specs.Devices.{is_unsigned, takes_unsigned}
+use Rattle.pdo_stations.proofs.UnsignedLemmas.{unsigned_form}
 use Rattle.pdo_plan.specs.declared.clean.Clean.{Clean}
 use Rattle.pdo_plan.specs.declared.consumer.Consumer.{Consumer}
 use Rattle.pdo_plan.specs.declared.planned_message.PlannedMessage.{PlannedMessage}
@@ -32,7 +32,7 @@ use Rattle.pdo_plan.specs.Plan.{clean, IsMadeFor, IsNumbered, IsWithin}
 use Rattle.pdo_links.specs.Order.{IsOfSent, IsOfTaken}
 use Rattle.pdo_links.specs.Tables.{AreMapped}
 use Rattle.pdo_links.specs.Writes.{by_number, link_writes, node_writes, rpdo_of, rpdo_writes, tpdo_of, tpdo_writes}
-use Rattle.pdo_links.proofs.Values.{first_of, fits_form, rpdo_taken, second_of, tpdo_taken, IsTaken}
+use Rattle.pdo_links.proofs.Values.{first_of, fits_unsigned, rpdo_taken, second_of, tpdo_taken, IsTaken}
 use Rattle.pdo_links.proofs.WhoseLemmas.{of_either, of_rpdos, of_tpdos}
 use Rattle.std.specs.Prelude.{filter_map}
 use Rattle.eds_dcf.specs.Printable.{StandsInLine}
@@ -87,13 +87,8 @@ module _ (ss : List Section) (node : ℕ) where
 
   -- ---- PDOs
 
-  unsigned_modelled : (width : Width) (f : Form) → is_unsigned_form width f ≡ true → is_modelled_form f ≡ true
-  unsigned_modelled width (Unsigned w) e = refl
-  unsigned_modelled width Flag e = cc
-  unsigned_modelled width (Signed w) e = cc
-  unsigned_modelled width Characters e = cc
-  unsigned_modelled width HexPairs e = cc
-  unsigned_modelled width Unmodelled e = cc
+  unsigned_modelled : (kind : DataType) (width : Width) → is_unsigned kind width ≡ true → is_modelled kind ≡ true
+  unsigned_modelled kind width e = ap is_modelled_form (unsigned_form kind width e)
 
   some_octets : (w : Width) → 0 < octets w
   some_octets Bits8 = omega arith
@@ -101,9 +96,10 @@ module _ (ss : List Section) (node : ℕ) where
   some_octets Bits32 = omega arith
   some_octets Bits64 = omega arith
 
-  no_characters : (width : Width) (f : Form) → is_unsigned_form width f ≡ true → f ≡ Characters → ⊥
-  no_characters width f e is = let contrary : is_unsigned_form width Characters
-      ≡ true = subst (λ (g : Form). is_unsigned_form width g ≡ true) is e in cc
+  no_characters : (kind : DataType) (width : Width) → is_unsigned kind width ≡ true → form kind ≡ Characters → ⊥
+  no_characters kind width e is =
+      let contrary : Unsigned width ≡ Characters = sym (unsigned_form kind width e) ∙ is in
+      cc
 
   taken_given : (w : Write) → IsTaken ss node w → IsGivenBy w
   taken_given w taken = by (entry_at ss node w.index w.sub) refl taken.takes
@@ -112,20 +108,20 @@ module _ (ss : List Section) (node : ℕ) where
           → option_map_or (takes_unsigned taken.width) o false ≡ true → IsGivenBy w
       by None is test = cc
       by (Some entry) is test =
-          let unsigned : is_unsigned_form taken.width (form entry.kind)
-          ≡ true = first_of (is_unsigned_form taken.width (form entry.kind)) (is_writable entry.access) test in
+          let unsigned : is_unsigned entry.kind taken.width
+          ≡ true = first_of (is_unsigned entry.kind taken.width) (is_writable entry.access) test in
           let bytes : 0 < length w.bytes = subst (λ (n : ℕ). 0 < n) (sym taken.long) (some_octets taken.width) in
           record {
             entry = entry;
             there = is;
-            modelled = unsigned_modelled taken.width (form entry.kind) unsigned;
-            writable = second_of (is_unsigned_form taken.width (form entry.kind)) (is_writable entry.access) test;
+            modelled = unsigned_modelled entry.kind taken.width unsigned;
+            writable = second_of (is_unsigned entry.kind taken.width) (is_writable entry.access) test;
             again = value-printed entry.kind w.bytes node (
               taken.are,
-              fits_form taken.width (form entry.kind) w.bytes unsigned taken.long,
+              fits_unsigned entry.kind taken.width w.bytes unsigned taken.long,
             );
             some = bytes;
-            in_line = λ string. absurd (no_characters taken.width (form entry.kind) unsigned (ap form string));
+            in_line = λ string. absurd (no_characters entry.kind taken.width unsigned (ap form string));
           }
 
   module _ (plan : List PlannedMessage) (made : IsMadeFor plan ss node) (within : All IsWithin (clean plan))

@@ -16,3 +16,4 @@ pub use fault::IniFault;
 pub use ini::Ini;
 pub use pair::Pair;
 pub use section::Section;
+pub use text::{is_bad_byte, is_long_line};

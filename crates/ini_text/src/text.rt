@@ -58,7 +58,8 @@ pub(crate) fn without_mark(text: &[u8]) -> &[u8]
     }
 }
 
-fn is_bad_byte(byte: u8) -> bool
+/// Whether a text may not have a byte: one below 20h other than tab, LF and CR.
+pub fn is_bad_byte(byte: u8) -> bool
     ensures { result ≡ is_bad_byte byte }
 {
     byte < 0x20 && !(byte == b'\t' || byte == b'\n' || byte == b'\r')
@@ -75,7 +76,8 @@ pub(crate) fn has_bad_byte(text: &[u8]) -> bool
     has_bad
 }
 
-fn is_long_line(line: &[u8]) -> bool
+/// Whether a line has over 4,096 bytes, the CRs at its end not counted.
+pub fn is_long_line(line: &[u8]) -> bool
     ensures { result ≡ is_long_line line.now }
 {
     without_crs(line).len() > MAX_LINE

@@ -1,15 +1,14 @@
 -- A node is noted configured only where its writes end.
-use Rattle.std.proofs.Common.{◌≡◌, ℕ, zero, suc, ◌+◌, ◌<◌, Bool, true, false, List, [], ◌∷◌, ◌++◌, get_or, Option, Some}
+use Rattle.std.proofs.Common.{◌≡◌, ℕ, zero, suc, ◌+◌, ◌<◌, List, [], ◌∷◌, ◌++◌, get_or, Option, Some}
 use Rattle.std.proofs.Common.{None, ◌⊎◌, inl, inr, ap, subst, arith}
-use Rattle.std.specs.Prelude.{Contains, if◌then◌else◌}
+use Rattle.std.specs.Prelude.{Contains, map}
 use Rattle.std.proofs.lemmas.List.Elements.{Contains-append_cases}
 use Rattle.asking.specs.Asking.{Asking, outcome, reads}
 use Rattle.can_frame.specs.Frames.{BaseFrame}
 use Rattle.co_parts.specs.Contents.{Content, Image}
 use Rattle.co_parts.specs.declared.part.Part.{Part}
-use Rattle.node_boot.proofs.EndLemmas.{Ends, EndsAt, boot_ends, answer_ends}
-use Rattle.node_boot.specs.Boot.{is_timed_out, sdo_time_out}
-use Rattle.node_boot.specs.Ends.{IsAbsent, IsAtLast}
+use Rattle.node_boot.proofs.EndLemmas.{Ends, boot_ends, answer_ends}
+use Rattle.node_boot.specs.Ends.{IsAbsent}
 use Rattle.node_boot.specs.declared.boot_stage.BootStage.{BootStage}
 use Rattle.node_boot.specs.declared.boot_stage.BootStage.TheVariants.{Unseen, Comparing, Writing, Configured, Failed}
 use Rattle.node_boot.specs.declared.boot_step.BootStep.{BootStep}
@@ -17,8 +16,8 @@ use Rattle.node_boot.specs.declared.note_kind.NoteKind.{NoteKind}
 use Rattle.node_boot.specs.declared.note_kind.NoteKind.TheVariants as kind
 use Rattle.nmt_boot.proofs.FrameLemmas.{received_holds}
 use Rattle.nmt_boot.specs.Ends.{configured_note, WritesEnd}
-use Rattle.nmt_boot.specs.Manager.{Manager, node_at, note_of_loss, notes_after, notes_after_all, notes_of, after_frame}
-use Rattle.nmt_boot.specs.Manager.{time_outs, timers}
+use Rattle.nmt_boot.specs.Manager.{Manager, node_at, note_of_loss, note_of_time_out, notes_of, after_frame}
+use Rattle.nmt_boot.specs.Manager.{time_outs, timed_out, timers}
 use Rattle.nmt_boot.specs.declared.booting.Booting.{Booting}
 use Rattle.node_boot.specs.declared.note.Note.{Note}
 
@@ -54,61 +53,47 @@ lost_only Failed e = cc
 
 module _ (image : Image) (t : ℕ) (frame : BaseFrame) (m : Manager) (node : ℕ) where
   abbrev Told : Manager × List Note → List (Part × Content) → Type 0
-  Told r read = Contains r.1 (configured_note node) → WritesEnd image m node read
+  Told r read = Contains r.1 (configured_note node) → WritesEnd image node read
 
-  begun_ends : (i : ℕ) (n : ℕ) (stage : BootStage) (a : Asking Part Content BootStep) → Ends image n a
+  turned_ends : (n : ℕ) (a : Asking Part Content BootStep) → Ends image n a
+      → Contains (notes_of n (outcome a image).note) (configured_note node) → WritesEnd image node (reads a image)
+  turned_ends n a ends h =
+      let told = noted_by n node (outcome a image).note h in
+      subst (λ (x : ℕ). (place : ℕ) × IsAbsent image x (reads a image) place) told.0 (ends told.1)
+
+  begun_ends : (n : ℕ) (stage : BootStage) (a : Asking Part Content BootStep) → Ends image n a
       → Contains (notes_of n (note_of_loss stage) ++ notes_of n (outcome a image).note) (configured_note node)
-      → WritesEnd image m node (reads a image)
-  begun_ends i n stage a ends h = by (Contains-append_cases _ _ _ h)
+      → WritesEnd image node (reads a image)
+  begun_ends n stage a ends h = by (Contains-append_cases _ _ _ h)
     where
       by : Contains (notes_of n (note_of_loss stage)) (configured_note node)
-          ⊎ Contains (notes_of n (outcome a image).note) (configured_note node) → WritesEnd image m node (reads a image)
+          ⊎ Contains (notes_of n (outcome a image).note) (configured_note node) → WritesEnd image node (reads a image)
       by (inl first) = absurd (lost_only stage (noted_by n node (note_of_loss stage) first).1)
-      by (inr second) =
-          let told = noted_by n node (outcome a image).note second in
-          inl (subst (λ (x : ℕ). (place : ℕ) × IsAbsent image x (reads a image) place) told.0 (ends told.1))
-
-  turned_ends : (i : ℕ) (a : Asking Part Content BootStep)
-      → EndsAt image (node_at m.nodes i).number 0 (node_at m.nodes i).stage a
-      → Contains (notes_of (node_at m.nodes i).number (outcome a image).note) (configured_note node)
-      → WritesEnd image m node (reads a image)
-  turned_ends i a ends h =
-      let told = noted_by (node_at m.nodes i).number node (outcome a image).note h in
-      by told.0 (ends told.1)
-    where
-      by : (node_at m.nodes i).number ≡ node
-          → ((place : ℕ) × IsAbsent image (node_at m.nodes i).number (reads a image) place)
-          ⊎ IsAtLast (node_at m.nodes i).stage → WritesEnd image m node (reads a image)
-      by same (inl absent) = inl (subst (λ (x : ℕ). (place : ℕ) × IsAbsent image x (reads a image) place) same absent)
-      by same (inr last) = inr (i, (same, last))
+      by (inr second) = turned_ends n a ends second
 
   pub frame_ends : Told (outcome (after_frame t frame m) image) (reads (after_frame t frame m) image)
   frame_ends = received_holds image t frame m Told
       (λ h. absurd (none_in (configured_note node) h))
-      (λ i e h. begun_ends i (node_at m.nodes i).number (node_at m.nodes i).stage _
+      (λ i e h. begun_ends (node_at m.nodes i).number (node_at m.nodes i).stage _
       (boot_ends image (node_at m.nodes i).number (t + m.timeout)) h)
-      (λ i e h. turned_ends i _ (answer_ends image (node_at m.nodes i).number (t + m.timeout)
+      (λ i e h. turned_ends (node_at m.nodes i).number _ (answer_ends image (node_at m.nodes i).number (t + m.timeout)
       (node_at m.nodes i).stage frame.bytes) h)
 
 -- ---- time-outs say nothing of the kind
 
-after_by : (b : Bool) (n : Booting) (node : ℕ)
-    → Contains (if b then notes_of n.number (sdo_time_out n.stage).note else []) (configured_note node) → ⊥
-unfolding sdo_time_out
-after_by true n node h = let e = (noted_by n.number node (Some kind.TimedOut) h).1 in cc
-after_by false n node h = none_in (configured_note node) h
+neither : (n : Booting) (ns : List Booting) (node : ℕ)
+    → Contains (note_of_time_out n ∷ []) (configured_note node)
+    ⊎ Contains (map note_of_time_out ns) (configured_note node)
+    → (Contains (map note_of_time_out ns) (configured_note node) → ⊥) → ⊥
+neither n ns node (inl here) rest =
+    let e = ap (λ (note : Note). note.kind) (one_in _ (configured_note node) here) in cc
+neither n ns node (inr there) rest = rest there
 
-neither : (t : ℕ) (n : Booting) (ns : List Booting) (node : ℕ) → Contains (notes_after t n) (configured_note node)
-    ⊎ Contains (notes_after_all t ns) (configured_note node)
-    → (Contains (notes_after_all t ns) (configured_note node) → ⊥) → ⊥
-neither t n ns node (inl here) rest = after_by (is_timed_out t n.stage) n node here
-neither t n ns node (inr there) rest = rest there
-
-none_after : (t : ℕ) (ns : List Booting) (node : ℕ) → Contains (notes_after_all t ns) (configured_note node) → ⊥
-none_after t [] node h = none_in (configured_note node) h
-none_after t (n ∷ ns) node h = neither t n ns node (Contains-append_cases (notes_after t n) (notes_after_all t ns) _ h)
-    (none_after t ns node)
+none_of : (ns : List Booting) (node : ℕ) → Contains (map note_of_time_out ns) (configured_note node) → ⊥
+none_of [] node h = none_in (configured_note node) h
+none_of (n ∷ ns) node h =
+    neither n ns node (Contains-append_cases (note_of_time_out n ∷ []) (map note_of_time_out ns) _ h) (none_of ns node)
 
 pub timers_end_none : (t : ℕ) (m : Manager) (node : ℕ) → Contains (timers t m).1 (configured_note node) → ⊥
 unfolding timers time_outs
-timers_end_none t m node h = none_after t m.nodes node h
+timers_end_none t m node h = none_of (timed_out t m.nodes) node h

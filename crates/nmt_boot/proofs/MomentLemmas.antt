@@ -6,13 +6,12 @@ use Rattle.std.proofs.lemmas.Bool.Decides.{nat_tests}
 use Rattle.std.proofs.lemmas.List.Elements.{All-append, All-cons, All-head, All-nil, All-tail}
 use Rattle.can_frame.specs.WaitingFrames.{with_latest}
 use Rattle.can_frame.specs.declared.purpose.Purpose.TheVariants.{Heartbeat, Sync}
-use Rattle.can_frame.specs.declared.waiting.Waiting.{Waiting}
 use Rattle.co_scenario.specs.declared.nmt_command.NmtCommand.{NmtCommand}
 use Rattle.co_parts.specs.Moments.{is_due, moment_after, moments_of}
 use Rattle.nmt_boot.specs.Ahead.{IsAhead}
 use Rattle.node_boot.specs.Boot.{deadline_of, is_at, is_timed_out, sdo_time_out}
 use Rattle.nmt_boot.specs.Manager.{Manager, with_command, deadlines, heartbeat_frame, heartbeats, moments, node_after}
-use Rattle.nmt_boot.specs.Manager.{notes_after_all, queue_after_all, sync_frame, syncs, time_outs, timers}
+use Rattle.nmt_boot.specs.Manager.{sync_frame, syncs, time_outs, timed_out, timers}
 use Rattle.node_boot.specs.declared.boot_stage.BootStage.{BootStage}
 use Rattle.nmt_boot.specs.declared.booting.Booting.{Booting}
 use Rattle.node_boot.specs.declared.note.Note.{Note}
@@ -94,21 +93,13 @@ pub quiet_nodes : (t : ℕ) (ns : List Booting) → AreFrom (t + 1) ns → map (
 quiet_nodes t [] h = refl
 quiet_nodes t (n ∷ ns) h = rw (not_at t (deadline_of n.stage) h.0, quiet_nodes t ns h.1) refl
 
-pub quiet_queue : (t : ℕ) (ns : List Booting) (ws : List Waiting) → AreFrom (t + 1) ns → queue_after_all t ns ws ≡ ws
-quiet_queue t [] ws h = refl
-quiet_queue t (n ∷ ns) ws h = rw (not_at t (deadline_of n.stage) h.0) (quiet_queue t ns ws h.1)
-
-pub quiet_notes : (t : ℕ) (ns : List Booting) → AreFrom (t + 1) ns → notes_after_all t ns ≡ []
-quiet_notes t [] h = refl
-quiet_notes t (n ∷ ns) h = rw (not_at t (deadline_of n.stage) h.0) (quiet_notes t ns h.1)
+pub quiet_list : (t : ℕ) (ns : List Booting) → AreFrom (t + 1) ns → timed_out t ns ≡ []
+quiet_list t [] h = refl
+quiet_list t (n ∷ ns) h = rw (not_at t (deadline_of n.stage) h.0) (quiet_list t ns h.1)
 
 quiet_time_outs : (t : ℕ) (m : Manager) → AreFrom (t + 1) m.nodes → time_outs t m ≡ (m, [])
 unfolding time_outs
-quiet_time_outs t m from = rw (
-  quiet_nodes t m.nodes from,
-  quiet_queue t m.nodes m.waiting from,
-  quiet_notes t m.nodes from,
-) refl
+quiet_time_outs t m from = rw (quiet_nodes t m.nodes from, quiet_list t m.nodes from) refl
 
 quiet_beats : (t : ℕ) (m : Manager) → IfSome m.heartbeat (λ d. t + 1 ≤ d) → heartbeats t m ≡ m
 unfolding heartbeats

@@ -2,10 +2,9 @@
 use Rattle.std.proofs.Common.{◌≡◌, ℕ, ◌+◌, ◌<◌, ◌≤◌, List, [], ◌∷◌, map, Option, Some, None, IfSome, subst, arith}
 use Rattle.co_parts.specs.Moments.{earlier, earliest}
 use Rattle.node_boot.specs.Boot.{deadline_of}
-use Rattle.can_frame.specs.declared.waiting.Waiting.{Waiting}
 use Rattle.nmt_boot.proofs.EarliestLemmas.{first_then}
-use Rattle.nmt_boot.proofs.MomentLemmas.{AreFrom, quiet_nodes, quiet_notes, quiet_queue}
-use Rattle.nmt_boot.specs.Manager.{deadlines, node_after, notes_after_all, queue_after_all}
+use Rattle.nmt_boot.proofs.MomentLemmas.{AreFrom, quiet_list, quiet_nodes}
+use Rattle.nmt_boot.specs.Manager.{deadlines, node_after, timed_out}
 use Rattle.nmt_boot.specs.declared.booting.Booting.{Booting}
 
 -- the first of the deadlines, if there is one, lies after t
@@ -29,8 +28,5 @@ are_from t (n ∷ ns) h =
 pub nodes_stay : (t : ℕ) (ns : List Booting) → IsQuiet t ns → map (node_after t) ns ≡ ns
 nodes_stay t ns h = quiet_nodes t ns (are_from t ns h)
 
-pub queue_stays : (t : ℕ) (ns : List Booting) (ws : List Waiting) → IsQuiet t ns → queue_after_all t ns ws ≡ ws
-queue_stays t ns ws h = quiet_queue t ns ws (are_from t ns h)
-
-pub nothing_noted : (t : ℕ) (ns : List Booting) → IsQuiet t ns → notes_after_all t ns ≡ []
-nothing_noted t ns h = quiet_notes t ns (are_from t ns h)
+pub none_times_out : (t : ℕ) (ns : List Booting) → IsQuiet t ns → timed_out t ns ≡ []
+none_times_out t ns h = quiet_list t ns (are_from t ns h)

@@ -1,17 +1,14 @@
 -- How the writes of a node end.
-use Rattle.std.specs.Prelude.{◌≡◌, ℕ, ◌⊎◌, List}
+use Rattle.std.specs.Prelude.{ℕ, List}
 use Rattle.co_parts.specs.Contents.{Content, Image}
 use Rattle.co_parts.specs.declared.part.Part.{Part}
-use Rattle.nmt_boot.specs.Manager.{Manager, node_at}
 use Rattle.node_boot.specs.declared.note.Note.{Note}
-use Rattle.node_boot.specs.Ends.{IsAbsent, IsAtLast}
+use Rattle.node_boot.specs.Ends.{IsAbsent}
 use Rattle.node_boot.specs.declared.note_kind.NoteKind.TheVariants as kind
 
 abbrev pub configured_note : ℕ → Note
 configured_note node = record { node = node; kind = kind.Configured }
 
--- the writes of a node end: one was asked for and is absent, or the one with the greatest number was under way
-abbrev pub WritesEnd : Image → Manager → ℕ → List (Part × Content) → Type 0
-WritesEnd image m node read =
-    ((place : ℕ) × IsAbsent image node read place)
-    ⊎ ((i : ℕ) × (((node_at m.nodes i).number ≡ node) × IsAtLast (node_at m.nodes i).stage))
+-- the writes of a node end: one was asked for and is absent
+abbrev pub WritesEnd : Image → ℕ → List (Part × Content) → Type 0
+WritesEnd image node read = (place : ℕ) × IsAbsent image node read place

@@ -1,7 +1,7 @@
 -- The NMT manager (CiA 302): the boots of its nodes, its own heartbeat, its SYNC (CiA 301), and the frames that it has
 -- waiting. All nodes boot side by side.
-use Rattle.std.specs.Prelude.{ℕ, ◌+◌, ◌*◌, ◌==◌, Bool, false, List, [], ◌∷◌, ◌++◌, length, map, slice_index_or}
-use Rattle.std.specs.Prelude.{slice_set, Option, Some, None, if◌then◌else◌}
+use Rattle.std.specs.Prelude.{ℕ, ◌+◌, ◌*◌, ◌==◌, Bool, false, List, [], ◌∷◌, ◌++◌, length, map, filter}
+use Rattle.std.specs.Prelude.{slice_index_or, slice_set, Option, Some, None, if◌then◌else◌}
 use Rattle.std.specs.List.{flat_map, position}
 use Rattle.asking.specs.Asking.{Asking, Answer, bind}
 use Rattle.can_frame.specs.Frames.{BaseFrame}
@@ -181,29 +181,33 @@ after_frame t frame m =
 
 -- ---- timers: time-outs by node, the heartbeat, and then SYNC
 
--- a request that still waits is dropped, and an abort is queued
+-- the nodes of which a request times out at t
+abbrev pub timed_out : ℕ → List Booting → List Booting
+timed_out t nodes = filter (λ node. is_timed_out t node.stage) nodes
+
+-- the boot of each of them has failed
 abbrev pub node_after : ℕ → Booting → Booting
 node_after t node = if is_timed_out t node.stage then record node { stage = (sdo_time_out node.stage).stage } else node
 
-abbrev pub queue_after : ℕ → Booting → List Waiting → List Waiting
-queue_after t node ws = if is_timed_out t node.stage
-    then waiting_after node.number (sdo_time_out node.stage) (without_unwanted (SdoOf node.number) ws) else ws
+-- a request to it that still waits is dropped, and an abort is queued
+abbrev pub queue_after_time_out : Booting → List Waiting → List Waiting
+queue_after_time_out node ws =
+    waiting_after node.number (sdo_time_out node.stage) (without_unwanted (SdoOf node.number) ws)
 
-abbrev pub notes_after : ℕ → Booting → List Note
-notes_after t node = if is_timed_out t node.stage then notes_of node.number (sdo_time_out node.stage).note else []
+abbrev pub queue_after_time_outs : List Booting → List Waiting → List Waiting
+queue_after_time_outs [] ws = ws
+queue_after_time_outs (node ∷ nodes) ws = queue_after_time_outs nodes (queue_after_time_out node ws)
 
-abbrev pub queue_after_all : ℕ → List Booting → List Waiting → List Waiting
-queue_after_all t [] ws = ws
-queue_after_all t (node ∷ nodes) ws = queue_after_all t nodes (queue_after t node ws)
-
-abbrev pub notes_after_all : ℕ → List Booting → List Note
-notes_after_all t [] = []
-notes_after_all t (node ∷ nodes) = notes_after t node ++ notes_after_all t nodes
+abbrev pub note_of_time_out : Booting → Note
+note_of_time_out node = record { node = node.number; kind = kind.TimedOut }
 
 unfoldable pub time_outs : ℕ → Manager → Manager × List Note
 time_outs t m = (
-  record m { nodes = map (node_after t) m.nodes; waiting = queue_after_all t m.nodes m.waiting },
-  notes_after_all t m.nodes,
+  record m {
+    nodes = map (node_after t) m.nodes;
+    waiting = queue_after_time_outs (timed_out t m.nodes) m.waiting;
+  },
+  map note_of_time_out (timed_out t m.nodes),
 )
 
 -- a heartbeat of state Operational takes the place of one that still waits

@@ -1,17 +1,15 @@
 //! A node and its boot.
 
-ghost use Rattle.std.specs.Prelude.{◌≡◌, ◌≤◌, ◌+◌, ◌++◌, ◌↔◌, length, IfOk, IsTrue, OnOk};
+ghost use Rattle.std.specs.Prelude.{◌≡◌, ◌≤◌, ◌+◌, ◌++◌, ◌∷◌, ◌↔◌, [], length, IfOk, IsTrue, OnOk};
 ghost use Rattle.asking.specs.Asking.{after_reads, outcome, reads};
 ghost use Rattle.asking.specs.Record.{BeginsWith};
 ghost use Rattle.node_boot.specs.Boot as rules;
-ghost use Rattle.nmt_boot.specs.Manager.{note_of_loss as lost_by, node_after, notes_after, queue_after};
+ghost use Rattle.nmt_boot.specs.Manager.{note_of_loss as lost_by, note_of_time_out, queue_after_time_out};
 
 use crate::sent::Sent;
 use crate::telling::tell;
 use can_frame::{Pending, Unwanted};
-use node_boot::{
-    BootStage, Boots, NoteKind, Notes, boot_nmt_slave, is_timed_out, sdo_answer, sdo_time_out,
-};
+use node_boot::{BootStage, Boots, NoteKind, Notes, boot_nmt_slave, sdo_answer, sdo_time_out};
 use std::alloc::{AllocError, Global};
 use std::mem;
 
@@ -108,21 +106,18 @@ impl Booting {
         })
     }
 
-    /// A request of the node times out, where it does so at the moment t.
+    /// A request of the node times out.
+    #[tactic(auto, unfolding(node_boot::specs::Boot::sdo_time_out))]
     pub(crate) fn time_out(
         &mut self,
-        t: u64,
         waiting: &mut Pending,
         notes: &mut Notes,
     ) -> Result<(), AllocError>
-        ensures state { OnOk result (self.new ≡ node_after t self.old) }
-        ensures queued { OnOk result (waiting.new ≡ queue_after t self.old waiting.old) }
-        ensures notes { OnOk result (notes.new ≡ notes.old ++ notes_after t self.old) }
+        ensures state { OnOk result (self.new ≡ record self.old { stage = (rules.sdo_time_out self.old.stage).stage }) }
+        ensures queued { OnOk result (waiting.new ≡ queue_after_time_out self.old waiting.old) }
+        ensures notes { OnOk result (notes.new ≡ notes.old ++ note_of_time_out self.old ∷ []) }
         ensures notes_before { BeginsWith notes.new notes.old }
     {
-        if !is_timed_out(t, &self.stage) {
-            return Ok(());
-        }
         waiting.drop_of(Unwanted::SdoOf(self.number));
         let step = sdo_time_out(&self.stage);
         self.stage = step.stage;

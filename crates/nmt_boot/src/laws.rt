@@ -67,11 +67,10 @@ pub fn heartbeats_and_sync_come_at_whole_multiples()
     ensures sync { (t : ℕ) (m : State) → IsOnTime t m → (is_due t m.sync ≡ true) ↔ IsMultiple t m.sync_period }
 {}
 
-/// A node is noted configured only at a frame at which a write of it was asked for and is absent, or where
-/// the write with the greatest number was under way; never by timers.
+/// A node is noted configured only at a frame at which a write of it was asked for and is absent; never by timers.
 pub fn a_boot_ends_with_its_writes()
     ensures frames { (image : Image) (t : ℕ) (frame : BaseFrame) (m : State) (node : ℕ)
         → Contains (outcome (after_frame t frame m) image).1 (configured_note node)
-        → WritesEnd image m node (reads (after_frame t frame m) image) }
+        → WritesEnd image node (reads (after_frame t frame m) image) }
     ensures timers { (t : ℕ) (m : State) (node : ℕ) → Contains (timers t m).1 (configured_note node) → ⊥ }
 {}

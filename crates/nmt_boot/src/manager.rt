@@ -94,16 +94,6 @@ fn sync_frame() -> Frame
     Frame::of(identifiers::sync(), &[])
 }
 
-/// The eight bytes of an SDO frame.
-fn eight(bytes: &[u8]) -> [u8; 8]
-    requires { length bytes.now ≡ 8 }
-    ensures { result ≡ bytes.now }
-{
-    let mut out = [0; 8];
-    out.copy_from_slice(bytes);
-    out
-}
-
 impl Manager {
     /// A manager of no network. Takes no memory.
     pub fn new(alloc: Global) -> Manager
@@ -417,7 +407,7 @@ impl Manager {
         if bytes.len() == 8 {
             let base = identifiers::sdo_answer(0);
             let place = self.nodes.place_of(base, frame.id());
-            return self.take_answer(t, &eight(bytes), place, boots, notes);
+            return self.take_answer(t, &frame.eight(), place, boots, notes);
         }
         Ok(())
     }

@@ -5,15 +5,16 @@ ghost use Rattle.asking.specs.Asking.{after_reads, outcome, reads};
 ghost use Rattle.asking.specs.Record.{BeginsWith};
 ghost use Rattle.co_parts.specs.Moments.{earliest};
 ghost use Rattle.node_boot.specs.Boot.{boot_nmt_slave, sdo_answer};
-ghost use Rattle.nmt_boot.specs.Manager.{deadlines, note_of_loss, node_after, node_at, notes_after_all};
-ghost use Rattle.nmt_boot.specs.Manager.{place_of as is_place_of, queue_after_all, unseen_node, with_stage};
+ghost use Rattle.nmt_boot.specs.Manager.{deadlines, note_of_loss, note_of_time_out, node_after, node_at};
+ghost use Rattle.nmt_boot.specs.Manager.{place_of as is_place_of, queue_after_time_outs, timed_out, unseen_node};
+ghost use Rattle.nmt_boot.specs.Manager.{with_stage};
 ghost use Rattle.nmt_boot.specs.Sending.{sending_of};
 
 use crate::booting::Booting;
 use crate::sent::Sent;
 use can_frame::Pending;
 use co_parts::earlier;
-use node_boot::{BootStage, Boots, NoteKind, Notes, deadline_of};
+use node_boot::{BootStage, Boots, NoteKind, Notes, deadline_of, is_timed_out};
 use std::alloc::{AllocError, Global};
 use std::marker::Model;
 
@@ -93,62 +94,7 @@ fn place_in(nodes: &[Booting], base: u16, id: u16) -> Option<usize>
         .position(|node| base + u16::from(node.number) == id)
 }
 
-/// The boot of one of the nodes begins anew.
-fn boot_in<P: Boots>(
-    alloc: Global,
-    nodes: &mut [Booting],
-    i: usize,
-    deadline: u64,
-    boots: &mut P,
-) -> Result<Sent, AllocError>
-    requires { i < length nodes.now }
-    ensures nodes { OnOk result (nodes.new
-        ≡ with_stage nodes.old i (outcome (boot_nmt_slave deadline (node_at nodes.old i).number)
-        (P.seen boots.old).image).stage) }
-    ensures sent { IfOk result (λ sent. sent
-        ≡ sending_of (outcome (boot_nmt_slave deadline (node_at nodes.old i).number) (P.seen boots.old).image)) }
-    ensures noted { OnOk result (P.seen boots.new ≡ after_reads (boot_nmt_slave deadline (node_at nodes.old i).number)
-        (P.seen boots.old)) }
-    ensures counted { OnOk result (P.asks boots.new
-        ≤ P.asks boots.old + length (reads (boot_nmt_slave deadline (node_at nodes.old i).number)
-        (P.seen boots.old).image)) }
-    ensures kept { (P.seen boots.new).image ≡ (P.seen boots.old).image }
-    ensures asked_before { BeginsWith (P.seen boots.new).asked (P.seen boots.old).asked }
-{
-    nodes[i].boot(alloc, deadline, boots)
-}
-
-/// An SDO answer of one of the nodes comes.
-fn answer_in<P: Boots>(
-    alloc: Global,
-    nodes: &mut [Booting],
-    i: usize,
-    deadline: u64,
-    answer: &[u8; 8],
-    boots: &mut P,
-) -> Result<Sent, AllocError>
-    requires { i < length nodes.now }
-    ensures nodes { OnOk result (nodes.new
-        ≡ with_stage nodes.old i
-        (outcome (sdo_answer deadline (node_at nodes.old i).number (node_at nodes.old i).stage answer.now)
-        (P.seen boots.old).image).stage) }
-    ensures sent { IfOk result (λ sent. sent
-        ≡ sending_of (outcome (sdo_answer deadline (node_at nodes.old i).number (node_at nodes.old i).stage answer.now)
-        (P.seen boots.old).image)) }
-    ensures noted { OnOk result (P.seen boots.new
-        ≡ after_reads (sdo_answer deadline (node_at nodes.old i).number (node_at nodes.old i).stage answer.now)
-        (P.seen boots.old)) }
-    ensures counted { OnOk result (P.asks boots.new
-        ≤ P.asks boots.old
-        + length (reads (sdo_answer deadline (node_at nodes.old i).number (node_at nodes.old i).stage answer.now)
-        (P.seen boots.old).image)) }
-    ensures kept { (P.seen boots.new).image ≡ (P.seen boots.old).image }
-    ensures asked_before { BeginsWith (P.seen boots.new).asked (P.seen boots.old).asked }
-{
-    nodes[i].take_answer(alloc, deadline, answer, boots)
-}
-
-/// The time-outs of the moment t, node by node.
+/// The time-outs of the moment t: of each node that is timed out, in turn.
 fn time_out_each(
     t: u64,
     nodes: &mut [Booting],
@@ -156,12 +102,14 @@ fn time_out_each(
     notes: &mut Notes,
 ) -> Result<(), AllocError>
     ensures state { OnOk result (nodes.new ≡ map (node_after t) nodes.old) }
-    ensures queued { OnOk result (waiting.new ≡ queue_after_all t nodes.old waiting.old) }
-    ensures notes { OnOk result (notes.new ≡ notes.old ++ notes_after_all t nodes.old) }
+    ensures queued { OnOk result (waiting.new ≡ queue_after_time_outs (timed_out t nodes.old) waiting.old) }
+    ensures notes { OnOk result (notes.new ≡ notes.old ++ map note_of_time_out (timed_out t nodes.old)) }
     ensures notes_before { BeginsWith notes.new notes.old }
 {
     for node in nodes.iter_mut() {
-        node.time_out(t, waiting, notes)?;
+        if is_timed_out(t, &node.stage) {
+            node.time_out(waiting, notes)?;
+        }
     }
     Ok(())
 }
@@ -307,7 +255,7 @@ impl NodeTable {
         ensures asked_before { BeginsWith (P.seen boots.new).asked (P.seen boots.old).asked }
     {
         self.known = false;
-        let sent = boot_in(alloc, &mut self.nodes, i, deadline, boots)?;
+        let sent = self.nodes[i].boot(alloc, deadline, boots)?;
         self.learn();
         Ok(sent)
     }
@@ -341,7 +289,7 @@ impl NodeTable {
         ensures asked_before { BeginsWith (P.seen boots.new).asked (P.seen boots.old).asked }
     {
         self.known = false;
-        let sent = answer_in(alloc, &mut self.nodes, i, deadline, answer, boots)?;
+        let sent = self.nodes[i].take_answer(alloc, deadline, answer, boots)?;
         self.learn();
         Ok(sent)
     }
@@ -355,8 +303,8 @@ impl NodeTable {
         notes: &mut Notes,
     ) -> Result<(), AllocError>
         ensures state { OnOk result (self.new ≡ map (node_after t) self.old) }
-        ensures queued { OnOk result (waiting.new ≡ queue_after_all t self.old waiting.old) }
-        ensures notes { OnOk result (notes.new ≡ notes.old ++ notes_after_all t self.old) }
+        ensures queued { OnOk result (waiting.new ≡ queue_after_time_outs (timed_out t self.old) waiting.old) }
+        ensures notes { OnOk result (notes.new ≡ notes.old ++ map note_of_time_out (timed_out t self.old)) }
         ensures notes_before { BeginsWith notes.new notes.old }
     {
         if self.is_quiet(t) {

@@ -12,9 +12,9 @@ use Rattle.co_parts.specs.declared.identity.Identity.{Identity}
 use Rattle.co_parts.specs.declared.part.Part.{Part}
 use Rattle.co_parts.specs.declared.part.Part.TheVariants.{Expect, Boot}
 use Rattle.node_boot.proofs.ChoiceLemmas.{picked}
-use Rattle.node_boot.specs.Boot.{deadline_of, last_write, write_started, download_configuration, download_next}
-use Rattle.node_boot.specs.Boot.{comparison_started, check_identity, next_compared, boot_nmt_slave, is_as_expected}
-use Rattle.node_boot.specs.Boot.{after_compare, after_write, sdo_answer}
+use Rattle.node_boot.specs.Boot.{deadline_of, write_started, download_configuration}
+use Rattle.node_boot.specs.Boot.{comparison_started, compared_next, check_identity, next_compared, boot_nmt_slave}
+use Rattle.node_boot.specs.Boot.{after_compare, after_write, is_as_expected, sdo_answer}
 use Rattle.node_boot.specs.declared.boot_stage.BootStage.{BootStage}
 use Rattle.node_boot.specs.declared.boot_stage.BootStage.TheVariants.{Unseen, Comparing, Writing, Configured, Failed}
 use Rattle.node_boot.specs.declared.boot_step.BootStep.{BootStep}
@@ -36,18 +36,18 @@ module _ (image : Image) (t deadline node : ℕ) (ahead : t ≤ deadline) where
   unfolding download_configuration
   download_from place = written_from place (write_of (image (Boot node place)))
 
-  next_from : (place : ℕ) → IsOpenFrom t (outcome (download_next deadline node place) image).stage
-  next_from place = picked Holds (place == last_write) _ _ tt (download_from (place + 1))
-
   compared_from : (expected : Identity) (place : ℕ) → IsOpenFrom t (comparison_started deadline expected place).stage
   unfolding comparison_started
   compared_from expected place = ahead
 
+  next_is_from : (expected : Identity) (next : Option ℕ) → Holds (compared_next deadline node expected next)
+  next_is_from expected None = download_from 0
+  next_is_from expected (Some place) = compared_from expected place
+
   check_from : (expected : Identity) (place : ℕ)
       → IsOpenFrom t (outcome (check_identity deadline node expected place) image).stage
   unfolding check_identity
-  check_from expected place = picked Holds (next_compared expected place == 5) _ _ (download_from 0)
-      (compared_from expected (next_compared expected place))
+  check_from expected place = next_is_from expected (next_compared expected place)
 
   pub boot_from : IsOpenFrom t (outcome (boot_nmt_slave deadline node) image).stage
   unfolding boot_nmt_slave
@@ -66,7 +66,7 @@ module _ (image : Image) (t deadline node : ℕ) (ahead : t ≤ deadline) where
       → Holds (after_write deadline old node place transfer p)
   write_from old place transfer None h = h
   write_from old place transfer (Some (progress.Ask request)) h = ahead
-  write_from old place transfer (Some progress.Written) h = next_from place
+  write_from old place transfer (Some progress.Written) h = download_from (place + 1)
   write_from old place transfer (Some (progress.Read bytes)) h = h
   write_from old place transfer (Some (progress.Failed abort frame)) h = tt
 

@@ -1,8 +1,7 @@
 -- A boot says that a node is configured only where its writes end.
-use Rattle.std.proofs.Common.{◌≡◌, ℕ, suc, ◌+◌, Bool, true, false, List, ◌∷◌, Option, Some, None, ◌⊎◌, inl, inr, refl}
+use Rattle.std.proofs.Common.{◌≡◌, ℕ, suc, ◌+◌, List, ◌∷◌, Option, Some, None, refl}
 use Rattle.std.proofs.Common.{arith}
-use Rattle.std.specs.Prelude.{Contains, ◌==◌, if◌then◌else◌}
-use Rattle.std.proofs.lemmas.Bool.Decides.{nat_tests}
+use Rattle.std.specs.Prelude.{Contains, ◌==◌}
 use Rattle.asking.specs.Asking.{Asking, Answer, outcome, reads}
 use Rattle.co_sdo_client.specs.Client.{after_answer}
 use Rattle.co_sdo_client.specs.declared.progress.Progress.{Progress}
@@ -14,10 +13,10 @@ use Rattle.co_parts.specs.declared.identity.Identity.{Identity}
 use Rattle.co_parts.specs.declared.part.Part.{Part}
 use Rattle.co_parts.specs.declared.part.Part.TheVariants.{Expect, Boot}
 use Rattle.node_boot.proofs.ChoiceLemmas.{picked}
-use Rattle.node_boot.specs.Boot.{boot_completed, boot_failed, last_write, write_started, download_configuration}
-use Rattle.node_boot.specs.Boot.{comparison_started, check_identity, next_compared, boot_nmt_slave, is_as_expected}
-use Rattle.node_boot.specs.Boot.{after_compare, after_write, sdo_answer}
-use Rattle.node_boot.specs.Ends.{IsAbsent, IsAtLast}
+use Rattle.node_boot.specs.Boot.{boot_failed, write_started, download_configuration}
+use Rattle.node_boot.specs.Boot.{comparison_started, compared_next, check_identity, next_compared, boot_nmt_slave}
+use Rattle.node_boot.specs.Boot.{after_compare, after_write, is_as_expected, sdo_answer}
+use Rattle.node_boot.specs.Ends.{IsAbsent}
 use Rattle.node_boot.specs.declared.boot_stage.BootStage.{BootStage}
 use Rattle.node_boot.specs.declared.boot_stage.BootStage.TheVariants.{Unseen, Comparing, Writing, Configured, Failed}
 use Rattle.node_boot.specs.declared.boot_step.BootStep.{BootStep}
@@ -48,10 +47,14 @@ module _ (image : Image) (node : ℕ) where
       record { asked = (0, omega arith, refl); absent = written_ends place (write_of (image (Boot node place))) e },
     )
 
+    next_ends : (expected : Identity) (next : Option ℕ) → Ends (compared_next deadline node expected next)
+    unfolding comparison_started
+    next_ends expected None = download_ends 0
+    next_ends expected (Some place) = silent (comparison_started deadline expected place) refl
+
     check_ends : (expected : Identity) (place : ℕ) → Ends (check_identity deadline node expected place)
-    unfolding check_identity comparison_started
-    check_ends expected place = picked Ends (next_compared expected place == 5) _ _ (download_ends 0)
-        (silent (comparison_started deadline expected (next_compared expected place)) refl)
+    unfolding check_identity
+    check_ends expected place = next_ends expected (next_compared expected place)
 
     later : (place : ℕ) (a : Asking Part Content BootStep) (y : Part × Content)
         → IsAbsent image node (reads a image) place → IsAbsent image node (y ∷ reads a image) place
@@ -76,33 +79,21 @@ module _ (image : Image) (node : ℕ) where
         picked Ends (is_as_expected expected place bytes) _ _ (check_ends expected (place + 1)) different e
     compare_ends old place expected transfer (Some (progress.Failed abort frame)) e = cc
 
-    -- or the write under way had the greatest number
-    abbrev pub EndsAt : BootStage → Asking Part Content BootStep → Type 0
-    EndsAt stage a = (outcome a image).note ≡ Some kind.Configured
-        → ((place : ℕ) × IsAbsent image node (reads a image) place) ⊎ IsAtLast stage
+    write_ends : (old place : ℕ) (transfer : Transfer) (p : Option Progress)
+        → Ends (after_write deadline old node place transfer p)
+    write_ends old place transfer None e = cc
+    write_ends old place transfer (Some (progress.Ask request)) e = cc
+    write_ends old place transfer (Some progress.Written) e = download_ends (place + 1) e
+    write_ends old place transfer (Some (progress.Read bytes)) e = cc
+    write_ends old place transfer (Some (progress.Failed abort frame)) e = cc
 
-    next_by : (place : ℕ) (transfer : Transfer) (old : ℕ) (b : Bool) → (place == last_write) ≡ b
-        → EndsAt (Writing place transfer old) (if b then Answer boot_completed
-        else download_configuration deadline node (place + 1))
-    next_by place transfer old true e f = inr (grind (arith, nat_tests))
-    next_by place transfer old false e f = inl (download_ends (place + 1) f)
-
-    write_ends : (old place : ℕ) (before transfer : Transfer) (p : Option Progress)
-        → EndsAt (Writing place before old) (after_write deadline old node place transfer p)
-    write_ends old place before transfer None e = cc
-    write_ends old place before transfer (Some (progress.Ask request)) e = cc
-    write_ends old place before transfer (Some progress.Written) e =
-        next_by place before old (place == last_write) refl e
-    write_ends old place before transfer (Some (progress.Read bytes)) e = cc
-    write_ends old place before transfer (Some (progress.Failed abort frame)) e = cc
-
-    pub answer_ends : (stage : BootStage) (answer : List ℕ) → EndsAt stage (sdo_answer deadline node stage answer)
+    pub answer_ends : (stage : BootStage) (answer : List ℕ) → Ends (sdo_answer deadline node stage answer)
     unfolding sdo_answer
     answer_ends Unseen answer e = cc
     answer_ends (Comparing place expected transfer old) answer e =
-        inl (compare_ends old place expected (after_answer transfer answer).stage
-        (after_answer transfer answer).progress e)
+        compare_ends old place expected (after_answer transfer answer).stage
+        (after_answer transfer answer).progress e
     answer_ends (Writing place transfer old) answer e =
-        write_ends old place transfer (after_answer transfer answer).stage (after_answer transfer answer).progress e
+        write_ends old place (after_answer transfer answer).stage (after_answer transfer answer).progress e
     answer_ends Configured answer e = cc
     answer_ends Failed answer e = cc

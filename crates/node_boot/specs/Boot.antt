@@ -1,7 +1,7 @@
 -- The boot of one node by the manager (CiA 302, Boot NMT slave). All moments are absolute, in microseconds from the
 -- power-on of the network.
-use Rattle.std.specs.Prelude.{ℕ, ◌+◌, ◌==◌, ◌&&◌, not, Bool, false, List, length, slice_index_or, nat_le, Option, Some}
-use Rattle.std.specs.Prelude.{None, if◌then◌else◌}
+use Rattle.std.specs.Prelude.{ℕ, ◌+◌, ◌==◌, ◌&&◌, not, Bool, false, List, [], ◌∷◌, length, slice_index_or, nat_le}
+use Rattle.std.specs.Prelude.{Option, Some, None, if◌then◌else◌, find}
 use Rattle.asking.specs.Asking.{Asking, Answer, Ask}
 use Rattle.byteorder.specs.Endian.{little_number}
 use Rattle.co_sdo_client.specs.Client.{after_answer, download_start, upload_start, timed_out_at}
@@ -48,15 +48,9 @@ comparison_started deadline expected place =
     request_sent (Comparing place expected (upload_start (identity_entry place)).1 deadline)
     (upload_start (identity_entry place)).0
 
--- the first place from this one on at which a number is expected; 5 where there is none
-unfoldable pub next_compared : Identity → ℕ → ℕ
-next_compared expected place =
-    if nat_le place 0 && is_expected expected 0 then 0
-    else if nat_le place 1 && is_expected expected 1 then 1
-    else if nat_le place 2 && is_expected expected 2 then 2
-    else if nat_le place 3 && is_expected expected 3 then 3
-    else if nat_le place 4 && is_expected expected 4 then 4
-    else 5
+-- the first of the five places, from this one on, at which a number is expected
+unfoldable pub next_compared : Identity → ℕ → Option ℕ
+next_compared expected place = find (λ k. nat_le place k && is_expected expected k) (0 ∷ 1 ∷ 2 ∷ 3 ∷ 4 ∷ [])
 
 -- a value of at most four bytes that is the expected number
 unfoldable pub is_as_expected : Identity → ℕ → List ℕ → Bool
@@ -78,18 +72,13 @@ unfoldable pub download_configuration : ℕ → ℕ → ℕ → Asking Part Cont
 download_configuration deadline node place = Ask (Boot node place)
     (λ v. Answer (write_started deadline place (write_of v)))
 
--- the greatest number that a write can have: a concise DCF has no more
-abbrev pub last_write : ℕ
-last_write = 4294967295
-
-abbrev pub download_next : ℕ → ℕ → ℕ → Asking Part Content BootStep
-download_next deadline node place = if place == last_write then Answer boot_completed
-    else download_configuration deadline node (place + 1)
+-- the number in the place is compared, and where no place is left come the writes
+abbrev pub compared_next : ℕ → ℕ → Identity → Option ℕ → Asking Part Content BootStep
+compared_next deadline node expected None = download_configuration deadline node 0
+compared_next deadline node expected (Some place) = Answer (comparison_started deadline expected place)
 
 unfoldable pub check_identity : ℕ → ℕ → Identity → ℕ → Asking Part Content BootStep
-check_identity deadline node expected place =
-    if next_compared expected place == 5 then download_configuration deadline node 0
-    else Answer (comparison_started deadline expected (next_compared expected place))
+check_identity deadline node expected place = compared_next deadline node expected (next_compared expected place)
 
 -- ---- boot NMT slave: on the boot-up of a node; the expected numbers are read here alone
 
@@ -114,7 +103,7 @@ abbrev pub after_write : ℕ → ℕ → ℕ → ℕ → Transfer → Option Pro
 after_write deadline old node place transfer None = Answer (no_step (Writing place transfer old))
 after_write deadline old node place transfer (Some (progress.Ask request)) =
     Answer (request_sent (Writing place transfer deadline) request)
-after_write deadline old node place transfer (Some progress.Written) = download_next deadline node place
+after_write deadline old node place transfer (Some progress.Written) = download_configuration deadline node (place + 1)
 after_write deadline old node place transfer (Some (progress.Read bytes)) =
     Answer (no_step (Writing place transfer old))
 after_write deadline old node place transfer (Some (progress.Failed abort frame)) =

@@ -9,9 +9,10 @@ ghost use Rattle.node_boot.specs.declared.boot_stage.BootStage.TheVariants.{Comp
 use crate::boot_stage::BootStage;
 use crate::boot_step::BootStep;
 use crate::boots::Boots;
-use crate::download::download_next;
+use crate::download::download_configuration;
 use crate::identity_check::{check_identity, is_as_expected};
 use crate::note_kind::NoteKind;
+use crate::write_place::WritePlace;
 use co_parts::Identity;
 use co_sdo_client::{Advance, ClientTransfer, Progress, advanced};
 use std::alloc::{AllocError, Global};
@@ -75,7 +76,7 @@ fn comparing(place: u8, expected: Identity, transfer: ClientTransfer, deadline: 
 }
 
 /// The stage in which a write is under way.
-fn writing(place: u32, transfer: ClientTransfer, deadline: u64) -> BootStage
+fn writing(place: WritePlace, transfer: ClientTransfer, deadline: u64) -> BootStage
     ensures { result ≡ Writing place transfer deadline }
 {
     BootStage::Writing {
@@ -91,7 +92,7 @@ fn after_write<P: Boots>(
     deadline: u64,
     old: u64,
     node: u8,
-    place: u32,
+    place: WritePlace,
     advance: Advance,
     boots: &mut P,
 ) -> Result<BootStep, AllocError>
@@ -110,7 +111,9 @@ fn after_write<P: Boots>(
         Some(Progress::Ask(request)) => {
             Ok(BootStep::asked(writing(place, transfer, deadline), request))
         }
-        Some(Progress::Written) => download_next(alloc, deadline, node, place, boots),
+        Some(Progress::Written) => {
+            download_configuration(alloc, deadline, node, place.next(), boots)
+        }
         Some(Progress::Failed { abort, frame }) => Ok(BootStep::failed(
             NoteKind::Aborted(abort),
             frame,

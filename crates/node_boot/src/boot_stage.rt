@@ -2,6 +2,7 @@
 
 ghost use Rattle.std.specs.Prelude.{◌≡◌, ◌↔◌, IfOk, IsTrue};
 
+use crate::write_place::WritePlace;
 use co_parts::Identity;
 use co_sdo_client::{ClientTransfer, client_transfer};
 use std::alloc::AllocError;
@@ -25,7 +26,7 @@ pub enum BootStage {
     /// A write of the concise DCF is under way.
     Writing {
         /// Which write, from 0.
-        place: u32,
+        place: WritePlace,
         /// The open transfer.
         transfer: ClientTransfer,
         /// The moment at which the request that is under way times out, in microseconds.
@@ -108,7 +109,7 @@ impl BootStage {
                     transfer: t,
                     deadline: d,
                 },
-            ) => place == p && client_transfer::same(transfer, t) && deadline == d,
+            ) => place.same(p) && client_transfer::same(transfer, t) && deadline == d,
             (BootStage::Configured, BootStage::Configured) => true,
             (BootStage::Failed, BootStage::Failed) => true,
             _ => false,

@@ -1,22 +1,20 @@
 //! The download of a node's configuration (CiA 302): the writes of its concise DCF one by one.
 
-ghost use Rattle.std.specs.Prelude.{◌≡◌, ◌≤◌, ◌+◌, length, IfOk, IfSome, OnOk};
+ghost use Rattle.std.specs.Prelude.{◌≡◌, ◌<◌, ◌≤◌, ◌+◌, length, IfOk, IfSome, OnOk};
 ghost use Rattle.asking.specs.Asking.{after_reads, outcome, reads};
 ghost use Rattle.asking.specs.Record.{BeginsWith};
-ghost use Rattle.co_parts.specs.Images.{IsBootWrite};
+ghost use Rattle.co_parts.specs.Images.{greatest_place, IsBootWrite};
 ghost use Rattle.co_parts.specs.Shared.{shared};
 ghost use Rattle.node_boot.specs.Boot as rules;
 
 use crate::boot_stage::BootStage;
 use crate::boot_step::BootStep;
 use crate::boots::Boots;
+use crate::write_place::WritePlace;
 use co_sdo_client::download_started;
 use concise_dcf::Write;
 use std::alloc::{AllocError, Global};
 use std::rc::Rc;
-
-/// The greatest number that a write can have.
-const LAST_WRITE: u32 = 4_294_967_295;
 
 /// A write begins, and the boot ends where there is none.
 #[tactic(auto, unfolding(crate::specs::Boot::write_started))]
@@ -26,7 +24,8 @@ fn write(
     place: u32,
     write: &Option<Rc<Write>>,
 ) -> Result<BootStep, AllocError>
-    requires { IfSome (shared write.now) IsBootWrite }
+    requires fits { IfSome (shared write.now) IsBootWrite }
+    requires last { IfSome (shared write.now) (λ write. place < greatest_place) }
     ensures { IfOk result (λ step. step ≡ rules.write_started deadline place (shared write.now)) }
 {
     match write {
@@ -35,7 +34,7 @@ fn write(
             let entry = (write.index, write.sub);
             let (request, transfer) = download_started(alloc, entry, write.bytes.as_slice())?;
             let stage = BootStage::Writing {
-                place,
+                place: WritePlace::of(place),
                 transfer,
                 deadline,
             };
@@ -65,27 +64,4 @@ pub(crate) fn download_configuration<P: Boots>(
 {
     let next = boots.boot(node, place)?;
     write(alloc, deadline, place, &next)
-}
-
-/// The write after one that was confirmed.
-pub(crate) fn download_next<P: Boots>(
-    alloc: Global,
-    deadline: u64,
-    node: u8,
-    place: u32,
-    boots: &mut P,
-) -> Result<BootStep, AllocError>
-    ensures state { IfOk result (λ step. step ≡ outcome (rules.download_next deadline node place)
-        (P.seen boots.old).image) }
-    ensures noted { OnOk result (P.seen boots.new ≡ after_reads (rules.download_next deadline node place)
-        (P.seen boots.old)) }
-    ensures counted { OnOk result (P.asks boots.new
-        ≤ P.asks boots.old + length (reads (rules.download_next deadline node place) (P.seen boots.old).image)) }
-    ensures kept { (P.seen boots.new).image ≡ (P.seen boots.old).image }
-    ensures asked_before { BeginsWith (P.seen boots.new).asked (P.seen boots.old).asked }
-{
-    if place == LAST_WRITE {
-        return Ok(BootStep::configured());
-    }
-    download_configuration(alloc, deadline, node, place + 1, boots)
 }

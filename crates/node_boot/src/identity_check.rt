@@ -1,6 +1,7 @@
 //! The check of device type and identity (CiA 302): numbers that a node is asked for, and that are expected.
 
-ghost use Rattle.std.specs.Prelude.{◌≡◌, ◌≤◌, ◌+◌, length, IfOk, OnOk};
+ghost use Rattle.std.specs.Prelude.{◌≡◌, ◌≤◌, ◌+◌, ◌&&◌, length, nat_le, find, IfOk, OnOk};
+ghost use Rattle.std.specs.Option.{option_copied};
 ghost use Rattle.asking.specs.Asking.{after_reads, outcome, reads};
 ghost use Rattle.asking.specs.Record.{BeginsWith};
 ghost use Rattle.byteorder.specs.Endian.{little_number};
@@ -18,6 +19,9 @@ use co_sdo_client::upload_started;
 use std::alloc::{AllocError, Global};
 use std::rc::Rc;
 
+/// The places of the five numbers.
+const PLACES: [u8; 5] = [0, 1, 2, 3, 4];
+
 /// The number that is expected in a place of the five.
 fn expected_number(expected: &Identity, place: usize) -> u32
     ensures { result ≡ rules.expected_number expected.now place }
@@ -32,25 +36,28 @@ fn is_expected(expected: &Identity, place: usize) -> bool
     expected_number(expected, place) != 0
 }
 
-/// The first place from this one on at which a number is expected, or 5.
-#[tactic(auto, unfolding(crate::specs::Boot::next_compared))]
-fn next_compared(expected: &Identity, place: u16) -> u8
-    ensures place { result ≡ rules.next_compared expected.now place }
-    ensures few { result ≤ 5 }
+/// Whether a place lies from another on, and a number is expected in it.
+fn is_compared(expected: &Identity, from: u16, place: u8) -> bool
+    ensures { result ≡ nat_le from place && rules.is_expected expected.now place }
 {
-    if place == 0 && is_expected(expected, 0) {
-        0
-    } else if place <= 1 && is_expected(expected, 1) {
-        1
-    } else if place <= 2 && is_expected(expected, 2) {
-        2
-    } else if place <= 3 && is_expected(expected, 3) {
-        3
-    } else if place <= 4 && is_expected(expected, 4) {
-        4
-    } else {
-        5
-    }
+    from <= u16::from(place) && is_expected(expected, usize::from(place))
+}
+
+/// The first of some places, from this one on, at which a number is expected.
+fn first_compared<'a>(places: &'a [u8], expected: &Identity, from: u16) -> Option<&'a u8>
+    ensures { option_copied result ≡ find (λ k. nat_le from k && rules.is_expected expected.now k) places.now }
+{
+    places
+        .iter()
+        .find(|place| is_compared(expected, from, **place))
+}
+
+/// The first of the five places, from this one on, at which a number is expected, if there is one.
+#[tactic(auto, unfolding(crate::specs::Boot::next_compared))]
+fn next_compared(expected: &Identity, place: u16) -> Option<u8>
+    ensures { result ≡ rules.next_compared expected.now place }
+{
+    first_compared(&PLACES, expected, place).copied()
 }
 
 /// The entry that is compared in a place of the five.
@@ -96,11 +103,10 @@ pub(crate) fn check_identity<P: Boots>(
     ensures kept { (P.seen boots.new).image ≡ (P.seen boots.old).image }
     ensures asked_before { BeginsWith (P.seen boots.new).asked (P.seen boots.old).asked }
 {
-    let next = next_compared(&expected, place);
-    if next == 5 {
-        return download_configuration(alloc, deadline, node, 0, boots);
+    match next_compared(&expected, place) {
+        None => download_configuration(alloc, deadline, node, 0, boots),
+        Some(next) => Ok(compare(deadline, expected, next)),
     }
-    Ok(compare(deadline, expected, next))
 }
 
 /// The expected numbers; any will do where none are handed out.

@@ -11,6 +11,7 @@ mod note;
 mod note_kind;
 mod notes;
 mod time_outs;
+mod write_place;
 
 pub use answers::sdo_answer;
 pub use boot_stage::BootStage;
@@ -21,3 +22,4 @@ pub use note::Note;
 pub use note_kind::NoteKind;
 pub use notes::Notes;
 pub use time_outs::{deadline_of, is_timed_out, sdo_time_out};
+pub use write_place::WritePlace;

@@ -1,11 +1,12 @@
 -- The order of the writes of a PDO.
 use Rattle.std.proofs.Common.{◌≡◌, ℕ, ◌+◌, ◌%◌, ◌<◌, ◌≤◌, Bool, true, false, not, ◌&&◌, cond, List, [], ◌∷◌, ◌++◌}
 use Rattle.std.proofs.Common.{length, filter, refl, sym, ap, subst, ◌∙◌, arith}
-use Rattle.std.specs.Prelude.{◌==◌, nat_le, if◌then◌else◌}
+use Rattle.std.specs.Prelude.{◌==◌, if◌then◌else◌}
 use Rattle.std.specs.Option.{option_map_or}
 use Rattle.std.proofs.lemmas.List.Elements.{filter-append}
 use Rattle.byteorder.specs.Endian.{little_bytes, little_number}
 use Rattle.co_values.specs.declared.form.Width.TheVariants.{Bits16}
+use Rattle.co_fields.specs.CobIds.{is_valid, no_rtr_bit, off_bit}
 use Rattle.concise_dcf.specs.declared.write.Write.{Write}
 use Rattle.ini_text.specs.Content.{Section}
 use Rattle.eds_device.specs.Entries.{entry_at}
@@ -16,7 +17,7 @@ use Rattle.pdo_stations.specs.Devices.{takes_unsigned, tpdo_object, rpdo_object,
 use Rattle.pdo_plan.specs.Plan.{IsWithin}
 use Rattle.pdo_links.specs.Order.{is_to, to_object, AreBetween, IsConfigured}
 use Rattle.pdo_links.specs.Writes.{write_at, cob_write, mapped_writes, mapping_writes, time_write, taken_type}
-use Rattle.pdo_links.specs.Writes.{tpdo_writes, rpdo_writes, off_bit, no_rtr_bit}
+use Rattle.pdo_links.specs.Writes.{tpdo_writes, rpdo_writes}
 
 -- ---- lists
 
@@ -240,10 +241,10 @@ module _ (object index : ℕ) (mapping_apart : (object == index) ≡ false) (apa
       (write_at object 2 (type ∷ []) ∷ mapping_writes index mapping) (same_number object)
       (no_cobs object index apart mapping)
 
-high : (n : ℕ) → off_bit ≤ n → nat_le off_bit n ≡ true
+high : (n : ℕ) → off_bit ≤ n → not (is_valid n) ≡ true
 high n le = grind arith
 
-low : (n : ℕ) → n < off_bit → nat_le off_bit n ≡ false
+low : (n : ℕ) → n < off_bit → not (is_valid n) ≡ false
 low n lt = grind arith
 
 -- a PDO that is switched off and on so, with its mapping
@@ -256,8 +257,8 @@ configured object off on identifier mapping ws meanwhile is_high fits is_low res
   off = cob_write object off;
   on = cob_write object on;
   meanwhile = meanwhile;
-  is_switched_off = ap (nat_le off_bit) (reads_back off fits) ∙ high off is_high;
-  is_switched_on = ap (nat_le off_bit) (reads_back on (omega arith)) ∙ low on is_low;
+  is_switched_off = ap (λ (n : ℕ). not (is_valid n)) (reads_back off fits) ∙ high off is_high;
+  is_switched_on = ap (λ (n : ℕ). not (is_valid n)) (reads_back on (omega arith)) ∙ low on is_low;
   has_identifier = ap (λ (n : ℕ). n % 0x800) (reads_back on (omega arith)) ∙ rest;
   counted = subst (AreBetween (is_to (mapping_of object) 0) (write_at (mapping_of object) 0 (0 ∷ []))
       (write_at (mapping_of object) 0 (length mapping ∷ []))) (sym maps) (counts_around (mapping_of object) mapping);

@@ -10,6 +10,7 @@ use Rattle.std.specs.Ordering.{nat_cmp}
 use Rattle.std.proofs.lemmas.List.Elements.{All-nil, All-cons, All-append}
 use Rattle.byteorder.specs.Endian.{little_bytes}
 use Rattle.co_values.specs.declared.form.Width.TheVariants.{Bits16}
+use Rattle.co_fields.specs.CobIds.{no_rtr_bit, off_bit}
 use Rattle.concise_dcf.specs.declared.write.Write.{Write}
 use Rattle.ini_text.specs.Content.{Section}
 use Rattle.eds_device.specs.Entries.{entry_at}
@@ -20,7 +21,7 @@ use Rattle.pdo_stations.specs.Devices.{takes_unsigned, tpdo_object, rpdo_object,
 use Rattle.pdo_plan.specs.Mapping.{mapped_bytes}
 use Rattle.pdo_links.specs.Tables.{AreFew}
 use Rattle.pdo_links.specs.Writes.{write_at, cob_write, mapped_writes, mapping_writes, time_write, taken_type}
-use Rattle.pdo_links.specs.Writes.{tpdo_writes, rpdo_writes, off_bit, no_rtr_bit, at_number, by_number}
+use Rattle.pdo_links.specs.Writes.{tpdo_writes, rpdo_writes, at_number, by_number}
 
 abbrev IsSized : Write → Type 0
 IsSized w = (1 ≤ length w.bytes) × (length w.bytes ≤ 512)

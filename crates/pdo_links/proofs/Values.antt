@@ -1,20 +1,21 @@
 -- The writes of a PDO are values of their entries.
 use Rattle.std.proofs.Common.{◌≡◌, ℕ, zero, suc, ◌+◌, ◌<◌, Bool, true, false, ◌&&◌, cond, List, [], ◌∷◌, ◌++◌, length}
-use Rattle.std.proofs.Common.{All, Option, Some, None, option_map, refl, ◌∙◌, arith}
+use Rattle.std.proofs.Common.{All, Option, Some, None, option_map, refl, sym, subst, arith}
 use Rattle.std.specs.Prelude.{◌==◌, if◌then◌else◌, option_and_then}
 use Rattle.std.specs.List.{list_all, range_with_len}
 use Rattle.std.specs.Option.{option_map_or}
 use Rattle.std.proofs.lemmas.List.Elements.{All-nil, All-cons, All-head, All-tail, All-append, All-weaker}
 use Rattle.byteorder.specs.Endian.{little_bytes}
 use Rattle.co_base.specs.Bytes.{AreBytes}
+use Rattle.co_values.specs.declared.data_type.DataType.{DataType}
 use Rattle.co_values.specs.declared.data_type.DataType.TheVariants.{NotModelled}
 use Rattle.co_values.specs.declared.form.Form.{Form}
-use Rattle.co_values.specs.declared.form.Form.TheVariants.{Flag, Signed, Unsigned, Characters, HexPairs, Unmodelled}
 use Rattle.co_values.specs.declared.form.Width.{Width}
-use Rattle.co_values.specs.declared.form.Width.TheVariants.{Bits8, Bits16, Bits32, Bits64}
+use Rattle.co_values.specs.declared.form.Width.TheVariants.{Bits8, Bits16, Bits32}
 use Rattle.co_values.specs.Types.{form, octets}
 use Rattle.co_values.specs.Values.{Fits, FitsForm}
 use Rattle.co_dict.specs.Accesses.{is_writable}
+use Rattle.co_fields.specs.CobIds.{no_rtr_bit, off_bit}
 use Rattle.concise_dcf.specs.declared.write.Write.{Write}
 use Rattle.ini_text.specs.Content.{Section}
 use Rattle.eds_device.specs.Described.{Described, description_of, kind_at}
@@ -22,13 +23,14 @@ use Rattle.eds_device.specs.Entries.{entry_by, entry_at}
 use Rattle.pdo_plan.specs.declared.clean.Clean.{Clean}
 use Rattle.pdo_plan.specs.declared.consumer.Consumer.{Consumer}
 use Rattle.pdo_stations.specs.declared.mapped.Mapped.{Mapped}
-use Rattle.pdo_stations.specs.Devices.{devices_of, is_width, is_unsigned_form, takes_unsigned, has_unsigned}
+use Rattle.pdo_stations.specs.Devices.{devices_of, is_unsigned, takes_unsigned, has_unsigned}
 use Rattle.pdo_stations.specs.Devices.{has_mapping, tpdo_object, rpdo_object, mapping_of}
+use Rattle.pdo_stations.proofs.UnsignedLemmas.{unsigned_form}
 use Rattle.pdo_plan.specs.Mapping.{mapped_bytes}
 use Rattle.pdo_plan.specs.Plan.{HasPdo}
 use Rattle.pdo_links.specs.Tables.{AreMapped, AreValues}
 use Rattle.pdo_links.specs.Writes.{write_at, cob_write, mapped_writes, mapping_writes, time_write, taken_type}
-use Rattle.pdo_links.specs.Writes.{tpdo_writes, rpdo_writes, off_bit, no_rtr_bit}
+use Rattle.pdo_links.specs.Writes.{tpdo_writes, rpdo_writes}
 
 -- ---- tests
 
@@ -45,32 +47,10 @@ same_number n = grind arith
 
 -- ---- an entry takes the bytes of a number
 
-same_width : (v w : Width) → is_width v w ≡ true → octets v ≡ octets w
-same_width Bits8 Bits8 e = refl
-same_width Bits16 Bits16 e = refl
-same_width Bits32 Bits32 e = refl
-same_width Bits64 Bits64 e = refl
-same_width Bits8 Bits16 e = cc
-same_width Bits8 Bits32 e = cc
-same_width Bits8 Bits64 e = cc
-same_width Bits16 Bits8 e = cc
-same_width Bits16 Bits32 e = cc
-same_width Bits16 Bits64 e = cc
-same_width Bits32 Bits8 e = cc
-same_width Bits32 Bits16 e = cc
-same_width Bits32 Bits64 e = cc
-same_width Bits64 Bits8 e = cc
-same_width Bits64 Bits16 e = cc
-same_width Bits64 Bits32 e = cc
-
-pub fits_form : (width : Width) (f : Form) (bytes : List ℕ) → is_unsigned_form width f ≡ true
-    → length bytes ≡ octets width → FitsForm f bytes
-fits_form width (Unsigned w) bytes e len = len ∙ same_width width w e
-fits_form width Flag bytes e len = cc
-fits_form width (Signed w) bytes e len = cc
-fits_form width Characters bytes e len = cc
-fits_form width HexPairs bytes e len = cc
-fits_form width Unmodelled bytes e len = cc
+pub fits_unsigned : (kind : DataType) (width : Width) (bytes : List ℕ) → is_unsigned kind width ≡ true
+    → length bytes ≡ octets width → FitsForm (form kind) bytes
+fits_unsigned kind width bytes e len =
+    subst (λ (f : Form). FitsForm f bytes) (sym (unsigned_form kind width e)) len
 
 -- what an entry of a device takes is a value of it
 pub taken_fits : (ss : List Section) (node index sub : ℕ) (width : Width) (bytes : List ℕ)
@@ -84,8 +64,7 @@ taken_fits ss node index sub width bytes test are len = by (description_of ss in
     by None e = cc
     by (Some d) e = (
       are,
-      fits_form width (form d.kind) bytes (first_of (is_unsigned_form width (form d.kind))
-          (is_writable d.access) e) len,
+      fits_unsigned d.kind width bytes (first_of (is_unsigned d.kind width) (is_writable d.access) e) len,
     )
 
 -- a write's entry takes its bytes as a number

@@ -1,8 +1,9 @@
 -- In which order a PDO is configured, and whose writes a node gets, in the words of CiA 301.
-use Rattle.std.specs.Prelude.{◌≡◌, ℕ, ◌%◌, ◌==◌, ◌&&◌, nat_le, Bool, true, false, not, List, [], ◌∷◌, ◌++◌, length}
+use Rattle.std.specs.Prelude.{◌≡◌, ℕ, ◌==◌, ◌&&◌, Bool, true, false, not, List, [], ◌∷◌, ◌++◌, length}
 use Rattle.std.specs.Prelude.{filter, Contains}
 use Rattle.byteorder.specs.Endian.{little_number}
 use Rattle.co_base.specs.Ranges.{is_between}
+use Rattle.co_fields.specs.CobIds.{identifier_in, is_valid}
 use Rattle.concise_dcf.specs.declared.write.Write.{Write}
 use Rattle.ini_text.specs.Content.{Section}
 use Rattle.pdo_plan.specs.declared.clean.Clean.{Clean}
@@ -29,11 +30,11 @@ AreBetween is_of_entry first last ws = (before after : List Write) (w : Write) �
 
 -- bit 31 of a COB-ID: the PDO is off
 abbrev pub is_off : Write → Bool
-is_off cob = nat_le 0x80000000 (little_number 4 cob.bytes)
+is_off cob = not (is_valid (little_number 4 cob.bytes))
 
--- the identifier in a COB-ID: its bits 0 to 10
-abbrev pub identifier_in : Write → ℕ
-identifier_in cob = little_number 4 cob.bytes % 0x800
+-- the identifier of a COB-ID
+abbrev pub identifier_set : Write → ℕ
+identifier_set cob = identifier_in (little_number 4 cob.bytes)
 
 -- a PDO is configured while it is off, and its mapping entries are written while their count is 0; in the end the
 -- count is theirs, and the PDO is on with its identifier
@@ -43,7 +44,7 @@ pub record IsConfigured (object identifier : ℕ) (mapping : List Mapped) (ws : 
   pub meanwhile : AreBetween (is_to object 1) off on ws
   pub is_switched_off : is_off off ≡ true
   pub is_switched_on : is_off on ≡ false
-  pub has_identifier : identifier_in on ≡ identifier
+  pub has_identifier : identifier_set on ≡ identifier
   pub counted : AreBetween (is_to (mapping_of object) 0) (write_at (mapping_of object) 0 (0 ∷ []))
       (write_at (mapping_of object) 0 (length mapping ∷ [])) (to_object (mapping_of object) ws)
   pub entries : filter (λ w. not (is_to (mapping_of object) 0 w)) (to_object (mapping_of object) ws)

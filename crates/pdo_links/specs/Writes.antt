@@ -1,6 +1,6 @@
 -- The writes that a plan gives a node: its TPDOs and RPDOs (CiA 301, PDO communication and mapping parameters). The
 -- order is this profile's own.
-use Rattle.std.specs.Prelude.{ℕ, ◌+◌, ◌==◌, nat_le, false, if◌then◌else◌, List, [], ◌∷◌, ◌++◌, length, map, filter_map}
+use Rattle.std.specs.Prelude.{ℕ, ◌+◌, ◌==◌, false, if◌then◌else◌, List, [], ◌∷◌, ◌++◌, length, map, filter_map}
 use Rattle.std.specs.Prelude.{Option, Some, None, option_map}
 use Rattle.std.specs.BTreeMap.{is_at}
 use Rattle.std.specs.List.{find, flat_map, enumerate_from, range_with_len}
@@ -9,6 +9,8 @@ use Rattle.std.specs.Option.{option_map_or}
 use Rattle.std.specs.Ordering.{nat_cmp}
 use Rattle.byteorder.specs.Endian.{little_bytes}
 use Rattle.co_values.specs.declared.form.Width.TheVariants.{Bits16}
+use Rattle.co_fields.specs.CobIds.{no_rtr_bit, off_bit}
+use Rattle.co_fields.specs.TransmissionTypes.{is_synchronous, type_of_byte}
 use Rattle.concise_dcf.specs.declared.write.Write.{Write}
 use Rattle.ini_text.specs.Content.{Section}
 use Rattle.co_params.specs.Params.{Texts}
@@ -24,13 +26,6 @@ use Rattle.pdo_plan.specs.Plan.{clean}
 
 abbrev pub write_at : ℕ → ℕ → List ℕ → Write
 write_at index sub bytes = record { index = index; sub = sub; bytes = bytes }
-
--- a COB-ID (CiA 301): bit 31 says that the PDO is off, bit 30 of a TPDO that no RTR is allowed
-abbrev pub off_bit : ℕ
-off_bit = 0x80000000
-
-abbrev pub no_rtr_bit : ℕ
-no_rtr_bit = 0x40000000
 
 abbrev pub cob_write : ℕ → ℕ → Write
 cob_write object cob = write_at object 1 (little_bytes 4 cob)
@@ -62,7 +57,7 @@ tpdo_writes ss node c =
 
 -- the transmission type of the RPDOs of a message: with the SYNC for 0 to 240, else at once
 abbrev pub taken_type : ℕ → ℕ
-taken_type transmission = if nat_le transmission 240 then 0 else 255
+taken_type transmission = if is_synchronous (type_of_byte transmission) then 0 else 255
 
 -- an RPDO likewise
 unfoldable pub rpdo_writes : Clean → Consumer → List Write

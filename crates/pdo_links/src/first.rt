@@ -15,7 +15,8 @@ pub(crate) fn put_first<T: Drop>(
     pdo: T,
 ) -> Result<(), AllocError>
     ensures { OnOk result ((key : ℕ) → lookup (is_at (nat_cmp key)) table.new.entries
-        ≡ option_or (lookup (is_at (nat_cmp key)) table.old.entries) (if is_at (nat_cmp key) number then Some pdo else None)) }
+        ≡ option_or (lookup (is_at (nat_cmp key)) table.old.entries)
+        (if is_at (nat_cmp key) number then Some pdo else None)) }
 {
     if !table.contains_key(&number) {
         table.insert(number, pdo)?;

@@ -27,15 +27,6 @@ pub(crate) const EVENT_TIMER: u8 = 5;
 /// The number of mapped entries, in a mapping parameter.
 pub(crate) const MAPPED_COUNT: u8 = 0;
 
-/// Bit 31 of a COB-ID: the PDO is off.
-pub(crate) const OFF_BIT: u32 = 0x8000_0000;
-
-/// Bit 30 of the COB-ID of a TPDO: no RTR is allowed.
-pub(crate) const NO_RTR_BIT: u32 = 0x4000_0000;
-
-/// The highest synchronous transmission type: up to it a PDO goes with the SYNC.
-pub(crate) const LAST_SYNCHRONOUS: u8 = 240;
-
 /// The transmission type of an RPDO that counts from the next SYNC on.
 pub(crate) const WITH_SYNC: u8 = 0;
 

@@ -12,11 +12,11 @@ ghost use Rattle.pdo_links.specs.Writes.{taken_type, rpdo_writes, rpdo_of, by_nu
 use crate::first::put_first;
 use crate::mapping::put_mapping;
 use crate::parameters::{
-    AT_ONCE, COB_ID, FIRST_RPDO, LAST_PDO, LAST_SYNCHRONOUS, MAPPING_DISTANCE, OFF_BIT,
-    TRANSMISSION_TYPE, WITH_SYNC,
+    AT_ONCE, COB_ID, FIRST_RPDO, LAST_PDO, MAPPING_DISTANCE, TRANSMISSION_TYPE, WITH_SYNC,
 };
 use crate::put::{put_u8, put_u32};
 use crate::taken::Taken;
+use co_fields::{CobId, TransmissionType};
 use concise_dcf::Write;
 use eds_device::Device;
 use pdo_plan::{Clean, Consumer, Outcome, Plan, PlannedMessage};
@@ -35,7 +35,7 @@ fn rpdo_object(number: u16) -> u16
 fn taken_type(transmission: u8) -> u8
     ensures { result ≡ taken_type transmission }
 {
-    if transmission <= LAST_SYNCHRONOUS {
+    if TransmissionType::of(transmission).is_synchronous() {
         WITH_SYNC
     } else {
         AT_ONCE
@@ -54,7 +54,7 @@ fn put_rpdo(writes: &mut Vec<Write>, clean: &Clean, consumer: &Consumer) -> Resu
 {
     let object = rpdo_object(consumer.rpdo);
     let identifier = u32::from(clean.identifier);
-    put_u32(writes, object, COB_ID, OFF_BIT + identifier)?;
+    put_u32(writes, object, COB_ID, CobId::OFF_BIT + identifier)?;
     put_u8(
         writes,
         object,

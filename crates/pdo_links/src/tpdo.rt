@@ -12,10 +12,10 @@ ghost use Rattle.pdo_links.specs.Writes.{write_at, time_write, tpdo_writes, tpdo
 use crate::first::put_first;
 use crate::mapping::put_mapping;
 use crate::parameters::{
-    COB_ID, EVENT_TIMER, FIRST_TPDO, INHIBIT_TIME, LAST_PDO, MAPPING_DISTANCE, NO_RTR_BIT, OFF_BIT,
-    TRANSMISSION_TYPE,
+    COB_ID, EVENT_TIMER, FIRST_TPDO, INHIBIT_TIME, LAST_PDO, MAPPING_DISTANCE, TRANSMISSION_TYPE,
 };
 use crate::put::{put_u8, put_u16, put_u32};
+use co_fields::CobId;
 use co_messages::Message;
 use co_values::{Form, Width};
 use concise_dcf::Write;
@@ -96,8 +96,8 @@ fn put_tpdo(
         → OnOk result (AreValues device.now.sections (tpdo_writes device.now.sections node clean.now)) }
 {
     let object = tpdo_object(clean.message.tpdo);
-    let identifier = NO_RTR_BIT + u32::from(clean.identifier);
-    put_u32(writes, object, COB_ID, OFF_BIT + identifier)?;
+    let identifier = CobId::NO_RTR_BIT + u32::from(clean.identifier);
+    put_u32(writes, object, COB_ID, CobId::OFF_BIT + identifier)?;
     put_timing(writes, device, node, object, &clean.message)?;
     put_mapping(writes, object + MAPPING_DISTANCE, clean.mapping.as_slice())?;
     put_u32(writes, object, COB_ID, identifier)?;

@@ -2,7 +2,7 @@
 use Rattle.std.proofs.Common.{◌≡◌, ℕ, ◌==◌, ◌&&◌, not, nat_lt, Bool, List, [], ◌∷◌, length, is_none, is_some, ap, ◌∙◌}
 use Rattle.std.specs.List.{list_any}
 use Rattle.std.proofs.lemmas.List.{length-map}
-use Rattle.co_base.specs.Ranges.{is_between}
+use Rattle.co_fields.specs.TransmissionTypes.{is_reserved, type_of_byte}
 use Rattle.co_messages.specs.declared.linked.Linked.{Linked}
 use Rattle.pdo_plan.specs.declared.carried.Carried.{Carried}
 use Rattle.pdo_plan.specs.declared.message_fault.MessageFault.{MessageFault}
@@ -30,7 +30,7 @@ tested had devices m cs consumers has =
     ∷ (list_any (λ node. lacks_some devices m.sinks node cs) consumers, NoDummy)
     ∷ (not (m.message.cob == 0) && not has, BadIdentifier)
     ∷ (m.message.cob == 0 && not has, NoIdentifier)
-    ∷ (is_between 241 251 m.message.transmission, ReservedType) ∷ [])
+    ∷ (is_reserved (type_of_byte m.message.transmission), ReservedType) ∷ [])
 
 module _ (had : Had) (devices : Devices) (m : Linked) where
   counted : length (carried_of devices m.message.node m.sources) ≡ length m.sources
@@ -53,7 +53,7 @@ module _ (had : Had) (devices : Devices) (m : Linked) where
       ∷ (list_any (λ node. lacks_same devices m.message.node m.sinks node m.sources i) (consumers_of m.sinks), NoDummy)
       ∷ (not (m.message.cob == 0) && not (is_some (identifier_for had m.message)), BadIdentifier)
       ∷ (m.message.cob == 0 && not (is_some (identifier_for had m.message)), NoIdentifier)
-      ∷ (is_between 241 251 m.message.transmission, ReservedType) ∷ [])
+      ∷ (is_reserved (type_of_byte m.message.transmission), ReservedType) ∷ [])
 
   pub tested_are : (cs : List Carried) (consumers : List ℕ) (has : Bool)
       → cs ≡ carried_of devices m.message.node m.sources → consumers ≡ consumers_of m.sinks

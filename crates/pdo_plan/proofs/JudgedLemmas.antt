@@ -10,6 +10,7 @@ use Rattle.std.proofs.lemmas.Bool.Decides.{nat_tests}
 use Rattle.std.proofs.lemmas.List.{length-map}
 use Rattle.std.proofs.lemmas.List.Elements.{All-from_recursion}
 use Rattle.co_base.specs.Ranges.{is_between}
+use Rattle.co_fields.specs.TransmissionTypes.{is_reserved, type_of_byte}
 use Rattle.co_dict.specs.Pdos.{is_restricted}
 use Rattle.co_messages.specs.declared.linked.Linked.{Linked}
 use Rattle.co_messages.specs.declared.message.Message.{Message}
@@ -92,7 +93,7 @@ tests_with had devices m automatic has =
     ∷ (has_unmappable devices m, NotMappable) ∷ (has_mismatch devices m, Mismatched)
     ∷ (lacks_rpdo had devices m, NoRpdo) ∷ (lacks_dummy devices m, NoDummy)
     ∷ (not automatic && not has, BadIdentifier) ∷ (automatic && not has, NoIdentifier)
-    ∷ (is_between 241 251 m.message.transmission, ReservedType) ∷ []
+    ∷ (is_reserved (type_of_byte m.message.transmission), ReservedType) ∷ []
 
 some_fault : (had : Had) (devices : Devices) (m : Linked) (automatic : Bool)
     → 1 ≤ length (faults_that_hold (tests_with had devices m automatic false))

@@ -134,7 +134,8 @@ module _ (nodes : List (ℕ × List Section)) (node : ℕ) (ss : List Section)
       let count : length c.mapping ≤ length m.sources = let f = ap length (sym is.mapping)
       in let g = sent_count (devices_of nodes) m in omega (arith, f, g) in
       let takers : All MadeTaker c.consumers = subst (All MadeTaker) is.consumers (takers_made (had_by before) m) in (
-        (λ at. has_here c.message.node (tpdo_object c.message.tpdo) (length c.mapping) (length m.sources) at count same),
+        (λ at. has_here c.message.node (tpdo_object c.message.tpdo) (length c.mapping) (length m.sources)
+            at count same),
         λ k among. All-contains MadeTaker c.consumers k takers among,
       )
 

@@ -10,11 +10,11 @@ use Rattle.std.specs.Option.{option_map_or}
 use Rattle.std.specs.Ordering.{nat_cmp}
 use Rattle.std.proofs.lemmas.Bool.Decides.{nat_tests}
 use Rattle.ini_text.specs.Content.{Section}
-use Rattle.co_base.specs.Ranges.{is_between}
 use Rattle.co_dict.specs.declared.direction.Direction.TheVariants.{Transmit, Receive}
 use Rattle.co_dict.specs.declared.entry.Entry.{Entry}
 use Rattle.co_dict.specs.Pdos.{is_mappable}
 use Rattle.co_values.specs.Types.{width_bits}
+use Rattle.co_fields.specs.TransmissionTypes.{is_reserved, type_of_byte}
 use Rattle.eds_device.specs.Entries.{entry_at, dummy_allowed}
 use Rattle.co_messages.specs.declared.linked.Linked.{Linked}
 use Rattle.co_messages.specs.Messages.{source_at, is_of_message, is_of_messages, Named}
@@ -167,7 +167,7 @@ module _ (had : Had) (d e : Devices) (m : Linked) (same : AreAlikeFor d e m) whe
       ∷ (dummies_alike i, NoDummy)
       ∷ (not (m.message.cob == 0) && not (is_some (identifier_for had m.message)), BadIdentifier)
       ∷ (m.message.cob == 0 && not (is_some (identifier_for had m.message)), NoIdentifier)
-      ∷ (is_between 241 251 m.message.transmission, ReservedType) ∷ [])
+      ∷ (is_reserved (type_of_byte m.message.transmission), ReservedType) ∷ [])
 
   outcome_alike : (id : Option ℕ) (fs : List MessageFault)
       → message_outcome had d m id fs ≡ message_outcome had e m id fs

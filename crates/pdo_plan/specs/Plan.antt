@@ -9,6 +9,7 @@ use Rattle.std.specs.BTreeSet.{insert_key}
 use Rattle.std.specs.Ordering.{nat_cmp}
 use Rattle.co_dict.specs.declared.direction.Direction.TheVariants.{Transmit, Receive}
 use Rattle.co_base.specs.Ranges.{is_between}
+use Rattle.co_fields.specs.TransmissionTypes.{is_reserved, type_of_byte}
 use Rattle.co_dict.specs.Pdos.{is_restricted}
 use Rattle.co_messages.specs.declared.linked.Linked.{Linked}
 use Rattle.co_messages.specs.declared.message.Message.{Message}
@@ -140,7 +141,7 @@ faults had devices m =
     ∷ (lacks_dummy devices m, NoDummy)
     ∷ (not (m.message.cob == 0) && not has_identifier, BadIdentifier)
     ∷ (m.message.cob == 0 && not has_identifier, NoIdentifier)
-    ∷ (is_between 241 251 m.message.transmission, ReservedType) ∷ [])
+    ∷ (is_reserved (type_of_byte m.message.transmission), ReservedType) ∷ [])
 
 -- ---- the plan
 

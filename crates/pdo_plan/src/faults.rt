@@ -1,7 +1,6 @@
 //! The faults of a message.
 ghost use Rattle.std.specs.Prelude.{◌≡◌, ◌≤◌, ◌==◌, ◌&&◌, ◌||◌, not, length, is_none, is_some, IfOk};
 ghost use Rattle.std.specs.List.{list_any};
-ghost use Rattle.co_base.specs.Ranges.{is_between};
 ghost use Rattle.co_dict.specs.declared.direction.Direction.TheVariants as direction;
 ghost use Rattle.pdo_plan.specs.Carried.{carried_of, lacks_some, mismatches};
 ghost use Rattle.pdo_stations.specs.Devices.{can_map};
@@ -17,6 +16,7 @@ use crate::rpdos::rpdo_for;
 use crate::sender::has_tpdo;
 use crate::taken::Taken;
 use co_dict::Direction;
+use co_fields::TransmissionType;
 use co_messages::{Linked, Sinks, Sources};
 use pdo_stations::Stations;
 use std::alloc::{AllocError, Global};
@@ -109,13 +109,6 @@ fn lacks_identifier(cob: u16, has_identifier: bool) -> bool
     cob == 0 && !has_identifier
 }
 
-/// Whether a transmission type is reserved (CiA 301): 241 to 251.
-fn is_reserved(transmission: u8) -> bool
-    ensures { result ≡ is_between 241 251 transmission }
-{
-    (241..=251).contains(&transmission)
-}
-
 /// All faults of a message with these sources and consumers, which can have an identifier or not.
 pub(crate) fn faults(
     alloc: Global,
@@ -165,7 +158,7 @@ pub(crate) fn faults(
             MessageFault::NoIdentifier,
         ),
         (
-            is_reserved(message.transmission),
+            TransmissionType::of(message.transmission).is_reserved(),
             MessageFault::ReservedType,
         ),
     ];

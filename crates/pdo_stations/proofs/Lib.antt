@@ -1,3 +1,4 @@
 pub mod AlikeLemmas
 pub mod RoomLemmas
 pub mod StationLemmas
+pub mod UnsignedLemmas

@@ -4,11 +4,11 @@ use Rattle.std.specs.List.{list_all, range_with_len}
 use Rattle.std.specs.Map.{lookup}
 use Rattle.std.specs.Option.{option_map_or}
 use Rattle.ini_text.specs.Content.{Section}
-use Rattle.co_values.specs.declared.form.Form.{Form}
-use Rattle.co_values.specs.declared.form.Form.TheVariants.{Unsigned}
+use Rattle.co_values.specs.declared.data_type.DataType.{DataType}
+use Rattle.co_values.specs.declared.data_type.DataType.TheVariants.{Unsigned8, Unsigned16, Unsigned32, Unsigned64}
 use Rattle.co_values.specs.declared.form.Width.{Width}
 use Rattle.co_values.specs.declared.form.Width.TheVariants.{Bits8, Bits16, Bits32, Bits64}
-use Rattle.co_values.specs.Types.{form, width_bits}
+use Rattle.co_values.specs.Types.{width_bits}
 use Rattle.co_dict.specs.declared.direction.Direction.{Direction}
 use Rattle.co_dict.specs.declared.entry.Entry.{Entry}
 use Rattle.co_dict.specs.Accesses.{is_writable}
@@ -27,20 +27,17 @@ devices_of nodes = record {
   dummy = λ node kind. option_map_or (λ ss. dummy_allowed ss kind) (lookup (λ n. n == node) nodes) false;
 }
 
-abbrev pub is_width : Width → Width → Bool
-is_width Bits8 Bits8 = true
-is_width Bits16 Bits16 = true
-is_width Bits32 Bits32 = true
-is_width Bits64 Bits64 = true
-is_width width other = false
+-- a type is UNSIGNEDn of this width
+abbrev pub is_unsigned : DataType → Width → Bool
+is_unsigned Unsigned8 Bits8 = true
+is_unsigned Unsigned16 Bits16 = true
+is_unsigned Unsigned32 Bits32 = true
+is_unsigned Unsigned64 Bits64 = true
+is_unsigned kind width = false
 
-abbrev pub is_unsigned_form : Width → Form → Bool
-is_unsigned_form width (Unsigned w) = is_width width w
-is_unsigned_form width other = false
-
--- an entry is an unsigned integer of this width that can be written
+-- an entry is an UNSIGNEDn of this width that can be written
 abbrev pub takes_unsigned : Width → Entry → Bool
-takes_unsigned width entry = is_unsigned_form width (form entry.kind) && is_writable entry.access
+takes_unsigned width entry = is_unsigned entry.kind width && is_writable entry.access
 
 -- a node has such an entry
 abbrev pub has_unsigned : Devices → ℕ → Width → ℕ × ℕ → Bool

@@ -9,5 +9,6 @@ mod station;
 mod stations;
 
 pub use mapped::Mapped;
+pub use room::is_unsigned;
 pub use station::Station;
 pub use stations::Stations;

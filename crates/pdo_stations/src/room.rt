@@ -1,24 +1,33 @@
 //! How many mapping entries a PDO has room for.
 ghost use Rattle.std.specs.Prelude.{◌≡◌, ◌≤◌, ◌<◌, ◌+◌, ℕ, nat_le};
 ghost use Rattle.std.specs.List.{list_all, range_with_len};
-ghost use Rattle.pdo_stations.specs.Devices.{takes_unsigned, has_unsigned};
+ghost use Rattle.pdo_stations.specs.Devices.{is_unsigned, takes_unsigned, has_unsigned};
 ghost use Rattle.pdo_stations.specs.Rooms.{device_with, IsRoomOf};
 
 use co_dict::{Entry, Shape};
-use co_values::{Form, Width};
+use co_values::{DataType, Width};
 
 /// The most entries of a mapping (CiA 301).
 pub(crate) const MAX_ENTRIES: u8 = 64;
 
-/// Whether an entry is an unsigned integer of a width that can be written.
+/// Whether a type is UNSIGNEDn of a width.
+pub fn is_unsigned(kind: DataType, width: Width) -> bool
+    ensures { result ≡ is_unsigned kind width }
+{
+    match kind {
+        DataType::Unsigned8 => matches!(width, Width::Bits8),
+        DataType::Unsigned16 => matches!(width, Width::Bits16),
+        DataType::Unsigned32 => matches!(width, Width::Bits32),
+        DataType::Unsigned64 => matches!(width, Width::Bits64),
+        _ => false,
+    }
+}
+
+/// Whether an entry is an UNSIGNEDn of a width that can be written.
 pub(crate) fn takes_unsigned(width: Width, entry: &Entry) -> bool
     ensures { result ≡ takes_unsigned width entry.now }
 {
-    let fits = match entry.kind.form() {
-        Form::Unsigned(found) => found == width,
-        _ => false,
-    };
-    fits && entry.access.is_writable()
+    is_unsigned(entry.kind, width) && entry.access.is_writable()
 }
 
 /// Whether a device has such an entry.

@@ -1,3 +1,4 @@
 pub mod Library
 pub mod Named
 pub mod Network
+pub mod Events

@@ -5,8 +5,9 @@ use Rattle.std.specs.FinMap.{FinMap, code, get, insert}
 use Rattle.std.specs.Option.{option_map_or}
 use Rattle.co_base.specs.Tables.{Each}
 use Rattle.ini_text.specs.Content.{Content as Device, content_of}
+use Rattle.co_messages.specs.Messages.{name_cmp}
 use Rattle.co_project.specs.Project.{Content}
-use Rattle.co_project.specs.Tables.{name_cmp, text_at}
+use Rattle.co_project.specs.Tables.{text_at}
 
 -- devices by the names of their EDS
 abbrev pub Devices : Type 0

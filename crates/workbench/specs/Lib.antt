@@ -6,3 +6,4 @@ pub mod Lines
 pub mod Written
 pub mod Machine
 pub mod Views
+pub mod Kept

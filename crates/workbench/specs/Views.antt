@@ -2,23 +2,21 @@
 use Rattle.std.specs.Prelude.{◌≡◌, ℕ, List, [], ◌∷◌, Option, Some, None, Result, Ok, Err}
 use Rattle.co_edits.specs.declared.fault.EditFault.{EditFault}
 use Rattle.co_edits.specs.declared.fault.EditFault.TheVariants.{Memory}
-use Rattle.co_edits.specs.Eds.{lines_of}
+use Rattle.co_edits.specs.Eds.{block_lines}
 use Rattle.co_edits.specs.Faults.{refusal_text}
 use Rattle.co_project.specs.Project.{Content}
 use Rattle.workbench.specs.declared.cursor.Cursor.{Cursor as TheCursor}
-use Rattle.workbench.specs.declared.member.Member.{Member as TheMember}
 use Rattle.workbench.specs.declared.open_block.OpenBlock.{OpenBlock as TheBlock}
 use Rattle.workbench.specs.declared.reply.Reply.{Reply}
 use Rattle.workbench.specs.declared.reply.Reply.TheVariants.{Nothing, Fixed, Lines}
 use Rattle.workbench.specs.Machine.{Cursor}
-use Rattle.project_plan.specs.Network.{Member}
 use Rattle.workbench.specs.declared.configured.Configured.{Configured}
 use Rattle.workbench.specs.Queries.{Configuration}
 use Rattle.workbench.specs.Replies.{OpenBlock, State, After}
 
 abbrev pub block_of : Option TheBlock → Option OpenBlock
 block_of None = None
-block_of (Some b) = Some (record { name = b.name; left = b.left; lines = lines_of b.lines.items })
+block_of (Some b) = Some (record { name = b.name; left = b.left; lines = block_lines b.lines.items })
 
 abbrev pub cursor_of : TheCursor → Cursor
 cursor_of c = record { state = record { project = c.workbench.project; block = block_of c.block }; line = c.line.items }
@@ -43,11 +41,8 @@ Refuses Memory (Err e) = Unit {0}
 Refuses fault (Ok reply) = replies_of reply ≡ refusal_text fault ∷ []
 Refuses fault (Err e) = ⊥
 
-abbrev pub member_of : TheMember → Member
-member_of m = record { node = m.node.now; sections = m.device.sections }
-
 abbrev pub configuration_of : Configured → Configuration
 configuration_of c = record {
-  member = record { node = c.node.now; sections = c.device.sections };
+  member = record { node = c.node.now; sections = c.device.now.sections };
   writes = c.writes.items;
 }

@@ -3,13 +3,15 @@
 
 mod configured;
 mod cursor;
+mod files;
 mod hex;
+mod kept;
 pub mod laws;
-mod member;
 mod open_block;
 mod queries;
 mod reply;
 mod serving;
+mod tracing;
 mod turns;
 mod work;
 mod workbench;

@@ -1,7 +1,7 @@
 //! What one line does.
 ghost use Rattle.std.specs.Prelude.{◌≡◌, IfOk, None};
 ghost use Rattle.co_commands.specs.Requests.{request};
-ghost use Rattle.co_edits.specs.Eds.{lines_of};
+ghost use Rattle.co_edits.specs.Eds.{block_lines};
 ghost use Rattle.co_project.specs.Project.{accept};
 ghost use Rattle.workbench.specs.Queries.{answer};
 ghost use Rattle.workbench.specs.Replies.{after_line, after_request, in_block, after_verdict, after_query, is_skipped};
@@ -85,7 +85,7 @@ fn go_on(
     lines: Vec<Vec<u8>>,
 ) -> Result<(Reply, Option<OpenBlock>), AllocError>
     ensures { IfOk result (λ r. taken_at workbench.new.project r.1 r.0
-        ≡ in_block workbench.old.project name left (lines_of lines.items)) }
+        ≡ in_block workbench.old.project name left (block_lines lines.items)) }
 {
     if left > 0 {
         return Ok((Reply::Nothing, Some(OpenBlock { name, left, lines })));

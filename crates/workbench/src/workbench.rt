@@ -1,7 +1,6 @@
 //! The workbench.
-ghost use Rattle.std.specs.Prelude.{◌≡◌, ◌↔◌, ◌≤◌, All, IfOk, IsErrOf, IsTrue, None, length};
+ghost use Rattle.std.specs.Prelude.{◌≡◌, ◌↔◌, IfOk, IsErrOf, IsTrue, None};
 ghost use Rattle.co_base.specs.Gives.{Gives};
-ghost use Rattle.concise_dcf.specs.Concise.{text_of as concise_text};
 ghost use Rattle.co_diag.specs.Found.{diagnostics_of};
 ghost use Rattle.co_edits.specs.Accepts.{Accepts};
 ghost use Rattle.co_edits.specs.Faults.{is_memory};
@@ -11,16 +10,13 @@ ghost use Rattle.co_project.specs.Sound.{IsSound};
 ghost use Rattle.co_project.specs.Tables.{node_at};
 ghost use Rattle.workbench.specs.Queries.{or_unknown, dcf_of, concise_of, trace_of};
 
-use crate::configured::configuration;
-use crate::member::fill_plan;
+use crate::files::{concise, dcf};
+use crate::kept::{Kept, keep_plan};
+use crate::tracing::traced;
 use can_bus::Line;
-use co_depend::ProjectParts;
 use co_diag::diagnostics_by;
 use co_project::{Command, EditFault, Project};
-use concise_dcf::{Write, encode};
 use diag_lines::Diag;
-use eds_dcf::dcf_text;
-use pdo_links::Plan;
 use project_plan::Library;
 use std::alloc::{AllocError, Global};
 use std::marker::Model;
@@ -28,22 +24,23 @@ use std::marker::Model;
 /// A workbench: a project, and the files that its nodes get. Contracts see it as a record with its
 /// project.
 ///
-/// Each file is made anew from the project of now: that of a node reads the node's EDS each time,
-/// and takes time and memory by the length of that EDS and of the file, up to a logarithm. The plan
-/// of the messages is kept until an edit is taken; the first file after it also reads the EDS of
-/// the nodes that messages name, each once, and takes the time of a plan.
+/// Each file is that of the project of now. Until an edit is taken, three things are kept: the plan
+/// of the messages, the device that was read last for a file, and the DCF that was made last. A DCF
+/// that is kept is copied. Else a file takes time and memory by its length, and time by the entries
+/// of its device and the messages, up to a logarithm; where that device isn't the one that is kept,
+/// also time and memory by the length of its EDS, which is read. The first file after an edit also
+/// reads the EDS of the nodes that messages name, each once, and takes the time of a plan.
 #[derive(Drop)]
 pub struct Workbench {
     alloc: Global,
     project: Project,
-    plan: Option<Plan>,
+    kept: Kept,
 }
 
 impl Model for Workbench {
     ghost use Rattle.co_project.specs.contracts.project.Project as held;
-    ghost use Rattle.std.specs.Prelude.{◌≡◌, IfSome};
-    ghost use Rattle.project_plan.specs.Network.{plan_of_project};
     ghost use Rattle.workbench.specs.Bench.{Bench, bench_code};
+    ghost use Rattle.workbench.specs.Kept.{IsKept};
 
     ghost Value = { Bench };
 
@@ -51,7 +48,7 @@ impl Model for Workbench {
 
     ghost view = { λ workbench. record { project = workbench.project } };
 
-    ghost invariant = { λ workbench. IfSome workbench.plan (λ plan. plan ≡ plan_of_project workbench.project) };
+    ghost invariant = { λ workbench. IsKept workbench.project workbench.kept };
 }
 
 impl Workbench {
@@ -62,7 +59,7 @@ impl Workbench {
         Workbench {
             alloc,
             project: Project::new(alloc),
-            plan: None,
+            kept: Kept::nothing(),
         }
     }
 
@@ -75,7 +72,7 @@ impl Workbench {
         ensures memory { IsErrOf result EditFault.Memory → IsTrue (adds self.old.project command) }
     {
         self.project.accept(command)?;
-        self.plan = None;
+        self.kept = Kept::nothing();
         Ok(())
     }
 
@@ -89,16 +86,16 @@ impl Workbench {
     /// The device configuration file (CiA 306) of a node, of the project as it is now.
     ///
     /// Unknown: the number isn't a node's. Memory can come in place of the file.
-    #[tactic(auto, unfolding(crate::specs::Queries::dcf_of))]
+    #[tactic(auto, unfolding(crate::specs::Queries::dcf_of, crate::specs::Queries::configured_at, project_plan::specs::Network::member_at))]
     pub fn dcf(&mut self, node: u8) -> Result<Vec<u8>, EditFault>
         ensures file { Gives is_memory (λ v. v.items) result (or_unknown (dcf_of self.old.project node)) }
         ensures unknown { IsErrOf result EditFault.Unknown ↔ (node_at self.old.project.nodes node ≡ None) }
         ensures same { self.new.project ≡ self.old.project }
     {
-        let rate = self.project.bitrate();
-        let made = configuration(self.alloc, &self.project, &mut self.plan, node)?;
-        let name = made.node.name.as_slice();
-        let text = dcf_text(self.alloc, &made.device, node, name, rate, &made.writes)?;
+        let Some(found) = self.project.node(node) else {
+            return Err(EditFault::Unknown);
+        };
+        let text = dcf(self.alloc, &self.project, &mut self.kept, found, node)?;
         Ok(text)
     }
 
@@ -106,14 +103,16 @@ impl Workbench {
     /// is now.
     ///
     /// Unknown: the number isn't a node's. Memory can come in place of the file.
-    #[tactic(auto, unfolding(crate::specs::Queries::concise_of))]
+    #[tactic(auto, unfolding(crate::specs::Queries::concise_of, crate::specs::Queries::configured_at, project_plan::specs::Network::member_at))]
     pub fn concise(&mut self, node: u8) -> Result<Vec<u8>, EditFault>
         ensures file { Gives is_memory (λ v. v.items) result (or_unknown (concise_of self.old.project node)) }
         ensures unknown { IsErrOf result EditFault.Unknown ↔ (node_at self.old.project.nodes node ≡ None) }
         ensures same { self.new.project ≡ self.old.project }
     {
-        let made = configuration(self.alloc, &self.project, &mut self.plan, node)?;
-        let bytes = encoded(self.alloc, &made.writes)?;
+        let Some(found) = self.project.node(node) else {
+            return Err(EditFault::Unknown);
+        };
+        let bytes = concise(self.alloc, &self.project, &mut self.kept, found, node)?;
         Ok(bytes)
     }
 
@@ -127,8 +126,8 @@ impl Workbench {
         ensures same { self.new.project ≡ self.old.project }
     {
         let mut library = Library::new(self.alloc, &self.project);
-        fill_plan(self.alloc, &mut library, &mut self.plan)?;
-        let Some(plan) = &self.plan else {
+        keep_plan(self.alloc, &mut library, &mut self.kept)?;
+        let Some(plan) = &self.kept.plan else {
             unreachable!()
         };
         diagnostics_by(self.alloc, &mut library, plan)
@@ -141,16 +140,12 @@ impl Workbench {
     /// microseconds at which something is due: takes time at each by what is due or changes there, by the nodes
     /// that have to run, and by an eighth of all; memory by the number of lines, and the entries and writes of
     /// all nodes.
-    #[tactic(auto, unfolding(crate::specs::Queries::trace_of))]
     pub fn trace(&mut self) -> Result<Vec<Line>, AllocError>
         ensures lines { IfOk result (λ lines. lines.items ≡ trace_of self.old.project) }
         ensures same { self.new.project ≡ self.old.project }
     {
-        self.project.keeps_to_rules();
-        let horizon = self.project.horizon();
-        let mut parts = ProjectParts::new(self.alloc, &self.project)?;
-        let lines = can_bus::trace(self.alloc, &mut parts, horizon)?;
-        Ok(lines.into_vec())
+        let lines = traced(self.alloc, &self.project)?;
+        Ok(lines)
     }
 
     /// The commands that make this project of the first one, as text.
@@ -162,13 +157,4 @@ impl Workbench {
     {
         self.project.script()
     }
-}
-
-fn encoded(alloc: Global, writes: &[Write]) -> Result<Vec<u8>, AllocError>
-    requires count { length writes.now ≤ 4294967295 }
-    requires sizes { All (λ w. (1 ≤ length w.bytes) × (length w.bytes ≤ 512)) writes.now }
-    ensures { IfOk result (λ bytes. bytes.items ≡ concise_text writes.now) }
-{
-    let bytes = encode(alloc, writes)?;
-    Ok(bytes)
 }

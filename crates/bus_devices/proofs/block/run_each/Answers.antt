@@ -1,7 +1,7 @@
 use Rattle.std.proofs.Common.{◌<◌, ◌∙◌, length, arith}
 use Rattle.asking.proofs.RecordLemmas.{in_turn}
 use Rattle.device_agenda.specs.Agenda.{at_instant}
-use Rattle.bus_events.proofs.EachLemmas.{each_state, each_noted, each_counted}
+use Rattle.asking.proofs.EachLemmas.{each_state, each_noted, each_counted}
 use Rattle.bus_devices.proofs.block.run_each.Goals as goal
 
 pub loop-device-preserved : goal.loop-device-preserved

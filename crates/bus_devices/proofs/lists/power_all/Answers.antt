@@ -2,7 +2,7 @@ use Rattle.std.proofs.Common.{◌<◌, ◌∙◌, length, arith}
 use Rattle.asking.proofs.RecordLemmas.{in_turn}
 use Rattle.std.specs.Prelude.{true}
 use Rattle.co_device.specs.Device.{after_power}
-use Rattle.bus_events.proofs.EachLemmas.{each_state, each_noted, each_counted}
+use Rattle.asking.proofs.EachLemmas.{each_state, each_noted, each_counted}
 use Rattle.bus_devices.proofs.lists.power_all.Goals as goal
 
 pub loop-device-preserved : goal.loop-device-preserved

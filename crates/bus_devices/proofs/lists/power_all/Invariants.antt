@@ -3,7 +3,7 @@ use Rattle.std.specs.Prelude.{true}
 use Rattle.co_device.specs.Device.{after_power}
 use Rattle.asking.specs.Asking.{outcome, after_reads, reads}
 use Rattle.asking.specs.Record.{BeginsWith}
-use Rattle.bus_events.specs.Each.{each}
+use Rattle.asking.specs.Each.{each}
 use Rattle.bus_devices.proofs.lists.power_all.Given as goal
 
 -- what is done and what is left give what all give

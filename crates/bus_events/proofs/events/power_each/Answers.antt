@@ -1,7 +1,7 @@
 use Rattle.std.proofs.Common.{◌<◌, ◌∙◌, length, arith}
 use Rattle.asking.proofs.RecordLemmas.{in_turn}
 use Rattle.bus_events.specs.Events.{after_power_at}
-use Rattle.bus_events.proofs.EachLemmas.{each_state, each_noted, each_counted}
+use Rattle.asking.proofs.EachLemmas.{each_state, each_noted, each_counted}
 use Rattle.bus_events.proofs.events.power_each.Goals as goal
 
 pub loop-device-preserved : goal.loop-device-preserved

@@ -2,7 +2,7 @@ use Rattle.std.proofs.Common.{◌≡◌, ◌++◌, ◌≤◌, ◌+◌, length, t
 use Rattle.bus_events.specs.Events.{after_power_at}
 use Rattle.asking.specs.Asking.{outcome, after_reads, reads}
 use Rattle.asking.specs.Record.{BeginsWith}
-use Rattle.bus_events.specs.Each.{each}
+use Rattle.asking.specs.Each.{each}
 use Rattle.bus_events.proofs.events.power_each.Given as goal
 
 -- what is done and what is left give what all give

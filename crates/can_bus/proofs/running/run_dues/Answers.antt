@@ -21,9 +21,9 @@ dues-preserved g c =
     let state = rw old.kept at i.state in
     let told = rw old.kept at i.told in
     record {
-      before = next_ready image c.requires.coherent c.dues.t c.dues.bus c.run_turn.new.bus old.before state
+      before = next_ready image c.requires.image c.dues.t c.dues.bus c.run_turn.new.bus old.before state
           c.next_due-t-in-dues.result c.next_due-t-in-dues.ensures;
-      told = next_told image c.requires.coherent c.dues.t c.dues.bus c.run_turn.new.bus old.before state c.args.end
+      told = next_told image c.requires.image c.dues.t c.dues.bus c.run_turn.new.bus old.before state c.args.end
           c.next_due-t-in-dues.result c.next_due-t-in-dues.ensures c.dues-test.true c.dues.lines c.run_turn.new.lines
           told ∙ old.told;
       kept = i.kept ∙ old.kept;
@@ -35,7 +35,7 @@ dues-smaller g c =
     let old = c.dues.invariant in
     let state = rw old.kept at c.in_ok-run_turn.ensures.state in
     let later : c.dues.t < c.next_due-t-in-dues.result =
-    next_later image c.requires.coherent c.dues.t c.dues.bus c.run_turn.new.bus old.before state
+    next_later image c.requires.image c.dues.t c.dues.bus c.run_turn.new.bus old.before state
     c.next_due-t-in-dues.result c.next_due-t-in-dues.ensures in
     omega (arith, later, c.dues-test.true)
 

@@ -1,4 +1,5 @@
-use Rattle.co_depend.specs.Image.{shape_of_node, window_steps}
+use Rattle.project_plan.specs.Events.{shape_of_node}
+use Rattle.co_depend.specs.Image.{window_steps}
 use Rattle.co_depend.proofs.StepLemmas.{exactly_these}
 use Rattle.co_depend.proofs.laws.each_window_has_the_steps_of_its_events.Goals as goal
 

@@ -1,6 +1,6 @@
 use Rattle.std.proofs.Common.{◌≡◌}
 use Rattle.std.specs.FinMap.{entries}
-use Rattle.co_project.specs.Tables.{texts_of}
+use Rattle.co_messages.specs.Messages.{by_name}
 use Rattle.co_diag.proofs.DeviceLemmas.{AreReadFirst}
 use Rattle.co_diag.proofs.devices.read_all.Given as goal
 
@@ -8,5 +8,5 @@ use Rattle.co_diag.proofs.devices.read_all.Given as goal
 abbrev pub invariant-loop-name : goal.invariant-loop-name
 invariant-loop-name l = record {
   project : l.library.project ≡ l.fn.library.project;
-  read : AreReadFirst l.library (texts_of l.name-iterator) (entries l.fn.library.project.texts);
+  read : AreReadFirst l.library (by_name l.name-iterator) (entries l.fn.library.project.texts);
 }

@@ -1,5 +1,5 @@
 use Rattle.std.proofs.Common.{◌≡◌, ◌∙◌, ℕ, List, [], ◌∷◌, ◌++◌, ap, rules}
-use Rattle.co_project.specs.Tables.{texts_of}
+use Rattle.co_messages.specs.Messages.{by_name}
 use Rattle.diag_lines.specs.declared.diag.Diag.{Diag}
 use Rattle.co_diag.specs.Devices.{lines_at}
 use Rattle.co_diag.proofs.WalkLemmas.{all_lines, walk_ends, walk_on}
@@ -9,16 +9,16 @@ pub loop-name-preserved : goal.loop-name-preserved
 loop-name-preserved c =
     let texts = c.args.library.now.project.texts in
     let e : List ℕ × List ℕ = (c.in-Some.name.now.items, c.in-Some._text.now) in
-    let left : texts_of c.loop-name.name-iterator ≡ e ∷ texts_of c.next.new.self = search rules in
+    let left : by_name c.loop-name.name-iterator ≡ e ∷ by_name c.next.new.self = search rules in
     walk_on (λ (e : List ℕ × List ℕ). lines_at texts e.0) _ c.loop-name.found.items c.find_of_text.new.found.items e
-    (texts_of c.next.new.self) (texts_of c.loop-name.name-iterator) left
+    (by_name c.next.new.self) (by_name c.loop-name.name-iterator) left
     (c.in_ok-find_of_text.ensures
     ∙ ap (λ (n : List ℕ). c.loop-name.found.items ++ lines_at texts n) c.deref.ensures.value) c.loop-name.invariant
 
 pub returns : goal.returns
 returns c =
     let texts = c.args.library.now.project.texts in
-    let ended : texts_of c.loop-name.name-iterator ≡ [] = search rules in
+    let ended : by_name c.loop-name.name-iterator ≡ [] = search rules in
     walk_ends (λ (e : List ℕ × List ℕ). lines_at texts e.0) _ c.loop-name.found.items
-    (texts_of c.loop-name.name-iterator) ended c.loop-name.invariant
+    (by_name c.loop-name.name-iterator) ended c.loop-name.invariant
     ∙ ap (λ (ds : List Diag). c.args.found.now.items ++ ds) (all_lines texts)

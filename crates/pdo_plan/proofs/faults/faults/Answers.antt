@@ -1,4 +1,5 @@
-use Rattle.std.proofs.Common.{◌≡◌, not, [], ◌∷◌, nat_lt, ◌∙◌}
+use Rattle.std.proofs.Common.{◌≡◌, not, [], ◌∷◌, nat_lt, ap, ◌∙◌}
+use Rattle.co_fields.specs.TransmissionTypes.{is_reserved, type_of_byte}
 use Rattle.pdo_plan.specs.declared.message_fault.MessageFault.TheVariants.{NoObjects, TpdoTaken, TooManyBits}
 use Rattle.pdo_plan.specs.declared.message_fault.MessageFault.TheVariants.{NotMappable, Mismatched, NoRpdo, NoDummy}
 use Rattle.pdo_plan.specs.declared.message_fault.MessageFault.TheVariants.{BadIdentifier, NoIdentifier, ReservedType}
@@ -13,6 +14,8 @@ returns c =
     let had = had_in c.args.taken.now in
     let devices = devices_in c.args.stations.now in
     let m = c.args.linked.now in
+    let reserved : c.is_reserved.result ≡ is_reserved (type_of_byte c.args.linked.now.message.transmission) =
+    c.is_reserved.ensures ∙ ap is_reserved c.of.ensures in
     let tests : faults_that_hold ((not c.has_tpdo.result, NoObjects) ∷ (c.contains.result, TpdoTaken)
     ∷ (nat_lt 64 c.total_bits.result, TooManyBits) ∷ (c.has_unmappable.result, NotMappable)
     ∷ (c.has_mismatch.result, Mismatched) ∷ (c.lacks_rpdo.result, NoRpdo) ∷ (c.lacks_any_dummy.result, NoDummy)
@@ -23,7 +26,7 @@ returns c =
     ∷ (nat_lt 64 (c.total_bits.ensures i), TooManyBits) ∷ (c.has_unmappable.ensures i, NotMappable)
     ∷ (c.has_mismatch.ensures i, Mismatched) ∷ (c.lacks_rpdo.ensures i, NoRpdo) ∷ (c.lacks_any_dummy.ensures i, NoDummy)
     ∷ (c.is_bad.ensures i, BadIdentifier)
-    ∷ (c.lacks_identifier.ensures i, NoIdentifier) ∷ (c.is_reserved.ensures i, ReservedType) ∷ []) in
+    ∷ (c.lacks_identifier.ensures i, NoIdentifier) ∷ (reserved i, ReservedType) ∷ []) in
     let all = tests
     ∙ tested_are had devices m c.args.carried.now c.args.consumers.now c.args.has_identifier c.requires.sources
     c.requires.consumers c.requires.identifier in

@@ -4,14 +4,14 @@ use Rattle.std.proofs.lemmas.Result.{err_from_is_err_and}
 use Rattle.std.proofs.lemmas.Grind.{common_steps}
 use Rattle.eds_device.specs.Faults.{device_of}
 use Rattle.co_edits.specs.Faults.{is_memory, device_verdict}
-use Rattle.co_edits.specs.Eds.{lines_of, text_of}
+use Rattle.co_edits.specs.Eds.{block_lines, text_of}
 use Rattle.co_edits.specs.Edits.{IsEdit}
 use Rattle.co_commands.proofs.EdsLemmas.{Passes, refused_so, taken_so, is_eds}
 use Rattle.co_commands.proofs.command.Command.eds.Goals as goal
 
 pub returns-in_err-check : goal.returns-in_err-check
 returns-in_err-check c =
-    let lines : List (List ℕ) = lines_of c.args.lines.now in
+    let lines : List (List ℕ) = block_lines c.args.lines.now in
     let text : c.deref.result.now ≡ text_of lines = c.deref.ensures.value ∙ c.in_ok-text.ensures in
     let passes : Passes c.args.name.now lines = record {
       named = grind (arith, common_steps);
@@ -29,7 +29,7 @@ returns-in_err-check c =
 pub new-requires : goal.new-requires
 unfolding IsEdit
 new-requires c =
-    let lines : List (List ℕ) = lines_of c.args.lines.now in
+    let lines : List (List ℕ) = block_lines c.args.lines.now in
     let text : c.deref.result.now ≡ text_of lines = c.deref.ensures.value ∙ c.in_ok-text.ensures in
     let passes : Passes c.args.name.now lines = record {
       named = grind (arith, common_steps);
@@ -43,7 +43,7 @@ new-requires c =
 
 pub returns : goal.returns
 returns c =
-    let lines : List (List ℕ) = lines_of c.args.lines.now in
+    let lines : List (List ℕ) = block_lines c.args.lines.now in
     let text : c.deref.result.now ≡ text_of lines = c.deref.ensures.value ∙ c.in_ok-text.ensures in
     let passes : Passes c.args.name.now lines = record {
       named = grind (arith, common_steps);

@@ -1,8 +1,8 @@
 use Rattle.std.proofs.Common.{ap, sym, ◌∙◌}
 use Rattle.std.specs.FinMap as map
-use Rattle.co_project.proofs.TextLemmas.{texts_counted}
+use Rattle.co_messages.proofs.NameLemmas.{values_counted}
 use Rattle.co_project.proofs.texts.Texts.len.Goals as goal
 
 pub returns : goal.returns
-returns c = c.len.ensures.len ∙ sym (texts_counted c.self.inside.texts.entries c.len.ensures.ordered)
+returns c = c.len.ensures.len ∙ sym (values_counted c.self.inside.texts.entries c.len.ensures.ordered)
     ∙ ap map.len c.self.view_is

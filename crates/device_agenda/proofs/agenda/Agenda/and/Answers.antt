@@ -1,7 +1,8 @@
+use Rattle.std.proofs.Common.{◌||◌, refl}
 use Rattle.device_agenda.proofs.PlanLemmas.{of_both}
 use Rattle.device_agenda.proofs.agenda.Agenda.and.Goals as goal
 
 pub returns : goal.returns
 returns c =
-    of_both c.args.self c.args.other c.either.result c.earlier.result c.and.result c.either-2.result
-    c.either.ensures c.earlier.ensures c.and.ensures c.either-2.ensures
+    of_both c.args.self c.args.other (c.args.self.awake || c.args.other.awake) c.earlier.result c.and.result
+    (c.args.self.waits || c.args.other.waits) refl c.earlier.ensures c.and.ensures refl

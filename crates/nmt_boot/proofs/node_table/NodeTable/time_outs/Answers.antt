@@ -1,6 +1,6 @@
-use Rattle.std.proofs.Common.{sym}
+use Rattle.std.proofs.Common.{refl, sym}
 use Rattle.std.proofs.lemmas.List.{append-nil}
-use Rattle.nmt_boot.proofs.QuietLemmas.{nodes_stay, queue_stays, nothing_noted}
+use Rattle.nmt_boot.proofs.QuietLemmas.{nodes_stay, none_times_out}
 use Rattle.nmt_boot.proofs.node_table.NodeTable.time_outs.Goals as goal
 
 pub returns-then-is_quiet-clause-state : goal.returns-then-is_quiet-clause-state
@@ -8,9 +8,9 @@ returns-then-is_quiet-clause-state c = sym (nodes_stay c.args.t c.args.self.now 
 
 pub returns-then-is_quiet-clause-queued : goal.returns-then-is_quiet-clause-queued
 returns-then-is_quiet-clause-queued c =
-    sym (queue_stays c.args.t c.args.self.now c.args.waiting.now (c.is_quiet.ensures c.if-is_quiet.true))
+    rw (none_times_out c.args.t c.args.self.now (c.is_quiet.ensures c.if-is_quiet.true)) refl
 
 pub returns-then-is_quiet-clause-notes : goal.returns-then-is_quiet-clause-notes
 returns-then-is_quiet-clause-notes c =
-    rw (nothing_noted c.args.t c.args.self.now (c.is_quiet.ensures c.if-is_quiet.true))
+    rw (none_times_out c.args.t c.args.self.now (c.is_quiet.ensures c.if-is_quiet.true))
     (sym (append-nil c.args.notes.now))

@@ -6,7 +6,7 @@ use Rattle.std.proofs.Math.Seq.{drop-cons}
 use Rattle.std.proofs.lemmas.List.{append-nil, drop-set-lt, take_more_set}
 use Rattle.asking.specs.Asking.{Asking, Answer, Seen, outcome, reads, after_reads, bind}
 use Rattle.asking.proofs.QuestionLemmas.{outcome_bind, reads_bind}
-use Rattle.bus_events.specs.Each.{each}
+use Rattle.asking.specs.Each.{each}
 
 -- one more of the list
 module _ {N V A B : Type 0} (step : A → Asking N V B) (a : A) (rest : List A) where

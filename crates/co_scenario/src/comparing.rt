@@ -2,7 +2,8 @@
 
 ghost use Rattle.std.specs.Prelude.{◌≡◌, ◌↔◌, IsTrue};
 
-use co_scenario::{Step, TimedStep};
+use crate::step::Step;
+use crate::timed_step::TimedStep;
 
 /// Whether two events do the same.
 fn same_step(step: &Step, other: &Step) -> bool
@@ -42,8 +43,8 @@ fn same_event(step: &TimedStep, other: &TimedStep) -> bool
     step.number == other.number && step.time == other.time && same_step(&step.step, &other.step)
 }
 
-/// Whether two lists of events are the same.
-pub(crate) fn same_steps(steps: &[TimedStep], others: &[TimedStep]) -> bool
+/// Whether two lists of events are the same. Takes time by their length.
+pub fn same_steps(steps: &[TimedStep], others: &[TimedStep]) -> bool
     ensures { IsTrue result ↔ (steps.now ≡ others.now) }
 {
     if steps.len() != others.len() {

@@ -32,7 +32,7 @@ pub trait Shapes: Asked<Part, PartContent> {
 }
 
 /// The entries of a device; where there are none, these of a device without entries.
-pub(crate) fn shape_or<'a>(shape: &'a Option<Rc<Shape>>, none: &'a Shape) -> &'a Shape
+pub fn shape_or<'a>(shape: &'a Option<Rc<Shape>>, none: &'a Shape) -> &'a Shape
     requires { none.now ≡ no_shape }
     ensures { result.now ≡ or_else no_shape (shared shape.now) }
 {
@@ -43,7 +43,7 @@ pub(crate) fn shape_or<'a>(shape: &'a Option<Rc<Shape>>, none: &'a Shape) -> &'a
 }
 
 /// The entries of a device without entries.
-pub(crate) fn without_entries(alloc: Global) -> Shape
+pub fn without_entries(alloc: Global) -> Shape
     ensures { result ≡ no_shape }
 {
     Shape::new(alloc, [false; 7])

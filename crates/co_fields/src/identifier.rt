@@ -1,17 +1,17 @@
-//! The identifier of a COB-ID.
+//! An identifier of 11 bits.
 ghost use Rattle.std.specs.Prelude.{◌≡◌, ◌<◌, nat_eq};
 ghost use Rattle.std.proofs.Common.{rules};
 ghost use Rattle.std.specs.Cmp as Cmp;
 ghost use Rattle.std.specs.Cmp.Rules.{comparing};
 ghost use Rattle.std.specs.Ordering.{nat_cmp, as_partial_cmp};
 ghost use Rattle.co_text.specs.Digits.{identifier_digits};
-ghost use Rattle.diag_lines.specs.Identifiers.{identifier_in};
+ghost use Rattle.co_fields.specs.CobIds.{identifier_in};
 
 use std::cmp::Ordering;
 use std::marker::Model;
 
-/// An identifier of 11 bits (CiA 301: bits 0 to 10 of a COB-ID), in the order of the numbers.
-#[derive(Debug, Drop)]
+/// An identifier of 11 bits (CiA 301: bits 0 to 10 of a COB-ID), 0 to 7FFh, in the order of the numbers.
+#[derive(Clone, Copy, Debug)]
 pub struct Identifier {
     number: u16,
 }
@@ -24,11 +24,13 @@ impl Model for Identifier {
     ghost view = { λ identifier. identifier.number };
 
     ghost invariant = { λ identifier. identifier.number < 0x800 };
+
+    ghost inverse = { λ number. record { number = number } };
 }
 
 impl Identifier {
     /// The identifier of a COB-ID.
-    pub fn of_cob(cob: u32) -> Self
+    pub(crate) fn of_cob(cob: u32) -> Self
         ensures { result ≡ identifier_in cob }
     {
         Identifier {
@@ -42,15 +44,6 @@ impl Identifier {
         ensures below { result < 0x800 }
     {
         self.number
-    }
-
-    /// The same identifier.
-    pub fn copy(&self) -> Self
-        ensures { result ≡ self.now }
-    {
-        Identifier {
-            number: self.number,
-        }
     }
 
     /// Its three upper-case hexadecimal digits.

@@ -1,7 +1,7 @@
 //! The NMT states of a device.
 
 ghost use Rattle.std.specs.Prelude.{◌≡◌};
-ghost use Rattle.co_device.specs.Device.{state_byte};
+ghost use Rattle.co_fields.specs.NmtStates.{state_byte};
 
 /// An NMT state (CiA 301). Initialisation isn't one: a device leaves it at once, for Pre-operational.
 #[derive(Clone, Copy, Debug, PartialEq, Eq)]

@@ -1,0 +1,35 @@
+//! What is wrong with a project.
+
+use anyhow::Result;
+use co_diag::diagnostics;
+use co_project::Project;
+use diag_lines::Diag;
+use project_plan::{Library, plan};
+use std::alloc::{AllocError, Global};
+use std::io::Write;
+
+/// All that is wrong with a project.
+fn find_wrong(alloc: Global, project: &Project) -> Result<Vec<Diag>, AllocError> {
+    let mut library = Library::new(alloc, project);
+    let plan = plan(alloc, &mut library)?;
+    let list = diagnostics(alloc, project, &plan)?;
+    Ok(list)
+}
+
+/// Shows a diagnostic as its line.
+fn show_line<W: Write>(alloc: Global, out: &mut W, diag: &Diag) -> Result<()> {
+    let line = diag.line(alloc)?;
+    out.write_all(b"  ")?;
+    out.write_all(line.as_slice())?;
+    out.write_all(b"\n")?;
+    Ok(())
+}
+
+/// Shows all that is wrong with a project, a line each.
+pub fn show_wrong<W: Write>(alloc: Global, out: &mut W, project: &Project) -> Result<()> {
+    let list = find_wrong(alloc, project)?;
+    for diag in &list {
+        show_line(alloc, out, diag)?;
+    }
+    Ok(())
+}

@@ -1,0 +1,173 @@
+-- An event sets a value exactly where nothing is listed of it.
+use Rattle.std.proofs.Common.{◌≡◌, ◌∙◌, ◌↔◌, ℕ, true, List, Contains, Option, Some, None, Result, Ok, Err, IfSome}
+use Rattle.std.proofs.Common.{refl, ap, subst}
+use Rattle.std.specs.Prelude.{is_some, option_map, option_and_then}
+use Rattle.std.specs.FinMap.{contains_key, get}
+use Rattle.std.specs.Result.{result_ok}
+use Rattle.co_base.proofs.EachLemmas.{each_found}
+use Rattle.co_dict.specs.declared.entry.Entry.{Entry}
+use Rattle.co_dict.specs.Shapes.{Shaped}
+use Rattle.co_scenario.specs.declared.event.Event.{Event}
+use Rattle.co_scenario.specs.declared.event.Event.TheVariants as event
+use Rattle.co_scenario.specs.declared.step.Step.{Step}
+use Rattle.co_scenario.specs.declared.timed_event.TimedEvent.{TimedEvent}
+use Rattle.eds_device.specs.Entries.{entry_at, shape_of}
+use Rattle.eds_device.proofs.LawLemmas.{shape_at}
+use Rattle.co_params.specs.declared.parameter_fault.ParameterFault.{ParameterFault}
+use Rattle.co_params.specs.declared.parameter_fault.ParameterFault.TheVariants as parameter
+use Rattle.co_params.specs.Judgement.{set_bytes}
+use Rattle.ini_text.specs.Content.{content_of}
+use Rattle.co_project.specs.declared.node.Node.{Node}
+use Rattle.co_project.specs.Project.{Content}
+use Rattle.co_project.specs.Sound.{IsEventOf, IsSound}
+use Rattle.co_project.proofs.SoundLemmas.{nodes_have_texts}
+use Rattle.project_plan.specs.Events.{bytes_set, set_step, shape_of_node, step_of}
+use Rattle.project_plan.specs.Network.{Member, member_at, with_sections}
+use Rattle.diag_lines.specs.declared.code.Code.{Code}
+use Rattle.diag_lines.specs.declared.code.Code.TheVariants.{NoEntry, Unreadable, OutsideLimits, NotWritable, NoObjects}
+use Rattle.diag_lines.specs.declared.code.Code.TheVariants.{TpdoTaken, TooManyBits, NotMappable, Mismatched, NoRpdo}
+use Rattle.diag_lines.specs.declared.code.Code.TheVariants.{NoDummy, BadIdentifier, NoIdentifier, ReservedType}
+use Rattle.diag_lines.specs.declared.code.Code.TheVariants.{SharedIdentifier, NotModelled, RemoteType, NoSync}
+use Rattle.diag_lines.specs.declared.code.Code.TheVariants.{UnfitConsumer, SkippedLine}
+use Rattle.diag_lines.specs.declared.diag.Diag.{Diag}
+use Rattle.diag_lines.specs.declared.subject.Subject.{Subject}
+use Rattle.diag_lines.specs.declared.subject.Subject.TheVariants as of
+use Rattle.co_diag.specs.Faults.{parameter_code}
+use Rattle.co_diag.specs.Found.{diagnostic, diagnostics_of, IsUnlisted}
+use Rattle.co_diag.specs.Holds.{SetsUnfitValue, HoldsOf, Holds}
+use Rattle.co_diag.proofs.EventFound.{events_hold, events_listed}
+use Rattle.co_diag.proofs.FoundLemmas.{the_list}
+
+-- a node with the sections of a text
+abbrev made : Node → List ℕ → Member
+made n text = record { node = n; sections = (content_of text).sections }
+
+something : (o : Option Step) → o ≡ None → is_some o ≡ true → ⊥
+something None is h = cc
+something (Some s) is h = cc
+
+module _ (p : Content) (number : ℕ) where
+  -- ---- what is listed of an event is a fault of what it sets
+
+  of_event : (c : Code) → HoldsOf p c (of.Event number) → (fault : ParameterFault) × SetsUnfitValue p fault number
+  of_event NoEntry h = (parameter.NoEntry, h)
+  of_event NotModelled h = (parameter.NotModelled, h)
+  of_event Unreadable h = (parameter.Unreadable, h)
+  of_event NotWritable h = absurd h
+  of_event OutsideLimits h = absurd h
+  of_event NoObjects h = absurd h
+  of_event TpdoTaken h = absurd h
+  of_event TooManyBits h = absurd h
+  of_event NotMappable h = absurd h
+  of_event Mismatched h = absurd h
+  of_event NoRpdo h = absurd h
+  of_event NoDummy h = absurd h
+  of_event BadIdentifier h = absurd h
+  of_event NoIdentifier h = absurd h
+  of_event ReservedType h = absurd h
+  of_event SharedIdentifier h = absurd h
+  of_event RemoteType h = absurd h
+  of_event NoSync h = absurd h
+  of_event UnfitConsumer h = absurd h
+  of_event SkippedLine h = absurd h
+
+  listed_is_fault : (d : Diag) → Contains (diagnostics_of p) d → d.subject ≡ of.Event number
+      → (fault : ParameterFault) × SetsUnfitValue p fault number
+  unfolding Holds
+  listed_is_fault d c is = of_event d.code (subst (λ (s : Subject). HoldsOf p d.code s) is (((the_list p).exact d).0 c))
+
+  fault_is_listed : (fault : ParameterFault) → SetsUnfitValue p fault number → IsUnlisted p number → ⊥
+  fault_is_listed fault sets none =
+      let d : Diag = diagnostic (parameter_code fault) (of.Event number) in
+      none d (((the_list p).exact d).1 (events_hold p d (events_listed p fault number sets))) refl
+
+  -- ---- the value that is set
+
+  module _ (node index sub : ℕ) (text : List ℕ) where
+    value_of_member : (m : Member) → member_at p node ≡ Some m
+        → bytes_set (shape_of_node p) node index sub text
+        ≡ result_ok (set_bytes (entry_at m.sections node index sub) text node)
+    unfolding shape_of_node
+    value_of_member m is =
+        ap (λ (o : Option Member). option_and_then (λ (shape : Shaped). result_ok (set_bytes
+        (get shape.entries (index, sub)) text node)) (option_map (λ (m : Member). shape_of m.sections node) o)) is
+        ∙ ap (λ (o : Option Entry). result_ok (set_bytes o text node)) (shape_at m.sections node index sub)
+
+    step_of_member : (m : Member) (r : Result (List ℕ) ParameterFault) → member_at p node ≡ Some m
+        → set_bytes (entry_at m.sections node index sub) text node ≡ r
+        → step_of (shape_of_node p) (event.Set node index sub text) ≡ option_map (set_step node index sub) (result_ok r)
+    step_of_member m r is given =
+        ap (option_map (set_step node index sub)) (value_of_member m is ∙ ap result_ok given)
+
+  -- ---- a fault is of an event that sets none
+
+  stopped : (fault : ParameterFault) (e : TimedEvent) → get p.events number ≡ Some e → SetsUnfitValue p fault number
+      → is_some (step_of (shape_of_node p) e.event) ≡ true → ⊥
+  stopped fault e there h does =
+      let sets : Event = event.Set h.node h.index h.sub h.text in
+      let timed : TimedEvent = record { time = h.time; event = sets } in
+      let found : get p.events number ≡ Some timed = h.there in
+      let same : e ≡ timed = cc in
+      let none : step_of (shape_of_node p) sets ≡ None =
+      step_of_member h.node h.index h.sub h.text h.member (Err fault) h.is h.fails in
+      something (step_of (shape_of_node p) sets) none
+      (subst (λ (x : TimedEvent). is_some (step_of (shape_of_node p) x.event) ≡ true) same does)
+
+  -- ---- one that isn't listed does something
+
+  module _ (sound : IsSound p) where
+    has_member : (node : ℕ) → contains_key p.nodes node ≡ true → (m : Member) × (member_at p node ≡ Some m)
+    unfolding member_at
+    has_member node known = by (get p.nodes node) refl known
+      where
+        by_text : (n : Node) (o : Option (List ℕ)) → get p.texts n.eds ≡ o → is_some o ≡ true
+            → (m : Member) × (with_sections p n ≡ Some m)
+        by_text n None is here = cc
+        by_text n (Some text) is here =
+            (made n text, ap (option_map (made n)) is)
+
+        by : (o : Option Node) → get p.nodes node ≡ o → is_some o ≡ true
+            → (m : Member) × (option_and_then (with_sections p) o ≡ Some m)
+        by None is here = cc
+        by (Some n) is here =
+            let kept : contains_key p.texts n.eds ≡ true =
+            subst (λ (o : Option Node). IfSome o (λ n. contains_key p.texts n.eds ≡ true)) is
+            (nodes_have_texts p node sound) in
+            by_text n (get p.texts n.eds) refl kept
+
+    known : (e : TimedEvent) → get p.events number ≡ Some e → IsEventOf p number e
+    known e there = each_found (IsEventOf p) p.events number e sound.events there
+
+    does_something : (time : ℕ) (e : Event) → get p.events number ≡ Some (record { time = time; event = e })
+        → IsUnlisted p number → is_some (step_of (shape_of_node p) e) ≡ true
+    unfolding IsEventOf
+    does_something time (event.Power node on) there none = refl
+    does_something time (event.Nmt node command) there none = refl
+    does_something time (event.Set node index sub text) there none =
+        let is : IsEventOf p number (record { time = time; event = event.Set node index sub text }) =
+        known (record { time = time; event = event.Set node index sub text }) there in
+        let m = has_member node is.3 in
+        by m.0 m.1 (set_bytes (entry_at m.0.sections node index sub) text node) refl
+      where
+        by : (m : Member) → member_at p node ≡ Some m → (r : Result (List ℕ) ParameterFault)
+            → set_bytes (entry_at m.sections node index sub) text node ≡ r
+            → is_some (step_of (shape_of_node p) (event.Set node index sub text)) ≡ true
+        by m is (Ok bytes) given = ap is_some (step_of_member node index sub text m (Ok bytes) is given)
+        by m is (Err fault) given = absurd (fault_is_listed fault (record {
+          time = time;
+          node = node;
+          index = index;
+          sub = sub;
+          text = text;
+          member = m;
+          there = there;
+          is = is;
+          fails = given;
+        }) none)
+
+pub sets_where_unlisted : (p : Content) (number : ℕ) (e : TimedEvent) → IsSound p → get p.events number ≡ Some e
+    → (is_some (step_of (shape_of_node p) e.event) ≡ true) ↔ IsUnlisted p number
+sets_where_unlisted p number e sound there = (
+  λ does d c is. let f = listed_is_fault p number d c is in stopped p number f.0 e there f.1 does,
+  λ none. does_something p number sound e.time e.event there none,
+)

@@ -1,0 +1,4 @@
+pub mod CobIds
+pub mod ConsumerHeartbeatTimes
+pub mod NmtStates
+pub mod TransmissionTypes

@@ -1,0 +1,14 @@
+//! Fields of entries and frames that CiA 301 gives several values or parts, by what they say.
+#![tactic(auto)]
+
+mod cob_id;
+mod consumer_heartbeat_time;
+mod identifier;
+mod nmt_state;
+mod transmission_type;
+
+pub use cob_id::CobId;
+pub use consumer_heartbeat_time::ConsumerHeartbeatTime;
+pub use identifier::Identifier;
+pub use nmt_state::NmtState;
+pub use transmission_type::TransmissionType;
