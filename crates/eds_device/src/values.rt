@@ -26,7 +26,13 @@ impl Device {
 
     /// Sets the default of an entry at a node in a dictionary, where the entry is there and of a modelled
     /// type.
-    pub fn add_default(&self, dict: &mut Dict, node: u8, index: u16, sub: u8) -> Result<(), AllocError>
+    pub fn add_default(
+        &self,
+        dict: &mut Dict,
+        node: u8,
+        index: u16,
+        sub: u8,
+    ) -> Result<(), AllocError>
         ensures { OnOk result (dict.new ≡ option_map_or (map.insert dict.old (index, sub))
             (default_at self.now.sections node index sub) dict.old) }
     {
