@@ -6,8 +6,8 @@ use Rattle.std.proofs.lemmas.List.{take-append-drop}
 use Rattle.std.proofs.lemmas.List.Concat.{flat_map-append}
 use Rattle.bus_devices.specs.Blocks.{AreAgendasOf}
 use Rattle.co_device.specs.Device.{Device, moments, next_due}
-use Rattle.co_parts.specs.Moments.{earlier, earliest, moments_of}
-use Rattle.co_parts.proofs.EarliestLemmas.{earliest_append, earliest_of, one_more}
+use Rattle.co_base.specs.Moments.{earlier, earliest, moments_of}
+use Rattle.co_base.proofs.EarliestLemmas.{earliest_append, earliest_of, one_more}
 use Rattle.device_agenda.specs.declared.agenda.Agenda.{Agenda}
 
 -- of one device more

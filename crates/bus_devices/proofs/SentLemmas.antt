@@ -12,7 +12,7 @@ use Rattle.can_frame.specs.Frames.{BaseFrame}
 use Rattle.can_frame.specs.declared.waiting.Waiting.{Waiting}
 use Rattle.co_device.specs.Device.{Device, moments}
 use Rattle.co_device.specs.Receiving.{is_ignored}
-use Rattle.co_parts.specs.Moments.{earliest}
+use Rattle.co_base.specs.Moments.{earliest}
 use Rattle.device_agenda.specs.Agenda.{IsAgendaOf, Sleeps}
 use Rattle.device_agenda.specs.declared.agenda.Agenda.{Agenda}
 use Rattle.device_agenda.specs.declared.groups.Groups.{Groups}

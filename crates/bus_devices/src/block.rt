@@ -6,13 +6,14 @@ ghost use Rattle.asking.specs.Record.{BeginsWith};
 ghost use Rattle.bus_devices.specs.Senders.{contends_with as contends, device_lists, is_contender, sender_place};
 ghost use Rattle.asking.specs.Each.{each};
 ghost use Rattle.can_frame.specs.Winner.{contenders, IsWinner};
-ghost use Rattle.co_parts.specs.Moments.{earliest};
+ghost use Rattle.co_base.specs.Moments.{earliest};
 ghost use Rattle.co_device.specs.Device.{moments};
 ghost use Rattle.std.specs.List.{flat_map};
 ghost use Rattle.device_agenda.specs.Agenda.{at_instant, IsAgendaOf};
 
 use can_frame::Contender;
-use co_parts::{END, earlier};
+use co_base::earlier;
+use co_parts::END;
 use device_agenda::{Agenda, Delivery, ScheduledDevice};
 use device_objects::Shapes;
 use std::alloc::AllocError;

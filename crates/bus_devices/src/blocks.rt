@@ -9,12 +9,13 @@ ghost use Rattle.bus_devices.specs.Senders.{device_lists, sender_place as place_
 ghost use Rattle.asking.specs.Each.{each};
 ghost use Rattle.can_frame.specs.Winner.{contenders, IsWinner};
 ghost use Rattle.co_device.specs.Device.{Device, moments};
-ghost use Rattle.co_parts.specs.Moments.{earliest};
+ghost use Rattle.co_base.specs.Moments.{earliest};
 ghost use Rattle.device_agenda.specs.Agenda.{at_instant, IsAgendaOf};
 
 use crate::block::{agenda_of, place_of_sender, run_each, winner_of};
 use can_frame::Contender;
-use co_parts::{END, earlier};
+use co_base::earlier;
+use co_parts::END;
 use device_agenda::{Agenda, Delivery, ScheduledDevice};
 use device_objects::Shapes;
 use std::alloc::AllocError;

@@ -9,7 +9,7 @@ ghost use Rattle.bus_devices.specs.Senders.{device_lists, sender_place as place_
 ghost use Rattle.bus_events.specs.Places.{device_at};
 ghost use Rattle.can_frame.specs.Winner.{contenders, IsWinner};
 ghost use Rattle.co_device.specs.Device.{moments};
-ghost use Rattle.co_parts.specs.Moments.{earliest};
+ghost use Rattle.co_base.specs.Moments.{earliest};
 ghost use Rattle.device_agenda.specs.Agenda.{at_instant};
 
 use crate::block::{first_due, place_of_sender, winner_of};

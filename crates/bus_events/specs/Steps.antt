@@ -1,15 +1,14 @@
 -- The events of a window, in order of time and then of number.
-use Rattle.std.specs.Prelude.{◌≤◌, ◌==◌, ℕ, Bool, All, List, [], take, drop, map, Option, filter, nat_le}
+use Rattle.std.specs.Prelude.{◌≤◌, ◌==◌, ℕ, Bool, All, List, [], take, drop, map, Option, filter, nat_le, unwrap_or}
 use Rattle.std.specs.List.{AllByRecursion, prefix_len}
 use Rattle.std.specs.declared.rc.Rc.{Rc}
-use Rattle.co_parts.specs.Contents.{or_else}
 use Rattle.co_parts.specs.Images.{IsFree}
 use Rattle.co_parts.specs.Shared.{shared}
 use Rattle.co_scenario.specs.declared.timed_step.TimedStep.{TimedStep}
 
 -- the events of a window that was handed out; none where it is absent
 abbrev pub in_window : {Z : Type 0} → Option (Rc (List TimedStep) Z) → List TimedStep
-in_window window = or_else [] (shared window)
+in_window window = unwrap_or (shared window) []
 
 -- the events change no object of a PDO, and set values of at most 512 bytes
 abbrev pub AreFree : List TimedStep → Type 0

@@ -2,10 +2,11 @@
 
 ghost use Rattle.std.specs.Prelude.{◌≡◌, ◌≤◌, ◌↔◌, [], length, IfOk, IsTrue};
 ghost use Rattle.std.specs.List.{prefix_len};
-ghost use Rattle.co_parts.specs.Moments.{earliest};
+ghost use Rattle.co_base.specs.Moments.{earliest};
 ghost use Rattle.bus_events.specs.Steps.{has_time, in_window, steps_due, steps_left as are_left, times, AreFree};
 
-use co_parts::{Window, earlier};
+use co_base::earlier;
+use co_parts::Window;
 use co_scenario::{TimedStep, same_steps};
 use std::alloc::AllocError;
 use std::marker::Model;
@@ -22,7 +23,7 @@ pub struct StepsLeft {
 impl Model for StepsLeft {
     ghost use Rattle.std.specs.Prelude.{◌≡◌, ◌≤◌, List, drop, length};
     ghost use Rattle.bus_events.specs.Steps.{in_window, times, AreFree};
-    ghost use Rattle.co_parts.specs.Moments.{earliest};
+    ghost use Rattle.co_base.specs.Moments.{earliest};
     ghost use Rattle.co_scenario.specs.declared.timed_step.TimedStep.{TimedStep};
 
     ghost Value = { List TimedStep };

@@ -6,7 +6,7 @@ use Rattle.can_frame.specs.Frames.{BaseFrame}
 use Rattle.can_frame.specs.WaitingFrames.{with_latest}
 use Rattle.can_frame.specs.declared.purpose.Purpose.TheVariants.{Heartbeat, Sync}
 use Rattle.co_parts.specs.Contents.{Image, roster_of}
-use Rattle.co_parts.specs.Moments.{is_due, moment_after}
+use Rattle.co_base.specs.Moments.{is_due, moment_after}
 use Rattle.co_parts.specs.declared.part.Part.TheVariants.{Roster}
 use Rattle.co_parts.specs.declared.roster.Roster.{Roster as Network}
 use Rattle.nmt_boot.proofs.BeatLemmas.{beat_at_multiples, command_on_time, frame_on_time, on_time_first}

@@ -9,7 +9,7 @@ use Rattle.std.proofs.lemmas.List.Quantifiers.{position-Some}
 use Rattle.asking.specs.Asking.{Answer, outcome}
 use Rattle.can_frame.specs.WaitingFrames.{with_latest}
 use Rattle.can_frame.specs.declared.purpose.Purpose.TheVariants.{Heartbeat, Sync}
-use Rattle.co_parts.specs.Moments.{is_due, moment_after}
+use Rattle.co_base.specs.Moments.{is_due, moment_after}
 use Rattle.can_frame.specs.Identifiers.{error_control_id, sdo_answer_id}
 use Rattle.co_parts.specs.Contents.{Image, identity_of, write_of}
 use Rattle.co_parts.specs.declared.identity.Identity.{Identity}

@@ -13,7 +13,7 @@ ghost use Rattle.can_frame.specs.declared.contender.Contender.{Contender as Bid}
 ghost use Rattle.can_frame.specs.declared.waiting.Waiting.{Waiting as Queued};
 ghost use Rattle.co_parts.specs.Contents.{roster_of, Image};
 ghost use Rattle.co_parts.specs.Images.{IsImage};
-ghost use Rattle.co_parts.specs.Moments.{is_due};
+ghost use Rattle.co_base.specs.Moments.{is_due};
 ghost use Rattle.co_parts.specs.declared.part.Part.TheVariants as part;
 ghost use Rattle.co_sdo_client.specs.declared.client_transfer.ClientTransfer.{ClientTransfer as Transfer};
 ghost use Rattle.nmt_boot.specs.Beats.{IsMultiple};

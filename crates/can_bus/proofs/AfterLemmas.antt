@@ -17,7 +17,7 @@ use Rattle.can_frame.specs.declared.waiting.Waiting.{Waiting}
 use Rattle.co_device.specs.Device as device
 use Rattle.co_device.specs.Device.{Device, after_instant}
 use Rattle.co_parts.specs.Contents.{Content, Image}
-use Rattle.co_parts.specs.Moments.{moments_of}
+use Rattle.co_base.specs.Moments.{moments_of}
 use Rattle.co_parts.specs.declared.part.Part.{Part}
 use Rattle.device_objects.specs.Consumers as consumers
 use Rattle.device_objects.specs.declared.consumer.Consumer.{Consumer}

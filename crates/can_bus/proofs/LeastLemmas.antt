@@ -3,7 +3,7 @@ use Rattle.std.proofs.Common.{◌≡◌, ℕ, List, [], ◌∷◌, ◌++◌, Opt
 use Rattle.std.specs.Prelude.{flat_map, min}
 use Rattle.bus_events.specs.Steps.{times}
 use Rattle.co_device.specs.Device as device
-use Rattle.co_parts.specs.Moments.{earlier, earliest, moments_of}
+use Rattle.co_base.specs.Moments.{earlier, earliest, moments_of}
 use Rattle.nmt_boot.specs.Manager as manager
 use Rattle.can_bus.specs.Bus.{Bus}
 use Rattle.can_bus.specs.Dues.{least, next_due, slot_moments, step_moments}

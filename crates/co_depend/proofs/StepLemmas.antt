@@ -2,7 +2,7 @@
 use Rattle.std.proofs.Common.{◌≡◌, ℕ, ◌+◌, ◌*◌, ◌≤◌, not, Bool, true, false, List, [], ◌∷◌, Option, Some, None, Result}
 use Rattle.std.proofs.Common.{Ok, Err, IfOk, Contains, length, option_map, option_and_then, filter_map, refl, sym, ap}
 use Rattle.std.proofs.Common.{subst, ◌∙◌, ◌<◌, ◌⊎◌, inl, inr, arith}
-use Rattle.std.specs.Prelude.{if◌then◌else◌, MatchOption, ◌↔◌}
+use Rattle.std.specs.Prelude.{if◌then◌else◌, MatchOption, ◌↔◌, unwrap_or}
 use Rattle.std.specs.FinMap.{get}
 use Rattle.std.specs.List.{AllByRecursion, cons_option}
 use Rattle.std.specs.List.Sorted.{IsStrictlySortedBy}
@@ -41,7 +41,7 @@ use Rattle.co_scenario.specs.declared.step.Step.{Step}
 use Rattle.co_scenario.specs.declared.step.Step.TheVariants as step
 use Rattle.co_scenario.specs.declared.timed_event.TimedEvent.{TimedEvent}
 use Rattle.co_scenario.specs.declared.timed_step.TimedStep.{TimedStep}
-use Rattle.co_parts.specs.Contents.{no_shape, or_else}
+use Rattle.co_parts.specs.Contents.{no_shape}
 use Rattle.co_parts.specs.Images.{AreInOrder, ComesBefore, FitsShape, IsFree, IsWithin}
 use Rattle.co_depend.specs.Held.{shapes_held, AllHeld, Held, IsWindow}
 use Rattle.project_plan.specs.Events.{bytes_set, set_step, shape_of_node, step_of, Shapes}
@@ -76,7 +76,7 @@ moments_have_events events first last =
 
 -- where a window has no steps, there is nothing to say
 pub steps_said : (P : List TimedStep → Type 0) → P [] → (steps : List TimedStep) → P steps
-    → P (or_else [] (unless_none steps))
+    → P (unwrap_or (unless_none steps) [])
 steps_said P none [] are = none
 steps_said P none (s ∷ steps) are = are
 
@@ -397,7 +397,7 @@ module _ (nodes : AllHeld) (node index sub : ℕ) (text : List ℕ) where
 module _ (text : List ℕ) (node : ℕ) (bytes : List ℕ) where
   set_fits : (place : ℕ × ℕ) (o : Option Shaped)
       → option_and_then (λ (shape : Shaped). result_ok (set_bytes (get shape.entries place) text node)) o ≡ Some bytes
-      → (entry : Entry) → get (or_else no_shape o).entries place ≡ Some entry → HasLength entry.kind bytes
+      → (entry : Entry) → get (unwrap_or o no_shape).entries place ≡ Some entry → HasLength entry.kind bytes
   unfolding set_bytes
   set_fits place None given entry there = cc
   set_fits place (Some shape) given entry there =

@@ -16,7 +16,7 @@ use Rattle.co_dict.specs.Restored.{with_restored}
 use Rattle.co_dict.specs.Shapes.{Shaped}
 use Rattle.co_dict.specs.Values.{Values}
 use Rattle.co_parts.specs.Contents.{Content, shape_of, values_of}
-use Rattle.co_parts.specs.Moments.{earliest, is_due, moments_of}
+use Rattle.co_base.specs.Moments.{earliest, is_due, moments_of}
 use Rattle.co_parts.specs.declared.part.Part.{Part}
 use Rattle.co_parts.specs.declared.part.Part.TheVariants.{Defaults, Shape}
 use Rattle.device_objects.specs.Consumers as consumers

@@ -14,7 +14,8 @@ ghost use Rattle.co_device.specs.Receiving.{after_frame};
 use can_frame::{Contender, Frame, Pending, Waiting};
 use co_dict::Dict;
 use co_fields::NmtState;
-use co_parts::{END, earlier};
+use co_base::earlier;
+use co_parts::END;
 use co_sdo::transfer::{self, Transfer};
 use device_objects::{Consumer, Learnt, Shapes, same_consumers};
 use device_pdos::{RpdoState, TpdoState, same_rpdos, same_tpdos};
@@ -217,7 +218,7 @@ impl DeviceState {
     }
 
     /// The first moment at which it is due, if there is one. Walks its consumers and its TPDOs.
-    #[tactic(auto, using(co_parts::proofs::EarliestLemmas::earliest_append, co_parts::proofs::EarliestLemmas::earliest_of), unfolding(crate::specs::Device::next_due))]
+    #[tactic(auto, using(co_base::proofs::EarliestLemmas::earliest_append, co_base::proofs::EarliestLemmas::earliest_of), unfolding(crate::specs::Device::next_due))]
     pub fn next_due(&self) -> Option<u64>
         ensures { result ≡ next_due self.now }
     {

@@ -7,7 +7,7 @@ use Rattle.std.proofs.lemmas.Bool.{eqb-true, le-leb, leb-true}
 use Rattle.std.proofs.lemmas.List.{length-map}
 use Rattle.co_base.specs.Ranges.{is_between}
 use Rattle.co_values.specs.declared.form.Width.TheVariants.{Bits32}
-use Rattle.co_dict.specs.Pdos.{is_restricted}
+use Rattle.co_fields.specs.CobIds.{is_restricted}
 use Rattle.eds_device.specs.Places.{pairs_of}
 use Rattle.co_params.proofs.WrittenLemmas.{Contains-filter_map, from_filter_map}
 use Rattle.co_project.specs.Project.{Content}

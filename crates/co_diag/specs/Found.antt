@@ -13,7 +13,7 @@ use Rattle.co_values.specs.Types.{is_modelled}
 use Rattle.co_values.specs.Values.{value}
 use Rattle.co_fields.specs.TransmissionTypes.{is_on_request, is_synchronous, type_of_byte}
 use Rattle.co_dict.specs.declared.entry.Entry.{Entry}
-use Rattle.co_dict.specs.Pdos.{is_restricted}
+use Rattle.co_fields.specs.CobIds.{is_restricted}
 use Rattle.eds_device.specs.Described.{default_text}
 use Rattle.eds_device.specs.Entries.{entry_at}
 use Rattle.eds_device.specs.Places.{pairs_of}

@@ -7,9 +7,9 @@ ghost use Rattle.co_diag.specs.Configured.{asked_default, asked_defaults, is_ask
 ghost use Rattle.co_diag.specs.Devices.{member_of};
 ghost use Rattle.co_diag.specs.Values.{after_writes, number_among};
 
-use co_dict::{Dict, number_16, number_32};
+use co_dict::Dict;
 use co_project::Node;
-use co_values::Width;
+use co_values::{Width, number_16, number_32};
 use concise_dcf::Write;
 use eds_device::Device;
 use pdo_plan::Plan;

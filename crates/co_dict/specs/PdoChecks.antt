@@ -7,12 +7,12 @@ use Rattle.co_values.specs.declared.form.Form.{Form}
 use Rattle.co_values.specs.declared.form.Form.TheVariants.{Unsigned}
 use Rattle.co_values.specs.declared.form.Width.TheVariants.{Bits8, Bits16, Bits32}
 use Rattle.co_values.specs.Types.{form}
+use Rattle.co_fields.specs.CobIds.{identifier_in, identifier_with_form, is_restricted, is_valid}
 use Rattle.co_dict.specs.declared.abort.Abort.{Abort}
 use Rattle.co_dict.specs.Aborts.{unsupported_access, invalid_value, cannot_be_mapped, pdo_length_exceeded}
 use Rattle.co_dict.specs.Checks.{is_entry_that, first_refusal}
 use Rattle.co_dict.specs.Mappings.{can_be_mapped, direction_of, mapping_bits, mapping_of}
-use Rattle.co_dict.specs.Pdos.{frame_bits, identifier, is_communication_object, is_mapping_object, is_restricted}
-use Rattle.co_dict.specs.Pdos.{is_valid}
+use Rattle.co_dict.specs.Pdos.{is_communication_object, is_mapping_object}
 use Rattle.co_dict.specs.Shapes.{Shaped}
 use Rattle.co_dict.specs.Values.{Values, number_at}
 
@@ -40,11 +40,11 @@ is_cob_id shape place = is_communication_object place.0 && (place.1 == 1) && has
 
 -- a PDO that exists has an identifier that no PDO may have
 abbrev pub takes_restricted : ℕ → Bool
-takes_restricted cob_id = is_valid cob_id && is_restricted (identifier cob_id)
+takes_restricted cob_id = is_valid cob_id && is_restricted (identifier_in cob_id)
 
 -- the frames of a PDO that exists, and goes on to, would change
 abbrev pub changes_frames : ℕ → ℕ → Bool
-changes_frames old new = is_valid old && is_valid new && not (frame_bits old == frame_bits new)
+changes_frames old new = is_valid old && is_valid new && not (identifier_with_form old == identifier_with_form new)
 
 abbrev pub cob_id_lines : Shaped → Values → ℕ × ℕ → List ℕ → List (Bool × Abort)
 cob_id_lines shape values place bytes =

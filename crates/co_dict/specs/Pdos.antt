@@ -1,6 +1,5 @@
--- PDOs and an object dictionary (CiA 301): their objects, which entries they can carry, and which identifiers they
--- can't have.
-use Rattle.std.specs.Prelude.{ℕ, ◌%◌, nat_lt, ◌&&◌, ◌||◌, Bool, true, false, is_some}
+-- PDOs and an object dictionary (CiA 301): their objects, and which entries they can carry.
+use Rattle.std.specs.Prelude.{ℕ, ◌&&◌, ◌||◌, Bool, true, false, is_some}
 use Rattle.co_base.specs.Ranges.{is_between}
 use Rattle.co_values.specs.Types.{width_bits}
 use Rattle.co_dict.specs.declared.access.Access.{Access}
@@ -21,18 +20,6 @@ is_communication_object index = is_between 0x1400 0x15FF index || is_between 0x1
 -- 1600h to 17FFh and 1A00h to 1BFFh: the mapping objects of RPDOs and TPDOs
 abbrev pub is_mapping_object : ℕ → Bool
 is_mapping_object index = is_between 0x1600 0x17FF index || is_between 0x1A00 0x1BFF index
-
--- the COB-ID of a PDO: bit 31 is clear, so the PDO exists
-abbrev pub is_valid : ℕ → Bool
-is_valid cob_id = nat_lt cob_id 0x80000000
-
--- bits 0 to 10: the identifier of its frames
-abbrev pub identifier : ℕ → ℕ
-identifier cob_id = cob_id % 0x800
-
--- bits 0 to 29: the identifier with its form, which can't change while the PDO exists
-abbrev pub frame_bits : ℕ → ℕ
-frame_bits cob_id = cob_id % 0x40000000
 
 -- the access with which a TPDO can carry an entry (own)
 abbrev pub is_sendable : Access → Bool
@@ -59,9 +46,3 @@ has_access_for Receive access = is_receivable access
 -- an entry that a PDO of this direction can map: PDOMapping says so, it is BOOLEAN or an integer, and its access fits
 abbrev pub is_mappable : Direction → Entry → Bool
 is_mappable direction entry = entry.mappable && is_some (width_bits entry.kind) && has_access_for direction entry.access
-
--- the identifiers that no PDO may have (CiA 301, restricted CAN-IDs)
-unfoldable pub is_restricted : ℕ → Bool
-is_restricted id =
-    is_between 0x000 0x07F id || is_between 0x101 0x180 id || is_between 0x581 0x5FF id || is_between 0x601 0x67F id
-    || is_between 0x6E0 0x6FF id || is_between 0x701 0x7FF id

@@ -10,9 +10,8 @@ ghost use Rattle.co_dict.specs.Checks.{is_no_flag, is_below_limit, is_above_limi
 
 use crate::abort::Abort;
 use crate::entry::Entry;
-use crate::numbers::number_8;
 use crate::shape::Shape;
-use co_values::{DataType, number_in};
+use co_values::{DataType, number_8, number_in};
 
 /// The longest value, in bytes, of a type without a fixed length.
 const LONGEST_VALUE: usize = 512;

@@ -8,8 +8,8 @@ ghost use Rattle.co_dict.specs.Values.{bytes_at, number_at};
 ghost use Rattle.co_values.specs.Values.{longest_value};
 
 use crate::entries::{restored, same_entries};
-use crate::numbers::{number_8, number_16, number_32, number_64};
 use co_base::Octets;
+use co_values::{number_8, number_16, number_32, number_64};
 use std::alloc::{AllocError, Global};
 use std::collections::BTreeMap;
 use std::marker::Model;

@@ -1,7 +1,6 @@
 //! What a device answers to a write of the objects of its PDOs (CiA 301).
 
 ghost use Rattle.std.specs.Prelude.{◌≡◌, ◌≤◌};
-ghost use Rattle.co_dict.specs.Pdos.{is_valid, identifier, frame_bits};
 ghost use Rattle.co_dict.specs.Pdos.{is_communication_object as is_communication_index};
 ghost use Rattle.co_dict.specs.Pdos.{is_mapping_object as is_mapping_index};
 ghost use Rattle.std.specs.List.{list_any, range_with_len};
@@ -17,19 +16,9 @@ use crate::abort::Abort;
 use crate::dict::Dict;
 use crate::direction::Direction;
 use crate::mapped::{mapped_length, mapped_place};
-use crate::numbers::{number_8, number_32};
-use crate::pdo_objects::is_restricted;
 use crate::shape::Shape;
-use co_values::{DataType, width_bits};
-
-/// Bit 31 of a COB-ID: set where the PDO does not exist.
-const NOT_VALID: u32 = 0x8000_0000;
-
-/// Bits 0 to 10 of a COB-ID: the identifier.
-const IDENTIFIER_BITS: u32 = 0x7FF;
-
-/// Bits 0 to 29 of a COB-ID: the identifier and its form.
-const FRAME_BITS: u32 = 0x3FFF_FFFF;
+use co_fields::CobId;
+use co_values::{DataType, number_8, number_32, width_bits};
 
 /// How far the mapping object of a PDO is above its communication object.
 const MAPPING_OFFSET: u16 = 0x200;
@@ -39,13 +28,6 @@ const MAX_ENTRIES: u8 = 64;
 
 /// The most bits of a frame.
 const MAX_BITS: u32 = 64;
-
-/// Whether a COB-ID is that of a PDO that exists: its bit 31 is clear.
-fn is_valid(cob_id: u32) -> bool
-    ensures { result ≡ is_valid cob_id }
-{
-    cob_id < NOT_VALID
-}
 
 /// Whether an entry is the COB-ID of a PDO.
 fn is_cob_id(shape: &Shape, index: u16, sub: u8) -> bool
@@ -57,17 +39,17 @@ fn is_cob_id(shape: &Shape, index: u16, sub: u8) -> bool
 }
 
 /// Whether a COB-ID makes a PDO exist under an identifier that no PDO may have.
-fn takes_restricted(cob_id: u32) -> bool
+fn takes_restricted(cob_id: CobId) -> bool
     ensures { result ≡ takes_restricted cob_id }
 {
-    is_valid(cob_id) && is_restricted((cob_id & IDENTIFIER_BITS) as u16)
+    cob_id.is_valid() && cob_id.identifier().is_restricted()
 }
 
 /// Whether the frames of a PDO would change while it exists.
-fn changes_frames(old: u32, new: u32) -> bool
+fn changes_frames(old: CobId, new: CobId) -> bool
     ensures { result ≡ changes_frames old new }
 {
-    is_valid(old) && is_valid(new) && old & FRAME_BITS != new & FRAME_BITS
+    old.is_valid() && new.is_valid() && old.identifier_with_form() != new.identifier_with_form()
 }
 
 /// Whether an entry takes the bytes as the COB-ID of a PDO, where it is one.
@@ -83,11 +65,11 @@ pub(crate) fn check_cob_id(
     if !is_cob_id(shape, index, sub) {
         return Ok(());
     }
-    let new = number_32(bytes);
+    let new = CobId::of(number_32(bytes));
     if takes_restricted(new) {
         return Err(Abort::INVALID_VALUE);
     }
-    if changes_frames(dict.number_32(index, sub), new) {
+    if changes_frames(CobId::of(dict.number_32(index, sub)), new) {
         return Err(Abort::INVALID_VALUE);
     }
     Ok(())
@@ -106,7 +88,8 @@ fn has_valid_pdo(shape: &Shape, dict: &Dict, object: u16) -> bool
     ensures { result ≡ has_valid_pdo shape.now dict.now object }
 {
     let communication = object - MAPPING_OFFSET;
-    shape.has_unsigned32(communication, 1) && is_valid(dict.number_32(communication, 1))
+    shape.has_unsigned32(communication, 1)
+        && CobId::of(dict.number_32(communication, 1)).is_valid()
 }
 
 /// Whether the mapping of a mapping object is in force.

@@ -1,7 +1,8 @@
 //! COB-IDs.
 
 ghost use Rattle.std.specs.Prelude.{◌≡◌};
-ghost use Rattle.co_fields.specs.CobIds.{identifier_in, is_of_base_frames as is_of_base, is_valid as is_of_valid};
+ghost use Rattle.co_fields.specs.CobIds.{identifier_in, identifier_with_form as identifier_with_its_form};
+ghost use Rattle.co_fields.specs.CobIds.{is_of_base_frames as is_of_base, is_valid as is_of_valid};
 
 use crate::identifier::Identifier;
 use std::marker::Model;
@@ -58,5 +59,12 @@ impl CobId {
         ensures { result ≡ identifier_in self.now }
     {
         Identifier::of_cob(self.bits)
+    }
+
+    /// The identifier with its form: bits 0 to 29.
+    pub fn identifier_with_form(&self) -> u32
+        ensures { result ≡ identifier_with_its_form self.now }
+    {
+        self.bits % 0x4000_0000
     }
 }

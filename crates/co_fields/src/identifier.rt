@@ -5,10 +5,22 @@ ghost use Rattle.std.specs.Cmp as Cmp;
 ghost use Rattle.std.specs.Cmp.Rules.{comparing};
 ghost use Rattle.std.specs.Ordering.{nat_cmp, as_partial_cmp};
 ghost use Rattle.co_text.specs.Digits.{identifier_digits};
-ghost use Rattle.co_fields.specs.CobIds.{identifier_in};
+ghost use Rattle.co_fields.specs.CobIds.{identifier_in, is_restricted as is_restricted_id};
 
 use std::cmp::Ordering;
 use std::marker::Model;
+
+/// Whether an identifier is one that no PDO may have (CiA 301, restricted CAN-IDs): 000h to 07Fh,
+/// 101h to 180h, 581h to 5FFh, 601h to 67Fh, 6E0h to 6FFh and 701h to 7FFh.
+#[tactic(auto, unfolding(crate::specs::CobIds::is_restricted))]
+pub fn is_restricted(id: u16) -> bool
+    ensures { result ≡ is_restricted_id id }
+{
+    matches!(
+        id,
+        0..=0x7F | 0x101..=0x180 | 0x581..=0x5FF | 0x601..=0x67F | 0x6E0..=0x6FF | 0x701..=0x7FF
+    )
+}
 
 /// An identifier of 11 bits (CiA 301: bits 0 to 10 of a COB-ID), 0 to 7FFh, in the order of the numbers.
 #[derive(Clone, Copy, Debug)]
@@ -44,6 +56,13 @@ impl Identifier {
         ensures below { result < 0x800 }
     {
         self.number
+    }
+
+    /// Whether it is one that no PDO may have (CiA 301, restricted CAN-IDs).
+    pub fn is_restricted(&self) -> bool
+        ensures { result ≡ is_restricted_id self.now }
+    {
+        is_restricted(self.number)
     }
 
     /// Its three upper-case hexadecimal digits.

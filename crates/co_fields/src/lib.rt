@@ -9,6 +9,6 @@ mod transmission_type;
 
 pub use cob_id::CobId;
 pub use consumer_heartbeat_time::ConsumerHeartbeatTime;
-pub use identifier::Identifier;
+pub use identifier::{Identifier, is_restricted};
 pub use nmt_state::NmtState;
 pub use transmission_type::TransmissionType;

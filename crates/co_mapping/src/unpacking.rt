@@ -6,8 +6,8 @@ ghost use Rattle.co_mapping.specs.Packing.{bits_for, bytes_begun, frame_bits, na
 ghost use Rattle.co_mapping.specs.Packing.{unpacked, value_of_bits, with_bits};
 
 use crate::bits::moved_down;
-use co_dict::{Dict, Direction, Shape, check_write, mapped_length, mapped_place, number_64};
-use co_values::to_le;
+use co_dict::{Dict, Direction, Shape, check_write, mapped_length, mapped_place};
+use co_values::{number_64, to_le};
 use std::alloc::AllocError;
 
 /// The bytes of the value that a frame has for a mapping entry at a position, and behind them zeros.

@@ -1,5 +1,5 @@
 -- What the parts of an image are, and what stands in for a part that is absent.
-use Rattle.std.specs.Prelude.{false, List, [], ◌∷◌, Option, Some, None, replicate}
+use Rattle.std.specs.Prelude.{false, List, [], ◌∷◌, Option, Some, None, replicate, unwrap_or}
 use Rattle.std.specs.FinMap as map
 use Rattle.co_dict.specs.Shapes.{Shaped}
 use Rattle.co_dict.specs.Values.{Values}
@@ -36,26 +36,22 @@ no_shape = record { entries = map.empty; dummies = replicate 7 false }
 abbrev pub no_identity : Identity
 no_identity = record { numbers = 0 ∷ 0 ∷ 0 ∷ 0 ∷ 0 ∷ [] }
 
-abbrev pub or_else : {A : Type 0} → A → Option A → A
-or_else a None = a
-or_else a (Some b) = b
-
 -- ---- the content of a part as the simulation takes it
 
 abbrev pub roster_of : Content → Roster
-roster_of (RosterIs roster) = or_else first_roster roster
+roster_of (RosterIs roster) = unwrap_or roster first_roster
 roster_of _ = first_roster
 
 abbrev pub values_of : Content → Values
-values_of (DefaultsAre values) = or_else map.empty values
+values_of (DefaultsAre values) = unwrap_or values map.empty
 values_of _ = map.empty
 
 abbrev pub shape_of : Content → Shaped
-shape_of (ShapeIs shape) = or_else no_shape shape
+shape_of (ShapeIs shape) = unwrap_or shape no_shape
 shape_of _ = no_shape
 
 abbrev pub identity_of : Content → Identity
-identity_of (ExpectIs identity) = or_else no_identity identity
+identity_of (ExpectIs identity) = unwrap_or identity no_identity
 identity_of _ = no_identity
 
 -- None is the end of the writes
@@ -64,5 +60,5 @@ write_of (BootIs write) = write
 write_of _ = None
 
 abbrev pub steps_of : Content → List TimedStep
-steps_of (EventsAre steps) = or_else [] steps
+steps_of (EventsAre steps) = unwrap_or steps []
 steps_of _ = []

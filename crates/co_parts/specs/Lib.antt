@@ -2,4 +2,3 @@ pub mod Shared
 pub mod Contents
 pub mod ContentView
 pub mod Images
-pub mod Moments

@@ -5,6 +5,10 @@ ghost use Rattle.std.specs.Prelude.{◌≡◌};
 use co_scenario::TimedStep;
 use std::marker::Model;
 
+/// The moment after the last that a simulation reaches, in microseconds from the power-on of the network: the
+/// end of the window in which the greatest horizon lies.
+pub const END: u64 = 10_010_000;
+
 /// The events of a window, by time and then by number.
 #[derive(Debug, Drop)]
 pub struct Window {

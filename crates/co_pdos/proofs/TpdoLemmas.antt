@@ -3,12 +3,13 @@ use Rattle.std.proofs.Common.{◌≡◌, ℕ, zero, suc, ◌+◌, ◌<◌, ◌�
 use Rattle.std.proofs.Common.{Some, None, IfSome, refl, ap, sym, ◌∙◌, arith}
 use Rattle.std.specs.Prelude.{if◌then◌else◌, nat_le, nat_lt}
 use Rattle.std.proofs.lemmas.Bool.Decides.{nat_tests}
+use Rattle.co_base.specs.Moments.{has_come, is_ahead, moment_after}
 use Rattle.co_pdos.specs.declared.communication.Communication.{Communication}
 use Rattle.co_fields.specs.declared.transmission_type.TransmissionType.{TransmissionType}
 use Rattle.co_fields.specs.declared.transmission_type.TransmissionType.TheVariants.{Acyclic, Cyclic, EventDriven}
 use Rattle.co_fields.specs.declared.transmission_type.TransmissionType.TheVariants.{Reserved, OnRequest}
-use Rattle.co_pdos.specs.Tpdo.{Remembered, acyclic_turn, cyclic_turn, differs, event_moment, event_turn, has_come}
-use Rattle.co_pdos.specs.Tpdo.{without_past_inhibit, is_ahead, later, moment_from, turn_with_frame, turn_by_type}
+use Rattle.co_pdos.specs.Tpdo.{Remembered, acyclic_turn, cyclic_turn, differs, event_moment, event_turn}
+use Rattle.co_pdos.specs.Tpdo.{without_past_inhibit, later, turn_with_frame, turn_by_type}
 use Rattle.co_pdos.specs.Tpdo.{turn_without_frame}
 
 lies_ahead : (t m : ℕ) → t < m → nat_lt t m ≡ true
@@ -25,7 +26,7 @@ is_wanted_at t bytes r = not (is_ahead t r.inhibit) && (differs bytes r || has_c
 
 -- with its moments set from now
 abbrev pub moments_set : Communication → ℕ → Remembered → Remembered
-moments_set c t r = record r { inhibit = moment_from t c.inhibit_time; event = event_moment t c }
+moments_set c t r = record r { inhibit = moment_after t c.inhibit_time; event = event_moment t c }
 
 pub event_unsent : (c : Communication) (t : ℕ) (bytes : List ℕ) (r : Remembered) → is_wanted_at t bytes r ≡ false
     → event_turn c t bytes r ≡ turn_without_frame r

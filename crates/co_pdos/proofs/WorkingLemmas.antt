@@ -5,7 +5,7 @@ use Rattle.co_dict.specs.declared.abort.Abort.{Abort}
 use Rattle.co_dict.specs.Mappings.{mapping_bits, mapping_of}
 use Rattle.co_dict.specs.PdoChecks.{count_lines, mapping_check}
 use Rattle.co_fields.specs.CobIds.{identifier_in, is_of_base_frames, is_valid}
-use Rattle.co_dict.specs.Pdos.{is_restricted}
+use Rattle.co_fields.specs.CobIds.{is_restricted}
 use Rattle.co_dict.specs.Shapes.{Shaped}
 use Rattle.co_dict.specs.Values.{Values}
 use Rattle.co_dict.proofs.CheckLaws.{mapping_fits}

@@ -1,8 +1,9 @@
 -- When a TPDO is sent (CiA 301). All moments are absolute, and all times are in microseconds.
-use Rattle.std.specs.Prelude.{ℕ, ◌+◌, nat_le, nat_lt, ◌==◌, not, ◌&&◌, ◌||◌, Bool, true, false, List, Option, Some}
+use Rattle.std.specs.Prelude.{ℕ, ◌+◌, nat_le, ◌==◌, not, ◌&&◌, ◌||◌, Bool, true, false, List, Option, Some}
 use Rattle.std.specs.Prelude.{None, if◌then◌else◌}
 use Rattle.std.specs.Option.{option_map_or}
 use Rattle.std.specs.Str.{bytes_eq}
+use Rattle.co_base.specs.Moments.{has_come, is_ahead, moment_after}
 use Rattle.co_pdos.specs.declared.communication.Communication.{Communication}
 use Rattle.co_fields.specs.declared.transmission_type.TransmissionType.{TransmissionType}
 use Rattle.co_fields.specs.declared.transmission_type.TransmissionType.TheVariants.{Acyclic, Cyclic, EventDriven}
@@ -20,21 +21,9 @@ remembering_nothing = record { last = None; inhibit = None; event = None; syncs 
 
 -- ---- moments
 
--- a moment is there that has come at t
-abbrev pub has_come : ℕ → Option ℕ → Bool
-has_come t moment = option_map_or (λ m. nat_le m t) moment false
-
--- a moment is there that lies ahead of t
-abbrev pub is_ahead : ℕ → Option ℕ → Bool
-is_ahead t moment = option_map_or (λ m. nat_lt t m) moment false
-
 -- an inhibit moment that has come is forgotten
 unfoldable pub without_past_inhibit : ℕ → Remembered → Remembered
 without_past_inhibit t r = if has_come t r.inhibit then record r { inhibit = None } else r
-
--- the moment a time from t; none where the time is 0
-abbrev pub moment_from : ℕ → ℕ → Option ℕ
-moment_from t time = if time == 0 then None else Some (t + time)
 
 abbrev pub later : ℕ → ℕ → ℕ
 later a b = if nat_le a b then b else a
@@ -77,7 +66,7 @@ cyclic_turn n at_sync bytes r =
 unfoldable pub event_turn : Communication → ℕ → List ℕ → Remembered → Turn
 event_turn c t bytes r =
     if not (is_ahead t r.inhibit) && (differs bytes r || has_come t r.event)
-    then turn_with_frame bytes (record r { inhibit = moment_from t c.inhibit_time; event = event_moment t c })
+    then turn_with_frame bytes (record r { inhibit = moment_after t c.inhibit_time; event = event_moment t c })
     else turn_without_frame r
 
 -- THE TURN AT THE MOMENT t of one of a transmission type that has these bytes, at a SYNC or not: one of another type,

@@ -3,7 +3,7 @@
 use Rattle.std.specs.Prelude.{ℕ, ◌+◌, ◌*◌, not, ◌&&◌, nat_lt, Bool, true, false, Option, Some, None}
 use Rattle.std.specs.Prelude.{is_ok, if◌then◌else◌}
 use Rattle.co_dict.specs.PdoChecks.{has_type, is_unsigned8, is_unsigned16, is_unsigned32, mapping_check}
-use Rattle.co_dict.specs.Pdos.{is_restricted}
+use Rattle.co_fields.specs.CobIds.{is_restricted}
 use Rattle.co_dict.specs.Shapes.{Shaped}
 use Rattle.co_dict.specs.Values.{Values, number_at}
 use Rattle.co_fields.specs.CobIds.{identifier_in, is_of_base_frames, is_valid}

@@ -3,7 +3,7 @@
 ghost use Rattle.std.specs.Prelude.{◌≡◌, ◌==◌, ◌<◌, ◌≤◌, ◌+◌, if◌then◌else◌, ℕ, Bool, true, false, List};
 ghost use Rattle.std.specs.Prelude.{Option, Some, IfSome};
 ghost use Rattle.co_dict.specs.Mappings.{mapping_bits, mapping_of};
-ghost use Rattle.co_dict.specs.Pdos.{is_restricted};
+ghost use Rattle.co_fields.specs.CobIds.{is_restricted};
 ghost use Rattle.co_dict.specs.Shapes.{Shaped};
 ghost use Rattle.co_dict.specs.Values.{Values};
 ghost use Rattle.co_pdos.specs.declared.communication.Communication.{Communication as Parameters};

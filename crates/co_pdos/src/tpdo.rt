@@ -2,11 +2,12 @@
 
 ghost use Rattle.std.specs.Prelude.{◌≡◌, ◌↔◌, ◌≤◌, ◌<◌, ◌^◌, length, IsTrue};
 ghost use Rattle.co_pdos.specs.Tpdo.{acyclic_turn, cyclic_turn, event_turn, turn_by_type};
-ghost use Rattle.co_pdos.specs.Tpdo.{differs, event_moment, remembering_nothing as nothing_remembered, has_come};
-ghost use Rattle.co_pdos.specs.Tpdo.{without_past_inhibit, is_ahead, moment_from};
+ghost use Rattle.co_pdos.specs.Tpdo.{differs, event_moment, remembering_nothing as nothing_remembered};
+ghost use Rattle.co_pdos.specs.Tpdo.{without_past_inhibit};
 
 use crate::communication::Communication;
 use crate::payload::Payload;
+use co_base::{has_come, is_ahead, moment_after};
 use co_fields::TransmissionType;
 use std::marker::Model;
 
@@ -28,38 +29,6 @@ impl Model for Tpdo {
     ghost view = { λ t. record { last = t.last; inhibit = t.inhibit; event = t.event; syncs = t.syncs } };
 
     ghost inverse = { λ r. record { last = r.last; inhibit = r.inhibit; event = r.event; syncs = r.syncs } };
-}
-
-/// Whether a moment is there that has come at t.
-fn has_come(t: u64, moment: Option<u64>) -> bool
-    ensures { result ≡ has_come t moment }
-{
-    match moment {
-        Some(moment) => moment <= t,
-        None => false,
-    }
-}
-
-/// Whether a moment is there that lies ahead of t.
-fn is_ahead(t: u64, moment: Option<u64>) -> bool
-    ensures { result ≡ is_ahead t moment }
-{
-    match moment {
-        Some(moment) => t < moment,
-        None => false,
-    }
-}
-
-/// The moment a time from t; none where the time is 0.
-fn moment_from(t: u64, time: u32) -> Option<u64>
-    requires { t < 2 ^ 63 }
-    ensures { result ≡ moment_from t time }
-{
-    if time == 0 {
-        None
-    } else {
-        Some(t + u64::from(time))
-    }
 }
 
 /// The event moment of a TPDO that is sent at t, which isn't before its inhibit moment.
@@ -194,7 +163,7 @@ impl Tpdo {
             return false;
         }
         self.last = Some(Payload::of(bytes));
-        self.inhibit = moment_from(t, communication.inhibit_time);
+        self.inhibit = moment_after(t, u64::from(communication.inhibit_time));
         self.event = event_moment(t, communication);
         true
     }

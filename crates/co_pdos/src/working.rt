@@ -5,7 +5,7 @@ ghost use Rattle.co_pdos.specs.Working.{cob_id_of, has_frames, has_mapping, iden
 ghost use Rattle.co_pdos.specs.Working.{mapping_object, rpdo_object as object_of_rpdo, tpdo_object as object_of_tpdo};
 ghost use Rattle.co_pdos.specs.Working.{works as works_now};
 
-use co_dict::{Dict, Shape, check_mapping, is_restricted};
+use co_dict::{Dict, Shape, check_mapping};
 use co_fields::{CobId, Identifier};
 
 /// The communication object of a TPDO, 1 to 512: 17FFh and its number.
@@ -61,7 +61,7 @@ pub(crate) fn identifier(dict: &Dict, object: u16) -> Identifier
 fn has_frames(cob_id: CobId) -> bool
     ensures { result ≡ has_frames cob_id }
 {
-    cob_id.is_valid() && cob_id.is_of_base_frames() && !is_restricted(cob_id.identifier().number())
+    cob_id.is_valid() && cob_id.is_of_base_frames() && !cob_id.identifier().is_restricted()
 }
 
 /// Whether something is mapped, and a PDO can carry it.

@@ -10,13 +10,13 @@ use Rattle.can_frame.specs.Winner.{contenders_of, IsWinner}
 use Rattle.can_frame.specs.declared.contender.Contender.{Contender}
 use Rattle.can_frame.specs.declared.waiting.Waiting.{Waiting}
 use Rattle.co_parts.specs.Contents.{Content, Image}
-use Rattle.co_parts.specs.Moments.{earlier, earliest}
+use Rattle.co_base.specs.Moments.{earlier, earliest, has_come}
 use Rattle.co_parts.specs.declared.part.Part.{Part}
 use Rattle.co_device.specs.Device.{Device, moments, next_due}
 use Rattle.co_device.specs.Receiving.{is_ignored}
 use Rattle.device_laws.specs.Deaf.{IsDeafTo, IsIdleSync}
 use Rattle.device_laws.proofs.RestLemmas.{sent_rests}
-use Rattle.device_agenda.specs.Agenda.{has_come, IsAgendaOf, Sleeps}
+use Rattle.device_agenda.specs.Agenda.{IsAgendaOf, Sleeps}
 use Rattle.device_agenda.specs.declared.agenda.Agenda.{Agenda as Plan}
 use Rattle.device_agenda.specs.declared.groups.Groups.{Groups}
 

@@ -3,6 +3,7 @@ use Rattle.std.proofs.Common.{◌≡◌, ℕ, ◌<◌, ◌==◌, Bool, true, fal
 use Rattle.std.proofs.Common.{IfSome, flat_map, refl, sym, ap, ◌∙◌, inl}
 use Rattle.std.specs.Prelude.{if◌then◌else◌}
 use Rattle.std.specs.List.{AllByRecursion}
+use Rattle.co_base.specs.Moments.{has_come}
 use Rattle.asking.specs.Asking.{Answer, bind}
 use Rattle.can_frame.specs.Frames.{BaseFrame}
 use Rattle.co_device.specs.Device.{Device, moments, after_instant}
@@ -12,7 +13,7 @@ use Rattle.device_laws.specs.Rest.{Rests}
 use Rattle.device_laws.proofs.DeafLemmas.{nothing_comes_of_it}
 use Rattle.device_laws.proofs.RestLemmas.{quiet_at_rest}
 use Rattle.device_pdos.proofs.LookLemmas.{all_parts}
-use Rattle.device_agenda.specs.Agenda.{IsAgendaOf, Sleeps, at_instant, has_come, hears, sleeps_through, stirs}
+use Rattle.device_agenda.specs.Agenda.{IsAgendaOf, Sleeps, at_instant, hears, sleeps_through, stirs}
 use Rattle.device_agenda.specs.Delivered.{Delivered}
 use Rattle.device_agenda.specs.Groups.{includes}
 use Rattle.device_agenda.specs.declared.agenda.Agenda.{Agenda as Plan}

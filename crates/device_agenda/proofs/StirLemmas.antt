@@ -8,7 +8,7 @@ use Rattle.std.proofs.lemmas.Bool.Decides.{nat_tests}
 use Rattle.can_frame.specs.Frames.{BaseFrame}
 use Rattle.can_frame.specs.Identifiers.{error_control_id, nmt_id, sdo_request_id, sync_id}
 use Rattle.co_base.specs.Ranges.{is_between}
-use Rattle.co_dict.specs.Pdos.{identifier}
+use Rattle.co_fields.specs.CobIds.{identifier_in}
 use Rattle.co_dict.specs.Values.{Values, number_at}
 use Rattle.device_objects.specs.Consumers.{any_expects, expects}
 use Rattle.device_objects.specs.Profile.{sync_identifier}
@@ -34,7 +34,7 @@ pub sync_below : (learnt : Learnt) (values : Values) → sync_identifier learnt 
 unfolding sync_identifier
 sync_below learnt values = by learnt.has_sync_cob_id
   where
-    by : (b : Bool) → (if b then identifier (number_at 4 values (0x1005, 0)) else sync_id) < 0x800
+    by : (b : Bool) → (if b then identifier_in (number_at 4 values (0x1005, 0)) else sync_id) < 0x800
     by true = below (number_at 4 values (0x1005, 0))
     by false = omega arith
 

@@ -1,5 +1,5 @@
 -- What a device does in an instant, and when it does nothing.
-use Rattle.std.specs.Prelude.{◌≡◌, ◌<◌, ℕ, ◌==◌, not, ◌&&◌, nat_le, Bool, false, List, [], flat_map, Option, Some, None}
+use Rattle.std.specs.Prelude.{◌≡◌, ◌<◌, ℕ, ◌==◌, not, ◌&&◌, Bool, false, List, [], flat_map, Option, Some, None}
 use Rattle.std.specs.Prelude.{if◌then◌else◌}
 use Rattle.std.specs.List.{AllByRecursion}
 use Rattle.asking.specs.Asking.{Asking, Answer, bind}
@@ -7,7 +7,7 @@ use Rattle.can_frame.specs.Frames.{BaseFrame}
 use Rattle.co_device.specs.Device.{Device, moments, after_instant}
 use Rattle.co_device.specs.Receiving.{after_frame}
 use Rattle.co_parts.specs.Contents.{Content}
-use Rattle.co_parts.specs.Moments.{earliest}
+use Rattle.co_base.specs.Moments.{earliest, has_come}
 use Rattle.co_parts.specs.declared.part.Part.{Part}
 use Rattle.device_laws.specs.Deaf.{IsDeafTo}
 use Rattle.device_laws.specs.Rest.{Rests}
@@ -24,11 +24,6 @@ hears t delivered d = if d.number == delivered.sender then Answer d else after_f
 unfoldable pub at_instant : ℕ → Option Delivered → Device → Asking Part Content Device
 at_instant t None d = Answer (after_instant t d)
 at_instant t (Some delivered) d = bind (hears t delivered d) (λ heard. Answer (after_instant t heard))
-
--- a moment is there that has come at t
-abbrev pub has_come : ℕ → Option ℕ → Bool
-has_come t None = false
-has_come t (Some due) = nat_le due t
 
 -- ---- agendas
 

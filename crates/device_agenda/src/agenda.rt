@@ -2,11 +2,11 @@
 
 ghost use Rattle.std.specs.Prelude.{◌≡◌, ◌<◌, ◌++◌, List, [], false, IfSome, IsTrue};
 ghost use Rattle.co_device.specs.Device.{Device};
-ghost use Rattle.device_agenda.specs.Agenda.{has_come as come, IsAgendaOf, sleeps_through};
+ghost use Rattle.device_agenda.specs.Agenda.{IsAgendaOf, sleeps_through};
 
 use crate::delivery::Delivery;
 use crate::groups::Groups;
-use co_parts::earlier;
+use co_base::{earlier, has_come};
 
 /// When devices have to run: at the moment at which one is due, and where a frame is delivered of a group of
 /// which one may take a frame.
@@ -20,16 +20,6 @@ pub struct Agenda {
     pub groups: Groups,
     /// Whether a frame may wait at one of them.
     pub waits: bool,
-}
-
-/// Whether a moment is there that has come at t.
-pub(crate) fn has_come(t: u64, due: Option<u64>) -> bool
-    ensures { result ≡ come t due }
-{
-    match due {
-        Some(due) => due <= t,
-        None => false,
-    }
 }
 
 impl Agenda {

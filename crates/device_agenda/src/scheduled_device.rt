@@ -12,11 +12,12 @@ ghost use Rattle.co_device.specs.Receiving.{is_ignored};
 ghost use Rattle.device_agenda.specs.Agenda.{at_instant, hears, IsAgendaOf};
 ghost use Rattle.device_laws.specs.Rest.{Rests};
 
-use crate::agenda::{Agenda, has_come};
+use crate::agenda::Agenda;
 use crate::delivery::Delivery;
 use crate::ignored::ignores;
 use crate::stirring::stirring;
 use can_frame::{Contender, Waiting};
+use co_base::has_come;
 use co_device::DeviceState;
 use co_dict::Dict;
 use co_parts::END;

@@ -8,7 +8,7 @@ use Rattle.can_frame.specs.Frames.{BaseFrame}
 use Rattle.co_dict.specs.Shapes.{Shaped}
 use Rattle.co_dict.specs.Values.{Values}
 use Rattle.co_parts.specs.Contents.{Image}
-use Rattle.co_parts.specs.Moments.{is_due}
+use Rattle.co_base.specs.Moments.{is_due}
 use Rattle.co_fields.specs.ConsumerHeartbeatTimes.{consumed_node, consumer_time}
 use Rattle.device_objects.specs.Consumers.{consumers_after_time, consumers_after_heartbeat, consumers_of}
 use Rattle.device_objects.specs.Consumers.{consumers_after_write, expects, consumer_after_time, failures_at}

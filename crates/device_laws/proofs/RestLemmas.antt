@@ -4,7 +4,7 @@ use Rattle.std.proofs.Common.{ap, ◌∙◌, arith}
 use Rattle.std.specs.Prelude.{if◌then◌else◌}
 use Rattle.std.specs.List.{AllByRecursion}
 use Rattle.can_frame.specs.declared.waiting.Waiting.{Waiting}
-use Rattle.co_parts.specs.Moments.{moments_of}
+use Rattle.co_base.specs.Moments.{moments_of}
 use Rattle.device_objects.specs.Consumers as consumers
 use Rattle.device_objects.specs.declared.consumer.Consumer.{Consumer}
 use Rattle.device_pdos.specs.Tpdos as tpdos

@@ -4,7 +4,7 @@ use Rattle.std.specs.Prelude.{nat_lt}
 use Rattle.asking.specs.Asking.{outcome}
 use Rattle.can_frame.specs.Frames.{BaseFrame}
 use Rattle.co_parts.specs.Contents.{Image}
-use Rattle.co_parts.specs.Moments.{is_due}
+use Rattle.co_base.specs.Moments.{is_due}
 use Rattle.device_objects.specs.Consumers.{consumers_after_time, failures_at}
 use Rattle.device_objects.specs.Profile.{with_error_bits}
 use Rattle.co_scenario.specs.declared.nmt_command.NmtCommand.{NmtCommand}

@@ -17,7 +17,7 @@ use Rattle.can_frame.specs.declared.waiting.Waiting.{Waiting}
 use Rattle.can_frame.specs.Identifiers.{error_control_id, nmt_id, sdo_request_id}
 use Rattle.co_parts.specs.Contents.{Image}
 use Rattle.co_parts.specs.declared.part.Part.TheVariants.{Shape}
-use Rattle.co_parts.specs.Moments.{is_due}
+use Rattle.co_base.specs.Moments.{is_due}
 use Rattle.co_pdos.specs.Tpdo.{remembering_nothing}
 use Rattle.co_pdos.specs.declared.receipt.Receipt.TheVariants.{Kept, AtOnce}
 use Rattle.device_objects.specs.Consumers.{consumers_after_time, consumers_after_heartbeat, consumers_after_write}

@@ -6,7 +6,7 @@ use Rattle.co_fields.specs.ConsumerHeartbeatTimes.{consumed_node, consumer_time}
 use Rattle.co_dict.specs.PdoChecks.{has_type, is_unsigned32}
 use Rattle.co_dict.specs.Shapes.{Shaped}
 use Rattle.co_dict.specs.Values.{Values, number_at}
-use Rattle.co_parts.specs.Moments.{is_due, moments_of}
+use Rattle.co_base.specs.Moments.{is_due, moments_of}
 use Rattle.device_objects.specs.declared.consumer.Consumer.{Consumer}
 
 -- ---- the consumer heartbeat time of a sub-index

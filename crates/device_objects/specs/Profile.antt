@@ -8,7 +8,7 @@ use Rattle.co_fields.specs.CobIds.{identifier_in}
 use Rattle.co_dict.specs.PdoChecks.{has_type, is_unsigned8, is_unsigned16, is_unsigned32}
 use Rattle.co_dict.specs.Shapes.{Shaped}
 use Rattle.co_dict.specs.Values.{Values, number_at}
-use Rattle.co_parts.specs.Moments.{moment_after}
+use Rattle.co_base.specs.Moments.{moment_after}
 use Rattle.device_objects.specs.declared.learnt.Learnt.{Learnt}
 
 -- what a device learns of its entries at power-on and at each reset: which of these objects are there with their types

@@ -9,7 +9,8 @@ use crate::learnt::Learnt;
 use can_frame::identifiers;
 use co_dict::Dict;
 use co_fields::CobId;
-use co_parts::{END, moment_after};
+use co_base::moment_after;
+use co_parts::END;
 use std::alloc::AllocError;
 
 /// The index of the error register (CiA 301), which has sub-index 0.

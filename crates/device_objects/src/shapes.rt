@@ -1,9 +1,9 @@
 //! The parts that devices ask for.
 
-ghost use Rattle.std.specs.Prelude.{◌≡◌, ◌+◌, ◌-◌, ◌^◌, min, IfOk, OnOk};
+ghost use Rattle.std.specs.Prelude.{◌≡◌, ◌+◌, ◌-◌, ◌^◌, min, IfOk, OnOk, unwrap_or};
 ghost use Rattle.asking.specs.Asking.{after_ask};
 ghost use Rattle.asking.specs.Record.{BeginsWith};
-ghost use Rattle.co_parts.specs.Contents.{DefaultsAre, ShapeIs, no_shape, or_else};
+ghost use Rattle.co_parts.specs.Contents.{DefaultsAre, ShapeIs, no_shape};
 ghost use Rattle.co_parts.specs.Shared.{shared};
 
 use asking::Asked;
@@ -34,7 +34,7 @@ pub trait Shapes: Asked<Part, PartContent> {
 /// The entries of a device; where there are none, these of a device without entries.
 pub fn shape_or<'a>(shape: &'a Option<Rc<Shape>>, none: &'a Shape) -> &'a Shape
     requires { none.now ≡ no_shape }
-    ensures { result.now ≡ or_else no_shape (shared shape.now) }
+    ensures { result.now ≡ unwrap_or (shared shape.now) no_shape }
 {
     match shape {
         None => none,

@@ -6,14 +6,14 @@ use Rattle.std.specs.List.{AllByRecursion}
 use Rattle.std.specs.Option.{option_map_or}
 use Rattle.std.proofs.lemmas.Bool.Decides.{nat_tests}
 use Rattle.co_dict.specs.Values.{Values}
-use Rattle.co_parts.specs.Moments.{moments_of}
+use Rattle.co_base.specs.Moments.{moments_of, has_come, is_ahead, moment_after}
 use Rattle.co_pdos.specs.declared.communication.Communication.{Communication}
 use Rattle.co_pdos.specs.declared.configuration.Configuration.{Configuration}
 use Rattle.co_fields.specs.declared.transmission_type.TransmissionType.{TransmissionType}
 use Rattle.co_fields.specs.declared.transmission_type.TransmissionType.TheVariants.{Acyclic, Cyclic, EventDriven}
 use Rattle.co_fields.specs.declared.transmission_type.TransmissionType.TheVariants.{Reserved, OnRequest}
-use Rattle.co_pdos.specs.Tpdo.{Remembered, acyclic_turn, cyclic_turn, differs, event_moment, event_turn, has_come}
-use Rattle.co_pdos.specs.Tpdo.{without_past_inhibit, is_ahead, later, moment_from, turn_with_frame, turn_by_type}
+use Rattle.co_pdos.specs.Tpdo.{Remembered, acyclic_turn, cyclic_turn, differs, event_moment, event_turn}
+use Rattle.co_pdos.specs.Tpdo.{without_past_inhibit, later, turn_with_frame, turn_by_type}
 use Rattle.co_pdos.specs.Tpdo.{turn_without_frame}
 use Rattle.co_fields.specs.TransmissionTypes.{is_event_driven}
 use Rattle.co_pdos.proofs.TpdoLemmas.{event_sent, event_unsent, is_wanted_at}
@@ -86,7 +86,7 @@ events_later t c = by (c.event_time == 0) refl
     by true e = tt
     by false e = (after_the_first t (t + c.event_time) (t + c.inhibit_time) (positive t c.event_time e), tt)
 
-set_later : (t : ℕ) (c : Communication) → IsLater t (due_of true (moment_from t c.inhibit_time) (event_moment t c))
+set_later : (t : ℕ) (c : Communication) → IsLater t (due_of true (moment_after t c.inhibit_time) (event_moment t c))
 set_later t c = by (c.inhibit_time == 0) refl
   where
     by : (none : Bool) → (c.inhibit_time == 0) ≡ none

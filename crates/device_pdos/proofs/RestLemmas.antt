@@ -8,14 +8,14 @@ use Rattle.std.proofs.lemmas.Bool.Decides.{nat_tests}
 use Rattle.std.proofs.lemmas.Slice.Eq.{bytes_eq-Decides}
 use Rattle.can_frame.specs.declared.waiting.Waiting.{Waiting}
 use Rattle.co_dict.specs.Values.{Values}
-use Rattle.co_parts.specs.Moments.{moments_of}
+use Rattle.co_base.specs.Moments.{moments_of, has_come, is_ahead}
 use Rattle.co_pdos.specs.declared.communication.Communication.{Communication}
 use Rattle.co_pdos.specs.declared.configuration.Configuration.{Configuration}
 use Rattle.co_fields.specs.declared.transmission_type.TransmissionType.{TransmissionType}
 use Rattle.co_fields.specs.declared.transmission_type.TransmissionType.TheVariants.{Acyclic, Cyclic, EventDriven}
 use Rattle.co_fields.specs.declared.transmission_type.TransmissionType.TheVariants.{Reserved, OnRequest}
-use Rattle.co_pdos.specs.Tpdo.{Remembered, acyclic_turn, cyclic_turn, differs, event_turn, has_come}
-use Rattle.co_pdos.specs.Tpdo.{without_past_inhibit, is_ahead, turn_by_type}
+use Rattle.co_pdos.specs.Tpdo.{Remembered, acyclic_turn, cyclic_turn, differs, event_turn}
+use Rattle.co_pdos.specs.Tpdo.{without_past_inhibit, turn_by_type}
 use Rattle.co_fields.specs.TransmissionTypes.{is_event_driven}
 use Rattle.co_pdos.proofs.TpdoLemmas.{event_is_sent, event_sent, event_unsent, is_wanted_at, moments_set}
 use Rattle.device_pdos.specs.Tpdos.{bytes_now, due_of, frame_if, frame_of_turn, is_wanted, is_wanted_by, moments}

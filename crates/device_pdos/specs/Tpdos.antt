@@ -9,7 +9,7 @@ use Rattle.can_frame.specs.declared.waiting.Waiting.{Waiting}
 use Rattle.co_dict.specs.Shapes.{Shaped}
 use Rattle.co_dict.specs.Values.{Values}
 use Rattle.co_mapping.specs.Packing.{packed}
-use Rattle.co_parts.specs.Moments.{moments_of}
+use Rattle.co_base.specs.Moments.{moments_of}
 use Rattle.co_pdos.specs.Configured.{configuration_of}
 use Rattle.co_pdos.specs.Tpdo.{Remembered, Turn, differs, remembering_nothing, without_past_inhibit, turn_by_type}
 use Rattle.co_fields.specs.TransmissionTypes.{is_event_driven, is_synchronous}

@@ -1,7 +1,7 @@
 //! The TPDOs of a device, by number.
 
 ghost use Rattle.std.specs.Prelude.{◌≡◌, ◌<◌, ◌^◌, IfOk, OnOk, ◌↔◌, IsTrue};
-ghost use Rattle.co_parts.specs.Moments.{earliest};
+ghost use Rattle.co_base.specs.Moments.{earliest};
 ghost use Rattle.device_pdos.specs.Tpdos.{moments, without_memories, tpdos_after_inhibit, tpdos_after_turns};
 ghost use Rattle.device_pdos.specs.Tpdos.{tpdos_of as tpdos_now, tpdos_after_write, with_tpdos};
 
@@ -9,7 +9,7 @@ use crate::numbers::{LAST_PDO, number_of_object};
 use crate::tpdo_state::TpdoState;
 use can_frame::Pending;
 use co_dict::{Dict, Shape};
-use co_parts::earlier;
+use co_base::earlier;
 use co_pdos::{Configuration, Tpdo, is_pdo, tpdo_object};
 use std::alloc::{AllocError, Global};
 

@@ -9,7 +9,7 @@ use Rattle.can_frame.specs.Frames.{BaseFrame}
 use Rattle.can_frame.specs.WaitingFrames.{with_latest}
 use Rattle.can_frame.specs.declared.purpose.Purpose.TheVariants.{Heartbeat, Sync}
 use Rattle.co_parts.specs.Contents.{Image}
-use Rattle.co_parts.specs.Moments.{is_due, moment_after}
+use Rattle.co_base.specs.Moments.{is_due, moment_after}
 use Rattle.co_parts.specs.declared.roster.Roster.{Roster}
 use Rattle.co_scenario.specs.declared.nmt_command.NmtCommand.{NmtCommand}
 use Rattle.nmt_boot.proofs.FrameLemmas.{received_holds}

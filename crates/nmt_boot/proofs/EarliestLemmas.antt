@@ -3,7 +3,7 @@ use Rattle.std.proofs.Common.{◌≡◌, ℕ, ◌+◌, ◌<◌, ◌≤◌, List,
 use Rattle.std.proofs.Common.{refl, sym, ap, ◌∙◌, arith}
 use Rattle.std.specs.Prelude.{min}
 use Rattle.std.proofs.lemmas.List.{drop_all, drop_more}
-use Rattle.co_parts.specs.Moments.{earlier, earliest, moments_of}
+use Rattle.co_base.specs.Moments.{earlier, earliest, moments_of}
 use Rattle.node_boot.specs.Boot.{deadline_of}
 use Rattle.nmt_boot.specs.Manager.{Manager, deadlines, moments, next_due}
 use Rattle.nmt_boot.specs.declared.booting.Booting.{Booting}

@@ -7,7 +7,7 @@ use Rattle.std.proofs.lemmas.List.Elements.{All-append, All-cons, All-head, All-
 use Rattle.can_frame.specs.WaitingFrames.{with_latest}
 use Rattle.can_frame.specs.declared.purpose.Purpose.TheVariants.{Heartbeat, Sync}
 use Rattle.co_scenario.specs.declared.nmt_command.NmtCommand.{NmtCommand}
-use Rattle.co_parts.specs.Moments.{is_due, moment_after, moments_of}
+use Rattle.co_base.specs.Moments.{is_due, moment_after, moments_of}
 use Rattle.nmt_boot.specs.Ahead.{IsAhead}
 use Rattle.node_boot.specs.Boot.{deadline_of, is_at, is_timed_out, sdo_time_out}
 use Rattle.nmt_boot.specs.Manager.{Manager, with_command, deadlines, heartbeat_frame, heartbeats, moments, node_after}

@@ -1,6 +1,6 @@
 -- No node times out before the first deadline.
 use Rattle.std.proofs.Common.{◌≡◌, ℕ, ◌+◌, ◌<◌, ◌≤◌, List, [], ◌∷◌, map, Option, Some, None, IfSome, subst, arith}
-use Rattle.co_parts.specs.Moments.{earlier, earliest}
+use Rattle.co_base.specs.Moments.{earlier, earliest}
 use Rattle.node_boot.specs.Boot.{deadline_of}
 use Rattle.nmt_boot.proofs.EarliestLemmas.{first_then}
 use Rattle.nmt_boot.proofs.MomentLemmas.{AreFrom, quiet_list, quiet_nodes}

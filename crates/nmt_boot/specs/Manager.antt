@@ -11,7 +11,7 @@ use Rattle.can_frame.specs.declared.purpose.Purpose.TheVariants.{BootUp, Heartbe
 use Rattle.can_frame.specs.declared.unwanted.Unwanted.TheVariants.{SdoOf}
 use Rattle.can_frame.specs.declared.waiting.Waiting.{Waiting}
 use Rattle.co_parts.specs.Contents.{Content}
-use Rattle.co_parts.specs.Moments.{earliest, is_due, moment_after, moments_of}
+use Rattle.co_base.specs.Moments.{earliest, is_due, moment_after, moments_of}
 use Rattle.co_parts.specs.declared.part.Part.{Part}
 use Rattle.co_parts.specs.declared.roster.Roster.{Roster}
 use Rattle.co_scenario.specs.Commands.{number_of}

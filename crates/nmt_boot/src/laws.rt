@@ -6,7 +6,7 @@ ghost use Rattle.asking.specs.Asking.{Agrees, outcome, reads};
 ghost use Rattle.can_frame.specs.Frames.{BaseFrame};
 ghost use Rattle.can_frame.specs.Identifiers.{error_control_id, sdo_answer_id};
 ghost use Rattle.co_parts.specs.Contents.{Image};
-ghost use Rattle.co_parts.specs.Moments.{is_due};
+ghost use Rattle.co_base.specs.Moments.{is_due};
 ghost use Rattle.co_parts.specs.declared.roster.Roster.{Roster as Network};
 ghost use Rattle.co_scenario.specs.declared.nmt_command.NmtCommand.{NmtCommand};
 ghost use Rattle.nmt_boot.specs.Ahead.{IsAhead};

@@ -3,7 +3,7 @@
 ghost use Rattle.std.specs.Prelude.{◌≡◌, ◌≤◌, ◌<◌, ◌+◌, ◌++◌, ◌↔◌, [], length, map, IfOk, IfSome, IsTrue, OnOk};
 ghost use Rattle.asking.specs.Asking.{after_reads, outcome, reads};
 ghost use Rattle.asking.specs.Record.{BeginsWith};
-ghost use Rattle.co_parts.specs.Moments.{earliest};
+ghost use Rattle.co_base.specs.Moments.{earliest};
 ghost use Rattle.node_boot.specs.Boot.{boot_nmt_slave, sdo_answer};
 ghost use Rattle.nmt_boot.specs.Manager.{deadlines, note_of_loss, note_of_time_out, node_after, node_at};
 ghost use Rattle.nmt_boot.specs.Manager.{place_of as is_place_of, queue_after_time_outs, timed_out, unseen_node};
@@ -13,7 +13,7 @@ ghost use Rattle.nmt_boot.specs.Sending.{sending_of};
 use crate::booting::Booting;
 use crate::sent::Sent;
 use can_frame::Pending;
-use co_parts::earlier;
+use co_base::earlier;
 use node_boot::{BootStage, Boots, NoteKind, Notes, deadline_of, is_timed_out};
 use std::alloc::{AllocError, Global};
 use std::marker::Model;
@@ -31,7 +31,7 @@ pub(crate) struct NodeTable {
 
 impl Model for NodeTable {
     ghost use Rattle.std.specs.Prelude.{◌≡◌, List, IsTrue};
-    ghost use Rattle.co_parts.specs.Moments.{earliest};
+    ghost use Rattle.co_base.specs.Moments.{earliest};
     ghost use Rattle.nmt_boot.specs.Manager.{deadlines};
     ghost use Rattle.nmt_boot.specs.declared.booting.Booting.{Booting};
 

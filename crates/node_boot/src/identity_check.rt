@@ -1,11 +1,11 @@
 //! The check of device type and identity (CiA 302): numbers that a node is asked for, and that are expected.
 
-ghost use Rattle.std.specs.Prelude.{◌≡◌, ◌≤◌, ◌+◌, ◌&&◌, length, nat_le, find, IfOk, OnOk};
+ghost use Rattle.std.specs.Prelude.{◌≡◌, ◌≤◌, ◌+◌, ◌&&◌, length, nat_le, find, IfOk, OnOk, unwrap_or};
 ghost use Rattle.std.specs.Option.{option_copied};
 ghost use Rattle.asking.specs.Asking.{after_reads, outcome, reads};
 ghost use Rattle.asking.specs.Record.{BeginsWith};
 ghost use Rattle.byteorder.specs.Endian.{little_number};
-ghost use Rattle.co_parts.specs.Contents.{no_identity, or_else};
+ghost use Rattle.co_parts.specs.Contents.{no_identity};
 ghost use Rattle.co_parts.specs.Shared.{shared};
 ghost use Rattle.node_boot.specs.Boot as rules;
 
@@ -111,7 +111,7 @@ pub(crate) fn check_identity<P: Boots>(
 
 /// The expected numbers; any will do where none are handed out.
 fn identity_of(identity: &Option<Rc<Identity>>) -> Identity
-    ensures { result ≡ or_else no_identity (shared identity.now) }
+    ensures { result ≡ unwrap_or (shared identity.now) no_identity }
 {
     match identity {
         None => Identity { numbers: [0; 5] },

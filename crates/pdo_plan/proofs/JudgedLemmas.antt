@@ -11,7 +11,7 @@ use Rattle.std.proofs.lemmas.List.{length-map}
 use Rattle.std.proofs.lemmas.List.Elements.{All-from_recursion}
 use Rattle.co_base.specs.Ranges.{is_between}
 use Rattle.co_fields.specs.TransmissionTypes.{is_reserved, type_of_byte}
-use Rattle.co_dict.specs.Pdos.{is_restricted}
+use Rattle.co_fields.specs.CobIds.{is_restricted}
 use Rattle.co_messages.specs.declared.linked.Linked.{Linked}
 use Rattle.co_messages.specs.declared.message.Message.{Message}
 use Rattle.co_messages.specs.Messages.{IsLinked}

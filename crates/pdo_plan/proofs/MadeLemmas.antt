@@ -7,7 +7,7 @@ use Rattle.std.proofs.lemmas.Bool.Decides.{nat_tests}
 use Rattle.std.proofs.lemmas.List.Elements.{All-contains, All-from_recursion}
 use Rattle.ini_text.specs.Content.{Section}
 use Rattle.co_values.specs.declared.form.Width.TheVariants.{Bits8, Bits32}
-use Rattle.co_dict.specs.Pdos.{is_restricted}
+use Rattle.co_fields.specs.CobIds.{is_restricted}
 use Rattle.eds_device.specs.Entries.{entry_at}
 use Rattle.co_messages.specs.declared.linked.Linked.{Linked}
 use Rattle.co_messages.specs.declared.message.Message.{Message}

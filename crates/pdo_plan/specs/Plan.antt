@@ -10,7 +10,7 @@ use Rattle.std.specs.Ordering.{nat_cmp}
 use Rattle.co_dict.specs.declared.direction.Direction.TheVariants.{Transmit, Receive}
 use Rattle.co_base.specs.Ranges.{is_between}
 use Rattle.co_fields.specs.TransmissionTypes.{is_reserved, type_of_byte}
-use Rattle.co_dict.specs.Pdos.{is_restricted}
+use Rattle.co_fields.specs.CobIds.{is_restricted}
 use Rattle.co_messages.specs.declared.linked.Linked.{Linked}
 use Rattle.co_messages.specs.declared.message.Message.{Message}
 use Rattle.pdo_plan.specs.declared.message_fault.MessageFault.{MessageFault}

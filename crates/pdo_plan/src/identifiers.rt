@@ -7,7 +7,7 @@ ghost use Rattle.pdo_plan.specs.Plan.{explicit, automatic, identifier_for};
 ghost use Rattle.pdo_plan.specs.Taken.{had_in};
 
 use crate::taken::Taken;
-use co_dict::is_restricted;
+use co_fields::is_restricted;
 use co_messages::Message;
 use std::collections::BTreeSet;
 

@@ -4,7 +4,7 @@ ghost use Rattle.std.specs.Prelude.{IsFalse, slice_get};
 ghost use Rattle.std.specs.FinMap as map;
 ghost use Rattle.std.specs.Map.{lookup};
 ghost use Rattle.ini_text.specs.Content.{Section};
-ghost use Rattle.co_dict.specs.Pdos.{is_restricted};
+ghost use Rattle.co_fields.specs.CobIds.{is_restricted};
 ghost use Rattle.co_messages.specs.Messages.{is_of_messages, Named, IsLinked};
 ghost use Rattle.co_messages.specs.declared.linked.Linked.{Linked};
 ghost use Rattle.pdo_plan.specs.declared.clean.Clean.{Clean as Sent};

@@ -1,6 +1,6 @@
 use Rattle.std.proofs.Common.{sym, ◌∙◌}
-use Rattle.co_parts.specs.Moments.{moments_of}
-use Rattle.co_parts.proofs.EarliestLemmas.{none_more}
+use Rattle.co_base.specs.Moments.{moments_of}
+use Rattle.co_base.proofs.EarliestLemmas.{none_more}
 use Rattle.bus_devices.proofs.DueLemmas.{dues_are}
 use Rattle.device_agenda.specs.declared.agenda.Agenda.{Agenda}
 use Rattle.bus_devices.proofs.blocks.first_of.Goals as goal

@@ -1,5 +1,5 @@
 use Rattle.std.proofs.Common.{◌≡◌, drop}
-use Rattle.co_parts.specs.Moments.{earlier, earliest}
+use Rattle.co_base.specs.Moments.{earlier, earliest}
 use Rattle.bus_devices.proofs.DueLemmas.{dues}
 use Rattle.bus_devices.proofs.blocks.first_of.Given as goal
 

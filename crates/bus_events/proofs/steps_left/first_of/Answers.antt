@@ -1,5 +1,5 @@
 use Rattle.std.proofs.Common.{ℕ, Some, ap, ◌∙◌}
-use Rattle.co_parts.specs.Moments.{earlier}
+use Rattle.co_base.specs.Moments.{earlier}
 use Rattle.bus_events.proofs.TimeLemmas.{one_more_at, at_end}
 use Rattle.bus_events.proofs.steps_left.first_of.Goals as goal
 

@@ -1,5 +1,5 @@
 use Rattle.std.proofs.Common.{◌≡◌, drop}
-use Rattle.co_parts.specs.Moments.{earlier, earliest}
+use Rattle.co_base.specs.Moments.{earlier, earliest}
 use Rattle.bus_events.specs.Steps.{times}
 use Rattle.bus_events.proofs.steps_left.first_of.Given as goal
 

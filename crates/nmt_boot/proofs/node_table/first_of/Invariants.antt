@@ -1,5 +1,5 @@
 use Rattle.std.proofs.Common.{◌≡◌, drop}
-use Rattle.co_parts.specs.Moments.{earlier, earliest}
+use Rattle.co_base.specs.Moments.{earlier, earliest}
 use Rattle.nmt_boot.specs.Manager.{deadlines}
 use Rattle.nmt_boot.proofs.node_table.first_of.Given as goal
 

@@ -4,7 +4,7 @@ use Rattle.std.proofs.Common.{length, get_or, drop, arith}
 use Rattle.std.specs.Prelude.{flat_map, min}
 use Rattle.std.proofs.Math.Seq.{drop-cons}
 use Rattle.std.proofs.lemmas.List.{drop_all}
-use Rattle.co_parts.specs.Moments.{earlier, earliest, moments_of}
+use Rattle.co_base.specs.Moments.{earlier, earliest, moments_of}
 
 min_apart : (a b c : ℕ) → min (min a b) c ≡ min a (min b c)
 min_apart a b c = omega arith

@@ -1,7 +1,7 @@
-//! The earliest of moments.
+//! The earlier of two moments.
 
 ghost use Rattle.std.specs.Prelude.{◌≡◌};
-ghost use Rattle.co_parts.specs.Moments.{earlier as earlier_of};
+ghost use Rattle.co_base.specs.Moments.{earlier as earlier_of};
 
 /// The earlier of two moments, in microseconds; where one isn't there, the other.
 pub fn earlier(one: Option<u64>, other: Option<u64>) -> Option<u64>

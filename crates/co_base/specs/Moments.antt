@@ -1,10 +1,21 @@
--- Moments, in microseconds from the power-on of the network.
-use Rattle.std.specs.Prelude.{ℕ, ◌+◌, ◌==◌, Bool, false, List, [], ◌∷◌, min, Option, Some, None, if◌then◌else◌}
+-- Moments, in microseconds from a start, which may be there or not.
+use Rattle.std.specs.Prelude.{ℕ, ◌+◌, ◌==◌, nat_le, nat_lt, Bool, false, List, [], ◌∷◌, min, Option, Some, None}
+use Rattle.std.specs.Prelude.{if◌then◌else◌}
 
--- a moment is there, and has come
+-- a moment is there, and is t
 abbrev pub is_due : ℕ → Option ℕ → Bool
 is_due t None = false
 is_due t (Some moment) = moment == t
+
+-- a moment is there that has come at t
+abbrev pub has_come : ℕ → Option ℕ → Bool
+has_come t None = false
+has_come t (Some moment) = nat_le moment t
+
+-- a moment is there that lies ahead of t
+abbrev pub is_ahead : ℕ → Option ℕ → Bool
+is_ahead t None = false
+is_ahead t (Some moment) = nat_lt t moment
 
 -- the moment a time from t; none where the time is 0
 abbrev pub moment_after : ℕ → ℕ → Option ℕ

@@ -4,7 +4,7 @@ use Rattle.std.proofs.Common.{inl, inr, refl, ap, subst, arith}
 use Rattle.std.specs.Prelude.{All, Contains, min, nat_le}
 use Rattle.std.proofs.lemmas.Bool.Decides.{nat_tests}
 use Rattle.std.proofs.lemmas.List.Elements.{All-cons, All-head, All-nil, All-tail, Contains-append_right}
-use Rattle.co_parts.specs.Moments.{earlier, earliest}
+use Rattle.co_base.specs.Moments.{earlier, earliest}
 
 earlier_splits : (t : ℕ) (a b : Option ℕ) → IfSome (earlier a b) (λ d. t ≤ d)
     → IfSome a (λ d. t ≤ d) × IfSome b (λ d. t ≤ d)

@@ -13,7 +13,7 @@ fn byte_at(bytes: &[u8], place: usize) -> u8
 }
 
 /// The number in the first byte.
-pub(crate) fn number_8(bytes: &[u8]) -> u8
+pub fn number_8(bytes: &[u8]) -> u8
     ensures { result ≡ little_number 1 bytes.now }
 {
     byte_at(bytes, 0)

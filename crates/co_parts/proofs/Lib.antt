@@ -1,2 +1,0 @@
-pub mod EarliestLemmas
-pub mod MomentLemmas
