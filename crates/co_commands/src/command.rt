@@ -72,6 +72,13 @@ impl Command {
         Command { edit }
     }
 
+    /// What the edit does, to look at.
+    pub fn edit(&self) -> &Edit
+        ensures { result.now ≡ self.now }
+    {
+        &self.edit
+    }
+
     /// What the edit does.
     pub fn into_edit(self) -> Edit
         ensures same { result ≡ self }

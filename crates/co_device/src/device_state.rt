@@ -12,9 +12,9 @@ ghost use Rattle.co_device.specs.Device.{without_power};
 ghost use Rattle.co_device.specs.Receiving.{after_frame};
 
 use can_frame::{Contender, Frame, Pending, Waiting};
+use co_base::earlier;
 use co_dict::Dict;
 use co_fields::NmtState;
-use co_base::earlier;
 use co_parts::END;
 use co_sdo::transfer::{self, Transfer};
 use device_objects::{Consumer, Learnt, Shapes, same_consumers};

@@ -88,8 +88,7 @@ fn has_valid_pdo(shape: &Shape, dict: &Dict, object: u16) -> bool
     ensures { result ≡ has_valid_pdo shape.now dict.now object }
 {
     let communication = object - MAPPING_OFFSET;
-    shape.has_unsigned32(communication, 1)
-        && CobId::of(dict.number_32(communication, 1)).is_valid()
+    shape.has_unsigned32(communication, 1) && CobId::of(dict.number_32(communication, 1)).is_valid()
 }
 
 /// Whether the mapping of a mapping object is in force.

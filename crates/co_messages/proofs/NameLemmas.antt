@@ -3,7 +3,7 @@ use Rattle.std.proofs.Common.{◌≡◌, ℕ, Vec, sym, ◌∙◌, List, [], ◌
 use Rattle.std.proofs.Common.{Some, None, inl, inr, refl, ap, subst}
 use Rattle.std.specs.declared.cmp.Ordering.{Ordering}
 use Rattle.std.specs.declared.cmp.Ordering.TheVariants.{Less}
-use Rattle.std.specs.List.{AllByRecursion}
+use Rattle.std.specs.List.{AllByRecursion, AllZip}
 use Rattle.std.specs.List.Sorted.{IsStrictlySortedBy}
 use Rattle.std.specs.Map.{lookup, keys_of}
 use Rattle.std.specs.BTreeMap.{is_at}
@@ -129,3 +129,13 @@ module _ {A X : Type 0} where
   -- and as many
   pub values_counted : (es : List (Vec ℕ A × X)) → IsStrictlySortedBy key_cmp (keys_of es) → len (made es) ≡ length es
   values_counted es h = len_made nat_list_cmp_total exact_bytes (by_name es) (in_order es h) ∙ length-by_name es
+
+  -- a copy of a tree, name by name and value by value, is the same by name
+  pub by_name_copied : (C : Vec ℕ A → Vec ℕ A → Type 0) (D : X → X → Type 0)
+      → ((k q : Vec ℕ A) → C k q → q.items ≡ k.items) → ((v w : X) → D v w → w ≡ v) → (es fs : List (Vec ℕ A × X))
+      → AllZip (λ e f. C e.0 f.0 × D e.1 f.1) es fs → by_name fs ≡ by_name es
+  by_name_copied C D names values [] [] h = refl
+  by_name_copied C D names values [] (f ∷ fs) h = absurd h
+  by_name_copied C D names values (e ∷ es) [] h = absurd h
+  by_name_copied C D names values (e ∷ es) (f ∷ fs) h = λ i.
+      (names e.0 f.0 h.0.0 i, values e.1 f.1 h.0.1 i) ∷ by_name_copied C D names values es fs h.1 i

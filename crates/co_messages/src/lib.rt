@@ -1,6 +1,7 @@
 //! The messages of a project: the signals that nodes send to one another.
 #![tactic(auto)]
 
+mod comparing;
 mod linked;
 mod message;
 mod messages;

@@ -1,11 +1,12 @@
 //! A message with its sources and sinks.
 
-ghost use Rattle.std.specs.Prelude.{◌≡◌};
+ghost use Rattle.std.specs.Prelude.{◌≡◌, ◌↔◌, IsTrue};
 ghost use Rattle.co_messages.specs.Messages.{is_of_message};
 
 use crate::message::Message;
 use crate::sinks::Sinks;
 use crate::sources::Sources;
+use std::alloc::AllocError;
 
 /// A message with the entries that it carries, and those that take them.
 #[derive(Drop)]
@@ -24,5 +25,29 @@ impl Linked {
         ensures { result ≡ is_of_message node self.now }
     {
         self.message.node == node || self.sinks.has_node(node)
+    }
+
+    /// Whether the other message is sent in the same way, with the same sources and sinks. Takes time
+    /// by their number, and no memory.
+    pub fn same(&self, other: &Linked) -> bool
+        ensures { IsTrue result ↔ (self.now ≡ other.now) }
+    {
+        self.message == other.message
+            && self.sources.same(&other.sources)
+            && self.sinks.same(&other.sinks)
+    }
+}
+
+impl Clone for Linked {
+    ghost is_clone = { λ a b. b ≡ a };
+
+    fn clone(&self) -> Result<Linked, AllocError> {
+        let sources = self.sources.clone()?;
+        let sinks = self.sinks.clone()?;
+        Ok(Linked {
+            message: self.message,
+            sources,
+            sinks,
+        })
     }
 }

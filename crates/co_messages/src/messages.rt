@@ -1,5 +1,5 @@
 //! The messages of a project.
-ghost use Rattle.std.specs.Prelude.{◌≡◌, ◌==◌, true, All, IfSome, None, OnOk, OnErr, false};
+ghost use Rattle.std.specs.Prelude.{◌≡◌, ◌==◌, true, All, IfOk, IfSome, None, OnOk, OnErr, false};
 ghost use Rattle.std.specs.FinMap as map;
 ghost use Rattle.std.specs.Option.{option_copied};
 ghost use Rattle.co_base.specs.Ranges.{is_between, AreIndices};
@@ -50,6 +50,14 @@ impl Messages {
         Messages {
             linked: BTreeMap::new(alloc),
         }
+    }
+
+    /// Equal messages. Takes time and memory by their number and that of their sources and sinks.
+    pub fn copy(&self) -> Result<Messages, AllocError>
+        ensures { IfOk result (λ messages. messages ≡ self.now) }
+    {
+        let linked = self.linked.clone()?;
+        Ok(Messages { linked })
     }
 
     /// The number of messages.

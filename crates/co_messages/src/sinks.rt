@@ -1,5 +1,5 @@
 //! The sinks of a message.
-ghost use Rattle.std.specs.Prelude.{◌≡◌, [], OnOk, OnErr, None, ◌==◌};
+ghost use Rattle.std.specs.Prelude.{◌≡◌, ◌↔◌, [], IsTrue, OnOk, OnErr, None, ◌==◌};
 ghost use Rattle.std.specs.List.{list_any};
 ghost use Rattle.std.specs.Map.{remove_entry};
 ghost use Rattle.std.specs.BTreeMap.{insert_entry, is_at};
@@ -57,6 +57,23 @@ impl Sinks {
         self.iter().any(|((_, taker), _)| *taker == node)
     }
 
+    /// Whether the others have the same entries at the same positions and nodes. Takes time by their
+    /// number, and no memory.
+    pub fn same(&self, other: &Sinks) -> bool
+        ensures { IsTrue result ↔ (self.now ≡ other.now) }
+    {
+        let mut others = other.iter();
+        for (seat, place) in self.iter() {
+            let Some((other_seat, other_place)) = others.next() else {
+                return false;
+            };
+            if *seat != *other_seat || *place != *other_place {
+                return false;
+            }
+        }
+        others.next().is_none()
+    }
+
     /// Gives a position an entry of a node, in place of the one that it has there. Want of memory
     /// changes nothing, and can come only where it has none.
     pub fn put(&mut self, position: u8, node: u8, index: u16, sub: u8) -> Result<(), AllocError>
@@ -73,5 +90,15 @@ impl Sinks {
         ensures { self.new ≡ remove_entry (is_at (seat_cmp (position, node))) self.old }
     {
         self.entries.remove(&(position, node));
+    }
+}
+
+impl Clone for Sinks {
+    ghost is_clone = { λ a b. b ≡ a };
+
+    fn clone(&self) -> Result<Sinks, AllocError> {
+        Ok(Sinks {
+            entries: self.entries.clone()?,
+        })
     }
 }

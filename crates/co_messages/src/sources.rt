@@ -1,5 +1,5 @@
 //! The sources of a message.
-ghost use Rattle.std.specs.Prelude.{◌≡◌, [], OnOk, OnErr, None};
+ghost use Rattle.std.specs.Prelude.{◌≡◌, ◌↔◌, [], IsTrue, OnOk, OnErr, None};
 ghost use Rattle.std.specs.Map.{remove_entry};
 ghost use Rattle.std.specs.BTreeMap.{insert_entry, is_at};
 ghost use Rattle.std.specs.Option.{option_copied};
@@ -49,6 +49,23 @@ impl Sources {
         self.entries.iter()
     }
 
+    /// Whether the others have the same entries at the same positions. Takes time by their number, and
+    /// no memory.
+    pub fn same(&self, other: &Sources) -> bool
+        ensures { IsTrue result ↔ (self.now ≡ other.now) }
+    {
+        let mut others = other.iter();
+        for (position, place) in self.iter() {
+            let Some((other_position, other_place)) = others.next() else {
+                return false;
+            };
+            if *position != *other_position || *place != *other_place {
+                return false;
+            }
+        }
+        others.next().is_none()
+    }
+
     /// Gives a position an entry, in place of the one that stands there. Want of memory changes
     /// nothing, and can come only where none stands.
     pub fn put(&mut self, position: u8, index: u16, sub: u8) -> Result<(), AllocError>
@@ -65,5 +82,15 @@ impl Sources {
         ensures { self.new ≡ remove_entry (is_at (nat_cmp position)) self.old }
     {
         self.entries.remove(&position);
+    }
+}
+
+impl Clone for Sources {
+    ghost is_clone = { λ a b. b ≡ a };
+
+    fn clone(&self) -> Result<Sources, AllocError> {
+        Ok(Sources {
+            entries: self.entries.clone()?,
+        })
     }
 }

@@ -1,5 +1,5 @@
 //! The parameters of a node.
-ghost use Rattle.std.specs.Prelude.{◌≡◌, ◌==◌, None, OnOk, OnErr, option_copied};
+ghost use Rattle.std.specs.Prelude.{◌≡◌, ◌↔◌, ◌==◌, IsTrue, None, IfOk, OnOk, OnErr, option_copied};
 ghost use Rattle.std.specs.FinMap as map;
 ghost use Rattle.co_params.specs.Params.{is_full_for};
 
@@ -31,6 +31,22 @@ impl Model for Params {
     ghost view = { λ params. map.from_entries params.texts.entries };
 }
 
+/// Whether the same entries have the same texts.
+fn same_texts(a: &Params, b: &Params) -> bool
+    ensures { IsTrue result ↔ (map.entries a.now ≡ map.entries b.now) }
+{
+    let mut others = b.iter();
+    for (place, text) in a.iter() {
+        let Some((other_place, other)) = others.next() else {
+            return false;
+        };
+        if *place != *other_place || text.as_slice() != other.as_slice() {
+            return false;
+        }
+    }
+    others.next().is_none()
+}
+
 impl Params {
     /// No parameters.
     pub fn new(alloc: Global) -> Self
@@ -39,6 +55,23 @@ impl Params {
         Params {
             texts: BTreeMap::new(alloc),
         }
+    }
+
+    /// Equal parameters. Takes time and memory by the length of their texts.
+    pub fn copy(&self) -> Result<Params, AllocError>
+        ensures { IfOk result (λ params. params ≡ self.now) }
+    {
+        Ok(Params {
+            texts: self.texts.clone()?,
+        })
+    }
+
+    /// Whether the others have the same texts at the same entries. Takes time by the length of the
+    /// texts up to the first difference, and no memory.
+    pub fn same(&self, other: &Params) -> bool
+        ensures { IsTrue result ↔ (self.now ≡ other.now) }
+    {
+        same_texts(self, other)
     }
 
     /// The number of parameters.

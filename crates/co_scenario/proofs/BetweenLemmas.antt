@@ -146,7 +146,7 @@ rise events first last = keys_rise moment_cmp (entries (moments_between first la
 
 module _ (first last : ℕ) (q : ℕ × ℕ) where
   -- whether an event has this time, and the time lies between
-  abbrev fits : Option TimedEvent → Bool
+  abbrev pub fits : Option TimedEvent → Bool
   fits None = false
   fits (Some event) = (event.time == q.0) && is_between first last q.0
 
@@ -209,7 +209,7 @@ module _ (first last : ℕ) (q : ℕ × ℕ) where
           ∙ rest
 
   -- the list has this moment exactly where the number has an event with this time that lies between
-  listed : (events : Events) → list_any (eq_by_cmp moment_cmp q) (events_between first last events)
+  pub listed : (events : Events) → list_any (eq_by_cmp moment_cmp q) (events_between first last events)
       ≡ fits (get events q.1)
   unfolding events_between moments_between
   listed events =

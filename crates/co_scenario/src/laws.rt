@@ -1,6 +1,6 @@
 //! Laws of scenarios.
 
-ghost use Rattle.std.specs.Prelude.{◌≡◌, ◌≢◌, ◌↔◌, ℕ, Contains, Some, None};
+ghost use Rattle.std.specs.Prelude.{◌≡◌, ◌≢◌, ◌↔◌, ◌≤◌, ◌+◌, ◌++◌, ℕ, Contains, Some, None};
 ghost use Rattle.std.specs.FinMap as map;
 ghost use Rattle.std.specs.List.Sorted.{IsStrictlySortedBy};
 ghost use Rattle.co_scenario.specs.Scenario.{events_between, moment_cmp, Events, HasEventBetween};
@@ -44,4 +44,12 @@ pub fn events_between_are_those_of_the_times()
 /// The events between two times rise by time, and those of one time by number.
 pub fn events_between_rise()
     ensures { (events : Events) (first last : ℕ) → IsStrictlySortedBy moment_cmp (events_between first last events) }
+{}
+
+/// The events between two times are those up to a time, which lies between them or just before the
+/// first, and then the others.
+pub fn events_between_are_those_up_to_a_time_and_then_the_others()
+    ensures { (events : Events) (first middle last : ℕ) → first ≤ middle + 1 → middle ≤ last
+        → events_between first last events
+        ≡ events_between first middle events ++ events_between (middle + 1) last events }
 {}

@@ -10,4 +10,4 @@ mod write;
 pub use decoding::decode;
 pub use encoding::encode;
 pub use fault::ConciseFault;
-pub use write::Write;
+pub use write::{Write, same_writes};

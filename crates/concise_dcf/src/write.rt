@@ -1,5 +1,5 @@
 //! A write to a dictionary.
-ghost use Rattle.std.specs.Prelude.{◌≡◌};
+ghost use Rattle.std.specs.Prelude.{◌≡◌, ◌↔◌, IsTrue};
 
 use co_base::Octets;
 use std::alloc::AllocError;
@@ -32,4 +32,32 @@ impl Clone for Write {
             bytes,
         })
     }
+}
+
+impl Write {
+    /// Whether the other write gives the same data to the same entry. Takes time by the length of the
+    /// data, and no memory.
+    pub fn same(&self, other: &Write) -> bool
+        ensures { IsTrue result ↔ (self.now ≡ other.now) }
+    {
+        self.index == other.index
+            && self.sub == other.sub
+            && self.bytes.as_slice() == other.bytes.as_slice()
+    }
+}
+
+/// Whether lists have the same writes in the same order. Takes time by the length of their data up to
+/// the first difference, and no memory.
+pub fn same_writes(a: &[Write], b: &[Write]) -> bool
+    ensures { IsTrue result ↔ (a.now ≡ b.now) }
+{
+    if a.len() != b.len() {
+        return false;
+    }
+    for i in 0..a.len() {
+        if !a[i].same(&b[i]) {
+            return false;
+        }
+    }
+    true
 }

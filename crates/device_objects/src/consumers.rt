@@ -8,9 +8,9 @@ ghost use Rattle.device_objects.specs.Consumers.{consumers_after_write, expects,
 ghost use Rattle.device_objects.specs.Consumers.{consumer_after_heartbeat, moments};
 
 use crate::consumer::{CONSUMER_HEARTBEAT_TIME, Consumer};
+use co_base::{earlier, is_due};
 use co_dict::{Dict, Shape};
 use co_fields::ConsumerHeartbeatTime;
-use co_base::{earlier, is_due};
 use co_parts::END;
 use std::alloc::{AllocError, Global};
 

@@ -7,9 +7,9 @@ ghost use Rattle.device_objects.specs.Profile.{sync_identifier as identifier_of_
 
 use crate::learnt::Learnt;
 use can_frame::identifiers;
+use co_base::moment_after;
 use co_dict::Dict;
 use co_fields::CobId;
-use co_base::moment_after;
 use co_parts::END;
 use std::alloc::AllocError;
 

@@ -8,8 +8,8 @@ ghost use Rattle.device_pdos.specs.Tpdos.{tpdos_of as tpdos_now, tpdos_after_wri
 use crate::numbers::{LAST_PDO, number_of_object};
 use crate::tpdo_state::TpdoState;
 use can_frame::Pending;
-use co_dict::{Dict, Shape};
 use co_base::earlier;
+use co_dict::{Dict, Shape};
 use co_pdos::{Configuration, Tpdo, is_pdo, tpdo_object};
 use std::alloc::{AllocError, Global};
 

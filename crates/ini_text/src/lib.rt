@@ -1,6 +1,7 @@
 //! INI text, as EDS and DCF files use it.
 #![tactic(auto)]
 
+mod comparing;
 mod fault;
 mod ini;
 pub mod laws;
@@ -12,6 +13,7 @@ mod section;
 mod table;
 mod text;
 
+pub use comparing::same_sections;
 pub use fault::IniFault;
 pub use ini::Ini;
 pub use pair::Pair;

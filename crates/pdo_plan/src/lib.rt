@@ -3,6 +3,7 @@
 
 mod carried;
 mod clean;
+mod comparing;
 mod consumed;
 mod consumer;
 mod faults;

@@ -1,0 +1,107 @@
+-- Parts that are brought up to date one after another.
+use Rattle.std.proofs.Common.{◌≡◌, ℕ, ◌+◌, inl, inr, Bool, true, false, ◌||◌, List, [], ◌∷◌, ◌++◌, Option, Some, None}
+use Rattle.std.proofs.Common.{if◌then◌else◌, ◌==◌, refl, sym, ap, ◌∙◌, subst, arith, zero-add}
+use borrow.Author.Tests.{eqb-true}
+use Rattle.std.specs.List.{list_any}
+use Rattle.std.specs.Option.{option_map}
+use Rattle.std.proofs.lemmas.List.Folds.{list_any-append}
+use Rattle.co_memo.specs.At.{at}
+use Rattle.co_memo.specs.Work.{Work, Refreshes}
+use Rattle.co_memo.specs.Stale.{settled, Counts, IsOneMore, AreBrought}
+
+one_more_of : (P : Type 0) (k n m : ℕ) → IsOneMore P k n → IsOneMore P (k + m) (n + m)
+one_more_of P k n m h = elim h [
+  | inl x ↦ inl (x.0, omega (arith, x.1))
+  | inr x ↦ inr (x.0, omega (arith, x.1))
+]
+
+module _ {N V : Type 0} (same : N → N → Bool) (now : N → V) where
+  chosen_twice : (s t : Bool) (x y : V) → (if s || t then x else y) ≡ (if t then x else if s then x else y)
+  chosen_twice true true x y = refl
+  chosen_twice true false x y = refl
+  chosen_twice false true x y = refl
+  chosen_twice false false x y = refl
+
+  -- parts and then further ones are all of them
+  pub settled-append : (ps qs : List N) (held : N → V)
+      → settled same now (ps ++ qs) held ≡ settled same now qs (settled same now ps held)
+  settled-append ps qs held = λ i q.
+      let e : (if list_any (same q) (ps ++ qs) then now q else held q)
+      ≡ (if list_any (same q) qs then now q else if list_any (same q) ps then now q else held q)
+      = ap (λ b. if b then now q else held q) (list_any-append (same q) ps qs)
+      ∙ chosen_twice (list_any (same q) ps) (list_any (same q) qs) (now q) (held q) in
+      e i
+
+  pub counts-append : (ps qs : List N) (held : N → V) (n m : ℕ) → Counts same now ps held n
+      → Counts same now qs (settled same now ps held) m → Counts same now (ps ++ qs) held (n + m)
+  counts-append [] qs held n m a b =
+      subst (Counts same now qs held) (sym (zero-add m) ∙ ap (λ k. k + m) (sym a)) b
+  counts-append (p ∷ ps) qs held n m a b =
+      let here = settled same now (p ∷ []) held in
+      let rest = subst (λ (h : N → V). Counts same now qs h m) (settled-append (p ∷ []) ps held) b in
+      (a.0 + m, one_more_of (held p ≡ now p) a.0 n m a.1, counts-append ps qs here a.0 m a.2 rest)
+
+  pub both : (ps qs : List N) (a b c : N → V) (k m n : Work) → AreBrought same now ps a b k m
+      → AreBrought same now qs b c m n → AreBrought same now (ps ++ qs) a c k n
+  both ps qs a b c k m n x y =
+      record {
+        settled_is = y.settled_is ∙ ap (settled same now qs) x.settled_is ∙ sym (settled-append ps qs a);
+        segments_stay = y.segments_stay ∙ x.segments_stay;
+        counted = (
+          x.counted.0 + y.counted.0,
+          counts-append ps qs a x.counted.0 y.counted.0 x.counted.1
+              (subst (λ (h : N → V). Counts same now qs h y.counted.0) x.settled_is y.counted.1),
+          omega (arith, x.counted.2, y.counted.2),
+        );
+      }
+
+  -- no parts
+  pub none : (a : N → V) (m : Work) → AreBrought same now [] a a m m
+  none a m = record { settled_is = refl; segments_stay = refl; counted = (0, refl, omega arith) }
+
+  or_false : (b : Bool) (x y : V) → (if b || false then x else y) ≡ (if b then x else y)
+  or_false true x y = refl
+  or_false false x y = refl
+
+  -- one part
+  pub one : (p : N) (a b : N → V) (m n : Work) → ((q : N) → b q ≡ (if same q p then now q else a q))
+      → Refreshes (a p ≡ now p) m n → AreBrought same now (p ∷ []) a b m n
+  one p a b m n stands refreshes =
+      record {
+        settled_is = λ i q. (stands q ∙ sym (or_false (same q p) (now q) (a q))) i;
+        segments_stay = refreshes.0;
+        counted = elim refreshes.1 [
+          | inl current ↦ (0, (0, inl (current.0, refl), refl), omega (arith, current.1))
+          | inr stale ↦ (1, (0, inr (stale.0, refl), refl), stale.1)
+        ];
+      }
+
+-- the same is counted where two facts say that a part is current
+pub refreshes_as : (P Q : Type 0) (m n : Work) → (P → Q) → (Q → P) → Refreshes P m n → Refreshes Q m n
+refreshes_as P Q m n to from r =
+    (r.0, elim r.1 [ inl x ↦ inl (to x.0, x.1) | inr x ↦ inr (λ q. x.0 (from q), x.1) ])
+
+pub option_map_back : {X G : Type 0} (make : X → G) → ((x y : X) → make x ≡ make y → x ≡ y) → (a b : Option X)
+    → option_map make a ≡ option_map make b → a ≡ b
+option_map_back make inj None None e = refl
+option_map_back make inj None (Some y) e = cc
+option_map_back make inj (Some x) None e = cc
+option_map_back make inj (Some x) (Some y) e = let f : make x ≡ make y = cc in ap Some (inj x y f)
+
+-- the same is counted of what is held by its kind
+pub refreshes_kind : {X G : Type 0} (make : X → G) → ((x y : X) → make x ≡ make y → x ≡ y) → (a b : Option X)
+    (m n : Work) → Refreshes (a ≡ b) m n → Refreshes (option_map make a ≡ option_map make b) m n
+refreshes_kind make inj a b m n r = refreshes_as (a ≡ b) (option_map make a ≡ option_map make b) m n
+    (λ e. ap (option_map make) e) (option_map_back make inj a b) r
+
+chosen_at : {X G : Type 0} (make : X → G) (b : Bool) (x y z : Option X) → (b ≡ true → x ≡ y)
+    → option_map make (if b then x else z) ≡ (if b then option_map make y else option_map make z)
+chosen_at make true x y z e = ap (option_map make) (e refl)
+chosen_at make false x y z e = refl
+
+-- one number of a shelf is brought up to date
+pub shelf_stands : {X G : Type 0} (make : X → G) (key : ℕ) (now : ℕ → Option X) (old new : List (ℕ × X))
+    → ((q : ℕ) → at new q ≡ (if q == key then now key else at old q)) → (q : ℕ)
+    → option_map make (at new q) ≡ (if q == key then option_map make (now q) else option_map make (at old q))
+shelf_stands make key now old new h q = ap (option_map make) (h q)
+    ∙ chosen_at make (q == key) (now key) (now q) (at old q) (λ e. ap now (sym (eqb-true q key e)))

@@ -1,0 +1,4 @@
+pub mod Tests
+pub mod Brought
+pub mod CountLemmas
+pub mod Flags

@@ -1,0 +1,72 @@
+//! A value that several hold.
+ghost use Rattle.std.specs.Prelude.{◌≡◌, IfOk};
+ghost use Rattle.std.specs.Option.{option_copied};
+
+use std::alloc::{AllocError, Global};
+use std::marker::Model;
+use std::rc::Rc;
+
+/// A handle on a value that several hold. Contracts see the value alone, whichever the handle.
+///
+/// The value goes with the last handle. No handle can change it.
+#[derive(Drop)]
+pub struct Shared<T> {
+    rc: Rc<T>,
+}
+
+impl<T> Model for Shared<T> {
+    ghost Value = { T };
+
+    ghost view = { λ s. s.rc.value };
+}
+
+impl<T: Drop> Shared<T> {
+    /// The first handle on a value. Takes memory for the value itself and two counts; want of it is the
+    /// only error.
+    pub fn new(alloc: Global, value: T) -> Result<Shared<T>, AllocError>
+        ensures { IfOk result (λ s. s ≡ value) }
+    {
+        Ok(Shared {
+            rc: Rc::new(alloc, value)?,
+        })
+    }
+
+    /// The value. Takes constant time.
+    pub fn get(&self) -> &T
+        ensures { result.now ≡ self.now }
+    {
+        &self.rc
+    }
+
+    /// Another handle on the same value. Takes constant time and no memory; the only error is that the
+    /// count of handles is full.
+    pub fn share(&self) -> Result<Shared<T>, AllocError>
+        ensures { IfOk result (λ s. s ≡ self.now) }
+    {
+        let rc = self.rc.clone()?;
+        Ok(Shared { rc })
+    }
+
+    /// Another pointer to the same value, which counts as a handle. Takes constant time and no memory;
+    /// the only error is that the count of handles is full.
+    pub fn pointer(&self) -> Result<Rc<T>, AllocError>
+        ensures { IfOk result (λ rc. rc.value ≡ self.now) }
+    {
+        let rc = self.rc.clone()?;
+        Ok(rc)
+    }
+}
+
+/// Another handle on the same value, if there is one. Takes constant time and no memory; the only error
+/// is that the count of handles is full.
+pub fn share_of<T: Drop>(value: Option<&Shared<T>>) -> Result<Option<Shared<T>>, AllocError>
+    ensures { IfOk result (λ v. v ≡ option_copied value.entry) }
+{
+    match value {
+        Some(value) => {
+            let value = value.share()?;
+            Ok(Some(value))
+        }
+        None => Ok(None),
+    }
+}

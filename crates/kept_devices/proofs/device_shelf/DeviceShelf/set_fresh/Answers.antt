@@ -1,0 +1,18 @@
+use Rattle.std.proofs.Common.{refl, ◌∙◌}
+use Rattle.kept_devices.specs.declared.device_slot.DeviceSlot.{DeviceSlot}
+use Rattle.kept_devices.proofs.SlotLemmas.{none_marked, slot_marked, slots_stay}
+use Rattle.kept_devices.proofs.device_shelf.DeviceShelf.set_fresh.Goals as goal
+
+pub returns-in_default : goal.returns-in_default
+returns-in_default c =
+    slots_stay c.self.inside.slots c.args.self.now c.self.view_is c.get_mut.follows.lender-at-none
+    c.get_mut.follows.holds-at-none
+    ∙ none_marked c.self.inside.slots c.args.self.now c.self.view_is c.args.name.now c.args.fresh
+    c.in_default.ensures.value
+
+pub returns : goal.returns
+returns c =
+    let old = c.in-Some.slot.now in
+    let new : DeviceSlot = record old { fresh = c.args.fresh } in
+    slot_marked c.self.inside.slots c.args.self.now c.self.view_is (c.get_mut.follows.lender new) c.args.name.now old
+    c.in-Some.ensures.value c.args.fresh new refl (c.get_mut.follows.holds new)

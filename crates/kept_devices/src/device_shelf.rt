@@ -1,0 +1,162 @@
+//! The devices of EDS, by name.
+ghost use Rattle.std.specs.Prelude.{◌≡◌, ◌↔◌, ℕ, List, IsTrue, true, false, None, Some, Ok, OnOk, OnErr, cond};
+ghost use Rattle.std.specs.Prelude.{option_copied, option_map};
+ghost use Rattle.std.specs.FinMap as map;
+ghost use Rattle.std.specs.Ordering.{eq_by_cmp};
+ghost use Rattle.eds_device.specs.Faults.{device_of};
+ghost use Rattle.ini_text.specs.Content.{content_of};
+ghost use Rattle.co_messages.specs.Messages.{name_cmp};
+ghost use Rattle.co_project.specs.Tables.{text_at};
+ghost use Rattle.co_memo.specs.Work.{Refreshes};
+ghost use Rattle.kept_devices.specs.Slots.{fresh_at, fresh_slot, text_kept, with_fresh};
+
+use crate::device_slot::DeviceSlot;
+use crate::eds_text::keep_device;
+use co_memo::{Meter, Shared};
+use co_project::Project;
+use eds_device::Device;
+use std::alloc::{AllocError, Global};
+use std::collections::BTreeMap;
+use std::marker::Model;
+
+/// The devices of EDS by the names of these, each with its text and a mark. A call takes time by the
+/// logarithm of their number.
+#[derive(Drop)]
+pub struct DeviceShelf {
+    slots: BTreeMap<Vec<u8>, DeviceSlot>,
+}
+
+impl Model for DeviceShelf {
+    ghost use Rattle.std.specs.Coded.{coded_ℕ, coded_list};
+    ghost use Rattle.std.specs.FinMap as map;
+    ghost use Rattle.co_messages.specs.Messages.{by_name};
+    ghost use Rattle.kept_devices.specs.Slots.{Slots};
+    ghost use Rattle.kept_devices.specs.contracts.device_slot.DeviceSlot as slot;
+
+    ghost Value = { Slots };
+
+    ghost coded = { map.code (coded_list coded_ℕ) slot.the_row.coded };
+
+    ghost view = { λ s. map.from_entries (by_name s.slots.entries) };
+}
+
+impl DeviceShelf {
+    pub fn new(alloc: Global) -> DeviceShelf
+        ensures { result ≡ map.empty }
+    {
+        DeviceShelf {
+            slots: BTreeMap::new(alloc),
+        }
+    }
+
+    fn get(&self, name: &[u8]) -> Option<&DeviceSlot>
+        ensures { option_copied result ≡ map.get self.now name.now }
+    {
+        self.slots.get(name)
+    }
+
+    fn put(&mut self, name: Vec<u8>, slot: DeviceSlot) -> Result<(), AllocError>
+        ensures ok { OnOk result (self.new ≡ map.insert self.old name.items slot) }
+        ensures err { OnErr result (self.new ≡ self.old) }
+    {
+        self.slots.insert(name, slot)?;
+        Ok(())
+    }
+
+    fn remove(&mut self, name: &[u8])
+        ensures { self.new ≡ map.remove self.old name.now }
+    {
+        self.slots.remove(name);
+    }
+
+    /// Sets or takes the mark of a name, if a text is kept under it.
+    fn set_fresh(&mut self, name: &[u8], fresh: bool)
+        ensures { self.new ≡ with_fresh self.old name.now fresh }
+    {
+        let Some(slot) = self.slots.get_mut(name) else {
+            return;
+        };
+        slot.fresh = fresh;
+    }
+
+    /// The text of a name may be another one now.
+    pub fn mark(&mut self, name: &[u8])
+        ensures { self.new ≡ with_fresh self.old name.now false }
+    {
+        self.set_fresh(name, false);
+    }
+
+    /// The device of a name that is kept.
+    pub fn value(&self, name: &[u8]) -> Option<&Shared<Device>>
+        ensures { option_copied result ≡ option_map content_of (text_kept self.now name.now) }
+    {
+        match self.get(name) {
+            Some(slot) => Some(slot.kept.value()),
+            None => None,
+        }
+    }
+
+    pub fn is_fresh(&self, name: &[u8]) -> bool
+        ensures { result ≡ fresh_at self.now name.now }
+    {
+        match self.get(name) {
+            Some(slot) => slot.fresh,
+            None => false,
+        }
+    }
+
+    fn has_text(&self, name: &[u8], text: &[u8]) -> bool
+        ensures { IsTrue result ↔ (text_kept self.now name.now ≡ Some text.now) }
+    {
+        match self.get(name) {
+            Some(slot) => slot.kept.inputs().as_slice() == text,
+            None => false,
+        }
+    }
+
+    /// Reads the text of a name, and keeps its device.
+    fn read(&mut self, alloc: Global, name: &[u8], text: &[u8]) -> Result<(), AllocError>
+        requires { device_of text.now ≡ Ok (content_of text.now) }
+        ensures ok { OnOk result (self.new ≡ map.insert self.old name.now (fresh_slot text.now)) }
+        ensures err { OnErr result (self.new ≡ self.old) }
+    {
+        let kept = keep_device(alloc, text)?;
+        let name = Vec::from_slice(alloc, name)?;
+        self.put(name, DeviceSlot { kept, fresh: true })
+    }
+
+    /// Reads the text that a project has under a name anew if it is another one, and lets the device
+    /// go if there is none. A name without a mark takes no look at the text, the same text time by
+    /// its length, and another one time and memory by its length and its logarithm.
+    pub fn bring(
+        &mut self,
+        alloc: Global,
+        project: &Project,
+        name: &[u8],
+        meter: &mut Meter,
+    ) -> Result<(), AllocError>
+        requires { fresh_at self.old name.now ≡ true
+            → text_kept self.old name.now ≡ text_at project.now.texts name.now }
+        ensures ok { OnOk result ((q : List ℕ) → map.get self.new q
+            ≡ cond (eq_by_cmp name_cmp q name.now)
+            (option_map fresh_slot (text_at project.now.texts name.now)) (map.get self.old q)) }
+        ensures err { OnErr result (self.new ≡ self.old) }
+        ensures counted { OnOk result (Refreshes
+            (text_kept self.old name.now ≡ text_at project.now.texts name.now) meter.old meter.new) }
+    {
+        if self.is_fresh(name) {
+            return Ok(());
+        }
+        let Some(text) = project.text(name) else {
+            self.remove(name);
+            return Ok(());
+        };
+        if self.has_text(name, text) {
+            self.set_fresh(name, true);
+            return Ok(());
+        }
+        self.read(alloc, name, text)?;
+        meter.refreshed();
+        Ok(())
+    }
+}

@@ -1,0 +1,12 @@
+//! A device that is kept.
+
+use crate::eds_text::EdsText;
+use co_memo::{Kept, Shared};
+use eds_device::Device;
+
+/// A device with its text, and whether that is known to be the text of now.
+#[derive(Drop)]
+pub struct DeviceSlot {
+    pub kept: Kept<EdsText, Shared<Device>>,
+    pub fresh: bool,
+}

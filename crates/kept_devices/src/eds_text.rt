@@ -1,0 +1,76 @@
+//! The text of a device.
+ghost use Rattle.std.specs.Prelude.{◌≡◌, IfOk, Ok};
+ghost use Rattle.eds_device.specs.Faults.{device_of};
+ghost use Rattle.ini_text.specs.Content.{content_of};
+
+use co_base::Octets;
+use co_memo::{Kept, Makes, Shared};
+use eds_device::{Device, DeviceFault};
+use std::alloc::{AllocError, Global};
+use std::marker::Model;
+
+/// An EDS text (CiA 306) that describes a device: what a device is built from.
+#[derive(Drop)]
+pub struct EdsText {
+    text: Octets,
+}
+
+impl Model for EdsText {
+    ghost use Rattle.std.specs.Prelude.{◌≡◌, ℕ, List, Ok};
+    ghost use Rattle.eds_device.specs.Faults.{device_of};
+    ghost use Rattle.ini_text.specs.Content.{content_of};
+
+    ghost Value = { List ℕ };
+
+    ghost view = { λ t. t.text };
+
+    ghost invariant = { λ t. device_of t.text ≡ Ok (content_of t.text) };
+}
+
+impl EdsText {
+    /// A copy of a text that describes a device. Takes time and memory by its length; want of memory
+    /// is the only error.
+    pub fn of(alloc: Global, text: &[u8]) -> Result<EdsText, AllocError>
+        requires { device_of text.now ≡ Ok (content_of text.now) }
+        ensures { IfOk result (λ t. t ≡ text.now) }
+    {
+        let text = Octets::from_slice(alloc, text)?;
+        Ok(EdsText { text })
+    }
+
+    /// The text.
+    pub fn as_slice(&self) -> &[u8]
+        ensures { result.now ≡ self.now }
+    {
+        self.text.as_slice()
+    }
+}
+
+impl Makes<Shared<Device>> for EdsText {
+    ghost use Rattle.ini_text.specs.Content.{content_of};
+
+    ghost made = { content_of };
+}
+
+/// Reads the text of a device.
+fn read_device(alloc: Global, text: &[u8]) -> Result<Device, AllocError>
+    requires { device_of text.now ≡ Ok (content_of text.now) }
+    ensures { IfOk result (λ device. device ≡ content_of text.now) }
+{
+    match Device::read(alloc, text) {
+        Ok(device) => Ok(device),
+        Err(DeviceFault::Memory) => Err(AllocError),
+        Err(_fault) => unreachable!(),
+    }
+}
+
+/// The device of a text, with the text.
+pub fn keep_device(alloc: Global, text: &[u8]) -> Result<Kept<EdsText, Shared<Device>>, AllocError>
+    requires { device_of text.now ≡ Ok (content_of text.now) }
+    ensures { IfOk result (λ kept. kept ≡ text.now) }
+{
+    let inputs = EdsText::of(alloc, text)?;
+    let device = read_device(alloc, text)?;
+    let device = Shared::new(alloc, device)?;
+    Ok(Kept::new(inputs, device))
+}

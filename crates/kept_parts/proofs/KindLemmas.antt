@@ -1,0 +1,263 @@
+-- Each kind of part, brought up to date.
+use Rattle.std.proofs.Common.{◌≡◌, ◌⊎◌, inl, inr, ℕ, Bool, true, false, ◌||◌, cond, List, [], ◌∷◌, Option, Some, None}
+use Rattle.std.proofs.Common.{◌∙◌, if◌then◌else◌, ◌==◌, refl, sym, ap, subst, option_map}
+use Rattle.std.specs.FinMap.{get}
+use Rattle.std.specs.Option.{option_map_or}
+use Rattle.std.specs.Cmp.{tied_itself}
+use Rattle.std.specs.Ordering.{eq_by_cmp, is_eq}
+use Rattle.std.proofs.lemmas.Cmp.{nat_list_cmp_total}
+use Rattle.std.proofs.lemmas.Map.Lookups.{exact_bytes}
+use Rattle.co_base.proofs.TableLemmas.{alike}
+use Rattle.co_messages.specs.Messages.{name_cmp}
+use Rattle.co_project.specs.Project.{Content as Project}
+use Rattle.co_project.specs.Tables.{text_at}
+use Rattle.co_memo.specs.Work.{Work, Refreshes}
+use Rattle.co_memo.specs.Shelved.{is_fresh, kept_at, Shelved, Single}
+use Rattle.co_memo.specs.Stale.{AreBrought}
+use Rattle.co_memo.proofs.Brought.{one, option_map_back, refreshes_kind, shelf_stands}
+use Rattle.kept_devices.specs.Slots.{fresh_at, fresh_slot, text_kept, Slots}
+use Rattle.kept_parts.specs.Kept.{concise_from, dcf_from, fresh, given, held, plan_from, same_part, writes_from}
+use Rattle.kept_parts.specs.Kept.{IsOf, OfConcise, OfDcf, OfDevice, OfPlan, OfWrites}
+use Rattle.kept_devices.specs.declared.device_slot.DeviceSlot.{DeviceSlot}
+use Rattle.kept_parts.specs.declared.plan_from.PlanFrom.{PlanFrom}
+use Rattle.kept_parts.specs.declared.writes_from.WritesFrom.{WritesFrom}
+use Rattle.kept_parts.specs.declared.concise_from.ConciseFrom.{ConciseFrom}
+use Rattle.kept_parts.specs.declared.dcf_from.DcfFrom.{DcfFrom}
+use Rattle.kept_parts.specs.declared.part.Part.{Part}
+use Rattle.kept_parts.specs.declared.part.Part.TheVariants as part
+use Rattle.kept_parts.specs.declared.kept_parts.KeptParts.{KeptParts}
+use Rattle.kept_devices.proofs.SlotLemmas.{StandsAt}
+
+or_true : (s t : Bool) → (s || t) ≡ true → (s ≡ true) ⊎ (t ≡ true)
+or_true true t h = inl refl
+or_true false t h = inr h
+
+-- at one number of a shelf stands this, and the others stay; none of these loses its mark
+abbrev pub KeptAt : {X : Type 0} → ℕ → Option X → Shelved X → Shelved X → Type 0
+KeptAt key now old new = (q : ℕ) → kept_at new q ≡ (if q == key then now else kept_at old q)
+
+abbrev pub FreshAt : {X : Type 0} → ℕ → Shelved X → Shelved X → Type 0
+FreshAt key old new = (q : ℕ) → is_fresh new q ≡ (q == key || is_fresh old q)
+
+module _ (p : Project) where
+  -- one part is brought up to date, and no other loses its mark
+  abbrev pub Stands : Part → KeptParts → KeptParts → Type 0
+  Stands named old new = (q : Part) → held new q ≡ (if same_part q named then given p q else held old q)
+
+  abbrev pub NoOther : Part → KeptParts → KeptParts → Type 0
+  NoOther named old new = (q : Part) → fresh new q ≡ true → (same_part q named ≡ true) ⊎ (fresh old q ≡ true)
+
+  pub is_of_after : (named : Part) (old new : KeptParts) → IsOf p old → Stands named old new → NoOther named old new
+      → IsOf p new
+  unfolding IsOf
+  is_of_after named old new is stands other q unmarked = stands q ∙ by (same_part q named) refl (other q unmarked)
+    where
+      by : (t : Bool) → same_part q named ≡ t → (same_part q named ≡ true) ⊎ (fresh old q ≡ true)
+          → (if t then given p q else held old q) ≡ given p q
+      by true same o = refl
+      by false apart (inl same) = cc
+      by false apart (inr unmarked) = is q unmarked
+
+  module _ (h : KeptParts) (is : IsOf p h) where
+    -- what has no mark is built from the inputs of now
+    pub device_now : (name : List ℕ) → fresh_at h.devices name ≡ true
+        → text_kept h.devices name ≡ text_at p.texts name
+    unfolding IsOf
+    device_now name unmarked =
+        option_map_back OfDevice (λ x y e. cc) (text_kept h.devices name) (text_at p.texts name)
+        (is (part.Device name) unmarked)
+
+    pub plan_now : h.plan.fresh ≡ true → h.plan.kept ≡ Some (plan_from p)
+    unfolding IsOf
+    plan_now unmarked = option_map_back OfPlan (λ x y e. cc) h.plan.kept (Some (plan_from p)) (is part.Plan unmarked)
+
+    pub writes_now : (n : ℕ) → is_fresh h.writes n ≡ true → kept_at h.writes n ≡ writes_from p n
+    unfolding IsOf
+    writes_now n unmarked =
+        option_map_back OfWrites (λ x y e. cc) (kept_at h.writes n) (writes_from p n) (is (part.Writes n) unmarked)
+
+    pub concise_now : (n : ℕ) → is_fresh h.concise n ≡ true → kept_at h.concise n ≡ concise_from p n
+    unfolding IsOf
+    concise_now n unmarked =
+        option_map_back OfConcise (λ x y e. cc) (kept_at h.concise n) (concise_from p n) (is (part.Concise n) unmarked)
+
+    pub dcf_now : (n : ℕ) → is_fresh h.dcf n ≡ true → kept_at h.dcf n ≡ dcf_from p n
+    unfolding IsOf
+    dcf_now n unmarked =
+        option_map_back OfDcf (λ x y e. cc) (kept_at h.dcf n) (dcf_from p n) (is (part.Dcf n) unmarked)
+
+    -- ---- a device
+
+    module _ (name : List ℕ) (new : Slots)
+        (s : StandsAt h.devices name new (option_map fresh_slot (text_at p.texts name))) where
+      abbrev with_devices : KeptParts
+      with_devices = record h { devices = new }
+
+      abbrev slot_text : Option DeviceSlot → Option (List ℕ)
+      slot_text o = option_map (λ (s : DeviceSlot). s.kept) o
+
+      abbrev slot_fresh : Option DeviceSlot → Bool
+      slot_fresh o = option_map_or (λ (s : DeviceSlot). s.fresh) o false
+
+      kept_fresh : (o : Option (List ℕ)) → slot_text (option_map fresh_slot o) ≡ o
+      kept_fresh None = refl
+      kept_fresh (Some text) = refl
+
+      text_stands : (q : List ℕ) → text_kept new q
+          ≡ (if eq_by_cmp name_cmp q name then text_at p.texts q else text_kept h.devices q)
+      text_stands q = ap slot_text (s q) ∙ by (eq_by_cmp name_cmp q name) refl
+        where
+          by : (t : Bool) → eq_by_cmp name_cmp q name ≡ t
+              → slot_text (cond t (option_map fresh_slot (text_at p.texts name)) (get h.devices q))
+              ≡ (if t then text_at p.texts q else text_kept h.devices q)
+          by true same =
+              kept_fresh (text_at p.texts name)
+              ∙ ap (text_at p.texts) (sym (alike nat_list_cmp_total exact_bytes q name same))
+          by false other = refl
+
+      chosen : (t : Bool) (x y : Option (List ℕ))
+          → option_map OfDevice (if t then x else y) ≡ (if t then option_map OfDevice x else option_map OfDevice y)
+      chosen true x y = refl
+      chosen false x y = refl
+
+      device_stands : Stands (part.Device name) h with_devices
+      device_stands (part.Device q) =
+          ap (option_map OfDevice) (text_stands q)
+          ∙ chosen (eq_by_cmp name_cmp q name) (text_at p.texts q) (text_kept h.devices q)
+      device_stands q = refl
+
+      device_other : NoOther (part.Device name) h with_devices
+      device_other (part.Device q) unmarked = by (eq_by_cmp name_cmp q name) refl
+        where
+          by : (t : Bool) → eq_by_cmp name_cmp q name ≡ t
+              → (eq_by_cmp name_cmp q name ≡ true) ⊎ (fresh_at h.devices q ≡ true)
+          by true same = inl same
+          by false apart =
+              inr (sym (ap slot_fresh (s q
+              ∙ ap (λ t. cond t (option_map fresh_slot (text_at p.texts name)) (get h.devices q)) apart)) ∙ unmarked)
+      device_other q unmarked = inr unmarked
+
+      pub device_is_of : IsOf p with_devices
+      device_is_of = is_of_after (part.Device name) h with_devices is device_stands device_other
+
+      pub device_brought : (m n : Work) → Refreshes (text_kept h.devices name ≡ text_at p.texts name) m n
+          → AreBrought same_part (given p) (part.Device name ∷ []) (held h) (held with_devices) m n
+      device_brought m n r =
+          one same_part (given p) (part.Device name) (held h) (held with_devices) m n device_stands
+          (refreshes_kind OfDevice (λ x y e. cc) (text_kept h.devices name) (text_at p.texts name) m n r)
+
+      pub device_value : text_kept new name ≡ text_at p.texts name
+      device_value =
+          text_stands name ∙ by (eq_by_cmp name_cmp name name) (ap is_eq (tied_itself nat_list_cmp_total name))
+        where
+          by : (t : Bool) → t ≡ true
+              → (if t then text_at p.texts name else text_kept h.devices name) ≡ text_at p.texts name
+          by true e = refl
+          by false e = cc
+
+    -- ---- the plan
+
+    module _ (new : Single PlanFrom) (now : PlanFrom) (s : new ≡ record { kept = Some now; fresh = true })
+        (e : now ≡ plan_from p) where
+      abbrev with_plan : KeptParts
+      with_plan = record h { plan = new }
+
+      plan_stands : Stands part.Plan h with_plan
+      plan_stands part.Plan =
+          ap (λ (x : Single PlanFrom). option_map OfPlan x.kept) s ∙ ap (λ f. Some (OfPlan f)) e
+      plan_stands q = refl
+
+      plan_other : NoOther part.Plan h with_plan
+      plan_other part.Plan unmarked = inl refl
+      plan_other q unmarked = inr unmarked
+
+      pub plan_is_of : IsOf p with_plan
+      plan_is_of = is_of_after part.Plan h with_plan is plan_stands plan_other
+
+      pub plan_brought : (m n : Work) → Refreshes (h.plan.kept ≡ Some now) m n
+          → AreBrought same_part (given p) (part.Plan ∷ []) (held h) (held with_plan) m n
+      plan_brought m n r =
+          one same_part (given p) part.Plan (held h) (held with_plan) m n plan_stands
+          (refreshes_kind OfPlan (λ x y e. cc) h.plan.kept (Some (plan_from p)) m n
+          (subst (λ (x : PlanFrom). Refreshes (h.plan.kept ≡ Some x) m n) e r))
+
+    -- ---- the writes of a node
+
+    module _ (key : ℕ) (new : Shelved WritesFrom) (now : Option WritesFrom) (e : now ≡ writes_from p key)
+        (s : KeptAt key now h.writes new) (f : FreshAt key h.writes new) where
+      abbrev with_writes : KeptParts
+      with_writes = record h { writes = new }
+
+      writes_stands : Stands (part.Writes key) h with_writes
+      writes_stands (part.Writes q) =
+          shelf_stands OfWrites key (writes_from p) h.writes.kept new.kept
+          (subst (λ (x : Option WritesFrom). KeptAt key x h.writes new) e s) q
+      writes_stands q = refl
+
+      writes_other : NoOther (part.Writes key) h with_writes
+      writes_other (part.Writes q) unmarked = or_true (q == key) (is_fresh h.writes q) (sym (f q) ∙ unmarked)
+      writes_other q unmarked = inr unmarked
+
+      pub writes_is_of : IsOf p with_writes
+      writes_is_of = is_of_after (part.Writes key) h with_writes is writes_stands writes_other
+
+      pub writes_brought : (m n : Work) → Refreshes (kept_at h.writes key ≡ now) m n
+          → AreBrought same_part (given p) (part.Writes key ∷ []) (held h) (held with_writes) m n
+      writes_brought m n r =
+          one same_part (given p) (part.Writes key) (held h) (held with_writes) m n writes_stands
+          (refreshes_kind OfWrites (λ x y e. cc) (kept_at h.writes key) (writes_from p key) m n
+          (subst (λ (x : Option WritesFrom). Refreshes (kept_at h.writes key ≡ x) m n) e r))
+
+    -- ---- the concise DCF of a node
+
+    module _ (key : ℕ) (new : Shelved ConciseFrom) (now : Option ConciseFrom) (e : now ≡ concise_from p key)
+        (s : KeptAt key now h.concise new) (f : FreshAt key h.concise new) where
+      abbrev with_concise : KeptParts
+      with_concise = record h { concise = new }
+
+      concise_stands : Stands (part.Concise key) h with_concise
+      concise_stands (part.Concise q) =
+          shelf_stands OfConcise key (concise_from p) h.concise.kept new.kept
+          (subst (λ (x : Option ConciseFrom). KeptAt key x h.concise new) e s) q
+      concise_stands q = refl
+
+      concise_other : NoOther (part.Concise key) h with_concise
+      concise_other (part.Concise q) unmarked = or_true (q == key) (is_fresh h.concise q) (sym (f q) ∙ unmarked)
+      concise_other q unmarked = inr unmarked
+
+      pub concise_is_of : IsOf p with_concise
+      concise_is_of = is_of_after (part.Concise key) h with_concise is concise_stands concise_other
+
+      pub concise_brought : (m n : Work) → Refreshes (kept_at h.concise key ≡ now) m n
+          → AreBrought same_part (given p) (part.Concise key ∷ []) (held h) (held with_concise) m n
+      concise_brought m n r =
+          one same_part (given p) (part.Concise key) (held h) (held with_concise) m n concise_stands
+          (refreshes_kind OfConcise (λ x y e. cc) (kept_at h.concise key) (concise_from p key) m n
+          (subst (λ (x : Option ConciseFrom). Refreshes (kept_at h.concise key ≡ x) m n) e r))
+
+    -- ---- the DCF of a node
+
+    module _ (key : ℕ) (new : Shelved DcfFrom) (now : Option DcfFrom) (e : now ≡ dcf_from p key)
+        (s : KeptAt key now h.dcf new) (f : FreshAt key h.dcf new) where
+      abbrev with_dcf : KeptParts
+      with_dcf = record h { dcf = new }
+
+      dcf_stands : Stands (part.Dcf key) h with_dcf
+      dcf_stands (part.Dcf q) =
+          shelf_stands OfDcf key (dcf_from p) h.dcf.kept new.kept
+          (subst (λ (x : Option DcfFrom). KeptAt key x h.dcf new) e s) q
+      dcf_stands q = refl
+
+      dcf_other : NoOther (part.Dcf key) h with_dcf
+      dcf_other (part.Dcf q) unmarked = or_true (q == key) (is_fresh h.dcf q) (sym (f q) ∙ unmarked)
+      dcf_other q unmarked = inr unmarked
+
+      pub dcf_is_of : IsOf p with_dcf
+      dcf_is_of = is_of_after (part.Dcf key) h with_dcf is dcf_stands dcf_other
+
+      pub dcf_brought : (m n : Work) → Refreshes (kept_at h.dcf key ≡ now) m n
+          → AreBrought same_part (given p) (part.Dcf key ∷ []) (held h) (held with_dcf) m n
+      dcf_brought m n r =
+          one same_part (given p) (part.Dcf key) (held h) (held with_dcf) m n dcf_stands
+          (refreshes_kind OfDcf (λ x y e. cc) (kept_at h.dcf key) (dcf_from p key) m n
+          (subst (λ (x : Option DcfFrom). Refreshes (kept_at h.dcf key ≡ x) m n) e r))

@@ -1,0 +1,70 @@
+-- Steps of bringing parts up to date, as they are written.
+use Rattle.std.proofs.Common.{◌≡◌, ℕ, List, [], ◌∷◌, Option, Some, None, refl, ap, ◌∙◌, subst, option_map}
+use Rattle.std.specs.Option.{option_map_or}
+use Rattle.concise_dcf.specs.declared.write.Write.{Write}
+use Rattle.ini_text.specs.Content.{Content as Device}
+use Rattle.co_messages.specs.Messages.{Named}
+use Rattle.co_project.specs.declared.node.Node.{Node}
+use Rattle.co_project.specs.Project.{Content as Project}
+use Rattle.co_project.specs.Tables.{node_at}
+use Rattle.co_memo.specs.Work.{Work}
+use Rattle.co_memo.specs.Stale.{AreBrought}
+use Rattle.kept_parts.specs.Written.{AreValuesOf, Written}
+use Rattle.kept_parts.specs.Made.{writes_made, written_made}
+use Rattle.kept_parts.specs.Offered.{concise_by}
+use Rattle.kept_parts.specs.Kept.{concise_from, given, held, own_device, plan_from, same_part, writes_from}
+use Rattle.kept_parts.specs.declared.plan_from.PlanFrom.{PlanFrom}
+use Rattle.kept_parts.specs.declared.concise_from.ConciseFrom.{ConciseFrom}
+use Rattle.kept_parts.specs.declared.writes_from.WritesFrom.{WritesFrom}
+use Rattle.kept_parts.specs.declared.part.Part.{Part}
+use Rattle.kept_parts.specs.declared.part.Part.TheVariants as part
+use Rattle.kept_parts.specs.declared.kept_parts.KeptParts.{KeptParts}
+
+module _ (p : Project) (a b : KeptParts) (m n : Work) where
+  abbrev pub Brings : List Part → Type 0
+  Brings parts = AreBrought same_part (given p) parts (held a) (held b) m n
+
+  pub named_so : (name eds : List ℕ) → name ≡ eds → Brings (part.Device name ∷ []) → Brings (part.Device eds ∷ [])
+  named_so name eds same brings = subst (λ (e : List ℕ). Brings (part.Device e ∷ [])) same brings
+
+  pub own_brought : (id : ℕ) (node : Node) (name : List ℕ) → Some node ≡ node_at p.nodes id → name ≡ node.eds
+      → Brings (part.Device name ∷ []) → Brings (own_device p id)
+  own_brought id node name there same brings =
+      subst (λ (o : Option Node). Brings (option_map_or (λ (node : Node). part.Device node.eds ∷ []) o [])) there
+      (named_so name node.eds same brings)
+
+-- ---- the plan
+
+abbrev pub from_both : List (ℕ × Device) → Named → PlanFrom
+from_both devices messages = record { devices = devices; messages = messages }
+
+pub both_are : (p : Project) (devices : List (ℕ × Device)) (messages : Named) → devices ≡ (plan_from p).devices
+    → messages ≡ p.messages → from_both devices messages ≡ plan_from p
+both_are p devices messages d m =
+    ap (λ (ds : List (ℕ × Device)). from_both ds messages) d
+    ∙ ap (λ (ms : Named). from_both (plan_from p).devices ms) m
+
+-- ---- the writes of a node
+
+-- writes that are values of the entries of one device are such of the same device
+pub values_of : (d e : Device) (ws vs : List Write) → d ≡ e → ws ≡ vs → AreValuesOf d ws → AreValuesOf e vs
+values_of d e ws vs same alike are =
+    subst (λ (ws : List Write). AreValuesOf e ws) alike (subst (λ (d : Device). AreValuesOf d ws) same are)
+
+-- what is shown of writes that are kept with their device
+pub writes_shown : (from : Option WritesFrom) (written : Option Written) → written ≡ option_map written_made from
+    → option_map (λ (w : Written). w.writes) written ≡ option_map writes_made from
+writes_shown None written is = ap (option_map (λ (w : Written). w.writes)) is
+writes_shown (Some from) written is = ap (option_map (λ (w : Written). w.writes)) is
+
+-- ---- the files of a node
+
+pub writes_are : (p : Project) (id : ℕ) (now : Option ConciseFrom) (written : Option Written)
+    → now ≡ option_map concise_by written → written ≡ option_map written_made (writes_from p id)
+    → now ≡ concise_from p id
+writes_are p id now written is are = is ∙ ap (option_map concise_by) are ∙ by (writes_from p id)
+  where
+    by : (o : Option WritesFrom) → option_map concise_by (option_map written_made o)
+        ≡ option_map (λ w. record { writes = writes_made w }) o
+    by None = refl
+    by (Some w) = refl

@@ -1,0 +1,29 @@
+use Rattle.std.proofs.Common.{[], ◌∷◌, option_map, sym, ◌∙◌}
+use Rattle.co_memo.proofs.Brought.{both}
+use Rattle.kept_parts.specs.Kept.{for_writes, given, held, same_part}
+use Rattle.kept_parts.specs.Offered.{offered_dcf}
+use Rattle.kept_parts.specs.declared.part.Part.TheVariants as part
+use Rattle.kept_parts.proofs.KindLemmas.{dcf_brought, dcf_is_of, dcf_now}
+use Rattle.kept_parts.proofs.kept_parts.KeptParts.bring_dcf.Goals as goal
+
+pub bring-requires : goal.bring-requires
+bring-requires c = λ unmarked.
+    dcf_now c.args.project.now c.bring_writes.new.self c.in_ok-written.ensures.is_of c.args.node unmarked
+    ∙ sym c.of-now.ensures
+
+pub returns-clause-is_of : goal.returns-clause-is_of
+returns-clause-is_of c =
+    dcf_is_of c.args.project.now c.bring_writes.new.self c.in_ok-written.ensures.is_of c.args.node
+    c.bring.new.self (option_map offered_dcf c.of-now.result) c.of-now.ensures
+    c.in_ok-bring.ensures.ok c.in_ok-bring.ensures.fresh
+
+pub returns-clause-brings : goal.returns-clause-brings
+returns-clause-brings c =
+    let p = c.args.project.now in
+    let key = c.args.node in
+    let first = c.bring_writes.new in
+    both same_part (given p) (for_writes p key) (part.Dcf key ∷ []) (held c.args.self.now) (held first.self) _
+    c.args.meter.now first.meter c.bring.new.meter c.in_ok-written.ensures.brings
+    (dcf_brought p first.self c.in_ok-written.ensures.is_of key c.bring.new.self
+    (option_map offered_dcf c.of-now.result) c.of-now.ensures c.in_ok-bring.ensures.ok c.in_ok-bring.ensures.fresh
+    first.meter c.bring.new.meter c.in_ok-bring.ensures.counted)

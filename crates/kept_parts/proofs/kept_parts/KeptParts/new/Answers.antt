@@ -1,0 +1,6 @@
+use Rattle.kept_parts.proofs.CurrentLemmas.{all_marked}
+use Rattle.kept_parts.proofs.kept_parts.KeptParts.new.Goals as goal
+
+pub returns : goal.returns
+returns c =
+    all_marked _ c.new.ensures c.new-2.ensures.fresh c.new-3.ensures.fresh c.new-4.ensures.fresh c.new-5.ensures.fresh

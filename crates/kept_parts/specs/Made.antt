@@ -1,0 +1,36 @@
+-- What parts are, by the inputs that they are built from.
+use Rattle.std.specs.Prelude.{ℕ, List, map}
+use Rattle.std.specs.FinMap.{entries}
+use Rattle.ini_text.specs.Change.{text_of}
+use Rattle.concise_dcf.specs.declared.write.Write.{Write}
+use Rattle.concise_dcf.specs.Concise.{text_of as concise_text}
+use Rattle.eds_dcf.specs.Dcf.{dcf_sections}
+use Rattle.pdo_stations.specs.Devices.{devices_of}
+use Rattle.pdo_plan.specs.declared.planned_message.PlannedMessage.{PlannedMessage}
+use Rattle.pdo_plan.specs.Plan.{plan_of}
+use Rattle.pdo_links.specs.Writes.{node_writes}
+use Rattle.kept_parts.specs.declared.plan_from.PlanFrom.{PlanFrom}
+use Rattle.kept_parts.specs.declared.writes_from.WritesFrom.{WritesFrom}
+use Rattle.kept_parts.specs.declared.concise_from.ConciseFrom.{ConciseFrom}
+use Rattle.kept_parts.specs.declared.dcf_from.DcfFrom.{DcfFrom}
+use Rattle.kept_parts.specs.Written.{Written}
+
+-- the plan of the messages over the devices of the nodes
+unfoldable pub plan_made : PlanFrom → List PlannedMessage
+plan_made f = plan_of (devices_of (map (λ d. (d.0, d.1.sections)) f.devices)) (entries f.messages)
+
+-- the writes of a node
+unfoldable pub writes_made : WritesFrom → List Write
+writes_made f = node_writes f.plan f.params f.device.sections f.node
+
+-- and its device with them
+abbrev pub written_made : WritesFrom → Written
+written_made f = record { device = f.device; writes = writes_made f }
+
+-- the concise DCF (CiA 302) of a node
+unfoldable pub concise_made : ConciseFrom → List ℕ
+concise_made f = concise_text f.writes
+
+-- the DCF (CiA 306) of a node
+unfoldable pub dcf_made : DcfFrom → List ℕ
+dcf_made f = text_of (dcf_sections f.device.sections f.node f.name f.rate f.writes)

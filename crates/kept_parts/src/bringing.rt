@@ -1,0 +1,195 @@
+//! Parts that are brought up to date, one after what it is built from.
+ghost use Rattle.std.specs.Prelude.{◌≡◌, ◌∷◌, [], OnOk, IfOk, map, option_map, option_and_then, filter_map};
+ghost use Rattle.std.specs.FinMap as finmap;
+ghost use Rattle.co_memo.specs.Stale.{AreBrought};
+ghost use Rattle.co_project.specs.Tables.{node_at};
+ghost use Rattle.kept_parts.specs.Kept.{device_at, for_plan, for_writes, given, held, numbered, of_node, own_device};
+ghost use Rattle.kept_parts.specs.Kept.{plan_from, reached, same_part, writes_from, IsOf};
+ghost use Rattle.kept_parts.specs.Made.{plan_made, written_made};
+
+use crate::concise_now::ConciseNow;
+use crate::dcf_now::DcfNow;
+use crate::device_writes::{DeviceWrites, share_written};
+use crate::kept_parts::KeptParts;
+use crate::node_devices::NodeDevices;
+use crate::part::Part;
+use crate::plan_now::PlanNow;
+use crate::writes_now::WritesNow;
+use co_memo::{Meter, Shared, share_of};
+use co_project::Project;
+use eds_device::Device;
+use pdo_plan::Plan;
+use std::alloc::AllocError;
+
+impl KeptParts {
+    /// Brings the device of an EDS up to date, and shares it.
+    pub(crate) fn bring_device(
+        &mut self,
+        project: &Project,
+        name: &[u8],
+        meter: &mut Meter,
+    ) -> Result<Option<Shared<Device>>, AllocError>
+        requires { IsOf project.now self.old }
+        ensures is_of { IsOf project.now self.new }
+        ensures brings { OnOk result (AreBrought same_part (given project.now) (Part.Device name.now ∷ [])
+            (held self.old) (held self.new) meter.old meter.new) }
+        ensures value { IfOk result (λ d. d ≡ device_at project.now name.now) }
+    {
+        self.devices.bring(self.alloc, project, name, meter)?;
+        let device = share_of(self.devices.value(name))?;
+        Ok(device)
+    }
+
+    /// Brings the devices of all nodes up to date, and lists them.
+    fn bring_devices(
+        &mut self,
+        project: &Project,
+        meter: &mut Meter,
+    ) -> Result<NodeDevices, AllocError>
+        requires { IsOf project.now self.old }
+        ensures is_of { IsOf project.now self.new }
+        ensures brings { OnOk result (AreBrought same_part (given project.now)
+            (map of_node (finmap.entries project.now.nodes))
+            (held self.old) (held self.new) meter.old meter.new) }
+        ensures value { IfOk result (λ d. d ≡ filter_map (numbered project.now) (finmap.entries project.now.nodes)) }
+    {
+        let mut devices = NodeDevices::new(self.alloc);
+        for (number, node) in project.nodes() {
+            let device = self.bring_device(project, node.eds.as_slice(), meter)?;
+            devices.push(*number, device)?;
+        }
+        Ok(devices)
+    }
+
+    /// Brings the plan up to date, and shares it.
+    fn bring_plan(
+        &mut self,
+        project: &Project,
+        meter: &mut Meter,
+    ) -> Result<Shared<Plan>, AllocError>
+        requires { IsOf project.now self.old }
+        ensures is_of { IsOf project.now self.new }
+        ensures brings { OnOk result (AreBrought same_part (given project.now) (for_plan project.now)
+            (held self.old) (held self.new) meter.old meter.new) }
+        ensures value { IfOk result (λ p. p ≡ plan_made (plan_from project.now)) }
+    {
+        let devices = self.bring_devices(project, meter)?;
+        let messages = project.messages();
+        self.plan
+            .bring(self.alloc, PlanNow { devices, messages }, meter)?;
+        let Some(plan) = share_of(self.plan.value())? else {
+            unreachable!();
+        };
+        Ok(plan)
+    }
+
+    /// Brings the device of a node up to date, and shares it.
+    fn bring_own_device(
+        &mut self,
+        project: &Project,
+        node: u8,
+        meter: &mut Meter,
+    ) -> Result<Option<Shared<Device>>, AllocError>
+        requires { IsOf project.now self.old }
+        ensures is_of { IsOf project.now self.new }
+        ensures brings { OnOk result (AreBrought same_part (given project.now) (own_device project.now node)
+            (held self.old) (held self.new) meter.old meter.new) }
+        ensures value { IfOk result (λ d. d
+            ≡ option_and_then (λ n. device_at project.now n.eds) (node_at project.now.nodes node)) }
+    {
+        match project.node(node) {
+            Some(known) => {
+                let device = self.bring_device(project, known.eds.as_slice(), meter)?;
+                Ok(device)
+            }
+            None => Ok(None),
+        }
+    }
+
+    /// Brings the writes of a node up to date, and shares them with its device.
+    fn bring_writes(
+        &mut self,
+        project: &Project,
+        node: u8,
+        meter: &mut Meter,
+    ) -> Result<Option<DeviceWrites>, AllocError>
+        requires { IsOf project.now self.old }
+        ensures is_of { IsOf project.now self.new }
+        ensures brings { OnOk result (AreBrought same_part (given project.now) (for_writes project.now node)
+            (held self.old) (held self.new) meter.old meter.new) }
+        ensures value { IfOk result (λ w. w ≡ option_map written_made (writes_from project.now node)) }
+    {
+        let plan = self.bring_plan(project, meter)?;
+        let device = self.bring_own_device(project, node, meter)?;
+        let now = WritesNow::of(project, node, plan, device);
+        self.writes.bring(self.alloc, node, now, meter)?;
+        let written = share_written(self.writes.value(node))?;
+        Ok(written)
+    }
+
+    /// Brings the concise DCF of a node up to date.
+    fn bring_concise(
+        &mut self,
+        project: &Project,
+        node: u8,
+        meter: &mut Meter,
+    ) -> Result<(), AllocError>
+        requires { IsOf project.now self.old }
+        ensures is_of { IsOf project.now self.new }
+        ensures brings { OnOk result (AreBrought same_part (given project.now) (reached project.now (Part.Concise node))
+            (held self.old) (held self.new) meter.old meter.new) }
+    {
+        let written = self.bring_writes(project, node, meter)?;
+        let now = ConciseNow::of(written);
+        self.concise.bring(self.alloc, node, now, meter)?;
+        Ok(())
+    }
+
+    /// Brings the DCF of a node up to date.
+    fn bring_dcf(
+        &mut self,
+        project: &Project,
+        node: u8,
+        meter: &mut Meter,
+    ) -> Result<(), AllocError>
+        requires { IsOf project.now self.old }
+        ensures is_of { IsOf project.now self.new }
+        ensures brings { OnOk result (AreBrought same_part (given project.now) (reached project.now (Part.Dcf node))
+            (held self.old) (held self.new) meter.old meter.new) }
+    {
+        let written = self.bring_writes(project, node, meter)?;
+        let now = DcfNow::of(project, node, written);
+        self.dcf.bring(self.alloc, node, now, meter)?;
+        Ok(())
+    }
+
+    /// Brings a part, and all that it is built from, up to date.
+    pub(crate) fn bring(
+        &mut self,
+        part: &Part,
+        project: &Project,
+        meter: &mut Meter,
+    ) -> Result<(), AllocError>
+        requires { IsOf project.now self.old }
+        ensures is_of { IsOf project.now self.new }
+        ensures brings { OnOk result (AreBrought same_part (given project.now) (reached project.now part.now)
+            (held self.old) (held self.new) meter.old meter.new) }
+    {
+        match part {
+            Part::Device(name) => {
+                self.bring_device(project, name.as_slice(), meter)?;
+                Ok(())
+            }
+            Part::Plan => {
+                self.bring_plan(project, meter)?;
+                Ok(())
+            }
+            Part::Writes(node) => {
+                self.bring_writes(project, *node, meter)?;
+                Ok(())
+            }
+            Part::Concise(node) => self.bring_concise(project, *node, meter),
+            Part::Dcf(node) => self.bring_dcf(project, *node, meter),
+        }
+    }
+}

@@ -1,0 +1,18 @@
+//! What the concise DCF of a node is built from.
+
+use crate::node_writes::NodeWrites;
+use co_base::Octets;
+use co_memo::{Makes, Shared};
+
+/// The writes of a node.
+#[derive(Drop)]
+pub struct ConciseFrom {
+    /// The writes in their order.
+    pub writes: Shared<NodeWrites>,
+}
+
+impl Makes<Shared<Octets>> for ConciseFrom {
+    ghost use Rattle.kept_parts.specs.Made.{concise_made};
+
+    ghost made = { concise_made };
+}

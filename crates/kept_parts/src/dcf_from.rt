@@ -1,0 +1,27 @@
+//! What the DCF of a node is built from.
+
+use crate::node_writes::NodeWrites;
+use co_base::Octets;
+use co_memo::{Makes, Shared};
+use eds_device::Device;
+
+/// The device, the name, the writes and the number of a node, and the bit rate in kbit/s.
+#[derive(Drop)]
+pub struct DcfFrom {
+    /// The device of the node.
+    pub device: Shared<Device>,
+    /// Its name.
+    pub name: Octets,
+    /// The bit rate in kbit/s.
+    pub rate: u16,
+    /// Its writes in their order.
+    pub writes: Shared<NodeWrites>,
+    /// Its number.
+    pub node: u8,
+}
+
+impl Makes<Shared<Octets>> for DcfFrom {
+    ghost use Rattle.kept_parts.specs.Made.{dcf_made};
+
+    ghost made = { dcf_made };
+}
