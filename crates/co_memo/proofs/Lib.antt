@@ -1,4 +1,3 @@
-pub mod Tests
 pub mod Brought
 pub mod CountLemmas
 pub mod Flags
