@@ -1,7 +1,7 @@
 -- Turns in blocks.
-use Rattle.std.proofs.Common.{◌≡◌, ℕ, zero, suc, ◌+◌, ◌*◌, List, [], ◌∷◌, ◌++◌, refl, sym, ap, ◌∙◌, append_assoc}
+use Rattle.std.proofs.Common.{◌≡◌, ℕ, zero, suc, ◌+◌, ◌*◌, List, [], ◌++◌, refl, sym, ap, ◌∙◌, append_assoc}
 use Rattle.std.proofs.Common.{add-zero, zero-add, arith}
-use Rattle.asking.specs.Asking.{Asking, Answer, then_run, outcome, turns}
+use Rattle.asking.specs.Asking.{Asking, then_run, outcome, turns}
 use Rattle.asking.proofs.QuestionLemmas.{outcome_turns}
 
 module _ {N V S L : Type 0} (step : ℕ → S → Asking N V (S × List L)) (image : N → V) where

@@ -1,11 +1,13 @@
 -- Devices by blocks of eight.
-use Rattle.std.proofs.Common.{◌≡◌, ℕ, suc, ◌+◌, ◌-◌, ◌<◌, ◌≤◌, List, [], ◌∷◌, ◌++◌, length, take, drop, get_or, refl}
-use Rattle.std.proofs.Common.{sym, ap, ◌∙◌, append_assoc, length-append, subst, arith}
+use Rattle.std.proofs.Common.{◌≡◌, ℕ, suc, ◌+◌, ◌-◌, ◌<◌, List, [], ◌∷◌, ◌++◌, length, take, drop, get_or, refl}
+use Rattle.std.proofs.Common.{sym, ap, ◌∙◌, append_assoc, subst, arith}
 use Rattle.std.specs.Prelude.{min, OnOk, Result, Ok, Err}
 use Rattle.std.proofs.Math.ListN.{set}
 use Rattle.std.proofs.lemmas.List.{append-nil, drop_all, drop_at, drop_min, length-drop, length-take, take-append-drop}
 use Rattle.std.proofs.lemmas.List.{take_all, take_at, take_min, take_more}
-use Rattle.asking.specs.Asking.{Asking, Seen, after_reads, outcome, reads}
+use Rattle.asking.proofs.RecordLemmas.{asked_in_turn}
+use Rattle.asking.specs.Asking.{Asking, Seen, outcome, reads}
+use Rattle.asking.specs.Record.{IsAsked}
 use Rattle.bus_devices.specs.Blocks.{AreAgendasOf}
 use Rattle.asking.specs.Each.{each}
 use Rattle.asking.proofs.EachLemmas.{outcome_each, reads_each}
@@ -91,10 +93,6 @@ module _ {N V A B : Type 0} (step : A → Asking N V B) where
       ∙ sym (append_assoc (reads (step x) image) (reads (each step xs) image) (reads (each step ys) image))
       ∙ ap (λ (front : List (N × V)). front ++ reads (each step ys) image) (sym (reads_each step x xs image))
 
-  pub followed_append : (xs ys : List A) (seen : Seen N V)
-      → after_reads (each step (xs ++ ys)) seen ≡ after_reads (each step ys) (after_reads (each step xs) seen)
-  followed_append xs ys seen = rw (reads_append xs ys seen.image, ← append_assoc)
-
   pub length_each : (xs : List A) (image : N → V) → length (outcome (each step xs) image) ≡ length xs
   length_each [] image = refl
   length_each (x ∷ xs) image = ap length (outcome_each step x xs image) ∙ ap (λ (n : ℕ). suc n) (length_each xs image)
@@ -113,24 +111,11 @@ module _ (step : Device → Asking Part Content Device) (ds : List Device) where
       ∙ sym (outcome_append step (take 8 ds) (drop 8 ds) image)
       ∙ ap (λ (all : List Device). outcome (each step all) image) split
 
-  pub both_noted : (first second third : Seen Part Content) → second ≡ after_reads (each step (take 8 ds)) first
-      → third ≡ after_reads (each step (drop 8 ds)) second → third ≡ after_reads (each step ds) first
-  both_noted first second third e f =
-      f
-      ∙ ap (after_reads (each step (drop 8 ds))) e
-      ∙ sym (followed_append step (take 8 ds) (drop 8 ds) first)
-      ∙ ap (λ (all : List Device). after_reads (each step all) first) split
-
-  pub both_counted : (image : Image) (first second third : ℕ)
-      → second ≤ first + length (reads (each step (take 8 ds)) image)
-      → third ≤ second + length (reads (each step (drop 8 ds)) image)
-      → third ≤ first + length (reads (each step ds) image)
-  both_counted image first second third e f =
-      let all : reads (each step ds) image ≡ reads (each step (take 8 ds)) image
-      ++ reads (each step (drop 8 ds)) image =
-      ap (λ (xs : List Device). reads (each step xs) image) (sym split)
-      ∙ reads_append step (take 8 ds) (drop 8 ds) image in
-      rw (all, length-append) (omega (arith, e, f))
+  pub both_asked : (a b c : Seen Part Content) (x y z : ℕ) → IsAsked (each step (take 8 ds)) a b x y
+      → IsAsked (each step (drop 8 ds)) b c y z → IsAsked (each step ds) a c x z
+  both_asked a b c x y z = asked_in_turn (each step ds) (each step (take 8 ds)) (each step (drop 8 ds)) a b c x y z
+      (ap (λ (xs : List Device). reads (each step xs) a.image) (sym split)
+      ∙ reads_append step (take 8 ds) (drop 8 ds) a.image)
 
   pub both_agendas : (image : Image) (a : Agenda) (agendas : List Agenda) (block rest : List Device)
       → block ≡ outcome (each step (take 8 ds)) image → rest ≡ outcome (each step (drop 8 ds)) image

@@ -2,8 +2,9 @@
 use Rattle.std.proofs.Common.{◌≡◌, ℕ, ◌<◌, true, List, [], ◌∷◌, Option, refl, sym, ap, ◌∙◌}
 use Rattle.std.specs.Prelude.{IfSome}
 use Rattle.std.specs.List.{AllByRecursion}
-use Rattle.std.proofs.lemmas.List.{append-nil}
-use Rattle.asking.specs.Asking.{Asking, Answer, Seen, bind, after_reads, outcome}
+use Rattle.asking.proofs.RecordLemmas.{asked_none}
+use Rattle.asking.specs.Asking.{Asking, Answer, Seen, bind, outcome}
+use Rattle.asking.specs.Record.{IsAsked}
 use Rattle.asking.specs.Each.{each}
 use Rattle.co_device.specs.Device.{Device}
 use Rattle.co_parts.specs.Contents.{Content, Image}
@@ -32,12 +33,9 @@ module _ (law : NothingHappens) (a : Agenda) (ds : List Device) (t : ℕ) (deliv
   all_idle : each (at_instant t delivered) ds ≡ Answer ds
   all_idle = idle (at_instant t delivered) ds (law a ds t delivered short is asleep)
 
-  nothing_followed : (seen : Seen Part Content) → after_reads {V = Content} (Answer ds) seen ≡ seen
-  nothing_followed seen = rw append-nil refl
-
   pub idle_state : (image : Image) → ds ≡ outcome (each (at_instant t delivered) ds) image
   idle_state image = sym (ap (λ (m : Asking Part Content (List Device)). outcome m image) all_idle)
 
-  pub idle_noted : (seen : Seen Part Content) → seen ≡ after_reads (each (at_instant t delivered) ds) seen
-  idle_noted seen = sym (ap (λ (m : Asking Part Content (List Device)). after_reads m seen) all_idle
-      ∙ nothing_followed seen)
+  pub idle_asked : (seen : Seen Part Content) (asks : ℕ)
+      → IsAsked (each (at_instant t delivered) ds) seen seen asks asks
+  idle_asked seen asks = asked_none (each (at_instant t delivered) ds) ds seen asks all_idle

@@ -1,8 +1,8 @@
 //! What a few devices of a bus do.
 
-ghost use Rattle.std.specs.Prelude.{◌≡◌, ◌<◌, ◌≤◌, ◌+◌, length, OnOk};
-ghost use Rattle.asking.specs.Asking.{after_reads, outcome, reads};
-ghost use Rattle.asking.specs.Record.{BeginsWith};
+ghost use Rattle.std.specs.Prelude.{◌≡◌, ◌<◌, OnOk};
+ghost use Rattle.asking.specs.Asking.{outcome};
+ghost use Rattle.asking.specs.Record.{IsAsked, Lasts};
 ghost use Rattle.bus_devices.specs.Senders.{contends_with as contends, device_lists, is_contender, sender_place};
 ghost use Rattle.asking.specs.Each.{each};
 ghost use Rattle.can_frame.specs.Winner.{contenders, IsWinner};
@@ -39,12 +39,9 @@ pub(crate) fn run_each<P: Shapes>(
     requires { t < END }
     ensures state { OnOk result (devices.new ≡ outcome (each (at_instant t delivery.now) devices.old)
         (P.seen shapes.old).image) }
-    ensures noted { OnOk result (P.seen shapes.new ≡ after_reads (each (at_instant t delivery.now) devices.old)
-        (P.seen shapes.old)) }
-    ensures counted { OnOk result (P.asks shapes.new
-        ≤ P.asks shapes.old + length (reads (each (at_instant t delivery.now) devices.old) (P.seen shapes.old).image)) }
-    ensures kept { (P.seen shapes.new).image ≡ (P.seen shapes.old).image }
-    ensures asked_before { BeginsWith (P.seen shapes.new).asked (P.seen shapes.old).asked }
+    ensures asked { OnOk result (IsAsked (each (at_instant t delivery.now) devices.old)
+        (P.seen shapes.old) (P.seen shapes.new) (P.asks shapes.old) (P.asks shapes.new)) }
+    ensures lasts { Lasts (P.seen shapes.old) (P.seen shapes.new) }
 {
     for device in devices.iter_mut() {
         device.instant(t, delivery, shapes)?;

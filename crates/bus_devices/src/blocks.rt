@@ -1,9 +1,9 @@
 //! Devices by blocks of eight.
 
 ghost use Rattle.std.specs.List.{flat_map, list_any};
-ghost use Rattle.std.specs.Prelude.{false, ◌≡◌, ◌<◌, ◌≤◌, ◌+◌, List, length, min, OnOk};
-ghost use Rattle.asking.specs.Asking.{after_reads, outcome, reads};
-ghost use Rattle.asking.specs.Record.{BeginsWith};
+ghost use Rattle.std.specs.Prelude.{false, ◌≡◌, ◌<◌, List, min, OnOk};
+ghost use Rattle.asking.specs.Asking.{outcome};
+ghost use Rattle.asking.specs.Record.{IsAsked, Lasts};
 ghost use Rattle.bus_devices.specs.Blocks.{AreAgendasOf};
 ghost use Rattle.bus_devices.specs.Senders.{device_lists, sender_place as place_of};
 ghost use Rattle.asking.specs.Each.{each};
@@ -58,12 +58,9 @@ fn run_block<P: Shapes>(
     ensures agenda { OnOk result (IsAgendaOf agenda.new devices.new) }
     ensures state { OnOk result (devices.new ≡ outcome (each (at_instant t delivery.now) devices.old)
         (P.seen shapes.old).image) }
-    ensures noted { OnOk result (P.seen shapes.new ≡ after_reads (each (at_instant t delivery.now) devices.old)
-        (P.seen shapes.old)) }
-    ensures counted { OnOk result (P.asks shapes.new
-        ≤ P.asks shapes.old + length (reads (each (at_instant t delivery.now) devices.old) (P.seen shapes.old).image)) }
-    ensures kept { (P.seen shapes.new).image ≡ (P.seen shapes.old).image }
-    ensures asked_before { BeginsWith (P.seen shapes.new).asked (P.seen shapes.old).asked }
+    ensures asked { OnOk result (IsAsked (each (at_instant t delivery.now) devices.old)
+        (P.seen shapes.old) (P.seen shapes.new) (P.asks shapes.old) (P.asks shapes.new)) }
+    ensures lasts { Lasts (P.seen shapes.old) (P.seen shapes.new) }
 {
     if agenda.sleeps_through(t, delivery) {
         return Ok(());
@@ -86,12 +83,9 @@ pub(crate) fn run_blocks<P: Shapes>(
     ensures agendas { OnOk result (AreAgendasOf agendas.new devices.new) }
     ensures state { OnOk result (devices.new ≡ outcome (each (at_instant t delivery.now) devices.old)
         (P.seen shapes.old).image) }
-    ensures noted { OnOk result (P.seen shapes.new ≡ after_reads (each (at_instant t delivery.now) devices.old)
-        (P.seen shapes.old)) }
-    ensures counted { OnOk result (P.asks shapes.new
-        ≤ P.asks shapes.old + length (reads (each (at_instant t delivery.now) devices.old) (P.seen shapes.old).image)) }
-    ensures kept { (P.seen shapes.new).image ≡ (P.seen shapes.old).image }
-    ensures asked_before { BeginsWith (P.seen shapes.new).asked (P.seen shapes.old).asked }
+    ensures asked { OnOk result (IsAsked (each (at_instant t delivery.now) devices.old)
+        (P.seen shapes.old) (P.seen shapes.new) (P.asks shapes.old) (P.asks shapes.new)) }
+    ensures lasts { Lasts (P.seen shapes.old) (P.seen shapes.new) }
 {
     if agendas.is_empty() {
         return Ok(());

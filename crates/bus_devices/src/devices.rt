@@ -1,9 +1,9 @@
 //! The devices of a bus.
 
-ghost use Rattle.std.specs.Prelude.{◌≡◌, ◌<◌, ◌≤◌, ◌+◌, ◌↔◌, [], length, slice_get, Some, IfOk, IsTrue, OnOk};
+ghost use Rattle.std.specs.Prelude.{◌≡◌, ◌<◌, ◌↔◌, [], length, slice_get, Some, IfOk, IsTrue, OnOk};
 ghost use Rattle.std.specs.List.{flat_map};
-ghost use Rattle.asking.specs.Asking.{after_reads, outcome, reads};
-ghost use Rattle.asking.specs.Record.{BeginsWith};
+ghost use Rattle.asking.specs.Asking.{outcome};
+ghost use Rattle.asking.specs.Record.{IsAsked, Lasts};
 ghost use Rattle.asking.specs.Each.{each};
 ghost use Rattle.bus_devices.specs.Senders.{device_lists, sender_place as place_of, with_sent};
 ghost use Rattle.bus_events.specs.Places.{device_at};
@@ -106,13 +106,9 @@ impl Devices {
         requires { t < END }
         ensures state { OnOk result (self.new ≡ outcome (each (at_instant t delivery.now) self.old)
             (P.seen shapes.old).image) }
-        ensures noted { OnOk result (P.seen shapes.new ≡ after_reads (each (at_instant t delivery.now) self.old)
-            (P.seen shapes.old)) }
-        ensures counted { OnOk result (P.asks shapes.new
-            ≤ P.asks shapes.old + length (reads (each (at_instant t delivery.now) self.old)
-            (P.seen shapes.old).image)) }
-        ensures kept { (P.seen shapes.new).image ≡ (P.seen shapes.old).image }
-        ensures asked_before { BeginsWith (P.seen shapes.new).asked (P.seen shapes.old).asked }
+        ensures asked { OnOk result (IsAsked (each (at_instant t delivery.now) self.old)
+            (P.seen shapes.old) (P.seen shapes.new) (P.asks shapes.old) (P.asks shapes.new)) }
+        ensures lasts { Lasts (P.seen shapes.old) (P.seen shapes.new) }
     {
         if !self.known {
             plan(&mut self.agendas, &self.devices)?;

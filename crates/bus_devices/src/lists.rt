@@ -1,8 +1,8 @@
 //! The devices of a network as the power comes on.
 
-ghost use Rattle.std.specs.Prelude.{◌≡◌, ◌≤◌, ◌+◌, ◌↔◌, false, true, length, map, IfOk, IsTrue, OnOk};
-ghost use Rattle.asking.specs.Asking.{after_reads, outcome, reads};
-ghost use Rattle.asking.specs.Record.{BeginsWith};
+ghost use Rattle.std.specs.Prelude.{◌≡◌, ◌↔◌, false, true, map, IfOk, IsTrue, OnOk};
+ghost use Rattle.asking.specs.Asking.{outcome};
+ghost use Rattle.asking.specs.Record.{IsAsked, Lasts};
 ghost use Rattle.asking.specs.Each.{each};
 ghost use Rattle.co_device.specs.Device.{after_power, without_power};
 
@@ -58,12 +58,9 @@ pub fn power_all<P: Shapes>(
 ) -> Result<(), AllocError>
     ensures state { OnOk result (devices.new ≡ outcome (each (after_power true 0) devices.old)
         (P.seen shapes.old).image) }
-    ensures noted { OnOk result (P.seen shapes.new ≡ after_reads (each (after_power true 0) devices.old)
-        (P.seen shapes.old)) }
-    ensures counted { OnOk result (P.asks shapes.new
-        ≤ P.asks shapes.old + length (reads (each (after_power true 0) devices.old) (P.seen shapes.old).image)) }
-    ensures kept { (P.seen shapes.new).image ≡ (P.seen shapes.old).image }
-    ensures asked_before { BeginsWith (P.seen shapes.new).asked (P.seen shapes.old).asked }
+    ensures asked { OnOk result (IsAsked (each (after_power true 0) devices.old)
+        (P.seen shapes.old) (P.seen shapes.new) (P.asks shapes.old) (P.asks shapes.new)) }
+    ensures lasts { Lasts (P.seen shapes.old) (P.seen shapes.new) }
 {
     for device in devices.iter_mut() {
         device.power(true, 0, shapes)?;

@@ -138,9 +138,3 @@ pub none_left : (t : ℕ) (steps : List TimedStep) (i : ℕ) (nodes : List Devic
     → after_events_at t (drop i steps) nodes ≡ Answer nodes
 unfolding after_events_at
 none_left t steps i nodes past = ap (λ (left : List TimedStep). after_events_at t left nodes) (drop_all i steps past)
-
-pub none_noted : (t : ℕ) (steps : List TimedStep) (i : ℕ) (nodes : List Device × Manager) → length steps ≤ i
-    → (seen : Seen Part Content) → seen ≡ after_reads (after_events_at t (drop i steps) nodes) seen
-none_noted t steps i nodes past seen = nothing_read nodes seen
-    ∙ ap (λ (none : Asking Part Content (List Device × Manager)). after_reads none seen)
-    (sym (none_left t steps i nodes past))

@@ -1,8 +1,8 @@
 //! What the events of a scenario do to the nodes of a bus.
 
-ghost use Rattle.std.specs.Prelude.{◌≡◌, ◌<◌, ◌≤◌, ◌+◌, false, length, map, OnOk};
-ghost use Rattle.asking.specs.Asking.{after_reads, outcome, reads};
-ghost use Rattle.asking.specs.Record.{BeginsWith};
+ghost use Rattle.std.specs.Prelude.{◌≡◌, ◌<◌, ◌≤◌, false, length, map, OnOk};
+ghost use Rattle.asking.specs.Asking.{outcome};
+ghost use Rattle.asking.specs.Record.{IsAsked, Lasts};
 ghost use Rattle.asking.specs.Each.{each};
 ghost use Rattle.bus_events.specs.Events.{after_events_at, after_event, after_power_at, after_set_at};
 ghost use Rattle.bus_events.specs.Steps.{AreFree};
@@ -66,12 +66,9 @@ fn power_one<P: Shapes>(
 ) -> Result<(), AllocError>
     requires { t < END }
     ensures state { OnOk result (device.new ≡ outcome (after_power_at t node on device.old) (P.seen shapes.old).image) }
-    ensures noted { OnOk result (P.seen shapes.new ≡ after_reads (after_power_at t node on device.old)
-        (P.seen shapes.old)) }
-    ensures counted { OnOk result (P.asks shapes.new
-        ≤ P.asks shapes.old + length (reads (after_power_at t node on device.old) (P.seen shapes.old).image)) }
-    ensures kept { (P.seen shapes.new).image ≡ (P.seen shapes.old).image }
-    ensures asked_before { BeginsWith (P.seen shapes.new).asked (P.seen shapes.old).asked }
+    ensures asked { OnOk result (IsAsked (after_power_at t node on device.old)
+        (P.seen shapes.old) (P.seen shapes.new) (P.asks shapes.old) (P.asks shapes.new)) }
+    ensures lasts { Lasts (P.seen shapes.old) (P.seen shapes.new) }
 {
     if device.number() != node {
         return Ok(());
@@ -90,12 +87,9 @@ fn power_each<P: Shapes>(
     requires { t < END }
     ensures state { OnOk result (devices.new ≡ outcome (each (after_power_at t node on) devices.old)
         (P.seen shapes.old).image) }
-    ensures noted { OnOk result (P.seen shapes.new ≡ after_reads (each (after_power_at t node on) devices.old)
-        (P.seen shapes.old)) }
-    ensures counted { OnOk result (P.asks shapes.new
-        ≤ P.asks shapes.old + length (reads (each (after_power_at t node on) devices.old) (P.seen shapes.old).image)) }
-    ensures kept { (P.seen shapes.new).image ≡ (P.seen shapes.old).image }
-    ensures asked_before { BeginsWith (P.seen shapes.new).asked (P.seen shapes.old).asked }
+    ensures asked { OnOk result (IsAsked (each (after_power_at t node on) devices.old)
+        (P.seen shapes.old) (P.seen shapes.new) (P.asks shapes.old) (P.asks shapes.new)) }
+    ensures lasts { Lasts (P.seen shapes.old) (P.seen shapes.new) }
 {
     for device in devices.iter_mut() {
         power_one(device, t, node, on, shapes)?;
@@ -118,13 +112,9 @@ fn happen<P: Shapes>(
         ≡ (outcome (after_event t step.now (devices.old, manager.old)) (P.seen shapes.old).image).0) }
     ensures manager { OnOk result (manager.new
         ≡ (outcome (after_event t step.now (devices.old, manager.old)) (P.seen shapes.old).image).1) }
-    ensures noted { OnOk result (P.seen shapes.new ≡ after_reads (after_event t step.now (devices.old, manager.old))
-        (P.seen shapes.old)) }
-    ensures counted { OnOk result (P.asks shapes.new
-        ≤ P.asks shapes.old + length (reads (after_event t step.now (devices.old, manager.old))
-        (P.seen shapes.old).image)) }
-    ensures kept { (P.seen shapes.new).image ≡ (P.seen shapes.old).image }
-    ensures asked_before { BeginsWith (P.seen shapes.new).asked (P.seen shapes.old).asked }
+    ensures asked { OnOk result (IsAsked (after_event t step.now (devices.old, manager.old))
+        (P.seen shapes.old) (P.seen shapes.new) (P.asks shapes.old) (P.asks shapes.new)) }
+    ensures lasts { Lasts (P.seen shapes.old) (P.seen shapes.new) }
 {
     match step {
         Step::Set {
@@ -152,13 +142,9 @@ pub fn run_events<P: Shapes>(
         ≡ (outcome (after_events_at t steps.now (devices.old, manager.old)) (P.seen shapes.old).image).0) }
     ensures manager { OnOk result (manager.new
         ≡ (outcome (after_events_at t steps.now (devices.old, manager.old)) (P.seen shapes.old).image).1) }
-    ensures noted { OnOk result (P.seen shapes.new
-        ≡ after_reads (after_events_at t steps.now (devices.old, manager.old)) (P.seen shapes.old)) }
-    ensures counted { OnOk result (P.asks shapes.new
-        ≤ P.asks shapes.old + length (reads (after_events_at t steps.now (devices.old, manager.old))
-        (P.seen shapes.old).image)) }
-    ensures kept { (P.seen shapes.new).image ≡ (P.seen shapes.old).image }
-    ensures asked_before { BeginsWith (P.seen shapes.new).asked (P.seen shapes.old).asked }
+    ensures asked { OnOk result (IsAsked (after_events_at t steps.now (devices.old, manager.old))
+        (P.seen shapes.old) (P.seen shapes.new) (P.asks shapes.old) (P.asks shapes.new)) }
+    ensures lasts { Lasts (P.seen shapes.old) (P.seen shapes.new) }
 {
     for step in steps {
         happen(devices, manager, t, &step.step, shapes)?;

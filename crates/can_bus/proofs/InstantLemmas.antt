@@ -1,8 +1,10 @@
 -- An instant: the window, the events, what the nodes do, and what is on the wire.
-use Rattle.std.proofs.Common.{◌≡◌, ℕ, ◌+◌, ◌++◌, List, Option, ap, length, length-append, refl, ◌∙◌}
+use Rattle.std.proofs.Common.{◌≡◌, ℕ, ◌++◌, List, Option, ap, ◌∙◌}
 use Rattle.std.proofs.lemmas.List.{append-nil}
 use Rattle.asking.specs.Asking.{Answer, Seen, outcome, reads, after_reads}
-use Rattle.asking.proofs.QuestionLemmas.{outcome_bind, reads_bind, followed_bind, followed_last}
+use Rattle.asking.specs.Record.{IsAsked}
+use Rattle.asking.proofs.QuestionLemmas.{outcome_bind, reads_bind, followed_last}
+use Rattle.asking.proofs.RecordLemmas.{asked_bind}
 use Rattle.co_parts.specs.Contents.{Content, Image}
 use Rattle.co_parts.specs.declared.part.Part.{Part}
 use Rattle.co_device.specs.Device.{Device}
@@ -72,18 +74,11 @@ module _ (t : ℕ) (s : Bus) (image : Image) where
       ∙ ap (λ rs. reads (after_window_start t s) image ++ rs)
       (reads_bind (after_events t begun) (λ ran. from_delivery_on t ran) image)
 
-  pub length_instant : length (reads (instant t s) image)
-      ≡ length (reads (after_window_start t s) image)
-      + (length (reads (after_events t begun) image) + length (reads (from_delivery_on t run_by_events) image))
-  length_instant = rw (reads_instant, length-append, length-append) refl
-
-pub followed_instant : (t : ℕ) (s : Bus) (seen : Seen Part Content)
-    → after_reads (instant t s) seen ≡ after_reads (from_delivery_on t (run_by_events t s seen.image))
-    (after_reads (after_events t (begun t s seen.image)) (after_reads (after_window_start t s) seen))
+pub asked_instant : (t : ℕ) (s b r : Bus) (first second third last : Seen Part Content) (x y z w : ℕ)
+    → b ≡ outcome (after_window_start t s) first.image → r ≡ outcome (after_events t b) second.image
+    → IsAsked (after_window_start t s) first second x y → IsAsked (after_events t b) second third y z
+    → IsAsked (from_delivery_on t r) third last z w → IsAsked (instant t s) first last x w
 unfolding instant after_window
-followed_instant t s seen =
-    followed_bind (after_window_start t s) (λ b. after_window t b) seen
-    ∙ followed_bind (after_events t (begun t s seen.image)) (λ ran. from_delivery_on t ran)
-    (after_reads (after_window_start t s) seen)
-
-pub ruleset instant_laws = (outcome_instant, length_instant, followed_instant)
+asked_instant t s b r first second third last x y z w e f g h k =
+    asked_bind (after_window_start t s) (λ n. after_window t n) first second last x y w g
+    (rw (← e) (asked_bind (after_events t b) (λ n. from_delivery_on t n) second third last y z w h (rw (← f) k)))

@@ -1,9 +1,10 @@
 -- What the nodes do, one after another.
-use Rattle.std.proofs.Common.{◌≡◌, ℕ, List, [], ◌∷◌, ◌+◌, ◌++◌, Option, Some, None, ◌∙◌, ap, sym, refl, length}
-use Rattle.std.proofs.Common.{length-append, map}
+use Rattle.std.proofs.Common.{◌≡◌, ℕ, List, [], ◌∷◌, ◌++◌, Option, Some, None, ◌∙◌, ap, sym, refl, map}
 use Rattle.std.proofs.lemmas.List.{append-nil}
-use Rattle.asking.specs.Asking.{Answer, Seen, outcome, reads, after_reads}
-use Rattle.asking.proofs.QuestionLemmas.{outcome_bind, reads_bind, followed_bind, followed_last}
+use Rattle.asking.specs.Asking.{Answer, Seen, outcome, reads}
+use Rattle.asking.specs.Record.{IsAsked}
+use Rattle.asking.proofs.QuestionLemmas.{outcome_bind, reads_bind}
+use Rattle.asking.proofs.RecordLemmas.{asked_in_turn}
 use Rattle.co_parts.specs.Contents.{Content, Image}
 use Rattle.co_parts.specs.declared.part.Part.{Part}
 use Rattle.co_device.specs.Device.{Device, after_instant}
@@ -80,10 +81,6 @@ module _ (t : ℕ) where
   all_reads None ds image = all_ask_nothing ds image
   all_reads (Some slot) ds image = all_ask slot ds image
 
-  pub all_followed : (slot : Option Slot) (ds : List Device) (seen : Seen Part Content)
-      → after_reads (each (at_instant t (delivery_of slot)) ds) seen ≡ after_reads (after_delivery t slot ds) seen
-  all_followed slot ds seen = rw (all_reads slot ds seen.image) refl
-
 module _ (t : ℕ) (slot : Option Slot) (m : Manager) where
   outcome_last : (ds : List Device) (image : Image)
       → outcome (nodes_after_devices t slot m ds) image ≡ (ds, outcome (manager_after_delivery t slot m) image)
@@ -94,11 +91,6 @@ module _ (t : ℕ) (slot : Option Slot) (m : Manager) where
       → reads (nodes_after_devices t slot m ds) image ≡ reads (manager_after_delivery t slot m) image
   unfolding nodes_after_devices
   reads_last ds image = reads_bind (manager_after_delivery t slot m) (λ r. Answer (ds, r)) image ∙ append-nil _
-
-  followed_after : (ds : List Device) (seen : Seen Part Content)
-      → after_reads (nodes_after_devices t slot m ds) seen ≡ after_reads (manager_after_delivery t slot m) seen
-  unfolding nodes_after_devices
-  followed_after ds seen = followed_last (manager_after_delivery t slot m) (λ r. (ds, r)) seen
 
   module _ (ds : List Device) where
     pub outcome_nodes : (image : Image) → outcome (nodes_after t slot ds m) image
@@ -121,16 +113,6 @@ module _ (t : ℕ) (slot : Option Slot) (m : Manager) where
         ∙ ap (λ rs. reads (after_delivery t slot ds) image ++ rs)
         (reads_last (map (after_instant t) (outcome (after_delivery t slot ds) image)) image)
 
-    pub followed_nodes : (seen : Seen Part Content)
-        → after_reads (nodes_after t slot ds m) seen ≡ after_reads (manager_after_delivery t slot m)
-        (after_reads (after_delivery t slot ds) seen)
-    unfolding nodes_after
-    followed_nodes seen =
-        followed_bind (after_delivery t slot ds)
-        (λ heard. nodes_after_devices t slot m (map (after_instant t) heard)) seen
-        ∙ followed_after (map (after_instant t) (outcome (after_delivery t slot ds) seen.image))
-        (after_reads (after_delivery t slot ds) seen)
-
     -- the devices hear and run one after another: each the one and then the other
     pub outcome_run : (image : Image) → outcome (nodes_after t slot ds m) image
         ≡ (outcome (each (at_instant t (delivery_of slot)) ds) image, outcome (manager_after_delivery t slot m) image)
@@ -138,16 +120,10 @@ module _ (t : ℕ) (slot : Option Slot) (m : Manager) where
         ∙ ap (λ (heard : List Device). (heard, outcome (manager_after_delivery t slot m) image))
         (sym (all_outcome t slot ds image))
 
-    pub followed_run : (seen : Seen Part Content)
-        → after_reads (nodes_after t slot ds m) seen ≡ after_reads (manager_after_delivery t slot m)
-        (after_reads (each (at_instant t (delivery_of slot)) ds) seen)
-    followed_run seen = followed_nodes seen
-        ∙ ap (λ (after : Seen Part Content). after_reads (manager_after_delivery t slot m) after)
-        (sym (all_followed t slot ds seen))
+    pub asked_run : (a b c : Seen Part Content) (x y z : ℕ)
+        → IsAsked (each (at_instant t (delivery_of slot)) ds) a b x y
+        → IsAsked (manager_after_delivery t slot m) b c y z → IsAsked (nodes_after t slot ds m) a c x z
+    asked_run a b c x y z = asked_in_turn (nodes_after t slot ds m) (each (at_instant t (delivery_of slot)) ds)
+        (manager_after_delivery t slot m) a b c x y z (rw (reads_nodes a.image, all_reads t slot ds a.image) refl)
 
-    pub length_run : (image : Image) → length (reads (nodes_after t slot ds m) image)
-        ≡ length (reads (each (at_instant t (delivery_of slot)) ds) image)
-        + length (reads (manager_after_delivery t slot m) image)
-    length_run image = rw (reads_nodes image, all_reads t slot ds image, length-append) refl
-
-pub ruleset nodes_laws = (outcome_run, length_run, followed_run)
+pub ruleset nodes_laws = (outcome_run, asked_run)

@@ -9,6 +9,8 @@ use Rattle.std.specs.declared.rc.Rc.{Rc}
 use Rattle.std.proofs.lemmas.List.{append-nil}
 use Rattle.asking.specs.Asking.{Answer, Seen, outcome, reads, after_reads}
 use Rattle.asking.proofs.QuestionLemmas.{outcome_bind, reads_bind, followed_last}
+use Rattle.asking.proofs.RecordLemmas.{asked_none}
+use Rattle.asking.specs.Record.{IsAsked}
 use Rattle.bus_events.proofs.StepLemmas.{all_of_them, free_within}
 use Rattle.bus_events.specs.Events.{after_events_at}
 use Rattle.bus_events.specs.Steps.{AreFree, in_window, steps_due, steps_left}
@@ -74,7 +76,7 @@ module _ (t : ℕ) (s : Bus) where
     pub none_state : (image : Image) → s ≡ outcome (after_events t s) image
     none_state image = rw (none_runs (sym are ∙ empty_is due empty)) refl
 
-    pub none_followed : (seen : Seen Part Content) → seen ≡ after_reads (after_events t s) seen
-    none_followed seen = rw (none_runs (sym are ∙ empty_is due empty), append-nil) refl
+    pub none_asked : (seen : Seen Part Content) (asks : ℕ) → IsAsked (after_events t s) seen seen asks asks
+    none_asked seen asks = asked_none (after_events t s) s seen asks (none_runs (sym are ∙ empty_is due empty))
 
 pub ruleset events_laws = (outcome_events_run, reads_events_run, followed_events_run)

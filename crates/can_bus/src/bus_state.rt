@@ -1,8 +1,8 @@
 //! The bus at a moment.
 
-ghost use Rattle.std.specs.Prelude.{◌≡◌, ◌<◌, ◌≤◌, ◌+◌, ◌*◌, ◌++◌, ◌↔◌, length, IfOk, OnOk, OnErr, IsErr, IsTrue};
-ghost use Rattle.asking.specs.Asking.{after_reads, outcome, reads};
-ghost use Rattle.asking.specs.Record.{BeginsWith};
+ghost use Rattle.std.specs.Prelude.{◌≡◌, ◌<◌, ◌≤◌, ◌+◌, ◌*◌, ◌++◌, ◌↔◌, IfOk, OnOk, OnErr, IsErr, IsTrue};
+ghost use Rattle.asking.specs.Asking.{outcome};
+ghost use Rattle.asking.specs.Record.{BeginsWith, IsAsked, Lasts};
 ghost use Rattle.can_bus.specs.Bus.{blank_bus, ended_slot, from_delivery_on, instant, open_slot, power_on, power_on_of};
 ghost use Rattle.can_bus.specs.Bus.{after_arbitration};
 ghost use Rattle.can_bus.specs.Dues.{next_due};
@@ -88,11 +88,9 @@ fn power_on_of<P: Parts>(
 ) -> Result<BusState, AllocError>
     requires { 1 ≤ roster.now.bit_rate }
     ensures state { IfOk result (λ bus. bus ≡ outcome (power_on_of roster.now) (P.seen parts.old).image) }
-    ensures noted { OnOk result (P.seen parts.new ≡ after_reads (power_on_of roster.now) (P.seen parts.old)) }
-    ensures counted { OnOk result (P.asks parts.new ≤ P.asks parts.old + length (reads (power_on_of roster.now)
-        (P.seen parts.old).image)) }
-    ensures kept { (P.seen parts.new).image ≡ (P.seen parts.old).image }
-    ensures asked_before { BeginsWith (P.seen parts.new).asked (P.seen parts.old).asked }
+    ensures asked { OnOk result (IsAsked (power_on_of roster.now)
+        (P.seen parts.old) (P.seen parts.new) (P.asks parts.old) (P.asks parts.new)) }
+    ensures lasts { Lasts (P.seen parts.old) (P.seen parts.new) }
 {
     let mut devices = new_devices(alloc, roster.nodes.as_slice())?;
     power_all(devices.as_mut_slice(), parts)?;
@@ -175,11 +173,9 @@ fn run_from_delivery<P: Parts>(
     ensures told { OnOk result (lines.new ≡ lines.old
         ++ (outcome (from_delivery_on t bus.old) (P.seen parts.old).image).1) }
     ensures lines_before { BeginsWith lines.new lines.old }
-    ensures noted { OnOk result (P.seen parts.new ≡ after_reads (from_delivery_on t bus.old) (P.seen parts.old)) }
-    ensures counted { OnOk result (P.asks parts.new ≤ P.asks parts.old + length (reads (from_delivery_on t bus.old)
-        (P.seen parts.old).image)) }
-    ensures kept { (P.seen parts.new).image ≡ (P.seen parts.old).image }
-    ensures asked_before { BeginsWith (P.seen parts.new).asked (P.seen parts.old).asked }
+    ensures asked { OnOk result (IsAsked (from_delivery_on t bus.old)
+        (P.seen parts.old) (P.seen parts.new) (P.asks parts.old) (P.asks parts.new)) }
+    ensures lasts { Lasts (P.seen parts.old) (P.seen parts.new) }
 {
     let ended = take_ended(&mut bus.wire, t);
     let mut notes = Notes::new(bus.alloc);
@@ -197,7 +193,7 @@ fn run_from_delivery<P: Parts>(
 }
 
 /// One instant.
-#[tactic(auto, using(crate::proofs::InstantLemmas::instant_laws))]
+#[tactic(auto, using(crate::proofs::InstantLemmas::outcome_instant))]
 fn run_instant<P: Parts>(
     bus: &mut BusState,
     t: u64,
@@ -208,11 +204,9 @@ fn run_instant<P: Parts>(
     ensures state { OnOk result (bus.new ≡ (outcome (instant t bus.old) (P.seen parts.old).image).0) }
     ensures told { OnOk result (lines.new ≡ lines.old ++ (outcome (instant t bus.old) (P.seen parts.old).image).1) }
     ensures lines_before { BeginsWith lines.new lines.old }
-    ensures noted { OnOk result (P.seen parts.new ≡ after_reads (instant t bus.old) (P.seen parts.old)) }
-    ensures counted { OnOk result (P.asks parts.new ≤ P.asks parts.old + length (reads (instant t bus.old)
-        (P.seen parts.old).image)) }
-    ensures kept { (P.seen parts.new).image ≡ (P.seen parts.old).image }
-    ensures asked_before { BeginsWith (P.seen parts.new).asked (P.seen parts.old).asked }
+    ensures asked { OnOk result (IsAsked (instant t bus.old)
+        (P.seen parts.old) (P.seen parts.new) (P.asks parts.old) (P.asks parts.new)) }
+    ensures lasts { Lasts (P.seen parts.old) (P.seen parts.new) }
 {
     begin_window(bus, t, parts)?;
     run_due(bus, t, parts)?;
@@ -240,11 +234,9 @@ impl BusState {
     #[tactic(auto, unfolding(crate::specs::Bus::power_on))]
     pub fn power_on<P: Parts>(alloc: Global, parts: &mut P) -> Result<BusState, AllocError>
         ensures state { IfOk result (λ bus. bus ≡ outcome power_on (P.seen parts.old).image) }
-        ensures noted { OnOk result (P.seen parts.new ≡ after_reads power_on (P.seen parts.old)) }
-        ensures counted { OnOk result (P.asks parts.new
-            ≤ P.asks parts.old + length (reads power_on (P.seen parts.old).image)) }
-        ensures kept { (P.seen parts.new).image ≡ (P.seen parts.old).image }
-        ensures asked_before { BeginsWith (P.seen parts.new).asked (P.seen parts.old).asked }
+        ensures asked { OnOk result (IsAsked power_on
+            (P.seen parts.old) (P.seen parts.new) (P.asks parts.old) (P.asks parts.new)) }
+        ensures lasts { Lasts (P.seen parts.old) (P.seen parts.new) }
     {
         let roster = parts.roster()?;
         match roster {
@@ -340,11 +332,9 @@ impl BusState {
         ensures told { OnOk result (lines.new ≡ lines.old
             ++ (outcome (instant t self.old) (P.seen parts.old).image).1) }
         ensures lines_before { BeginsWith lines.new lines.old }
-        ensures noted { OnOk result (P.seen parts.new ≡ after_reads (instant t self.old) (P.seen parts.old)) }
-        ensures counted { OnOk result (P.asks parts.new ≤ P.asks parts.old + length (reads (instant t self.old)
-            (P.seen parts.old).image)) }
-        ensures kept { (P.seen parts.new).image ≡ (P.seen parts.old).image }
-        ensures asked_before { BeginsWith (P.seen parts.new).asked (P.seen parts.old).asked }
+        ensures asked { OnOk result (IsAsked (instant t self.old)
+            (P.seen parts.old) (P.seen parts.new) (P.asks parts.old) (P.asks parts.new)) }
+        ensures lasts { Lasts (P.seen parts.old) (P.seen parts.new) }
         ensures refused { IsTrue self.old.spent → IsErr result }
         ensures spent { OnErr result (IsTrue self.new.spent) }
     {

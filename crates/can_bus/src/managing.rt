@@ -1,8 +1,8 @@
 //! What the manager of a bus does in an instant.
 
-ghost use Rattle.std.specs.Prelude.{◌≡◌, ◌<◌, ◌≤◌, ◌+◌, ◌++◌, length, OnOk};
-ghost use Rattle.asking.specs.Asking.{after_reads, outcome, reads};
-ghost use Rattle.asking.specs.Record.{BeginsWith};
+ghost use Rattle.std.specs.Prelude.{◌≡◌, ◌<◌, ◌++◌, OnOk};
+ghost use Rattle.asking.specs.Asking.{outcome};
+ghost use Rattle.asking.specs.Record.{BeginsWith, IsAsked, Lasts};
 ghost use Rattle.can_bus.specs.Bus.{manager_after_delivery, manager_after_slot};
 
 use crate::slot::Slot;
@@ -26,12 +26,9 @@ fn hear<P: Boots>(
     ensures notes { OnOk result (notes.new ≡ notes.old
         ++ (outcome (manager_after_slot t ended.now manager.old) (P.seen boots.old).image).1) }
     ensures notes_before { BeginsWith notes.new notes.old }
-    ensures noted { OnOk result (P.seen boots.new ≡ after_reads (manager_after_slot t ended.now manager.old)
-        (P.seen boots.old)) }
-    ensures counted { OnOk result (P.asks boots.new
-        ≤ P.asks boots.old + length (reads (manager_after_slot t ended.now manager.old) (P.seen boots.old).image)) }
-    ensures kept { (P.seen boots.new).image ≡ (P.seen boots.old).image }
-    ensures asked_before { BeginsWith (P.seen boots.new).asked (P.seen boots.old).asked }
+    ensures asked { OnOk result (IsAsked (manager_after_slot t ended.now manager.old)
+        (P.seen boots.old) (P.seen boots.new) (P.asks boots.old) (P.asks boots.new)) }
+    ensures lasts { Lasts (P.seen boots.old) (P.seen boots.new) }
 {
     match ended {
         None => Ok(()),
@@ -59,12 +56,9 @@ pub(crate) fn manage<P: Boots>(
     ensures notes { OnOk result (notes.new ≡ notes.old
         ++ (outcome (manager_after_delivery t ended.now manager.old) (P.seen boots.old).image).1) }
     ensures notes_before { BeginsWith notes.new notes.old }
-    ensures noted { OnOk result (P.seen boots.new ≡ after_reads (manager_after_delivery t ended.now manager.old)
-        (P.seen boots.old)) }
-    ensures counted { OnOk result (P.asks boots.new
-        ≤ P.asks boots.old + length (reads (manager_after_delivery t ended.now manager.old) (P.seen boots.old).image)) }
-    ensures kept { (P.seen boots.new).image ≡ (P.seen boots.old).image }
-    ensures asked_before { BeginsWith (P.seen boots.new).asked (P.seen boots.old).asked }
+    ensures asked { OnOk result (IsAsked (manager_after_delivery t ended.now manager.old)
+        (P.seen boots.old) (P.seen boots.new) (P.asks boots.old) (P.asks boots.new)) }
+    ensures lasts { Lasts (P.seen boots.old) (P.seen boots.new) }
 {
     hear(manager, t, ended, boots, notes)?;
     manager.on_instant(t, notes)

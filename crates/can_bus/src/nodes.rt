@@ -1,8 +1,8 @@
 //! What the nodes of a bus do in an instant.
 
-ghost use Rattle.std.specs.Prelude.{◌≡◌, ◌<◌, ◌≤◌, ◌+◌, ◌++◌, length, OnOk};
-ghost use Rattle.asking.specs.Asking.{after_reads, outcome, reads};
-ghost use Rattle.asking.specs.Record.{BeginsWith};
+ghost use Rattle.std.specs.Prelude.{◌≡◌, ◌<◌, ◌++◌, OnOk};
+ghost use Rattle.asking.specs.Asking.{outcome};
+ghost use Rattle.asking.specs.Record.{BeginsWith, IsAsked, Lasts};
 ghost use Rattle.can_bus.specs.Bus.{delivery_of as delivery_of_slot, nodes_after};
 
 use crate::managing::manage;
@@ -43,13 +43,9 @@ pub(crate) fn run_nodes<P: Parts>(
     ensures notes { OnOk result (notes.new ≡ notes.old
         ++ (outcome (nodes_after t ended.now devices.old manager.old) (P.seen parts.old).image).1.1) }
     ensures notes_before { BeginsWith notes.new notes.old }
-    ensures noted { OnOk result (P.seen parts.new ≡ after_reads (nodes_after t ended.now devices.old manager.old)
-        (P.seen parts.old)) }
-    ensures counted { OnOk result (P.asks parts.new
-        ≤ P.asks parts.old + length (reads (nodes_after t ended.now devices.old manager.old)
-        (P.seen parts.old).image)) }
-    ensures kept { (P.seen parts.new).image ≡ (P.seen parts.old).image }
-    ensures asked_before { BeginsWith (P.seen parts.new).asked (P.seen parts.old).asked }
+    ensures asked { OnOk result (IsAsked (nodes_after t ended.now devices.old manager.old)
+        (P.seen parts.old) (P.seen parts.new) (P.asks parts.old) (P.asks parts.new)) }
+    ensures lasts { Lasts (P.seen parts.old) (P.seen parts.new) }
 {
     let delivery = delivery_of(ended);
     devices.instant(t, &delivery, parts)?;

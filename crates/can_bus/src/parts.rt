@@ -2,7 +2,7 @@
 
 ghost use Rattle.std.specs.Prelude.{◌≡◌, ◌+◌, ◌-◌, ◌^◌, [], min, IfOk, IfSome, OnOk};
 ghost use Rattle.asking.specs.Asking.{after_ask};
-ghost use Rattle.asking.specs.Record.{BeginsWith};
+ghost use Rattle.asking.specs.Record.{Lasts};
 ghost use Rattle.co_parts.specs.Contents.{EventsAre, RosterIs};
 ghost use Rattle.co_parts.specs.Images.{AreInOrder, IsRoster, IsWithin};
 ghost use Rattle.co_parts.specs.Shared.{shared};
@@ -22,8 +22,7 @@ pub trait Parts: Shapes + Boots {
         ensures fits { IfOk result (λ r. IfSome (shared r) IsRoster) }
         ensures noted { OnOk result (Self.seen self.new ≡ after_ask Part.Roster (Self.seen self.old)) }
         ensures counted { Self.asks self.new ≡ min (Self.asks self.old + 1) (2 ^ 64 - 1) }
-        ensures kept { (Self.seen self.new).image ≡ (Self.seen self.old).image }
-        ensures asked_before { BeginsWith (Self.seen self.new).asked (Self.seen self.old).asked };
+        ensures lasts { Lasts (Self.seen self.old) (Self.seen self.new) };
 
     /// The events of window i, or none, by time and then by number: each has its time there, and sets no object of
     /// a PDO and no value of more than 512 bytes.
@@ -33,8 +32,7 @@ pub trait Parts: Shapes + Boots {
         ensures ordered { IfOk result (λ r. IfSome (shared r) AreInOrder) }
         ensures noted { OnOk result (Self.seen self.new ≡ after_ask (Part.Events i) (Self.seen self.old)) }
         ensures counted { Self.asks self.new ≡ min (Self.asks self.old + 1) (2 ^ 64 - 1) }
-        ensures kept { (Self.seen self.new).image ≡ (Self.seen self.old).image }
-        ensures asked_before { BeginsWith (Self.seen self.new).asked (Self.seen self.old).asked };
+        ensures lasts { Lasts (Self.seen self.old) (Self.seen self.new) };
 
     /// Hands the record of what was asked over, and empties it.
     fn take_asked(&mut self) -> Vec<Read>

@@ -1,8 +1,8 @@
 //! The windows of a bus, and their events.
 
-ghost use Rattle.std.specs.Prelude.{◌≡◌, ◌<◌, ◌≤◌, ◌+◌, length, OnOk};
-ghost use Rattle.asking.specs.Asking.{after_reads, outcome, reads};
-ghost use Rattle.asking.specs.Record.{BeginsWith};
+ghost use Rattle.std.specs.Prelude.{◌≡◌, ◌<◌, OnOk};
+ghost use Rattle.asking.specs.Asking.{outcome};
+ghost use Rattle.asking.specs.Record.{IsAsked, Lasts};
 ghost use Rattle.can_bus.specs.Bus.{after_events, after_window_start};
 
 use crate::bus_state::BusState;
@@ -25,11 +25,9 @@ pub(crate) fn begin_window<P: Parts>(
 ) -> Result<(), AllocError>
     requires { t < END }
     ensures state { OnOk result (bus.new ≡ outcome (after_window_start t bus.old) (P.seen parts.old).image) }
-    ensures noted { OnOk result (P.seen parts.new ≡ after_reads (after_window_start t bus.old) (P.seen parts.old)) }
-    ensures counted { OnOk result (P.asks parts.new ≤ P.asks parts.old + length (reads (after_window_start t bus.old)
-        (P.seen parts.old).image)) }
-    ensures kept { (P.seen parts.new).image ≡ (P.seen parts.old).image }
-    ensures asked_before { BeginsWith (P.seen parts.new).asked (P.seen parts.old).asked }
+    ensures asked { OnOk result (IsAsked (after_window_start t bus.old)
+        (P.seen parts.old) (P.seen parts.new) (P.asks parts.old) (P.asks parts.new)) }
+    ensures lasts { Lasts (P.seen parts.old) (P.seen parts.new) }
 {
     if t != bus.window {
         return Ok(());
@@ -45,11 +43,9 @@ pub(crate) fn begin_window<P: Parts>(
 pub(crate) fn run_due<P: Parts>(bus: &mut BusState, t: u64, parts: &mut P) -> Result<(), AllocError>
     requires { t < END }
     ensures state { OnOk result (bus.new ≡ outcome (after_events t bus.old) (P.seen parts.old).image) }
-    ensures noted { OnOk result (P.seen parts.new ≡ after_reads (after_events t bus.old) (P.seen parts.old)) }
-    ensures counted { OnOk result (P.asks parts.new ≤ P.asks parts.old + length (reads (after_events t bus.old)
-        (P.seen parts.old).image)) }
-    ensures kept { (P.seen parts.new).image ≡ (P.seen parts.old).image }
-    ensures asked_before { BeginsWith (P.seen parts.new).asked (P.seen parts.old).asked }
+    ensures asked { OnOk result (IsAsked (after_events t bus.old)
+        (P.seen parts.old) (P.seen parts.new) (P.asks parts.old) (P.asks parts.new)) }
+    ensures lasts { Lasts (P.seen parts.old) (P.seen parts.new) }
 {
     let steps = bus.steps.due(t);
     if steps.is_empty() {

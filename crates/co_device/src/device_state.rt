@@ -1,9 +1,9 @@
 //! The device at a moment.
 
-ghost use Rattle.std.specs.Prelude.{◌≡◌, ◌↔◌, ◌<◌, ◌≤◌, ◌+◌, Some, false, length, remove, slice_get, IfOk, OnOk, OnErr};
+ghost use Rattle.std.specs.Prelude.{◌≡◌, ◌↔◌, ◌<◌, ◌≤◌, Some, false, length, remove, slice_get, IfOk, OnOk, OnErr};
 ghost use Rattle.std.specs.Prelude.{IsErr, IsTrue};
-ghost use Rattle.asking.specs.Asking.{after_reads, outcome, reads};
-ghost use Rattle.asking.specs.Record.{BeginsWith};
+ghost use Rattle.asking.specs.Asking.{outcome};
+ghost use Rattle.asking.specs.Record.{IsAsked, Lasts};
 ghost use Rattle.can_frame.specs.Winner.{contenders_of, IsWinner};
 ghost use Rattle.co_base.specs.Ranges.{is_between};
 ghost use Rattle.co_values.specs.Values.{longest_value};
@@ -248,11 +248,9 @@ impl DeviceState {
     pub fn power<P: Shapes>(&mut self, on: bool, t: u64, shapes: &mut P) -> Result<(), AllocError>
         requires { t < END }
         ensures state { OnOk result (self.new ≡ outcome (after_power on t self.old) (P.seen shapes.old).image) }
-        ensures noted { OnOk result (P.seen shapes.new ≡ after_reads (after_power on t self.old) (P.seen shapes.old)) }
-        ensures counted { OnOk result (P.asks shapes.new ≤ P.asks shapes.old + length (reads (after_power on t self.old)
-            (P.seen shapes.old).image)) }
-        ensures kept { (P.seen shapes.new).image ≡ (P.seen shapes.old).image }
-        ensures asked_before { BeginsWith (P.seen shapes.new).asked (P.seen shapes.old).asked }
+        ensures asked { OnOk result (IsAsked (after_power on t self.old)
+            (P.seen shapes.old) (P.seen shapes.new) (P.asks shapes.old) (P.asks shapes.new)) }
+        ensures lasts { Lasts (P.seen shapes.old) (P.seen shapes.new) }
         ensures refused { IsTrue self.old.spent → IsErr result }
         ensures spent { OnErr result (IsTrue self.new.spent) }
     {
@@ -275,12 +273,9 @@ impl DeviceState {
     ) -> Result<(), AllocError>
         requires { t < END }
         ensures state { OnOk result (self.new ≡ outcome (after_frame t frame.now self.old) (P.seen shapes.old).image) }
-        ensures noted { OnOk result (P.seen shapes.new ≡ after_reads (after_frame t frame.now self.old)
-            (P.seen shapes.old)) }
-        ensures counted { OnOk result (P.asks shapes.new
-            ≤ P.asks shapes.old + length (reads (after_frame t frame.now self.old) (P.seen shapes.old).image)) }
-        ensures kept { (P.seen shapes.new).image ≡ (P.seen shapes.old).image }
-        ensures asked_before { BeginsWith (P.seen shapes.new).asked (P.seen shapes.old).asked }
+        ensures asked { OnOk result (IsAsked (after_frame t frame.now self.old)
+            (P.seen shapes.old) (P.seen shapes.new) (P.asks shapes.old) (P.asks shapes.new)) }
+        ensures lasts { Lasts (P.seen shapes.old) (P.seen shapes.new) }
         ensures refused { IsTrue self.old.spent → IsErr result }
         ensures spent { OnErr result (IsTrue self.new.spent) }
     {

@@ -1,8 +1,8 @@
 //! The requests to a device's SDO server.
 
-ghost use Rattle.std.specs.Prelude.{◌≡◌, ◌<◌, ◌≤◌, ◌+◌, ◌++◌, length, OnOk};
-ghost use Rattle.asking.specs.Asking.{after_reads, outcome, reads};
-ghost use Rattle.asking.specs.Record.{BeginsWith};
+ghost use Rattle.std.specs.Prelude.{◌≡◌, ◌<◌, ◌++◌, OnOk};
+ghost use Rattle.asking.specs.Asking.{outcome};
+ghost use Rattle.asking.specs.Record.{IsAsked, Lasts};
 ghost use Rattle.co_device.specs.Device.{after_request, answer_frames, after_sdo_request};
 
 use crate::device_state::DeviceState;
@@ -59,12 +59,9 @@ impl DeviceState {
         requires { t < END }
         ensures state { OnOk result (self.new ≡ outcome (after_sdo_request t request.now self.old)
             (P.seen shapes.old).image) }
-        ensures noted { OnOk result (P.seen shapes.new ≡ after_reads (after_sdo_request t request.now self.old)
-            (P.seen shapes.old)) }
-        ensures counted { OnOk result (P.asks shapes.new
-            ≤ P.asks shapes.old + length (reads (after_sdo_request t request.now self.old) (P.seen shapes.old).image)) }
-        ensures kept { (P.seen shapes.new).image ≡ (P.seen shapes.old).image }
-        ensures asked_before { BeginsWith (P.seen shapes.new).asked (P.seen shapes.old).asked }
+        ensures asked { OnOk result (IsAsked (after_sdo_request t request.now self.old)
+            (P.seen shapes.old) (P.seen shapes.new) (P.asks shapes.old) (P.asks shapes.new)) }
+        ensures lasts { Lasts (P.seen shapes.old) (P.seen shapes.new) }
     {
         if self.is_in(NmtState::Stopped) {
             return Ok(());

@@ -1,8 +1,8 @@
 //! Power, and the NMT services that reset a device.
 
-ghost use Rattle.std.specs.Prelude.{◌≡◌, ◌<◌, ◌≤◌, ◌+◌, length, OnOk};
-ghost use Rattle.asking.specs.Asking.{after_reads, outcome, reads};
-ghost use Rattle.asking.specs.Record.{BeginsWith};
+ghost use Rattle.std.specs.Prelude.{◌≡◌, ◌<◌, OnOk};
+ghost use Rattle.asking.specs.Asking.{outcome};
+ghost use Rattle.asking.specs.Record.{IsAsked, Lasts};
 ghost use Rattle.co_device.specs.Device.{after_initialisation, after_power, reset_communication, after_reset_node};
 ghost use Rattle.co_device.specs.Device.{without_power};
 
@@ -68,12 +68,9 @@ impl DeviceState {
     pub(crate) fn reset_node<P: Shapes>(&mut self, t: u64, shapes: &mut P) -> Result<(), AllocError>
         requires { t < END }
         ensures state { OnOk result (self.new ≡ outcome (after_reset_node t self.old) (P.seen shapes.old).image) }
-        ensures noted { OnOk result (P.seen shapes.new ≡ after_reads (after_reset_node t self.old)
-            (P.seen shapes.old)) }
-        ensures counted { OnOk result (P.asks shapes.new
-            ≤ P.asks shapes.old + length (reads (after_reset_node t self.old) (P.seen shapes.old).image)) }
-        ensures kept { (P.seen shapes.new).image ≡ (P.seen shapes.old).image }
-        ensures asked_before { BeginsWith (P.seen shapes.new).asked (P.seen shapes.old).asked }
+        ensures asked { OnOk result (IsAsked (after_reset_node t self.old)
+            (P.seen shapes.old) (P.seen shapes.new) (P.asks shapes.old) (P.asks shapes.new)) }
+        ensures lasts { Lasts (P.seen shapes.old) (P.seen shapes.new) }
     {
         let defaults = shapes.defaults(self.number)?;
         let shape = shapes.shape(self.number)?;
@@ -91,12 +88,9 @@ impl DeviceState {
     ) -> Result<(), AllocError>
         requires { t < END }
         ensures state { OnOk result (self.new ≡ outcome (reset_communication t self.old) (P.seen shapes.old).image) }
-        ensures noted { OnOk result (P.seen shapes.new ≡ after_reads (reset_communication t self.old)
-            (P.seen shapes.old)) }
-        ensures counted { OnOk result (P.asks shapes.new
-            ≤ P.asks shapes.old + length (reads (reset_communication t self.old) (P.seen shapes.old).image)) }
-        ensures kept { (P.seen shapes.new).image ≡ (P.seen shapes.old).image }
-        ensures asked_before { BeginsWith (P.seen shapes.new).asked (P.seen shapes.old).asked }
+        ensures asked { OnOk result (IsAsked (reset_communication t self.old)
+            (P.seen shapes.old) (P.seen shapes.new) (P.asks shapes.old) (P.asks shapes.new)) }
+        ensures lasts { Lasts (P.seen shapes.old) (P.seen shapes.new) }
     {
         let defaults = shapes.defaults(self.number)?;
         let shape = shapes.shape(self.number)?;
@@ -115,11 +109,9 @@ impl DeviceState {
     ) -> Result<(), AllocError>
         requires { t < END }
         ensures state { OnOk result (self.new ≡ outcome (after_power on t self.old) (P.seen shapes.old).image) }
-        ensures noted { OnOk result (P.seen shapes.new ≡ after_reads (after_power on t self.old) (P.seen shapes.old)) }
-        ensures counted { OnOk result (P.asks shapes.new ≤ P.asks shapes.old + length (reads (after_power on t self.old)
-            (P.seen shapes.old).image)) }
-        ensures kept { (P.seen shapes.new).image ≡ (P.seen shapes.old).image }
-        ensures asked_before { BeginsWith (P.seen shapes.new).asked (P.seen shapes.old).asked }
+        ensures asked { OnOk result (IsAsked (after_power on t self.old)
+            (P.seen shapes.old) (P.seen shapes.new) (P.asks shapes.old) (P.asks shapes.new)) }
+        ensures lasts { Lasts (P.seen shapes.old) (P.seen shapes.new) }
     {
         if on == self.has_power {
             return Ok(());

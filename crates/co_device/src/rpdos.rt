@@ -1,8 +1,8 @@
 //! The frames of PDOs, and SYNC messages.
 
 ghost use Rattle.std.specs.Prelude.{◌≡◌, ◌<◌, ◌≤◌, ◌+◌, length, OnOk};
-ghost use Rattle.asking.specs.Asking.{after_reads, outcome, reads};
-ghost use Rattle.asking.specs.Record.{BeginsWith};
+ghost use Rattle.asking.specs.Asking.{outcome};
+ghost use Rattle.asking.specs.Record.{IsAsked, Lasts};
 ghost use Rattle.co_dict.specs.Mappings.{mapped_length as length_mapped, mapping_bits};
 ghost use Rattle.co_mapping.specs.Packing.{bits_for, frame_bits};
 ghost use Rattle.device_pdos.specs.Rpdos.{mapping_of_rpdo};
@@ -89,14 +89,9 @@ impl DeviceState {
         ensures state { OnOk result (self.new
             ≡ outcome (after_mapping t (mapping_of_rpdo configuration.now) frame.now self.old)
             (P.seen shapes.old).image) }
-        ensures noted { OnOk result (P.seen shapes.new
-            ≡ after_reads (after_mapping t (mapping_of_rpdo configuration.now) frame.now self.old)
-            (P.seen shapes.old)) }
-        ensures counted { OnOk result (P.asks shapes.new
-            ≤ P.asks shapes.old + length (reads (after_mapping t (mapping_of_rpdo configuration.now) frame.now self.old)
-            (P.seen shapes.old).image)) }
-        ensures kept { (P.seen shapes.new).image ≡ (P.seen shapes.old).image }
-        ensures asked_before { BeginsWith (P.seen shapes.new).asked (P.seen shapes.old).asked }
+        ensures asked { OnOk result (IsAsked (after_mapping t (mapping_of_rpdo configuration.now) frame.now self.old)
+            (P.seen shapes.old) (P.seen shapes.new) (P.asks shapes.old) (P.asks shapes.new)) }
+        ensures lasts { Lasts (P.seen shapes.old) (P.seen shapes.new) }
     {
         let shape = shapes.shape(self.number)?;
         let none = without_entries(self.alloc);
@@ -116,12 +111,9 @@ impl DeviceState {
         requires soon { t < END }
         requires inside { i < length self.old.rpdos }
         ensures state { OnOk result (self.new ≡ outcome (after_rpdo t frame.now i self.old) (P.seen shapes.old).image) }
-        ensures noted { OnOk result (P.seen shapes.new ≡ after_reads (after_rpdo t frame.now i self.old)
-            (P.seen shapes.old)) }
-        ensures counted { OnOk result (P.asks shapes.new
-            ≤ P.asks shapes.old + length (reads (after_rpdo t frame.now i self.old) (P.seen shapes.old).image)) }
-        ensures kept { (P.seen shapes.new).image ≡ (P.seen shapes.old).image }
-        ensures asked_before { BeginsWith (P.seen shapes.new).asked (P.seen shapes.old).asked }
+        ensures asked { OnOk result (IsAsked (after_rpdo t frame.now i self.old)
+            (P.seen shapes.old) (P.seen shapes.new) (P.asks shapes.old) (P.asks shapes.new)) }
+        ensures lasts { Lasts (P.seen shapes.old) (P.seen shapes.new) }
     {
         let rpdo = self.rpdos[i];
         match rpdo.receive(frame) {
@@ -145,12 +137,9 @@ impl DeviceState {
     ) -> Result<(), AllocError>
         requires { t < END }
         ensures state { OnOk result (self.new ≡ outcome (after_pdo t frame.now self.old) (P.seen shapes.old).image) }
-        ensures noted { OnOk result (P.seen shapes.new ≡ after_reads (after_pdo t frame.now self.old)
-            (P.seen shapes.old)) }
-        ensures counted { OnOk result (P.asks shapes.new
-            ≤ P.asks shapes.old + length (reads (after_pdo t frame.now self.old) (P.seen shapes.old).image)) }
-        ensures kept { (P.seen shapes.new).image ≡ (P.seen shapes.old).image }
-        ensures asked_before { BeginsWith (P.seen shapes.new).asked (P.seen shapes.old).asked }
+        ensures asked { OnOk result (IsAsked (after_pdo t frame.now self.old)
+            (P.seen shapes.old) (P.seen shapes.new) (P.asks shapes.old) (P.asks shapes.new)) }
+        ensures lasts { Lasts (P.seen shapes.old) (P.seen shapes.new) }
     {
         if !self.is_in(NmtState::Operational) {
             return Ok(());
@@ -166,11 +155,9 @@ impl DeviceState {
         requires soon { t < END }
         requires inside { i < length self.old.rpdos }
         ensures state { OnOk result (self.new ≡ outcome (after_sync_at t i self.old) (P.seen shapes.old).image) }
-        ensures noted { OnOk result (P.seen shapes.new ≡ after_reads (after_sync_at t i self.old) (P.seen shapes.old)) }
-        ensures counted { OnOk result (P.asks shapes.new
-            ≤ P.asks shapes.old + length (reads (after_sync_at t i self.old) (P.seen shapes.old).image)) }
-        ensures kept { (P.seen shapes.new).image ≡ (P.seen shapes.old).image }
-        ensures asked_before { BeginsWith (P.seen shapes.new).asked (P.seen shapes.old).asked }
+        ensures asked { OnOk result (IsAsked (after_sync_at t i self.old)
+            (P.seen shapes.old) (P.seen shapes.new) (P.asks shapes.old) (P.asks shapes.new)) }
+        ensures lasts { Lasts (P.seen shapes.old) (P.seen shapes.new) }
     {
         let rpdo = self.rpdos[i];
         match rpdo.kept {
@@ -188,11 +175,9 @@ impl DeviceState {
     pub(crate) fn take_sync<P: Shapes>(&mut self, t: u64, shapes: &mut P) -> Result<(), AllocError>
         requires { t < END }
         ensures state { OnOk result (self.new ≡ outcome (after_sync t self.old) (P.seen shapes.old).image) }
-        ensures noted { OnOk result (P.seen shapes.new ≡ after_reads (after_sync t self.old) (P.seen shapes.old)) }
-        ensures counted { OnOk result (P.asks shapes.new ≤ P.asks shapes.old + length (reads (after_sync t self.old)
-            (P.seen shapes.old).image)) }
-        ensures kept { (P.seen shapes.new).image ≡ (P.seen shapes.old).image }
-        ensures asked_before { BeginsWith (P.seen shapes.new).asked (P.seen shapes.old).asked }
+        ensures asked { OnOk result (IsAsked (after_sync t self.old)
+            (P.seen shapes.old) (P.seen shapes.new) (P.asks shapes.old) (P.asks shapes.new)) }
+        ensures lasts { Lasts (P.seen shapes.old) (P.seen shapes.new) }
     {
         if self.is_in(NmtState::Operational) {
             self.synced = true;

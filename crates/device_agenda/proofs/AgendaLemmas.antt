@@ -4,7 +4,7 @@ use Rattle.std.proofs.Common.{sym, ap, ◌∙◌, arith, inl, inr}
 use Rattle.std.specs.Prelude.{min, nat_le}
 use Rattle.std.specs.List.{AllByRecursion}
 use Rattle.std.proofs.lemmas.Bool.Decides.{nat_tests}
-use Rattle.asking.specs.Asking.{Asking, Answer, Seen, after_reads, outcome}
+use Rattle.asking.specs.Asking.{Asking, Answer, outcome}
 use Rattle.can_frame.specs.Frames.{BaseFrame}
 use Rattle.can_frame.specs.Winner.{contenders_of, IsWinner}
 use Rattle.can_frame.specs.declared.contender.Contender.{Contender}
@@ -115,14 +115,6 @@ sent_agenda a d e frames found waits plan is wins w =
     (sent_plan frames d a waits plan (λ f. sym (ap (λ (x : Device). x.waiting) is)
     ∙ silent_where_none e found wins (sym w ∙ f)))
 
--- ---- where nothing is read
-
-nothing_followed : (d : Device) (seen : Seen Part Content) → after_reads {V = Content} (Answer d) seen ≡ seen
-nothing_followed d seen = rw append-nil refl
-
-module _ (m : Asking Part Content Device) (d : Device) (e : m ≡ Answer d) where
-  pub same_state : (image : Image) → d ≡ outcome m image
-  same_state image = sym (ap (λ (m : Asking Part Content Device). outcome m image) e)
-
-  pub none_noted : (seen : Seen Part Content) → seen ≡ after_reads m seen
-  none_noted seen = sym (ap (λ (m : Asking Part Content Device). after_reads m seen) e ∙ nothing_followed d seen)
+-- where nothing is read
+pub same_state : (m : Asking Part Content Device) (d : Device) → m ≡ Answer d → (image : Image) → d ≡ outcome m image
+same_state m d e image = sym (ap (λ (m : Asking Part Content Device). outcome m image) e)

@@ -1,7 +1,9 @@
 -- What a device does in an instant in which it is told something.
-use Rattle.std.proofs.Common.{◌≡◌, ℕ, append-nil, Some, sym, ◌∙◌}
-use Rattle.asking.specs.Asking.{Answer, Seen, after_reads, outcome, reads}
-use Rattle.asking.proofs.QuestionLemmas.{followed_last, outcome_bind, reads_bind}
+use Rattle.std.proofs.Common.{◌≡◌, ℕ, Some, sym}
+use Rattle.asking.specs.Asking.{Answer, Seen, outcome}
+use Rattle.asking.specs.Record.{IsAsked}
+use Rattle.asking.proofs.QuestionLemmas.{outcome_bind}
+use Rattle.asking.proofs.RecordLemmas.{asked_last}
 use Rattle.co_parts.specs.Contents.{Content, Image}
 use Rattle.co_parts.specs.declared.part.Part.{Part}
 use Rattle.co_device.specs.Device.{Device, after_instant}
@@ -14,12 +16,7 @@ module _ (t : ℕ) (delivered : Delivered) (d : Device) where
   unfolding at_instant
   told_state image = sym (outcome_bind (hears t delivered d) (λ heard. Answer (after_instant t heard)) image)
 
-  pub told_noted : (seen : Seen Part Content)
-      → after_reads (hears t delivered d) seen ≡ after_reads (at_instant t (Some delivered) d) seen
+  pub told_asked : (old new : Seen Part Content) (x y : ℕ) → IsAsked (hears t delivered d) old new x y
+      → IsAsked (at_instant t (Some delivered) d) old new x y
   unfolding at_instant
-  told_noted seen = sym (followed_last (hears t delivered d) (after_instant t) seen)
-
-  pub told_reads : (image : Image) → reads (hears t delivered d) image ≡ reads (at_instant t (Some delivered) d) image
-  unfolding at_instant
-  told_reads image = sym (reads_bind (hears t delivered d) (λ heard. Answer (after_instant t heard)) image
-      ∙ append-nil _)
+  told_asked old new x y = asked_last (hears t delivered d) (after_instant t) old new x y

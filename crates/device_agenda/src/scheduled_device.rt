@@ -1,9 +1,9 @@
 //! A device that runs only when it has to.
 
-ghost use Rattle.std.specs.Prelude.{◌≡◌, ◌↔◌, ◌<◌, ◌≤◌, ◌+◌, ◌∷◌, [], Some, true, false, length, remove, slice_get};
+ghost use Rattle.std.specs.Prelude.{◌≡◌, ◌↔◌, ◌<◌, ◌≤◌, ◌∷◌, [], Some, true, false, length, remove, slice_get};
 ghost use Rattle.std.specs.Prelude.{IfOk, IfSome, OnOk, OnErr, IsErr, IsTrue};
-ghost use Rattle.asking.specs.Asking.{Answer, after_reads, outcome, reads};
-ghost use Rattle.asking.specs.Record.{BeginsWith};
+ghost use Rattle.asking.specs.Asking.{Answer, outcome};
+ghost use Rattle.asking.specs.Record.{IsAsked, Lasts};
 ghost use Rattle.can_frame.specs.Winner.{contenders_of, IsWinner};
 ghost use Rattle.co_base.specs.Ranges.{is_between};
 ghost use Rattle.co_values.specs.Values.{longest_value};
@@ -87,12 +87,9 @@ fn hear<P: Shapes>(
 ) -> Result<(), AllocError>
     requires { t < END }
     ensures state { OnOk result (device.new ≡ outcome (hears t delivery.now device.old) (P.seen shapes.old).image) }
-    ensures noted { OnOk result (P.seen shapes.new ≡ after_reads (hears t delivery.now device.old)
-        (P.seen shapes.old)) }
-    ensures counted { OnOk result (P.asks shapes.new
-        ≤ P.asks shapes.old + length (reads (hears t delivery.now device.old) (P.seen shapes.old).image)) }
-    ensures kept { (P.seen shapes.new).image ≡ (P.seen shapes.old).image }
-    ensures asked_before { BeginsWith (P.seen shapes.new).asked (P.seen shapes.old).asked }
+    ensures asked { OnOk result (IsAsked (hears t delivery.now device.old)
+        (P.seen shapes.old) (P.seen shapes.new) (P.asks shapes.old) (P.asks shapes.new)) }
+    ensures lasts { Lasts (P.seen shapes.old) (P.seen shapes.new) }
     ensures still { OnOk result (IsTrue device.old.spent → IsTrue device.new.spent) }
     ensures spent { OnErr result (IsTrue device.new.spent) }
 {
@@ -129,12 +126,9 @@ fn run<P: Shapes>(
     requires { t < END }
     ensures state { OnOk result (device.new ≡ outcome (at_instant t delivery.now device.old)
         (P.seen shapes.old).image) }
-    ensures noted { OnOk result (P.seen shapes.new ≡ after_reads (at_instant t delivery.now device.old)
-        (P.seen shapes.old)) }
-    ensures counted { OnOk result (P.asks shapes.new
-        ≤ P.asks shapes.old + length (reads (at_instant t delivery.now device.old) (P.seen shapes.old).image)) }
-    ensures kept { (P.seen shapes.new).image ≡ (P.seen shapes.old).image }
-    ensures asked_before { BeginsWith (P.seen shapes.new).asked (P.seen shapes.old).asked }
+    ensures asked { OnOk result (IsAsked (at_instant t delivery.now device.old)
+        (P.seen shapes.old) (P.seen shapes.new) (P.asks shapes.old) (P.asks shapes.new)) }
+    ensures lasts { Lasts (P.seen shapes.old) (P.seen shapes.new) }
     ensures refused { IsTrue device.old.spent → IsErr result }
     ensures spent { OnErr result (IsTrue device.new.spent) }
     ensures rests { OnOk result (Rests device.new) }
@@ -244,11 +238,9 @@ impl ScheduledDevice {
     pub fn power<P: Shapes>(&mut self, on: bool, t: u64, shapes: &mut P) -> Result<(), AllocError>
         requires { t < END }
         ensures state { OnOk result (self.new ≡ outcome (after_power on t self.old) (P.seen shapes.old).image) }
-        ensures noted { OnOk result (P.seen shapes.new ≡ after_reads (after_power on t self.old) (P.seen shapes.old)) }
-        ensures counted { OnOk result (P.asks shapes.new ≤ P.asks shapes.old + length (reads (after_power on t self.old)
-            (P.seen shapes.old).image)) }
-        ensures kept { (P.seen shapes.new).image ≡ (P.seen shapes.old).image }
-        ensures asked_before { BeginsWith (P.seen shapes.new).asked (P.seen shapes.old).asked }
+        ensures asked { OnOk result (IsAsked (after_power on t self.old)
+            (P.seen shapes.old) (P.seen shapes.new) (P.asks shapes.old) (P.asks shapes.new)) }
+        ensures lasts { Lasts (P.seen shapes.old) (P.seen shapes.new) }
         ensures refused { IsTrue self.old.spent → IsErr result }
         ensures spent { OnErr result (IsTrue self.new.spent) }
     {
@@ -282,12 +274,9 @@ impl ScheduledDevice {
         requires { t < END }
         ensures state { OnOk result (self.new ≡ outcome (at_instant t delivery.now self.old)
             (P.seen shapes.old).image) }
-        ensures noted { OnOk result (P.seen shapes.new ≡ after_reads (at_instant t delivery.now self.old)
-            (P.seen shapes.old)) }
-        ensures counted { OnOk result (P.asks shapes.new
-            ≤ P.asks shapes.old + length (reads (at_instant t delivery.now self.old) (P.seen shapes.old).image)) }
-        ensures kept { (P.seen shapes.new).image ≡ (P.seen shapes.old).image }
-        ensures asked_before { BeginsWith (P.seen shapes.new).asked (P.seen shapes.old).asked }
+        ensures asked { OnOk result (IsAsked (at_instant t delivery.now self.old)
+            (P.seen shapes.old) (P.seen shapes.new) (P.asks shapes.old) (P.asks shapes.new)) }
+        ensures lasts { Lasts (P.seen shapes.old) (P.seen shapes.new) }
         ensures refused { IsTrue self.old.spent → IsErr result }
         ensures spent { OnErr result (IsTrue self.new.spent) }
     {

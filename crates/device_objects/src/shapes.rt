@@ -2,7 +2,7 @@
 
 ghost use Rattle.std.specs.Prelude.{◌≡◌, ◌+◌, ◌-◌, ◌^◌, min, IfOk, OnOk, unwrap_or};
 ghost use Rattle.asking.specs.Asking.{after_ask};
-ghost use Rattle.asking.specs.Record.{BeginsWith};
+ghost use Rattle.asking.specs.Record.{Lasts};
 ghost use Rattle.co_parts.specs.Contents.{DefaultsAre, ShapeIs, no_shape};
 ghost use Rattle.co_parts.specs.Shared.{shared};
 
@@ -19,16 +19,14 @@ pub trait Shapes: Asked<Part, PartContent> {
         ensures value { IfOk result (λ r. (Self.seen self.old).image (Part.Defaults node) ≡ DefaultsAre (shared r)) }
         ensures noted { OnOk result (Self.seen self.new ≡ after_ask (Part.Defaults node) (Self.seen self.old)) }
         ensures counted { Self.asks self.new ≡ min (Self.asks self.old + 1) (2 ^ 64 - 1) }
-        ensures kept { (Self.seen self.new).image ≡ (Self.seen self.old).image }
-        ensures asked_before { BeginsWith (Self.seen self.new).asked (Self.seen self.old).asked };
+        ensures lasts { Lasts (Self.seen self.old) (Self.seen self.new) };
 
     /// The entries of a node, or none.
     fn shape(&mut self, node: u8) -> Result<Option<Rc<Shape>>, AllocError>
         ensures value { IfOk result (λ r. (Self.seen self.old).image (Part.Shape node) ≡ ShapeIs (shared r)) }
         ensures noted { OnOk result (Self.seen self.new ≡ after_ask (Part.Shape node) (Self.seen self.old)) }
         ensures counted { Self.asks self.new ≡ min (Self.asks self.old + 1) (2 ^ 64 - 1) }
-        ensures kept { (Self.seen self.new).image ≡ (Self.seen self.old).image }
-        ensures asked_before { BeginsWith (Self.seen self.new).asked (Self.seen self.old).asked };
+        ensures lasts { Lasts (Self.seen self.old) (Self.seen self.new) };
 }
 
 /// The entries of a device; where there are none, these of a device without entries.

@@ -1,8 +1,8 @@
 //! A node and its boot.
 
-ghost use Rattle.std.specs.Prelude.{◌≡◌, ◌≤◌, ◌+◌, ◌++◌, ◌∷◌, ◌↔◌, [], length, IfOk, IsTrue, OnOk};
-ghost use Rattle.asking.specs.Asking.{after_reads, outcome, reads};
-ghost use Rattle.asking.specs.Record.{BeginsWith};
+ghost use Rattle.std.specs.Prelude.{◌≡◌, ◌++◌, ◌∷◌, ◌↔◌, [], IfOk, IsTrue, OnOk};
+ghost use Rattle.asking.specs.Asking.{outcome};
+ghost use Rattle.asking.specs.Record.{BeginsWith, IsAsked, Lasts};
 ghost use Rattle.node_boot.specs.Boot as rules;
 ghost use Rattle.nmt_boot.specs.Manager.{note_of_loss as lost_by, note_of_time_out, queue_after_time_out};
 
@@ -61,13 +61,9 @@ impl Booting {
         ensures state { IfOk result (λ sent. outcome (rules.boot_nmt_slave deadline self.old.number)
             (P.seen boots.old).image ≡ record { stage = self.new.stage; request = sent.request; note = sent.note }) }
         ensures number { OnOk result (self.new.number ≡ self.old.number) }
-        ensures noted { OnOk result (P.seen boots.new ≡ after_reads (rules.boot_nmt_slave deadline self.old.number)
-            (P.seen boots.old)) }
-        ensures counted { OnOk result (P.asks boots.new
-            ≤ P.asks boots.old + length (reads (rules.boot_nmt_slave deadline self.old.number)
-            (P.seen boots.old).image)) }
-        ensures kept { (P.seen boots.new).image ≡ (P.seen boots.old).image }
-        ensures asked_before { BeginsWith (P.seen boots.new).asked (P.seen boots.old).asked }
+        ensures asked { OnOk result (IsAsked (rules.boot_nmt_slave deadline self.old.number)
+            (P.seen boots.old) (P.seen boots.new) (P.asks boots.old) (P.asks boots.new)) }
+        ensures lasts { Lasts (P.seen boots.old) (P.seen boots.new) }
     {
         let step = boot_nmt_slave(alloc, deadline, self.number, boots)?;
         self.stage = step.stage;
@@ -89,13 +85,9 @@ impl Booting {
             (rules.sdo_answer deadline self.old.number self.old.stage answer.now) (P.seen boots.old).image
             ≡ record { stage = self.new.stage; request = sent.request; note = sent.note }) }
         ensures number { OnOk result (self.new.number ≡ self.old.number) }
-        ensures noted { OnOk result (P.seen boots.new
-            ≡ after_reads (rules.sdo_answer deadline self.old.number self.old.stage answer.now) (P.seen boots.old)) }
-        ensures counted { OnOk result (P.asks boots.new
-            ≤ P.asks boots.old + length (reads (rules.sdo_answer deadline self.old.number self.old.stage answer.now)
-            (P.seen boots.old).image)) }
-        ensures kept { (P.seen boots.new).image ≡ (P.seen boots.old).image }
-        ensures asked_before { BeginsWith (P.seen boots.new).asked (P.seen boots.old).asked }
+        ensures asked { OnOk result (IsAsked (rules.sdo_answer deadline self.old.number self.old.stage answer.now)
+            (P.seen boots.old) (P.seen boots.new) (P.asks boots.old) (P.asks boots.new)) }
+        ensures lasts { Lasts (P.seen boots.old) (P.seen boots.new) }
     {
         let stage = mem::replace(&mut self.stage, BootStage::Unseen);
         let step = sdo_answer(alloc, deadline, self.number, stage, answer, boots)?;

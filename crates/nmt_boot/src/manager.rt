@@ -1,9 +1,9 @@
 //! The manager at a moment.
 
-ghost use Rattle.std.specs.Prelude.{◌≡◌, ◌<◌, ◌≤◌, ◌+◌, ◌*◌, ◌^◌, ◌++◌, ◌↔◌, Some, length, remove, slice_get, IfOk};
+ghost use Rattle.std.specs.Prelude.{◌≡◌, ◌<◌, ◌*◌, ◌^◌, ◌++◌, ◌↔◌, Some, length, remove, slice_get, IfOk};
 ghost use Rattle.std.specs.Prelude.{IfSome, OnOk, OnErr, IsErr, IsTrue};
-ghost use Rattle.asking.specs.Asking.{after_reads, outcome, reads};
-ghost use Rattle.asking.specs.Record.{BeginsWith};
+ghost use Rattle.asking.specs.Asking.{outcome};
+ghost use Rattle.asking.specs.Record.{BeginsWith, IsAsked, Lasts};
 ghost use Rattle.can_frame.specs.Winner.{contenders_of, IsWinner};
 ghost use Rattle.nmt_boot.specs.Manager as rules;
 
@@ -267,12 +267,9 @@ impl Manager {
         ensures notes { OnOk result (notes.new ≡ notes.old
             ++ (outcome (rules.after_boot_at t i self.old) (P.seen boots.old).image).1) }
         ensures notes_before { BeginsWith notes.new notes.old }
-        ensures noted { OnOk result (P.seen boots.new ≡ after_reads (rules.after_boot_at t i self.old)
-            (P.seen boots.old)) }
-        ensures counted { OnOk result (P.asks boots.new
-            ≤ P.asks boots.old + length (reads (rules.after_boot_at t i self.old) (P.seen boots.old).image)) }
-        ensures kept { (P.seen boots.new).image ≡ (P.seen boots.old).image }
-        ensures asked_before { BeginsWith (P.seen boots.new).asked (P.seen boots.old).asked }
+        ensures asked { OnOk result (IsAsked (rules.after_boot_at t i self.old)
+            (P.seen boots.old) (P.seen boots.new) (P.asks boots.old) (P.asks boots.new)) }
+        ensures lasts { Lasts (P.seen boots.old) (P.seen boots.new) }
     {
         let deadline = t + self.timeout();
         let number = self.nodes.number_at(i);
@@ -300,13 +297,9 @@ impl Manager {
         ensures notes { OnOk result (notes.new ≡ notes.old
             ++ (outcome (rules.after_answer_at t answer.now i self.old) (P.seen boots.old).image).1) }
         ensures notes_before { BeginsWith notes.new notes.old }
-        ensures noted { OnOk result (P.seen boots.new ≡ after_reads (rules.after_answer_at t answer.now i self.old)
-            (P.seen boots.old)) }
-        ensures counted { OnOk result (P.asks boots.new
-            ≤ P.asks boots.old + length (reads (rules.after_answer_at t answer.now i self.old)
-            (P.seen boots.old).image)) }
-        ensures kept { (P.seen boots.new).image ≡ (P.seen boots.old).image }
-        ensures asked_before { BeginsWith (P.seen boots.new).asked (P.seen boots.old).asked }
+        ensures asked { OnOk result (IsAsked (rules.after_answer_at t answer.now i self.old)
+            (P.seen boots.old) (P.seen boots.new) (P.asks boots.old) (P.asks boots.new)) }
+        ensures lasts { Lasts (P.seen boots.old) (P.seen boots.new) }
     {
         let deadline = t + self.timeout();
         let number = self.nodes.number_at(i);
@@ -333,12 +326,9 @@ impl Manager {
         ensures notes { OnOk result (notes.new ≡ notes.old
             ++ (outcome (rules.after_boot_up t place self.old) (P.seen boots.old).image).1) }
         ensures notes_before { BeginsWith notes.new notes.old }
-        ensures noted { OnOk result (P.seen boots.new ≡ after_reads (rules.after_boot_up t place self.old)
-            (P.seen boots.old)) }
-        ensures counted { OnOk result (P.asks boots.new
-            ≤ P.asks boots.old + length (reads (rules.after_boot_up t place self.old) (P.seen boots.old).image)) }
-        ensures kept { (P.seen boots.new).image ≡ (P.seen boots.old).image }
-        ensures asked_before { BeginsWith (P.seen boots.new).asked (P.seen boots.old).asked }
+        ensures asked { OnOk result (IsAsked (rules.after_boot_up t place self.old)
+            (P.seen boots.old) (P.seen boots.new) (P.asks boots.old) (P.asks boots.new)) }
+        ensures lasts { Lasts (P.seen boots.old) (P.seen boots.new) }
     {
         match place {
             None => Ok(()),
@@ -363,13 +353,9 @@ impl Manager {
         ensures notes { OnOk result (notes.new ≡ notes.old
             ++ (outcome (rules.after_sdo_frame t answer.now place self.old) (P.seen boots.old).image).1) }
         ensures notes_before { BeginsWith notes.new notes.old }
-        ensures noted { OnOk result (P.seen boots.new ≡ after_reads (rules.after_sdo_frame t answer.now place self.old)
-            (P.seen boots.old)) }
-        ensures counted { OnOk result (P.asks boots.new
-            ≤ P.asks boots.old + length (reads (rules.after_sdo_frame t answer.now place self.old)
-            (P.seen boots.old).image)) }
-        ensures kept { (P.seen boots.new).image ≡ (P.seen boots.old).image }
-        ensures asked_before { BeginsWith (P.seen boots.new).asked (P.seen boots.old).asked }
+        ensures asked { OnOk result (IsAsked (rules.after_sdo_frame t answer.now place self.old)
+            (P.seen boots.old) (P.seen boots.new) (P.asks boots.old) (P.asks boots.new)) }
+        ensures lasts { Lasts (P.seen boots.old) (P.seen boots.new) }
     {
         match place {
             None => Ok(()),
@@ -392,12 +378,9 @@ impl Manager {
         ensures notes { OnOk result (notes.new ≡ notes.old
             ++ (outcome (rules.after_frame t frame.now self.old) (P.seen boots.old).image).1) }
         ensures notes_before { BeginsWith notes.new notes.old }
-        ensures noted { OnOk result (P.seen boots.new ≡ after_reads (rules.after_frame t frame.now self.old)
-            (P.seen boots.old)) }
-        ensures counted { OnOk result (P.asks boots.new
-            ≤ P.asks boots.old + length (reads (rules.after_frame t frame.now self.old) (P.seen boots.old).image)) }
-        ensures kept { (P.seen boots.new).image ≡ (P.seen boots.old).image }
-        ensures asked_before { BeginsWith (P.seen boots.new).asked (P.seen boots.old).asked }
+        ensures asked { OnOk result (IsAsked (rules.after_frame t frame.now self.old)
+            (P.seen boots.old) (P.seen boots.new) (P.asks boots.old) (P.asks boots.new)) }
+        ensures lasts { Lasts (P.seen boots.old) (P.seen boots.new) }
     {
         let bytes = frame.bytes();
         if is_boot_up(bytes) {
@@ -478,12 +461,9 @@ impl Manager {
         ensures notes { OnOk result (notes.new ≡ notes.old
             ++ (outcome (rules.after_frame t frame.now self.old) (P.seen boots.old).image).1) }
         ensures notes_before { BeginsWith notes.new notes.old }
-        ensures noted { OnOk result (P.seen boots.new ≡ after_reads (rules.after_frame t frame.now self.old)
-            (P.seen boots.old)) }
-        ensures counted { OnOk result (P.asks boots.new
-            ≤ P.asks boots.old + length (reads (rules.after_frame t frame.now self.old) (P.seen boots.old).image)) }
-        ensures kept { (P.seen boots.new).image ≡ (P.seen boots.old).image }
-        ensures asked_before { BeginsWith (P.seen boots.new).asked (P.seen boots.old).asked }
+        ensures asked { OnOk result (IsAsked (rules.after_frame t frame.now self.old)
+            (P.seen boots.old) (P.seen boots.new) (P.asks boots.old) (P.asks boots.new)) }
+        ensures lasts { Lasts (P.seen boots.old) (P.seen boots.new) }
         ensures refused { IsTrue self.old.spent → IsErr result }
         ensures spent { OnErr result (IsTrue self.new.spent) }
     {

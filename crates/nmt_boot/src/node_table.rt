@@ -1,8 +1,8 @@
 //! The table of the manager's nodes.
 
-ghost use Rattle.std.specs.Prelude.{◌≡◌, ◌≤◌, ◌<◌, ◌+◌, ◌++◌, ◌↔◌, [], length, map, IfOk, IfSome, IsTrue, OnOk};
-ghost use Rattle.asking.specs.Asking.{after_reads, outcome, reads};
-ghost use Rattle.asking.specs.Record.{BeginsWith};
+ghost use Rattle.std.specs.Prelude.{◌≡◌, ◌≤◌, ◌<◌, ◌++◌, ◌↔◌, [], length, map, IfOk, IfSome, IsTrue, OnOk};
+ghost use Rattle.asking.specs.Asking.{outcome};
+ghost use Rattle.asking.specs.Record.{BeginsWith, IsAsked, Lasts};
 ghost use Rattle.co_base.specs.Moments.{earliest};
 ghost use Rattle.node_boot.specs.Boot.{boot_nmt_slave, sdo_answer};
 ghost use Rattle.nmt_boot.specs.Manager.{deadlines, note_of_loss, note_of_time_out, node_after, node_at};
@@ -246,13 +246,9 @@ impl NodeTable {
             (P.seen boots.old).image).stage) }
         ensures sent { IfOk result (λ sent. sent
             ≡ sending_of (outcome (boot_nmt_slave deadline (node_at self.old i).number) (P.seen boots.old).image)) }
-        ensures noted { OnOk result (P.seen boots.new
-            ≡ after_reads (boot_nmt_slave deadline (node_at self.old i).number) (P.seen boots.old)) }
-        ensures counted { OnOk result (P.asks boots.new
-            ≤ P.asks boots.old + length (reads (boot_nmt_slave deadline (node_at self.old i).number)
-            (P.seen boots.old).image)) }
-        ensures kept { (P.seen boots.new).image ≡ (P.seen boots.old).image }
-        ensures asked_before { BeginsWith (P.seen boots.new).asked (P.seen boots.old).asked }
+        ensures asked { OnOk result (IsAsked (boot_nmt_slave deadline (node_at self.old i).number)
+            (P.seen boots.old) (P.seen boots.new) (P.asks boots.old) (P.asks boots.new)) }
+        ensures lasts { Lasts (P.seen boots.old) (P.seen boots.new) }
     {
         self.known = false;
         let sent = self.nodes[i].boot(alloc, deadline, boots)?;
@@ -278,15 +274,9 @@ impl NodeTable {
             ≡ sending_of
             (outcome (sdo_answer deadline (node_at self.old i).number (node_at self.old i).stage answer.now)
             (P.seen boots.old).image)) }
-        ensures noted { OnOk result (P.seen boots.new
-            ≡ after_reads (sdo_answer deadline (node_at self.old i).number (node_at self.old i).stage answer.now)
-            (P.seen boots.old)) }
-        ensures counted { OnOk result (P.asks boots.new
-            ≤ P.asks boots.old
-            + length (reads (sdo_answer deadline (node_at self.old i).number (node_at self.old i).stage answer.now)
-            (P.seen boots.old).image)) }
-        ensures kept { (P.seen boots.new).image ≡ (P.seen boots.old).image }
-        ensures asked_before { BeginsWith (P.seen boots.new).asked (P.seen boots.old).asked }
+        ensures asked { OnOk result (IsAsked (sdo_answer deadline (node_at self.old i).number (node_at self.old i).stage
+            answer.now) (P.seen boots.old) (P.seen boots.new) (P.asks boots.old) (P.asks boots.new)) }
+        ensures lasts { Lasts (P.seen boots.old) (P.seen boots.new) }
     {
         self.known = false;
         let sent = self.nodes[i].take_answer(alloc, deadline, answer, boots)?;

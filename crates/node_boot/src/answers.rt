@@ -1,8 +1,8 @@
 //! What an SDO answer of a node does to its boot.
 
-ghost use Rattle.std.specs.Prelude.{◌≡◌, ◌≤◌, ◌+◌, length, IfOk, OnOk};
-ghost use Rattle.asking.specs.Asking.{after_reads, outcome, reads};
-ghost use Rattle.asking.specs.Record.{BeginsWith};
+ghost use Rattle.std.specs.Prelude.{◌≡◌, IfOk, OnOk};
+ghost use Rattle.asking.specs.Asking.{outcome};
+ghost use Rattle.asking.specs.Record.{IsAsked, Lasts};
 ghost use Rattle.node_boot.specs.Boot as rules;
 ghost use Rattle.node_boot.specs.declared.boot_stage.BootStage.TheVariants.{Comparing, Writing};
 
@@ -31,15 +31,9 @@ fn after_compare<P: Boots>(
     ensures state { IfOk result (λ step. step
         ≡ outcome (rules.after_compare deadline old node place expected advance.stage advance.progress)
         (P.seen boots.old).image) }
-    ensures noted { OnOk result (P.seen boots.new
-        ≡ after_reads (rules.after_compare deadline old node place expected advance.stage advance.progress)
-        (P.seen boots.old)) }
-    ensures counted { OnOk result (P.asks boots.new
-        ≤ P.asks boots.old
-        + length (reads (rules.after_compare deadline old node place expected advance.stage advance.progress)
-        (P.seen boots.old).image)) }
-    ensures kept { (P.seen boots.new).image ≡ (P.seen boots.old).image }
-    ensures asked_before { BeginsWith (P.seen boots.new).asked (P.seen boots.old).asked }
+    ensures asked { OnOk result (IsAsked (rules.after_compare deadline old node place expected advance.stage
+        advance.progress) (P.seen boots.old) (P.seen boots.new) (P.asks boots.old) (P.asks boots.new)) }
+    ensures lasts { Lasts (P.seen boots.old) (P.seen boots.new) }
 {
     let transfer = advance.stage;
     match advance.progress {
@@ -98,13 +92,9 @@ fn after_write<P: Boots>(
 ) -> Result<BootStep, AllocError>
     ensures state { IfOk result (λ step. step
         ≡ outcome (rules.after_write deadline old node place advance.stage advance.progress) (P.seen boots.old).image) }
-    ensures noted { OnOk result (P.seen boots.new
-        ≡ after_reads (rules.after_write deadline old node place advance.stage advance.progress) (P.seen boots.old)) }
-    ensures counted { OnOk result (P.asks boots.new
-        ≤ P.asks boots.old + length (reads (rules.after_write deadline old node place advance.stage advance.progress)
-        (P.seen boots.old).image)) }
-    ensures kept { (P.seen boots.new).image ≡ (P.seen boots.old).image }
-    ensures asked_before { BeginsWith (P.seen boots.new).asked (P.seen boots.old).asked }
+    ensures asked { OnOk result (IsAsked (rules.after_write deadline old node place advance.stage advance.progress)
+        (P.seen boots.old) (P.seen boots.new) (P.asks boots.old) (P.asks boots.new)) }
+    ensures lasts { Lasts (P.seen boots.old) (P.seen boots.new) }
 {
     let transfer = advance.stage;
     match advance.progress {
@@ -136,13 +126,9 @@ pub fn sdo_answer<P: Boots>(
 ) -> Result<BootStep, AllocError>
     ensures state { IfOk result (λ step. step ≡ outcome (rules.sdo_answer deadline node stage answer.now)
         (P.seen boots.old).image) }
-    ensures noted { OnOk result (P.seen boots.new ≡ after_reads (rules.sdo_answer deadline node stage answer.now)
-        (P.seen boots.old)) }
-    ensures counted { OnOk result (P.asks boots.new
-        ≤ P.asks boots.old + length (reads (rules.sdo_answer deadline node stage answer.now)
-        (P.seen boots.old).image)) }
-    ensures kept { (P.seen boots.new).image ≡ (P.seen boots.old).image }
-    ensures asked_before { BeginsWith (P.seen boots.new).asked (P.seen boots.old).asked }
+    ensures asked { OnOk result (IsAsked (rules.sdo_answer deadline node stage answer.now)
+        (P.seen boots.old) (P.seen boots.new) (P.asks boots.old) (P.asks boots.new)) }
+    ensures lasts { Lasts (P.seen boots.old) (P.seen boots.new) }
 {
     match stage {
         BootStage::Comparing {

@@ -2,7 +2,7 @@
 
 ghost use Rattle.std.specs.Prelude.{◌≡◌, ◌<◌, ◌+◌, ◌-◌, ◌^◌, min, IfOk, IfSome, OnOk};
 ghost use Rattle.asking.specs.Asking.{after_ask};
-ghost use Rattle.asking.specs.Record.{BeginsWith};
+ghost use Rattle.asking.specs.Record.{Lasts};
 ghost use Rattle.co_parts.specs.Contents.{BootIs, ExpectIs};
 ghost use Rattle.co_parts.specs.Images.{greatest_place, IsBootWrite};
 ghost use Rattle.co_parts.specs.Shared.{shared};
@@ -20,8 +20,7 @@ pub trait Boots: Asked<Part, PartContent> {
         ensures value { IfOk result (λ r. (Self.seen self.old).image (Part.Expect node) ≡ ExpectIs (shared r)) }
         ensures noted { OnOk result (Self.seen self.new ≡ after_ask (Part.Expect node) (Self.seen self.old)) }
         ensures counted { Self.asks self.new ≡ min (Self.asks self.old + 1) (2 ^ 64 - 1) }
-        ensures kept { (Self.seen self.new).image ≡ (Self.seen self.old).image }
-        ensures asked_before { BeginsWith (Self.seen self.new).asked (Self.seen self.old).asked };
+        ensures lasts { Lasts (Self.seen self.old) (Self.seen self.new) };
 
     /// The write of a node's concise DCF with this number, from 0, or none: its data has 1 to 512 bytes, and its
     /// number isn't the greatest.
@@ -31,6 +30,5 @@ pub trait Boots: Asked<Part, PartContent> {
         ensures last { IfOk result (λ r. IfSome (shared r) (λ write. place < greatest_place)) }
         ensures noted { OnOk result (Self.seen self.new ≡ after_ask (Part.Boot node place) (Self.seen self.old)) }
         ensures counted { Self.asks self.new ≡ min (Self.asks self.old + 1) (2 ^ 64 - 1) }
-        ensures kept { (Self.seen self.new).image ≡ (Self.seen self.old).image }
-        ensures asked_before { BeginsWith (Self.seen self.new).asked (Self.seen self.old).asked };
+        ensures lasts { Lasts (Self.seen self.old) (Self.seen self.new) };
 }

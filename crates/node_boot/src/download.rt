@@ -1,8 +1,8 @@
 //! The download of a node's configuration (CiA 302): the writes of its concise DCF one by one.
 
-ghost use Rattle.std.specs.Prelude.{◌≡◌, ◌<◌, ◌≤◌, ◌+◌, length, IfOk, IfSome, OnOk};
-ghost use Rattle.asking.specs.Asking.{after_reads, outcome, reads};
-ghost use Rattle.asking.specs.Record.{BeginsWith};
+ghost use Rattle.std.specs.Prelude.{◌≡◌, ◌<◌, IfOk, IfSome, OnOk};
+ghost use Rattle.asking.specs.Asking.{outcome};
+ghost use Rattle.asking.specs.Record.{IsAsked, Lasts};
 ghost use Rattle.co_parts.specs.Images.{greatest_place, IsBootWrite};
 ghost use Rattle.co_parts.specs.Shared.{shared};
 ghost use Rattle.node_boot.specs.Boot as rules;
@@ -54,13 +54,9 @@ pub(crate) fn download_configuration<P: Boots>(
 ) -> Result<BootStep, AllocError>
     ensures state { IfOk result (λ step. step ≡ outcome (rules.download_configuration deadline node place)
         (P.seen boots.old).image) }
-    ensures noted { OnOk result (P.seen boots.new ≡ after_reads (rules.download_configuration deadline node place)
-        (P.seen boots.old)) }
-    ensures counted { OnOk result (P.asks boots.new
-        ≤ P.asks boots.old + length (reads (rules.download_configuration deadline node place)
-        (P.seen boots.old).image)) }
-    ensures kept { (P.seen boots.new).image ≡ (P.seen boots.old).image }
-    ensures asked_before { BeginsWith (P.seen boots.new).asked (P.seen boots.old).asked }
+    ensures asked { OnOk result (IsAsked (rules.download_configuration deadline node place)
+        (P.seen boots.old) (P.seen boots.new) (P.asks boots.old) (P.asks boots.new)) }
+    ensures lasts { Lasts (P.seen boots.old) (P.seen boots.new) }
 {
     let next = boots.boot(node, place)?;
     write(alloc, deadline, place, &next)

@@ -1,9 +1,9 @@
 //! The check of device type and identity (CiA 302): numbers that a node is asked for, and that are expected.
 
-ghost use Rattle.std.specs.Prelude.{◌≡◌, ◌≤◌, ◌+◌, ◌&&◌, length, nat_le, find, IfOk, OnOk, unwrap_or};
+ghost use Rattle.std.specs.Prelude.{◌≡◌, ◌≤◌, ◌&&◌, length, nat_le, find, IfOk, OnOk, unwrap_or};
 ghost use Rattle.std.specs.Option.{option_copied};
-ghost use Rattle.asking.specs.Asking.{after_reads, outcome, reads};
-ghost use Rattle.asking.specs.Record.{BeginsWith};
+ghost use Rattle.asking.specs.Asking.{outcome};
+ghost use Rattle.asking.specs.Record.{IsAsked, Lasts};
 ghost use Rattle.byteorder.specs.Endian.{little_number};
 ghost use Rattle.co_parts.specs.Contents.{no_identity};
 ghost use Rattle.co_parts.specs.Shared.{shared};
@@ -95,13 +95,9 @@ pub(crate) fn check_identity<P: Boots>(
 ) -> Result<BootStep, AllocError>
     ensures state { IfOk result (λ step. step ≡ outcome (rules.check_identity deadline node expected place)
         (P.seen boots.old).image) }
-    ensures noted { OnOk result (P.seen boots.new ≡ after_reads (rules.check_identity deadline node expected place)
-        (P.seen boots.old)) }
-    ensures counted { OnOk result (P.asks boots.new
-        ≤ P.asks boots.old + length (reads (rules.check_identity deadline node expected place)
-        (P.seen boots.old).image)) }
-    ensures kept { (P.seen boots.new).image ≡ (P.seen boots.old).image }
-    ensures asked_before { BeginsWith (P.seen boots.new).asked (P.seen boots.old).asked }
+    ensures asked { OnOk result (IsAsked (rules.check_identity deadline node expected place)
+        (P.seen boots.old) (P.seen boots.new) (P.asks boots.old) (P.asks boots.new)) }
+    ensures lasts { Lasts (P.seen boots.old) (P.seen boots.new) }
 {
     match next_compared(&expected, place) {
         None => download_configuration(alloc, deadline, node, 0, boots),
@@ -130,12 +126,9 @@ pub fn boot_nmt_slave<P: Boots>(
     boots: &mut P,
 ) -> Result<BootStep, AllocError>
     ensures state { IfOk result (λ step. step ≡ outcome (rules.boot_nmt_slave deadline node) (P.seen boots.old).image) }
-    ensures noted { OnOk result (P.seen boots.new ≡ after_reads (rules.boot_nmt_slave deadline node)
-        (P.seen boots.old)) }
-    ensures counted { OnOk result (P.asks boots.new
-        ≤ P.asks boots.old + length (reads (rules.boot_nmt_slave deadline node) (P.seen boots.old).image)) }
-    ensures kept { (P.seen boots.new).image ≡ (P.seen boots.old).image }
-    ensures asked_before { BeginsWith (P.seen boots.new).asked (P.seen boots.old).asked }
+    ensures asked { OnOk result (IsAsked (rules.boot_nmt_slave deadline node)
+        (P.seen boots.old) (P.seen boots.new) (P.asks boots.old) (P.asks boots.new)) }
+    ensures lasts { Lasts (P.seen boots.old) (P.seen boots.new) }
 {
     let identity = boots.expect(node)?;
     check_identity(alloc, deadline, node, identity_of(&identity), 0, boots)

@@ -1,5 +1,5 @@
 use Rattle.std.proofs.Common.{◌<◌, ◌∙◌, length, arith}
-use Rattle.asking.proofs.RecordLemmas.{in_turn}
+use Rattle.asking.proofs.RecordLemmas.{lasts_in_turn}
 use Rattle.device_agenda.specs.Agenda.{at_instant}
 use Rattle.asking.proofs.EachLemmas.{each_state, each_noted, each_counted}
 use Rattle.bus_devices.proofs.block.run_each.Goals as goal
@@ -16,14 +16,13 @@ loop-device-preserved g c =
     let within : i < length ss = omega arith in
     let e = c.in_ok-instant.ensures in
     record {
-      state = each_state step ss i d t within image (rw old.kept at e.state) ∙ old.state;
-      noted = each_noted step ss i d t within _ _ e.noted ∙ old.noted;
+      state = each_state step ss i d t within image (rw old.lasts.kept at e.state) ∙ old.state;
+      noted = each_noted step ss i d t within _ _ e.asked.noted ∙ old.noted;
       counted = omega (
         arith,
         each_counted step ss i d t within image (g.P.Asked.asks c.loop-device.shapes)
-            (g.P.Asked.asks c.instant.new.shapes) (rw old.kept at e.counted),
+            (g.P.Asked.asks c.instant.new.shapes) (rw old.lasts.kept at e.asked.counted),
         old.counted,
       );
-      kept = e.kept ∙ old.kept;
-      asked_before = in_turn old.asked_before e.asked_before;
+      lasts = lasts_in_turn old.lasts e.lasts;
     }

@@ -1,7 +1,7 @@
 use Rattle.std.proofs.Common.{◌++◌, List, subst, sym}
 use Rattle.std.proofs.lemmas.Result.{on_ok_weaker}
 use Rattle.bus_devices.specs.Blocks.{AreAgendasOf}
-use Rattle.bus_devices.proofs.BlockLemmas.{back_is, both_agendas, both_counted, both_noted, both_on_ok, both_state}
+use Rattle.bus_devices.proofs.BlockLemmas.{back_is, both_agendas, both_asked, both_on_ok, both_state}
 use Rattle.bus_devices.proofs.BlockLemmas.{front_is, one_set}
 use Rattle.device_agenda.specs.Agenda.{at_instant}
 use Rattle.device_agenda.specs.declared.agenda.Agenda.{Agenda}
@@ -24,7 +24,7 @@ returns-clause-agendas g t c =
     (sym (one_set c.split_at_mut-firsts.result.0.now c.run_block.new.agenda
     c.split_at_mut-firsts.ensures.front_len))
     (both_agendas step ds image c.run_block.new.agenda c.run_blocks.new.agendas c.run_block.new.devices
-    c.run_blocks.new.devices (rw front at one.state) (rw (back, one.kept) at e) one.agenda h))
+    c.run_blocks.new.devices (rw front at one.state) (rw (back, one.lasts.kept) at e) one.agenda h))
     others.state others.agendas
 
 pub returns-clause-state : goal.returns-clause-state
@@ -38,32 +38,15 @@ returns-clause-state g t c =
     c.split_at_mut-block.ensures.back in
     let one = c.in_ok-run_block.ensures in
     on_ok_weaker c.run_blocks.result (λ e. both_state step ds image c.run_block.new.devices c.run_blocks.new.devices
-    (rw front at one.state) (rw (back, one.kept) at e)) c.run_blocks.ensures.state
+    (rw front at one.state) (rw (back, one.lasts.kept) at e)) c.run_blocks.ensures.state
 
-pub returns-clause-noted : goal.returns-clause-noted
-returns-clause-noted g t c =
+pub returns-clause-asked : goal.returns-clause-asked
+returns-clause-asked g t c =
     let ds = c.args.devices.now in
     let step = at_instant c.args.t c.args.delivery.now in
     let front = front_is c.first_block.result ds c.split_at_mut-block.result.0.now c.first_block.ensures
     c.split_at_mut-block.ensures.front in
     let back = back_is c.first_block.result ds c.split_at_mut-block.result.1.now c.first_block.ensures
     c.split_at_mut-block.ensures.back in
-    let seen = g.P.Asked.seen in
-    on_ok_weaker c.run_blocks.result (λ e. both_noted step ds (seen c.args.shapes.now) (seen c.run_block.new.shapes)
-    (seen c.run_blocks.new.shapes) (rw front at c.in_ok-run_block.ensures.noted)
-    (rw back at e)) c.run_blocks.ensures.noted
-
-pub returns-clause-counted : goal.returns-clause-counted
-returns-clause-counted g t c =
-    let ds = c.args.devices.now in
-    let step = at_instant c.args.t c.args.delivery.now in
-    let image = (g.P.Asked.seen c.args.shapes.now).image in
-    let front = front_is c.first_block.result ds c.split_at_mut-block.result.0.now c.first_block.ensures
-    c.split_at_mut-block.ensures.front in
-    let back = back_is c.first_block.result ds c.split_at_mut-block.result.1.now c.first_block.ensures
-    c.split_at_mut-block.ensures.back in
-    let asks = g.P.Asked.asks in
-    let one = c.in_ok-run_block.ensures in
-    on_ok_weaker c.run_blocks.result (λ e. both_counted step ds image (asks c.args.shapes.now)
-    (asks c.run_block.new.shapes) (asks c.run_blocks.new.shapes) (rw front at one.counted)
-    (rw (back, one.kept) at e)) c.run_blocks.ensures.counted
+    on_ok_weaker c.run_blocks.result (λ e. both_asked step ds _ _ _ _ _ _ (rw front at c.in_ok-run_block.ensures.asked)
+    (rw back at e)) c.run_blocks.ensures.asked

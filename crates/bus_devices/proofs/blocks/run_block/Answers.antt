@@ -1,6 +1,6 @@
 use Rattle.std.proofs.Common.{sym, ◌∙◌}
 use Rattle.device_agenda.proofs.SleepLemmas.{nothing_happens}
-use Rattle.bus_devices.proofs.IdleLemmas.{idle_noted, idle_state}
+use Rattle.bus_devices.proofs.IdleLemmas.{idle_asked, idle_state}
 use Rattle.bus_devices.proofs.blocks.run_block.Goals as goal
 
 pub returns-then-sleeps_through-clause-state : goal.returns-then-sleeps_through-clause-state
@@ -9,8 +9,8 @@ returns-then-sleeps_through-clause-state g c =
     (c.sleeps_through.ensures.bound c.if-sleeps_through.true) c.requires.known (sym c.sleeps_through.ensures.sleeps
     ∙ c.if-sleeps_through.true) (g.P.Asked.seen c.args.shapes.now).image
 
-pub returns-then-sleeps_through-clause-noted : goal.returns-then-sleeps_through-clause-noted
-returns-then-sleeps_through-clause-noted g c =
-    idle_noted nothing_happens c.args.agenda.now c.args.devices.now c.args.t c.args.delivery.now
+pub returns-then-sleeps_through-clause-asked : goal.returns-then-sleeps_through-clause-asked
+returns-then-sleeps_through-clause-asked g c =
+    idle_asked nothing_happens c.args.agenda.now c.args.devices.now c.args.t c.args.delivery.now
     (c.sleeps_through.ensures.bound c.if-sleeps_through.true) c.requires.known (sym c.sleeps_through.ensures.sleeps
-    ∙ c.if-sleeps_through.true) (g.P.Asked.seen c.args.shapes.now)
+    ∙ c.if-sleeps_through.true) _ _

@@ -2,7 +2,7 @@ use Rattle.std.proofs.Common.{◌≡◌, ◌++◌, ◌≤◌, ◌+◌, length, t
 use Rattle.std.specs.Prelude.{true}
 use Rattle.co_device.specs.Device.{after_power}
 use Rattle.asking.specs.Asking.{outcome, after_reads, reads}
-use Rattle.asking.specs.Record.{BeginsWith}
+use Rattle.asking.specs.Record.{Lasts}
 use Rattle.asking.specs.Each.{each}
 use Rattle.bus_devices.proofs.lists.power_all.Given as goal
 
@@ -18,6 +18,5 @@ invariant-loop-device g l =
       noted : after_reads rest (g.P.Asked.seen l.shapes) ≡ after_reads all seen;
       counted : g.P.Asked.asks l.shapes + length (reads rest seen.image)
           ≤ g.P.Asked.asks l.fn.shapes + length (reads all seen.image);
-      kept : (g.P.Asked.seen l.shapes).image ≡ seen.image;
-      asked_before : BeginsWith (g.P.Asked.seen l.shapes).asked seen.asked;
+      lasts : Lasts seen (g.P.Asked.seen l.shapes);
     }

@@ -1,7 +1,7 @@
 use Rattle.std.proofs.Common.{◌≡◌, ◌++◌, ◌≤◌, ◌+◌, length, take, drop}
 use Rattle.bus_events.specs.Events.{after_power_at}
 use Rattle.asking.specs.Asking.{outcome, after_reads, reads}
-use Rattle.asking.specs.Record.{BeginsWith}
+use Rattle.asking.specs.Record.{Lasts}
 use Rattle.asking.specs.Each.{each}
 use Rattle.bus_events.proofs.events.power_each.Given as goal
 
@@ -17,6 +17,5 @@ invariant-loop-device g l =
       noted : after_reads rest (g.P.Asked.seen l.shapes) ≡ after_reads all seen;
       counted : g.P.Asked.asks l.shapes + length (reads rest seen.image)
           ≤ g.P.Asked.asks l.fn.shapes + length (reads all seen.image);
-      kept : (g.P.Asked.seen l.shapes).image ≡ seen.image;
-      asked_before : BeginsWith (g.P.Asked.seen l.shapes).asked seen.asked;
+      lasts : Lasts seen (g.P.Asked.seen l.shapes);
     }

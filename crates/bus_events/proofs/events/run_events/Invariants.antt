@@ -1,6 +1,6 @@
 use Rattle.std.proofs.Common.{◌≡◌, ◌≤◌, ◌+◌, length, drop}
 use Rattle.asking.specs.Asking.{outcome, after_reads, reads}
-use Rattle.asking.specs.Record.{BeginsWith}
+use Rattle.asking.specs.Record.{Lasts}
 use Rattle.bus_events.specs.Events.{after_events_at}
 use Rattle.bus_events.proofs.events.run_events.Given as goal
 
@@ -16,6 +16,5 @@ invariant-loop-step g l =
       noted : after_reads rest (g.P.Asked.seen l.shapes) ≡ after_reads all seen;
       counted : g.P.Asked.asks l.shapes + length (reads rest seen.image)
           ≤ g.P.Asked.asks l.fn.shapes + length (reads all seen.image);
-      kept : (g.P.Asked.seen l.shapes).image ≡ seen.image;
-      asked_before : BeginsWith (g.P.Asked.seen l.shapes).asked seen.asked;
+      lasts : Lasts seen (g.P.Asked.seen l.shapes);
     }

@@ -1,6 +1,6 @@
 use Rattle.std.proofs.Common.{◌≡◌, arith, length, sym, ◌∙◌}
 use Rattle.std.proofs.lemmas.List.{with_items_is}
-use Rattle.can_bus.proofs.WindowLemmas.{events_run_state, none_followed, none_state}
+use Rattle.can_bus.proofs.WindowLemmas.{events_run_state, none_asked, none_state}
 use Rattle.can_bus.specs.contracts.bus_state.BusState.{the_view}
 use Rattle.can_bus.proofs.windows.run_due.Goals as goal
 
@@ -10,11 +10,11 @@ returns-then-is_empty-clause-state g c =
     (none_state c.args.t (the_view c.bus.inside) c.due-steps.result.now c.due-steps.ensures.steps
     (sym c.is_empty.ensures ∙ c.if-is_empty.true) (g.P.Asked.seen c.args.parts.now).image)
 
-pub returns-then-is_empty-clause-noted : goal.returns-then-is_empty-clause-noted
-returns-then-is_empty-clause-noted g c =
+pub returns-then-is_empty-clause-asked : goal.returns-then-is_empty-clause-asked
+returns-then-is_empty-clause-asked g c =
     rw (← c.bus.view_is)
-    (none_followed c.args.t (the_view c.bus.inside) c.due-steps.result.now c.due-steps.ensures.steps
-    (sym c.is_empty.ensures ∙ c.if-is_empty.true) (g.P.Asked.seen c.args.parts.now))
+    (none_asked c.args.t (the_view c.bus.inside) c.due-steps.result.now c.due-steps.ensures.steps
+    (sym c.is_empty.ensures ∙ c.if-is_empty.true) _ _)
 
 pub returns-clause-state : goal.returns-clause-state
 returns-clause-state g c =

@@ -1,6 +1,6 @@
 use Rattle.std.proofs.Common.{◌≡◌, ◌≤◌, ◌+◌, length}
 use Rattle.asking.specs.Asking.{outcome, after_reads, reads}
-use Rattle.asking.specs.Record.{BeginsWith}
+use Rattle.asking.specs.Record.{Lasts}
 use Rattle.co_device.specs.Receiving.{rpdo_places, after_rpdo, walk}
 use Rattle.co_device.proofs.WalkLemmas.{from}
 use Rattle.co_device.proofs.device_state.DeviceState.take_pdo.Given as goal
@@ -16,7 +16,6 @@ invariant-loop-i g l =
       noted : after_reads rest (g.P.Asked.seen l.shapes) ≡ after_reads all seen;
       counted : g.P.Asked.asks l.shapes + length (reads rest seen.image)
           ≤ g.P.Asked.asks l.fn.shapes + length (reads all seen.image);
-      kept : (g.P.Asked.seen l.shapes).image ≡ seen.image;
-      asked_before : BeginsWith (g.P.Asked.seen l.shapes).asked seen.asked;
+      lasts : Lasts seen (g.P.Asked.seen l.shapes);
       many : length l.self.rpdos ≡ length l.fn.self.rpdos;
     }
