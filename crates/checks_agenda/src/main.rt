@@ -1,11 +1,13 @@
 //! Runs the networks that its input lays out from due moment to due moment, and prints the runs.
 //!
 //! A line is an edit of the project, as a session takes it, or `run`: a run to the horizon; or `reads`: a run
-//! to the horizon and what it reads; or `diag`: all that is wrong with the project; or `new`, for the first project.
+//! to the horizon and what it reads; or `diag`: all that is wrong with the project; or `ask` and a query, which a
+//! workbench answers; or `new`, for the first project.
 //! Prints each line but those of data sheets, and of a run the number of its turns and of the lines that it told,
 //! whether a copy of the bus that was taken halfway was equal then, was left behind by the rest of the run, and came to
 //! the same by a run of its own, and the first moments; of what is read the number of calls that asked, of readings
-//! and of names, and the names in order; and the line of each diagnostic.
+//! and of names, and the names in order; the line of each diagnostic; and of what is asked the number of parts that
+//! were made anew for all answers so far.
 #![tactic(auto)]
 
 mod block;
@@ -35,6 +37,13 @@ fn show_reads<W: Write>(alloc: Global, out: &mut W, layout: &Layout) -> Result<(
     record.show(out)
 }
 
+/// Asks a query, and shows how many parts were made anew so far.
+fn show_parts<W: Write>(out: &mut W, layout: &mut Layout, query: &str) -> Result<()> {
+    let parts = layout.ask(query)?;
+    writeln!(out, "parts {parts}")?;
+    Ok(())
+}
+
 /// Does what a line says that is none of a data sheet.
 fn obey<W: Write>(alloc: Global, out: &mut W, layout: &mut Layout, line: &str) -> Result<()> {
     writeln!(out, "{line}")?;
@@ -44,8 +53,10 @@ fn obey<W: Write>(alloc: Global, out: &mut W, layout: &mut Layout, line: &str) -
         show_reads(alloc, out, layout)
     } else if line == "diag" {
         show_wrong(alloc, out, layout.project())
+    } else if let Some(query) = line.strip_prefix("ask ") {
+        show_parts(out, layout, query)
     } else if line == "new" {
-        *layout = Layout::new(alloc);
+        layout.clear();
         Ok(())
     } else {
         layout.take_command(line)
@@ -61,11 +72,16 @@ fn take<W: Write>(alloc: Global, out: &mut W, layout: &mut Layout, line: &str) -
     }
 }
 
-fn main(rt: HostRuntime) -> Result<()> {
+/// Takes each line of the input.
+fn take_all(rt: &HostRuntime, layout: &mut Layout) -> Result<()> {
     let alloc = rt.alloc();
-    let mut layout = Layout::new(alloc);
     for line in rt.lines(alloc) {
-        take(alloc, &mut rt.stdout(), &mut layout, line?.as_str())?;
+        take(alloc, &mut rt.stdout(), layout, line?.as_str())?;
     }
     Ok(())
+}
+
+fn main(rt: HostRuntime) -> Result<()> {
+    let mut layout = Layout::new(rt.alloc());
+    take_all(&rt, &mut layout)
 }

@@ -67,16 +67,40 @@ fn is_unknown(workbench: &mut Workbench, number: u8) -> bool {
     workbench.dcf(number).err() == unknown && workbench.concise(number).err() == unknown
 }
 
+/// Whether each edit is taken or refused as it has to be.
+fn takes_edits(alloc: Global, workbench: &mut Workbench) -> bool {
+    for (line, fault) in &EDITS {
+        if edit(alloc, workbench, line).err() != *fault {
+            return false;
+        }
+    }
+    true
+}
+
+/// Whether each number of no node is answered by Unknown.
+fn knows_no_others(workbench: &mut Workbench) -> bool {
+    for number in &OTHERS {
+        if !is_unknown(workbench, *number) {
+            return false;
+        }
+    }
+    true
+}
+
+/// Whether a new workbench answers as it has to.
+fn answers(alloc: Global, workbench: &mut Workbench) -> Result<bool, EditFault> {
+    give_eds(alloc, workbench)?;
+    Ok(takes_edits(alloc, workbench) && has_files(workbench)? && knows_no_others(workbench))
+}
+
+/// Plays these edits and queries.
+fn play(alloc: Global) -> Result<bool, EditFault> {
+    let mut workbench = Workbench::new(alloc);
+    answers(alloc, &mut workbench)
+}
+
 #[test]
 fn edits_and_files_of_a_workbench(rt: HostRuntime) -> Result<(), EditFault> {
-    let mut workbench = Workbench::new(rt.alloc());
-    give_eds(rt.alloc(), &mut workbench)?;
-    for (line, fault) in &EDITS {
-        assert!(rt; edit(rt.alloc(), &mut workbench, line).err() == *fault);
-    }
-    assert!(rt; has_files(&mut workbench)?);
-    for number in &OTHERS {
-        assert!(rt; is_unknown(&mut workbench, *number));
-    }
+    assert!(rt; play(rt.alloc())?);
     Ok(())
 }

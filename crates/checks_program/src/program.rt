@@ -108,6 +108,7 @@ const HELP: &[u8] = b"\
     \n\
     Options:\n\
     \x20     --script <FILE>  Read commands from FILE, not from the standard input\n\
+    \x20     --work           Tell on the standard error how much was made anew\n\
     \x20 -h, --help           Print help\n\
     \x20 -V, --version        Print version\n\
     \n\
@@ -168,7 +169,7 @@ const HELP: &[u8] = b"\
 const VERSION: &[u8] = b"cobench 0.1.0\n";
 
 const UNEXPECTED: &[u8] = b"\
-    error: unexpected argument '--work' found\n\
+    error: unexpected argument '--segments' found\n\
     \n\
     Usage: cobench [OPTIONS]\n\
     \n\
@@ -180,23 +181,25 @@ const NO_FILE: &[u8] = b"\
     For more information, try '--help'.\n";
 
 /// Words after the program's name, and what it gives for them before FILE is opened.
-const WORDS: [(&[&str], Outcome<'static>); 7] = [
+const WORDS: [(&[&str], Outcome<'static>); 8] = [
     (&["--help"], (0, HELP, b"")),
     (&["-h"], (0, HELP, b"")),
     (&["--version"], (0, VERSION, b"")),
     (&["-V"], (0, VERSION, b"")),
-    (&["--work"], (2, b"", UNEXPECTED)),
+    (&["--segments"], (2, b"", UNEXPECTED)),
     (&["--script"], (2, b"", NO_FILE)),
-    (&["--work", "--script", "/nosuch"], (2, b"", UNEXPECTED)),
+    (&["--segments", "--script", "/nosuch"], (2, b"", UNEXPECTED)),
+    (&["--work", "--script", "/nosuch"], (1, b"", CANNOT_READ)),
 ];
 
 /// Words after the program's name, and its status where every stream fails.
-const STATUSES: [(&[&str], u8); 5] = [
+const STATUSES: [(&[&str], u8); 6] = [
     (&["--help"], 0),
     (&["--version"], 0),
     (&[], 1),
     (&["--script", "/nosuch"], 1),
-    (&["--work"], 2),
+    (&["--segments"], 2),
+    (&["--work", "--script", "/nosuch"], 1),
 ];
 
 /// Why the words can't be had, the status, and what is told.
@@ -257,6 +260,39 @@ fn commands_come_from_the_input_or_from_a_file(rt: HostRuntime) -> Result<(), Fa
     let unread = (1, b"".as_slice(), CANNOT_READ);
     assert!(rt; gives_unread(&rt, &["--script", path], unread)?);
     assert!(rt; gives_unread(&rt, &["--script", folder.as_str()], unread)?);
+    Ok(())
+}
+
+/// An EDS, a node of it, and its concise DCF twice.
+const WORKED: &[u8] = b"\
+    eds e 5\n\
+    [1000]\n\
+    DataType=7\n\
+    AccessType=ro\n\
+    DefaultValue=1\n\
+    \n\
+    node 1 a e\n\
+    cdcf 1\n\
+    cdcf 1\n";
+
+const NO_WRITES: &[u8] = b"ok\nok\nlines 1\n00 00 00 00\nlines 1\n00 00 00 00\n";
+
+/// Whether a session with `--work` ends with these replies, and tells this.
+fn works<R: Files + AllocGlobal>(
+    rt: &R,
+    script: &[u8],
+    replies: &[u8],
+    told: &[u8],
+) -> Result<bool, AllocError> {
+    let mut input = script;
+    gives(rt, &["--work"], &mut input, (0, replies, told))
+}
+
+#[test]
+fn work_is_told_behind_the_replies(rt: HostRuntime) -> Result<(), AllocError> {
+    assert!(rt; works(&rt, SCRIPT, REPLIES, b"work 0 0\n")?);
+    // the device, the plan, the writes and the concise DCF, once each
+    assert!(rt; works(&rt, WORKED, NO_WRITES, b"work 0 4\n")?);
     Ok(())
 }
 

@@ -1,6 +1,1 @@
-pub mod Image
-pub mod Parts
-pub mod Pointers
-pub mod Held
 pub mod Supply
-pub mod Steps

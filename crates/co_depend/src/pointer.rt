@@ -17,11 +17,3 @@ pub(crate) fn pointer<T: Drop>(part: &Option<Rc<T>>) -> Result<Option<Rc<T>>, Al
         }
     }
 }
-
-/// Another pointer to a part. Takes no memory.
-pub(crate) fn some_pointer<T: Drop>(part: &Rc<T>) -> Result<Option<Rc<T>>, AllocError>
-    ensures { IfOk result (λ copy. shared copy ≡ shared (Some part.now)) }
-{
-    let copy = part.clone()?;
-    Ok(Some(copy))
-}

@@ -1,15 +1,11 @@
 //! What hands out the parts of a project.
 ghost use Rattle.std.specs.Prelude.{◌≡◌, [], IfOk};
 ghost use Rattle.co_parts.specs.Images.{IsCoherent, IsImage};
-ghost use Rattle.co_depend.specs.Image.{image_of};
+ghost use Rattle.network_image.specs.Image.{image_of};
+ghost use Rattle.network_image.specs.Network.{image_held};
 ghost use Rattle.co_depend.specs.Supply.{seen_of};
 
-use crate::made::make_roster;
-use crate::node_table::NodeTable;
-use crate::pointer::{pointer, some_pointer};
-use crate::reading::read_nodes;
-use crate::window_table::WindowTable;
-use crate::windows::make_windows;
+use crate::pointer::pointer;
 use asking::Asked;
 use can_bus::Parts;
 use co_dict::{Dict, Shape};
@@ -17,7 +13,9 @@ use co_parts::{Identity, Part, PartContent, Read, Roster, Window};
 use co_project::Project;
 use concise_dcf::Write;
 use device_objects::Shapes;
+use network_image::NetworkParts;
 use node_boot::Boots;
+use project_plan::Library;
 use std::alloc::{AllocError, Global};
 use std::marker::Model;
 use std::rc::Rc;
@@ -29,64 +27,52 @@ use std::rc::Rc;
 #[derive(Drop)]
 pub struct ProjectParts {
     alloc: Global,
-    roster: Rc<Roster>,
-    nodes: NodeTable,
-    windows: WindowTable,
+    parts: NetworkParts,
     asked: Vec<Read>,
     asks: u64,
 }
 
 impl Model for ProjectParts {
     ghost use Rattle.co_parts.specs.contracts.read.Read as noted;
-    ghost use Rattle.co_parts.specs.contracts.roster.Roster as listed;
-    ghost use Rattle.co_parts.specs.Images.{IsRoster};
-    ghost use Rattle.co_depend.specs.contracts.node_table.NodeTable as table;
-    ghost use Rattle.co_depend.specs.contracts.window_table.WindowTable as timed;
+    ghost use Rattle.network_image.specs.contracts.network_parts.NetworkParts as network;
     ghost use Rattle.co_depend.specs.Supply.{supply_code, Supply};
 
     ghost Value = { Supply };
 
-    ghost coded = { supply_code listed.the_row.coded table.the_row.coded timed.the_row.coded noted.the_row.coded };
+    ghost coded = { supply_code network.the_row.coded noted.the_row.coded };
 
-    ghost view = { λ parts. record {
-      roster = parts.roster.value;
-      nodes = parts.nodes;
-      windows = parts.windows;
-      asked = parts.asked.items;
-      asks = parts.asks;
-    } };
-
-    ghost invariant = { λ parts. IsRoster parts.roster.value };
+    ghost view = { λ p. record { parts = p.parts; asked = p.asked.items; asks = p.asks } };
 }
 
 impl ProjectParts {
+    /// Hands these parts out, of which nothing was asked yet. Takes no memory.
+    pub fn of(alloc: Global, parts: NetworkParts) -> ProjectParts
+        ensures seen { seen_of result ≡ record { image = image_held parts; asked = [] } }
+        ensures asks { result.asks ≡ 0 }
+    {
+        ProjectParts {
+            alloc,
+            parts,
+            asked: Vec::new(alloc),
+            asks: 0,
+        }
+    }
+
     /// Makes the parts of a project. Want of memory is the only error.
     ///
-    /// Reads the text of each EDS that a node has once, plans the messages once, and makes the parts of
-    /// each node once: takes time by the length of these texts and their logarithms, by the number of
-    /// nodes, messages, sources and sinks, and by the entries and the writes of each node. Walks the
-    /// events once for each of the 1,001 windows in which they can lie, and reads the text of each once.
+    /// Reads the text of each EDS that a node has once, and plans the messages once; else takes the time
+    /// of `NetworkParts::of`.
     pub fn new(alloc: Global, project: &Project) -> Result<ProjectParts, AllocError>
         ensures seen { IfOk result (λ parts. seen_of parts ≡ record { image = image_of project.now; asked = [] }) }
         ensures asks { IfOk result (λ parts. parts.asks ≡ 0) }
-
-        // So what holds of every image holds of it, and it is coherent.
         ensures image { IfOk result (λ parts. IsImage (seen_of parts).image) }
         ensures coherent { IfOk result (λ parts. IsCoherent (seen_of parts).image) }
     {
-        project.keeps_to_rules();
-        let roster = make_roster(alloc, project)?;
-        let roster = Rc::new(alloc, roster)?;
-        let nodes = read_nodes(alloc, project)?;
-        let windows = make_windows(alloc, &nodes, project)?;
-        Ok(ProjectParts {
-            alloc,
-            roster,
-            nodes,
-            windows,
-            asked: Vec::new(alloc),
-            asks: 0,
-        })
+        let mut library = Library::new(alloc, project);
+        let plan = project_plan::plan(alloc, &mut library)?;
+        let parts = NetworkParts::of(alloc, &mut library, &plan)?;
+        let handed = ProjectParts::of(alloc, parts);
+        Ok(handed)
     }
 }
 
@@ -102,7 +88,7 @@ impl Shapes for ProjectParts {
     #[tactic(auto, using(asking::proofs::RecordLemmas::record_laws))]
     fn defaults(&mut self, node: u8) -> Result<Option<Rc<Dict>>, AllocError> {
         self.asks = self.asks.saturating_add(1);
-        let answer = self.nodes.defaults(node)?;
+        let answer = self.parts.defaults(node)?;
         let noted = pointer(&answer)?;
         self.asked.push(Read::new(Part::Defaults(node), PartContent::of_defaults(noted)))?;
         Ok(answer)
@@ -111,7 +97,7 @@ impl Shapes for ProjectParts {
     #[tactic(auto, using(asking::proofs::RecordLemmas::record_laws))]
     fn shape(&mut self, node: u8) -> Result<Option<Rc<Shape>>, AllocError> {
         self.asks = self.asks.saturating_add(1);
-        let answer = self.nodes.shape(node)?;
+        let answer = self.parts.shape(node)?;
         let noted = pointer(&answer)?;
         self.asked
             .push(Read::new(Part::Shape(node), PartContent::of_shape(noted)))?;
@@ -123,7 +109,7 @@ impl Boots for ProjectParts {
     #[tactic(auto, using(asking::proofs::RecordLemmas::record_laws))]
     fn expect(&mut self, node: u8) -> Result<Option<Rc<Identity>>, AllocError> {
         self.asks = self.asks.saturating_add(1);
-        let answer = self.nodes.expect(node)?;
+        let answer = self.parts.expect(node)?;
         let noted = pointer(&answer)?;
         self.asked.push(Read::new(Part::Expect(node), PartContent::of_expect(noted)))?;
         Ok(answer)
@@ -132,7 +118,7 @@ impl Boots for ProjectParts {
     #[tactic(auto, using(asking::proofs::RecordLemmas::record_laws))]
     fn boot(&mut self, node: u8, place: u32) -> Result<Option<Rc<Write>>, AllocError> {
         self.asks = self.asks.saturating_add(1);
-        let answer = self.nodes.write(node, place)?;
+        let answer = self.parts.write(node, place)?;
         let noted = pointer(&answer)?;
         self.asked.push(Read::new(Part::Boot(node, place), PartContent::of_boot(noted)))?;
         Ok(answer)
@@ -143,7 +129,7 @@ impl Parts for ProjectParts {
     #[tactic(auto, using(asking::proofs::RecordLemmas::record_laws))]
     fn roster(&mut self) -> Result<Option<Rc<Roster>>, AllocError> {
         self.asks = self.asks.saturating_add(1);
-        let answer = some_pointer(&self.roster)?;
+        let answer = self.parts.roster()?;
         let noted = pointer(&answer)?;
         self.asked
             .push(Read::new(Part::Roster, PartContent::of_roster(noted)))?;
@@ -153,7 +139,7 @@ impl Parts for ProjectParts {
     #[tactic(auto, using(asking::proofs::RecordLemmas::record_laws))]
     fn events(&mut self, i: u32) -> Result<Option<Rc<Window>>, AllocError> {
         self.asks = self.asks.saturating_add(1);
-        let answer = self.windows.window(i)?;
+        let answer = self.parts.window(i)?;
         let noted = pointer(&answer)?;
         self.asked
             .push(Read::new(Part::Events(i), PartContent::of_events(noted)))?;

@@ -40,8 +40,9 @@ impl KeptParts {
         Ok(device)
     }
 
-    /// Brings the devices of all nodes up to date, and lists them.
-    fn bring_devices(
+    /// Brings the devices of all nodes up to date, as `refresh` does each, and lists them. Takes memory by
+    /// their number; want of memory is the only error.
+    pub fn bring_devices(
         &mut self,
         project: &Project,
         meter: &mut Meter,
@@ -83,8 +84,9 @@ impl KeptParts {
         Ok(plan)
     }
 
-    /// Brings the device of a node up to date, and shares it.
-    fn bring_own_device(
+    /// Brings the device of a node up to date, as `refresh` does, and shares it. Want of memory is the only
+    /// error.
+    pub fn bring_own_device(
         &mut self,
         project: &Project,
         node: u8,

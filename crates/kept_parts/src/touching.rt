@@ -1,11 +1,12 @@
 //! Marks of what edits may leave with other inputs.
 ghost use Rattle.std.specs.Prelude.{◌≡◌};
 ghost use Rattle.co_project.specs.Project.{Content as Project};
-ghost use Rattle.kept_parts.specs.Kept.{IsOf};
+ghost use Rattle.kept_parts.specs.Kept.{held, IsOf};
 ghost use Rattle.kept_parts.specs.Marks.{Follows, Marks};
 ghost use Rattle.kept_parts.specs.Touched.{is_dcf, is_of_node, is_of_text, is_planned, touched};
 
 use crate::kept_parts::KeptParts;
+use crate::part::Part;
 use co_edits::Edit;
 
 impl KeptParts {
@@ -72,6 +73,8 @@ impl KeptParts {
     /// logarithm of the number of EDS. A mark too many does no harm: so it may come before the edit is
     /// taken or refused.
     pub fn touch(&mut self, edit: &Edit)
+        ensures held { (q : Part) → held self.new q ≡ held self.old q }
+
         // What is held of a project is held of it still, and of the project that the edit makes of it.
         ensures same { (p : Project) → IsOf p self.old → IsOf p self.new }
         ensures follows { Follows edit.now self.old self.new }

@@ -26,6 +26,9 @@ pub is_there : {X : Type 0} (result : Option (Bor X)) (found : Option X) → opt
 is_there None found is there = cc
 is_there (Some x) found is there = sym (ap is_some is)
 
+described : (device : Device) (text : List ℕ) → Some (content_of text) ≡ Some device → device ≡ content_of text
+described device text is = cc
+
 -- ---- a library with one more
 
 module _ (read : Read) (name : List ℕ) where
@@ -143,3 +146,18 @@ module _ {A : Type 0} (project : Content) where
         subst (AreRead project) (sym device_put)
         (each_put nat_list_cmp_total exact_bytes (IsDescribed project)
         (made tree.entries) name (content_of text) are (ap (option_map content_of) there))
+
+  module _ (tree after : BTreeMap (Vec ℕ A) Device) (name : List ℕ) (key : Vec ℕ A) (device : Device)
+      (same : key.items ≡ name) (updates : Updates key_cmp tree after key (Some device)) where
+    -- a device that is put, where the text of its name describes it
+    pub put_by_text : (o : Option (List ℕ)) → text_at project.texts name ≡ o → option_map content_of o ≡ Some device
+        → (read : Read) → shows tree.entries ≡ read → shows after.entries ≡ with_device read name
+    put_by_text None none is read seen = cc
+    put_by_text (Some text) there is read seen =
+        device_added tree after name key device text same (described device text is) there updates read seen
+
+    pub added_by_text : (o : Option (List ℕ)) → text_at project.texts name ≡ o → option_map content_of o ≡ Some device
+        → AreRead project (made tree.entries) → AreRead project (made after.entries)
+    added_by_text None none is are = cc
+    added_by_text (Some text) there is are =
+        added_described tree after name key device text same (described device text is) there updates are

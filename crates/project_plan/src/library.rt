@@ -6,6 +6,7 @@ ghost use Rattle.ini_text.specs.Content.{content_of};
 ghost use Rattle.co_project.specs.Tables.{text_at};
 ghost use Rattle.project_plan.specs.Library.{with_device, IsRead};
 
+use co_memo::Shared;
 use co_project::Project;
 use eds_device::{Device, DeviceFault};
 use std::alloc::{AllocError, Global};
@@ -18,7 +19,7 @@ use std::marker::Model;
 pub struct Library<'a> {
     alloc: Global,
     project: &'a Project,
-    devices: BTreeMap<Vec<u8>, Device>,
+    devices: BTreeMap<Vec<u8>, Shared<Device>>,
 }
 
 impl<'a> Model for Library<'a> {
@@ -38,12 +39,12 @@ impl<'a> Model for Library<'a> {
 }
 
 /// Reads the text of a device.
-fn read_device(alloc: Global, text: &[u8]) -> Result<Device, AllocError>
+fn read_device(alloc: Global, text: &[u8]) -> Result<Shared<Device>, AllocError>
     requires { device_of text.now ≡ Ok (content_of text.now) }
     ensures { IfOk result (λ device. device ≡ content_of text.now) }
 {
     match Device::read(alloc, text) {
-        Ok(device) => Ok(device),
+        Ok(device) => Shared::new(alloc, device),
         Err(DeviceFault::Memory) => Err(AllocError),
         Err(_fault) => unreachable!(),
     }
@@ -94,6 +95,28 @@ impl<'a> Library<'a> {
         Ok(())
     }
 
+    /// Adds the device of an EDS that was read before: what the project's text of that name describes.
+    /// Want of memory changes nothing.
+    ///
+    /// Takes time by the logarithm of the number of texts.
+    pub fn put(&mut self, name: &[u8], device: Shared<Device>) -> Result<(), AllocError>
+        requires { option_map content_of (text_at self.old.project.texts name.now) ≡ Some device }
+        ensures ok { OnOk result (self.new ≡ with_device self.old name.now) }
+        ensures err { OnErr result (self.new ≡ self.old) }
+    {
+        let name = Vec::from_slice(self.alloc, name)?;
+        self.devices.insert(name, device)?;
+        Ok(())
+    }
+
+    fn shared(&self, name: &[u8]) -> Option<&Shared<Device>>
+        ensures device { option_copied result ≡ map.get self.now.devices name.now }
+        ensures described { IfSome result (λ device. option_map content_of (text_at self.now.project.texts name.now)
+            ≡ Some device.now) }
+    {
+        self.devices.get(name)
+    }
+
     /// The device of an EDS, if it was read.
     pub fn device(&self, name: &[u8]) -> Option<&Device>
         ensures device { option_copied result ≡ map.get self.now.devices name.now }
@@ -102,18 +125,9 @@ impl<'a> Library<'a> {
         ensures described { IfSome result (λ device. option_map content_of (text_at self.now.project.texts name.now)
             ≡ Some device.now) }
     {
-        self.devices.get(name)
-    }
-
-    /// The device of an EDS, if it was read, without the others.
-    pub fn into_device(self, name: &[u8]) -> Option<Device>
-        ensures device { result ≡ map.get self.entry.devices name.now }
-
-        // It is what the text of that name describes.
-        ensures described { IfSome result (λ device. option_map content_of (text_at self.entry.project.texts name.now)
-            ≡ Some device) }
-    {
-        let mut devices = self.devices;
-        devices.remove(name)
+        match self.shared(name) {
+            Some(device) => Some(device.get()),
+            None => None,
+        }
     }
 }

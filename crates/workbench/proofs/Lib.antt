@@ -1,4 +1,3 @@
-pub mod Hexes
 pub mod Runs
 pub mod Bytewise
 pub mod Ends
@@ -6,4 +5,3 @@ pub mod Lines
 pub mod Keeps
 pub mod LineEnds
 pub mod Fed
-pub mod Plans

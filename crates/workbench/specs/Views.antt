@@ -10,8 +10,6 @@ use Rattle.workbench.specs.declared.open_block.OpenBlock.{OpenBlock as TheBlock}
 use Rattle.workbench.specs.declared.reply.Reply.{Reply}
 use Rattle.workbench.specs.declared.reply.Reply.TheVariants.{Nothing, Fixed, Lines}
 use Rattle.workbench.specs.Machine.{Cursor}
-use Rattle.workbench.specs.declared.configured.Configured.{Configured}
-use Rattle.workbench.specs.Queries.{Configuration}
 use Rattle.workbench.specs.Replies.{OpenBlock, State, After}
 
 abbrev pub block_of : Option TheBlock → Option OpenBlock
@@ -40,9 +38,3 @@ Refuses Memory (Ok reply) = ⊥
 Refuses Memory (Err e) = Unit {0}
 Refuses fault (Ok reply) = replies_of reply ≡ refusal_text fault ∷ []
 Refuses fault (Err e) = ⊥
-
-abbrev pub configuration_of : Configured → Configuration
-configuration_of c = record {
-  member = record { node = c.node.now; sections = c.device.now.sections };
-  writes = c.writes.items;
-}

@@ -7,7 +7,7 @@ ghost use Rattle.workbench.specs.Views.{cursor_of, ended_at};
 use crate::open_block::OpenBlock;
 use crate::reply::Reply;
 use crate::turns::take_line;
-use crate::workbench::Workbench;
+use co_answers::{Work, Workbench};
 use std::alloc::{AllocError, Global};
 
 #[derive(Drop)]
@@ -41,5 +41,12 @@ impl Cursor {
         self.block = block;
         self.line.clear();
         Ok(reply)
+    }
+
+    /// How much work the answers took.
+    pub fn work(&self) -> Work
+        ensures { result.segments ≡ 0 }
+    {
+        self.workbench.work()
     }
 }

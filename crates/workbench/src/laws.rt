@@ -1,15 +1,9 @@
 //! Laws of the replies, each in the words of inputs and lines.
-ghost use Rattle.std.specs.Prelude.{◌≡◌, ◌≢◌, ◌<◌, ◌≤◌, ◌++◌, ◌==◌, ◌∷◌, [], ℕ, List, None, Some, false, length, map};
-ghost use Rattle.co_text.specs.Lines.{line_count};
+ghost use Rattle.std.specs.Prelude.{◌≡◌, ◌≢◌, ◌++◌, ◌∷◌, [], ℕ, List, None, false, map};
 ghost use Rattle.co_text.specs.Lines.{lines_of};
 ghost use Rattle.co_project.specs.Project.{Content};
 ghost use Rattle.co_project.specs.Script.{edits, script};
 ghost use Rattle.co_project.specs.Sound.{IsSound};
-ghost use Rattle.file_laws.specs.Files.{dcf_text};
-ghost use Rattle.file_laws.specs.Nodes.{IsSoundNode};
-ghost use Rattle.project_plan.specs.Network.{Member};
-ghost use Rattle.workbench.specs.Hex.{hex_line, hex_text, row_count};
-ghost use Rattle.workbench.specs.Queries.{dcf_of};
 ghost use Rattle.workbench.specs.Lines.{AreLines, has_break, with_breaks, if_some};
 ghost use Rattle.workbench.specs.Replies.{State, start, ok_reply, after_line, after_lines, replies, replies_to_lines};
 ghost use Rattle.workbench.specs.Replies.{complete_replies};
@@ -37,21 +31,6 @@ pub fn refused_changes_nothing()
         → (after_line state line).state.project ≡ state.project }
 {}
 
-/// Bytes in hexadecimal digits begin with a line of the first 16, where there are 16.
-pub fn full_rows()
-    ensures { (row rest : List ℕ) → length row ≡ 16 → hex_text (row ++ rest) ≡ hex_line row ++ hex_text rest }
-{}
-
-/// The lines of a text in hexadecimal digits, each ended by LF, are as many as the rows of 16.
-pub fn rows_are_counted()
-    ensures { (bytes : List ℕ) → line_count (hex_text bytes) ≡ row_count bytes }
-{}
-
-/// Up to 16 bytes are one line.
-pub fn last_row()
-    ensures { (row : List ℕ) → 0 < length row → length row ≤ 16 → hex_text row ≡ hex_line row }
-{}
-
 /// The script of a project, as an input, has `ok` alone for replies, one for each edit, and makes the
 /// equal project. A session takes it where it is at most 64 MiB.
 pub fn script_is_fed_again()
@@ -65,10 +44,3 @@ pub fn script_is_fed_again()
     script_has_edits();
     script_makes_the_project_again();
 }
-
-/// What `dcf` prints of a node of a sound project is the text of which the laws of `file_laws` speak.
-#[tactic(auto, using(crate::proofs::Plans::is_its_text))]
-pub fn dcf_prints_the_text_of_its_node()
-    ensures { (project : Content) (id : ℕ) (m : Member) → IsSoundNode project id m
-        → dcf_of project id ≡ Some (dcf_text project id m) }
-{}

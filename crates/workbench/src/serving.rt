@@ -7,13 +7,13 @@ ghost use Rattle.std.specs.Option.{option_map};
 ghost use Rattle.co_streams.specs.Streams.{OneFailed};
 ghost use Rattle.co_streams.specs.Written.{Took, Posts};
 ghost use Rattle.workbench.specs.Replies.{replies, complete_replies, cut_off};
-ghost use Rattle.workbench.specs.Machine.{after, at_end, last_line, given};
+ghost use Rattle.workbench.specs.Machine.{after, at_end, first_cursor, given, last_line};
 ghost use Rattle.workbench.specs.Views.{cursor_of, replies_of};
 ghost use Rattle.workbench.specs.Written.{WroteAll, WroteFirst, WroteFront, WroteAtLeast, PostsFirst};
 
 use crate::cursor::Cursor;
 use crate::reply::Reply;
-use crate::work::Work;
+use co_answers::Work;
 use co_project::{EditFault, refusal};
 use co_streams::{Intake, Outbox, Outlet, SessionFault};
 use co_text::split_once;
@@ -202,6 +202,59 @@ fn take_turn<W: Outlet>(
     }
 }
 
+/// A session from its start on: what `session` does, with the place in its input kept by the caller.
+fn converse<R: Intake, W: Outlet>(
+    alloc: Global,
+    cursor: &mut Cursor,
+    reader: &mut R,
+    writer: &mut W,
+) -> Result<Work, SessionFault>
+    requires { cursor_of cursor.old ≡ first_cursor }
+    ensures replies { OnOk result (IfSome (R.remaining reader.old) (λ input.
+        WroteAll (W.contents writer.old) (W.contents writer.new) (replies input))) }
+    ensures ended { OnOk result (IsAtEnd (R.remaining reader.new)) }
+    ensures limit { OnOk result (IfSome (R.remaining reader.old) (λ input. length input ≤ LIMIT)) }
+    ensures work { IfOk result (λ work. work.segments ≡ 0) }
+    ensures memory { IsErrOf result SessionFault.Memory → IfSome (R.remaining reader.old) (λ input.
+        WroteFirst (W.contents writer.old) (W.contents writer.new) (replies input)) }
+    ensures due { IsErrOf result SessionFault.Memory → (bytes last : List ℕ)
+        × Consumes (R.remaining reader.old) (R.remaining reader.new) (bytes ++ last)
+        × (length last ≤ 4096)
+        × WroteAtLeast (W.contents writer.old) (W.contents writer.new) (complete_replies bytes) }
+    ensures read { IsErrOf result SessionFault.Read → (bytes : List ℕ)
+        × Consumes (R.remaining reader.old) (R.remaining reader.new) bytes
+        × (OneFailed (R.failures reader.old) (R.failures reader.new) ⊎ (LIMIT < length bytes))
+        × WroteAll (W.contents writer.old) (W.contents writer.new) (complete_replies (take LIMIT bytes)) }
+    ensures write { IsErrOf result SessionFault.Write → OneFailed (W.failures writer.old) (W.failures writer.new) }
+    ensures taken { IsErrOf result SessionFault.Write → IfSome (R.remaining reader.old) (λ input.
+        WroteFront (W.contents writer.old) (W.contents writer.new) (replies input)) }
+    ensures reads { R.reads reader.new ≤ R.reads reader.old + (LIMIT + 1) }
+    ensures reader_quiet { result ≢ Err SessionFault.Read → R.failures reader.new ≡ R.failures reader.old }
+    ensures writer_quiet { result ≢ Err SessionFault.Write → W.failures writer.new ≡ W.failures writer.old }
+    ensures flushed { result ≢ Err SessionFault.Write → W.flushed writer.old ≡ true → W.flushed writer.new ≡ true }
+{
+    let mut outbox = Outbox::new(alloc)?;
+    let mut buffer = [0; 4096];
+    let mut room = LIMIT;
+    for _turn in 0..=LIMIT {
+        let n = match reader.read(&mut buffer) {
+            Ok(n) => n,
+            Err(_) => return Err(SessionFault::Read),
+        };
+        if n == 0 {
+            take_turn(cursor, &mut outbox, writer, None)?;
+            return Ok(cursor.work());
+        }
+        let used = n.min(room);
+        take_turn(cursor, &mut outbox, writer, Some(&buffer[..used]))?;
+        if room < n {
+            return Err(SessionFault::Read);
+        }
+        room -= n;
+    }
+    unreachable!()
+}
+
 /// Reads commands until the input ends, and answers each. The replies to what one read gave go out
 /// before the next read; contracts say of this what stands where a read fails, or memory runs out, and
 /// not when each reply went out.
@@ -231,8 +284,8 @@ pub fn session<R: Intake, W: Outlet>(
     ensures ended { OnOk result (IsAtEnd (R.remaining reader.new)) }
     ensures limit { OnOk result (IfSome (R.remaining reader.old) (λ input. length input ≤ LIMIT)) }
 
-    // No answer took kept work yet.
-    ensures work { IfOk result (λ work. work ≡ record { segments = 0; parts = 0 }) }
+    // No segments are kept yet.
+    ensures work { IfOk result (λ work. work.segments ≡ 0) }
 
     // Where memory runs out, the first of the replies, each whole.
     ensures memory { IsErrOf result SessionFault.Memory → IfSome (R.remaining reader.old) (λ input.
@@ -266,27 +319,5 @@ pub fn session<R: Intake, W: Outlet>(
     ensures flushed { result ≢ Err SessionFault.Write → W.flushed writer.old ≡ true → W.flushed writer.new ≡ true }
 {
     let mut cursor = Cursor::new(alloc);
-    let mut outbox = Outbox::new(alloc)?;
-    let mut buffer = [0; 4096];
-    let mut room = LIMIT;
-    for _turn in 0..=LIMIT {
-        let n = match reader.read(&mut buffer) {
-            Ok(n) => n,
-            Err(_) => return Err(SessionFault::Read),
-        };
-        if n == 0 {
-            take_turn(&mut cursor, &mut outbox, writer, None)?;
-            return Ok(Work {
-                segments: 0,
-                parts: 0,
-            });
-        }
-        let used = n.min(room);
-        take_turn(&mut cursor, &mut outbox, writer, Some(&buffer[..used]))?;
-        if room < n {
-            return Err(SessionFault::Read);
-        }
-        room -= n;
-    }
-    unreachable!()
+    converse(alloc, &mut cursor, reader, writer)
 }

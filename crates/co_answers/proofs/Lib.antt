@@ -1,0 +1,4 @@
+pub mod Hexes
+pub mod Plans
+pub mod KeptFiles
+pub mod KeptTexts

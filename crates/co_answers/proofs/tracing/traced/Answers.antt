@@ -1,0 +1,27 @@
+use Rattle.std.proofs.Common.{◌∙◌, ap, arith, subst, sym}
+use Rattle.pdo_plan.proofs.LimitLemmas.{between}
+use Rattle.can_bus.specs.Runs.{trace}
+use Rattle.co_parts.specs.Images.{IsImage}
+use Rattle.network_image.specs.Image.{image_of}
+use Rattle.network_image.proofs.CoherentLemmas.{is_image}
+use Rattle.co_answers.specs.Queries.{trace_of}
+use Rattle.co_answers.proofs.tracing.traced.Goals as goal
+
+pub trace-requires-clause-soon : goal.trace-requires-clause-soon
+trace-requires-clause-soon c =
+    let limit = between 0 10000000 c.args.project.now.horizon c.keeps_to_rules.ensures.horizon in
+    omega (arith, limit.1, c.horizon-horizon.ensures)
+
+pub trace-requires-clause-image : goal.trace-requires-clause-image
+trace-requires-clause-image c =
+    subst (λ s. IsImage s.image) (sym c.of-parts.ensures.seen)
+    (subst IsImage (sym c.requires) (is_image c.args.project.now c.keeps_to_rules.ensures))
+
+pub returns : goal.returns
+unfolding trace_of
+returns c =
+    c.into_vec.ensures
+    ∙ c.in_ok-lines.ensures.lines
+    ∙ ap (λ s. trace s.image c.horizon-horizon.result) c.of-parts.ensures.seen
+    ∙ ap (λ i. trace i c.horizon-horizon.result) c.requires
+    ∙ ap (trace (image_of c.args.project.now)) c.horizon-horizon.ensures

@@ -1,0 +1,4 @@
+pub mod Hex
+pub mod Bench
+pub mod Queries
+pub mod Reached

@@ -1,0 +1,213 @@
+//! The workbench.
+ghost use Rattle.std.specs.Prelude.{◌≡◌, ◌↔◌, IfOk, IsErrOf, IsTrue, None, OnOk};
+ghost use Rattle.co_base.specs.Gives.{Gives};
+ghost use Rattle.co_diag.specs.Found.{diagnostics_of};
+ghost use Rattle.co_edits.specs.Accepts.{Accepts};
+ghost use Rattle.co_edits.specs.Faults.{is_memory};
+ghost use Rattle.co_project.specs.Project.{accept, adds, first};
+ghost use Rattle.co_project.specs.Script.{script};
+ghost use Rattle.co_project.specs.Sound.{IsSound};
+ghost use Rattle.co_project.specs.Tables.{node_at};
+ghost use Rattle.co_memo.specs.Work.{idle};
+ghost use Rattle.kept_image.specs.Kept.{held, reached, reached_by_trace};
+ghost use Rattle.co_answers.specs.Bench.{Brings};
+ghost use Rattle.co_answers.specs.Reached.{reached_by_diag};
+ghost use Rattle.co_answers.specs.Queries.{or_unknown, dcf_of, concise_of, trace_of};
+
+use crate::files::{concise, dcf};
+use crate::library::{library_of_now, plan_of_now, refresh_devices};
+use crate::tracing::traced;
+use crate::work::Work;
+use can_bus::Line;
+use co_diag::diagnostics_by;
+use co_memo::Meter;
+use co_project::{Command, EditFault, Project};
+use diag_lines::Diag;
+use kept_image::{ImagePart, KeptImage};
+use kept_parts::Part;
+use std::alloc::{AllocError, Global};
+use std::marker::Model;
+
+/// A workbench: a project, and what is kept of it. Contracts see it as a record with its project.
+///
+/// Each answer is that of the project of now. Kept are the devices of EDS, the plan of the messages, of each
+/// node its writes and its files, and what a simulation reads: the roster, of each node its values, entries
+/// and identity, and the events by windows; each with what it was built from. An edit marks what it may
+/// leave with other inputs; a query looks at what it is built from, in its order, and makes anew what has
+/// other inputs than it was built from, and no more. A file that is kept as it is now is copied.
+#[derive(Drop)]
+pub struct Workbench {
+    alloc: Global,
+    project: Project,
+    image: KeptImage,
+    meter: Meter,
+}
+
+impl Model for Workbench {
+    ghost use Rattle.co_project.specs.contracts.project.Project as held;
+    ghost use Rattle.co_answers.specs.Bench.{Bench, bench_code};
+    ghost use Rattle.co_memo.specs.contracts.meter.Meter as counted;
+    ghost use Rattle.kept_image.specs.Kept.{IsOf};
+    ghost use Rattle.kept_image.specs.contracts.kept_image.KeptImage as kept;
+
+    ghost Value = { Bench };
+
+    ghost coded = { bench_code held.the_row.coded kept.the_row.coded counted.the_row.coded };
+
+    ghost view = { λ w. record { project = w.project; image = w.image; work = w.meter } };
+
+    ghost invariant = { λ w. IsOf w.project w.image };
+}
+
+impl Workbench {
+    /// A workbench with the first project.
+    pub fn new(alloc: Global) -> Self
+        ensures project { result.project ≡ first }
+        ensures work { result.work ≡ idle }
+    {
+        Workbench {
+            alloc,
+            project: Project::new(alloc),
+            image: KeptImage::new(alloc),
+            meter: Meter::new(),
+        }
+    }
+
+    /// Takes an edit, or refuses it with the first fault that applies and changes nothing. Memory
+    /// can come in place of each where the edit adds something, and changes nothing either. What the
+    /// edit may leave with other inputs is marked, whether it is taken or refused: that takes no memory.
+    pub fn edit(&mut self, command: Command) -> Result<(), EditFault>
+        ensures accepts { Accepts self.old.project self.new.project result (accept self.old.project command) }
+
+        // Nothing that is kept changes, and nothing is counted.
+        ensures held { (q : ImagePart) → held self.new.image q ≡ held self.old.image q }
+        ensures work { self.new.work ≡ self.old.work }
+
+        // Memory comes only of edits that add something.
+        ensures memory { IsErrOf result EditFault.Memory → IsTrue (adds self.old.project command) }
+    {
+        self.image.touch(command.edit(), &self.project);
+        self.project.accept(command)?;
+        Ok(())
+    }
+
+    /// The project as it is now.
+    pub fn project(&self) -> &Project
+        ensures { result.now ≡ self.now.project }
+    {
+        &self.project
+    }
+
+    /// What each project keeps to, this one too.
+    pub fn keeps_to_rules(&self)
+        ensures { IsSound self.now.project }
+    {
+        self.project.keeps_to_rules();
+    }
+
+    /// The device configuration file (CiA 306) of a node, of the project as it is now.
+    ///
+    /// Unknown: the number isn't a node's. Memory can come in place of the file.
+    #[tactic(auto, unfolding(crate::specs::Queries::dcf_of, project_plan::specs::Network::member_at))]
+    pub fn dcf(&mut self, node: u8) -> Result<Vec<u8>, EditFault>
+        ensures file { Gives is_memory (λ v. v.items) result (or_unknown (dcf_of self.old.project node)) }
+        ensures brings { OnOk result (Brings (reached self.old.project (ImagePart.Kept (Part.Dcf node)))
+            self.old self.new) }
+        ensures unknown { IsErrOf result EditFault.Unknown ↔ (node_at self.old.project.nodes node ≡ None) }
+        ensures same { self.new.project ≡ self.old.project }
+    {
+        if self.project.node(node).is_none() {
+            return Err(EditFault::Unknown);
+        }
+        let text = dcf(
+            self.alloc,
+            &self.project,
+            &mut self.image,
+            &mut self.meter,
+            node,
+        )?;
+        Ok(text)
+    }
+
+    /// The bytes of the concise device configuration file (CiA 302) of a node, of the project as it
+    /// is now.
+    ///
+    /// Unknown: the number isn't a node's. Memory can come in place of the file.
+    #[tactic(auto, unfolding(crate::specs::Queries::concise_of, project_plan::specs::Network::member_at))]
+    pub fn concise(&mut self, node: u8) -> Result<Vec<u8>, EditFault>
+        ensures file { Gives is_memory (λ v. v.items) result (or_unknown (concise_of self.old.project node)) }
+        ensures brings { OnOk result (Brings (reached self.old.project (ImagePart.Kept (Part.Concise node)))
+            self.old self.new) }
+        ensures unknown { IsErrOf result EditFault.Unknown ↔ (node_at self.old.project.nodes node ≡ None) }
+        ensures same { self.new.project ≡ self.old.project }
+    {
+        if self.project.node(node).is_none() {
+            return Err(EditFault::Unknown);
+        }
+        let bytes = concise(
+            self.alloc,
+            &self.project,
+            &mut self.image,
+            &mut self.meter,
+            node,
+        )?;
+        Ok(bytes)
+    }
+
+    /// All that is wrong with the project as it is now, each once, in order.
+    ///
+    /// Reads each text that isn't kept as it is now. Takes time by the number of entries, parameters and
+    /// writes of all nodes, and that of messages and events.
+    pub fn diagnostics(&mut self) -> Result<Vec<Diag>, AllocError>
+        ensures list { IfOk result (λ list. list.items ≡ diagnostics_of self.old.project) }
+        ensures brings { OnOk result (Brings (reached_by_diag self.old.project) self.old self.new) }
+        ensures same { self.new.project ≡ self.old.project }
+    {
+        refresh_devices(&self.project, &mut self.image, &mut self.meter)?;
+        let plan = plan_of_now(&self.project, &mut self.image, &mut self.meter)?;
+        let mut library = library_of_now(self.alloc, &self.project, &self.image)?;
+        let list = diagnostics_by(self.alloc, &mut library, plan.get())?;
+        Ok(list)
+    }
+
+    /// The trace of the network of the project as it is now: from the power-on, an instant at each
+    /// microsecond up to the horizon.
+    ///
+    /// Brings what the simulation reads up to date: the plan, the roster, of each node its values, entries,
+    /// identity and writes, and the 1,001 windows of events; what has no mark is passed over. Then runs the
+    /// microseconds at which something is due: takes time at each by what is due or changes there, by the
+    /// nodes that have to run, and by an eighth of all; memory by the number of lines, and the entries and
+    /// writes of all nodes.
+    pub fn trace(&mut self) -> Result<Vec<Line>, AllocError>
+        ensures lines { IfOk result (λ lines. lines.items ≡ trace_of self.old.project) }
+        ensures brings { OnOk result (Brings (reached_by_trace self.old.project) self.old self.new) }
+        ensures same { self.new.project ≡ self.old.project }
+    {
+        self.image.refresh_all(&self.project, &mut self.meter)?;
+        let network = self.image.network(&self.project)?;
+        let lines = traced(self.alloc, &self.project, network)?;
+        Ok(lines)
+    }
+
+    /// How much work the answers took so far: the parts that were made anew, up to 2^64 - 1. No segments of
+    /// traces are kept yet.
+    pub fn work(&self) -> Work
+        ensures parts { result.parts ≡ self.now.work.parts }
+        ensures segments { result.segments ≡ 0 }
+    {
+        Work {
+            segments: 0,
+            parts: self.meter.parts(),
+        }
+    }
+
+    /// The commands that make this project of the first one, as text.
+    pub fn script(&self) -> Result<Vec<u8>, AllocError>
+        ensures text { IfOk result (λ text. text.items ≡ script self.now.project) }
+
+        // So these commands make it again.
+        ensures sound { IsSound self.now.project }
+    {
+        self.project.script()
+    }
+}

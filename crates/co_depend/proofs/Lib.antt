@@ -1,9 +1,0 @@
-pub mod CoherentLemmas
-pub mod CountLemmas
-pub mod HeldLemmas
-pub mod PartsLemmas
-pub mod PointerLemmas
-pub mod RosterLemmas
-pub mod SizeLemmas
-pub mod StepLemmas
-pub mod WindowLemmas

@@ -1,8 +1,0 @@
-use Rattle.co_depend.proofs.CoherentLemmas.{coherent, is_image}
-use Rattle.co_depend.proofs.laws.the_image_is_coherent.Goals as goal
-
-pub returns-clause-image : goal.returns-clause-image
-returns-clause-image c = is_image
-
-pub returns-clause-coherent : goal.returns-clause-coherent
-returns-clause-coherent c = coherent

@@ -1,0 +1,240 @@
+-- Each kind of part, brought up to date.
+use Rattle.std.proofs.Common.{◌≡◌, ◌⊎◌, inl, inr, ℕ, Bool, true, false, ◌||◌, List, [], ◌∷◌, Option, Some, None}
+use Rattle.std.proofs.Common.{◌∙◌, if◌then◌else◌, ◌==◌, refl, sym, ap, subst, option_map, arith}
+use Rattle.std.proofs.lemmas.Bool.{eqb-true}
+use Rattle.co_project.specs.Project.{Content as Project}
+use Rattle.co_memo.specs.Work.{Work, Refreshes}
+use Rattle.co_memo.specs.Shelved.{is_fresh, kept_at, Shelved, Single}
+use Rattle.co_memo.specs.Stale.{AreBrought}
+use Rattle.co_memo.proofs.Brought.{one, option_map_back, refreshes_kind, shelf_stands}
+use Rattle.co_scenario.specs.declared.timed_step.TimedStep.{TimedStep}
+use Rattle.kept_parts.proofs.KindLemmas.{FreshAt, KeptAt}
+use Rattle.kept_parts.specs.Kept as parts
+use Rattle.kept_parts.specs.declared.kept_parts.KeptParts.{KeptParts}
+use Rattle.network_image.specs.Image.{window_steps}
+use Rattle.kept_image.specs.Kept.{device_from, fresh, given, held, roster_from, same_part, IsOf, OfDefaults, OfEvents}
+use Rattle.kept_image.specs.Kept.{OfExpect, OfKept, OfRoster, OfShape}
+use Rattle.kept_image.specs.declared.device_at.DeviceAt.{DeviceAt}
+use Rattle.kept_image.specs.declared.roster_from.RosterFrom.{RosterFrom}
+use Rattle.kept_image.specs.declared.image_part.ImagePart.{ImagePart}
+use Rattle.kept_image.specs.declared.image_part.ImagePart.TheVariants as image
+use Rattle.kept_image.specs.declared.kept_image.KeptImage.{KeptImage}
+
+or_true : (s t : Bool) → (s || t) ≡ true → (s ≡ true) ⊎ (t ≡ true)
+or_true true t h = inl refl
+or_true false t h = inr h
+
+abbrev pub window_from : Project → ℕ → Option (List TimedStep)
+window_from p i = Some (window_steps p i)
+
+module _ (p : Project) where
+  -- one part is brought up to date, and no other loses its mark
+  abbrev pub Stands : ImagePart → KeptImage → KeptImage → Type 0
+  Stands named old new = (q : ImagePart) → held new q ≡ (if same_part q named then given p q else held old q)
+
+  abbrev pub NoOther : ImagePart → KeptImage → KeptImage → Type 0
+  NoOther named old new = (q : ImagePart) → fresh new q ≡ true → (same_part q named ≡ true) ⊎ (fresh old q ≡ true)
+
+  pub is_of_after : (named : ImagePart) (old new : KeptImage) → IsOf p old → Stands named old new
+      → NoOther named old new → IsOf p new
+  unfolding IsOf
+  is_of_after named old new is stands other q unmarked = stands q ∙ by (same_part q named) refl (other q unmarked)
+    where
+      by : (t : Bool) → same_part q named ≡ t → (same_part q named ≡ true) ⊎ (fresh old q ≡ true)
+          → (if t then given p q else held old q) ≡ given p q
+      by true same o = refl
+      by false apart (inl same) = cc
+      by false apart (inr unmarked) = is q unmarked
+
+  -- the parts that the files are made of
+  pub parts_of : (h : KeptImage) → IsOf p h → parts.IsOf p h.parts
+  unfolding IsOf parts.IsOf
+  parts_of h is q unmarked =
+      option_map_back OfKept (λ x y e. cc) (parts.held h.parts q) (parts.given p q) (is (image.Kept q) unmarked)
+
+  module _ (h : KeptImage) (is : IsOf p h) where
+    pub with_parts_of : (new : KeptParts) → parts.IsOf p new → IsOf p (record h { parts = new })
+    unfolding IsOf parts.IsOf
+    with_parts_of new are (image.Kept q) unmarked = ap (option_map OfKept) (are q unmarked)
+    with_parts_of new are image.Roster unmarked = is image.Roster unmarked
+    with_parts_of new are (image.Defaults n) unmarked = is (image.Defaults n) unmarked
+    with_parts_of new are (image.Shape n) unmarked = is (image.Shape n) unmarked
+    with_parts_of new are (image.Expect n) unmarked = is (image.Expect n) unmarked
+    with_parts_of new are (image.Events i) unmarked = is (image.Events i) unmarked
+
+    -- ---- the roster
+
+    pub roster_now : h.roster.fresh ≡ true → h.roster.kept ≡ Some (roster_from p)
+    unfolding IsOf
+    roster_now unmarked =
+        option_map_back OfRoster (λ x y e. cc) h.roster.kept (Some (roster_from p)) (is image.Roster unmarked)
+
+    module _ (new : Single RosterFrom) (s : new ≡ record { kept = Some (roster_from p); fresh = true }) where
+      abbrev with_roster : KeptImage
+      with_roster = record h { roster = new }
+
+      roster_stands : Stands image.Roster h with_roster
+      roster_stands image.Roster = ap (λ (x : Single RosterFrom). option_map OfRoster x.kept) s
+      roster_stands q = refl
+
+      roster_other : NoOther image.Roster h with_roster
+      roster_other image.Roster unmarked = inl refl
+      roster_other q unmarked = inr unmarked
+
+      pub roster_is_of : IsOf p with_roster
+      roster_is_of = is_of_after image.Roster h with_roster is roster_stands roster_other
+
+      pub roster_brought : (m n : Work) → Refreshes (h.roster.kept ≡ Some (roster_from p)) m n
+          → AreBrought same_part (given p) (image.Roster ∷ []) (held h) (held with_roster) m n
+      roster_brought m n r =
+          one same_part (given p) image.Roster (held h) (held with_roster) m n roster_stands
+          (refreshes_kind OfRoster (λ x y e. cc) h.roster.kept (Some (roster_from p)) m n r)
+
+    -- ---- the defaults of a node
+
+    pub defaults_now : (n : ℕ) → is_fresh h.defaults n ≡ true → kept_at h.defaults n ≡ device_from p n
+    unfolding IsOf
+    defaults_now n unmarked =
+        option_map_back OfDefaults (λ x y e. cc) (kept_at h.defaults n) (device_from p n)
+        (is (image.Defaults n) unmarked)
+
+    module _ (key : ℕ) (new : Shelved DeviceAt) (now : Option DeviceAt) (e : now ≡ device_from p key)
+        (s : KeptAt key now h.defaults new) (f : FreshAt key h.defaults new) where
+      abbrev with_defaults : KeptImage
+      with_defaults = record h { defaults = new }
+
+      defaults_stands : Stands (image.Defaults key) h with_defaults
+      defaults_stands (image.Defaults q) =
+          shelf_stands OfDefaults key (device_from p) h.defaults.kept new.kept
+          (subst (λ (x : Option DeviceAt). KeptAt key x h.defaults new) e s) q
+      defaults_stands q = refl
+
+      defaults_other : NoOther (image.Defaults key) h with_defaults
+      defaults_other (image.Defaults q) unmarked = or_true (q == key) (is_fresh h.defaults q) (sym (f q) ∙ unmarked)
+      defaults_other q unmarked = inr unmarked
+
+      pub defaults_is_of : IsOf p with_defaults
+      defaults_is_of = is_of_after (image.Defaults key) h with_defaults is defaults_stands defaults_other
+
+      pub defaults_brought : (m n : Work) → Refreshes (kept_at h.defaults key ≡ now) m n
+          → AreBrought same_part (given p) (image.Defaults key ∷ []) (held h) (held with_defaults) m n
+      defaults_brought m n r =
+          one same_part (given p) (image.Defaults key) (held h) (held with_defaults) m n defaults_stands
+          (refreshes_kind OfDefaults (λ x y e. cc) (kept_at h.defaults key) (device_from p key) m n
+          (subst (λ (x : Option DeviceAt). Refreshes (kept_at h.defaults key ≡ x) m n) e r))
+
+    -- ---- the entries of a node
+
+    pub shape_now : (n : ℕ) → is_fresh h.shapes n ≡ true → kept_at h.shapes n ≡ device_from p n
+    unfolding IsOf
+    shape_now n unmarked =
+        option_map_back OfShape (λ x y e. cc) (kept_at h.shapes n) (device_from p n) (is (image.Shape n) unmarked)
+
+    module _ (key : ℕ) (new : Shelved DeviceAt) (now : Option DeviceAt) (e : now ≡ device_from p key)
+        (s : KeptAt key now h.shapes new) (f : FreshAt key h.shapes new) where
+      abbrev with_shape : KeptImage
+      with_shape = record h { shapes = new }
+
+      shape_stands : Stands (image.Shape key) h with_shape
+      shape_stands (image.Shape q) =
+          shelf_stands OfShape key (device_from p) h.shapes.kept new.kept
+          (subst (λ (x : Option DeviceAt). KeptAt key x h.shapes new) e s) q
+      shape_stands q = refl
+
+      shape_other : NoOther (image.Shape key) h with_shape
+      shape_other (image.Shape q) unmarked = or_true (q == key) (is_fresh h.shapes q) (sym (f q) ∙ unmarked)
+      shape_other q unmarked = inr unmarked
+
+      pub shape_is_of : IsOf p with_shape
+      shape_is_of = is_of_after (image.Shape key) h with_shape is shape_stands shape_other
+
+      pub shape_brought : (m n : Work) → Refreshes (kept_at h.shapes key ≡ now) m n
+          → AreBrought same_part (given p) (image.Shape key ∷ []) (held h) (held with_shape) m n
+      shape_brought m n r =
+          one same_part (given p) (image.Shape key) (held h) (held with_shape) m n shape_stands
+          (refreshes_kind OfShape (λ x y e. cc) (kept_at h.shapes key) (device_from p key) m n
+          (subst (λ (x : Option DeviceAt). Refreshes (kept_at h.shapes key ≡ x) m n) e r))
+
+    -- ---- what is expected of a node
+
+    pub expect_now : (n : ℕ) → is_fresh h.expects n ≡ true → kept_at h.expects n ≡ device_from p n
+    unfolding IsOf
+    expect_now n unmarked =
+        option_map_back OfExpect (λ x y e. cc) (kept_at h.expects n) (device_from p n) (is (image.Expect n) unmarked)
+
+    module _ (key : ℕ) (new : Shelved DeviceAt) (now : Option DeviceAt) (e : now ≡ device_from p key)
+        (s : KeptAt key now h.expects new) (f : FreshAt key h.expects new) where
+      abbrev with_expect : KeptImage
+      with_expect = record h { expects = new }
+
+      expect_stands : Stands (image.Expect key) h with_expect
+      expect_stands (image.Expect q) =
+          shelf_stands OfExpect key (device_from p) h.expects.kept new.kept
+          (subst (λ (x : Option DeviceAt). KeptAt key x h.expects new) e s) q
+      expect_stands q = refl
+
+      expect_other : NoOther (image.Expect key) h with_expect
+      expect_other (image.Expect q) unmarked = or_true (q == key) (is_fresh h.expects q) (sym (f q) ∙ unmarked)
+      expect_other q unmarked = inr unmarked
+
+      pub expect_is_of : IsOf p with_expect
+      expect_is_of = is_of_after (image.Expect key) h with_expect is expect_stands expect_other
+
+      pub expect_brought : (m n : Work) → Refreshes (kept_at h.expects key ≡ now) m n
+          → AreBrought same_part (given p) (image.Expect key ∷ []) (held h) (held with_expect) m n
+      expect_brought m n r =
+          one same_part (given p) (image.Expect key) (held h) (held with_expect) m n expect_stands
+          (refreshes_kind OfExpect (λ x y e. cc) (kept_at h.expects key) (device_from p key) m n
+          (subst (λ (x : Option DeviceAt). Refreshes (kept_at h.expects key ≡ x) m n) e r))
+
+    -- ---- a window
+
+    pub window_now : (n : ℕ) → is_fresh h.windows n ≡ true → kept_at h.windows n ≡ window_from p n
+    unfolding IsOf
+    window_now n unmarked =
+        option_map_back OfEvents (λ x y e. cc) (kept_at h.windows n) (window_from p n) (is (image.Events n) unmarked)
+
+    -- a window without a mark needs no look
+    pub window_stays : (i : ℕ) → is_fresh h.windows i ≡ true → (m : Work)
+        → AreBrought same_part (given p) (image.Events i ∷ []) (held h) (held h) m m
+    window_stays i unmarked m =
+        one same_part (given p) (image.Events i) (held h) (held h) m m stands (refl, inl (current, omega arith))
+      where
+        current : held h (image.Events i) ≡ given p (image.Events i)
+        current = ap (option_map OfEvents) (window_now i unmarked)
+
+        by : (j : ℕ) (t : Bool) → (j == i) ≡ t
+            → held h (image.Events j) ≡ (if t then given p (image.Events j) else held h (image.Events j))
+        by j true same =
+            let one : j ≡ i = eqb-true j i same in
+            ap (λ k. held h (image.Events k)) one ∙ current ∙ sym (ap (λ k. given p (image.Events k)) one)
+        by j false other = refl
+
+        stands : Stands (image.Events i) h h
+        stands (image.Events j) = by j (j == i) refl
+        stands q = refl
+
+    module _ (key : ℕ) (new : Shelved (List TimedStep)) (now : Option (List TimedStep)) (e : now ≡ window_from p key)
+        (s : KeptAt key now h.windows new) (f : FreshAt key h.windows new) where
+      abbrev with_window : KeptImage
+      with_window = record h { windows = new }
+
+      window_stands : Stands (image.Events key) h with_window
+      window_stands (image.Events q) =
+          shelf_stands OfEvents key (window_from p) h.windows.kept new.kept
+          (subst (λ (x : Option (List TimedStep)). KeptAt key x h.windows new) e s) q
+      window_stands q = refl
+
+      window_other : NoOther (image.Events key) h with_window
+      window_other (image.Events q) unmarked = or_true (q == key) (is_fresh h.windows q) (sym (f q) ∙ unmarked)
+      window_other q unmarked = inr unmarked
+
+      pub window_is_of : IsOf p with_window
+      window_is_of = is_of_after (image.Events key) h with_window is window_stands window_other
+
+      pub window_brought : (m n : Work) → Refreshes (kept_at h.windows key ≡ now) m n
+          → AreBrought same_part (given p) (image.Events key ∷ []) (held h) (held with_window) m n
+      window_brought m n r =
+          one same_part (given p) (image.Events key) (held h) (held with_window) m n window_stands
+          (refreshes_kind OfEvents (λ x y e. cc) (kept_at h.windows key) (window_from p key) m n
+          (subst (λ (x : Option (List TimedStep)). Refreshes (kept_at h.windows key ≡ x) m n) e r))

@@ -1,0 +1,15 @@
+pub mod NewLemmas
+pub mod Lifted
+pub mod KindLemmas
+pub mod StepLemmas
+pub mod CurrentLemmas
+pub mod Stays
+pub mod MadeLemmas
+pub mod AllLemmas
+pub mod EditLemmas
+pub mod EventLemmas
+pub mod FrameLemmas
+pub mod TouchLemmas
+pub mod NetworkLemmas
+pub mod DeviceLemmas
+pub mod WalkLemmas

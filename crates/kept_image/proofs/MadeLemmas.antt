@@ -1,0 +1,81 @@
+-- What parts are, by what they are built from, is the image's.
+use Rattle.std.proofs.Common.{◌≡◌, ◌∙◌, ℕ, List, Option, Some, None, option_map, option_and_then, slice_get, refl}
+use Rattle.std.proofs.Common.{sym, ap}
+use Rattle.concise_dcf.specs.declared.write.Write.{Write}
+use Rattle.ini_text.specs.Content.{content_of}
+use Rattle.co_project.specs.declared.node.Node.{Node}
+use Rattle.co_project.specs.Project.{Content as Project}
+use Rattle.co_project.specs.Tables.{node_at, text_at}
+use Rattle.eds_device.specs.Entries.{defaults_of, shape_of}
+use Rattle.eds_device.specs.Identity.{identity}
+use Rattle.kept_parts.specs.Kept.{writes_from}
+use Rattle.kept_parts.specs.Made.{writes_made}
+use Rattle.kept_parts.proofs.PlanLemmas.{writes_are_of}
+use Rattle.project_plan.specs.Events.{shape_of_node}
+use Rattle.project_plan.specs.Network.{member_at, with_sections, writes_of, Member}
+use Rattle.network_image.specs.Image.{defaults_of_node, identity_of_node, write_of_node}
+use Rattle.kept_image.specs.Kept.{device_from, device_of_node}
+use Rattle.kept_image.specs.Made.{defaults_made, expect_made, shape_made}
+use Rattle.kept_image.specs.declared.device_at.DeviceAt.{DeviceAt}
+
+module _ (p : Project) (n : ℕ) where
+  abbrev member : Node → List ℕ → Member
+  member node text = record { node = node; sections = (content_of text).sections }
+
+  -- what is made of a device by its sections is made of the node with its EDS
+  by_sections : {X : Type 0} (made : DeviceAt → X) (own : Member → X)
+      → ((node : Node) (text : List ℕ) → made (record { device = content_of text; node = n }) ≡ own (member node text))
+      → option_map made (device_from p n) ≡ option_map own (member_at p n)
+  unfolding member_at
+  by_sections made own same = by (node_at p.nodes n)
+    where
+      one : (node : Node) (o : Option (List ℕ))
+          → option_map made (option_map (λ d. record { device = d; node = n }) (option_map content_of o))
+          ≡ option_map own (option_map (member node) o)
+      one node None = refl
+      one node (Some text) = ap Some (same node text)
+
+      by : (o : Option Node)
+          → option_map made (option_and_then (device_of_node p n) o)
+          ≡ option_map own (option_and_then (with_sections p) o)
+      by None = refl
+      by (Some node) = one node (text_at p.texts node.eds)
+
+  pub defaults_by : option_map defaults_made (device_from p n)
+      ≡ option_map (λ (m : Member). defaults_of m.sections n) (member_at p n)
+  unfolding defaults_made
+  defaults_by = by_sections defaults_made (λ (m : Member). defaults_of m.sections n) (λ node text. refl)
+
+  pub shape_by : option_map shape_made (device_from p n)
+      ≡ option_map (λ (m : Member). shape_of m.sections n) (member_at p n)
+  unfolding shape_made
+  shape_by = by_sections shape_made (λ (m : Member). shape_of m.sections n) (λ node text. refl)
+
+  pub expect_by : option_map expect_made (device_from p n)
+      ≡ option_map (λ (m : Member). record { numbers = identity m.sections n }) (member_at p n)
+  unfolding expect_made
+  expect_by =
+      by_sections expect_made (λ (m : Member). record { numbers = identity m.sections n }) (λ node text. refl)
+
+  pub defaults_are : defaults_of_node p n ≡ option_map defaults_made (device_from p n)
+  unfolding defaults_of_node
+  defaults_are = sym defaults_by
+
+  pub shapes_are : shape_of_node p n ≡ option_map shape_made (device_from p n)
+  unfolding shape_of_node
+  shapes_are = sym shape_by
+
+  pub expects_are : identity_of_node p n ≡ option_map expect_made (device_from p n)
+  unfolding identity_of_node
+  expects_are = sym expect_by
+
+  pub writes_are : (place : ℕ) → write_of_node p n place
+      ≡ option_and_then (λ ws. slice_get ws place) (option_map writes_made (writes_from p n))
+  unfolding write_of_node
+  writes_are place =
+      by (member_at p n) ∙ ap (option_and_then (λ (ws : List Write). slice_get ws place)) (sym (writes_are_of p n))
+    where
+      by : (o : Option Member) → option_and_then (λ (m : Member). slice_get (writes_of p m n) place) o
+          ≡ option_and_then (λ (ws : List Write). slice_get ws place) (option_map (λ (m : Member). writes_of p m n) o)
+      by None = refl
+      by (Some m) = refl

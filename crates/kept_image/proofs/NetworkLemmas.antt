@@ -1,0 +1,277 @@
+-- The network of what is held.
+use Rattle.std.proofs.Common.{◌≡◌, ◌∙◌, ℕ, Bool, true, false, cond, ◌||◌, ◌==◌, List, [], ◌∷◌, ◌++◌, Option, Some, None}
+use Rattle.std.proofs.Common.{append_assoc, arith, option_map, option_and_then, refl, sym, ap, zero, suc, ◌+◌, ◌-◌, ◌<◌}
+use Rattle.std.specs.FinMap.{empty, entries, find, get, get-empty, get-entries, get-insert}
+use Rattle.std.specs.List.{list_any}
+use Rattle.std.specs.Ordering.{eq_by_cmp, nat_cmp}
+use Rattle.std.proofs.lemmas.Bool.{eq-eqb, eqb-true}
+use Rattle.std.proofs.lemmas.Bool.Decides.{nat_tests}
+use Rattle.std.proofs.lemmas.Cmp.{nat_cmp_total}
+use Rattle.std.proofs.lemmas.List.{append-nil}
+use Rattle.std.proofs.lemmas.List.Folds.{list_any-append}
+use Rattle.std.proofs.lemmas.Map.Lookups.{exact_unsigned}
+use Rattle.concise_dcf.specs.declared.write.Write.{Write}
+use Rattle.co_base.proofs.TableLemmas.{alike}
+use Rattle.co_dict.specs.Shapes.{Shaped}
+use Rattle.co_dict.specs.Values.{Values}
+use Rattle.co_memo.specs.Shelved.{kept_at}
+use Rattle.co_memo.proofs.Brought.{option_map_back}
+use Rattle.co_parts.specs.declared.identity.Identity.{Identity}
+use Rattle.co_project.specs.declared.node.Node.{Node}
+use Rattle.co_project.specs.Project.{Content as Project}
+use Rattle.co_project.specs.Tables.{node_at}
+use Rattle.eds_device.specs.Entries.{defaults_of, shape_of}
+use Rattle.eds_device.specs.Identity.{identity}
+use Rattle.kept_parts.specs.Kept as parts
+use Rattle.kept_parts.specs.Made.{writes_made}
+use Rattle.kept_parts.specs.declared.part.Part.TheVariants as part
+use Rattle.kept_parts.proofs.PlanLemmas.{writes_are_of}
+use Rattle.network_image.specs.Held.{held_of, AllHeld, Held}
+use Rattle.network_image.specs.Image.{window_steps}
+use Rattle.project_plan.specs.Network.{member_at, with_sections, writes_of, Member}
+use Rattle.kept_image.specs.Kept.{device_from, given, held, of_node, of_nodes, reached_by_trace, roster_from, same_part}
+use Rattle.kept_image.specs.Kept.{for_plan, windows_below, with_parts, AreHeld, IsCurrent, OfDefaults, OfEvents}
+use Rattle.kept_image.specs.Kept.{OfExpect}
+use Rattle.kept_image.specs.Kept.{OfKept, OfRoster, OfShape}
+use Rattle.kept_image.specs.Made.{defaults_made, expect_made, shape_made}
+use Rattle.kept_image.specs.declared.image_part.ImagePart.{ImagePart}
+use Rattle.kept_image.specs.declared.image_part.ImagePart.TheVariants as image
+use Rattle.kept_image.specs.declared.kept_image.KeptImage.{KeptImage}
+use Rattle.kept_image.proofs.AllLemmas.{of_nodes-append, or_left, or_none, or_right}
+use Rattle.kept_image.proofs.MadeLemmas.{defaults_by, expect_by, shape_by}
+
+pub some_none : {X : Type 0} {x : X} → Some x ≡ None → ⊥
+some_none e = cc
+
+pub same_some : {X : Type 0} {x y : X} → Some x ≡ Some y → x ≡ y
+same_some e = cc
+
+sooner : (n i : ℕ) → (n == i) ≡ false → i < suc n → i < n
+sooner n i other below = grind (arith, nat_tests)
+
+module _ (p : Project) (k : KeptImage) where
+  pub roster_kept : AreHeld p (image.Roster ∷ []) k → k.roster.kept ≡ Some (roster_from p)
+  unfolding AreHeld
+  roster_kept are =
+      option_map_back OfRoster (λ x y e. cc) k.roster.kept (Some (roster_from p)) (are image.Roster refl)
+
+  pub window_kept : (i : ℕ) → AreHeld p (image.Events i ∷ []) k → kept_at k.windows i ≡ Some (window_steps p i)
+  unfolding AreHeld
+  window_kept i are =
+      option_map_back OfEvents (λ x y e. cc) (kept_at k.windows i) (Some (window_steps p i))
+      (are (image.Events i) (ap (λ t. t || false) (eq-eqb i i refl)))
+
+  module _ (n : ℕ) (are : AreHeld p (of_node n) k) where
+    pub defaults_held : option_map defaults_made (kept_at k.defaults n)
+        ≡ option_map (λ (m : Member). defaults_of m.sections n) (member_at p n)
+    unfolding AreHeld
+    defaults_held =
+        ap (option_map defaults_made)
+        (option_map_back OfDefaults (λ x y e. cc) (kept_at k.defaults n) (device_from p n)
+        (are (image.Defaults n) (or_left _ _ (eq-eqb n n refl))))
+        ∙ defaults_by p n
+
+    pub shape_held : option_map shape_made (kept_at k.shapes n)
+        ≡ option_map (λ (m : Member). shape_of m.sections n) (member_at p n)
+    unfolding AreHeld
+    shape_held =
+        ap (option_map shape_made)
+        (option_map_back OfShape (λ x y e. cc) (kept_at k.shapes n) (device_from p n)
+        (are (image.Shape n) (or_left _ _ (eq-eqb n n refl))))
+        ∙ shape_by p n
+
+    pub expect_held : option_map expect_made (kept_at k.expects n)
+        ≡ option_map (λ (m : Member). record { numbers = identity m.sections n }) (member_at p n)
+    unfolding AreHeld
+    expect_held =
+        ap (option_map expect_made)
+        (option_map_back OfExpect (λ x y e. cc) (kept_at k.expects n) (device_from p n)
+        (are (image.Expect n) (or_left _ _ (eq-eqb n n refl))))
+        ∙ expect_by p n
+
+    pub writes_held : option_map writes_made (kept_at k.parts.writes n)
+        ≡ option_map (λ (m : Member). writes_of p m n) (member_at p n)
+    unfolding AreHeld
+    writes_held =
+        ap (option_map writes_made)
+        (option_map_back parts.OfWrites (λ x y e. cc) (kept_at k.parts.writes n) (parts.writes_from p n)
+        (option_map_back OfKept (λ x y e. cc) (parts.held k.parts (part.Writes n)) (parts.given p (part.Writes n))
+        (are (image.Kept (part.Writes n)) (or_left _ _ (eq-eqb n n refl)))))
+        ∙ writes_are_of p n
+
+  -- a node that has one of its parts has all of them
+  module _ (n : ℕ) where
+    pub no_parts : {X : Type 0} (f : Member → X) → None ≡ option_map f (member_at p n)
+        → None ≡ option_map (held_of p n) (member_at p n)
+    no_parts f none = by (member_at p n) none
+      where
+        by : (o : Option Member) → None ≡ option_map f o → None ≡ option_map (held_of p n) o
+        by None none = refl
+        by (Some m) none = cc
+
+    pub all_parts : (d : Values) (s : Shaped) (x : Identity) (w : List Write)
+        → Some d ≡ option_map (λ (m : Member). defaults_of m.sections n) (member_at p n)
+        → Some s ≡ option_map (λ (m : Member). shape_of m.sections n) (member_at p n)
+        → Some x ≡ option_map (λ (m : Member). record { numbers = identity m.sections n }) (member_at p n)
+        → Some w ≡ option_map (λ (m : Member). writes_of p m n) (member_at p n)
+        → Some (record { defaults = d; shape = s; expect = x; writes = w }) ≡ option_map (held_of p n) (member_at p n)
+    all_parts d s x w = by (member_at p n)
+      where
+        by : (o : Option Member)
+            → Some d ≡ option_map (λ (m : Member). defaults_of m.sections n) o
+            → Some s ≡ option_map (λ (m : Member). shape_of m.sections n) o
+            → Some x ≡ option_map (λ (m : Member). record { numbers = identity m.sections n }) o
+            → Some w ≡ option_map (λ (m : Member). writes_of p m n) o
+            → Some (record { defaults = d; shape = s; expect = x; writes = w }) ≡ option_map (held_of p n) o
+        by None a b c e = cc
+        by (Some m) a b c e =
+            ap (λ v. Some (record { defaults = v; shape = s; expect = x; writes = w })) (same_some a)
+            ∙ ap (λ v. Some (record { defaults = defaults_of m.sections n; shape = v; expect = x; writes = w }))
+            (same_some b)
+            ∙ ap (λ v. Some (record {
+              defaults = defaults_of m.sections n;
+              shape = shape_of m.sections n;
+              expect = v;
+              writes = w;
+            })) (same_some c)
+            ∙ ap (λ v. Some (record {
+              defaults = defaults_of m.sections n;
+              shape = shape_of m.sections n;
+              expect = record { numbers = identity m.sections n };
+              writes = v;
+            })) (same_some e)
+
+-- ---- the table of nodes
+
+module _ (p : Project) where
+  abbrev held_at : ℕ → Option Held
+  held_at q = option_map (held_of p q) (member_at p q)
+
+  abbrev is_done : ℕ → List (ℕ × Node) → Bool
+  is_done q done = list_any (λ e. eq_by_cmp nat_cmp q e.0) done
+
+  -- the nodes before the rest are there
+  pub record TableSoFar (rest : List (ℕ × Node)) (table : AllHeld) : Type 0 where
+    pub done : List (ℕ × Node)
+    pub all : done ++ rest ≡ entries p.nodes
+    pub are : (q : ℕ) → get table q ≡ cond (is_done q done) (held_at q) None
+
+  pub table_start : (rest : List (ℕ × Node)) (table : AllHeld) → rest ≡ entries p.nodes → table ≡ empty
+      → TableSoFar rest table
+  table_start rest table all none =
+      record { done = []; all = all; are = λ q. ap (λ (t : AllHeld). get t q) none ∙ get-empty nat_cmp q }
+
+  one_more : (done : List (ℕ × Node)) (e : ℕ × Node) (table : AllHeld)
+      → ((q : ℕ) → get table q ≡ cond (is_done q done) (held_at q) None) → (q : ℕ)
+      → get (with_parts e.0 (held_at e.0) table) q ≡ cond (is_done q (done ++ e ∷ [])) (held_at q) None
+  one_more done e table are q =
+      by (held_at e.0) refl (eq_by_cmp nat_cmp q e.0) refl
+      ∙ sym (ap (λ t. cond t (held_at q) None) (list_any-append (λ f. eq_by_cmp nat_cmp q f.0) done (e ∷ [])))
+    where
+      merge : (s t : Bool) (x y : Option Held) → t ≡ false → cond s x y ≡ cond (s || (t || false)) x y
+      merge true t x y h = refl
+      merge false t x y h = ap (λ b. cond (b || false) x y) (sym h)
+
+      none_at : (s t : Bool) (x : Option Held) → x ≡ None → cond s x None ≡ cond (s || (t || false)) x None
+      none_at true t x h = refl
+      none_at false true x h = sym h
+      none_at false false x h = refl
+
+      all_at : (s : Bool) (x : Option Held) → x ≡ cond (s || true) x None
+      all_at true x = refl
+      all_at false x = refl
+
+      by : (o : Option Held) → held_at e.0 ≡ o → (t : Bool) → eq_by_cmp nat_cmp q e.0 ≡ t
+          → get (with_parts e.0 o table) q ≡ cond (is_done q done || (eq_by_cmp nat_cmp q e.0 || false))
+          (held_at q) None
+      by None is true same =
+          are q
+          ∙ none_at (is_done q done) (eq_by_cmp nat_cmp q e.0) (held_at q)
+          (ap held_at (alike nat_cmp_total exact_unsigned q e.0 same) ∙ is)
+      by None is false other = are q ∙ merge (is_done q done) (eq_by_cmp nat_cmp q e.0) (held_at q) None other
+      by (Some h) is true same =
+          get-insert nat_cmp_total table e.0 h q ∙ ap (λ t. cond t (Some h) (get table q)) same
+          ∙ sym (ap held_at (alike nat_cmp_total exact_unsigned q e.0 same) ∙ is)
+          ∙ all_at (is_done q done) (held_at q)
+          ∙ sym (ap (λ t. cond (is_done q done || (t || false)) (held_at q) None) same)
+      by (Some h) is false other =
+          get-insert nat_cmp_total table e.0 h q ∙ ap (λ t. cond t (Some h) (get table q)) other ∙ are q
+          ∙ merge (is_done q done) (eq_by_cmp nat_cmp q e.0) (held_at q) None other
+
+  pub table_more : (e : ℕ × Node) (rest : List (ℕ × Node)) (table after : AllHeld) → TableSoFar (e ∷ rest) table
+      → after ≡ with_parts e.0 (held_at e.0) table → TableSoFar rest after
+  table_more e rest table after s is =
+      record {
+        done = s.done ++ e ∷ [];
+        all = append_assoc s.done (e ∷ []) rest ∙ s.all;
+        are = λ q. ap (λ (t : AllHeld). get t q) is ∙ one_more s.done e table s.are q;
+      }
+
+  not_found : (q : ℕ) (es : List (ℕ × Node)) → is_done q es ≡ false → find nat_cmp q es ≡ None
+  not_found q [] h = refl
+  not_found q (e ∷ es) h = by (eq_by_cmp nat_cmp q e.0) h (not_found q es)
+    where
+      by : (t : Bool) → (t || is_done q es) ≡ false → (is_done q es ≡ false → find nat_cmp q es ≡ None)
+          → cond t (Some e.1) (find nat_cmp q es) ≡ None
+      by true h rest = cc
+      by false h rest = rest h
+
+  pub table_is : (table : AllHeld) → TableSoFar [] table → (q : ℕ) → get table q ≡ held_at q
+  unfolding member_at
+  table_is table s q =
+      s.are q ∙ ap (λ es. cond (is_done q es) (held_at q) None) (sym (append-nil s.done) ∙ s.all)
+      ∙ by (is_done q (entries p.nodes)) refl
+    where
+      by : (t : Bool) → is_done q (entries p.nodes) ≡ t → cond t (held_at q) None ≡ held_at q
+      by true h = refl
+      by false h =
+          sym (ap (λ o. option_map (held_of p q) (option_and_then (with_sections p) o))
+          (get-entries p.nodes q ∙ not_found q (entries p.nodes) h))
+
+  -- ---- what a simulation reads
+
+  in_trace : (f : ImagePart → Bool) → list_any f (reached_by_trace p)
+      ≡ (((list_any f (for_plan p) || (f image.Roster || false)) || list_any f (of_nodes (entries p.nodes)))
+      || list_any f (windows_below 1001))
+  unfolding reached_by_trace
+  in_trace f =
+      list_any-append f ((for_plan p ++ image.Roster ∷ []) ++ of_nodes (entries p.nodes)) (windows_below 1001)
+      ∙ ap (λ t. t || list_any f (windows_below 1001))
+      (list_any-append f (for_plan p ++ image.Roster ∷ []) (of_nodes (entries p.nodes))
+      ∙ ap (λ t. t || list_any f (of_nodes (entries p.nodes))) (list_any-append f (for_plan p) (image.Roster ∷ [])))
+
+  pub roster_current : (k : KeptImage) → IsCurrent p k → AreHeld p (image.Roster ∷ []) k
+  unfolding AreHeld
+  roster_current k are q there =
+      are q (in_trace (same_part q) ∙ or_left _ _
+      (or_left _ _ (or_right (list_any (same_part q) (for_plan p)) _ there)))
+
+  pub node_current : (k : KeptImage) → IsCurrent p k → (e : ℕ × Node) (done rest : List (ℕ × Node))
+      → done ++ e ∷ rest ≡ entries p.nodes → AreHeld p (of_node e.0) k
+  unfolding AreHeld
+  node_current k are e done rest all q there =
+      are q (in_trace (same_part q) ∙ or_left _ _ (or_right _ _
+      (sym (ap (λ es. list_any (same_part q) (of_nodes es)) all)
+      ∙ ap (list_any (same_part q)) (of_nodes-append done (e ∷ rest))
+      ∙ list_any-append (same_part q) (of_nodes done) (of_nodes (e ∷ rest))
+      ∙ or_right (list_any (same_part q) (of_nodes done)) _
+      (list_any-append (same_part q) (of_node e.0) (of_nodes rest) ∙ or_left _ _ there))))
+
+  window_among : (f : ImagePart → Bool) (i n : ℕ) → f (image.Events i) ≡ true → i < n
+      → list_any f (windows_below n) ≡ true
+  unfolding windows_below
+  window_among f i zero h below = absurd (omega (arith, below))
+  window_among f i (suc n) h below =
+      list_any-append f (windows_below n) (image.Events n ∷ []) ∙ by (n == i) refl (window_among f i n h)
+    where
+      by : (t : Bool) → (n == i) ≡ t → (i < n → list_any f (windows_below n) ≡ true)
+          → (list_any f (windows_below n) || (f (image.Events n) || false)) ≡ true
+      by true same rest =
+          or_right (list_any f (windows_below n)) _
+          (or_left _ _ (ap (λ j. f (image.Events j)) (eqb-true n i same) ∙ h))
+      by false other rest = or_left _ _ (rest (sooner n i other below))
+
+  pub window_current : (k : KeptImage) → IsCurrent p k → (i : ℕ) → i < 1001 → AreHeld p (image.Events i ∷ []) k
+  unfolding AreHeld
+  window_current k are i below q there =
+      are q (in_trace (same_part q) ∙ or_right _ _ (window_among (same_part q) i 1001 (or_none _ there) below))

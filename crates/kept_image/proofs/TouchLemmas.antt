@@ -1,0 +1,72 @@
+-- What is held after an edit.
+use Rattle.std.proofs.Common.{◌≡◌, ◌∙◌, ℕ, Bool, true, false, List, Some, Ok, option_map, sym, ap}
+use Rattle.co_edits.specs.declared.edit.Edit.{Edit}
+use Rattle.co_memo.specs.At.{at}
+use Rattle.co_project.specs.Project.{accept, Content as Project}
+use Rattle.co_scenario.specs.declared.timed_step.TimedStep.{TimedStep}
+use Rattle.kept_parts.specs.Kept as parts
+use Rattle.kept_parts.specs.Marks as marks
+use Rattle.kept_parts.specs.declared.part.Part.{Part}
+use Rattle.network_image.specs.Image.{window_steps}
+use Rattle.kept_image.specs.Kept.{device_from, held, roster_from, IsOf, OfDefaults, OfEvents, OfExpect, OfKept}
+use Rattle.kept_image.specs.Kept.{OfRoster}
+use Rattle.kept_image.specs.Kept.{OfShape}
+use Rattle.kept_image.specs.Marks.{MarksAt, MarksOne}
+use Rattle.kept_image.specs.Touched.{touches_node, touches_roster, touches_window}
+use Rattle.kept_image.specs.declared.device_at.DeviceAt.{DeviceAt}
+use Rattle.kept_image.specs.declared.roster_from.RosterFrom.{RosterFrom}
+use Rattle.kept_image.specs.declared.image_part.ImagePart.{ImagePart}
+use Rattle.kept_image.specs.declared.image_part.ImagePart.TheVariants as image
+use Rattle.kept_image.specs.declared.kept_image.KeptImage.{KeptImage}
+use Rattle.kept_image.proofs.EditLemmas.{taken_as}
+use Rattle.kept_image.proofs.FrameLemmas.{device_left, roster_left, window_left}
+use Rattle.kept_image.proofs.KindLemmas.{parts_of}
+
+module _ (p : Project) (e : Edit) (old new : KeptImage)
+    (kept : (q : Part) → parts.held new.parts q ≡ parts.held old.parts q)
+    (r : MarksOne (touches_roster e) old.roster new.roster) (d : MarksAt (touches_node e) old.defaults new.defaults)
+    (s : MarksAt (touches_node e) old.shapes new.shapes) (x : MarksAt (touches_node e) old.expects new.expects)
+    (w : MarksAt (touches_window p.events e) old.windows new.windows) where
+  -- nothing that is held changes
+  pub held_still : (q : ImagePart) → held new q ≡ held old q
+  held_still (image.Kept q) = ap (option_map OfKept) (kept q)
+  held_still image.Roster = ap (option_map OfRoster) r.kept
+  held_still (image.Defaults n) = ap (λ (es : List (ℕ × DeviceAt)). option_map OfDefaults (at es n)) d.kept
+  held_still (image.Shape n) = ap (λ (es : List (ℕ × DeviceAt)). option_map OfShape (at es n)) s.kept
+  held_still (image.Expect n) = ap (λ (es : List (ℕ × DeviceAt)). option_map OfExpect (at es n)) x.kept
+  held_still (image.Events i) = ap (λ (es : List (ℕ × List TimedStep)). option_map OfEvents (at es i)) w.kept
+
+  -- what is held of the project is held of it still
+  pub still_of : (parts.IsOf p old.parts → parts.IsOf p new.parts) → IsOf p old → IsOf p new
+  unfolding IsOf parts.IsOf
+  still_of same is (image.Kept q) u = ap (option_map OfKept) (same (parts_of p old is) q u)
+  still_of same is image.Roster u = held_still image.Roster ∙ is image.Roster (r.unmarked u).0
+  still_of same is (image.Defaults n) u = held_still (image.Defaults n) ∙ is (image.Defaults n) (d.unmarked n u).0
+  still_of same is (image.Shape n) u = held_still (image.Shape n) ∙ is (image.Shape n) (s.unmarked n u).0
+  still_of same is (image.Expect n) u = held_still (image.Expect n) ∙ is (image.Expect n) (x.unmarked n u).0
+  still_of same is (image.Events i) u = held_still (image.Events i) ∙ is (image.Events i) (w.unmarked i u).0
+
+  -- and of the project that the edit makes
+  pub follows : marks.Follows e old.parts new.parts → (q : Project) → IsOf p old → accept p e ≡ Ok q → IsOf q new
+  unfolding IsOf parts.IsOf
+  follows after q is taken (image.Kept a) u = ap (option_map OfKept) (after p q (parts_of p old is) taken a u)
+  follows after q is taken image.Roster u =
+      held_still image.Roster ∙ is image.Roster (r.unmarked u).0
+      ∙ ap (λ (f : RosterFrom). Some (OfRoster f))
+      (sym (roster_left p e (r.unmarked u).1) ∙ ap roster_from (taken_as p q e taken))
+  follows after q is taken (image.Defaults n) u =
+      held_still (image.Defaults n) ∙ is (image.Defaults n) (d.unmarked n u).0
+      ∙ ap (option_map OfDefaults)
+      (sym (device_left p e n (d.unmarked n u).1) ∙ ap (λ (r : Project). device_from r n) (taken_as p q e taken))
+  follows after q is taken (image.Shape n) u =
+      held_still (image.Shape n) ∙ is (image.Shape n) (s.unmarked n u).0
+      ∙ ap (option_map OfShape)
+      (sym (device_left p e n (s.unmarked n u).1) ∙ ap (λ (r : Project). device_from r n) (taken_as p q e taken))
+  follows after q is taken (image.Expect n) u =
+      held_still (image.Expect n) ∙ is (image.Expect n) (x.unmarked n u).0
+      ∙ ap (option_map OfExpect)
+      (sym (device_left p e n (x.unmarked n u).1) ∙ ap (λ (r : Project). device_from r n) (taken_as p q e taken))
+  follows after q is taken (image.Events i) u =
+      held_still (image.Events i) ∙ is (image.Events i) (w.unmarked i u).0
+      ∙ ap (λ (steps : List TimedStep). Some (OfEvents steps))
+      (sym (window_left p i e (w.unmarked i u).1) ∙ ap (λ (r : Project). window_steps r i) (taken_as p q e taken))

@@ -1,0 +1,4 @@
+pub mod Made
+pub mod Kept
+pub mod Touched
+pub mod Marks

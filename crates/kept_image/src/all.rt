@@ -1,0 +1,88 @@
+//! All parts that a simulation reads, brought up to date.
+ghost use Rattle.std.specs.Prelude.{OnOk};
+ghost use Rattle.std.specs.FinMap.{entries};
+ghost use Rattle.co_memo.specs.Stale.{AreBrought};
+ghost use Rattle.kept_image.specs.Kept.{for_plan, given, held, of_node, of_nodes, reached_by_trace, same_part};
+ghost use Rattle.kept_image.specs.Kept.{windows_below, AreHeld, HoldsDevices, IsOf};
+
+use crate::kept_image::KeptImage;
+use co_memo::Meter;
+use co_project::Project;
+use kept_parts::Part;
+use network_image::{LAST_TIME, window_split};
+use std::alloc::AllocError;
+
+impl KeptImage {
+    /// Brings the parts of a node up to date, where the plan is.
+    fn bring_node(
+        &mut self,
+        project: &Project,
+        node: u8,
+        meter: &mut Meter,
+    ) -> Result<(), AllocError>
+        requires is_of { IsOf project.now self.old }
+        requires plan { AreHeld project.now (for_plan project.now) self.old }
+        ensures is_of { IsOf project.now self.new }
+        ensures brings { OnOk result (AreBrought same_part (given project.now) (of_node node)
+            (held self.old) (held self.new) meter.old meter.new) }
+        ensures plan { OnOk result (AreHeld project.now (for_plan project.now) self.new) }
+    {
+        self.bring_defaults(project, node, meter)?;
+        self.bring_shape(project, node, meter)?;
+        self.bring_expect(project, node, meter)?;
+        self.bring_kept(&Part::Writes(node), project, meter)?;
+        Ok(())
+    }
+
+    /// Brings the parts of all nodes up to date, where the plan is.
+    fn bring_nodes(&mut self, project: &Project, meter: &mut Meter) -> Result<(), AllocError>
+        requires is_of { IsOf project.now self.old }
+        requires plan { AreHeld project.now (for_plan project.now) self.old }
+        ensures is_of { IsOf project.now self.new }
+        ensures brings { OnOk result (AreBrought same_part (given project.now) (of_nodes (entries project.now.nodes))
+            (held self.old) (held self.new) meter.old meter.new) }
+        ensures devices { OnOk result (HoldsDevices project.now self.new.parts) }
+    {
+        for (number, _node) in project.nodes() {
+            self.bring_node(project, *number, meter)?;
+        }
+        Ok(())
+    }
+
+    /// Brings all windows up to date, where the devices of all nodes are. Walks the events once.
+    fn bring_windows(&mut self, project: &Project, meter: &mut Meter) -> Result<(), AllocError>
+        requires is_of { IsOf project.now self.old }
+        requires devices { HoldsDevices project.now self.old.parts }
+        ensures is_of { IsOf project.now self.new }
+        ensures brings { OnOk result (AreBrought same_part (given project.now) (windows_below 1001)
+            (held self.old) (held self.new) meter.old meter.new) }
+    {
+        let script = project.events();
+        let moments = script.events_between(self.alloc, 0, LAST_TIME)?;
+        let mut left = moments.as_slice();
+        for i in 0..1001 {
+            let (own, after) = window_split(script, left, u32::from(i));
+            self.keep_window(project, i, own, meter)?;
+            left = after;
+        }
+        Ok(())
+    }
+
+    /// Brings all parts that a simulation reads up to date.
+    pub(crate) fn bring_all(
+        &mut self,
+        project: &Project,
+        meter: &mut Meter,
+    ) -> Result<(), AllocError>
+        requires { IsOf project.now self.old }
+        ensures is_of { IsOf project.now self.new }
+        ensures brings { OnOk result (AreBrought same_part (given project.now) (reached_by_trace project.now)
+            (held self.old) (held self.new) meter.old meter.new) }
+    {
+        self.bring_kept(&Part::Plan, project, meter)?;
+        self.bring_roster(project, meter)?;
+        self.bring_nodes(project, meter)?;
+        self.bring_windows(project, meter)?;
+        Ok(())
+    }
+}

@@ -1,0 +1,232 @@
+//! Parts that are brought up to date, one after what it is built from.
+ghost use Rattle.std.specs.Prelude.{◌≡◌, ◌≤◌, ◌+◌, ◌*◌, ◌∷◌, [], OnOk, IfOk, map, option_map};
+ghost use Rattle.std.specs.FinMap.{entries};
+ghost use Rattle.co_memo.specs.Stale.{AreBrought};
+ghost use Rattle.co_scenario.specs.Scenario.{events_between};
+ghost use Rattle.kept_parts.specs.Kept as parts;
+ghost use Rattle.kept_image.specs.Kept.{device_from, given, held, reached, same_part, HoldsDevices, IsOf, IsPart};
+
+use crate::device_at::DeviceAt;
+use crate::devices_now::steps_now;
+use crate::image_part::ImagePart;
+use crate::kept_image::KeptImage;
+use crate::roster_now::RosterNow;
+use co_memo::{Meter, Shared};
+use co_project::Project;
+use eds_device::Device;
+use kept_parts::Part;
+use std::alloc::AllocError;
+
+/// A device with the number of its node.
+fn device_at(device: Option<Shared<Device>>, node: u8) -> Option<DeviceAt>
+    ensures { result ≡ option_map (λ d. record { device = d; node = node }) device }
+{
+    let device = device?;
+    Some(DeviceAt { device, node })
+}
+
+impl KeptImage {
+    /// Brings a part that the files are made of up to date.
+    pub(crate) fn bring_kept(
+        &mut self,
+        part: &Part,
+        project: &Project,
+        meter: &mut Meter,
+    ) -> Result<(), AllocError>
+        requires { IsOf project.now self.old }
+        ensures is_of { IsOf project.now self.new }
+        ensures brings { OnOk result (AreBrought same_part (given project.now)
+            (reached project.now (ImagePart.Kept part.now)) (held self.old) (held self.new) meter.old meter.new) }
+    {
+        self.parts.refresh(part, project, meter)?;
+        Ok(())
+    }
+
+    /// Brings the roster up to date.
+    pub(crate) fn bring_roster(
+        &mut self,
+        project: &Project,
+        meter: &mut Meter,
+    ) -> Result<(), AllocError>
+        requires { IsOf project.now self.old }
+        ensures is_of { IsOf project.now self.new }
+        ensures brings { OnOk result (AreBrought same_part (given project.now) (ImagePart.Roster ∷ [])
+            (held self.old) (held self.new) meter.old meter.new) }
+    {
+        self.roster.bring(self.alloc, RosterNow { project }, meter)?;
+        Ok(())
+    }
+
+    /// Brings the device of a node up to date, and shares it with its number.
+    fn bring_device(
+        &mut self,
+        project: &Project,
+        node: u8,
+        meter: &mut Meter,
+    ) -> Result<Option<DeviceAt>, AllocError>
+        requires { IsOf project.now self.old }
+        ensures is_of { IsOf project.now self.new }
+        ensures brings { OnOk result (AreBrought same_part (given project.now)
+            (map ImagePart.Kept (parts.own_device project.now node))
+            (held self.old) (held self.new) meter.old meter.new) }
+        ensures value { IfOk result (λ d. d ≡ device_from project.now node) }
+    {
+        let device = self.parts.bring_own_device(project, node, meter)?;
+        Ok(device_at(device, node))
+    }
+
+    /// Brings the values of a node by its device up to date.
+    pub(crate) fn bring_defaults(
+        &mut self,
+        project: &Project,
+        node: u8,
+        meter: &mut Meter,
+    ) -> Result<(), AllocError>
+        requires { IsOf project.now self.old }
+        ensures is_of { IsOf project.now self.new }
+        ensures brings { OnOk result (AreBrought same_part (given project.now)
+            (reached project.now (ImagePart.Defaults node)) (held self.old) (held self.new) meter.old meter.new) }
+    {
+        let now = self.bring_device(project, node, meter)?;
+        self.defaults.bring(self.alloc, node, now, meter)?;
+        Ok(())
+    }
+
+    /// Brings the entries of a node up to date.
+    pub(crate) fn bring_shape(
+        &mut self,
+        project: &Project,
+        node: u8,
+        meter: &mut Meter,
+    ) -> Result<(), AllocError>
+        requires { IsOf project.now self.old }
+        ensures is_of { IsOf project.now self.new }
+        ensures brings { OnOk result (AreBrought same_part (given project.now)
+            (reached project.now (ImagePart.Shape node)) (held self.old) (held self.new) meter.old meter.new) }
+    {
+        let now = self.bring_device(project, node, meter)?;
+        self.shapes.bring(self.alloc, node, now, meter)?;
+        Ok(())
+    }
+
+    /// Brings what is expected of a node up to date.
+    pub(crate) fn bring_expect(
+        &mut self,
+        project: &Project,
+        node: u8,
+        meter: &mut Meter,
+    ) -> Result<(), AllocError>
+        requires { IsOf project.now self.old }
+        ensures is_of { IsOf project.now self.new }
+        ensures brings { OnOk result (AreBrought same_part (given project.now)
+            (reached project.now (ImagePart.Expect node)) (held self.old) (held self.new) meter.old meter.new) }
+    {
+        let now = self.bring_device(project, node, meter)?;
+        self.expects.bring(self.alloc, node, now, meter)?;
+        Ok(())
+    }
+
+    /// Brings the devices of all nodes up to date.
+    fn bring_devices(&mut self, project: &Project, meter: &mut Meter) -> Result<(), AllocError>
+        requires { IsOf project.now self.old }
+        ensures is_of { IsOf project.now self.new }
+        ensures brings { OnOk result (AreBrought same_part (given project.now)
+            (map ImagePart.Kept (map parts.of_node (entries project.now.nodes)))
+            (held self.old) (held self.new) meter.old meter.new) }
+        ensures devices { OnOk result (HoldsDevices project.now self.new.parts) }
+    {
+        self.parts.bring_devices(project, meter)?;
+        Ok(())
+    }
+
+    /// Brings a window with these events up to date, where the devices of all nodes are.
+    pub(crate) fn keep_window(
+        &mut self,
+        project: &Project,
+        i: u16,
+        moments: &[(u32, u16)],
+        meter: &mut Meter,
+    ) -> Result<(), AllocError>
+        requires is_of { IsOf project.now self.old }
+        requires number { i ≤ 1000 }
+        requires devices { HoldsDevices project.now self.old.parts }
+        requires moments { moments.now ≡ events_between (10000 * i) (10000 * i + 9999) project.now.events }
+        ensures is_of { IsOf project.now self.new }
+        ensures brings { OnOk result (AreBrought same_part (given project.now) (ImagePart.Events i ∷ [])
+            (held self.old) (held self.new) meter.old meter.new) }
+        ensures parts { self.new.parts ≡ self.old.parts }
+    {
+        if self.windows.is_fresh(i) {
+            return Ok(());
+        }
+        let steps = steps_now(self.alloc, &self.parts, project, i, moments)?;
+        self.windows.keep(self.alloc, i, steps, meter)?;
+        Ok(())
+    }
+
+    /// Brings a window up to date, where the devices of all nodes are. Without a mark it walks no events.
+    fn bring_own_window(
+        &mut self,
+        project: &Project,
+        i: u16,
+        meter: &mut Meter,
+    ) -> Result<(), AllocError>
+        requires is_of { IsOf project.now self.old }
+        requires number { i ≤ 1000 }
+        requires devices { HoldsDevices project.now self.old.parts }
+        ensures is_of { IsOf project.now self.new }
+        ensures brings { OnOk result (AreBrought same_part (given project.now) (ImagePart.Events i ∷ [])
+            (held self.old) (held self.new) meter.old meter.new) }
+    {
+        if self.windows.is_fresh(i) {
+            return Ok(());
+        }
+        let first = 10_000 * u32::from(i);
+        let moments = project
+            .events()
+            .events_between(self.alloc, first, first + 9999)?;
+        self.keep_window(project, i, moments.as_slice(), meter)?;
+        Ok(())
+    }
+
+    /// Brings the devices of all nodes, and then a window up to date.
+    fn bring_window(
+        &mut self,
+        project: &Project,
+        i: u16,
+        meter: &mut Meter,
+    ) -> Result<(), AllocError>
+        requires is_of { IsOf project.now self.old }
+        requires number { i ≤ 1000 }
+        ensures is_of { IsOf project.now self.new }
+        ensures brings { OnOk result (AreBrought same_part (given project.now)
+            (reached project.now (ImagePart.Events i)) (held self.old) (held self.new) meter.old meter.new) }
+    {
+        self.bring_devices(project, meter)?;
+        self.bring_own_window(project, i, meter)?;
+        Ok(())
+    }
+
+    /// Brings a part, and all that it is built from, up to date.
+    pub(crate) fn bring(
+        &mut self,
+        part: &ImagePart,
+        project: &Project,
+        meter: &mut Meter,
+    ) -> Result<(), AllocError>
+        requires is_of { IsOf project.now self.old }
+        requires part { IsPart part.now }
+        ensures is_of { IsOf project.now self.new }
+        ensures brings { OnOk result (AreBrought same_part (given project.now) (reached project.now part.now)
+            (held self.old) (held self.new) meter.old meter.new) }
+    {
+        match part {
+            ImagePart::Kept(part) => self.bring_kept(part, project, meter),
+            ImagePart::Roster => self.bring_roster(project, meter),
+            ImagePart::Defaults(node) => self.bring_defaults(project, *node, meter),
+            ImagePart::Shape(node) => self.bring_shape(project, *node, meter),
+            ImagePart::Expect(node) => self.bring_expect(project, *node, meter),
+            ImagePart::Events(i) => self.bring_window(project, *i, meter),
+        }
+    }
+}

@@ -1,0 +1,147 @@
+//! The network of a project, by pointers to what is kept of it.
+ghost use Rattle.std.specs.Prelude.{◌≡◌, ◌∷◌, [], ℕ, IfOk, OnOk, option_map};
+ghost use Rattle.std.specs.FinMap as map;
+ghost use Rattle.project_plan.specs.Network.{member_at};
+ghost use Rattle.network_image.specs.Held.{held_of, with_window};
+ghost use Rattle.network_image.specs.Image.{image_of, roster_of_project, window_steps};
+ghost use Rattle.network_image.specs.Network.{image_held};
+ghost use Rattle.network_image.specs.Steps.{unless_none};
+ghost use Rattle.kept_image.specs.Kept.{of_node, with_parts, AreHeld, IsCurrent};
+
+use crate::image_part::ImagePart;
+use crate::kept_image::KeptImage;
+use co_parts::Roster;
+use co_project::Project;
+use concise_dcf::Write;
+use network_image::{NetworkParts, NodeParts, NodeTable, NodeWrites, WindowTable};
+use std::alloc::{AllocError, Global};
+use std::rc::Rc;
+
+/// A copy of writes.
+fn copies(alloc: Global, writes: &[Write]) -> Result<Vec<Write>, AllocError>
+    ensures { IfOk result (λ copy. copy.items ≡ writes.now) }
+{
+    let mut copy = Vec::new(alloc);
+    for write in writes {
+        let write = write.clone()?;
+        copy.push(write)?;
+    }
+    Ok(copy)
+}
+
+/// The writes of a node, each to be shared.
+fn shared_writes(alloc: Global, writes: &kept_parts::NodeWrites) -> Result<NodeWrites, AllocError>
+    ensures { IfOk result (λ node. node ≡ writes.now) }
+{
+    let writes = copies(alloc, writes.as_slice())?;
+    NodeWrites::new(alloc, writes)
+}
+
+impl KeptImage {
+    /// The parts of a node, if it is there with its device.
+    fn node_parts(&self, project: &Project, id: u8) -> Result<Option<NodeParts>, AllocError>
+        requires { AreHeld project.now (of_node id) self.now }
+        ensures { IfOk result (λ parts. parts ≡ option_map (held_of project.now id) (member_at project.now id)) }
+    {
+        let _ = project;
+        let Some(defaults) = self.defaults.value(id) else {
+            return Ok(None);
+        };
+        let Some(shape) = self.shapes.value(id) else {
+            return Ok(None);
+        };
+        let Some(expect) = self.expects.value(id) else {
+            return Ok(None);
+        };
+        let Some(writes) = self.parts.writes(id) else {
+            return Ok(None);
+        };
+        let defaults = defaults.pointer()?;
+        let shape = shape.pointer()?;
+        let expect = expect.pointer()?;
+        let writes = shared_writes(self.alloc, writes.get())?;
+        Ok(Some(NodeParts::from_shared(defaults, shape, expect, writes)))
+    }
+
+    /// Adds the parts of a node, if it is there with its device.
+    fn add_node(&self, table: &mut NodeTable, project: &Project, id: u8) -> Result<(), AllocError>
+        requires { AreHeld project.now (of_node id) self.now }
+        ensures { OnOk result (table.new ≡ with_parts id
+            (option_map (held_of project.now id) (member_at project.now id))
+            table.old) }
+    {
+        if let Some(parts) = self.node_parts(project, id)? {
+            table.insert(id, parts)?;
+        }
+        Ok(())
+    }
+
+    /// The parts of all nodes.
+    fn node_table(&self, project: &Project) -> Result<NodeTable, AllocError>
+        requires { IsCurrent project.now self.now }
+        ensures { IfOk result (λ nodes. (id : ℕ)
+            → map.get nodes id ≡ option_map (held_of project.now id) (member_at project.now id)) }
+    {
+        let mut table = NodeTable::new(self.alloc);
+        for (id, _node) in project.nodes() {
+            self.add_node(&mut table, project, *id)?;
+        }
+        Ok(table)
+    }
+
+    /// Adds a window, if it has steps.
+    fn add_window(
+        &self,
+        table: &mut WindowTable,
+        project: &Project,
+        i: u16,
+    ) -> Result<(), AllocError>
+        requires { AreHeld project.now (ImagePart.Events i ∷ []) self.now }
+        ensures { OnOk result (table.new ≡ with_window i (window_steps project.now i) table.old) }
+    {
+        project.keeps_to_rules();
+        let Some(window) = self.windows.value(i) else {
+            unreachable!();
+        };
+        let window = window.pointer()?;
+        table.add_shared(u32::from(i), window)?;
+        Ok(())
+    }
+
+    /// All windows that have steps.
+    fn window_table(&self, project: &Project) -> Result<WindowTable, AllocError>
+        requires { IsCurrent project.now self.now }
+        ensures { IfOk result (λ windows. (i : ℕ) → map.get windows i ≡ unless_none (window_steps project.now i)) }
+    {
+        project.keeps_to_rules();
+        let mut table = WindowTable::new(self.alloc);
+        for i in 0..1001 {
+            self.add_window(&mut table, project, i)?;
+        }
+        Ok(table)
+    }
+
+    /// A pointer to the roster.
+    fn roster_pointer(&self, project: &Project) -> Result<Rc<Roster>, AllocError>
+        requires { AreHeld project.now (ImagePart.Roster ∷ []) self.now }
+        ensures { IfOk result (λ roster. roster.value ≡ roster_of_project project.now) }
+    {
+        let _ = project;
+        let Some(roster) = self.roster.value() else {
+            unreachable!();
+        };
+        let roster = roster.pointer()?;
+        Ok(roster)
+    }
+
+    /// The network of a project, by pointers.
+    pub(crate) fn network_parts(&self, project: &Project) -> Result<NetworkParts, AllocError>
+        requires { IsCurrent project.now self.now }
+        ensures { IfOk result (λ n. image_held n ≡ image_of project.now) }
+    {
+        let roster = self.roster_pointer(project)?;
+        let nodes = self.node_table(project)?;
+        let windows = self.window_table(project)?;
+        Ok(NetworkParts::from_shared(project, roster, nodes, windows))
+    }
+}

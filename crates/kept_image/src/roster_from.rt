@@ -1,0 +1,17 @@
+//! What the roster is built from.
+
+use co_memo::{Makes, Shared};
+use co_parts::Roster;
+
+/// The roster itself: bit rate, manager and node numbers.
+#[derive(Drop)]
+pub struct RosterFrom {
+    /// The roster.
+    pub roster: Roster,
+}
+
+impl Makes<Shared<Roster>> for RosterFrom {
+    ghost use Rattle.kept_image.specs.Made.{roster_made};
+
+    ghost made = { roster_made };
+}

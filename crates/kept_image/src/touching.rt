@@ -1,0 +1,110 @@
+//! Marks of what edits may leave with other inputs.
+ghost use Rattle.std.specs.Prelude.{◌≡◌, ◌||◌, Ok};
+ghost use Rattle.co_project.specs.Project.{accept, Content};
+ghost use Rattle.kept_image.specs.Kept.{held, IsOf};
+ghost use Rattle.kept_image.specs.Marks.{MarksAt, MarksOne};
+ghost use Rattle.kept_image.specs.Touched.{is_window_at, is_window_of, touches_node, touches_roster, touches_window};
+
+use crate::image_part::ImagePart;
+use crate::kept_image::KeptImage;
+use crate::roster_from::RosterFrom;
+use crate::window_shelf::WindowShelf;
+use co_edits::Edit;
+use co_memo::{Makes, Memo, Shared, Shelf};
+use co_parts::Roster;
+use co_project::Project;
+use co_scenario::Script;
+
+/// The microseconds of a window.
+const WINDOW: u32 = 10_000;
+
+/// Marks the roster, where an edit may leave it with other inputs.
+fn mark_roster(roster: &mut Memo<RosterFrom, Shared<Roster>>, edit: &Edit)
+    ensures { MarksOne (touches_roster edit.now) roster.old roster.new }
+{
+    match edit {
+        Edit::Bitrate(_) => roster.mark(),
+        Edit::Manager(_) => roster.mark(),
+        Edit::Node { .. } => roster.mark(),
+        Edit::DropNode { .. } => roster.mark(),
+        _ => (),
+    }
+}
+
+/// Marks what is built from the device of a node, where an edit may leave it with other inputs.
+fn mark_nodes<I: Makes<T> + Drop, T: Drop>(shelf: &mut Shelf<I, T>, edit: &Edit)
+    ensures { MarksAt (touches_node edit.now) shelf.old shelf.new }
+{
+    match edit {
+        Edit::Eds { .. } => shelf.mark_all(),
+        Edit::DropEds { .. } => shelf.mark_all(),
+        Edit::Node { id, .. } => shelf.mark(*id),
+        Edit::DropNode { id } => shelf.mark(*id),
+        _ => (),
+    }
+}
+
+/// Marks the window in which a time in microseconds lies.
+fn mark_time(windows: &mut WindowShelf, time: u32)
+    ensures { MarksAt (λ i. is_window_of i time) windows.old windows.new }
+{
+    let i = time / WINDOW;
+    if i < 1024 {
+        windows.mark(i as u16);
+    } else {
+        windows.mark_all();
+    }
+}
+
+/// Marks the window in which the event of a number lies.
+fn mark_event(windows: &mut WindowShelf, events: &Script, number: u16)
+    ensures { MarksAt (is_window_at events.now number) windows.old windows.new }
+{
+    if let Some(timed) = events.get(number) {
+        mark_time(windows, timed.time);
+    }
+}
+
+/// Marks the window in which the event of a number lies, and that of another time.
+fn mark_moved(windows: &mut WindowShelf, events: &Script, number: u16, time: u32)
+    ensures { MarksAt (λ i. is_window_of i time || is_window_at events.now number i) windows.old windows.new }
+{
+    mark_time(windows, time);
+    mark_event(windows, events, number);
+}
+
+/// Marks the windows that an edit may leave with other steps.
+fn mark_windows(windows: &mut WindowShelf, events: &Script, edit: &Edit)
+    ensures { MarksAt (touches_window events.now edit.now) windows.old windows.new }
+{
+    match edit {
+        Edit::Eds { .. } => windows.mark_all(),
+        Edit::DropEds { .. } => windows.mark_all(),
+        Edit::Node { .. } => windows.mark_all(),
+        Edit::DropNode { .. } => windows.mark_all(),
+        Edit::Event { number, event } => mark_moved(windows, events, *number, event.time),
+        Edit::DropEvent { number } => mark_event(windows, events, *number),
+        _ => (),
+    }
+}
+
+impl KeptImage {
+    /// Marks what an edit of a project may leave with other inputs. Takes no memory, and constant time but
+    /// for the logarithms of the numbers of EDS and of events. A mark too many does no harm: so it may come
+    /// before the edit is taken or refused.
+    pub fn touch(&mut self, edit: &Edit, project: &Project)
+        ensures held { (q : ImagePart) → held self.new q ≡ held self.old q }
+
+        // What is held of the project is held of it still, and of the project that the edit makes of it.
+        ensures same { IsOf project.now self.old → IsOf project.now self.new }
+        ensures follows { (q : Content) → IsOf project.now self.old → accept project.now edit.now ≡ Ok q
+            → IsOf q self.new }
+    {
+        self.parts.touch(edit);
+        mark_roster(&mut self.roster, edit);
+        mark_nodes(&mut self.defaults, edit);
+        mark_nodes(&mut self.shapes, edit);
+        mark_nodes(&mut self.expects, edit);
+        mark_windows(&mut self.windows, project.events(), edit);
+    }
+}

@@ -1,0 +1,10 @@
+pub mod CoherentLemmas
+pub mod CountLemmas
+pub mod HeldLemmas
+pub mod PartsLemmas
+pub mod PointerLemmas
+pub mod RosterLemmas
+pub mod SizeLemmas
+pub mod StepLemmas
+pub mod WindowLemmas
+pub mod MomentLemmas

@@ -1,0 +1,72 @@
+-- The roster of a project is one.
+use Rattle.std.proofs.Common.{◌≡◌, ◌≢◌, ℕ, ◌<◌, ◌≤◌, ◌==◌, ◌||◌, ◌⊎◌, Bool, true, false, T, List, [], ◌∷◌}
+use Rattle.std.proofs.Common.{All, refl, arith, inl, inr}
+use Rattle.std.specs.Prelude.{map, nat_eq}
+use Rattle.std.specs.List.{AllByRecursion}
+use Rattle.std.specs.Ordering.{nat_cmp, is_lt}
+use Rattle.std.specs.FinMap.{entries, entries_sorted, is_sorted}
+use Rattle.std.specs.FinMap.Entries.{below_all}
+use Rattle.std.proofs.lemmas.Bool.{eq-eqb, eqb-true}
+use Rattle.std.proofs.lemmas.Bool.Decides.{nat_tests}
+use Rattle.std.proofs.lemmas.Cmp.{nat_cmp_total}
+use Rattle.std.proofs.lemmas.List.Elements.{All-head, All-tail}
+use Rattle.std.proofs.lemmas.Map.Lookups.{exact_unsigned}
+use Rattle.std.proofs.lemmas.Map.Views.{Contains-from_any}
+use Rattle.co_base.proofs.EachLemmas.{all_entries, first_part, second_part}
+use Rattle.pdo_plan.proofs.LimitLemmas.{between}
+use Rattle.co_base.specs.Ranges.{is_between}
+use Rattle.co_edits.specs.Edits.{IsManager}
+use Rattle.co_edits.specs.Forms.{is_sync_period}
+use Rattle.co_project.specs.declared.node.Node.{Node}
+use Rattle.co_project.specs.Project.{Content as Project}
+use Rattle.co_project.specs.Sound.{IsNodeOf, IsSound}
+use Rattle.co_parts.specs.Images.{AllDiffer, bit_rates, IsNode, IsRoster}
+use Rattle.network_image.specs.Image.{roster_of_project}
+
+-- none, or from a millisecond to ten seconds
+sync_period : (n : ℕ) → is_sync_period n ≡ true → (n ≡ 0) ⊎ ((1000 ≤ n) × (n ≤ 10000000))
+sync_period n is = by (n == 0) refl is
+  where
+    by : (t : Bool) → (n == 0) ≡ t → (t || is_between 1000 10000000 n) ≡ true → (n ≡ 0) ⊎ ((1000 ≤ n) × (n ≤ 10000000))
+    by true none h = inl (eqb-true n 0 none)
+    by false some h = inr (between 1000 10000000 n h)
+
+-- the numbers of nodes aren't the manager's
+numbers_apart : (p : Project) (nodes : List (ℕ × Node)) → All (λ e. IsNodeOf p e.0 e.1) nodes
+    → AllByRecursion (IsNode p.manager.id) (map (λ e. e.0) nodes)
+unfolding IsNodeOf
+numbers_apart p [] all = tt
+numbers_apart p (e ∷ nodes) all =
+    let is : IsNodeOf p e.0 e.1 = All-head (λ x. IsNodeOf p x.0 x.1) e nodes all in
+    let range = between 1 127 e.0 is.0 in (
+      (range.0, range.1, λ same. cc (is.1, eq-eqb e.0 p.manager.id same)),
+      numbers_apart p nodes (All-tail (λ x. IsNodeOf p x.0 x.1) e nodes all),
+    )
+
+less : (a b : ℕ) → T (is_lt (nat_cmp a b)) → a < b
+less a b h = grind (arith, nat_tests)
+
+other : (a b : ℕ) → a < b → a ≢ b
+other a b h same = omega (arith, h, same)
+
+-- the keys of a table differ
+apart : {X : Type 0} (k : ℕ) (es : List (ℕ × X)) → T (below_all nat_cmp k es)
+    → AllByRecursion (λ b. k ≢ b) (map (λ e. e.0) es)
+apart k [] below = tt
+apart k (e ∷ es) below = (other k e.0 (less k e.0 (first_part _ _ below)), apart k es (second_part _ _ below))
+
+keys_differ : {X : Type 0} (es : List (ℕ × X)) → T (is_sorted nat_cmp es) → AllDiffer (map (λ e. e.0) es)
+keys_differ [] sorted = tt
+keys_differ (e ∷ es) sorted = (apart e.0 es (first_part _ _ sorted), keys_differ es (second_part _ _ sorted))
+
+pub is_roster : (p : Project) → IsSound p → IsRoster (roster_of_project p)
+unfolding roster_of_project IsManager
+is_roster p sound = record {
+  bit_rate = Contains-from_any {eq = nat_eq} (λ x y. eqb-true x y) p.bitrate bit_rates sound.bitrate;
+  manager = between 1 127 p.manager.id sound.manager.0;
+  sync = sync_period p.manager.sync_us sound.manager.1;
+  heartbeat = let most = between 0 65535 p.manager.heartbeat_ms sound.manager.2 in omega (arith, most.1);
+  timeout = let range = between 1 65535 p.manager.timeout_ms sound.manager.3 in (range.0, omega (arith, range.1));
+  nodes = numbers_apart p (entries p.nodes) (all_entries nat_cmp_total exact_unsigned (IsNodeOf p) p.nodes sound.nodes);
+  differ = keys_differ (entries p.nodes) (entries_sorted p.nodes);
+}

@@ -1,0 +1,8 @@
+use Rattle.network_image.proofs.CoherentLemmas.{coherent, is_image}
+use Rattle.network_image.proofs.laws.the_image_is_coherent.Goals as goal
+
+pub returns-clause-image : goal.returns-clause-image
+returns-clause-image c = is_image
+
+pub returns-clause-coherent : goal.returns-clause-coherent
+returns-clause-coherent c = coherent

@@ -1,0 +1,54 @@
+-- THE IMAGE of a project: what each part of a simulation is, by its name (this profile's own).
+use Rattle.std.specs.Prelude.{ℕ, List, Option, Some, option_map, option_and_then, slice_get}
+use Rattle.std.specs.FinMap.{keys}
+use Rattle.concise_dcf.specs.declared.write.Write.{Write}
+use Rattle.co_dict.specs.Values.{Values}
+use Rattle.eds_device.specs.Entries.{defaults_of}
+use Rattle.eds_device.specs.Identity.{identity}
+use Rattle.project_plan.specs.Events.{shape_of_node}
+use Rattle.project_plan.specs.Network.{member_at, writes_of, Member}
+use Rattle.co_project.specs.Project.{Content as Project}
+use Rattle.co_scenario.specs.declared.timed_step.TimedStep.{TimedStep}
+use Rattle.co_parts.specs.Contents.{Image, RosterIs, DefaultsAre, ShapeIs, ExpectIs, BootIs, EventsAre}
+use Rattle.co_parts.specs.declared.identity.Identity.{Identity}
+use Rattle.co_parts.specs.declared.part.Part.TheVariants as part
+use Rattle.co_parts.specs.declared.roster.Roster.{Roster}
+use Rattle.network_image.specs.Steps.{steps_in, unless_none}
+
+-- the bit rate, the manager and the numbers of the nodes
+unfoldable pub roster_of_project : Project → Roster
+roster_of_project project = record {
+  bit_rate = project.bitrate;
+  manager = project.manager.id;
+  sync_us = project.manager.sync_us;
+  heartbeat_ms = project.manager.heartbeat_ms;
+  timeout_ms = project.manager.timeout_ms;
+  nodes = keys project.nodes;
+}
+
+-- the default values of the device of its EDS, at its number
+unfoldable pub defaults_of_node : Project → ℕ → Option Values
+defaults_of_node project node = option_map (λ (m : Member). defaults_of m.sections node) (member_at project node)
+
+-- the device type and the identity of the device of its EDS
+unfoldable pub identity_of_node : Project → ℕ → Option Identity
+identity_of_node project node = option_map (λ (m : Member). record { numbers = identity m.sections node })
+    (member_at project node)
+
+-- the write at a place, from 0, of those that the node gets
+unfoldable pub write_of_node : Project → ℕ → ℕ → Option Write
+write_of_node project node place = option_and_then (λ (m : Member). slice_get (writes_of project m node) place)
+    (member_at project node)
+
+-- the steps of a window, with the shapes of the project's nodes
+unfoldable pub window_steps : Project → ℕ → List TimedStep
+window_steps project i = steps_in (shape_of_node project) project.events i
+
+-- THE IMAGE: the parts of a number that isn't a node's are none, and so is a window without steps
+abbrev pub image_of : Project → Image
+image_of project part.Roster = RosterIs (Some (roster_of_project project))
+image_of project (part.Defaults node) = DefaultsAre (defaults_of_node project node)
+image_of project (part.Shape node) = ShapeIs (shape_of_node project node)
+image_of project (part.Expect node) = ExpectIs (identity_of_node project node)
+image_of project (part.Boot node place) = BootIs (write_of_node project node place)
+image_of project (part.Events window) = EventsAre (unless_none (window_steps project window))

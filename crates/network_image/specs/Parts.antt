@@ -1,0 +1,28 @@
+-- Which numbers have parts, and which parts these are.
+use Rattle.std.specs.Prelude.{◌≡◌, ℕ, List, Some, None, slice_get}
+use Rattle.ini_text.specs.Content.{Section}
+use Rattle.eds_device.specs.Entries.{defaults_of, shape_of}
+use Rattle.eds_device.specs.Identity.{identity}
+use Rattle.pdo_links.specs.Writes.{node_writes}
+use Rattle.project_plan.specs.Network.{plan_of_project}
+use Rattle.co_project.specs.declared.node.Node.{Node}
+use Rattle.co_project.specs.Project.{Content as Project}
+use Rattle.co_parts.specs.Contents.{DefaultsAre, ShapeIs, ExpectIs, BootIs}
+use Rattle.co_parts.specs.declared.part.Part.TheVariants as part
+use Rattle.network_image.specs.Image.{image_of}
+
+-- the parts of a node are those of the device that these sections describe, and its writes those of its parameters and
+-- of the plan
+pub record HasParts (project : Project) (id : ℕ) (node : Node) (ss : List Section) : Type 0 where
+  pub defaults : image_of project (part.Defaults id) ≡ DefaultsAre (Some (defaults_of ss id))
+  pub shape : image_of project (part.Shape id) ≡ ShapeIs (Some (shape_of ss id))
+  pub expect : image_of project (part.Expect id) ≡ ExpectIs (Some (record { numbers = identity ss id }))
+  pub writes : (place : ℕ) → image_of project (part.Boot id place)
+      ≡ BootIs (slice_get (node_writes (plan_of_project project) node.params ss id) place)
+
+-- a number has none
+pub record HasNoParts (project : Project) (id : ℕ) : Type 0 where
+  pub defaults : image_of project (part.Defaults id) ≡ DefaultsAre None
+  pub shape : image_of project (part.Shape id) ≡ ShapeIs None
+  pub expect : image_of project (part.Expect id) ≡ ExpectIs None
+  pub writes : (place : ℕ) → image_of project (part.Boot id place) ≡ BootIs None

@@ -1,0 +1,49 @@
+//! The steps of a window.
+ghost use Rattle.std.specs.Prelude.{◌≡◌, IfOk, Some};
+ghost use Rattle.co_parts.specs.Shared.{shared};
+
+use crate::pointer::some_pointer;
+use co_parts::Window;
+use co_scenario::TimedStep;
+use std::alloc::{AllocError, Global};
+use std::marker::Model;
+use std::rc::Rc;
+
+/// The steps of a window, made once and shared.
+#[derive(Drop)]
+pub(crate) struct HeldWindow {
+    window: Rc<Window>,
+}
+
+impl Model for HeldWindow {
+    ghost use Rattle.std.specs.Prelude.{List};
+    ghost use Rattle.co_scenario.specs.declared.timed_step.TimedStep.{TimedStep};
+
+    ghost Value = { List TimedStep };
+
+    ghost view = { λ held. held.window.value };
+}
+
+impl HeldWindow {
+    /// The window of these steps.
+    pub fn new(alloc: Global, steps: Vec<TimedStep>) -> Result<HeldWindow, AllocError>
+        ensures { IfOk result (λ window. window ≡ steps.items) }
+    {
+        let window = Rc::new(alloc, Window::new(steps))?;
+        Ok(HeldWindow { window })
+    }
+
+    /// This window.
+    pub fn of(window: Rc<Window>) -> HeldWindow
+        ensures { result ≡ window.value }
+    {
+        HeldWindow { window }
+    }
+
+    /// A pointer to the window. Takes no memory.
+    pub fn pointer(&self) -> Result<Option<Rc<Window>>, AllocError>
+        ensures { IfOk result (λ window. shared window ≡ Some self.now) }
+    {
+        some_pointer(&self.window)
+    }
+}

@@ -1,0 +1,35 @@
+//! Laws of the image of a project.
+ghost use Rattle.std.specs.Prelude.{◌≡◌, ◌↔◌, ℕ, Contains, List, None, Some};
+ghost use Rattle.ini_text.specs.Content.{content_of};
+ghost use Rattle.co_project.specs.declared.node.Node.{Node as member};
+ghost use Rattle.co_project.specs.Project.{Content as Project};
+ghost use Rattle.co_project.specs.Sound.{IsSound};
+ghost use Rattle.co_project.specs.Tables.{node_at, text_at};
+ghost use Rattle.co_parts.specs.Images.{IsCoherent, IsImage};
+ghost use Rattle.project_plan.specs.Events.{shape_of_node};
+ghost use Rattle.network_image.specs.Image.{image_of, window_steps};
+ghost use Rattle.co_scenario.specs.declared.timed_step.TimedStep.{TimedStep};
+ghost use Rattle.network_image.specs.Steps.{IsStepIn};
+ghost use Rattle.network_image.specs.Parts.{HasNoParts, HasParts};
+
+/// What holds of every image holds of that of each project, and it is coherent.
+pub fn the_image_is_coherent()
+    ensures image { (project : Project) → IsSound project → IsImage (image_of project) }
+    ensures coherent { (project : Project) → IsCoherent (image_of project) }
+{}
+
+/// The steps of a window are what the events of its 10,000 microseconds do, each with the time and the
+/// number of its event: these, and no others.
+pub fn each_window_has_the_steps_of_its_events()
+    ensures { (project : Project) (i : ℕ) (step : TimedStep) → Contains (window_steps project i) step
+        ↔ IsStepIn (shape_of_node project) project.events i step }
+{}
+
+/// Each node has the parts of the device of its EDS, and no other number has any.
+pub fn each_node_has_the_parts_of_its_device()
+    ensures nodes { (project : Project) (id : ℕ) (node : member) → IsSound project
+        → node_at project.nodes id ≡ Some node
+        → (text : List ℕ) × ((text_at project.texts node.eds ≡ Some text)
+        × HasParts project id node (content_of text).sections) }
+    ensures others { (project : Project) (id : ℕ) → node_at project.nodes id ≡ None → HasNoParts project id }
+{}

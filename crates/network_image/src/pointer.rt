@@ -1,0 +1,14 @@
+//! Pointers to parts.
+ghost use Rattle.std.specs.Prelude.{◌≡◌, IfOk};
+ghost use Rattle.co_parts.specs.Shared.{shared};
+
+use std::alloc::AllocError;
+use std::rc::Rc;
+
+/// Another pointer to a part. Takes no memory.
+pub(crate) fn some_pointer<T: Drop>(part: &Rc<T>) -> Result<Option<Rc<T>>, AllocError>
+    ensures { IfOk result (λ copy. shared copy ≡ shared (Some part.now)) }
+{
+    let copy = part.clone()?;
+    Ok(Some(copy))
+}
