@@ -14,12 +14,12 @@ ghost use Rattle.device_agenda.specs.Agenda.{at_instant, IsAgendaOf};
 use can_frame::Contender;
 use co_base::earlier;
 use co_parts::END;
-use device_agenda::{Agenda, Delivery, ScheduledDevice};
+use device_agenda::{Agenda, Delivery, SharedDevice};
 use device_objects::Shapes;
 use std::alloc::AllocError;
 
 /// The agenda of devices.
-pub(crate) fn agenda_of(devices: &[ScheduledDevice]) -> Agenda
+pub(crate) fn agenda_of(devices: &[SharedDevice]) -> Agenda
     ensures { IsAgendaOf result devices.now }
 {
     let mut agenda = Agenda::none();
@@ -31,7 +31,7 @@ pub(crate) fn agenda_of(devices: &[ScheduledDevice]) -> Agenda
 
 /// Runs each device that has to run at the moment t, at which this is delivered.
 pub(crate) fn run_each<P: Shapes>(
-    devices: &mut [ScheduledDevice],
+    devices: &mut [SharedDevice],
     t: u64,
     delivery: &Option<Delivery>,
     shapes: &mut P,
@@ -50,7 +50,7 @@ pub(crate) fn run_each<P: Shapes>(
 }
 
 /// The first moment at which one of the devices is due, if there is one. Walks them.
-pub(crate) fn first_due(devices: &[ScheduledDevice]) -> Option<u64>
+pub(crate) fn first_due(devices: &[SharedDevice]) -> Option<u64>
     ensures { result ≡ earliest (flat_map moments devices.now) }
 {
     let mut first = None;
@@ -61,7 +61,7 @@ pub(crate) fn first_due(devices: &[ScheduledDevice]) -> Option<u64>
 }
 
 /// The least frame that waits at one of the devices. Walks them.
-pub(crate) fn winner_of(devices: &[ScheduledDevice]) -> Option<Contender>
+pub(crate) fn winner_of(devices: &[SharedDevice]) -> Option<Contender>
     ensures { IsWinner (contenders (device_lists devices.now)) result }
 {
     let mut best = None;
@@ -87,7 +87,7 @@ fn is_same(contender: &Contender, other: Option<Contender>) -> bool
 }
 
 /// Whether a device contends with this frame.
-fn contends_with(contender: &Contender, device: &ScheduledDevice) -> bool
+fn contends_with(contender: &Contender, device: &SharedDevice) -> bool
     ensures { result ≡ contends contender.now device.now }
 {
     is_same(contender, device.contender())
@@ -95,7 +95,7 @@ fn contends_with(contender: &Contender, device: &ScheduledDevice) -> bool
 
 /// The place of the first device that contends with this frame. Walks them.
 #[tactic(auto, unfolding(crate::specs::Senders::sender_place))]
-pub(crate) fn place_of_sender(contender: &Contender, devices: &[ScheduledDevice]) -> Option<usize>
+pub(crate) fn place_of_sender(contender: &Contender, devices: &[SharedDevice]) -> Option<usize>
     ensures { result ≡ sender_place contender.now devices.now }
 {
     devices

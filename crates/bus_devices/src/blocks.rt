@@ -16,7 +16,7 @@ use crate::block::{agenda_of, place_of_sender, run_each, winner_of};
 use can_frame::Contender;
 use co_base::earlier;
 use co_parts::END;
-use device_agenda::{Agenda, Delivery, ScheduledDevice};
+use device_agenda::{Agenda, Delivery, SharedDevice};
 use device_objects::Shapes;
 use std::alloc::AllocError;
 
@@ -31,7 +31,7 @@ fn first_block(count: usize) -> usize
 }
 
 /// Works the agendas of all blocks out. Walks the devices.
-pub(crate) fn plan(agendas: &mut Vec<Agenda>, devices: &[ScheduledDevice]) -> Result<(), AllocError>
+pub(crate) fn plan(agendas: &mut Vec<Agenda>, devices: &[SharedDevice]) -> Result<(), AllocError>
     ensures { OnOk result (AreAgendasOf agendas.new.items devices.now) }
 {
     agendas.clear();
@@ -48,7 +48,7 @@ pub(crate) fn plan(agendas: &mut Vec<Agenda>, devices: &[ScheduledDevice]) -> Re
 /// Runs the devices of a block, where one has to run, and then works its agenda out anew.
 fn run_block<P: Shapes>(
     agenda: &mut Agenda,
-    devices: &mut [ScheduledDevice],
+    devices: &mut [SharedDevice],
     t: u64,
     delivery: &Option<Delivery>,
     shapes: &mut P,
@@ -73,7 +73,7 @@ fn run_block<P: Shapes>(
 /// Runs the devices of each block that has to run, one block after another. Goes as deep as there are blocks.
 pub(crate) fn run_blocks<P: Shapes>(
     agendas: &mut [Agenda],
-    devices: &mut [ScheduledDevice],
+    devices: &mut [SharedDevice],
     t: u64,
     delivery: &Option<Delivery>,
     shapes: &mut P,
@@ -97,7 +97,7 @@ pub(crate) fn run_blocks<P: Shapes>(
 }
 
 /// Works the agenda of the block of a place out anew.
-pub(crate) fn plan_block(agendas: &mut [Agenda], devices: &[ScheduledDevice], i: usize)
+pub(crate) fn plan_block(agendas: &mut [Agenda], devices: &[SharedDevice], i: usize)
     requires { AreAgendasOf agendas.old devices.now }
     ensures { AreAgendasOf agendas.new devices.now }
 {
@@ -134,7 +134,7 @@ pub(crate) fn first_of(agendas: &[Agenda]) -> Option<u64>
 }
 
 /// The least frame that waits at one of the devices. Walks the agendas, and the blocks where frames may wait.
-pub(crate) fn winner(agendas: &[Agenda], devices: &[ScheduledDevice]) -> Option<Contender>
+pub(crate) fn winner(agendas: &[Agenda], devices: &[SharedDevice]) -> Option<Contender>
     requires { AreAgendasOf agendas.now devices.now }
     ensures { IsWinner (contenders (device_lists devices.now)) result }
 {
@@ -151,7 +151,7 @@ pub(crate) fn winner(agendas: &[Agenda], devices: &[ScheduledDevice]) -> Option<
 }
 
 /// The place of the first device of a block that contends with a frame.
-fn place_in(contender: &Contender, agenda: &Agenda, devices: &[ScheduledDevice]) -> Option<usize>
+fn place_in(contender: &Contender, agenda: &Agenda, devices: &[SharedDevice]) -> Option<usize>
     requires { IsAgendaOf agenda.now devices.now }
     ensures { result ≡ place_of contender.now devices.now }
 {
@@ -167,7 +167,7 @@ fn place_in(contender: &Contender, agenda: &Agenda, devices: &[ScheduledDevice])
 pub(crate) fn sender_place(
     contender: &Contender,
     agendas: &[Agenda],
-    devices: &[ScheduledDevice],
+    devices: &[SharedDevice],
 ) -> Option<usize>
     requires { AreAgendasOf agendas.now devices.now }
     ensures { result ≡ place_of contender.now devices.now }

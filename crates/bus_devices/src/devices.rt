@@ -17,7 +17,7 @@ use crate::blocks::{first_of, is_awake, plan, plan_block, run_blocks, sender_pla
 use crate::lists::{copy_all, same_all};
 use can_frame::{Contender, Waiting};
 use co_parts::END;
-use device_agenda::{Agenda, Delivery, ScheduledDevice};
+use device_agenda::{Agenda, Delivery, SharedDevice};
 use device_objects::Shapes;
 use std::alloc::{AllocError, Global};
 use std::marker::Model;
@@ -29,7 +29,7 @@ use std::marker::Model;
 #[derive(Drop)]
 pub struct Devices {
     alloc: Global,
-    devices: Vec<ScheduledDevice>,
+    devices: Vec<SharedDevice>,
     agendas: Vec<Agenda>,
     known: bool,
 }
@@ -60,7 +60,7 @@ impl Devices {
     }
 
     /// These devices. Takes no memory.
-    pub fn of(alloc: Global, devices: Vec<ScheduledDevice>) -> Devices
+    pub fn of(alloc: Global, devices: Vec<SharedDevice>) -> Devices
         ensures { result ≡ devices.items }
     {
         Devices {
@@ -72,7 +72,7 @@ impl Devices {
     }
 
     /// The vector of these devices.
-    pub fn into_vec(self) -> Vec<ScheduledDevice>
+    pub fn into_vec(self) -> Vec<SharedDevice>
         ensures { result.items ≡ self }
     {
         self.devices
@@ -154,16 +154,19 @@ impl Devices {
     }
 
     /// Takes the frame at a place of its list from the device at a place.
-    pub fn send(&mut self, i: usize, place: usize) -> Waiting
+    pub fn send(&mut self, i: usize, place: usize) -> Result<Waiting, AllocError>
         requires device { i < length self.old }
         requires frame { place < length (device_at self.old i).waiting }
-        ensures frame { slice_get (device_at self.old i).waiting place ≡ Some result }
-        ensures left { self.new ≡ with_sent self.old i place }
+        ensures frame { IfOk result (λ sent. slice_get (device_at self.old i).waiting place ≡ Some sent) }
+        ensures left { OnOk result (self.new ≡ with_sent self.old i place) }
     {
-        let sent = self.devices[i].send(place);
-        if self.known {
+        let known = self.known;
+        self.known = false;
+        let sent = self.devices[i].send(place)?;
+        if known {
             plan_block(self.agendas.as_mut_slice(), &self.devices, i);
+            self.known = true;
         }
-        sent
+        Ok(sent)
     }
 }

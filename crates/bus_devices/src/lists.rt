@@ -6,17 +6,18 @@ ghost use Rattle.asking.specs.Record.{IsAsked, Lasts};
 ghost use Rattle.asking.specs.Each.{each};
 ghost use Rattle.co_device.specs.Device.{after_power, without_power};
 
-use device_agenda::ScheduledDevice;
+use device_agenda::SharedDevice;
 use device_objects::Shapes;
 use std::alloc::{AllocError, Global};
 
 /// The devices of these numbers without power.
-pub fn new_devices(alloc: Global, numbers: &[u8]) -> Result<Vec<ScheduledDevice>, AllocError>
+pub fn new_devices(alloc: Global, numbers: &[u8]) -> Result<Vec<SharedDevice>, AllocError>
     ensures { IfOk result (λ devices. devices.items ≡ map (without_power false) numbers.now) }
 {
     let mut devices = Vec::new(alloc);
     for number in numbers {
-        devices.push(ScheduledDevice::new(alloc, *number))?;
+        let device = SharedDevice::new(alloc, *number)?;
+        devices.push(device)?;
     }
     Ok(devices)
 }
@@ -24,8 +25,8 @@ pub fn new_devices(alloc: Global, numbers: &[u8]) -> Result<Vec<ScheduledDevice>
 /// Devices that are equal to these.
 pub(crate) fn copy_all(
     alloc: Global,
-    devices: &[ScheduledDevice],
-) -> Result<Vec<ScheduledDevice>, AllocError>
+    devices: &[SharedDevice],
+) -> Result<Vec<SharedDevice>, AllocError>
     ensures { IfOk result (λ copies. copies.items ≡ devices.now) }
 {
     let mut copies = Vec::new(alloc);
@@ -37,7 +38,7 @@ pub(crate) fn copy_all(
 }
 
 /// Whether the devices of two lists are the same.
-pub(crate) fn same_all(devices: &[ScheduledDevice], others: &[ScheduledDevice]) -> bool
+pub(crate) fn same_all(devices: &[SharedDevice], others: &[SharedDevice]) -> bool
     ensures { IsTrue result ↔ (devices.now ≡ others.now) }
 {
     if devices.len() != others.len() {
@@ -52,10 +53,7 @@ pub(crate) fn same_all(devices: &[ScheduledDevice], others: &[ScheduledDevice]) 
 }
 
 /// Switches the power of each on, at time 0.
-pub fn power_all<P: Shapes>(
-    devices: &mut [ScheduledDevice],
-    shapes: &mut P,
-) -> Result<(), AllocError>
+pub fn power_all<P: Shapes>(devices: &mut [SharedDevice], shapes: &mut P) -> Result<(), AllocError>
     ensures state { OnOk result (devices.new ≡ outcome (each (after_power true 0) devices.old)
         (P.seen shapes.old).image) }
     ensures asked { OnOk result (IsAsked (each (after_power true 0) devices.old)

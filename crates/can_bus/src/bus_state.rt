@@ -142,22 +142,23 @@ fn slot_end(t: u64, bit_time: u32, frame: &Frame) -> u64
 
 /// Starts the slot of the winner at the moment t, where the wire is idle and a frame waits.
 #[tactic(auto, unfolding(crate::specs::Bus::after_arbitration))]
-fn start_slot(bus: &mut BusState, t: u64)
+fn start_slot(bus: &mut BusState, t: u64) -> Result<(), AllocError>
     requires { t < END }
-    ensures { bus.new ≡ after_arbitration t bus.old }
+    ensures { OnOk result (bus.new ≡ after_arbitration t bus.old) }
 {
     if bus.wire.is_some() {
-        return;
+        return Ok(());
     }
     let best = winner(&bus.devices, &bus.manager);
     if let Some(contender) = best {
-        let frame = send(&contender, &mut bus.devices, &mut bus.manager);
+        let frame = send(&contender, &mut bus.devices, &mut bus.manager)?;
         bus.wire = Some(Slot {
             end: slot_end(t, bus.bit_time, &frame),
             sender: contender.node,
             frame,
         });
     }
+    Ok(())
 }
 
 /// The instant from the delivery on.
@@ -188,7 +189,7 @@ fn run_from_delivery<P: Parts>(
         &mut notes,
     )?;
     tell(lines, t as u32, &ended, notes.as_slice())?;
-    start_slot(bus, t);
+    start_slot(bus, t)?;
     Ok(())
 }
 

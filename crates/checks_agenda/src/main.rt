@@ -6,8 +6,8 @@
 //! Prints each line but those of data sheets, and of a run the number of its turns and of the lines that it told,
 //! whether a copy of the bus that was taken halfway was equal then, was left behind by the rest of the run, and came to
 //! the same by a run of its own, and the first moments; of what is read the number of calls that asked, of readings
-//! and of names, and the names in order; the line of each diagnostic; and of what is asked the number of parts that
-//! were made anew for all answers so far.
+//! and of names, and the names in order; the line of each diagnostic; and of what is asked the numbers of segments
+//! of traces that were run and of parts that were made anew for all answers so far.
 #![tactic(auto)]
 
 mod block;
@@ -37,10 +37,11 @@ fn show_reads<W: Write>(alloc: Global, out: &mut W, layout: &Layout) -> Result<(
     record.show(out)
 }
 
-/// Asks a query, and shows how many parts were made anew so far.
-fn show_parts<W: Write>(out: &mut W, layout: &mut Layout, query: &str) -> Result<()> {
-    let parts = layout.ask(query)?;
-    writeln!(out, "parts {parts}")?;
+/// Asks a query, and shows how much work all answers so far took.
+fn show_work<W: Write>(out: &mut W, layout: &mut Layout, query: &str) -> Result<()> {
+    let work = layout.ask(query)?;
+    let (segments, parts) = (work.segments, work.parts);
+    writeln!(out, "work {segments} {parts}")?;
     Ok(())
 }
 
@@ -54,10 +55,9 @@ fn obey<W: Write>(alloc: Global, out: &mut W, layout: &mut Layout, line: &str) -
     } else if line == "diag" {
         show_wrong(alloc, out, layout.project())
     } else if let Some(query) = line.strip_prefix("ask ") {
-        show_parts(out, layout, query)
+        show_work(out, layout, query)
     } else if line == "new" {
-        layout.clear();
-        Ok(())
+        layout.clear()
     } else {
         layout.take_command(line)
     }
@@ -82,6 +82,6 @@ fn take_all(rt: &HostRuntime, layout: &mut Layout) -> Result<()> {
 }
 
 fn main(rt: HostRuntime) -> Result<()> {
-    let mut layout = Layout::new(rt.alloc());
+    let mut layout = Layout::new(rt.alloc())?;
     take_all(&rt, &mut layout)
 }

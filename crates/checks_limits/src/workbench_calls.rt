@@ -95,7 +95,7 @@ fn answers(alloc: Global, workbench: &mut Workbench) -> Result<bool, EditFault> 
 
 /// Plays these edits and queries.
 fn play(alloc: Global) -> Result<bool, EditFault> {
-    let mut workbench = Workbench::new(alloc);
+    let mut workbench = Workbench::new(alloc)?;
     answers(alloc, &mut workbench)
 }
 

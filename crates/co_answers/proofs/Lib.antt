@@ -1,4 +1,3 @@
 pub mod Hexes
 pub mod Plans
 pub mod KeptFiles
-pub mod KeptTexts

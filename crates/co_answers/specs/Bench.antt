@@ -1,28 +1,77 @@
 -- What contracts see of a workbench, and what bringing parts up to date does to it.
-use Rattle.std.specs.Prelude.{List, refl}
+use Rattle.std.specs.Prelude.{◌≡◌, ℕ, ◌+◌, ◌/◌, List, [], Some, refl}
 use Rattle.std.specs.Coded.{Coded, code_by, coded×}
+use Rattle.can_bus.specs.Bus.{Bus}
+use Rattle.can_bus.specs.declared.line.Line.{Line}
 use Rattle.co_project.specs.Project.{Content}
+use Rattle.co_segments.specs.Segments.{HasRun, Held, Traced}
+use Rattle.network_image.specs.Image.{image_of}
 use Rattle.co_memo.specs.Stale.{AreBrought}
-use Rattle.co_memo.specs.Work.{Work}
-use Rattle.kept_image.specs.Kept.{given, held, same_part}
+use Rattle.co_memo.specs.Work.{Refreshes, Work}
+use Rattle.kept_diagnostics.specs.Kept.{from_project, AreOf}
+use Rattle.kept_diagnostics.specs.declared.kept_diagnostics.KeptDiagnostics.{KeptDiagnostics}
+use Rattle.kept_image.specs.Kept.{for_plan, given, held, reached_by_trace, same_part, IsOf}
 use Rattle.kept_image.specs.declared.kept_image.KeptImage.{KeptImage}
 use Rattle.kept_image.specs.declared.image_part.ImagePart.{ImagePart}
 
--- a workbench: its project, the parts that are kept of it, and what was counted
+-- a workbench: its project, the parts that are kept of it, its diagnostics where they are kept, the segments of traces,
+-- and what was counted
 pub record Bench : Type 0 where
   pub project : Content
   pub image : KeptImage
+  pub found : KeptDiagnostics
+  pub store : Held
   pub work : Work
 
 -- they are stored one by one
-abbrev pub bench_code : Coded Content → Coded KeptImage → Coded Work → Coded Bench
-bench_code content_code image_code work_code =
-    code_by (Content × (KeptImage × Work)) (coded× content_code (coded× image_code work_code))
-    (λ b. (b.project, (b.image, b.work))) (λ t. record { project = t.0; image = t.1.0; work = t.1.1 })
+abbrev pub bench_code : Coded Content → Coded KeptImage → Coded KeptDiagnostics → Coded Held → Coded Work → Coded Bench
+bench_code content_code image_code found_code store_code work_code =
+    code_by (Content × (KeptImage × (KeptDiagnostics × (Held × Work))))
+    (coded× content_code (coded× image_code (coded× found_code (coded× store_code work_code))))
+    (λ b. (b.project, (b.image, (b.found, (b.store, b.work)))))
+    (λ t. record { project = t.0; image = t.1.0; found = t.1.1.0; store = t.1.1.1.0; work = t.1.1.1.1 })
     (λ _. refl)
 
--- these parts are held as they are to be built from the project, the others as they were, and no more are counted than
--- were stale
-abbrev pub Brings : List ImagePart → Bench → Bench → Type 0
-Brings parts old new =
-    AreBrought same_part (given old.project) parts (held old.image) (held new.image) old.work new.work
+-- the segments that a workbench's store holds at most
+abbrev pub store_capacity : ℕ
+store_capacity = 2048
+
+-- no segment is held yet
+abbrev pub no_segments : Held
+no_segments = record { capacity = store_capacity; segments = [] }
+
+-- what is kept is of the project
+abbrev pub IsKeptOf : Content → KeptImage → KeptDiagnostics → Type 0
+IsKeptOf p image found = IsOf p image × AreOf p found
+
+-- these parts are held as they are to be built from the project, the others and the diagnostics as they were, and no
+-- more are counted than were stale
+pub record Brings (parts : List ImagePart) (old new : Bench) : Type 0 where
+  pub image : AreBrought same_part (given old.project) parts (held old.image) (held new.image) old.work new.work
+  pub found : new.found.found.kept ≡ old.found.found.kept
+  pub store : new.store ≡ old.store
+
+-- the plan with all that it is built from is held as it is to be built from the project, and then the diagnostics; no
+-- more are counted than were stale
+pub record BringsDiagnostics (old new : Bench) : Type 0 where
+  pub between : Work
+  pub image : AreBrought same_part (given old.project) (for_plan old.project) (held old.image) (held new.image) old.work
+      between
+  pub found : new.found.found.kept ≡ Some (from_project old.project)
+  pub counted : Refreshes (old.found.found.kept ≡ Some (from_project old.project)) between new.work
+  pub store : new.store ≡ old.store
+
+-- what a simulation reads is held as it is to be built from the project, and then the segments up to the horizon are
+-- used or run, one after another: each is used that serves, and each other one is run, counted and kept
+pub record Traces (old new : Bench) : Type 0 where
+  pub between : Work
+  pub end : Bus
+  pub told : List Line
+  pub ran : ℕ
+  pub read : ℕ
+  pub image : AreBrought same_part (given old.project) (reached_by_trace old.project) (held old.image) (held new.image)
+      old.work between
+  pub traced : Traced (image_of old.project) old.store.capacity old.store.segments (old.project.horizon / 10000 + 1) end
+      new.store.segments told ran read
+  pub run : HasRun ran between new.work
+  pub found : new.found.found.kept ≡ old.found.found.kept

@@ -1,4 +1,3 @@
 pub mod Hex
 pub mod Bench
 pub mod Queries
-pub mod Reached

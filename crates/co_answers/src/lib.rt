@@ -4,7 +4,7 @@
 mod files;
 mod hex;
 pub mod laws;
-mod library;
+mod planning;
 mod queries;
 mod tracing;
 mod work;

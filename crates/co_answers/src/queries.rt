@@ -24,7 +24,7 @@ pub fn answer(alloc: Global, workbench: &mut Workbench, query: Query) -> Result<
         }
         Query::Diag => {
             let found = workbench.diagnostics()?;
-            Ok(diag_lines::text(alloc, &found)?)
+            Ok(Vec::from_slice(alloc, found.get().text())?)
         }
         Query::Trace => {
             let lines = workbench.trace()?;

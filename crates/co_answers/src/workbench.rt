@@ -9,30 +9,33 @@ ghost use Rattle.co_project.specs.Script.{script};
 ghost use Rattle.co_project.specs.Sound.{IsSound};
 ghost use Rattle.co_project.specs.Tables.{node_at};
 ghost use Rattle.co_memo.specs.Work.{idle};
-ghost use Rattle.kept_image.specs.Kept.{held, reached, reached_by_trace};
-ghost use Rattle.co_answers.specs.Bench.{Brings};
-ghost use Rattle.co_answers.specs.Reached.{reached_by_diag};
+ghost use Rattle.kept_image.specs.Kept.{held, reached};
+ghost use Rattle.co_answers.specs.Bench.{no_segments, Brings, BringsDiagnostics, Traces};
 ghost use Rattle.co_answers.specs.Queries.{or_unknown, dcf_of, concise_of, trace_of};
 
 use crate::files::{concise, dcf};
-use crate::library::{library_of_now, plan_of_now, refresh_devices};
+use crate::planning::plan_of_now;
 use crate::tracing::traced;
 use crate::work::Work;
 use can_bus::Line;
-use co_diag::diagnostics_by;
-use co_memo::Meter;
+use co_memo::{Meter, Shared};
 use co_project::{Command, EditFault, Project};
-use diag_lines::Diag;
+use co_segments::Store;
+use kept_diagnostics::{Diagnostics, KeptDiagnostics};
 use kept_image::{ImagePart, KeptImage};
 use kept_parts::Part;
 use std::alloc::{AllocError, Global};
 use std::marker::Model;
 
+/// The segments of traces that are kept at most.
+const CAPACITY: usize = 2048;
+
 /// A workbench: a project, and what is kept of it. Contracts see it as a record with its project.
 ///
 /// Each answer is that of the project of now. Kept are the devices of EDS, the plan of the messages, of each
-/// node its writes and its files, and what a simulation reads: the roster, of each node its values, entries
-/// and identity, and the events by windows; each with what it was built from. An edit marks what it may
+/// node its writes and its files, what a simulation reads: the roster, of each node its values, entries
+/// and identity, and the events by windows; the diagnostics; and the segments of traces; each with what it
+/// was built from or read. An edit marks what it may
 /// leave with other inputs; a query looks at what it is built from, in its order, and makes anew what has
 /// other inputs than it was built from, and no more. A file that is kept as it is now is copied.
 #[derive(Drop)]
@@ -40,6 +43,8 @@ pub struct Workbench {
     alloc: Global,
     project: Project,
     image: KeptImage,
+    found: KeptDiagnostics,
+    store: Store,
     meter: Meter,
 }
 
@@ -47,30 +52,43 @@ impl Model for Workbench {
     ghost use Rattle.co_project.specs.contracts.project.Project as held;
     ghost use Rattle.co_answers.specs.Bench.{Bench, bench_code};
     ghost use Rattle.co_memo.specs.contracts.meter.Meter as counted;
-    ghost use Rattle.kept_image.specs.Kept.{IsOf};
+    ghost use Rattle.co_answers.specs.Bench.{IsKeptOf};
+    ghost use Rattle.kept_diagnostics.specs.contracts.kept_diagnostics.KeptDiagnostics as wrong;
+    ghost use Rattle.co_segments.specs.contracts.store.Store as traces;
     ghost use Rattle.kept_image.specs.contracts.kept_image.KeptImage as kept;
 
     ghost Value = { Bench };
 
-    ghost coded = { bench_code held.the_row.coded kept.the_row.coded counted.the_row.coded };
+    ghost coded = { bench_code held.the_row.coded kept.the_row.coded wrong.the_row.coded traces.the_row.coded
+        counted.the_row.coded };
 
-    ghost view = { λ w. record { project = w.project; image = w.image; work = w.meter } };
+    ghost view = { λ w. record {
+      project = w.project;
+      image = w.image;
+      found = w.found;
+      store = w.store;
+      work = w.meter;
+    } };
 
-    ghost invariant = { λ w. IsOf w.project w.image };
+    ghost invariant = { λ w. IsKeptOf w.project w.image w.found };
 }
 
 impl Workbench {
-    /// A workbench with the first project.
-    pub fn new(alloc: Global) -> Self
-        ensures project { result.project ≡ first }
-        ensures work { result.work ≡ idle }
+    /// A workbench with the first project, of which nothing is kept. Want of memory is the only error.
+    pub fn new(alloc: Global) -> Result<Workbench, AllocError>
+        ensures project { IfOk result (λ w. w.project ≡ first) }
+        ensures store { IfOk result (λ w. w.store ≡ no_segments) }
+        ensures work { IfOk result (λ w. w.work ≡ idle) }
     {
-        Workbench {
+        let store = Store::new(alloc, CAPACITY)?;
+        Ok(Workbench {
             alloc,
             project: Project::new(alloc),
             image: KeptImage::new(alloc),
+            found: KeptDiagnostics::new(),
+            store,
             meter: Meter::new(),
-        }
+        })
     }
 
     /// Takes an edit, or refuses it with the first fault that applies and changes nothing. Memory
@@ -81,12 +99,15 @@ impl Workbench {
 
         // Nothing that is kept changes, and nothing is counted.
         ensures held { (q : ImagePart) → held self.new.image q ≡ held self.old.image q }
+        ensures found { self.new.found.found.kept ≡ self.old.found.found.kept }
+        ensures store { self.new.store ≡ self.old.store }
         ensures work { self.new.work ≡ self.old.work }
 
         // Memory comes only of edits that add something.
         ensures memory { IsErrOf result EditFault.Memory → IsTrue (adds self.old.project command) }
     {
         self.image.touch(command.edit(), &self.project);
+        self.found.mark();
         self.project.accept(command)?;
         Ok(())
     }
@@ -114,6 +135,9 @@ impl Workbench {
         ensures brings { OnOk result (Brings (reached self.old.project (ImagePart.Kept (Part.Dcf node)))
             self.old self.new) }
         ensures unknown { IsErrOf result EditFault.Unknown ↔ (node_at self.old.project.nodes node ≡ None) }
+
+        // Then nothing is looked at.
+        ensures unlooked { IsErrOf result EditFault.Unknown → self.new ≡ self.old }
         ensures same { self.new.project ≡ self.old.project }
     {
         if self.project.node(node).is_none() {
@@ -139,6 +163,9 @@ impl Workbench {
         ensures brings { OnOk result (Brings (reached self.old.project (ImagePart.Kept (Part.Concise node)))
             self.old self.new) }
         ensures unknown { IsErrOf result EditFault.Unknown ↔ (node_at self.old.project.nodes node ≡ None) }
+
+        // Then nothing is looked at.
+        ensures unlooked { IsErrOf result EditFault.Unknown → self.new ≡ self.old }
         ensures same { self.new.project ≡ self.old.project }
     {
         if self.project.node(node).is_none() {
@@ -154,49 +181,63 @@ impl Workbench {
         Ok(bytes)
     }
 
-    /// All that is wrong with the project as it is now, each once, in order.
+    /// All that is wrong with the project as it is now, each once, in order, with its lines.
     ///
-    /// Reads each text that isn't kept as it is now. Takes time by the number of entries, parameters and
-    /// writes of all nodes, and that of messages and events.
-    pub fn diagnostics(&mut self) -> Result<Vec<Diag>, AllocError>
-        ensures list { IfOk result (λ list. list.items ≡ diagnostics_of self.old.project) }
-        ensures brings { OnOk result (Brings (reached_by_diag self.old.project) self.old self.new) }
+    /// Takes constant time where no edit came since. Else brings the plan up to date, and compares the project
+    /// with the one that the diagnostics which are kept are of, its texts last; makes them anew, where it is
+    /// another one, in the time of `co_diag::diagnostics_by`, over the devices and the plan that are kept. A
+    /// text that no node is made from is read again then.
+    pub fn diagnostics(&mut self) -> Result<Shared<Diagnostics>, AllocError>
+        ensures list { IfOk result (λ list. list ≡ diagnostics_of self.old.project) }
+        ensures brings { OnOk result (BringsDiagnostics self.old self.new) }
         ensures same { self.new.project ≡ self.old.project }
     {
-        refresh_devices(&self.project, &mut self.image, &mut self.meter)?;
         let plan = plan_of_now(&self.project, &mut self.image, &mut self.meter)?;
-        let mut library = library_of_now(self.alloc, &self.project, &self.image)?;
-        let list = diagnostics_by(self.alloc, &mut library, plan.get())?;
-        Ok(list)
+        let found = self.found.refresh(
+            self.alloc,
+            &self.project,
+            &self.image,
+            plan,
+            &mut self.meter,
+        )?;
+        Ok(found)
     }
 
     /// The trace of the network of the project as it is now: from the power-on, an instant at each
     /// microsecond up to the horizon.
     ///
     /// Brings what the simulation reads up to date: the plan, the roster, of each node its values, entries,
-    /// identity and writes, and the 1,001 windows of events; what has no mark is passed over. Then runs the
-    /// microseconds at which something is due: takes time at each by what is due or changes there, by the
-    /// nodes that have to run, and by an eighth of all; memory by the number of lines, and the entries and
-    /// writes of all nodes.
+    /// identity and writes, and the 1,001 windows of events; what has no mark is passed over. Then it goes from
+    /// window to window, of 10 milliseconds each. A segment that is held of a window, begins with the bus that
+    /// was reached and has read nothing that is another now is used: in time by what it read. Each other
+    /// window is run, at the microseconds at which something is due: in time at each by what is due or changes
+    /// there, by the nodes that have to run, and by an eighth of all. It is kept, at most 2,048 of them: memory
+    /// by its lines, what it read and what changed in it.
     pub fn trace(&mut self) -> Result<Vec<Line>, AllocError>
         ensures lines { IfOk result (λ lines. lines.items ≡ trace_of self.old.project) }
-        ensures brings { OnOk result (Brings (reached_by_trace self.old.project) self.old self.new) }
+        ensures traces { OnOk result (Traces self.old self.new) }
         ensures same { self.new.project ≡ self.old.project }
     {
         self.image.refresh_all(&self.project, &mut self.meter)?;
         let network = self.image.network(&self.project)?;
-        let lines = traced(self.alloc, &self.project, network)?;
+        let lines = traced(
+            self.alloc,
+            &self.project,
+            network,
+            &mut self.store,
+            &mut self.meter,
+        )?;
         Ok(lines)
     }
 
-    /// How much work the answers took so far: the parts that were made anew, up to 2^64 - 1. No segments of
-    /// traces are kept yet.
+    /// How much work the answers took so far: the segments of traces that were run, and the parts that were
+    /// made anew, each up to 2^64 - 1.
     pub fn work(&self) -> Work
         ensures parts { result.parts ≡ self.now.work.parts }
-        ensures segments { result.segments ≡ 0 }
+        ensures segments { result.segments ≡ self.now.work.segments }
     {
         Work {
-            segments: 0,
+            segments: self.meter.segments(),
             parts: self.meter.parts(),
         }
     }

@@ -6,7 +6,9 @@ ghost use Rattle.eds_device.specs.Faults.{device_of};
 ghost use Rattle.co_edits.specs.Faults.{is_memory, device_verdict};
 ghost use Rattle.co_edits.specs.Eds.{block_lines, text_of, is_bad_in_line, has_bad_line, has_long_line};
 
+use co_base::Octets;
 use co_edits::EditFault;
+use co_memo::Shared;
 use co_text::without_crs;
 use eds_device::Device;
 use ini_text::{is_bad_byte, is_long_line};
@@ -22,6 +24,14 @@ pub(crate) fn text_of(alloc: Global, lines: &[Vec<u8>]) -> Result<Vec<u8>, Alloc
         text.push(b'\n')?;
     }
     Ok(text)
+}
+
+/// The text of an EDS, to be shared by the projects that keep it.
+pub(crate) fn shared_text(alloc: Global, text: Vec<u8>) -> Result<Shared<Octets>, AllocError>
+    ensures { IfOk result (λ shared. shared ≡ text.items) }
+{
+    let shared = Shared::new(alloc, Octets::from_vec(text))?;
+    Ok(shared)
 }
 
 /// Whether a line has over 4,096 bytes, the CRs at its end not counted.

@@ -5,7 +5,7 @@ ghost use Rattle.co_edits.specs.Faults.{is_memory};
 ghost use Rattle.co_edits.specs.Eds.{block_lines, eds_edit};
 ghost use Rattle.co_edits.specs.Edits.{IsEdit};
 
-use crate::block::{check, has_bad_line, has_long_line, text_of};
+use crate::block::{check, has_bad_line, has_long_line, shared_text, text_of};
 use co_base::Octets;
 use co_edits::{Edit, EditFault, is_name};
 use std::alloc::Global;
@@ -59,10 +59,8 @@ impl Command {
         }
         check(alloc, &text)?;
         let name = Octets::from_slice(alloc, name)?;
-        Ok(Command::new(Edit::Eds {
-            name,
-            text: Octets::from_vec(text),
-        }))
+        let shared = shared_text(alloc, text)?;
+        Ok(Command::new(Edit::Eds { name, text: shared }))
     }
 
     pub(crate) fn new(edit: Edit) -> Self

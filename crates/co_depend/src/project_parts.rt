@@ -118,7 +118,7 @@ impl Boots for ProjectParts {
     #[tactic(auto, using(asking::proofs::RecordLemmas::record_laws))]
     fn boot(&mut self, node: u8, place: u32) -> Result<Option<Rc<Write>>, AllocError> {
         self.asks = self.asks.saturating_add(1);
-        let answer = self.parts.write(node, place)?;
+        let answer = self.parts.write(self.alloc, node, place)?;
         let noted = pointer(&answer)?;
         self.asked.push(Read::new(Part::Boot(node, place), PartContent::of_boot(noted)))?;
         Ok(answer)

@@ -5,4 +5,3 @@ pub mod MappingLemmas
 pub mod PlaceLemmas
 pub mod RestoredLemmas
 pub mod ShapeLemmas
-pub mod ValueLemmas

@@ -13,12 +13,12 @@ ghost use Rattle.co_dict.specs.PdoChecks.{changes_frames, cob_id_lines, has_vali
 ghost use Rattle.co_dict.specs.PdoChecks.{mapping_lines, is_bad_entry, count_lines, mapping_check, new_count_lines};
 
 use crate::abort::Abort;
-use crate::dict::Dict;
 use crate::direction::Direction;
 use crate::mapped::{mapped_length, mapped_place};
 use crate::shape::Shape;
 use co_fields::CobId;
 use co_values::{DataType, number_8, number_32, width_bits};
+use dict_values::Dict;
 
 /// How far the mapping object of a PDO is above its communication object.
 const MAPPING_OFFSET: u16 = 0x200;

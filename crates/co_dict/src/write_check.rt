@@ -9,10 +9,10 @@ ghost use Rattle.co_dict.specs.WriteCheck.{write_check};
 
 use crate::abort::Abort;
 use crate::checks::{check_length_of, is_above_limit, is_below_limit, is_no_flag, writable_entry};
-use crate::dict::Dict;
 use crate::entry::Entry;
 use crate::pdo_checks::{check_cob_id, check_mapping_object, check_new_count};
 use crate::shape::Shape;
+use dict_values::Dict;
 
 /// Whether bytes of an entry's length are a value of it, within its limits.
 fn check_value(entry: &Entry, bytes: &[u8]) -> Result<(), Abort>

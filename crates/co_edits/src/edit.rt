@@ -2,6 +2,7 @@
 
 use crate::manager_settings::ManagerSettings;
 use co_base::Octets;
+use co_memo::Shared;
 use co_messages::Message;
 use co_scenario::TimedEvent;
 
@@ -19,7 +20,7 @@ pub enum Edit {
         /// The name of the EDS.
         name: Octets,
         /// Its lines without the CRs at their ends, each ended by LF.
-        text: Octets,
+        text: Shared<Octets>,
     },
     /// The text of an EDS goes.
     DropEds {

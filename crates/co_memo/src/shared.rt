@@ -9,7 +9,7 @@ use std::rc::Rc;
 /// A handle on a value that several hold. Contracts see the value alone, whichever the handle.
 ///
 /// The value goes with the last handle. No handle can change it.
-#[derive(Drop)]
+#[derive(Debug, Drop)]
 pub struct Shared<T> {
     rc: Rc<T>,
 }
@@ -54,6 +54,14 @@ impl<T: Drop> Shared<T> {
     {
         let rc = self.rc.clone()?;
         Ok(rc)
+    }
+}
+
+impl<T: Drop> Clone for Shared<T> {
+    ghost is_clone = { λ a b. b ≡ a };
+
+    fn clone(&self) -> Result<Shared<T>, AllocError> {
+        self.share()
     }
 }
 

@@ -1,9 +1,13 @@
 //! The content of a part.
 
-ghost use Rattle.std.specs.Prelude.{◌≡◌};
+ghost use Rattle.std.specs.Prelude.{◌≡◌, ◌↔◌, IsTrue};
 ghost use Rattle.co_parts.specs.Contents.{RosterIs, DefaultsAre, ShapeIs, ExpectIs, BootIs, EventsAre};
+ghost use Rattle.co_parts.specs.ContentView.{content_of};
 ghost use Rattle.co_parts.specs.Shared.{shared};
 
+use crate::comparing::{
+    same_identity, same_roster, same_shape, same_values, same_window, same_write,
+};
 use crate::identity::Identity;
 use crate::roster::Roster;
 use crate::window::Window;
@@ -20,6 +24,21 @@ enum Handed {
     Expect(Option<Rc<Identity>>),
     Boot(Option<Rc<Write>>),
     Events(Option<Rc<Window>>),
+}
+
+/// Whether two contents are the same.
+fn same_handed(handed: &Handed, other: &Handed) -> bool
+    ensures { IsTrue result ↔ (content_of handed.now ≡ content_of other.now) }
+{
+    match (handed, other) {
+        (Handed::Roster(roster), Handed::Roster(other)) => same_roster(roster, other),
+        (Handed::Defaults(values), Handed::Defaults(other)) => same_values(values, other),
+        (Handed::Shape(shape), Handed::Shape(other)) => same_shape(shape, other),
+        (Handed::Expect(identity), Handed::Expect(other)) => same_identity(identity, other),
+        (Handed::Boot(write), Handed::Boot(other)) => same_write(write, other),
+        (Handed::Events(window), Handed::Events(other)) => same_window(window, other),
+        _ => false,
+    }
 }
 
 /// The content of a part, or none where the part is absent, as it was handed out.
@@ -101,5 +120,13 @@ impl PartContent {
         PartContent {
             handed: Handed::Events(window),
         }
+    }
+
+    /// Whether the other content is that of the same kind of part, and the same. Takes time by its length up to the
+    /// first difference, and no memory.
+    pub fn same(&self, other: &PartContent) -> bool
+        ensures { IsTrue result ↔ (self.now ≡ other.now) }
+    {
+        same_handed(&self.handed, &other.handed)
     }
 }

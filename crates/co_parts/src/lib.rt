@@ -1,6 +1,7 @@
 //! What a simulation reads: the parts of an image, by name.
 #![tactic(auto)]
 
+mod comparing;
 mod content;
 mod identity;
 mod part;

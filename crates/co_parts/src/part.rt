@@ -1,7 +1,7 @@
 //! The names of parts.
 
 /// The name of a part of an image. Nodes are 1 to 127.
-#[derive(Clone, Copy, Debug, PartialEq, Eq)]
+#[derive(Clone, Copy, Debug, PartialEq, Eq, PartialOrd, Ord)]
 pub enum Part {
     /// Bit rate, manager and nodes of the network.
     Roster,

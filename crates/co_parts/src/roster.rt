@@ -1,5 +1,7 @@
 //! The network as a whole.
 
+ghost use Rattle.std.specs.Prelude.{◌≡◌, ◌↔◌, IsTrue};
+
 use co_base::Octets;
 
 /// The bit rate, the manager (CiA 302) and the nodes of a network.
@@ -17,4 +19,28 @@ pub struct Roster {
     pub timeout_ms: u16,
     /// The numbers of the nodes beside the manager, each once: the devices of a bus stand in their order.
     pub nodes: Octets,
+}
+
+impl Roster {
+    /// Whether the other roster is the same. Takes time by the number of nodes, and no memory.
+    pub fn same(&self, other: &Roster) -> bool
+        ensures { IsTrue result ↔ (self.now ≡ other.now) }
+    {
+        if self.bit_rate != other.bit_rate {
+            return false;
+        }
+        if self.manager != other.manager {
+            return false;
+        }
+        if self.sync_us != other.sync_us {
+            return false;
+        }
+        if self.heartbeat_ms != other.heartbeat_ms {
+            return false;
+        }
+        if self.timeout_ms != other.timeout_ms {
+            return false;
+        }
+        self.nodes.as_slice() == other.nodes.as_slice()
+    }
 }

@@ -1,8 +1,8 @@
 //! The events of a window.
 
-ghost use Rattle.std.specs.Prelude.{◌≡◌};
+ghost use Rattle.std.specs.Prelude.{◌≡◌, ◌↔◌, IsTrue};
 
-use co_scenario::TimedStep;
+use co_scenario::{TimedStep, same_steps};
 use std::marker::Model;
 
 /// The moment after the last that a simulation reaches, in microseconds from the power-on of the network: the
@@ -37,5 +37,12 @@ impl Window {
         ensures { result.now ≡ self.now }
     {
         &self.steps
+    }
+
+    /// Whether the other window has the same events. Takes time by their number, and no memory.
+    pub fn same(&self, other: &Window) -> bool
+        ensures { IsTrue result ↔ (self.now ≡ other.now) }
+    {
+        same_steps(&self.steps, &other.steps)
     }
 }

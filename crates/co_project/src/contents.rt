@@ -1,5 +1,5 @@
 //! What a project holds, and what edits do to it.
-ghost use Rattle.std.specs.Prelude.{◌≡◌, IsErrOf, IsTrue};
+ghost use Rattle.std.specs.Prelude.{◌≡◌, ◌↔◌, IfOk, IsErrOf, IsTrue};
 ghost use Rattle.co_edits.specs.Accepts.{Accepts};
 ghost use Rattle.co_edits.specs.declared.edit.Edit.TheVariants as edit;
 ghost use Rattle.co_edits.specs.Edits.{IsEdit};
@@ -10,9 +10,10 @@ use crate::nodes::Nodes;
 use crate::texts::Texts;
 use co_base::Octets;
 use co_commands::{Edit, EditFault, ManagerSettings};
+use co_memo::Shared;
 use co_messages::Messages;
 use co_scenario::{Script, TimedEvent};
-use std::alloc::Global;
+use std::alloc::{AllocError, Global};
 use std::marker::Model;
 
 /// What a project holds.
@@ -69,6 +70,39 @@ impl Contents {
             messages: Messages::new(alloc),
             events: Script::new(alloc),
         }
+    }
+
+    /// Equal contents, whose texts of EDS are shared with these.
+    pub fn copy(&self, alloc: Global) -> Result<Contents, AllocError>
+        ensures { IfOk result (λ contents. contents ≡ self.now) }
+    {
+        let texts = self.texts.copy()?;
+        let nodes = self.nodes.copy()?;
+        let messages = self.messages.copy()?;
+        let events = self.events.copy()?;
+        Ok(Contents {
+            alloc,
+            bitrate: self.bitrate,
+            horizon: self.horizon,
+            manager: self.manager,
+            texts,
+            nodes,
+            messages,
+            events,
+        })
+    }
+
+    /// Whether the others are the same, the texts of EDS compared last.
+    pub fn same(&self, other: &Contents) -> bool
+        ensures { IsTrue result ↔ (self.now ≡ other.now) }
+    {
+        self.bitrate == other.bitrate
+            && self.horizon == other.horizon
+            && self.manager == other.manager
+            && self.nodes.same(&other.nodes)
+            && self.messages.same(&other.messages)
+            && self.events.same(&other.events)
+            && self.texts.same(&other.texts)
     }
 
     /// Does an edit, or refuses it with the first fault that applies and changes nothing.
@@ -142,7 +176,7 @@ impl Contents {
 
     /// Gives a name a text, in place of the one that it has.
     #[tactic(auto, unfolding(crate::specs::Project::accept, crate::specs::Project::adds))]
-    fn put_text(&mut self, name: Octets, text: Octets) -> Result<(), EditFault>
+    fn put_text(&mut self, name: Octets, text: Shared<Octets>) -> Result<(), EditFault>
         ensures accepts { Accepts self.old self.new result (accept self.old (edit.Eds name text)) }
         ensures memory { IsErrOf result EditFault.Memory → IsTrue (adds self.old (edit.Eds name text)) }
     {

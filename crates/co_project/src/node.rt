@@ -1,7 +1,10 @@
 //! A node of the network.
 
+ghost use Rattle.std.specs.Prelude.{◌≡◌, ◌↔◌, IsTrue};
+
 use co_base::Octets;
 use co_params::Params;
+use std::alloc::AllocError;
 
 /// A node of the network, which its number names.
 #[derive(Drop)]
@@ -12,4 +15,27 @@ pub struct Node {
     pub eds: Octets,
     /// Its parameters.
     pub params: Params,
+}
+
+impl Node {
+    /// Whether the other has the same name, EDS and parameters. Takes time by the number of parameters
+    /// and the length of their texts up to the first difference, and no memory.
+    pub fn same(&self, other: &Node) -> bool
+        ensures { IsTrue result ↔ (self.now ≡ other.now) }
+    {
+        self.name.as_slice() == other.name.as_slice()
+            && self.eds.as_slice() == other.eds.as_slice()
+            && self.params.same(&other.params)
+    }
+}
+
+impl Clone for Node {
+    ghost is_clone = { λ a b. b ≡ a };
+
+    fn clone(&self) -> Result<Node, AllocError> {
+        let name = self.name.clone()?;
+        let eds = self.eds.clone()?;
+        let params = self.params.copy()?;
+        Ok(Node { name, eds, params })
+    }
 }

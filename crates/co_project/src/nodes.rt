@@ -1,5 +1,5 @@
 //! The nodes by number.
-ghost use Rattle.std.specs.Prelude.{◌≡◌, IsErrOf, IsTrue, None, OnOk, OnErr, option_copied};
+ghost use Rattle.std.specs.Prelude.{◌≡◌, ◌↔◌, IsErrOf, IsTrue, None, IfOk, OnOk, OnErr, option_copied};
 ghost use Rattle.std.specs.FinMap as map;
 ghost use Rattle.co_edits.specs.Accepts.{Accepts};
 ghost use Rattle.co_project.specs.Tables.{node_at, name_taken, is_used, put_node, adds_param, put_param, drop_param};
@@ -32,6 +32,22 @@ impl Model for Nodes {
     ghost view = { λ n. map.from_entries n.nodes.entries };
 }
 
+/// Whether the same numbers have the same nodes.
+fn same_nodes(a: &Nodes, b: &Nodes) -> bool
+    ensures { IsTrue result ↔ (map.entries a.now ≡ map.entries b.now) }
+{
+    let mut others = b.iter();
+    for (id, node) in a.iter() {
+        let Some((other_id, other)) = others.next() else {
+            return false;
+        };
+        if *id != *other_id || !node.same(other) {
+            return false;
+        }
+    }
+    others.next().is_none()
+}
+
 impl Nodes {
     pub fn new(alloc: Global) -> Self
         ensures { result ≡ map.empty }
@@ -39,6 +55,24 @@ impl Nodes {
         Nodes {
             nodes: BTreeMap::new(alloc),
         }
+    }
+
+    /// Equal nodes. Takes time and memory by their number, that of their parameters and the length of
+    /// the parameters' texts; want of memory is the only error.
+    pub fn copy(&self) -> Result<Nodes, AllocError>
+        ensures { IfOk result (λ nodes. nodes ≡ self.now) }
+    {
+        Ok(Nodes {
+            nodes: self.nodes.clone()?,
+        })
+    }
+
+    /// Whether the others are the same by the same numbers. Takes time by their number, that of their
+    /// parameters and the length of the parameters' texts up to the first difference, and no memory.
+    pub fn same(&self, other: &Nodes) -> bool
+        ensures { IsTrue result ↔ (self.now ≡ other.now) }
+    {
+        same_nodes(self, other)
     }
 
     pub fn get(&self, id: u8) -> Option<&Node>

@@ -1,5 +1,5 @@
 //! The project.
-ghost use Rattle.std.specs.Prelude.{◌≡◌, IfOk, IfSome, IsErrOf, IsTrue, Ok, option_copied};
+ghost use Rattle.std.specs.Prelude.{◌≡◌, ◌↔◌, IfOk, IfSome, IsErrOf, IsTrue, Ok, option_copied};
 ghost use Rattle.std.specs.FinMap as map;
 ghost use Rattle.eds_device.specs.Faults.{device_of};
 ghost use Rattle.ini_text.specs.Content.{content_of};
@@ -15,6 +15,7 @@ use crate::node::Node;
 use crate::script::script_text;
 use co_base::Octets;
 use co_commands::{Command, EditFault, ManagerSettings};
+use co_memo::Shared;
 use co_messages::Messages;
 use co_scenario::Script;
 use std::alloc::{AllocError, Global};
@@ -51,6 +52,25 @@ impl Project {
         Project {
             contents: Contents::new(alloc),
         }
+    }
+
+    /// Another project that is equal and shares the texts of EDS. Takes time and memory by the number
+    /// of texts, nodes, parameters, messages, sources, sinks and events, and the length of their names
+    /// and values, and not by the length of the texts of EDS. Want of memory is the only error.
+    pub fn copy(&self, alloc: Global) -> Result<Project, AllocError>
+        ensures { IfOk result (λ project. project ≡ self.now) }
+    {
+        let contents = self.contents.copy(alloc)?;
+        Ok(Project { contents })
+    }
+
+    /// Whether the other project is the same: the bit rate, the horizon, the manager, the nodes with
+    /// their parameters, the messages, the events, and last the texts of EDS. Takes time by what stands
+    /// up to the first difference in this order, and no memory.
+    pub fn same(&self, other: &Project) -> bool
+        ensures { IsTrue result ↔ (self.now ≡ other.now) }
+    {
+        self.contents.same(&other.contents)
     }
 
     /// Takes an edit, or refuses it with the first fault that applies and changes nothing.
@@ -102,8 +122,8 @@ impl Project {
         self.contents.texts.get(name)
     }
 
-    /// The texts of EDS by name.
-    pub fn texts(&self) -> Iter<'_, Vec<u8>, Octets>
+    /// The texts of EDS by name, each with a handle on it.
+    pub fn texts(&self) -> Iter<'_, Vec<u8>, Shared<Octets>>
         ensures { by_name result ≡ map.entries self.now.texts }
     {
         self.contents.texts.iter()

@@ -24,7 +24,7 @@ fn write_texts(out: &mut Vec<u8>, alloc: Global, texts: &Texts) -> Result<(), Al
     ensures { OnOk result (out.new.items ≡ out.old.items ++ flat_map text_of (map text_edit (entries texts.now))) }
 {
     for (name, text) in texts.iter() {
-        write_eds(out, alloc, name, text.as_slice())?;
+        write_eds(out, alloc, name, text.get().as_slice())?;
     }
     Ok(())
 }

@@ -1,9 +1,10 @@
 //! What happens to a node from outside.
-ghost use Rattle.std.specs.Prelude.{◌≡◌};
+ghost use Rattle.std.specs.Prelude.{◌≡◌, ◌↔◌, IsTrue};
 ghost use Rattle.co_scenario.specs.Scenario.{node_of};
 
 use crate::nmt_command::NmtCommand;
 use co_base::Octets;
+use std::alloc::AllocError;
 
 /// What happens to a node from outside.
 #[derive(Debug, Drop)]
@@ -45,6 +46,69 @@ impl Event {
             Event::Power { node, .. } => Some(*node),
             Event::Nmt { node: 0, .. } => None,
             Event::Nmt { node, .. } => Some(*node),
+        }
+    }
+
+    /// Whether the other does the same to the same node. Takes time by the length of the text, and no
+    /// memory.
+    pub fn same(&self, other: &Event) -> bool
+        ensures { IsTrue result ↔ (self.now ≡ other.now) }
+    {
+        match (self, other) {
+            (
+                Event::Set {
+                    node,
+                    index,
+                    sub,
+                    text,
+                },
+                Event::Set {
+                    node: n,
+                    index: i,
+                    sub: s,
+                    text: t,
+                },
+            ) => node == n && index == i && sub == s && text.as_slice() == t.as_slice(),
+            (Event::Power { node, on }, Event::Power { node: n, on: o }) => node == n && on == o,
+            (
+                Event::Nmt { node, command },
+                Event::Nmt {
+                    node: n,
+                    command: c,
+                },
+            ) => { node == n && command == c }
+            _ => false,
+        }
+    }
+}
+
+impl Clone for Event {
+    ghost is_clone = { λ a b. b ≡ a };
+
+    fn clone(&self) -> Result<Event, AllocError> {
+        match self {
+            Event::Set {
+                node,
+                index,
+                sub,
+                text,
+            } => {
+                let text = text.clone()?;
+                Ok(Event::Set {
+                    node: *node,
+                    index: *index,
+                    sub: *sub,
+                    text,
+                })
+            }
+            Event::Power { node, on } => Ok(Event::Power {
+                node: *node,
+                on: *on,
+            }),
+            Event::Nmt { node, command } => Ok(Event::Nmt {
+                node: *node,
+                command: *command,
+            }),
         }
     }
 }

@@ -1,5 +1,5 @@
 //! The events of a scenario.
-ghost use Rattle.std.specs.Prelude.{◌≡◌, ◌==◌, None, IfOk, OnOk, OnErr, option_copied};
+ghost use Rattle.std.specs.Prelude.{◌≡◌, ◌↔◌, ◌==◌, IsTrue, None, IfOk, OnOk, OnErr, option_copied};
 ghost use Rattle.std.specs.FinMap as map;
 ghost use Rattle.co_scenario.specs.Scenario.{events_between};
 
@@ -31,6 +31,22 @@ impl Model for Script {
     ghost view = { λ script. map.from_entries script.events.entries };
 }
 
+/// Whether the same numbers have the same events.
+fn same_entries(a: &Script, b: &Script) -> bool
+    ensures { IsTrue result ↔ (map.entries a.now ≡ map.entries b.now) }
+{
+    let mut others = b.iter();
+    for (number, event) in a.iter() {
+        let Some((other_number, other)) = others.next() else {
+            return false;
+        };
+        if *number != *other_number || !event.same(other) {
+            return false;
+        }
+    }
+    others.next().is_none()
+}
+
 impl Script {
     /// No events.
     pub fn new(alloc: Global) -> Self
@@ -39,6 +55,24 @@ impl Script {
         Script {
             events: BTreeMap::new(alloc),
         }
+    }
+
+    /// Equal events. Takes time and memory by their number and the length of their texts; want of
+    /// memory is the only error.
+    pub fn copy(&self) -> Result<Script, AllocError>
+        ensures { IfOk result (λ script. script ≡ self.now) }
+    {
+        Ok(Script {
+            events: self.events.clone()?,
+        })
+    }
+
+    /// Whether the others are the same by the same numbers. Takes time by their number and the length
+    /// of their texts up to the first difference, and no memory.
+    pub fn same(&self, other: &Script) -> bool
+        ensures { IsTrue result ↔ (self.now ≡ other.now) }
+    {
+        same_entries(self, other)
     }
 
     /// The number of events.

@@ -7,9 +7,11 @@ mod groups;
 mod ignored;
 pub mod laws;
 mod scheduled_device;
+mod shared_device;
 mod stirring;
 
 pub use agenda::Agenda;
 pub use delivery::Delivery;
 pub use groups::Groups;
 pub use scheduled_device::ScheduledDevice;
+pub use shared_device::SharedDevice;

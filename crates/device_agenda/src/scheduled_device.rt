@@ -142,6 +142,14 @@ fn run<P: Shapes>(
     Ok(())
 }
 
+impl Clone for ScheduledDevice {
+    ghost is_clone = { λ a b. b ≡ a };
+
+    fn clone(&self) -> Result<ScheduledDevice, AllocError> {
+        self.copy()
+    }
+}
+
 impl ScheduledDevice {
     /// A device of this number without power. Takes no memory.
     pub fn new(alloc: Global, number: u8) -> ScheduledDevice
@@ -290,7 +298,7 @@ impl ScheduledDevice {
     }
 
     /// Whether nothing happens to it at the moment t.
-    fn does_nothing(&self, t: u64, delivery: &Option<Delivery>) -> bool
+    pub(crate) fn does_nothing(&self, t: u64, delivery: &Option<Delivery>) -> bool
         ensures nothing { IsTrue result → at_instant t delivery.now self.now ≡ Answer self.now }
         ensures unspent { IsTrue result → self.now.spent ≡ false }
     {

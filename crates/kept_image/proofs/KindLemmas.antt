@@ -12,8 +12,8 @@ use Rattle.kept_parts.proofs.KindLemmas.{FreshAt, KeptAt}
 use Rattle.kept_parts.specs.Kept as parts
 use Rattle.kept_parts.specs.declared.kept_parts.KeptParts.{KeptParts}
 use Rattle.network_image.specs.Image.{window_steps}
-use Rattle.kept_image.specs.Kept.{device_from, fresh, given, held, roster_from, same_part, IsOf, OfDefaults, OfEvents}
-use Rattle.kept_image.specs.Kept.{OfExpect, OfKept, OfRoster, OfShape}
+use Rattle.kept_image.specs.Kept.{device_from, fresh, given, held, roster_from, same_part, AreOfNow, IsOf}
+use Rattle.kept_image.specs.Kept.{OfDefaults, OfEvents, OfExpect, OfKept, OfRoster, OfShape}
 use Rattle.kept_image.specs.declared.device_at.DeviceAt.{DeviceAt}
 use Rattle.kept_image.specs.declared.roster_from.RosterFrom.{RosterFrom}
 use Rattle.kept_image.specs.declared.image_part.ImagePart.{ImagePart}
@@ -35,39 +35,57 @@ module _ (p : Project) where
   abbrev pub NoOther : ImagePart → KeptImage → KeptImage → Type 0
   NoOther named old new = (q : ImagePart) → fresh new q ≡ true → (same_part q named ≡ true) ⊎ (fresh old q ≡ true)
 
-  pub is_of_after : (named : ImagePart) (old new : KeptImage) → IsOf p old → Stands named old new
-      → NoOther named old new → IsOf p new
+  -- what has no mark is of now
+  of_now : (h : KeptImage) → IsOf p h → AreOfNow p h
   unfolding IsOf
-  is_of_after named old new is stands other q unmarked = stands q ∙ by (same_part q named) refl (other q unmarked)
+  of_now h is = is.0
+
+  -- the devices of the nodes have no mark where the plan has none
+  closed : (h : KeptImage) → IsOf p h → parts.IsClosed p h.parts
+  unfolding IsOf
+  closed h is = is.1
+
+  pub is_of_after : (named : ImagePart) (old new : KeptImage) → IsOf p old → Stands named old new
+      → NoOther named old new → parts.IsClosed p new.parts → IsOf p new
+  unfolding IsOf
+  is_of_after named old new is stands other under = (all, under)
     where
-      by : (t : Bool) → same_part q named ≡ t → (same_part q named ≡ true) ⊎ (fresh old q ≡ true)
-          → (if t then given p q else held old q) ≡ given p q
-      by true same o = refl
-      by false apart (inl same) = cc
-      by false apart (inr unmarked) = is q unmarked
+      all : AreOfNow p new
+      all q unmarked = stands q ∙ by (same_part q named) refl (other q unmarked)
+        where
+          by : (t : Bool) → same_part q named ≡ t → (same_part q named ≡ true) ⊎ (fresh old q ≡ true)
+              → (if t then given p q else held old q) ≡ given p q
+          by true same o = refl
+          by false apart (inl same) = cc
+          by false apart (inr unmarked) = is.0 q unmarked
 
   -- the parts that the files are made of
   pub parts_of : (h : KeptImage) → IsOf p h → parts.IsOf p h.parts
   unfolding IsOf parts.IsOf
-  parts_of h is q unmarked =
-      option_map_back OfKept (λ x y e. cc) (parts.held h.parts q) (parts.given p q) (is (image.Kept q) unmarked)
+  parts_of h is = (all, is.1)
+    where
+      all : parts.AreOfNow p h.parts
+      all q unmarked =
+          option_map_back OfKept (λ x y e. cc) (parts.held h.parts q) (parts.given p q) (is.0 (image.Kept q) unmarked)
 
   module _ (h : KeptImage) (is : IsOf p h) where
     pub with_parts_of : (new : KeptParts) → parts.IsOf p new → IsOf p (record h { parts = new })
     unfolding IsOf parts.IsOf
-    with_parts_of new are (image.Kept q) unmarked = ap (option_map OfKept) (are q unmarked)
-    with_parts_of new are image.Roster unmarked = is image.Roster unmarked
-    with_parts_of new are (image.Defaults n) unmarked = is (image.Defaults n) unmarked
-    with_parts_of new are (image.Shape n) unmarked = is (image.Shape n) unmarked
-    with_parts_of new are (image.Expect n) unmarked = is (image.Expect n) unmarked
-    with_parts_of new are (image.Events i) unmarked = is (image.Events i) unmarked
+    with_parts_of new are = (all, are.1)
+      where
+        all : AreOfNow p (record h { parts = new })
+        all (image.Kept q) unmarked = ap (option_map OfKept) (are.0 q unmarked)
+        all image.Roster unmarked = is.0 image.Roster unmarked
+        all (image.Defaults n) unmarked = is.0 (image.Defaults n) unmarked
+        all (image.Shape n) unmarked = is.0 (image.Shape n) unmarked
+        all (image.Expect n) unmarked = is.0 (image.Expect n) unmarked
+        all (image.Events i) unmarked = is.0 (image.Events i) unmarked
 
     -- ---- the roster
 
     pub roster_now : h.roster.fresh ≡ true → h.roster.kept ≡ Some (roster_from p)
-    unfolding IsOf
     roster_now unmarked =
-        option_map_back OfRoster (λ x y e. cc) h.roster.kept (Some (roster_from p)) (is image.Roster unmarked)
+        option_map_back OfRoster (λ x y e. cc) h.roster.kept (Some (roster_from p)) (of_now h is image.Roster unmarked)
 
     module _ (new : Single RosterFrom) (s : new ≡ record { kept = Some (roster_from p); fresh = true }) where
       abbrev with_roster : KeptImage
@@ -82,7 +100,7 @@ module _ (p : Project) where
       roster_other q unmarked = inr unmarked
 
       pub roster_is_of : IsOf p with_roster
-      roster_is_of = is_of_after image.Roster h with_roster is roster_stands roster_other
+      roster_is_of = is_of_after image.Roster h with_roster is roster_stands roster_other (closed h is)
 
       pub roster_brought : (m n : Work) → Refreshes (h.roster.kept ≡ Some (roster_from p)) m n
           → AreBrought same_part (given p) (image.Roster ∷ []) (held h) (held with_roster) m n
@@ -93,10 +111,9 @@ module _ (p : Project) where
     -- ---- the defaults of a node
 
     pub defaults_now : (n : ℕ) → is_fresh h.defaults n ≡ true → kept_at h.defaults n ≡ device_from p n
-    unfolding IsOf
     defaults_now n unmarked =
         option_map_back OfDefaults (λ x y e. cc) (kept_at h.defaults n) (device_from p n)
-        (is (image.Defaults n) unmarked)
+        (of_now h is (image.Defaults n) unmarked)
 
     module _ (key : ℕ) (new : Shelved DeviceAt) (now : Option DeviceAt) (e : now ≡ device_from p key)
         (s : KeptAt key now h.defaults new) (f : FreshAt key h.defaults new) where
@@ -114,7 +131,7 @@ module _ (p : Project) where
       defaults_other q unmarked = inr unmarked
 
       pub defaults_is_of : IsOf p with_defaults
-      defaults_is_of = is_of_after (image.Defaults key) h with_defaults is defaults_stands defaults_other
+      defaults_is_of = is_of_after (image.Defaults key) h with_defaults is defaults_stands defaults_other (closed h is)
 
       pub defaults_brought : (m n : Work) → Refreshes (kept_at h.defaults key ≡ now) m n
           → AreBrought same_part (given p) (image.Defaults key ∷ []) (held h) (held with_defaults) m n
@@ -126,9 +143,8 @@ module _ (p : Project) where
     -- ---- the entries of a node
 
     pub shape_now : (n : ℕ) → is_fresh h.shapes n ≡ true → kept_at h.shapes n ≡ device_from p n
-    unfolding IsOf
     shape_now n unmarked =
-        option_map_back OfShape (λ x y e. cc) (kept_at h.shapes n) (device_from p n) (is (image.Shape n) unmarked)
+        option_map_back OfShape (λ x y e. cc) (kept_at h.shapes n) (device_from p n) (of_now h is (image.Shape n) unmarked)
 
     module _ (key : ℕ) (new : Shelved DeviceAt) (now : Option DeviceAt) (e : now ≡ device_from p key)
         (s : KeptAt key now h.shapes new) (f : FreshAt key h.shapes new) where
@@ -146,7 +162,7 @@ module _ (p : Project) where
       shape_other q unmarked = inr unmarked
 
       pub shape_is_of : IsOf p with_shape
-      shape_is_of = is_of_after (image.Shape key) h with_shape is shape_stands shape_other
+      shape_is_of = is_of_after (image.Shape key) h with_shape is shape_stands shape_other (closed h is)
 
       pub shape_brought : (m n : Work) → Refreshes (kept_at h.shapes key ≡ now) m n
           → AreBrought same_part (given p) (image.Shape key ∷ []) (held h) (held with_shape) m n
@@ -158,9 +174,8 @@ module _ (p : Project) where
     -- ---- what is expected of a node
 
     pub expect_now : (n : ℕ) → is_fresh h.expects n ≡ true → kept_at h.expects n ≡ device_from p n
-    unfolding IsOf
     expect_now n unmarked =
-        option_map_back OfExpect (λ x y e. cc) (kept_at h.expects n) (device_from p n) (is (image.Expect n) unmarked)
+        option_map_back OfExpect (λ x y e. cc) (kept_at h.expects n) (device_from p n) (of_now h is (image.Expect n) unmarked)
 
     module _ (key : ℕ) (new : Shelved DeviceAt) (now : Option DeviceAt) (e : now ≡ device_from p key)
         (s : KeptAt key now h.expects new) (f : FreshAt key h.expects new) where
@@ -178,7 +193,7 @@ module _ (p : Project) where
       expect_other q unmarked = inr unmarked
 
       pub expect_is_of : IsOf p with_expect
-      expect_is_of = is_of_after (image.Expect key) h with_expect is expect_stands expect_other
+      expect_is_of = is_of_after (image.Expect key) h with_expect is expect_stands expect_other (closed h is)
 
       pub expect_brought : (m n : Work) → Refreshes (kept_at h.expects key ≡ now) m n
           → AreBrought same_part (given p) (image.Expect key ∷ []) (held h) (held with_expect) m n
@@ -190,9 +205,8 @@ module _ (p : Project) where
     -- ---- a window
 
     pub window_now : (n : ℕ) → is_fresh h.windows n ≡ true → kept_at h.windows n ≡ window_from p n
-    unfolding IsOf
     window_now n unmarked =
-        option_map_back OfEvents (λ x y e. cc) (kept_at h.windows n) (window_from p n) (is (image.Events n) unmarked)
+        option_map_back OfEvents (λ x y e. cc) (kept_at h.windows n) (window_from p n) (of_now h is (image.Events n) unmarked)
 
     -- a window without a mark needs no look
     pub window_stays : (i : ℕ) → is_fresh h.windows i ≡ true → (m : Work)
@@ -230,7 +244,7 @@ module _ (p : Project) where
       window_other q unmarked = inr unmarked
 
       pub window_is_of : IsOf p with_window
-      window_is_of = is_of_after (image.Events key) h with_window is window_stands window_other
+      window_is_of = is_of_after (image.Events key) h with_window is window_stands window_other (closed h is)
 
       pub window_brought : (m n : Work) → Refreshes (kept_at h.windows key ≡ now) m n
           → AreBrought same_part (given p) (image.Events key ∷ []) (held h) (held with_window) m n

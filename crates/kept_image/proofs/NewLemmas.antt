@@ -3,7 +3,7 @@ use Rattle.std.proofs.Common.{◌≡◌, ◌∙◌, ℕ, true, false, option_map
 use Rattle.co_memo.specs.Shelved.{is_fresh}
 use Rattle.co_project.specs.Project.{Content as Project}
 use Rattle.kept_parts.specs.Kept as parts
-use Rattle.kept_image.specs.Kept.{IsOf, OfKept}
+use Rattle.kept_image.specs.Kept.{AreOfNow, IsOf, OfKept}
 use Rattle.kept_image.specs.declared.image_part.ImagePart.TheVariants as image
 use Rattle.kept_image.specs.declared.kept_image.KeptImage.{KeptImage}
 
@@ -13,9 +13,12 @@ pub all_marked : (h : KeptImage) → ((p : Project) → parts.IsOf p h.parts) �
     → ((q : ℕ) → is_fresh h.expects q ≡ false) → ((q : ℕ) → is_fresh h.windows q ≡ false)
     → (p : Project) → IsOf p h
 unfolding IsOf parts.IsOf
-all_marked h k r d s e w p (image.Kept q) u = ap (option_map OfKept) (k p q u)
-all_marked h k r d s e w p image.Roster u = cc
-all_marked h k r d s e w p (image.Defaults n) u = let none : is_fresh h.defaults n ≡ false = d n in cc
-all_marked h k r d s e w p (image.Shape n) u = let none : is_fresh h.shapes n ≡ false = s n in cc
-all_marked h k r d s e w p (image.Expect n) u = let none : is_fresh h.expects n ≡ false = e n in cc
-all_marked h k r d s e w p (image.Events i) u = let none : is_fresh h.windows i ≡ false = w i in cc
+all_marked h k r d s e w p = (all, (k p).1)
+  where
+    all : AreOfNow p h
+    all (image.Kept q) u = ap (option_map OfKept) ((k p).0 q u)
+    all image.Roster u = cc
+    all (image.Defaults n) u = let none : is_fresh h.defaults n ≡ false = d n in cc
+    all (image.Shape n) u = let none : is_fresh h.shapes n ≡ false = s n in cc
+    all (image.Expect n) u = let none : is_fresh h.expects n ≡ false = e n in cc
+    all (image.Events i) u = let none : is_fresh h.windows i ≡ false = w i in cc

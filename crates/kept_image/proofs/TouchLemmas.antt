@@ -8,9 +8,8 @@ use Rattle.kept_parts.specs.Kept as parts
 use Rattle.kept_parts.specs.Marks as marks
 use Rattle.kept_parts.specs.declared.part.Part.{Part}
 use Rattle.network_image.specs.Image.{window_steps}
-use Rattle.kept_image.specs.Kept.{device_from, held, roster_from, IsOf, OfDefaults, OfEvents, OfExpect, OfKept}
-use Rattle.kept_image.specs.Kept.{OfRoster}
-use Rattle.kept_image.specs.Kept.{OfShape}
+use Rattle.kept_image.specs.Kept.{device_from, held, roster_from, AreOfNow, IsOf, OfDefaults, OfEvents, OfExpect}
+use Rattle.kept_image.specs.Kept.{OfKept, OfRoster, OfShape}
 use Rattle.kept_image.specs.Marks.{MarksAt, MarksOne}
 use Rattle.kept_image.specs.Touched.{touches_node, touches_roster, touches_window}
 use Rattle.kept_image.specs.declared.device_at.DeviceAt.{DeviceAt}
@@ -39,34 +38,40 @@ module _ (p : Project) (e : Edit) (old new : KeptImage)
   -- what is held of the project is held of it still
   pub still_of : (parts.IsOf p old.parts → parts.IsOf p new.parts) → IsOf p old → IsOf p new
   unfolding IsOf parts.IsOf
-  still_of same is (image.Kept q) u = ap (option_map OfKept) (same (parts_of p old is) q u)
-  still_of same is image.Roster u = held_still image.Roster ∙ is image.Roster (r.unmarked u).0
-  still_of same is (image.Defaults n) u = held_still (image.Defaults n) ∙ is (image.Defaults n) (d.unmarked n u).0
-  still_of same is (image.Shape n) u = held_still (image.Shape n) ∙ is (image.Shape n) (s.unmarked n u).0
-  still_of same is (image.Expect n) u = held_still (image.Expect n) ∙ is (image.Expect n) (x.unmarked n u).0
-  still_of same is (image.Events i) u = held_still (image.Events i) ∙ is (image.Events i) (w.unmarked i u).0
+  still_of same is = (all, (same (parts_of p old is)).1)
+    where
+      all : AreOfNow p new
+      all (image.Kept q) u = ap (option_map OfKept) ((same (parts_of p old is)).0 q u)
+      all image.Roster u = held_still image.Roster ∙ is.0 image.Roster (r.unmarked u).0
+      all (image.Defaults n) u = held_still (image.Defaults n) ∙ is.0 (image.Defaults n) (d.unmarked n u).0
+      all (image.Shape n) u = held_still (image.Shape n) ∙ is.0 (image.Shape n) (s.unmarked n u).0
+      all (image.Expect n) u = held_still (image.Expect n) ∙ is.0 (image.Expect n) (x.unmarked n u).0
+      all (image.Events i) u = held_still (image.Events i) ∙ is.0 (image.Events i) (w.unmarked i u).0
 
   -- and of the project that the edit makes
   pub follows : marks.Follows e old.parts new.parts → (q : Project) → IsOf p old → accept p e ≡ Ok q → IsOf q new
   unfolding IsOf parts.IsOf
-  follows after q is taken (image.Kept a) u = ap (option_map OfKept) (after p q (parts_of p old is) taken a u)
-  follows after q is taken image.Roster u =
-      held_still image.Roster ∙ is image.Roster (r.unmarked u).0
-      ∙ ap (λ (f : RosterFrom). Some (OfRoster f))
-      (sym (roster_left p e (r.unmarked u).1) ∙ ap roster_from (taken_as p q e taken))
-  follows after q is taken (image.Defaults n) u =
-      held_still (image.Defaults n) ∙ is (image.Defaults n) (d.unmarked n u).0
-      ∙ ap (option_map OfDefaults)
-      (sym (device_left p e n (d.unmarked n u).1) ∙ ap (λ (r : Project). device_from r n) (taken_as p q e taken))
-  follows after q is taken (image.Shape n) u =
-      held_still (image.Shape n) ∙ is (image.Shape n) (s.unmarked n u).0
-      ∙ ap (option_map OfShape)
-      (sym (device_left p e n (s.unmarked n u).1) ∙ ap (λ (r : Project). device_from r n) (taken_as p q e taken))
-  follows after q is taken (image.Expect n) u =
-      held_still (image.Expect n) ∙ is (image.Expect n) (x.unmarked n u).0
-      ∙ ap (option_map OfExpect)
-      (sym (device_left p e n (x.unmarked n u).1) ∙ ap (λ (r : Project). device_from r n) (taken_as p q e taken))
-  follows after q is taken (image.Events i) u =
-      held_still (image.Events i) ∙ is (image.Events i) (w.unmarked i u).0
-      ∙ ap (λ (steps : List TimedStep). Some (OfEvents steps))
-      (sym (window_left p i e (w.unmarked i u).1) ∙ ap (λ (r : Project). window_steps r i) (taken_as p q e taken))
+  follows after q is taken = (all, (after p q (parts_of p old is) taken).1)
+    where
+      all : AreOfNow q new
+      all (image.Kept a) u = ap (option_map OfKept) ((after p q (parts_of p old is) taken).0 a u)
+      all image.Roster u =
+          held_still image.Roster ∙ is.0 image.Roster (r.unmarked u).0
+          ∙ ap (λ (f : RosterFrom). Some (OfRoster f))
+          (sym (roster_left p e (r.unmarked u).1) ∙ ap roster_from (taken_as p q e taken))
+      all (image.Defaults n) u =
+          held_still (image.Defaults n) ∙ is.0 (image.Defaults n) (d.unmarked n u).0
+          ∙ ap (option_map OfDefaults)
+          (sym (device_left p e n (d.unmarked n u).1) ∙ ap (λ (r : Project). device_from r n) (taken_as p q e taken))
+      all (image.Shape n) u =
+          held_still (image.Shape n) ∙ is.0 (image.Shape n) (s.unmarked n u).0
+          ∙ ap (option_map OfShape)
+          (sym (device_left p e n (s.unmarked n u).1) ∙ ap (λ (r : Project). device_from r n) (taken_as p q e taken))
+      all (image.Expect n) u =
+          held_still (image.Expect n) ∙ is.0 (image.Expect n) (x.unmarked n u).0
+          ∙ ap (option_map OfExpect)
+          (sym (device_left p e n (x.unmarked n u).1) ∙ ap (λ (r : Project). device_from r n) (taken_as p q e taken))
+      all (image.Events i) u =
+          held_still (image.Events i) ∙ is.0 (image.Events i) (w.unmarked i u).0
+          ∙ ap (λ (steps : List TimedStep). Some (OfEvents steps))
+          (sym (window_left p i e (w.unmarked i u).1) ∙ ap (λ (r : Project). window_steps r i) (taken_as p q e taken))

@@ -82,9 +82,14 @@ fresh k (image.Shape n) = is_fresh k.shapes n
 fresh k (image.Expect n) = is_fresh k.expects n
 fresh k (image.Events i) = is_fresh k.windows i
 
--- THE RELATION: each part without a mark is held as it is to be built from the project's inputs of now
+-- each part without a mark is held as it is to be built from the project's inputs of now
+abbrev pub AreOfNow : Project → KeptImage → Type 0
+AreOfNow p k = (q : ImagePart) → fresh k q ≡ true → held k q ≡ given p q
+
+-- THE RELATION: each part without a mark is held as it is to be built from the project's inputs of now, and a plan
+-- without a mark has no device with a mark below it
 unfoldable pub IsOf : Project → KeptImage → Type 0
-IsOf p k = (q : ImagePart) → fresh k q ≡ true → held k q ≡ given p q
+IsOf p k = AreOfNow p k × parts.IsClosed p k.parts
 
 -- ---- what is reached
 

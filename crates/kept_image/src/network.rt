@@ -12,30 +12,9 @@ use crate::image_part::ImagePart;
 use crate::kept_image::KeptImage;
 use co_parts::Roster;
 use co_project::Project;
-use concise_dcf::Write;
-use network_image::{NetworkParts, NodeParts, NodeTable, NodeWrites, WindowTable};
-use std::alloc::{AllocError, Global};
+use network_image::{NetworkParts, NodeParts, NodeTable, WindowTable};
+use std::alloc::AllocError;
 use std::rc::Rc;
-
-/// A copy of writes.
-fn copies(alloc: Global, writes: &[Write]) -> Result<Vec<Write>, AllocError>
-    ensures { IfOk result (λ copy. copy.items ≡ writes.now) }
-{
-    let mut copy = Vec::new(alloc);
-    for write in writes {
-        let write = write.clone()?;
-        copy.push(write)?;
-    }
-    Ok(copy)
-}
-
-/// The writes of a node, each to be shared.
-fn shared_writes(alloc: Global, writes: &kept_parts::NodeWrites) -> Result<NodeWrites, AllocError>
-    ensures { IfOk result (λ node. node ≡ writes.now) }
-{
-    let writes = copies(alloc, writes.as_slice())?;
-    NodeWrites::new(alloc, writes)
-}
 
 impl KeptImage {
     /// The parts of a node, if it is there with its device.
@@ -59,7 +38,7 @@ impl KeptImage {
         let defaults = defaults.pointer()?;
         let shape = shape.pointer()?;
         let expect = expect.pointer()?;
-        let writes = shared_writes(self.alloc, writes.get())?;
+        let writes = writes.pointer()?;
         Ok(Some(NodeParts::from_shared(defaults, shape, expect, writes)))
     }
 

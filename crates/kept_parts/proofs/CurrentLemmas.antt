@@ -14,7 +14,7 @@ use Rattle.co_project.specs.Project.{Content as Project}
 use Rattle.co_memo.specs.Shelved.{is_fresh}
 use Rattle.co_memo.specs.Stale.{AreBrought}
 use Rattle.co_memo.specs.Work.{Work}
-use Rattle.kept_parts.specs.Kept.{for_plan, for_writes, given, held, of_node, own_device}
+use Rattle.kept_parts.specs.Kept.{for_plan, for_writes, fresh, given, held, of_node, own_device}
 use Rattle.kept_parts.specs.Kept.{reached, same_part, IsOf}
 use Rattle.kept_devices.specs.Slots.{fresh_at, Slots}
 use Rattle.kept_devices.specs.declared.device_slot.DeviceSlot.{DeviceSlot}
@@ -53,16 +53,21 @@ module _ (p : Project) (a b : KeptParts) (k m : Work) where
       last_now same_part (given p) (for_writes p n) (part.Dcf n) (held a) (held b) k m (eq-eqb n n refl) brought
 
 -- where each part has a mark
-pub all_marked : (h : KeptParts) → h.devices ≡ empty → h.plan.fresh ≡ false
-    → ((q : ℕ) → is_fresh h.writes q ≡ false) → ((q : ℕ) → is_fresh h.concise q ≡ false)
-    → ((q : ℕ) → is_fresh h.dcf q ≡ false) → (p : Project) → IsOf p h
-unfolding IsOf
-all_marked h d pl w c f p (part.Device e) u =
-    let none : fresh_at h.devices e ≡ false =
-    ap (λ (s : Slots). fresh_at s e) d
-    ∙ ap (λ o. option_map_or (λ (s : DeviceSlot). s.fresh) o false) (get-empty name_cmp e) in
-    cc
-all_marked h d pl w c f p part.Plan u = cc
-all_marked h d pl w c f p (part.Writes n) u = let none : is_fresh h.writes n ≡ false = w n in cc
-all_marked h d pl w c f p (part.Concise n) u = let none : is_fresh h.concise n ≡ false = c n in cc
-all_marked h d pl w c f p (part.Dcf n) u = let none : is_fresh h.dcf n ≡ false = f n in cc
+module _ (h : KeptParts) (d : h.devices ≡ empty) (pl : h.plan.fresh ≡ false)
+    (w : (q : ℕ) → is_fresh h.writes q ≡ false) (c : (q : ℕ) → is_fresh h.concise q ≡ false)
+    (f : (q : ℕ) → is_fresh h.dcf q ≡ false) where
+  none_fresh : (q : Part) → fresh h q ≡ false
+  none_fresh (part.Device e) =
+      ap (λ (s : Slots). fresh_at s e) d
+      ∙ ap (λ o. option_map_or (λ (s : DeviceSlot). s.fresh) o false) (get-empty name_cmp e)
+  none_fresh part.Plan = pl
+  none_fresh (part.Writes n) = w n
+  none_fresh (part.Concise n) = c n
+  none_fresh (part.Dcf n) = f n
+
+  pub all_marked : (p : Project) → IsOf p h
+  unfolding IsOf
+  all_marked p = (
+    λ q u. let none : fresh h q ≡ false = none_fresh q in cc,
+    λ u. cc,
+  )

@@ -1,5 +1,5 @@
 -- What edits leave alone.
-use Rattle.std.proofs.Common.{◌≡◌, ℕ, Bool, true, false, cond, not, ◌||◌, ◌==◌, List, [], ◌∷◌, filter_map, Option}
+use Rattle.std.proofs.Common.{◌≡◌, ℕ, Bool, true, false, cond, not, ◌||◌, ◌==◌, List, [], ◌∷◌, map, filter_map, Option}
 use Rattle.std.proofs.Common.{Some, None, Result, Ok, option_map, option_and_then, refl, sym, ap, subst, ◌∙◌}
 use Rattle.std.specs.FinMap.{contains_key, entries, get, get-insert, get-remove, insert, remove}
 use Rattle.std.specs.Ordering.{eq_by_cmp, nat_cmp}
@@ -21,15 +21,15 @@ use Rattle.co_project.specs.Project.{accept, first, with_nodes, Content as Proje
 use Rattle.co_project.specs.Tables.{is_named, is_used, name_taken, node_at, put_node, text_at, with_param}
 use Rattle.co_project.specs.Tables.{without_param, Nodes, Texts}
 use Rattle.kept_parts.specs.Made.{plan_made, writes_made}
-use Rattle.kept_parts.specs.Kept.{dcf_of_node, device_at, given, plan_from, writes_from, writes_of_node, OfConcise}
-use Rattle.kept_parts.specs.Kept.{OfDcf, OfDevice, OfPlan, OfWrites}
+use Rattle.kept_parts.specs.Kept.{dcf_of_node, device_at, given, of_node, plan_from, writes_from, writes_of_node}
+use Rattle.kept_parts.specs.Kept.{OfConcise, OfDcf, OfDevice, OfPlan, OfWrites}
 use Rattle.kept_parts.specs.Touched.{is_dcf, is_of_node, is_of_text, is_planned, touched}
 use Rattle.kept_parts.specs.declared.dcf_from.DcfFrom.{DcfFrom}
 use Rattle.kept_parts.specs.declared.plan_from.PlanFrom.{PlanFrom}
 use Rattle.kept_parts.specs.declared.writes_from.WritesFrom.{WritesFrom}
 use Rattle.kept_parts.specs.declared.part.Part.{Part}
 use Rattle.kept_parts.specs.declared.part.Part.TheVariants as part
-use Rattle.kept_parts.proofs.EntriesAlike.{entries_alike, filter_shown}
+use Rattle.kept_parts.proofs.EntriesAlike.{entries_alike, filter_shown, shown}
 
 -- ---- what of a project parts are built from
 
@@ -268,3 +268,67 @@ module _ (p new : Project) (q : Part) where
   frame (edit.DropEvent number) h apart =
       let made : Project = record p { events = remove p.events number } in
       setting_left made (one_test _ _ made new h) refl refl refl refl
+
+-- ---- the devices of the nodes
+
+abbrev eds_of : ℕ × Node → ℕ × List ℕ
+eds_of = shown (λ (n : Node). n.eds)
+
+abbrev named : ℕ × List ℕ → Part
+named e = part.Device e.1
+
+of_shown : (es : List (ℕ × Node)) → map of_node es ≡ map named (map eds_of es)
+of_shown [] = refl
+of_shown (e ∷ es) = ap (λ qs. part.Device e.1.eds ∷ qs) (of_shown es)
+
+module _ (p new : Project) where
+  abbrev SameNodes : Project → Type 0
+  SameNodes made = map of_node (entries made.nodes) ≡ map of_node (entries p.nodes)
+
+  same_so : (made : Project) → made ≡ new → SameNodes made → SameNodes new
+  same_so made is same = subst SameNodes is same
+
+  params_same : (id : ℕ) (node : Node) (params : Params) (there : get p.nodes id ≡ Some node)
+      → SameNodes (changed p id node params there)
+  params_same id node params there =
+      of_shown (entries (insert p.nodes id (changed_node p id node params there)))
+      ∙ ap (map named)
+      (entries_alike (λ (n : Node). n.eds) nat_cmp_total exact_unsigned p.nodes id node
+      (changed_node p id node params there) there refl)
+      ∙ sym (of_shown (entries p.nodes))
+
+  put_param_same : (id : ℕ) (place : ℕ × ℕ) (text : List ℕ) (o : Option Node) → get p.nodes id ≡ o
+      → with_nodes p (with_param p.nodes id place text o) ≡ Ok new → SameNodes new
+  put_param_same id place text None there h = cc
+  put_param_same id place text (Some node) there h =
+      same_so _ (nodes_test p (is_full_for node.params place) _ _ new h)
+      (params_same id node (insert node.params place text) there)
+
+  drop_param_same : (id : ℕ) (place : ℕ × ℕ) (o : Option Node) → get p.nodes id ≡ o
+      → with_nodes p (without_param p.nodes id place o) ≡ Ok new → SameNodes new
+  drop_param_same id place None there h = cc
+  drop_param_same id place (Some node) there h =
+      same_so _ (nodes_test p _ _ _ new h) (params_same id node (remove node.params place) there)
+
+  -- an edit that is taken and doesn't touch the plan leaves the nodes with their EDS
+  pub nodes_left : (e : Edit) → accept p e ≡ Ok new → touched e part.Plan ≡ false → SameNodes new
+  unfolding accept
+  nodes_left (edit.Bitrate rate) h apart = same_so (record p { bitrate = rate }) (taken _ new h) refl
+  nodes_left (edit.Horizon time) h apart = same_so (record p { horizon = time }) (taken _ new h) refl
+  nodes_left (edit.Manager m) h apart = same_so (record p { manager = m }) (one_test _ _ _ new h) refl
+  nodes_left (edit.Eds name text) h apart = cc
+  nodes_left (edit.DropEds name) h apart = cc
+  nodes_left (edit.Node id name eds) h apart = cc
+  nodes_left (edit.DropNode id) h apart = cc
+  nodes_left (edit.Param id index sub text) h apart = put_param_same id (index, sub) text (get p.nodes id) refl h
+  nodes_left (edit.Unparam id index sub) h apart = drop_param_same id (index, sub) (get p.nodes id) refl h
+  nodes_left (edit.Message name m) h apart = cc
+  nodes_left (edit.DropMessage name) h apart = cc
+  nodes_left (edit.Source name position index sub) h apart = cc
+  nodes_left (edit.Unsource name position) h apart = cc
+  nodes_left (edit.Sink name position node index sub) h apart = cc
+  nodes_left (edit.Unsink name position node) h apart = cc
+  nodes_left (edit.Event number e) h apart =
+      same_so (record p { events = insert p.events number e }) (one_test _ _ _ new h) refl
+  nodes_left (edit.DropEvent number) h apart =
+      same_so (record p { events = remove p.events number }) (one_test _ _ _ new h) refl

@@ -1,14 +1,16 @@
 -- Each kind of part, brought up to date.
 use Rattle.std.proofs.Common.{◌≡◌, ◌⊎◌, inl, inr, ℕ, Bool, true, false, ◌||◌, cond, List, [], ◌∷◌, Option, Some, None}
-use Rattle.std.proofs.Common.{◌∙◌, if◌then◌else◌, ◌==◌, refl, sym, ap, subst, option_map}
-use Rattle.std.specs.FinMap.{get}
+use Rattle.std.proofs.Common.{◌∙◌, if◌then◌else◌, ◌==◌, is_some, map, refl, sym, ap, subst, option_map}
+use Rattle.std.specs.FinMap.{entries, get}
 use Rattle.std.specs.Option.{option_map_or}
 use Rattle.std.specs.Cmp.{tied_itself}
 use Rattle.std.specs.Ordering.{eq_by_cmp, is_eq}
 use Rattle.std.proofs.lemmas.Cmp.{nat_list_cmp_total}
+use Rattle.std.proofs.lemmas.List.Elements.{All-cons, All-head, All-nil, All-tail, All-weaker}
 use Rattle.std.proofs.lemmas.Map.Lookups.{exact_bytes}
 use Rattle.co_base.proofs.TableLemmas.{alike}
 use Rattle.co_messages.specs.Messages.{name_cmp}
+use Rattle.co_project.specs.declared.node.Node.{Node}
 use Rattle.co_project.specs.Project.{Content as Project}
 use Rattle.co_project.specs.Tables.{text_at}
 use Rattle.co_memo.specs.Work.{Work, Refreshes}
@@ -16,8 +18,8 @@ use Rattle.co_memo.specs.Shelved.{is_fresh, kept_at, Shelved, Single}
 use Rattle.co_memo.specs.Stale.{AreBrought}
 use Rattle.co_memo.proofs.Brought.{one, option_map_back, refreshes_kind, shelf_stands}
 use Rattle.kept_devices.specs.Slots.{fresh_at, fresh_slot, text_kept, Slots}
-use Rattle.kept_parts.specs.Kept.{concise_from, dcf_from, fresh, given, held, plan_from, same_part, writes_from}
-use Rattle.kept_parts.specs.Kept.{IsOf, OfConcise, OfDcf, OfDevice, OfPlan, OfWrites}
+use Rattle.kept_parts.specs.Kept.{concise_from, dcf_from, fresh, given, held, of_node, plan_from, same_part, writes_from}
+use Rattle.kept_parts.specs.Kept.{AreOfNow, HaveNoMark, IsClosed, IsOf, OfConcise, OfDcf, OfDevice, OfPlan, OfWrites}
 use Rattle.kept_devices.specs.declared.device_slot.DeviceSlot.{DeviceSlot}
 use Rattle.kept_parts.specs.declared.plan_from.PlanFrom.{PlanFrom}
 use Rattle.kept_parts.specs.declared.writes_from.WritesFrom.{WritesFrom}
@@ -47,44 +49,63 @@ module _ (p : Project) where
   abbrev pub NoOther : Part → KeptParts → KeptParts → Type 0
   NoOther named old new = (q : Part) → fresh new q ≡ true → (same_part q named ≡ true) ⊎ (fresh old q ≡ true)
 
-  pub is_of_after : (named : Part) (old new : KeptParts) → IsOf p old → Stands named old new → NoOther named old new
-      → IsOf p new
+  -- what has no mark is of now
+  pub of_now : (h : KeptParts) → IsOf p h → AreOfNow p h
   unfolding IsOf
-  is_of_after named old new is stands other q unmarked = stands q ∙ by (same_part q named) refl (other q unmarked)
+  of_now h is = is.0
+
+  -- the devices of the nodes have no mark where the plan has none
+  pub closed : (h : KeptParts) → IsOf p h → IsClosed p h
+  unfolding IsOf
+  closed h is = is.1
+
+  -- devices without a mark, where no device is another
+  same_devices : (old new : KeptParts) → new.devices ≡ old.devices → (es : List (ℕ × Node))
+      → HaveNoMark old (map of_node es) → HaveNoMark new (map of_node es)
+  same_devices old new same [] all = All-nil (λ q. fresh new q ≡ true)
+  same_devices old new same (e ∷ es) all =
+      All-cons (λ q. fresh new q ≡ true) (of_node e) (map of_node es)
+      (ap (λ (s : Slots). fresh_at s e.1.eds) same
+      ∙ All-head (λ q. fresh old q ≡ true) (of_node e) (map of_node es) all)
+      (same_devices old new same es (All-tail (λ q. fresh old q ≡ true) (of_node e) (map of_node es) all))
+
+  pub is_of_after : (named : Part) (old new : KeptParts) → IsOf p old → Stands named old new → NoOther named old new
+      → IsClosed p new → IsOf p new
+  unfolding IsOf
+  is_of_after named old new is stands other under = (all, under)
     where
-      by : (t : Bool) → same_part q named ≡ t → (same_part q named ≡ true) ⊎ (fresh old q ≡ true)
-          → (if t then given p q else held old q) ≡ given p q
-      by true same o = refl
-      by false apart (inl same) = cc
-      by false apart (inr unmarked) = is q unmarked
+      all : AreOfNow p new
+      all q unmarked = stands q ∙ by (same_part q named) refl (other q unmarked)
+        where
+          by : (t : Bool) → same_part q named ≡ t → (same_part q named ≡ true) ⊎ (fresh old q ≡ true)
+              → (if t then given p q else held old q) ≡ given p q
+          by true same o = refl
+          by false apart (inl same) = cc
+          by false apart (inr unmarked) = is.0 q unmarked
 
   module _ (h : KeptParts) (is : IsOf p h) where
     -- what has no mark is built from the inputs of now
     pub device_now : (name : List ℕ) → fresh_at h.devices name ≡ true
         → text_kept h.devices name ≡ text_at p.texts name
-    unfolding IsOf
     device_now name unmarked =
         option_map_back OfDevice (λ x y e. cc) (text_kept h.devices name) (text_at p.texts name)
-        (is (part.Device name) unmarked)
+        (of_now h is (part.Device name) unmarked)
 
     pub plan_now : h.plan.fresh ≡ true → h.plan.kept ≡ Some (plan_from p)
-    unfolding IsOf
-    plan_now unmarked = option_map_back OfPlan (λ x y e. cc) h.plan.kept (Some (plan_from p)) (is part.Plan unmarked)
+    plan_now unmarked =
+        option_map_back OfPlan (λ x y e. cc) h.plan.kept (Some (plan_from p)) (of_now h is part.Plan unmarked)
 
     pub writes_now : (n : ℕ) → is_fresh h.writes n ≡ true → kept_at h.writes n ≡ writes_from p n
-    unfolding IsOf
     writes_now n unmarked =
-        option_map_back OfWrites (λ x y e. cc) (kept_at h.writes n) (writes_from p n) (is (part.Writes n) unmarked)
+        option_map_back OfWrites (λ x y e. cc) (kept_at h.writes n) (writes_from p n) (of_now h is (part.Writes n) unmarked)
 
     pub concise_now : (n : ℕ) → is_fresh h.concise n ≡ true → kept_at h.concise n ≡ concise_from p n
-    unfolding IsOf
     concise_now n unmarked =
-        option_map_back OfConcise (λ x y e. cc) (kept_at h.concise n) (concise_from p n) (is (part.Concise n) unmarked)
+        option_map_back OfConcise (λ x y e. cc) (kept_at h.concise n) (concise_from p n) (of_now h is (part.Concise n) unmarked)
 
     pub dcf_now : (n : ℕ) → is_fresh h.dcf n ≡ true → kept_at h.dcf n ≡ dcf_from p n
-    unfolding IsOf
     dcf_now n unmarked =
-        option_map_back OfDcf (λ x y e. cc) (kept_at h.dcf n) (dcf_from p n) (is (part.Dcf n) unmarked)
+        option_map_back OfDcf (λ x y e. cc) (kept_at h.dcf n) (dcf_from p n) (of_now h is (part.Dcf n) unmarked)
 
     -- ---- a device
 
@@ -137,8 +158,50 @@ module _ (p : Project) where
               ∙ ap (λ t. cond t (option_map fresh_slot (text_at p.texts name)) (get h.devices q)) apart)) ∙ unmarked)
       device_other q unmarked = inr unmarked
 
+      kept_slot : (o : Option DeviceSlot) → slot_fresh o ≡ true → (text : Option (List ℕ)) → slot_text o ≡ text
+          → slot_fresh (option_map fresh_slot text) ≡ true
+      kept_slot None unmarked text same = cc
+      kept_slot (Some s) unmarked None same = cc
+      kept_slot (Some s) unmarked (Some t) same = refl
+
+      -- no device gets a mark
+      pub device_keeps : (q : List ℕ) → fresh_at h.devices q ≡ true → fresh_at new q ≡ true
+      device_keeps q unmarked = ap slot_fresh (s q) ∙ by (eq_by_cmp name_cmp q name) refl
+        where
+          by : (t : Bool) → eq_by_cmp name_cmp q name ≡ t
+              → slot_fresh (cond t (option_map fresh_slot (text_at p.texts name)) (get h.devices q)) ≡ true
+          by true same =
+              let one : q ≡ name = alike nat_list_cmp_total exact_bytes q name same in
+              let here : fresh_at h.devices name ≡ true = sym (ap (fresh_at h.devices) one) ∙ unmarked in
+              kept_slot (get h.devices name) here (text_at p.texts name) (device_now name here)
+          by false apart = unmarked
+
+      pub device_stays : (q : Part) → fresh h q ≡ true → fresh with_devices q ≡ true
+      device_stays (part.Device q) unmarked = device_keeps q unmarked
+      device_stays part.Plan unmarked = unmarked
+      device_stays (part.Writes n) unmarked = unmarked
+      device_stays (part.Concise n) unmarked = unmarked
+      device_stays (part.Dcf n) unmarked = unmarked
+
+      fresh_there : (o : Option (List ℕ)) → slot_fresh (option_map fresh_slot o) ≡ is_some o
+      fresh_there None = refl
+      fresh_there (Some text) = refl
+
+      -- it has no mark where there is a text
+      pub device_unmarked : fresh_at new name ≡ is_some (text_at p.texts name)
+      device_unmarked =
+          ap slot_fresh (s name
+          ∙ ap (λ t. cond t (option_map fresh_slot (text_at p.texts name)) (get h.devices name))
+          (ap is_eq (tied_itself nat_list_cmp_total name)))
+          ∙ fresh_there (text_at p.texts name)
+
+      device_closed : IsClosed p with_devices
+      device_closed unmarked =
+          All-weaker (λ q. fresh h q ≡ true) (λ q. fresh with_devices q ≡ true) device_stays
+          (map of_node (entries p.nodes)) (closed h is unmarked)
+
       pub device_is_of : IsOf p with_devices
-      device_is_of = is_of_after (part.Device name) h with_devices is device_stands device_other
+      device_is_of = is_of_after (part.Device name) h with_devices is device_stands device_other device_closed
 
       pub device_brought : (m n : Work) → Refreshes (text_kept h.devices name ≡ text_at p.texts name) m n
           → AreBrought same_part (given p) (part.Device name ∷ []) (held h) (held with_devices) m n
@@ -171,8 +234,9 @@ module _ (p : Project) where
       plan_other part.Plan unmarked = inl refl
       plan_other q unmarked = inr unmarked
 
-      pub plan_is_of : IsOf p with_plan
-      plan_is_of = is_of_after part.Plan h with_plan is plan_stands plan_other
+      pub plan_is_of : HaveNoMark h (map of_node (entries p.nodes)) → IsOf p with_plan
+      plan_is_of none = is_of_after part.Plan h with_plan is plan_stands plan_other
+          (λ unmarked. same_devices h with_plan refl (entries p.nodes) none)
 
       pub plan_brought : (m n : Work) → Refreshes (h.plan.kept ≡ Some now) m n
           → AreBrought same_part (given p) (part.Plan ∷ []) (held h) (held with_plan) m n
@@ -200,6 +264,7 @@ module _ (p : Project) where
 
       pub writes_is_of : IsOf p with_writes
       writes_is_of = is_of_after (part.Writes key) h with_writes is writes_stands writes_other
+          (λ unmarked. same_devices h with_writes refl (entries p.nodes) (closed h is unmarked))
 
       pub writes_brought : (m n : Work) → Refreshes (kept_at h.writes key ≡ now) m n
           → AreBrought same_part (given p) (part.Writes key ∷ []) (held h) (held with_writes) m n
@@ -227,6 +292,7 @@ module _ (p : Project) where
 
       pub concise_is_of : IsOf p with_concise
       concise_is_of = is_of_after (part.Concise key) h with_concise is concise_stands concise_other
+          (λ unmarked. same_devices h with_concise refl (entries p.nodes) (closed h is unmarked))
 
       pub concise_brought : (m n : Work) → Refreshes (kept_at h.concise key ≡ now) m n
           → AreBrought same_part (given p) (part.Concise key ∷ []) (held h) (held with_concise) m n
@@ -254,6 +320,7 @@ module _ (p : Project) where
 
       pub dcf_is_of : IsOf p with_dcf
       dcf_is_of = is_of_after (part.Dcf key) h with_dcf is dcf_stands dcf_other
+          (λ unmarked. same_devices h with_dcf refl (entries p.nodes) (closed h is unmarked))
 
       pub dcf_brought : (m n : Work) → Refreshes (kept_at h.dcf key ≡ now) m n
           → AreBrought same_part (given p) (part.Dcf key ∷ []) (held h) (held with_dcf) m n

@@ -1,5 +1,7 @@
 pub mod KindLemmas
+pub mod NamedLemmas
 pub mod NodeLemmas
+pub mod StayLemmas
 pub mod StepLemmas
 pub mod CurrentLemmas
 pub mod EntriesAlike

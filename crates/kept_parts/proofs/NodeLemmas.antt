@@ -1,18 +1,25 @@
 -- The devices of the nodes, one node after another.
 use Rattle.std.proofs.Common.{◌≡◌, ℕ, List, [], ◌∷◌, ◌++◌, map, Option, Some, None, refl, sym, ap, ◌∙◌, subst}
-use Rattle.std.proofs.Common.{append_assoc, filter_map}
+use Rattle.std.proofs.Common.{append_assoc, filter_map, true, is_some}
 use Rattle.std.proofs.lemmas.List.{append-nil, map-append}
-use Rattle.std.proofs.lemmas.List.Elements.{filter_map-append}
-use Rattle.std.specs.List.{cons_option}
+use Rattle.std.proofs.lemmas.Cmp.{nat_cmp_total}
+use Rattle.std.proofs.lemmas.List.Elements.{filter_map-append, All-append, All-cons, All-head, All-nil, All-tail}
+use Rattle.std.proofs.lemmas.List.Elements.{All-weaker}
+use Rattle.std.proofs.lemmas.Map.Lookups.{exact_unsigned}
+use Rattle.std.specs.List.{cons_option, All}
 use Rattle.std.specs.Option.{option_to_list}
 use Rattle.std.specs.FinMap.{entries}
 use Rattle.ini_text.specs.Content.{Content as Device}
+use Rattle.co_base.proofs.EachLemmas.{all_entries}
 use Rattle.co_project.specs.declared.node.Node.{Node}
 use Rattle.co_project.specs.Project.{Content as Project}
+use Rattle.co_project.specs.Sound.{IsNodeOf, IsSound}
+use Rattle.co_project.specs.Tables.{text_at}
 use Rattle.co_memo.specs.Work.{Work}
 use Rattle.co_memo.specs.Stale.{AreBrought}
 use Rattle.co_memo.proofs.Brought.{both, none}
-use Rattle.kept_parts.specs.Kept.{given, held, numbered, of_node, same_part, IsOf}
+use Rattle.kept_parts.specs.Kept.{fresh, given, held, numbered, of_node, same_part, HaveNoMark, IsOf}
+use Rattle.kept_parts.specs.declared.part.Part.{Part}
 use Rattle.kept_parts.specs.declared.kept_parts.KeptParts.{KeptParts}
 
 -- the nodes before the rest are done
@@ -23,11 +30,19 @@ pub record SoFar (p : Project) (rest : List (ℕ × Node)) (a b : KeptParts) (k 
   pub brought : AreBrought same_part (given p) (map of_node done) (held a) (held b) k m
   pub value : devices ≡ filter_map (numbered p) done
   pub is : IsOf p b
+  pub unmarked : HaveNoMark b (map of_node done)
 
 pub so_far_start : (p : Project) (rest : List (ℕ × Node)) (a : KeptParts) (k : Work) (devices : List (ℕ × Device))
     → rest ≡ entries p.nodes → devices ≡ [] → IsOf p a → SoFar p rest a a k k devices
 so_far_start p rest a k devices e f is =
-    record { done = []; all = e; brought = none same_part (given p) (held a) k; value = f; is = is }
+    record {
+      done = [];
+      all = e;
+      brought = none same_part (given p) (held a) k;
+      value = f;
+      is = is;
+      unmarked = All-nil (λ q. fresh a q ≡ true);
+    }
 
 one_option : {Y : Type 0} (o : Option Y) → cons_option o [] ≡ option_to_list o
 one_option None = refl
@@ -39,8 +54,9 @@ filter_map-one h x = one_option (h x)
 pub so_far_more : (p : Project) (e : ℕ × Node) (rest : List (ℕ × Node)) (a b c : KeptParts) (k m n : Work)
     (devices more : List (ℕ × Device)) → SoFar p (e ∷ rest) a b k m devices
     → AreBrought same_part (given p) (of_node e ∷ []) (held b) (held c) m n → IsOf p c
-    → more ≡ devices ++ option_to_list (numbered p e) → SoFar p rest a c k n more
-so_far_more p e rest a b c k m n devices more s x is v =
+    → more ≡ devices ++ option_to_list (numbered p e) → fresh c (of_node e) ≡ true
+    → ((q : Part) → fresh b q ≡ true → fresh c q ≡ true) → SoFar p rest a c k n more
+so_far_more p e rest a b c k m n devices more s x is v here stays =
     record {
       done = s.done ++ e ∷ [];
       all = append_assoc s.done (e ∷ []) rest ∙ s.all;
@@ -52,7 +68,26 @@ so_far_more p e rest a b c k m n devices more s x is v =
           ∙ sym (filter_map-append (numbered p) s.done (e ∷ [])
           ∙ ap (λ d. filter_map (numbered p) s.done ++ d) (filter_map-one (numbered p) e));
       is = is;
+      unmarked =
+          rw (map-append of_node s.done (e ∷ []))
+          (All-append (λ q. fresh c q ≡ true) (map of_node s.done) (of_node e ∷ [])
+          (All-weaker (λ q. fresh b q ≡ true) (λ q. fresh c q ≡ true) stays (map of_node s.done) s.unmarked)
+          (All-cons (λ q. fresh c q ≡ true) (of_node e) [] here (All-nil (λ q. fresh c q ≡ true))));
     }
+
+all_middle : {X : Type 0} (P : X → Type 0) (before : List X) (x : X) (after : List X) → All P (before ++ x ∷ after) → P x
+all_middle P [] x after all = All-head P x after all
+all_middle P (b ∷ before) x after all = all_middle P before x after (All-tail P b (before ++ x ∷ after) all)
+
+-- the text of the EDS of the next node is there
+pub eds_there : (p : Project) (e : ℕ × Node) (rest : List (ℕ × Node)) (a b : KeptParts) (k m : Work)
+    (devices : List (ℕ × Device)) → SoFar p (e ∷ rest) a b k m devices → IsSound p
+    → is_some (text_at p.texts e.1.eds) ≡ true
+unfolding IsNodeOf
+eds_there p e rest a b k m devices s sound =
+    (all_middle (λ (e : ℕ × Node). IsNodeOf p e.0 e.1) s.done e rest
+    (subst (All (λ (e : ℕ × Node). IsNodeOf p e.0 e.1)) (sym s.all)
+    (all_entries nat_cmp_total exact_unsigned (IsNodeOf p) p.nodes sound.nodes))).5
 
 module _ (p : Project) (a b : KeptParts) (k m : Work) (devices : List (ℕ × Device)) (s : SoFar p [] a b k m devices)
   where
@@ -66,3 +101,6 @@ module _ (p : Project) (a b : KeptParts) (k m : Work) (devices : List (ℕ × De
 
     pub so_far_value : devices ≡ filter_map (numbered p) (entries p.nodes)
     so_far_value = subst (λ (ns : List (ℕ × Node)). devices ≡ filter_map (numbered p) ns) whole s.value
+
+    pub so_far_unmarked : HaveNoMark b (map of_node (entries p.nodes))
+    so_far_unmarked = subst (λ (ns : List (ℕ × Node)). HaveNoMark b (map of_node ns)) whole s.unmarked

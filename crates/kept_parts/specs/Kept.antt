@@ -2,6 +2,7 @@
 use Rattle.std.specs.Prelude.{◌≡◌, ℕ, Bool, true, false, List, [], ◌∷◌, ◌++◌, map, Option, Some, ◌==◌, option_map}
 use Rattle.std.specs.Prelude.{option_and_then, filter_map}
 use Rattle.std.specs.FinMap.{entries}
+use Rattle.std.specs.List.{All}
 use Rattle.std.specs.Option.{option_map_or}
 use Rattle.std.specs.Ordering.{eq_by_cmp}
 use Rattle.ini_text.specs.Content.{Content as Device, content_of}
@@ -100,15 +101,28 @@ fresh k (part.Writes n) = is_fresh k.writes n
 fresh k (part.Concise n) = is_fresh k.concise n
 fresh k (part.Dcf n) = is_fresh k.dcf n
 
--- THE RELATION: each part without a mark is held as it is to be built from the project's inputs of now
-unfoldable pub IsOf : Project → KeptParts → Type 0
-IsOf p k = (q : Part) → fresh k q ≡ true → held k q ≡ given p q
-
--- ---- what is reached
+-- each part without a mark is held as it is to be built from the project's inputs of now
+abbrev pub AreOfNow : Project → KeptParts → Type 0
+AreOfNow p k = (q : Part) → fresh k q ≡ true → held k q ≡ given p q
 
 -- the device of a node
 abbrev pub of_node : ℕ × Node → Part
 of_node e = part.Device e.1.eds
+
+-- none of these parts has a mark
+abbrev pub HaveNoMark : KeptParts → List Part → Type 0
+HaveNoMark k qs = All (λ q. fresh k q ≡ true) qs
+
+-- where the plan has no mark, the devices of the nodes have none either
+abbrev pub IsClosed : Project → KeptParts → Type 0
+IsClosed p k = k.plan.fresh ≡ true → HaveNoMark k (map of_node (entries p.nodes))
+
+-- THE RELATION: each part without a mark is held as it is to be built from the project's inputs of now, and a plan
+-- without a mark has no device with a mark below it
+unfoldable pub IsOf : Project → KeptParts → Type 0
+IsOf p k = AreOfNow p k × IsClosed p k
+
+-- ---- what is reached
 
 abbrev pub own_device : Project → ℕ → List Part
 own_device p n = option_map_or (λ (node : Node). part.Device node.eds ∷ []) (node_at p.nodes n) []

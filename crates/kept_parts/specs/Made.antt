@@ -1,7 +1,8 @@
 -- What parts are, by the inputs that they are built from.
-use Rattle.std.specs.Prelude.{ℕ, List, map}
+use Rattle.std.specs.Prelude.{ℕ, Bool, List, map, Option, Some, None, if◌then◌else◌}
 use Rattle.std.specs.FinMap.{entries}
 use Rattle.ini_text.specs.Change.{text_of}
+use Rattle.ini_text.specs.Content.{Content as Device, Section}
 use Rattle.concise_dcf.specs.declared.write.Write.{Write}
 use Rattle.concise_dcf.specs.Concise.{text_of as concise_text}
 use Rattle.eds_dcf.specs.Dcf.{dcf_sections}
@@ -9,6 +10,7 @@ use Rattle.pdo_stations.specs.Devices.{devices_of}
 use Rattle.pdo_plan.specs.declared.planned_message.PlannedMessage.{PlannedMessage}
 use Rattle.pdo_plan.specs.Plan.{plan_of}
 use Rattle.pdo_links.specs.Writes.{node_writes}
+use Rattle.project_plan.specs.Named.{is_flagged}
 use Rattle.kept_parts.specs.declared.plan_from.PlanFrom.{PlanFrom}
 use Rattle.kept_parts.specs.declared.writes_from.WritesFrom.{WritesFrom}
 use Rattle.kept_parts.specs.declared.concise_from.ConciseFrom.{ConciseFrom}
@@ -18,6 +20,10 @@ use Rattle.kept_parts.specs.Written.{Written}
 -- the plan of the messages over the devices of the nodes
 unfoldable pub plan_made : PlanFrom → List PlannedMessage
 plan_made f = plan_of (devices_of (map (λ d. (d.0, d.1.sections)) f.devices)) (entries f.messages)
+
+-- a node that messages name, with the sections of its device
+abbrev pub sections_if : List Bool → ℕ × Device → Option (ℕ × List Section)
+sections_if flags d = if is_flagged flags d.0 then Some (d.0, d.1.sections) else None
 
 -- the writes of a node
 unfoldable pub writes_made : WritesFrom → List Write

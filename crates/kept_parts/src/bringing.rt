@@ -1,10 +1,11 @@
 //! Parts that are brought up to date, one after what it is built from.
-ghost use Rattle.std.specs.Prelude.{◌≡◌, ◌∷◌, [], OnOk, IfOk, map, option_map, option_and_then, filter_map};
+ghost use Rattle.std.specs.Prelude.{◌≡◌, ◌∷◌, [], true, OnOk, IfOk, Some, is_some, map, option_map, option_and_then};
+ghost use Rattle.std.specs.Prelude.{filter_map};
 ghost use Rattle.std.specs.FinMap as finmap;
 ghost use Rattle.co_memo.specs.Stale.{AreBrought};
-ghost use Rattle.co_project.specs.Tables.{node_at};
-ghost use Rattle.kept_parts.specs.Kept.{device_at, for_plan, for_writes, given, held, numbered, of_node, own_device};
-ghost use Rattle.kept_parts.specs.Kept.{plan_from, reached, same_part, writes_from, IsOf};
+ghost use Rattle.co_project.specs.Tables.{node_at, text_at};
+ghost use Rattle.kept_parts.specs.Kept.{device_at, for_plan, for_writes, fresh, given, held, numbered, of_node};
+ghost use Rattle.kept_parts.specs.Kept.{own_device, plan_from, reached, same_part, writes_from, HaveNoMark, IsOf};
 ghost use Rattle.kept_parts.specs.Made.{plan_made, written_made};
 
 use crate::concise_now::ConciseNow;
@@ -34,6 +35,9 @@ impl KeptParts {
         ensures brings { OnOk result (AreBrought same_part (given project.now) (Part.Device name.now ∷ [])
             (held self.old) (held self.new) meter.old meter.new) }
         ensures value { IfOk result (λ d. d ≡ device_at project.now name.now) }
+        ensures unmarked { OnOk result (fresh self.new (Part.Device name.now)
+            ≡ is_some (text_at project.now.texts name.now)) }
+        ensures stays { (q : Part) → fresh self.old q ≡ true → fresh self.new q ≡ true }
     {
         self.devices.bring(self.alloc, project, name, meter)?;
         let device = share_of(self.devices.value(name))?;
@@ -53,13 +57,33 @@ impl KeptParts {
             (map of_node (finmap.entries project.now.nodes))
             (held self.old) (held self.new) meter.old meter.new) }
         ensures value { IfOk result (λ d. d ≡ filter_map (numbered project.now) (finmap.entries project.now.nodes)) }
+        ensures unmarked { OnOk result (HaveNoMark self.new (map of_node (finmap.entries project.now.nodes))) }
     {
+        project.keeps_to_rules();
         let mut devices = NodeDevices::new(self.alloc);
         for (number, node) in project.nodes() {
             let device = self.bring_device(project, node.eds.as_slice(), meter)?;
             devices.push(*number, device)?;
         }
         Ok(devices)
+    }
+
+    /// Brings the plan up to date after the devices of all nodes. Where it has no mark nothing is looked at.
+    fn settle_plan(&mut self, project: &Project, meter: &mut Meter) -> Result<(), AllocError>
+        requires { IsOf project.now self.old }
+        ensures is_of { IsOf project.now self.new }
+        ensures brings { OnOk result (AreBrought same_part (given project.now) (for_plan project.now)
+            (held self.old) (held self.new) meter.old meter.new) }
+        ensures kept { OnOk result (self.new.plan.kept ≡ Some (plan_from project.now)) }
+    {
+        if self.plan.is_fresh() {
+            return Ok(());
+        }
+        let devices = self.bring_devices(project, meter)?;
+        let messages = project.messages();
+        self.plan
+            .bring(self.alloc, PlanNow { devices, messages }, meter)?;
+        Ok(())
     }
 
     /// Brings the plan up to date, and shares it.
@@ -74,10 +98,7 @@ impl KeptParts {
             (held self.old) (held self.new) meter.old meter.new) }
         ensures value { IfOk result (λ p. p ≡ plan_made (plan_from project.now)) }
     {
-        let devices = self.bring_devices(project, meter)?;
-        let messages = project.messages();
-        self.plan
-            .bring(self.alloc, PlanNow { devices, messages }, meter)?;
+        self.settle_plan(project, meter)?;
         let Some(plan) = share_of(self.plan.value())? else {
             unreachable!();
         };

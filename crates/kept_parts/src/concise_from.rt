@@ -1,8 +1,8 @@
 //! What the concise DCF of a node is built from.
 
-use crate::node_writes::NodeWrites;
 use co_base::Octets;
 use co_memo::{Makes, Shared};
+use project_plan::NodeWrites;
 
 /// The writes of a node.
 #[derive(Drop)]

@@ -4,10 +4,10 @@ ghost use Rattle.kept_parts.specs.Offered.{concise_by, offered_concise};
 
 use crate::concise_from::ConciseFrom;
 use crate::device_writes::DeviceWrites;
-use crate::node_writes::NodeWrites;
 use co_base::Octets;
 use co_memo::{Offers, Shared};
 use concise_dcf::{encode, same_writes};
+use project_plan::NodeWrites;
 use std::alloc::{AllocError, Global};
 
 /// The writes of a node.

@@ -1,9 +1,9 @@
 //! What the DCF of a node is built from.
 
-use crate::node_writes::NodeWrites;
 use co_base::Octets;
 use co_memo::{Makes, Shared};
 use eds_device::Device;
+use project_plan::NodeWrites;
 
 /// The device, the name, the writes and the number of a node, and the bit rate in kbit/s.
 #[derive(Drop)]

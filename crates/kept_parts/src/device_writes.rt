@@ -4,9 +4,9 @@ ghost use Rattle.ini_text.specs.Change.{text_of};
 ghost use Rattle.eds_dcf.specs.Dcf.{dcf_sections};
 ghost use Rattle.kept_parts.specs.Written.{AreValuesOf};
 
-use crate::node_writes::NodeWrites;
 use co_memo::Shared;
 use eds_device::Device;
+use project_plan::NodeWrites;
 use std::alloc::{AllocError, Global};
 use std::marker::Model;
 

@@ -11,7 +11,6 @@ ghost use Rattle.kept_devices.specs.Slots.{text_kept};
 use crate::concise_from::ConciseFrom;
 use crate::dcf_from::DcfFrom;
 use crate::device_writes::DeviceWrites;
-use crate::node_writes::NodeWrites;
 use crate::part::Part;
 use crate::plan_from::PlanFrom;
 use crate::writes_from::WritesFrom;
@@ -21,6 +20,7 @@ use co_project::Project;
 use eds_device::Device;
 use kept_devices::DeviceShelf;
 use pdo_plan::Plan;
+use project_plan::NodeWrites;
 use std::alloc::{AllocError, Global};
 
 /// The parts of a project that are kept, each with the inputs that it was built from, and a mark where
@@ -54,9 +54,9 @@ impl KeptParts {
     /// built anew, one whose subject is gone is let go, and the others stay. Want of memory is the
     /// only error; what is kept is then still of the project.
     ///
-    /// A part without a mark costs the logarithm of the number of its kind, so that an unmarked DCF
-    /// takes time by the number of nodes. A marked one is compared with its inputs of now, the
-    /// cheapest of them first, without memory, and costs what building it does where they differ.
+    /// A part without a mark costs the logarithm of the numbers of nodes and of texts: what it is built from
+    /// is not looked at. A marked one is compared with its inputs of now, the cheapest of them first, without
+    /// memory, and costs what building it does where they differ; a marked plan walks the nodes.
     pub fn refresh(
         &mut self,
         part: &Part,

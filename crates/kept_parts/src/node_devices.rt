@@ -1,10 +1,12 @@
 //! The devices of nodes.
-ghost use Rattle.std.specs.Prelude.{◌≡◌, ◌↔◌, IsTrue, IfOk, OnOk, [], ◌++◌, map, option_map};
+ghost use Rattle.std.specs.Prelude.{◌≡◌, ◌↔◌, IsTrue, IfOk, OnOk, [], ◌++◌, filter_map, option_map};
 ghost use Rattle.std.specs.Option.{option_to_list};
 ghost use Rattle.pdo_stations.specs.Shown.{nodes_of};
+ghost use Rattle.kept_parts.specs.Made.{sections_if};
 
 use co_memo::Shared;
 use eds_device::Device;
+use project_plan::Named;
 use std::alloc::{AllocError, Global};
 use std::marker::Model;
 
@@ -59,15 +61,21 @@ fn copies(
     Ok(copy)
 }
 
+/// Those of the nodes that are named, with references to their devices.
 fn references<'a>(
     alloc: Global,
     items: &'a [(u8, Shared<Device>)],
+    named: &Named,
 ) -> Result<Vec<(u8, &'a Device)>, AllocError>
-    ensures { IfOk result (λ nodes. nodes_of nodes.items ≡ map (λ d. (d.0, d.1.sections)) items.now) }
+    ensures { IfOk result (λ nodes. nodes_of nodes.items ≡ filter_map (sections_if named.now) items.now) }
 {
     let mut nodes = Vec::new(alloc);
-    for (number, device) in items {
-        nodes.push((*number, device.get()))?;
+    let mut rest = items;
+    while let [(number, device), after @ ..] = rest {
+        if named.contains(*number) {
+            nodes.push((*number, device.get()))?;
+        }
+        rest = after;
     }
     Ok(nodes)
 }
@@ -109,11 +117,11 @@ impl NodeDevices {
         Ok(NodeDevices { items })
     }
 
-    /// The nodes with references to their devices. Takes time and memory by their number; want of
-    /// memory is the only error.
-    pub fn references(&self, alloc: Global) -> Result<Vec<(u8, &Device)>, AllocError>
-        ensures { IfOk result (λ nodes. nodes_of nodes.items ≡ map (λ d. (d.0, d.1.sections)) self.now) }
+    /// The nodes that are named, with references to their devices. Takes time by the number of nodes, and
+    /// memory by that of the named ones; want of memory is the only error.
+    pub fn references(&self, alloc: Global, named: &Named) -> Result<Vec<(u8, &Device)>, AllocError>
+        ensures { IfOk result (λ nodes. nodes_of nodes.items ≡ filter_map (sections_if named.now) self.now) }
     {
-        references(alloc, &self.items)
+        references(alloc, &self.items, named)
     }
 }

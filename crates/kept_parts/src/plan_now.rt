@@ -1,12 +1,24 @@
 //! The inputs of the plan as they lie in a project.
 ghost use Rattle.std.specs.Prelude.{◌≡◌, ◌↔◌, IfOk, IsTrue};
+ghost use Rattle.kept_parts.specs.Made.{plan_made};
 
 use crate::node_devices::NodeDevices;
 use crate::plan_from::PlanFrom;
 use co_memo::{Offers, Shared};
 use co_messages::Messages;
 use pdo_plan::Plan;
+use project_plan::Named;
 use std::alloc::{AllocError, Global};
+
+/// The plan of messages over the devices of the nodes, of which it looks at those that the messages name.
+fn planned(alloc: Global, devices: &NodeDevices, messages: &Messages) -> Result<Plan, AllocError>
+    ensures { IfOk result (λ plan. plan ≡ plan_made (record { devices = devices.now; messages = messages.now })) }
+{
+    let named = Named::by(messages);
+    let nodes = devices.references(alloc, &named)?;
+    let plan = pdo_links::plan(alloc, &nodes, messages)?;
+    Ok(plan)
+}
 
 /// The nodes with their devices, and the messages.
 #[derive(Drop)]
@@ -28,10 +40,8 @@ impl<'a> Offers<PlanFrom, Shared<Plan>> for PlanNow<'a> {
         Ok(PlanFrom { devices, messages })
     }
 
-    #[tactic(auto, unfolding(crate::specs::Made::plan_made))]
     fn make(&self, alloc: Global) -> Result<Shared<Plan>, AllocError> {
-        let nodes = self.devices.references(alloc)?;
-        let plan = pdo_links::plan(alloc, &nodes, self.messages)?;
+        let plan = planned(alloc, &self.devices, self.messages)?;
         Shared::new(alloc, plan)
     }
 }

@@ -75,6 +75,9 @@ impl KeptParts {
     pub fn touch(&mut self, edit: &Edit)
         ensures held { (q : Part) → held self.new q ≡ held self.old q }
 
+        // These have a mark afterwards, and those that had one; no other has.
+        ensures marks { Marks (touched edit.now) self.old self.new }
+
         // What is held of a project is held of it still, and of the project that the edit makes of it.
         ensures same { (p : Project) → IsOf p self.old → IsOf p self.new }
         ensures follows { Follows edit.now self.old self.new }

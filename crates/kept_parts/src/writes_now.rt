@@ -2,13 +2,13 @@
 ghost use Rattle.pdo_plan.specs.Plan.{IsMadeFor};
 
 use crate::device_writes::DeviceWrites;
-use crate::node_writes::NodeWrites;
 use crate::writes_from::WritesFrom;
 use co_memo::{Offers, Shared};
 use co_params::Params;
 use co_project::Project;
 use eds_device::Device;
 use pdo_plan::Plan;
+use project_plan::NodeWrites;
 use std::alloc::{AllocError, Global};
 
 /// The plan, and the parameters, the device and the number of a node. The plan is made for that device

@@ -1,4 +1,4 @@
--- Lists of pointers, and what lies behind them.
+-- What lies behind pointers, and at places of lists.
 use Rattle.std.proofs.Common.{◌≡◌, ℕ, zero, suc, ◌<◌, ◌≤◌, false, length, arith, List, [], ◌∷◌, Result, Ok, Err, Option}
 use Rattle.std.proofs.Common.{refl, Some, None, IfOk, IfSome, All, option_map, sym, ap, subst, ◌∙◌, slice_get}
 use Rattle.std.proofs.lemmas.List.Elements.{All-head, All-tail}
@@ -7,27 +7,12 @@ use Rattle.std.specs.Prelude.{get_or, nat_lt}
 use Rattle.std.specs.declared.rc.Rc.{Rc}
 use Rattle.std.proofs.lemmas.Bool.Decides.{nat_tests}
 use Rattle.co_parts.specs.Shared.{shared}
-use Rattle.network_image.specs.Pointers.{behind}
 
 -- what holds of all holds at a place
 pub all_at : {X : Type 0} (P : X → Type 0) (xs : List X) (k : ℕ) → All P xs → IfSome (slice_get xs k) P
 all_at P [] k all = tt
 all_at P (x ∷ xs) zero all = All-head P x xs all
 all_at P (x ∷ xs) (suc k) all = all_at P xs k (All-tail P x xs all)
-
-module _ {X Z : Type 0} (pointers : List (Rc X Z)) (k : ℕ) (values : List X) (are : behind pointers ≡ values) where
-  -- what lies behind the pointer at a place
-  pub behind_at : (pointer : Rc X Z) → k < length pointers → pointer ≡ get_or pointers k pointer
-      → slice_get values k ≡ Some pointer.value
-  behind_at pointer within is =
-      ap (λ vs. slice_get vs k) (sym are) ∙ slice_get-map (λ (p : Rc X Z). p.value) pointers k
-      ∙ ap (option_map (λ (p : Rc X Z). p.value)) (slice_get-get_or pointers k pointer within ∙ ap Some (sym is))
-
-  -- a place behind the last
-  pub none_behind : false ≡ nat_lt k (length pointers) → None ≡ slice_get values k
-  none_behind past = let behind_all : length pointers ≤ k = grind (arith, nat_tests) in
-      ap (option_map (λ (p : Rc X Z). p.value)) (sym (slice_get_past pointers k behind_all))
-      ∙ sym (slice_get-map (λ (p : Rc X Z). p.value) pointers k) ∙ ap (λ vs. slice_get vs k) are
 
 -- what holds of a value holds behind a copy of its pointer
 pub copied_fits : {X Z E : Type 0} (P : X → Type 0) (result : Result (Option (Rc X Z)) E) (x : X)

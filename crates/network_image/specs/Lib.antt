@@ -1,6 +1,5 @@
 pub mod Image
 pub mod Parts
-pub mod Pointers
 pub mod Held
 pub mod Network
 pub mod Steps

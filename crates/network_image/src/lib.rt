@@ -7,7 +7,6 @@ mod made;
 mod network_parts;
 mod node_parts;
 mod node_table;
-mod node_writes;
 mod pointer;
 mod reading;
 mod settable;
@@ -20,7 +19,6 @@ pub use made::{make_defaults, make_expect, make_roster, make_shape, make_writes}
 pub use network_parts::NetworkParts;
 pub use node_parts::NodeParts;
 pub use node_table::NodeTable;
-pub use node_writes::NodeWrites;
 pub use settable::Settable;
 pub use steps::steps_of;
 pub use window_events::{LAST_TIME, LAST_WINDOW, window_split};

@@ -6,13 +6,13 @@ ghost use Rattle.pdo_links.specs.Writes.{node_writes};
 ghost use Rattle.network_image.specs.Image.{roster_of_project};
 ghost use Rattle.std.specs.FinMap as map;
 
-use crate::node_writes::NodeWrites;
 use co_base::Octets;
 use co_dict::{Dict, Shape};
 use co_parts::{Identity, Roster};
 use co_project::{Params, Project};
 use eds_device::Device;
 use pdo_links::Plan;
+use project_plan::NodeWrites;
 use std::alloc::{AllocError, Global};
 use std::rc::Rc;
 
@@ -84,9 +84,10 @@ pub fn make_writes(
     params: &Params,
     device: &Device,
     node: u8,
-) -> Result<NodeWrites, AllocError>
-    ensures { IfOk result (λ writes. writes ≡ node_writes plan.now params.now device.now.sections node) }
+) -> Result<Rc<NodeWrites>, AllocError>
+    ensures { IfOk result (λ writes. writes.value ≡ node_writes plan.now params.now device.now.sections node) }
 {
     let writes = pdo_links::writes(alloc, plan, params, device, node)?;
-    NodeWrites::new(alloc, writes)
+    let writes = Rc::new(alloc, NodeWrites::new(writes))?;
+    Ok(writes)
 }

@@ -141,14 +141,19 @@ impl NetworkParts {
         self.nodes.expect(node)
     }
 
-    /// The write of a node's concise DCF with this number, from 0, or none: its data has 1 to 512 bytes,
-    /// and its number isn't the greatest.
-    pub fn write(&self, node: u8, place: u32) -> Result<Option<Rc<Write>>, AllocError>
+    /// A copy of the write of a node's concise DCF with this number, from 0, or none: its data has 1 to 512
+    /// bytes, and its number isn't the greatest.
+    pub fn write(
+        &self,
+        alloc: Global,
+        node: u8,
+        place: u32,
+    ) -> Result<Option<Rc<Write>>, AllocError>
         ensures value { IfOk result (λ r. image_held self.now (part.Boot node place) ≡ BootIs (shared r)) }
         ensures fits { IfOk result (λ r. IfSome (shared r) IsBootWrite) }
         ensures last { IfOk result (λ r. IfSome (shared r) (λ write. place < greatest_place)) }
     {
-        self.nodes.write(node, place)
+        self.nodes.write(alloc, node, place)
     }
 
     /// The events of window i, or none, by time and then by number: each has its time there, and sets no

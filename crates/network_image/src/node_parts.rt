@@ -8,7 +8,6 @@ ghost use Rattle.co_parts.specs.Images.{greatest_place, IsBootWrite};
 ghost use Rattle.co_parts.specs.Shared.{shared};
 
 use crate::made::{make_defaults, make_expect, make_shape, make_writes};
-use crate::node_writes::NodeWrites;
 use crate::pointer::some_pointer;
 use co_dict::{Dict, Entry, Shape};
 use co_parts::Identity;
@@ -16,9 +15,19 @@ use co_project::Params;
 use concise_dcf::Write;
 use eds_device::Device;
 use pdo_links::Plan;
+use project_plan::NodeWrites;
 use std::alloc::{AllocError, Global};
 use std::marker::Model;
 use std::rc::Rc;
+
+/// A pointer to a copy of a write.
+fn copied(alloc: Global, write: &Write) -> Result<Rc<Write>, AllocError>
+    ensures { IfOk result (λ copy. copy.value ≡ write.now) }
+{
+    let write = write.clone()?;
+    let copy = Rc::new(alloc, write)?;
+    Ok(copy)
+}
 
 /// The parts of a node, each made once.
 #[derive(Drop)]
@@ -26,7 +35,7 @@ pub struct NodeParts {
     defaults: Rc<Dict>,
     shape: Rc<Shape>,
     expect: Rc<Identity>,
-    writes: NodeWrites,
+    writes: Rc<NodeWrites>,
 }
 
 impl Model for NodeParts {
@@ -47,7 +56,7 @@ impl Model for NodeParts {
       defaults = node.defaults.value;
       shape = node.shape.value;
       expect = node.expect.value;
-      writes = node.writes;
+      writes = node.writes.value;
     } };
 }
 
@@ -57,13 +66,13 @@ impl NodeParts {
         defaults: Rc<Dict>,
         shape: Rc<Shape>,
         expect: Rc<Identity>,
-        writes: NodeWrites,
+        writes: Rc<NodeWrites>,
     ) -> NodeParts
         ensures { result ≡ record {
           defaults = defaults.value;
           shape = shape.value;
           expect = expect.value;
-          writes = writes;
+          writes = writes.value;
         } }
     {
         NodeParts {
@@ -122,12 +131,18 @@ impl NodeParts {
         some_pointer(&self.expect)
     }
 
-    /// The write at a place, counted from 0.
-    pub(crate) fn write(&self, place: u32) -> Result<Option<Rc<Write>>, AllocError>
+    /// A copy of the write at a place, counted from 0, if there are so many. Takes memory for the copy.
+    pub(crate) fn write(&self, alloc: Global, place: u32) -> Result<Option<Rc<Write>>, AllocError>
         ensures write { IfOk result (λ write. shared write ≡ slice_get self.now.writes place) }
         ensures fits { IfOk result (λ write. IfSome (shared write) IsBootWrite) }
         ensures last { IfOk result (λ write. IfSome (shared write) (λ one. place < greatest_place)) }
     {
-        self.writes.get(place)
+        match self.writes.as_slice().get(place as usize) {
+            Some(write) => {
+                let copy = copied(alloc, write)?;
+                Ok(Some(copy))
+            }
+            None => Ok(None),
+        }
     }
 }

@@ -94,15 +94,20 @@ impl NodeTable {
         }
     }
 
-    /// The write of a node at a place, counted from 0.
-    pub(crate) fn write(&self, id: u8, place: u32) -> Result<Option<Rc<Write>>, AllocError>
+    /// A copy of the write of a node at a place, counted from 0.
+    pub(crate) fn write(
+        &self,
+        alloc: Global,
+        id: u8,
+        place: u32,
+    ) -> Result<Option<Rc<Write>>, AllocError>
         ensures write { IfOk result (λ write. shared write ≡ option_and_then (λ (h : Held). slice_get h.writes place)
             (map.get self.now id)) }
         ensures fits { IfOk result (λ write. IfSome (shared write) IsBootWrite) }
         ensures last { IfOk result (λ write. IfSome (shared write) (λ one. place < greatest_place)) }
     {
         match self.get(id) {
-            Some(parts) => parts.write(place),
+            Some(parts) => parts.write(alloc, place),
             None => Ok(None),
         }
     }

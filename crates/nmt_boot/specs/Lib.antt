@@ -3,3 +3,4 @@ pub mod Ahead
 pub mod Beats
 pub mod Ends
 pub mod Sending
+pub mod Shared

@@ -22,18 +22,19 @@ pub struct Booting {
     pub stage: BootStage,
 }
 
-impl Booting {
-    /// An equal node.
-    pub(crate) fn copy(&self) -> Result<Booting, AllocError>
-        ensures { IfOk result (λ booting. booting ≡ self.now) }
-    {
+impl Clone for Booting {
+    ghost is_clone = { λ a b. b ≡ a };
+
+    fn clone(&self) -> Result<Booting, AllocError> {
         let stage = self.stage.copy()?;
         Ok(Booting {
             number: self.number,
             stage,
         })
     }
+}
 
+impl Booting {
     /// Whether it is the same node at the same stage.
     pub(crate) fn same(&self, other: &Booting) -> bool
         ensures { IsTrue result ↔ (self.now ≡ other.now) }

@@ -6,6 +6,7 @@ pub mod laws;
 mod manager;
 mod node_table;
 mod sent;
+mod shared_nodes;
 mod telling;
 
 pub use booting::Booting;

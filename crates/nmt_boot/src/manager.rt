@@ -109,7 +109,7 @@ impl Manager {
             heartbeat: None,
             sync_period: 0,
             sync: None,
-            nodes: NodeTable::none(alloc),
+            nodes: NodeTable::none(),
             waiting: Pending::new(alloc),
         }
     }
@@ -147,7 +147,7 @@ impl Manager {
         if self.spent {
             return Err(AllocError);
         }
-        let nodes = self.nodes.copy(self.alloc)?;
+        let nodes = self.nodes.copy()?;
         let waiting = self.waiting.copy()?;
         Ok(Manager {
             alloc: self.alloc,
@@ -403,7 +403,8 @@ impl Manager {
         ensures notes { OnOk result (notes.new ≡ notes.old ++ (rules.time_outs t self.old).1) }
         ensures notes_before { BeginsWith notes.new notes.old }
     {
-        self.nodes.time_outs(t, &mut self.waiting, notes)
+        self.nodes
+            .time_outs(self.alloc, t, &mut self.waiting, notes)
     }
 
     /// The heartbeat, where it is due at the moment t.

@@ -12,6 +12,7 @@ ghost use Rattle.nmt_boot.specs.Sending.{sending_of};
 
 use crate::booting::Booting;
 use crate::sent::Sent;
+use crate::shared_nodes::SharedNodes;
 use can_frame::Pending;
 use co_base::earlier;
 use node_boot::{BootStage, Boots, NoteKind, Notes, deadline_of, is_timed_out};
@@ -20,11 +21,11 @@ use std::marker::Model;
 
 /// The nodes of a manager with their boots, by number.
 ///
-/// The first of their deadlines is kept, so that asking for it takes constant time. It is not known where a
-/// call found no memory; then it is looked for anew.
+/// Copies share them. The first of their deadlines is kept, so that asking for it takes constant time. It is
+/// not known where a call found no memory; then it is looked for anew.
 #[derive(Drop)]
 pub(crate) struct NodeTable {
-    nodes: Vec<Booting>,
+    nodes: SharedNodes,
     known: bool,
     deadline: Option<u64>,
 }
@@ -37,9 +38,9 @@ impl Model for NodeTable {
 
     ghost Value = { List Booting };
 
-    ghost view = { λ table. table.nodes.items };
+    ghost view = { λ table. table.nodes };
 
-    ghost invariant = { λ table. IsTrue table.known → table.deadline ≡ earliest (deadlines table.nodes.items) };
+    ghost invariant = { λ table. IsTrue table.known → table.deadline ≡ earliest (deadlines table.nodes) };
 }
 
 /// Nodes of which no boot-up came yet.
@@ -54,17 +55,6 @@ fn unseen_nodes(alloc: Global, numbers: &[u8]) -> Result<Vec<Booting>, AllocErro
         })?;
     }
     Ok(nodes)
-}
-
-/// Equal nodes.
-fn copy_nodes(alloc: Global, nodes: &[Booting]) -> Result<Vec<Booting>, AllocError>
-    ensures { IfOk result (λ copies. copies.items ≡ nodes.now) }
-{
-    let mut copies = Vec::new(alloc);
-    for node in nodes {
-        copies.push(node.copy()?)?;
-    }
-    Ok(copies)
 }
 
 /// Whether two lists of nodes are the same.
@@ -138,11 +128,11 @@ fn lies_after(t: u64, moment: Option<u64>) -> bool
 impl NodeTable {
     /// No nodes. Takes no memory.
     #[tactic(auto, unfolding(crate::specs::Manager::deadlines))]
-    pub(crate) fn none(alloc: Global) -> NodeTable
+    pub(crate) fn none() -> NodeTable
         ensures { result ≡ [] }
     {
         NodeTable {
-            nodes: Vec::new(alloc),
+            nodes: SharedNodes::none(),
             known: true,
             deadline: None,
         }
@@ -154,6 +144,7 @@ impl NodeTable {
     {
         let nodes = unseen_nodes(alloc, numbers)?;
         let deadline = first_of(&nodes);
+        let nodes = SharedNodes::of(alloc, nodes)?;
         Ok(NodeTable {
             nodes,
             known: true,
@@ -161,11 +152,11 @@ impl NodeTable {
         })
     }
 
-    /// An equal table.
-    pub(crate) fn copy(&self, alloc: Global) -> Result<NodeTable, AllocError>
+    /// An equal table. Takes no memory.
+    pub(crate) fn copy(&self) -> Result<NodeTable, AllocError>
         ensures { IfOk result (λ table. table ≡ self.now) }
     {
-        let nodes = copy_nodes(alloc, &self.nodes)?;
+        let nodes = self.nodes.copy()?;
         Ok(NodeTable {
             nodes,
             known: self.known,
@@ -177,7 +168,7 @@ impl NodeTable {
     pub(crate) fn same(&self, other: &NodeTable) -> bool
         ensures { IsTrue result ↔ (self.now ≡ other.now) }
     {
-        same_nodes(&self.nodes, &other.nodes)
+        same_nodes(self.nodes.as_slice(), other.nodes.as_slice())
     }
 
     /// The place of the node whose frames have this identifier: its number above a base. Walks the nodes.
@@ -186,7 +177,7 @@ impl NodeTable {
         ensures place { result ≡ is_place_of base id self.now }
         ensures within { IfSome result (λ i. i < length self.now) }
     {
-        place_in(&self.nodes, base, id)
+        place_in(self.nodes.as_slice(), base, id)
     }
 
     /// The number of a node of the table.
@@ -194,7 +185,7 @@ impl NodeTable {
         requires { i < length self.now }
         ensures { result ≡ (node_at self.now i).number }
     {
-        self.nodes[i].number
+        self.nodes.as_slice()[i].number
     }
 
     /// What is noted where a node of the table boots anew.
@@ -202,7 +193,7 @@ impl NodeTable {
         requires { i < length self.now }
         ensures { result ≡ note_of_loss (node_at self.now i).stage }
     {
-        self.nodes[i].lost()
+        self.nodes.as_slice()[i].lost()
     }
 
     /// The first of the deadlines of the nodes. Takes constant time where it is known, and else walks the
@@ -213,7 +204,7 @@ impl NodeTable {
         if self.known {
             self.deadline
         } else {
-            first_of(&self.nodes)
+            first_of(self.nodes.as_slice())
         }
     }
 
@@ -224,12 +215,15 @@ impl NodeTable {
         self.known && lies_after(t, self.deadline)
     }
 
-    /// Looks for the first of the deadlines, and keeps it. Walks the nodes.
-    fn learn(&mut self)
-        ensures { self.new ≡ self.old }
+    /// Has these nodes from now on, and keeps the first of their deadlines. Walks the nodes.
+    fn put(&mut self, alloc: Global, nodes: Vec<Booting>) -> Result<(), AllocError>
+        ensures { OnOk result (self.new ≡ nodes.items) }
     {
-        self.deadline = first_of(&self.nodes);
+        let deadline = first_of(&nodes);
+        self.nodes = SharedNodes::of(alloc, nodes)?;
+        self.deadline = deadline;
         self.known = true;
+        Ok(())
     }
 
     /// The boot of a node of the table begins anew. Walks the nodes.
@@ -251,8 +245,9 @@ impl NodeTable {
         ensures lasts { Lasts (P.seen boots.old) (P.seen boots.new) }
     {
         self.known = false;
-        let sent = self.nodes[i].boot(alloc, deadline, boots)?;
-        self.learn();
+        let mut nodes = self.nodes.take(alloc)?;
+        let sent = nodes[i].boot(alloc, deadline, boots)?;
+        self.put(alloc, nodes)?;
         Ok(sent)
     }
 
@@ -279,8 +274,9 @@ impl NodeTable {
         ensures lasts { Lasts (P.seen boots.old) (P.seen boots.new) }
     {
         self.known = false;
-        let sent = self.nodes[i].take_answer(alloc, deadline, answer, boots)?;
-        self.learn();
+        let mut nodes = self.nodes.take(alloc)?;
+        let sent = nodes[i].take_answer(alloc, deadline, answer, boots)?;
+        self.put(alloc, nodes)?;
         Ok(sent)
     }
 
@@ -288,6 +284,7 @@ impl NodeTable {
     /// lies after t, and else walks the nodes.
     pub(crate) fn time_outs(
         &mut self,
+        alloc: Global,
         t: u64,
         waiting: &mut Pending,
         notes: &mut Notes,
@@ -301,8 +298,8 @@ impl NodeTable {
             return Ok(());
         }
         self.known = false;
-        time_out_each(t, &mut self.nodes, waiting, notes)?;
-        self.learn();
-        Ok(())
+        let mut nodes = self.nodes.take(alloc)?;
+        time_out_each(t, &mut nodes, waiting, notes)?;
+        self.put(alloc, nodes)
     }
 }

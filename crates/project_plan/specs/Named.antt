@@ -1,4 +1,4 @@
--- Private: the nodes that messages name, as the program finds them.
+-- The nodes that messages name, as the program finds them.
 use Rattle.std.specs.Prelude.{◌≡◌, ℕ, Bool, true, false, if◌then◌else◌, List, slice_index_or, Option, None, option_map}
 use Rattle.std.specs.FinMap.{get}
 use Rattle.ini_text.specs.Content.{Content as Device, Section}

@@ -21,9 +21,9 @@ fn read_if_named(
     node: &Node,
 ) -> Result<(), AllocError>
     ensures project { library.new.project ≡ library.old.project }
-    ensures read { OnOk result (IsReadIf named.now.flags library.new (id, node.now)) }
-    ensures kept { OnOk result ((e : ℕ × member) → IsReadIf named.now.flags library.old e
-        → IsReadIf named.now.flags library.new e) }
+    ensures read { OnOk result (IsReadIf named.now library.new (id, node.now)) }
+    ensures kept { OnOk result ((e : ℕ × member) → IsReadIf named.now library.old e
+        → IsReadIf named.now library.new e) }
 {
     if named.contains(id) {
         library.read(node.eds.as_slice())?;
@@ -34,7 +34,7 @@ fn read_if_named(
 /// Reads the devices of the named nodes.
 fn read_named(library: &mut Library<'_>, named: &Named) -> Result<(), AllocError>
     ensures project { library.new.project ≡ library.old.project }
-    ensures read { OnOk result (All (IsReadIf named.now.flags library.new) (map.entries library.old.project.nodes)) }
+    ensures read { OnOk result (All (IsReadIf named.now library.new) (map.entries library.old.project.nodes)) }
 {
     let project = library.project();
     for (id, node) in project.nodes() {
@@ -50,7 +50,7 @@ fn named_devices<'b>(
     named: &Named,
 ) -> Result<Vec<(u8, &'b Device)>, AllocError>
     ensures { IfOk result (λ nodes. nodes_of nodes.items
-        ≡ filter_map (member_if_read named.now.flags library.now.devices) (map.entries library.now.project.nodes)) }
+        ≡ filter_map (member_if_read named.now library.now.devices) (map.entries library.now.project.nodes)) }
 {
     let mut nodes = Vec::new(alloc);
     for (id, node) in library.project().nodes() {

@@ -20,15 +20,16 @@ pub struct Cursor {
 }
 
 impl Cursor {
-    pub fn new(alloc: Global) -> Self
-        ensures { cursor_of result ≡ first_cursor }
+    pub fn new(alloc: Global) -> Result<Cursor, AllocError>
+        ensures { IfOk result (λ cursor. cursor_of cursor ≡ first_cursor) }
     {
-        Cursor {
+        let workbench = Workbench::new(alloc)?;
+        Ok(Cursor {
             alloc,
-            workbench: Workbench::new(alloc),
+            workbench,
             block: None,
             line: Vec::new(alloc),
-        }
+        })
     }
 
     /// Takes the line so far as whole.
@@ -45,7 +46,8 @@ impl Cursor {
 
     /// How much work the answers took.
     pub fn work(&self) -> Work
-        ensures { result.segments ≡ 0 }
+        ensures segments { result.segments ≡ self.now.workbench.work.segments }
+        ensures parts { result.parts ≡ self.now.workbench.work.parts }
     {
         self.workbench.work()
     }

@@ -214,7 +214,8 @@ fn converse<R: Intake, W: Outlet>(
         WroteAll (W.contents writer.old) (W.contents writer.new) (replies input))) }
     ensures ended { OnOk result (IsAtEnd (R.remaining reader.new)) }
     ensures limit { OnOk result (IfSome (R.remaining reader.old) (λ input. length input ≤ LIMIT)) }
-    ensures work { IfOk result (λ work. work.segments ≡ 0) }
+    ensures segments { IfOk result (λ work. work.segments ≡ cursor.new.workbench.work.segments) }
+    ensures parts { IfOk result (λ work. work.parts ≡ cursor.new.workbench.work.parts) }
     ensures memory { IsErrOf result SessionFault.Memory → IfSome (R.remaining reader.old) (λ input.
         WroteFirst (W.contents writer.old) (W.contents writer.new) (replies input)) }
     ensures due { IsErrOf result SessionFault.Memory → (bytes last : List ℕ)
@@ -284,9 +285,6 @@ pub fn session<R: Intake, W: Outlet>(
     ensures ended { OnOk result (IsAtEnd (R.remaining reader.new)) }
     ensures limit { OnOk result (IfSome (R.remaining reader.old) (λ input. length input ≤ LIMIT)) }
 
-    // No segments are kept yet.
-    ensures work { IfOk result (λ work. work.segments ≡ 0) }
-
     // Where memory runs out, the first of the replies, each whole.
     ensures memory { IsErrOf result SessionFault.Memory → IfSome (R.remaining reader.old) (λ input.
         WroteFirst (W.contents writer.old) (W.contents writer.new) (replies input)) }
@@ -318,6 +316,6 @@ pub fn session<R: Intake, W: Outlet>(
     // But for Write, what was written has also been flushed.
     ensures flushed { result ≢ Err SessionFault.Write → W.flushed writer.old ≡ true → W.flushed writer.new ≡ true }
 {
-    let mut cursor = Cursor::new(alloc);
+    let mut cursor = Cursor::new(alloc)?;
     converse(alloc, &mut cursor, reader, writer)
 }

@@ -15,10 +15,10 @@ pub send-requires-in-None : goal.send-requires-in-None
 send-requires-in-None c =
     manager_sends_at c.args.contender.now c.args.devices.now c.args.manager.now c.in-None.ensures c.requires
 
-pub returns-in-Some-clause-frame : goal.returns-in-Some-clause-frame
-returns-in-Some-clause-frame c =
-    device_sends c.args.contender.now c.args.devices.now c.in-Some.i c.in-Some.ensures c.args.manager.now c.send.result
-    c.send.ensures.frame
+pub returns-in_ok-sent-in-Some-clause-frame : goal.returns-in_ok-sent-in-Some-clause-frame
+returns-in_ok-sent-in-Some-clause-frame c =
+    device_sends c.args.contender.now c.args.devices.now c.in-Some.i c.in-Some.ensures c.args.manager.now c.in_ok-sent-in-Some.sent
+    c.in_ok-sent-in-Some.ensures.frame
 
 pub returns-in-None-clause-frame : goal.returns-in-None-clause-frame
 returns-in-None-clause-frame c =

@@ -11,4 +11,4 @@ returns-clause-state g c =
     (delivery_state c.args.t (the_view c.bus.inside)
     (g.P.Asked.seen c.args.parts.now).image c.take_ended-ended.result c.take_ended-ended.new.wire
     (the_view c.bus.inside).devices c.run_nodes.new.devices c.run_nodes.new.manager c.start_slot.new.bus
-    slot.ended refl ran.devices ran.manager slot.wire c.start_slot.ensures)
+    slot.ended refl ran.devices ran.manager slot.wire c.in_ok-start_slot.ensures)

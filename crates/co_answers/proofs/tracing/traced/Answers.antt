@@ -1,9 +1,10 @@
-use Rattle.std.proofs.Common.{◌∙◌, ap, arith, subst, sym}
+use Rattle.std.proofs.Common.{◌∙◌, ◌+◌, ◌/◌, ap, arith, subst, sym}
 use Rattle.pdo_plan.proofs.LimitLemmas.{between}
 use Rattle.can_bus.specs.Runs.{trace}
 use Rattle.co_parts.specs.Images.{IsImage}
 use Rattle.network_image.specs.Image.{image_of}
 use Rattle.network_image.proofs.CoherentLemmas.{is_image}
+use Rattle.co_segments.specs.Segments.{Traced}
 use Rattle.co_answers.specs.Queries.{trace_of}
 use Rattle.co_answers.proofs.tracing.traced.Goals as goal
 
@@ -17,11 +18,35 @@ trace-requires-clause-image c =
     subst (λ s. IsImage s.image) (sym c.of-parts.ensures.seen)
     (subst IsImage (sym c.requires) (is_image c.args.project.now c.keeps_to_rules.ensures))
 
-pub returns : goal.returns
+pub returns-clause-lines : goal.returns-clause-lines
 unfolding trace_of
-returns c =
-    c.into_vec.ensures
-    ∙ c.in_ok-lines.ensures.lines
+returns-clause-lines c =
+    c.in_ok-lines.ensures.lines
     ∙ ap (λ s. trace s.image c.horizon-horizon.result) c.of-parts.ensures.seen
     ∙ ap (λ i. trace i c.horizon-horizon.result) c.requires
     ∙ ap (trace (image_of c.args.project.now)) c.horizon-horizon.ensures
+
+pub returns-clause-traced : goal.returns-clause-traced
+returns-clause-traced c =
+    let traced = c.in_ok-lines.ensures.traced in
+    let image = ap (λ s. s.image) c.of-parts.ensures.seen ∙ c.requires in
+    let told = subst (λ i. Traced i c.args.store.now.capacity c.args.store.now.segments
+    (c.horizon-horizon.result / 10000 + 1) traced.0 c.trace.new.self.segments traced.1.0 traced.1.1.0 traced.1.1.1.0)
+    image traced.1.1.1.1.0 in (
+      traced.0,
+      (
+        traced.1.0,
+        (
+          traced.1.1.0,
+          (
+            traced.1.1.1.0,
+            (
+              subst (λ horizon. Traced (image_of c.args.project.now) c.args.store.now.capacity c.args.store.now.segments
+                  (horizon / 10000 + 1) traced.0 c.trace.new.self.segments traced.1.0 traced.1.1.0 traced.1.1.1.0)
+                  c.horizon-horizon.ensures told,
+              traced.1.1.1.1.1,
+            ),
+          ),
+        ),
+      ),
+    )

@@ -1,6 +1,11 @@
-use Rattle.std.proofs.Common.{◌≡◌, take, map}
+use Rattle.std.proofs.Common.{◌≡◌, ◌++◌, filter_map, length}
 use Rattle.pdo_stations.specs.Shown.{nodes_of}
+use Rattle.kept_parts.specs.Made.{sections_if}
 use Rattle.kept_parts.proofs.node_devices.references.Given as goal
 
-abbrev pub invariant-loop-number : goal.invariant-loop-number
-invariant-loop-number l = nodes_of l.nodes.items ≡ map (λ d. (d.0, d.1.sections)) (take l.number-index l.items)
+abbrev pub invariant-loop-rest : goal.invariant-loop-rest
+invariant-loop-rest l =
+    nodes_of l.nodes.items ++ filter_map (sections_if l.named) l.rest ≡ filter_map (sections_if l.named) l.items
+
+abbrev pub decreases-loop-rest : goal.decreases-loop-rest
+decreases-loop-rest l = length l.rest

@@ -6,5 +6,5 @@ use Rattle.project_plan.proofs.planning.named_devices.Given as goal
 
 abbrev pub invariant-loop-id : goal.invariant-loop-id
 invariant-loop-id l = nodes_of l.nodes.items
-    ++ filter_map (member_if_read l.named.flags l.library.devices) l.id-iterator
-    ≡ filter_map (member_if_read l.named.flags l.library.devices) (entries l.library.project.nodes)
+    ++ filter_map (member_if_read l.named l.library.devices) l.id-iterator
+    ≡ filter_map (member_if_read l.named l.library.devices) (entries l.library.project.nodes)

@@ -7,7 +7,7 @@ use Rattle.project_plan.proofs.planning.plan.Goals as goal
 pub returns-clause-plan : goal.returns-clause-plan
 returns-clause-plan c =
     c.in_ok-plan.ensures
-    ∙ planned_with c.args.library.now c.read_named.new.library c.by-named.result.flags c.messages-messages.result.now
+    ∙ planned_with c.args.library.now c.read_named.new.library c.by-named.result c.messages-messages.result.now
     (nodes_of c.deref.result.now)
     c.in_ok-read_named.ensures.project (c.messages-messages.ensures
     ∙ ap (λ (p : Content). p.messages) c.project.ensures) c.by-named.ensures c.in_ok-read_named.ensures.read

@@ -9,6 +9,6 @@ loop-id-preserved c =
     let left : c.loop-id.id-iterator ≡ e ∷ c.next.new.self = search rules in
     record {
       project = c.in_ok-read_if_named.ensures.project ∙ c.loop-id.invariant.project;
-      read = read_so_far c.args.named.now.flags c.loop-id.library c.read_if_named.new.library e c.next.new.self _ _ left
+      read = read_so_far c.args.named.now c.loop-id.library c.read_if_named.new.library e c.next.new.self _ _ left
           c.in_ok-read_if_named.ensures.read c.in_ok-read_if_named.ensures.kept c.loop-id.invariant.read;
     }

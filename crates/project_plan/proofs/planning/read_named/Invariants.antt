@@ -10,5 +10,5 @@ abbrev pub invariant-loop-id : goal.invariant-loop-id
 invariant-loop-id l = record {
   project : l.library.project ≡ l.fn.library.project;
   read : (first : List (ℕ × Node)) × (first ++ l.id-iterator ≡ entries l.fn.library.project.nodes)
-      × All (IsReadIf l.named.flags l.library) first;
+      × All (IsReadIf l.named l.library) first;
 }

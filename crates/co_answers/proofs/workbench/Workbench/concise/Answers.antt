@@ -1,4 +1,5 @@
+use Rattle.std.proofs.Common.{refl}
 use Rattle.co_answers.proofs.workbench.Workbench.concise.Goals as goal
 
 pub returns-clause-brings : goal.returns-clause-brings
-returns-clause-brings c = rw (← c.self.view_is) c.in_ok-bytes.ensures.brings
+returns-clause-brings c = rw (← c.self.view_is) record { image = c.in_ok-bytes.ensures.brings; found = refl; store = refl }

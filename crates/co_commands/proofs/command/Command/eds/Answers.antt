@@ -39,7 +39,7 @@ new-requires c =
       good = grind (arith, common_steps);
     } in
     let taken : device_verdict (device_of (text_of lines)) ≡ Ok tt = rw (← text) c.in_ok-check.ensures in
-    rw (c.in_ok-name.ensures, c.from_vec.ensures, c.in_ok-text.ensures) (is_eds c.args.name.now lines passes taken)
+    rw (c.in_ok-name.ensures, c.in_ok-shared.ensures, c.in_ok-text.ensures) (is_eds c.args.name.now lines passes taken)
 
 pub returns : goal.returns
 returns c =
@@ -53,5 +53,5 @@ returns c =
       good = grind (arith, common_steps);
     } in
     let taken : device_verdict (device_of (text_of lines)) ≡ Ok tt = rw (← text) c.in_ok-check.ensures in
-    rw (c.new.ensures, c.in_ok-name.ensures, c.from_vec.ensures, c.in_ok-text.ensures)
+    rw (c.new.ensures, c.in_ok-name.ensures, c.in_ok-shared.ensures, c.in_ok-text.ensures)
     (taken_so c.args.name.now lines passes taken)

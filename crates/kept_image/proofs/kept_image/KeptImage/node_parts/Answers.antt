@@ -38,8 +38,8 @@ returns c =
     let n = c.args.id in
     ap Some c.from_shared.ensures
     ∙ all_parts p k n c.in_ok-defaults.defaults.value c.in_ok-shape.shape.value c.in_ok-expect.expect.value
-    c.in_ok-writes.writes
+    c.in_ok-writes.writes.value
     (ap Some c.in_ok-defaults.ensures ∙ c.in-Some.ensures ∙ defaults_held p k n c.requires)
     (ap Some c.in_ok-shape.ensures ∙ c.in-Some-value.ensures ∙ shape_held p k n c.requires)
     (ap Some c.in_ok-expect.ensures ∙ c.in-Some-value-2.ensures ∙ expect_held p k n c.requires)
-    (ap Some (c.in_ok-writes.ensures ∙ c.get.ensures) ∙ c.in-Some-writes.ensures ∙ writes_held p k n c.requires)
+    (ap Some c.in_ok-writes.ensures ∙ c.in-Some-writes.ensures ∙ writes_held p k n c.requires)

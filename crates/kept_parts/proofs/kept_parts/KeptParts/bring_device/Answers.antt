@@ -1,6 +1,7 @@
 use Rattle.std.proofs.Common.{option_map, ap, ◌∙◌}
 use Rattle.ini_text.specs.Content.{content_of}
-use Rattle.kept_parts.proofs.KindLemmas.{device_brought, device_is_of, device_now, device_value}
+use Rattle.kept_parts.proofs.KindLemmas.{device_brought, device_is_of, device_now, device_stays, device_unmarked}
+use Rattle.kept_parts.proofs.KindLemmas.{device_value}
 use Rattle.kept_parts.proofs.kept_parts.KeptParts.bring_device.Goals as goal
 
 pub bring-requires : goal.bring-requires
@@ -27,3 +28,18 @@ returns-clause-value c =
     ∙ ap (option_map content_of)
     (device_value c.args.project.now c.args.self.now c.requires c.args.name.now c.bring.new.self
     c.in_ok-bring.ensures.ok)
+
+pub returns-clause-unmarked : goal.returns-clause-unmarked
+returns-clause-unmarked c =
+    device_unmarked c.args.project.now c.args.self.now c.requires c.args.name.now c.bring.new.self
+    c.in_ok-bring.ensures.ok
+
+pub returns-in_err-device-clause-stays : goal.returns-in_err-device-clause-stays
+returns-in_err-device-clause-stays c =
+    device_stays c.args.project.now c.args.self.now c.requires c.args.name.now c.bring.new.self
+    c.in_ok-bring.ensures.ok
+
+pub returns-clause-stays : goal.returns-clause-stays
+returns-clause-stays c =
+    device_stays c.args.project.now c.args.self.now c.requires c.args.name.now c.bring.new.self
+    c.in_ok-bring.ensures.ok

@@ -1,0 +1,6 @@
+pub mod SpanLemmas
+pub mod WindowLemmas
+pub mod RecordedLemmas
+pub mod ValidLemmas
+pub mod PlacedLemmas
+pub mod MatchLemmas

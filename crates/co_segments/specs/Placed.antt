@@ -1,0 +1,84 @@
+-- Segments with the numbers of their buses: by these, buses are told apart without comparing them.
+use Rattle.std.specs.Prelude.{Contains, List, map, refl, ℕ, ◌+◌, ◌≡◌, ◌≤◌, ◌⊎◌}
+use Rattle.std.specs.Coded.{Coded, code_by, coded×, coded_list, coded_ℕ}
+use Rattle.can_bus.specs.Bus.{Bus}
+use Rattle.co_parts.specs.Contents.{Content, Image}
+use Rattle.co_parts.specs.declared.part.Part.{Part}
+use Rattle.kept_reads.specs.Numbers.{KeepsMeaning, StandsFor}
+use Rattle.kept_reads.specs.Reads.{AreKnown, AreMarked, Known, Recorded}
+use Rattle.co_segments.specs.declared.given.Given.{Given}
+use Rattle.co_segments.specs.Segments.{IsSound, Kept}
+
+-- a bus with its number
+pub record Numbered : Type 0 where
+  pub number : ℕ
+  pub bus : Bus
+
+abbrev pub numbered_code : Coded Bus → Coded Numbered
+numbered_code bus_code = code_by (ℕ × Bus) (coded× coded_ℕ bus_code) (λ n. (n.number, n.bus))
+    (λ p. record { number = p.0; bus = p.1 }) (λ _. refl)
+
+-- a segment with the numbers of its start and of its end, and its reads with theirs
+pub record Placed : Type 0 where
+  pub kept : Kept
+  pub start : ℕ
+  pub reads : List Recorded
+  pub end : ℕ
+
+abbrev pub placed_code : Coded Kept → Coded Recorded → Coded Placed
+placed_code segment_code read_code =
+    code_by (Kept × (ℕ × (List Recorded × ℕ))) (coded× segment_code (coded× coded_ℕ (coded× (coded_list read_code) coded_ℕ)))
+    (λ p. (p.kept, (p.start, (p.reads, p.end))))
+    (λ p. record { kept = p.0; start = p.1.0; reads = p.1.1.0; end = p.1.1.1 }) (λ _. refl)
+
+-- it is the bus that the segment starts from, with its number, and equal to a bus
+abbrev pub IsStart : Placed → Numbered → Bus → Type 0
+IsStart s n bus = (n ≡ record { number = s.start; bus = s.kept.start }) × (s.kept.start ≡ bus)
+
+-- the segments, without their keys and numbers
+abbrev pub kept_of : List (ℕ × Placed) → List Kept
+kept_of entries = map (λ e. e.1.kept) entries
+
+-- the numbers that were given, and what they stand for
+pub record Meaning : Type 0 where
+  pub buses : ℕ → Bus
+  pub contents : ℕ → Content
+
+-- more numbers were given: those before stand for what they stood for
+pub record IsLater (old : Meaning) (given : Given) (new : Meaning) (later : Given) : Type 0 where
+  pub more_buses : given.buses ≤ later.buses
+  pub buses : KeepsMeaning given.buses old.buses new.buses
+  pub more_contents : given.contents ≤ later.contents
+  pub contents : KeepsMeaning given.contents old.contents new.contents
+
+-- the bus at the end of a segment has a new number, or that of a held segment which starts from it
+abbrev pub IsReached : List (ℕ × Placed) → ℕ → ℕ → Bus → Numbered → Type 0
+IsReached entries given later bus n = ((n ≡ record { number = given; bus = bus }) × (later ≡ given + 1))
+    ⊎ (((e : ℕ × Placed) × (Contains entries e × IsStart e.1 n bus)) × (later ≡ given))
+
+-- its numbers stand for its start, its end and what it read
+pub record IsNamed (m : Meaning) (given : Given) (s : Placed) : Type 0 where
+  pub start : StandsFor m.buses given.buses s.start s.kept.start
+  pub end : StandsFor m.buses given.buses s.end s.kept.end
+  pub reads : AreMarked m.contents given.contents s.reads
+
+abbrev pub AreNamed : Meaning → Given → List (ℕ × Placed) → Type 0
+AreNamed m given entries = (e : ℕ × Placed) → Contains entries e → IsNamed m given e.1
+
+abbrev pub AreSound : List (ℕ × Placed) → Type 0
+AreSound entries = (e : ℕ × Placed) → Contains entries e → IsSound e.1.kept
+
+-- what holds of the segments of a store: each is valid, and NO NUMBER STANDS FOR TWO BUSES, or for two contents
+pub record AreSegments (entries : List (ℕ × Placed)) (given : Given) : Type 0 where
+  pub sound : AreSound entries
+  pub meaning : Meaning
+  pub named : AreNamed meaning given entries
+
+-- the same, with the bus that a trace has reached, and what it knows of its image
+pub record IsTold (image : Image) (entries : List (ℕ × Placed)) (given : Given) (now : List (Part × Known))
+    (here : Numbered) : Type 0 where
+  pub sound : AreSound entries
+  pub meaning : Meaning
+  pub named : AreNamed meaning given entries
+  pub state : StandsFor meaning.buses given.buses here.number here.bus
+  pub known : AreKnown image meaning.contents given.contents now

@@ -1,0 +1,89 @@
+//! The search for a segment that serves.
+
+ghost use Rattle.std.specs.Prelude.{◌≡◌, ◌≤◌, ◌+◌, ℕ, Contains, IfOk, OnOk, MatchOption, Some, nat_eq};
+ghost use Rattle.std.specs.List.{IsDistinct};
+ghost use Rattle.std.specs.Map.{keys_of, lookup};
+ghost use Rattle.co_parts.specs.Contents.{Content};
+ghost use Rattle.kept_reads.specs.Numbers.{StandsFor};
+ghost use Rattle.kept_reads.specs.Reads.{AreKnown, AreMarked, Extends};
+ghost use Rattle.co_segments.specs.Placed.{AreNamed, Meaning, Placed, kept_of};
+ghost use Rattle.co_segments.specs.Segments.{IsStale, Serves, recorded_of};
+
+use crate::given::Given;
+use crate::numbered_bus::NumberedBus;
+use crate::segment::Segment;
+use can_bus::Parts;
+use kept_reads::ReadsNow;
+use kept_shelf::Shelf;
+use lru::LruCache;
+use std::alloc::{AllocError, Global};
+
+/// The key of a segment in a cache that serves.
+fn find_in<P: Parts>(
+    alloc: Global,
+    cache: &LruCache<u64, Segment>,
+    now: &mut ReadsNow,
+    given: &mut Given,
+    number: u64,
+    state: &NumberedBus,
+    parts: &mut P,
+) -> Result<Option<u64>, AllocError>
+    requires distinct { IsDistinct nat_eq (keys_of cache.now.entries) }
+    requires told { (m : Meaning) × (AreNamed m given.now cache.now.entries
+        × (StandsFor m.buses given.now.buses state.now.number state.now.bus
+        × AreKnown (P.seen parts.now).image m.contents given.now.contents now.now)) }
+    ensures found { IfOk result (λ place. MatchOption place
+        (IsStale (P.seen parts.old).image (kept_of cache.now.entries) number state.now.bus)
+        (λ key. (s : Placed) × ((lookup (nat_eq key) cache.now.entries ≡ Some s)
+        × Serves (P.seen parts.old).image number state.now.bus s.kept))) }
+    ensures known { OnOk result ((contents : ℕ → Content)
+        → AreKnown (P.seen parts.old).image contents given.old.contents now.old
+        → ((e : ℕ × Placed) → Contains cache.now.entries e → AreMarked contents given.old.contents e.1.reads)
+        → Extends (P.seen parts.old).image contents given.old.contents given.new.contents now.new) }
+    ensures more { given.old.contents ≤ given.new.contents }
+    ensures buses { given.new.buses ≡ given.old.buses }
+    ensures counted { OnOk result (P.asks parts.new
+        ≤ P.asks parts.old + recorded_of number (kept_of cache.now.entries)) }
+    ensures kept { (P.seen parts.new).image ≡ (P.seen parts.old).image }
+{
+    for (key, segment) in cache.iter() {
+        if segment.serves(alloc, now, given, number, state, parts)? {
+            return Ok(Some(*key));
+        }
+    }
+    Ok(None)
+}
+
+/// The key of a segment that serves.
+pub(crate) fn find<P: Parts>(
+    alloc: Global,
+    shelf: &Shelf<Segment>,
+    now: &mut ReadsNow,
+    given: &mut Given,
+    number: u64,
+    state: &NumberedBus,
+    parts: &mut P,
+) -> Result<Option<u64>, AllocError>
+    requires { (m : Meaning) × (AreNamed m given.now shelf.now.entries
+        × (StandsFor m.buses given.now.buses state.now.number state.now.bus
+        × AreKnown (P.seen parts.now).image m.contents given.now.contents now.now)) }
+    ensures found { IfOk result (λ place. MatchOption place
+        (IsStale (P.seen parts.old).image (kept_of shelf.now.entries) number state.now.bus)
+        (λ key. (s : Placed) × ((lookup (nat_eq key) shelf.now.entries ≡ Some s)
+        × Serves (P.seen parts.old).image number state.now.bus s.kept))) }
+    ensures known { OnOk result ((contents : ℕ → Content)
+        → AreKnown (P.seen parts.old).image contents given.old.contents now.old
+        → ((e : ℕ × Placed) → Contains shelf.now.entries e → AreMarked contents given.old.contents e.1.reads)
+        → Extends (P.seen parts.old).image contents given.old.contents given.new.contents now.new) }
+    ensures more { given.old.contents ≤ given.new.contents }
+    ensures buses { given.new.buses ≡ given.old.buses }
+    ensures counted { OnOk result (P.asks parts.new
+        ≤ P.asks parts.old + recorded_of number (kept_of shelf.now.entries)) }
+    ensures kept { (P.seen parts.new).image ≡ (P.seen parts.old).image }
+{
+    let _count = shelf.len();
+    match shelf.cache() {
+        None => Ok(None),
+        Some(cache) => find_in(alloc, cache, now, given, number, state, parts),
+    }
+}

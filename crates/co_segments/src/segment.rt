@@ -1,0 +1,151 @@
+//! A segment of a run.
+
+ghost use Rattle.std.specs.Prelude.{◌≡◌, ◌≤◌, ◌+◌, ◌↔◌, ℕ, length, if◌then◌else◌, ◌==◌, IfOk, IfSome, OnOk, IsTrue};
+ghost use Rattle.co_parts.specs.Contents.{Content};
+ghost use Rattle.kept_reads.specs.Numbers.{StandsFor};
+ghost use Rattle.kept_reads.specs.Reads.{AreKnown, AreMarked, Extends, plain};
+ghost use Rattle.co_segments.specs.Placed.{IsNamed, IsStart, Meaning};
+ghost use Rattle.co_segments.specs.Segments.{Serves};
+
+use crate::given::Given;
+use crate::matching::matches;
+use crate::numbered_bus::NumberedBus;
+use can_bus::{BusState, Line, Parts};
+use kept_reads::{KeptRead, ReadsNow};
+use std::alloc::{AllocError, Global};
+use std::marker::Model;
+
+/// A span that was run, from a bus on, with what it read and told.
+#[derive(Drop)]
+pub(crate) struct Segment {
+    number: u64,
+    start: NumberedBus,
+    reads: Vec<KeptRead>,
+    lines: Vec<Line>,
+    end: NumberedBus,
+}
+
+impl Model for Segment {
+    ghost use Rattle.can_bus.specs.contracts.bus_state.BusState as bus_state;
+    ghost use Rattle.can_bus.specs.contracts.line.Line as told;
+    ghost use Rattle.co_parts.specs.contracts.read.Read as noted;
+    ghost use Rattle.kept_reads.specs.contracts.kept_read.KeptRead as marked;
+    ghost use Rattle.kept_reads.specs.Reads.{plain};
+    ghost use Rattle.co_segments.specs.Placed.{Placed, placed_code};
+    ghost use Rattle.co_segments.specs.Segments.{kept_code};
+
+    ghost Value = { Placed };
+
+    ghost coded = { placed_code (kept_code bus_state.the_row.coded noted.the_row.coded told.the_row.coded) marked.the_row.coded };
+
+    ghost view = { λ a. record {
+      kept = record {
+        number = a.number;
+        start = a.start.bus;
+        reads = plain a.reads.items;
+        lines = a.lines.items;
+        end = a.end.bus;
+      };
+      start = a.start.number;
+      reads = a.reads.items;
+      end = a.end.number;
+    } };
+}
+
+impl Segment {
+    /// The segment of a span that was run.
+    pub fn new(
+        number: u64,
+        start: NumberedBus,
+        reads: Vec<KeptRead>,
+        lines: Vec<Line>,
+        end: NumberedBus,
+    ) -> Segment
+        ensures { result ≡ record {
+          kept = record {
+            number = number;
+            start = start.bus;
+            reads = plain reads.items;
+            lines = lines.items;
+            end = end.bus;
+          };
+          start = start.number;
+          reads = reads.items;
+          end = end.number;
+        } }
+    {
+        Segment {
+            number,
+            start,
+            reads,
+            lines,
+            end,
+        }
+    }
+
+    /// Its lines.
+    pub fn lines(&self) -> &[Line]
+        ensures { result.now ≡ self.now.kept.lines }
+    {
+        &self.lines
+    }
+
+    /// The bus at its end.
+    pub fn end(&self) -> &NumberedBus
+        ensures number { result.now.number ≡ self.now.end }
+        ensures bus { result.now.bus ≡ self.now.kept.end }
+    {
+        &self.end
+    }
+
+    /// The bus at its start, if it has this number and starts from an equal bus.
+    pub fn start_at(&self, number: u64, bus: &BusState) -> Result<Option<NumberedBus>, AllocError>
+        ensures { IfOk result (λ start. IfSome start (λ n. IsStart self.now n bus.now)) }
+    {
+        if self.number != number {
+            return Ok(None);
+        }
+        let own = self.start.bus();
+        let same = own.same(bus);
+        if !same {
+            return Ok(None);
+        }
+        let start = self.start.share()?;
+        Ok(Some(start))
+    }
+
+    /// Whether it serves.
+    pub fn serves<P: Parts>(
+        &self,
+        alloc: Global,
+        now: &mut ReadsNow,
+        given: &mut Given,
+        number: u64,
+        state: &NumberedBus,
+        parts: &mut P,
+    ) -> Result<bool, AllocError>
+        requires { (m : Meaning) × (IsNamed m given.now self.now
+            × (StandsFor m.buses given.now.buses state.now.number state.now.bus
+            × AreKnown (P.seen parts.now).image m.contents given.now.contents now.now)) }
+        ensures answer { IfOk result (λ b. IsTrue b
+            ↔ Serves (P.seen parts.old).image number state.now.bus self.now.kept) }
+        ensures known { OnOk result ((contents : ℕ → Content)
+            → AreKnown (P.seen parts.old).image contents given.old.contents now.old
+            → AreMarked contents given.old.contents self.now.reads
+            → Extends (P.seen parts.old).image contents given.old.contents given.new.contents now.new) }
+        ensures more { given.old.contents ≤ given.new.contents }
+        ensures buses { given.new.buses ≡ given.old.buses }
+        ensures counted { OnOk result (P.asks parts.new ≤ P.asks parts.old
+            + (if self.now.kept.number == number then length self.now.kept.reads else 0)) }
+        ensures kept { (P.seen parts.new).image ≡ (P.seen parts.old).image }
+    {
+        if self.number != number {
+            return Ok(false);
+        }
+        if !self.start.same(state) {
+            return Ok(false);
+        }
+        let same = matches(alloc, now, &mut given.contents, parts, &self.reads)?;
+        Ok(same)
+    }
+}

@@ -1,0 +1,153 @@
+//! A store of segments.
+
+ghost use Rattle.std.specs.Prelude.{◌≡◌, ◌≤◌, ◌<◌, ◌+◌, ◌/◌, ℕ, [], Contains, IfOk, List, filter, length};
+ghost use Rattle.can_bus.specs.Bus.{Bus};
+ghost use Rattle.can_bus.specs.Runs.{is_shown, trace as trace_of};
+ghost use Rattle.can_bus.specs.declared.line.Line.{Line as Told};
+ghost use Rattle.co_parts.specs.Images.{IsImage};
+ghost use Rattle.co_segments.specs.Placed.{AreSegments, kept_of};
+ghost use Rattle.co_segments.specs.Segments.{HasRun, IsSound, Kept, Traced, recorded_from};
+ghost use Rattle.co_segments.specs.Spans.{lines_of_spans};
+
+use crate::given::Given;
+use crate::segment::Segment;
+use crate::serving::{advance, give};
+use can_bus::{BusState, Line, Parts};
+use co_memo::Meter;
+use co_parts::END;
+use kept_reads::ReadsNow;
+use kept_shelf::Shelf;
+use std::alloc::{AllocError, Global};
+use std::marker::Model;
+
+/// The time that a window takes, in microseconds.
+const WINDOW: u32 = 10_000;
+
+/// Segments of traces, at most a fixed number of them: the last run or used first.
+///
+/// Each is valid: under every image that has its recorded values at what it read, its lines and its end are
+/// those of its span. So it is of use for any image, whatever was traced before.
+#[derive(Drop)]
+pub struct Store {
+    alloc: Global,
+    shelf: Shelf<Segment>,
+    given: Given,
+}
+
+impl Model for Store {
+    ghost use Rattle.can_bus.specs.contracts.bus_state.BusState as bus_state;
+    ghost use Rattle.can_bus.specs.contracts.line.Line as told;
+    ghost use Rattle.co_parts.specs.contracts.read.Read as noted;
+    ghost use Rattle.co_segments.specs.Placed.{AreSegments, kept_of};
+    ghost use Rattle.co_segments.specs.Segments.{Held, held_code, kept_code};
+
+    ghost Value = { Held };
+
+    ghost coded = { held_code (kept_code bus_state.the_row.coded noted.the_row.coded told.the_row.coded) };
+
+    ghost view = { λ a. record { capacity = a.shelf.capacity; segments = kept_of a.shelf.entries } };
+
+    ghost invariant = { λ a. AreSegments a.shelf.entries a.given };
+}
+
+/// Keeps the lines up to the horizon.
+fn keep_shown(told: &mut Vec<Line>, horizon: u32)
+    ensures { told.new.items ≡ filter (is_shown horizon) told.old.items }
+{
+    told.retain(|line| line.time() <= horizon);
+}
+
+/// What the first `count` spans tell.
+fn trace_spans<P: Parts>(
+    alloc: Global,
+    shelf: &mut Shelf<Segment>,
+    given: &mut Given,
+    parts: &mut P,
+    count: u64,
+    meter: &mut Meter,
+) -> Result<Vec<Line>, AllocError>
+    requires within { count ≤ 1001 }
+    requires image { IsImage (P.seen parts.now).image }
+    requires segments { AreSegments shelf.old.entries given.old }
+    ensures lines { IfOk result (λ told. told.items ≡ lines_of_spans (P.seen parts.old).image count) }
+    ensures traced { IfOk result (λ told. (end : Bus) × ((ran : ℕ) × ((read : ℕ) × (
+        Traced (P.seen parts.old).image shelf.old.capacity (kept_of shelf.old.entries) count
+        end (kept_of shelf.new.entries) told.items ran read
+        × HasRun ran meter.old meter.new
+        × (P.asks parts.new ≤ P.asks parts.old + recorded_from 0 (kept_of shelf.old.entries) + read))))) }
+    ensures segments { AreSegments shelf.new.entries given.new }
+    ensures capacity { shelf.new.capacity ≡ shelf.old.capacity }
+    ensures kept { (P.seen parts.new).image ≡ (P.seen parts.old).image }
+{
+    let mut told = Vec::new(alloc);
+    let mut now = ReadsNow::new(alloc);
+    let mut state = give(alloc, &mut given.buses, BusState::new(alloc))?;
+    for number in 0..count {
+        let end = advance(
+            alloc, shelf, &mut now, given, number, state, parts, meter, &mut told,
+        )?;
+        state = end;
+    }
+    Ok(told)
+}
+
+impl Store {
+    /// A store that holds at most `capacity` segments: none where that is 0.
+    pub fn new(alloc: Global, capacity: usize) -> Result<Store, AllocError>
+        ensures { IfOk result (λ store. store ≡ record { capacity = capacity; segments = [] }) }
+    {
+        let shelf = Shelf::new(alloc, capacity)?;
+        Ok(Store {
+            alloc,
+            shelf,
+            given: Given {
+                buses: 0,
+                contents: 0,
+            },
+        })
+    }
+
+    /// The trace up to the horizon, a moment in microseconds, of the network whose parts are handed out:
+    /// whatever was traced before. A segment that serves is used, each other one is run and kept.
+    ///
+    /// Takes the time of the segments that are run, as `can_bus::trace` takes it, and for each other one
+    /// that of comparing its reads. Want of memory is the only error: other segments may then be held, each of
+    /// them valid.
+    pub fn trace<P: Parts>(
+        &mut self,
+        parts: &mut P,
+        horizon: u32,
+        meter: &mut Meter,
+    ) -> Result<Vec<Line>, AllocError>
+        requires soon { horizon < END }
+        requires image { IsImage (P.seen parts.old).image }
+        ensures lines { IfOk result (λ told. told.items ≡ trace_of (P.seen parts.old).image horizon) }
+        ensures traced { IfOk result (λ told. (end : Bus) × ((all : List Told) × ((ran : ℕ) × ((read : ℕ) × (
+            Traced (P.seen parts.old).image self.old.capacity self.old.segments (horizon / 10000 + 1)
+            end self.new.segments all ran read
+            × HasRun ran meter.old meter.new
+            × (P.asks parts.new ≤ P.asks parts.old + recorded_from 0 self.old.segments + read)))))) }
+        ensures capacity { self.new.capacity ≡ self.old.capacity }
+        ensures kept { (P.seen parts.new).image ≡ (P.seen parts.old).image }
+    {
+        let count = u64::from(horizon / WINDOW) + 1;
+        let mut told = trace_spans(
+            self.alloc,
+            &mut self.shelf,
+            &mut self.given,
+            parts,
+            count,
+            meter,
+        )?;
+        keep_shown(&mut told, horizon);
+        Ok(told)
+    }
+
+    /// How many segments it holds. Each of them is valid, and has each of its reads once.
+    pub fn held(&self) -> usize
+        ensures count { result ≡ length self.now.segments }
+        ensures sound { (kept : Kept) → Contains self.now.segments kept → IsSound kept }
+    {
+        self.shelf.len()
+    }
+}

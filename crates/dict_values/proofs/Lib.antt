@@ -1,0 +1,5 @@
+pub mod EachPlace
+pub mod LayerLemmas
+pub mod PlaceLemmas
+pub mod RestoredLemmas
+pub mod WrittenLemmas

@@ -1,0 +1,5 @@
+use Rattle.dict_values.proofs.LayerLemmas.{none_layered}
+use Rattle.dict_values.proofs.dict.Dict.new.Goals as goal
+
+pub returns : goal.returns
+returns c = none_layered c.new.result c.new-2.result c.new.ensures c.new-2.ensures

@@ -1,0 +1,5 @@
+pub mod Held
+pub mod Layers
+pub mod Places
+pub mod Restored
+pub mod Values

@@ -1,0 +1,51 @@
+-- Parts without a mark, taken as they are.
+use Rattle.std.proofs.Common.{◌≡◌, ◌∙◌, ℕ, inl, true, Bool, List, [], ◌∷◌, map, Option, Some, refl, ap, arith}
+use Rattle.std.specs.FinMap.{entries}
+use Rattle.std.proofs.lemmas.List.Elements.{All-head, All-tail}
+use Rattle.co_memo.specs.Shelved.{Single}
+use Rattle.co_memo.specs.Stale.{AreBrought}
+use Rattle.co_memo.specs.Work.{Work}
+use Rattle.co_memo.proofs.Brought.{both, none}
+use Rattle.co_project.specs.declared.node.Node.{Node}
+use Rattle.co_project.specs.Project.{Content as Project}
+use Rattle.co_project.specs.Tables.{text_at}
+use Rattle.kept_devices.specs.Slots.{fresh_at}
+use Rattle.kept_devices.proofs.SlotLemmas.{fresh_stands}
+use Rattle.kept_parts.specs.Kept.{for_plan, fresh, given, held, of_node, plan_from, same_part, HaveNoMark, IsOf}
+use Rattle.kept_parts.specs.declared.plan_from.PlanFrom.{PlanFrom}
+use Rattle.kept_parts.specs.declared.part.Part.{Part}
+use Rattle.kept_parts.specs.declared.part.Part.TheVariants as part
+use Rattle.kept_parts.specs.declared.kept_parts.KeptParts.{KeptParts}
+use Rattle.kept_parts.proofs.KindLemmas.{closed, device_brought, device_now, plan_brought, plan_now}
+
+module _ (p : Project) (h : KeptParts) (is : IsOf p h) (m : Work) where
+  -- it is as if they had been brought up to date
+  abbrev Stay : List Part → Type 0
+  Stay qs = AreBrought same_part (given p) qs (held h) (held h) m m
+
+  one_stays : (name : List ℕ) → fresh_at h.devices name ≡ true → Stay (part.Device name ∷ [])
+  one_stays name u =
+      let now = device_now p h is name u in
+      device_brought p h is name h.devices (fresh_stands h.devices name (text_at p.texts name) u now) m m
+      (refl, inl (now, omega arith))
+
+  all_stay : (es : List (ℕ × Node)) → HaveNoMark h (map of_node es) → Stay (map of_node es)
+  all_stay [] all = none same_part (given p) (held h) m
+  all_stay (e ∷ es) all =
+      both same_part (given p) (of_node e ∷ []) (map of_node es) (held h) (held h) (held h) m m m
+      (one_stays e.1.eds (All-head (λ q. fresh h q ≡ true) (of_node e) (map of_node es) all))
+      (all_stay es (All-tail (λ q. fresh h q ≡ true) (of_node e) (map of_node es) all))
+
+  single : Option PlanFrom → Bool → Single PlanFrom
+  single k f = record { kept = k; fresh = f }
+
+  -- the plan with all that it is built from
+  pub plan_stays : h.plan.fresh ≡ true → Stay (for_plan p)
+  unfolding single
+  plan_stays u =
+      let now = plan_now p h is u in
+      both same_part (given p) (map of_node (entries p.nodes)) (part.Plan ∷ []) (held h) (held h) (held h) m m m
+      (all_stay (entries p.nodes) (closed p h is u))
+      (plan_brought p h is h.plan (plan_from p)
+      (ap (λ k. single k h.plan.fresh) now ∙ ap (single (Some (plan_from p))) u) refl m m
+      (refl, inl (now, omega arith)))
