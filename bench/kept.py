@@ -6,8 +6,13 @@ each script twice, with the turns and without, and prints the difference for one
 
   files      `param 5` and `dcf 5`, 126 nodes of an EDS of 60,000 lines
   diag       `param 5` and `diag`, 126 nodes of a drive's EDS of 1,603 lines
-  again      `dcf 5` again and again with no edit between, the same network as `files`
-  elsewhere  `param 5` and `dcf 7`, the same network
+  elsewhere  `param 5` and `dcf 7`, the network of `files`
+  dcf, cdcf, listed
+             `dcf 5`, `cdcf 5` and `diag` again and again with no edit between; the node has 4,000 parameters,
+             and for `listed` they are all wrong. Beside it a plain write of the same bytes by this script
+
+With the word `sizes` behind the program it prints the turns of `elsewhere` over more and more nodes, entries and
+messages instead: they don't grow.
 
 Prints the peak memory too. Run it from anywhere: bench/kept.py crates/cobench/out/cobench
 """
@@ -16,6 +21,7 @@ import resource
 import subprocess
 import sys
 import tempfile
+import time
 
 TURNS = 200
 NODES = 126
@@ -39,23 +45,53 @@ def drive():
     return lines
 
 
-def network(eds):
+def network(eds, nodes=NODES):
     lines = [b"eds e %d" % len(eds)] + eds
-    return lines + [b"node %d n%d e" % (node, node) for node in range(1, NODES + 1)]
+    return lines + [b"node %d n%d e" % (node, node) for node in range(1, nodes + 1)]
 
 
 def param(turn):
     return b"param 5 2000 0 %d" % (turn % 1000)
 
 
+def params(value):
+    """4,000 parameters of node 5."""
+    return [b"param 5 %X 0 %s" % (0x2000 + number, value) for number in range(4000)]
+
+
 def scripts():
     """Names, the commands before the turns, and those of a turn."""
     return [
         ("files", network(big()) + [b"dcf 5"], lambda turn: [param(turn), b"dcf 5"]),
-        ("again", network(big()) + [b"dcf 5"], lambda turn: [b"dcf 5"]),
         ("elsewhere", network(big()) + [b"dcf 5", b"dcf 7"], lambda turn: [param(turn), b"dcf 7"]),
         ("diag", network(drive()) + [b"diag"], lambda turn: [param(turn), b"diag"]),
     ]
+
+
+def repeated():
+    """Names, the commands before the turns, and a query that is asked again."""
+    return [
+        ("dcf", network(big()) + params(b"7") + [b"dcf 5"], b"dcf 5"),
+        ("cdcf", network(big()) + params(b"7") + [b"cdcf 5"], b"cdcf 5"),
+        ("listed", network(big()) + params(b"-7") + [b"diag"], b"diag"),
+    ]
+
+
+def messages(count):
+    return [line for number in range(count) for line in (
+        b"message m%d %d %d 255 0 0 0" % (number, number % 100 + 1, number // 100 + 1),
+        b"source m%d 1 2000 0" % number, b"sink m%d 1 %d 2001 0" % (number, (number + 1) % 100 + 1))]
+
+
+def sized():
+    """Names and networks of more and more nodes, entries and messages."""
+    eds = big()
+    for nodes in (16, 63, 126):
+        yield "%d nodes" % nodes, network(eds, nodes)
+    for entries in (500, 2000, 4000):
+        yield "%d entries" % entries, network(eds[:6 * entries])
+    for count in (0, 250, 1000):
+        yield "%d messages" % count, network(drive()) + messages(count)
 
 
 def seconds(program, lines):
@@ -71,16 +107,55 @@ def seconds(program, lines):
     return after.ru_utime - before.ru_utime + after.ru_stime - before.ru_stime, after.ru_maxrss
 
 
+def plain_write(reply, turns):
+    """The seconds of the processor that this script takes to write the bytes of a reply so many times."""
+    with open(os.devnull, "wb", buffering=0) as nowhere, tempfile.TemporaryFile(buffering=0) as file:
+        nowhere.write(reply)
+        before = time.process_time()
+        for _ in range(turns):
+            file.seek(0)
+            file.write(bytearray(reply))
+        return time.process_time() - before
+
+
+def again(programs):
+    for name, before, query in repeated():
+        for program in programs:
+            first, _ = seconds(program, before)
+            whole, memory = seconds(program, before + [query] * TURNS)
+            done = subprocess.run([program], input=b"\n".join(before) + b"\n", capture_output=True)
+            reply = done.stdout[done.stdout.rindex(b"lines "):]
+            print("%-10s %8.3f ms a turn, %7d bytes, whose plain write takes %.3f ms; peak %d MiB  %s"
+                  % (name, 1000 * (whole - first) / TURNS, len(reply), 1000 * plain_write(reply, TURNS) / TURNS, memory >> 10, program))
+
+
+def turns(programs):
+    for name, before, turn in scripts():
+        lines = [line for number in range(TURNS) for line in turn(number)]
+        for program in programs:
+            first, _ = seconds(program, before)
+            whole, memory = seconds(program, before + lines)
+            print("%-10s %8.3f ms a turn, %6.3f s before, peak %d MiB  %s"
+                  % (name, 1000 * (whole - first) / TURNS, first, memory >> 10, program))
+
+
+def sizes(program):
+    for name, before in sized():
+        lines = [line for number in range(TURNS) for line in (param(number), b"cdcf 7")]
+        first, _ = seconds(program, before + [b"cdcf 5", b"cdcf 7"])
+        whole, _ = seconds(program, before + [b"cdcf 5", b"cdcf 7"] + lines)
+        print("%-14s %8.4f ms a turn, %6.3f s before" % (name, 1000 * (whole - first) / TURNS, first))
+
+
 def main():
     if len(sys.argv) < 2:
         sys.exit(__doc__)
-    for name, before, turn in scripts():
-        turns = [line for number in range(TURNS) for line in turn(number)]
-        for program in map(os.path.abspath, sys.argv[1:]):
-            first, _ = seconds(program, before)
-            whole, memory = seconds(program, before + turns)
-            print("%-10s %8.3f ms a turn, %6.3f s before, peak %d MiB  %s"
-                  % (name, 1000 * (whole - first) / TURNS, first, memory >> 10, program))
+    if sys.argv[-1] == "sizes":
+        sizes(os.path.abspath(sys.argv[1]))
+    else:
+        programs = [os.path.abspath(program) for program in sys.argv[1:]]
+        turns(programs)
+        again(programs)
 
 
 if __name__ == "__main__":

@@ -4,11 +4,12 @@ use crate::narrow::{Narrow, Trouble};
 use crate::pieces::Pieces;
 use std::alloc::Global;
 use std::cell::Cell;
+use std::io::ErrorKind;
 use workbench::{Counted, SessionFault, session};
 
 /// A script, the size of its pieces, the number of the read that fails, and what is written. No row
 /// reads on after it, though the reader would give more, or its end.
-const ROWS: [(&[u8], usize, usize, &[u8]); 6] = [
+const ROWS: [(&[u8], usize, usize, &[u8]); 7] = [
     (b"dcf 5\ndcf 6\nhello", 6, 0, b""),
     (b"dcf 5\ndcf 6\nhello", 6, 1, b"refused 4 Unknown\n"),
     (
@@ -25,13 +26,21 @@ const ROWS: [(&[u8], usize, usize, &[u8]); 6] = [
         b"refused 4 Unknown\nrefused 4 Unknown\n",
     ),
     (b"hello\nhel", 4096, 1, b"refused 2 Syntax\n"),
+    (b"bitrate 500\nhor", 4096, 1, b"ok\n"),
     (b"hello\neds x 2\na\n", 4096, 1, b"refused 2 Syntax\n"),
 ];
 
-/// Whether the session ends in Read at the failing read, and has written this.
-fn ends_in_read(alloc: Global, script: &[u8], step: usize, failing: usize, written: &[u8]) -> bool {
+/// Whether the session ends in Read at the failing read, whatever that says, and has written this.
+fn ends_in_read(
+    alloc: Global,
+    script: &[u8],
+    step: usize,
+    (failing, kind): (usize, ErrorKind),
+    written: &[u8],
+) -> bool {
     let gone_out = Cell::new(0);
-    let mut reader = Counted::new(Pieces::new(alloc, script, step, Some(failing), &gone_out));
+    let pieces = Pieces::new(alloc, script, step, Some(failing), &gone_out).saying(kind);
+    let mut reader = Counted::new(pieces);
     let mut writer = Counted::new(Narrow::new(alloc, Trouble::Nothing, &gone_out));
     let outcome = session(alloc, &mut reader, &mut writer);
     let stops_there = reader.inner().noted().len() == failing.saturating_add(1);
@@ -41,6 +50,29 @@ fn ends_in_read(alloc: Global, script: &[u8], step: usize, failing: usize, writt
 #[test]
 fn a_session_ends_in_read_where_a_read_fails_once(rt: HostRuntime) {
     for (script, step, failing, written) in &ROWS {
-        assert!(rt; ends_in_read(rt.alloc(), script, *step, *failing, written));
+        assert!(rt;
+            ends_in_read(
+                rt.alloc(),
+                script,
+                *step,
+                (*failing, ErrorKind::Other),
+                written
+            )
+        );
+    }
+}
+
+#[test]
+fn a_read_that_is_interrupted_has_failed(rt: HostRuntime) {
+    for (script, step, failing, written) in &ROWS {
+        assert!(rt;
+            ends_in_read(
+                rt.alloc(),
+                script,
+                *step,
+                (*failing, ErrorKind::Interrupted),
+                written
+            )
+        );
     }
 }

@@ -8,7 +8,7 @@ use workbench::{Counted, SessionFault, session};
 
 /// A script that comes in pieces of 6 bytes, the writer's trouble, and what is written: nothing
 /// after the trouble, though the writer would take more.
-const ROWS: [(&[u8], Trouble, &[u8]); 10] = [
+const ROWS: [(&[u8], Trouble, &[u8]); 11] = [
     (b"dcf 5\ndcf 6\nhello", Trouble::Write(0), b""),
     (
         b"dcf 5\ndcf 6\nhello",
@@ -41,6 +41,7 @@ const ROWS: [(&[u8], Trouble, &[u8]); 10] = [
     (b"eds x 1\n", Trouble::Flush(0), b"refused 9 Truncated\n"),
     // no more room
     (b"hello", Trouble::Room(1), b"r"),
+    (b"bitrate 500", Trouble::Room(1), b"o"),
     (
         b"hello\ndcf 5\n",
         Trouble::Room(20),
@@ -107,4 +108,14 @@ fn a_long_reply_ends_in_write_where_a_call_fails_once(rt: HostRuntime) -> Result
         assert!(rt; ends_in_write_at(rt.alloc(), Trouble::Flush(number))?);
     }
     Ok(())
+}
+
+#[test]
+fn a_writer_of_one_byte_a_call_gets_all_replies(rt: HostRuntime) {
+    let script = b"dcf 5\nproject\nhello";
+    let written =
+        b"refused 4 Unknown\nlines 3\nbitrate 1000\nhorizon 1000000\nmanager 127 0 0 500\nrefused 2 Syntax\n";
+    let (fault, _, is_written) = ended(rt.alloc(), script, 6, Trouble::Step(1), written);
+    assert!(rt; fault.is_none());
+    assert!(rt; is_written);
 }

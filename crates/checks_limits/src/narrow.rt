@@ -16,6 +16,8 @@ pub enum Trouble {
     Flush(usize),
     /// It takes so many bytes and no more.
     Room(usize),
+    /// None, but it takes at most so many bytes a call.
+    Step(usize),
 }
 
 /// Keeps what it takes, counts its calls, and notes how many bytes have gone out: those that it had
@@ -51,17 +53,18 @@ impl<'a> Narrow<'a> {
     /// Whether a call has failed, or taken no byte.
     pub fn was_troubled(&self) -> bool {
         match self.trouble {
-            Trouble::Nothing => false,
+            Trouble::Nothing | Trouble::Step(_) => false,
             Trouble::Write(number) => number < self.writes,
             Trouble::Flush(number) => number < self.flushes,
             Trouble::Room(room) => room == self.text.len(),
         }
     }
 
-    /// How many more bytes are taken.
+    /// How many more bytes are taken, at most, by one call.
     fn room(&self) -> usize {
         match self.trouble {
             Trouble::Room(room) => room.saturating_sub(self.text.len()),
+            Trouble::Step(step) => step,
             Trouble::Nothing | Trouble::Write(_) | Trouble::Flush(_) => usize::MAX,
         }
     }

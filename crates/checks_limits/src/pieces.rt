@@ -13,6 +13,8 @@ pub struct Pieces<'a> {
     step: usize,
     /// The number of the read that fails, from 0.
     failing: Option<usize>,
+    /// What the read that fails says.
+    kind: ErrorKind,
     gone_out: &'a Cell<usize>,
     noted: Vec<usize>,
 }
@@ -29,9 +31,15 @@ impl<'a> Pieces<'a> {
             bytes,
             step,
             failing,
+            kind: ErrorKind::Other,
             gone_out,
             noted: Vec::new(alloc),
         }
+    }
+
+    /// The same reader, of which the read that fails says this.
+    pub fn saying(self, kind: ErrorKind) -> Self {
+        Pieces { kind, ..self }
     }
 
     /// For each read how many bytes had gone out.
@@ -45,7 +53,7 @@ impl Read for Pieces<'_> {
         let number = self.noted.len();
         self.noted.push(self.gone_out.get())?;
         if self.failing == Some(number) {
-            return Err(ErrorKind::Other.into());
+            return Err(self.kind.into());
         }
         let length = self.bytes.len().min(self.step);
         let mut piece = &self.bytes[..length];

@@ -1,0 +1,208 @@
+#!/usr/bin/env python3
+"""Runs the built program over input that means it ill, or asks for as much as the limits allow.
+
+Takes the path of the program, and names of kinds, or none for all:
+
+  bytes      each byte 0 to 255 in each place of five commands and of a line of an EDS, one command or block each
+  replaced   64 MiB of `eds` blocks of one name, each in the place of the one before, with a `dcf` behind each
+  largest    the texts, nodes, parameters and messages of `diagnostics.py`, with a `trace` to a second
+  busiest    126 nodes, of which each sends all its TPDOs at each SYNC of a millisecond, and events; to five and
+             to ten seconds; with 1 and with 16 TPDOs a node
+  crowded    the same with 512 TPDOs a node, each of which is on, to 20 and to 40 milliseconds
+
+Prints the seconds of the processor and the peak memory, and asserts that each run ends with status 0, at most 2 GiB,
+and what is said at each kind. Where a kind has two sizes, twice the size may take at most three times the seconds.
+Run it from anywhere: bench/hostile.py crates/cobench/out/cobench
+"""
+import importlib.util
+import os
+import re
+import subprocess
+import sys
+import tempfile
+
+MEMORY = 2 << 30
+SYNC_US = 1000
+NODES = 126
+ONE_LINE = re.compile(rb"ok|refused [2-9] [A-Za-z]+|lines \d+")
+
+
+# Runs a program and tells what it took. It is a process of its own since a child begins with the memory of its parent.
+RUNNER = """import os, subprocess, sys
+child = subprocess.Popen(sys.argv[1:])
+_, status, usage = os.wait4(child.pid, 0)
+child.returncode = os.waitstatus_to_exitcode(status)
+print(child.returncode, usage.ru_utime + usage.ru_stime, usage.ru_maxrss, file=sys.stderr)
+"""
+
+
+def run(program, lines):
+    """The processor's seconds, the peak of memory in KiB and the replies of one session."""
+    with tempfile.TemporaryFile() as file, tempfile.TemporaryFile() as output:
+        file.writelines(lines)
+        file.seek(0)
+        done = subprocess.run([sys.executable, "-S", "-c", RUNNER, program], stdin=file, stdout=output, stderr=subprocess.PIPE)
+        output.seek(0)
+        replies = output.read().split(b"\n")[:-1]
+    status, seconds, kib = done.stderr.split()[-3:]
+    if status != b"0":
+        sys.exit(f"{program} ended with {done.stderr!r}")
+    return float(seconds), int(kib), replies
+
+
+def told(name, seconds, kib, good, more=""):
+    good = good and kib * 1024 <= MEMORY
+    print(f"{name:22} {seconds:7.2f} s {kib / 1024:8.1f} MiB {more}{'' if good else '  FAILED'}", flush=True)
+    return good
+
+
+# ---- bytes
+
+SMALL = [b"[2000]", b"DataType=5", b"[2001]", b"DataType=9"]
+COMMANDS = [b"param 5 2001 0 a b", b"event 1 2000 set 5 2000 0 7", b"message m 5 1 255 0 0 0", b"node 6 q e", b"horizon 5000"]
+
+
+def replies_only(replies):
+    """The first line of each reply, or None where a line is none."""
+    found, at = [], 0
+    while at < len(replies):
+        if not ONE_LINE.fullmatch(replies[at]):
+            return None
+        found.append(replies[at])
+        at += 1 + (int(replies[at][6:]) if replies[at].startswith(b"lines ") else 0)
+    return found
+
+
+def each_byte(line):
+    return [line[:place] + bytes([byte]) + line[place + 1:] for place in range(len(line)) for byte in range(256)]
+
+
+def bytes_everywhere(program):
+    """Each command has one reply, and what `project` prints at the end is accepted again and printed again."""
+    good = True
+    start = [b"eds e 4\n"] + [line + b"\n" for line in SMALL] + [b"node 5 p e\n"]
+    for command in COMMANDS:
+        changed = [line for whole in each_byte(command) for line in whole.split(b"\n")]
+        asked = sum(not re.fullmatch(rb"[ \t\r]*", line) for line in changed)
+        seconds, kib, replies = run(program, start + [line + b"\n" for line in changed] + [b"project\n"])
+        heads = replies_only(replies)
+        right = heads is not None and len(heads) == 2 + asked + 1
+        _, _, again = run(program, [line + b"\n" for line in replies[-int(heads[-1][6:]):]] + [b"project\n"]) if right else (0, 0, [])
+        right = right and replies_only(again) is not None and not any(line.startswith(b"refused") for line in replies_only(again)) \
+            and again[-int(heads[-1][6:]):] == replies[-int(heads[-1][6:]):]
+        good = told("bytes " + command.split()[0].decode(), seconds, kib, right, f"{asked} commands") and good
+    blocks, count = [], 0
+    for line in each_byte(b"DefaultValue=0x10"):
+        parts = line.split(b"\n")
+        blocks += [b"eds x %d\n" % (2 + len(parts)), b"[2000]\n", b"DataType=5\n"] + [part + b"\n" for part in parts]
+        count += 1
+    seconds, kib, replies = run(program, blocks + [b"project\n"])
+    heads = replies_only(replies)
+    return told("bytes of an EDS", seconds, kib, heads is not None and len(heads) == count + 1, f"{count} blocks") and good
+
+
+# ---- replaced
+
+def replaced(program):
+    """A text of 4,000 entries of another value each time: each `dcf` has that value."""
+    good, seconds_before = True, None
+    for size in (32 << 20, 64 << 20):
+        lines, at, turns = [], 0, 0
+        while True:
+            text = [b"[%04X]\n" % (0x2000 + n) for n in range(4000)]
+            text = [part for head in text for part in (head, b"DataType=6\n", b"DefaultValue=%d\n" % (turns % 60000))]
+            turn = [b"eds e %d\n" % len(text), *text] + ([b"node 5 p e\n"] if not turns else []) + [b"dcf 5\n"]
+            length = sum(map(len, turn))
+            if at + length > size:
+                break
+            lines, at, turns = lines + turn, at + length, turns + 1
+        seconds, kib, replies = run(program, lines)
+        heads = replies_only(replies)
+        right = heads is not None and len(heads) == 2 * turns + 1 and not any(head.startswith(b"refused") for head in heads)
+        right = right and replies.count(b"DefaultValue=%d" % (turns - 1)) == 4000
+        right = right and (seconds_before is None or seconds <= 3 * seconds_before)
+        good = told(f"replaced {size >> 20} MiB", seconds, kib, right, f"{turns} texts") and good
+        seconds_before = seconds
+    return good
+
+
+# ---- largest
+
+def largest(program):
+    """The project of `diagnostics.py`: all edits are taken, and every node whose EDS has no required answer boots."""
+    place = os.path.join(os.path.dirname(os.path.abspath(__file__)), "diagnostics.py")
+    spec = importlib.util.spec_from_file_location("diagnostics", place)
+    sys.dont_write_bytecode = True
+    module = importlib.util.module_from_spec(spec)
+    spec.loader.exec_module(module)
+    commands, edits, _ = module.script(b";23456789012345\n")
+    before, _, taken = run(program, commands)
+    seconds, kib, replies = run(program, [*commands, b"trace\n"])
+    right = taken == [b"ok"] * edits and replies[:edits] == taken and replies[edits] == b"lines %d" % (len(replies) - edits - 1)
+    return told("largest", seconds - before, kib, right, f"{len(replies) - edits - 1} lines of the trace")
+
+
+# ---- busiest
+
+def sender(tpdos):
+    """An EDS with so many TPDOs of one byte, each of them on and sent at each SYNC, and a value for each."""
+    lines = [b"[1017]", b"DataType=6", b"DefaultValue=10"]
+    for number in range(tpdos):
+        communication, value = 0x1800 + number, 0x2000 + number
+        lines += [b"[%Xsub1]" % communication, b"DataType=7", b"DefaultValue=0x%X" % (0x40000181 + number),
+                  b"[%Xsub2]" % communication, b"DataType=5", b"DefaultValue=1",
+                  b"[%Xsub0]" % (communication + 0x200), b"DataType=5", b"DefaultValue=1",
+                  b"[%Xsub1]" % (communication + 0x200), b"DataType=7", b"DefaultValue=0x%X" % (value << 16 | 8),
+                  b"[%X]" % value, b"DataType=5", b"PDOMapping=1"]
+    return lines
+
+
+def busy(tpdos, horizon, events):
+    text = sender(tpdos)
+    lines = [b"eds e %d" % len(text), *text, b"manager 127 %d 10 500" % SYNC_US, b"horizon %d" % horizon]
+    lines += [b"node %d n%d e" % (node, node) for node in range(1, NODES + 1)]
+    lines += [b"event %d %d set %d %X 0 %d" % (k, k * (horizon // (events + 1)), k % NODES + 1, 0x2000 + k % tpdos, k % 256)
+              for k in range(1, events + 1)]
+    return [line + b"\n" for line in lines], 4 + NODES - 1 + events
+
+
+def busiest(program):
+    """Each edit is taken, the bus is never idle once the nodes run, and twice the horizon takes at most thrice the time."""
+    good = True
+    for tpdos in (1, 16):
+        before = None
+        for horizon in (5_000_000, 10_000_000):
+            lines, edits = busy(tpdos, horizon, 10_000)
+            seconds, kib, replies = run(program, lines + [b"trace\n"])
+            count = len(replies) - edits - 1
+            right = replies[:edits] == [b"ok"] * edits and replies[edits] == b"lines %d" % count
+            right = right and (before is None or seconds <= 3 * before)
+            good = told(f"busiest {tpdos:3} {horizon // 1_000_000:3} s", seconds, kib, right, f"{count} lines") and good
+            before = seconds
+    return good
+
+
+def crowded(program):
+    good, before = True, None
+    for horizon in (20_000, 40_000):
+        lines, edits = busy(512, horizon, 100)
+        seconds, kib, replies = run(program, lines + [b"trace\n"])
+        right = replies[:edits] == [b"ok"] * edits and (before is None or seconds <= 3 * before)
+        good = told(f"crowded {horizon // 1000:3} ms", seconds, kib, right, f"{len(replies) - edits - 1} lines") and good
+        before = seconds
+    return good
+
+
+KINDS = {"bytes": bytes_everywhere, "replaced": replaced, "largest": largest, "busiest": busiest, "crowded": crowded}
+
+
+def main():
+    if len(sys.argv) < 2 or not set(sys.argv[2:]) <= set(KINDS):
+        sys.exit(__doc__)
+    program = os.path.abspath(sys.argv[1])
+    done = [KINDS[name](program) for name in sys.argv[2:] or KINDS]
+    sys.exit(0 if all(done) else 1)
+
+
+if __name__ == "__main__":
+    main()
