@@ -7,10 +7,11 @@ from .project import Project
 
 # The words behind the first one, by command. An event's third word decides on the rest.
 FORMS = {
-    "bitrate": "RATE", "horizon": "US", "manager": "ID SYNC_US HB_MS TIMEOUT_MS",
-    "eds": "NAME LINES", "drop-eds": "NAME", "node": "ID NAME EDS", "drop-node": "ID",
+    "version": "VERSION", "bitrate": "RATE", "horizon": "US", "manager": "ID SYNC_US HB_MS TIMEOUT_MS",
+    "sync-counter": "COUNTER",
+    "eds": "NAME LINES", "drop-eds": "NAME", "node": "ID NAME EDS", "need": "ID NEED", "drop-node": "ID",
     "param": "ID INDEX SUB TEXT", "unparam": "ID INDEX SUB",
-    "message": "NAME ID TPDO TYPE INHIBIT EVENT COB", "drop-message": "NAME",
+    "message": "NAME ID TPDO TYPE INHIBIT EVENT COB", "start": "MESSAGE START", "drop-message": "NAME",
     "source": "MESSAGE POS INDEX SUB", "unsource": "MESSAGE POS",
     "sink": "MESSAGE POS ID INDEX SUB", "unsink": "MESSAGE POS ID",
     "event": "K TIME set ID INDEX SUB TEXT", "drop-event": "K",
@@ -26,7 +27,7 @@ RATES = 10, 20, 50, 125, 250, 500, 1000
 LIMITS = {
     "ID": (1, 127), "TO": (0, 127), "POS": (1, 64), "TPDO": (1, 512), "TYPE": (0, 255), "INHIBIT": (0, 65535),
     "EVENT": (0, 65535), "HB_MS": (0, 65535), "TIMEOUT_MS": (1, 65535), "US": (0, 10_000_000),
-    "TIME": (0, 10_000_000), "SYNC_US": (0, 10_000_000),
+    "TIME": (0, 10_000_000), "SYNC_US": (0, 10_000_000), "VERSION": (1, 2), "COUNTER": (0, 240), "START": (0, 240),
 }
 
 
@@ -39,7 +40,7 @@ def form_of(name, words):
 
 def usage(name, form):
     """How a command is written."""
-    words = " ".join(form).replace("ON_OFF", "on|off").replace("TO", "ID") if form else ""
+    words = " ".join(form).replace("ON_OFF", "on|off").replace("TO", "ID").replace("NEED", "mandatory|optional")
     return f"{name} {words}".strip()
 
 
@@ -78,6 +79,9 @@ def wrong_word(kind, word):
     elif kind == "ON_OFF":
         if word not in ("on", "off"):
             return f"on or off, not {word}"
+    elif kind == "NEED":
+        if word not in ("mandatory", "optional"):
+            return f"mandatory or optional, not {word}"
     elif kind.isupper() and kind != "TEXT" and not re.fullmatch(r"[0-9]{1,10}", word):
         if re.match(r"0[xX]", word):
             return f"{kind} is a decimal number, not {word}"
@@ -121,7 +125,7 @@ def bad_syntax(command):
     return None
 
 
-def out_of_range(command):
+def out_of_range(command, project):
     """Hints on `3 Range`."""
     first, *rest = [tool.shown(word) for word in command.words]
     for kind, word in zip(form_of(first, rest), rest):
@@ -131,6 +135,8 @@ def out_of_range(command):
                 return f"{'ID' if kind == 'TO' else kind} is {low} to {high:,}, not {int(word):,}"
         if kind == "SYNC_US" and 0 < int(word) < 1000:
             return f"SYNC_US is 0 or at least 1,000 microseconds, not {int(word)}"
+        if kind == "COUNTER" and int(word) == 1:
+            return "COUNTER is 0 or 2 to 240, not 1"
         if kind == "COB" and int(word, 16) > 0x7FF:
             return f"COB is at most 7FF, not {word}"
         if kind == "CMD" and int(word) not in (1, 2, 128, 129, 130):
@@ -141,6 +147,8 @@ def out_of_range(command):
             return f"K is 1 to 10,000, not {int(word):,}"
         if kind == "INDEX" and first in ("param", "event") and 0x1400 <= int(word, 16) <= 0x1BFF:
             return "the objects 1400h to 1BFFh of PDOs come from messages: message, source, sink"
+    if first == "need" and project.version == 1:
+        return "mandatory nodes are of version 2: the command `version 2` comes first"
     if first == "eds":
         return script.why_no_eds(b"".join(line + b"\n" for line in command.block or ()))
     return None
@@ -215,6 +223,8 @@ class Hints:
         return None
 
     def in_use(self, command, project):
+        if command.name == b"version":
+            return f"mandatory: {list_of(sorted(project.mandatory))}" if project.mandatory else None
         word = tool.shown(command.words[1]) if len(command.words) > 1 else ""
         if command.name == b"drop-eds":
             nodes = [node for node, (_, eds) in sorted(project.nodes.items()) if eds == word]
@@ -223,7 +233,7 @@ class Hints:
 
     def why(self, command, project):
         """Why an edit would be refused, as far as the script shows, or None."""
-        return (truncated(command) or bad_syntax(command) or out_of_range(command) or self.unknown(command, project)
+        return (truncated(command) or bad_syntax(command) or out_of_range(command, project) or self.unknown(command, project)
                 or self.taken(command, project) or self.in_use(command, project))
 
     def of(self, command, reply, project):
@@ -234,7 +244,7 @@ class Hints:
         if number == 2:
             return bad_syntax(command)
         if number in (3, 8):
-            return out_of_range(command)
+            return out_of_range(command, project)
         if number == 4:
             return self.unknown(command, project)
         if number == 5:

@@ -22,7 +22,7 @@ class Message:
 
     def __init__(self, node, tpdo, words):
         self.node, self.tpdo, self.words = node, tpdo, words
-        self.sources, self.sinks = {}, {}
+        self.start, self.sources, self.sinks = 0, {}, {}
 
 
 class Event:
@@ -38,6 +38,7 @@ class Project:
 
     def __init__(self):
         self.bitrate, self.horizon, self.manager = 1000, 1_000_000, (127, 0, 0, 500)
+        self.version, self.sync_counter, self.mandatory = 1, 0, set()
         self.texts, self.nodes, self.params, self.messages, self.events = {}, {}, {}, {}, {}
 
     def take(self, command):
@@ -72,6 +73,16 @@ class Project:
     def _manager(self, command, words):
         self.manager = tuple(number(word) for word in words)
 
+    def _version(self, command, words):
+        self.version = number(words[0])
+
+    def _sync_counter(self, command, words):
+        self.sync_counter = number(words[0])
+
+    def _need(self, command, words):
+        change = self.mandatory.add if words[1] == "mandatory" else self.mandatory.discard
+        change(number(words[0]))
+
     def _eds(self, command, words):
         self.texts[words[0]] = command.block or []
 
@@ -84,6 +95,7 @@ class Project:
     def _drop_node(self, command, words):
         node = number(words[0])
         self.nodes.pop(node, None)
+        self.mandatory.discard(node)
         self.params = {key: text for key, text in self.params.items() if key[0] != node}
 
     def _param(self, command, words):
@@ -96,8 +108,11 @@ class Project:
         message = Message(number(words[1]), number(words[2]), words[3:])
         known = self.messages.get(words[0])
         if known:
-            message.sources, message.sinks = known.sources, known.sinks
+            message.start, message.sources, message.sinks = known.start, known.sources, known.sinks
         self.messages[words[0]] = message
+
+    def _start(self, command, words):
+        self.messages[words[0]].start = number(words[1])
 
     def _drop_message(self, command, words):
         self.messages.pop(words[0], None)

@@ -24,7 +24,8 @@ use Rattle.co_sdo_client.specs.declared.progress.Progress.TheVariants as progres
 use Rattle.co_sdo_client.specs.declared.client_transfer.ClientTransfer.{ClientTransfer as Transfer}
 use Rattle.device_agenda.specs.Agenda.{hears}
 use Rattle.nmt_boot.proofs.EventLemmas.{answered_reads, boots_reads}
-use Rattle.nmt_boot.specs.Manager.{Manager, after_boot_up, is_boot_up, node_at, place_of, after_frame, after_sdo_frame}
+use Rattle.nmt_boot.specs.Manager.{Manager, after_boot_up, is_boot_up, after_frame, after_sdo_frame}
+use Rattle.boot_table.specs.Table.{node_at, place_of}
 use Rattle.node_boot.specs.Boot.{after_compare, after_write, boot_nmt_slave, check_identity, compared_next}
 use Rattle.node_boot.specs.Boot.{download_configuration, is_as_expected, next_compared, sdo_answer}
 use Rattle.node_boot.specs.declared.boot_stage.BootStage.{BootStage}

@@ -65,7 +65,10 @@ module _ (network : Network) where
   syncs_keep t m h = by (is_due t m.sync)
     where
       by : (b : Bool) → HasPeriods network (if b
-          then record m { sync = moment_after t m.sync_period; waiting = with_latest Sync sync_frame m.waiting } else m)
+          then record m {
+            sync = moment_after t m.sync_period;
+            waiting = with_latest Sync (sync_frame m.sync_counter m.sync_period t) m.waiting;
+          } else m)
       by true = record { heartbeat = h.heartbeat; sync = h.sync }
       by false = h
 

@@ -1,6 +1,7 @@
 pub mod SpanLemmas
 pub mod ThroughLemmas
 pub mod BeatLemmas
+pub mod StartedLemmas
 pub mod LeftLemmas
 pub mod LeaveLemmas
 pub mod StageLemmas

@@ -12,6 +12,7 @@ use Rattle.can_frame.specs.Identifiers.{nmt_id, sdo_request_id}
 use Rattle.co_device.specs.Device.{Device, is_addressed, is_error_control, is_in, nmt_service, reset_communication}
 use Rattle.co_device.specs.Device.{after_reset_node, after_sdo_request, with_emergency}
 use Rattle.co_device.specs.Receiving.{after_mapping, after_kept_frame, after_pdo, rpdo_places, after_frame, after_rpdo}
+use Rattle.co_pdos.specs.Sync.{sync_message}
 use Rattle.co_device.specs.Receiving.{after_sync_at, after_sync, after_receipt, walk}
 use Rattle.co_fields.specs.declared.nmt_state.NmtState.TheVariants.{Operational, Stopped}
 use Rattle.co_parts.specs.Contents.{Content, Image}
@@ -233,10 +234,10 @@ module _ (image : Image) (t : ℕ) (frame : BaseFrame) (d : Device) where
   pdo_reads = picked image R (is_in Operational d) _ _ (λ e. walk_reads e (rpdo_places d) d refl (inl (λ i. refl)))
       (λ e. tt)
 
-  sync_reads : frame.id ≡ sync_identifier d.learnt d.values → AreFor R (reads (after_sync t d) image)
+  sync_reads : frame.id ≡ sync_identifier d.learnt d.values → AreFor R (reads (after_sync t frame.bytes d) image)
   unfolding after_sync
   sync_reads is = picked image R (is_in Operational d) _ _ (λ e. sync_walk e is (rpdo_places d)
-      (record d { synced = true }) refl (inl refl)) (λ e. tt)
+      (record d { synced = Some (sync_message frame.bytes) }) refl (inl refl)) (λ e. tt)
 
   pub frame_reads : AreFor (λ part. (d.has_power ≡ true) × R part) (reads (after_frame t frame d) image)
   unfolding after_frame

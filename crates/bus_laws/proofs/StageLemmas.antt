@@ -25,10 +25,12 @@ use Rattle.node_boot.specs.Boot.{compared_next, next_compared, sdo_answer, sdo_t
 use Rattle.node_boot.specs.declared.boot_stage.BootStage.{BootStage}
 use Rattle.node_boot.specs.declared.boot_stage.BootStage.TheVariants.{Unseen, Comparing, Writing, Configured, Failed}
 use Rattle.nmt_boot.proofs.EventLemmas.{answered_outcome, boots_outcome}
-use Rattle.nmt_boot.specs.Manager.{Manager, after_boot_up, heartbeat_frame, is_boot_up, is_from, no_node, node_after}
-use Rattle.nmt_boot.specs.Manager.{node_at, place_of, after_frame, after_sdo_frame, sync_frame, timers, heartbeats}
+use Rattle.nmt_boot.specs.Manager.{Manager, after_boot_up, heartbeat_frame, is_boot_up}
+use Rattle.boot_table.specs.Table.{is_from, no_node, node_after}
+use Rattle.nmt_boot.specs.Manager.{after_frame, after_sdo_frame, sync_frame, timers, heartbeats}
+use Rattle.boot_table.specs.Table.{node_at, place_of}
 use Rattle.nmt_boot.specs.Manager.{syncs, time_outs}
-use Rattle.nmt_boot.specs.declared.booting.Booting.{Booting}
+use Rattle.boot_table.specs.declared.booting.Booting.{Booting}
 use Rattle.can_bus.specs.Bus.{Bus, ended_slot, instant, manager_after_slot}
 use Rattle.can_bus.specs.declared.slot.Slot.{Slot}
 use Rattle.bus_laws.specs.Boots.{FollowsWrite, IsBootUpOf, IsConfirmedBy}
@@ -254,7 +256,10 @@ module _ (image : Image) (t i : ℕ) (heard : Option Slot) (n : Booting) (P : Bo
     where
       by : (b : Bool)
           → Holds (if b
-          then record m { sync = moment_after t m.sync_period; waiting = with_latest Sync sync_frame m.waiting } else m)
+          then record m {
+            sync = moment_after t m.sync_period;
+            waiting = with_latest Sync (sync_frame m.sync_counter m.sync_period t) m.waiting;
+          } else m)
       by true = h
       by false = h
 

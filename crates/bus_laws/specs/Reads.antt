@@ -23,8 +23,9 @@ use Rattle.co_sdo_client.specs.declared.progress.Progress.TheVariants as progres
 use Rattle.co_sdo_client.specs.declared.client_transfer.ClientTransfer.{ClientTransfer as Transfer}
 use Rattle.device_laws.specs.Ahead.{IsOwnPart}
 use Rattle.device_pdos.specs.Rpdos.{receipt_of, rpdo_at}
-use Rattle.nmt_boot.specs.Manager.{Manager, node_at}
-use Rattle.nmt_boot.specs.declared.booting.Booting.{Booting}
+use Rattle.nmt_boot.specs.Manager.{Manager}
+use Rattle.boot_table.specs.Table.{node_at}
+use Rattle.boot_table.specs.declared.booting.Booting.{Booting}
 use Rattle.node_boot.specs.Boot.{is_as_expected, next_compared}
 use Rattle.node_boot.specs.declared.boot_stage.BootStage.{BootStage}
 use Rattle.node_boot.specs.declared.boot_stage.BootStage.TheVariants.{Unseen, Comparing, Writing, Configured, Failed}

@@ -1,6 +1,6 @@
 //! Laws of the runs of a bus, each a function whose contract is the law.
 
-ghost use Rattle.std.specs.Prelude.{◌≡◌, ◌⊎◌, ◌↔◌, ◌+◌, ◌*◌, ℕ, [], Some, None, true};
+ghost use Rattle.std.specs.Prelude.{◌≡◌, ◌⊎◌, ◌↔◌, ◌+◌, ◌*◌, ℕ, [], Some, None, true, false};
 ghost use Rattle.asking.specs.Agenda.{IsSameUnder};
 ghost use Rattle.asking.specs.Asking.{outcome, turns};
 ghost use Rattle.bus_laws.specs.Boots.{FollowsWrite, IsBootUpOf};
@@ -17,7 +17,8 @@ ghost use Rattle.co_base.specs.Moments.{is_due};
 ghost use Rattle.co_parts.specs.declared.part.Part.TheVariants as part;
 ghost use Rattle.co_sdo_client.specs.declared.client_transfer.ClientTransfer.{ClientTransfer as Transfer};
 ghost use Rattle.nmt_boot.specs.Beats.{IsMultiple};
-ghost use Rattle.nmt_boot.specs.Manager.{node_at};
+ghost use Rattle.boot_table.specs.Table.{all_configured, node_at};
+ghost use Rattle.co_parts.specs.declared.start_mode.StartMode.TheVariants.{EachNode};
 ghost use Rattle.node_boot.specs.Boot.{deadline_of};
 ghost use Rattle.node_boot.specs.declared.boot_stage.BootStage.TheVariants as stage;
 
@@ -44,6 +45,20 @@ pub fn heartbeat_and_sync_are_due_at_whole_multiples()
         ↔ IsMultiple t (1000 * (roster_of (image part.Roster)).heartbeat_ms) }
     ensures sync { (image : Image) (t : ℕ)
         → (is_due t (bus_at image t).manager.sync ≡ true) ↔ IsMultiple t (roster_of (image part.Roster)).sync_us }
+{}
+
+/// In a run the network is started as a whole at most once: only in an instant that leaves each mandatory node
+/// configured, and then it stays started to the end, whatever is lost. Where the roster has each node started by
+/// itself, that never happens.
+#[tactic(auto, using(crate::proofs::StartedLemmas::starts_with_mandatory, crate::proofs::StartedLemmas::stays_started, crate::proofs::StartedLemmas::never_started))]
+pub fn the_network_is_started_once_in_a_run()
+    ensures mandatory { (image : Image) (t : ℕ) → (bus_at image t).manager.startup.is_started ≡ false
+        → (bus_at image (t + 1)).manager.startup.is_started ≡ true
+        → all_configured (bus_at image (t + 1)).manager.nodes (roster_of (image part.Roster)).mandatory ≡ true }
+    ensures stays { (image : Image) (t more : ℕ) → (bus_at image t).manager.startup.is_started ≡ true
+        → (bus_at image (t + more)).manager.startup.is_started ≡ true }
+    ensures each_node { (image : Image) (t : ℕ) → (roster_of (image part.Roster)).start_mode ≡ EachNode
+        → (bus_at image t).manager.startup.is_started ≡ false }
 {}
 
 /// The frame that starts at an idle wire is the winner: it leaves its place in the list of its node, all other lists

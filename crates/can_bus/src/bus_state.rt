@@ -21,7 +21,7 @@ use bus_devices::{Devices, new_devices, power_all};
 use bus_events::StepsLeft;
 use can_frame::{Frame, bit_time, slot_bits};
 use co_base::Octets;
-use co_parts::{END, Roster};
+use co_parts::{END, Roster, StartMode};
 use nmt_boot::Manager;
 use node_boot::Notes;
 use std::alloc::{AllocError, Global};
@@ -73,8 +73,11 @@ fn first_roster(alloc: Global) -> Roster
         bit_rate: 1000,
         manager: 127,
         sync_us: 0,
+        sync_counter: 0,
         heartbeat_ms: 0,
         timeout_ms: 500,
+        start_mode: StartMode::EachNode,
+        mandatory: Octets::from_vec(Vec::new(alloc)),
         nodes: Octets::from_vec(Vec::new(alloc)),
     }
 }

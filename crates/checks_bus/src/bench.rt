@@ -10,7 +10,7 @@ use can_frame::{Frame, Waiting};
 use co_base::Octets;
 use co_device::DeviceState;
 use co_dict::Access;
-use co_parts::{END, Identity, Roster};
+use co_parts::{END, Identity, Roster, StartMode};
 use co_scenario::NmtCommand;
 use concise_dcf::Write as Written;
 use nmt_boot::Manager;
@@ -27,22 +27,54 @@ pub struct Bench {
     node: OneNode,
     device: DeviceState,
     last: u64,
+    roster: Roster,
     manager: Manager,
     notes: Notes,
 }
 
-/// The manager 127 of the nodes 5 and 9. The number is the time-out and the first bytes are the producer
-/// heartbeat time, both in milliseconds; the second bytes are the time of SYNC in microseconds.
-fn powered_on(alloc: Global, step: &Step) -> Result<Manager> {
-    let roster = Roster {
+/// The network of the manager 127 and the nodes 5 and 9, each of which is started by itself. Its times are 0.
+fn roster_of(alloc: Global) -> Result<Roster, AllocError> {
+    Ok(Roster {
         bit_rate: 1000,
         manager: 127,
-        sync_us: step.long_number(),
-        heartbeat_ms: step.number(),
-        timeout_ms: (step.time % 1000) as u16,
+        sync_us: 0,
+        sync_counter: 0,
+        heartbeat_ms: 0,
+        timeout_ms: 0,
+        start_mode: StartMode::EachNode,
+        mandatory: Octets::from_slice(alloc, &[])?,
         nodes: Octets::from_slice(alloc, &[5, 9])?,
-    };
-    Ok(Manager::powered_on(alloc, &roster)?)
+    })
+}
+
+/// Sets the times of a network. The number is the time-out and the first bytes are the producer heartbeat
+/// time, both in milliseconds; the second bytes are the time of SYNC in microseconds.
+fn set_times(roster: &mut Roster, step: &Step) {
+    roster.timeout_ms = (step.time % 1000) as u16;
+    roster.heartbeat_ms = step.number();
+    roster.sync_us = step.long_number();
+}
+
+/// Sets when a network starts its nodes. The number is the last one that the counter of SYNC has, and the
+/// first bytes are the mandatory nodes.
+fn set_start(
+    alloc: Global,
+    roster: &mut Roster,
+    mode: StartMode,
+    step: &Step,
+) -> Result<(), AllocError> {
+    roster.mandatory = Octets::from_slice(alloc, &step.head)?;
+    roster.start_mode = mode;
+    roster.sync_counter = (step.time % 256) as u8;
+    Ok(())
+}
+
+/// The start mode that a word gives.
+fn mode_of(word: &str) -> StartMode {
+    match word {
+        "whole" => StartMode::WholeNetwork,
+        _ => StartMode::EachNode,
+    }
 }
 
 /// The access that a word gives.
@@ -123,6 +155,7 @@ impl Bench {
             node,
             device: DeviceState::new(alloc, 5),
             last: 0,
+            roster: roster_of(alloc)?,
             manager: Manager::new(alloc),
             notes: Notes::new(alloc),
         })
@@ -133,8 +166,9 @@ impl Bench {
     /// Of a device speak `on` and `off` (its power), `anew` (both, and its boot-up is taken), `device` (it
     /// takes a frame), `beat` (the same, and then it runs what is due), `run` (the same at each moment from
     /// that of the line before), `set` (its application sets an entry), `sends` (its winner starts) and
-    /// `value` (of one or two entries); of a manager `network`, `manager`, `clock`, `command` and `orders`;
-    /// all others speak of the parts.
+    /// `value` (of one or two entries); of a manager `network`, `manager`, `clock`, `command` and `orders`; of
+    /// the networks that follow `each` and `whole` (which nodes are started, and when); all others speak of the
+    /// parts.
     pub fn play<W: Write>(&mut self, out: &mut W, line: &str) -> Result<()> {
         let (word, text) = line.split_once(' ').unwrap_or((line, ""));
         if word == "#" {
@@ -154,6 +188,7 @@ impl Bench {
                 self.play_manager(out, word, step)
             }
             "value" => self.show_values(out, step),
+            "each" | "whole" => self.change_start(word, step),
             "expect" | "write" | "forget" => self.change_boot(word, step),
             _ => self.change_entries(word, step),
         }
@@ -237,11 +272,17 @@ impl Bench {
         show_manager(out, &self.manager, &before)
     }
 
+    /// Changes when the networks that follow start their nodes.
+    fn change_start(&mut self, word: &str, step: &Step) -> Result<()> {
+        Ok(set_start(self.alloc, &mut self.roster, mode_of(word), step)?)
+    }
+
     /// Makes the manager of a network, gives it a frame or a command, runs what is due, or takes its winner.
     fn change_manager<W: Write>(&mut self, out: &mut W, word: &str, step: &Step) -> Result<()> {
         match word {
             "network" => {
-                self.manager = powered_on(self.alloc, step)?;
+                set_times(&mut self.roster, step);
+                self.manager = Manager::powered_on(self.alloc, &self.roster)?;
                 Ok(())
             }
             "orders" => show_taken(out, take_of_manager(&mut self.manager, true)),

@@ -113,18 +113,24 @@ const HELP: &[u8] = b"\
     \x20 -V, --version        Print version\n\
     \n\
     Edits. Numbers are decimal; INDEX, SUB and COB are hexadecimal, without 0x.\n\
+    \x20 version V                            1, or 2, where nodes can be mandatory\n\
     \x20 bitrate K                            10, 20, 50, 125, 250, 500, 1000 kbit/s\n\
     \x20 horizon US                           the simulation ends, 0 to 10000000 us\n\
     \x20 manager ID SYNC_US HB_MS TIMEOUT_MS  who boots the nodes; 0 for no SYNC or HB\n\
+    \x20 sync-counter N                       SYNC counts to N, 2 to 240; 0 for none\n\
     \x20 eds NAME LINES                       the next LINES lines are an EDS\n\
     \x20 drop-eds NAME\n\
     \x20 node ID NAME EDS                     node 1 to 127, by the EDS of that name\n\
+    \x20 need ID mandatory|optional           in version 2 the network starts once all\n\
+    \x20                                      mandatory nodes are configured\n\
     \x20 drop-node ID\n\
     \x20 param ID INDEX SUB TEXT              the value of an entry of a node\n\
     \x20 unparam ID INDEX SUB\n\
     \x20 message NAME ID TPDO TYPE INHIBIT EVENT COB\n\
     \x20                                      a PDO of node ID: INHIBIT in 100 us,\n\
     \x20                                      EVENT in ms, COB 0 for an automatic one\n\
+    \x20 start MESSAGE N                      its sender counts from SYNC N, 1 to 240;\n\
+    \x20                                      0 for any\n\
     \x20 drop-message NAME\n\
     \x20 source MESSAGE POS INDEX SUB         the sender's entry at position 1 to 64\n\
     \x20 unsource MESSAGE POS\n\
@@ -135,7 +141,8 @@ const HELP: &[u8] = b"\
     \x20 event K TIME nmt CMD ID              1 start, 2 stop, 128 pre-operational,\n\
     \x20                                      129 and 130 reset; ID 0 for all nodes\n\
     \x20 drop-event K\n\
-    The first project has 1000 kbit/s, horizon 1000000, manager 127 0 0 500.\n\
+    The first project has version 1, 1000 kbit/s, horizon 1000000, manager\n\
+    127 0 0 500 and no SYNC counter.\n\
     \n\
     Queries:\n\
     \x20 dcf ID    the device configuration file of a node (CiA 306)\n\
@@ -146,15 +153,19 @@ const HELP: &[u8] = b"\
     \n\
     Each command has one reply: ok, or lines K with K lines behind it, or\n\
     refused N NAME, which leaves all as it was:\n\
-    \x20 1 Memory     no memory; the session ends\n\
-    \x20 2 Syntax     unknown command, number of words, or a word not of its form\n\
-    \x20 3 Range      a number outside its limits\n\
-    \x20 4 Unknown    no such EDS, node, parameter, message, source, sink or event\n\
-    \x20 5 Taken      the number or the name of another node\n\
-    \x20 6 InUse      nodes, messages or events still name it\n\
-    \x20 7 Limit      one more than there can be\n\
-    \x20 8 BadByte    a control byte in an EDS\n\
-    \x20 9 Truncated  the input ends inside an EDS\n\
+    \x20 1 Memory     no memory; the session ends. Give it more, and run it again\n\
+    \x20 2 Syntax     no such command, too few or many words, or a word not of its\n\
+    \x20              form. Mend the line; files and comments: tools/expand\n\
+    \x20 3 Range      a number outside its limits, or need in version 1. Take one\n\
+    \x20              within them; 1400h to 1BFFh are set by message, source, sink\n\
+    \x20 4 Unknown    no such EDS, node, parameter, message, source, sink or event.\n\
+    \x20              Make it first, or correct the name: project has what there is\n\
+    \x20 5 Taken      the number or the name of another node. Choose another\n\
+    \x20 6 InUse      nodes, messages or events still name it, or a node is\n\
+    \x20              mandatory. Drop these first, or make them optional\n\
+    \x20 7 Limit      one more than there can be. Drop one that isn't needed\n\
+    \x20 8 BadByte    a control byte in an EDS. Save it as plain text\n\
+    \x20 9 Truncated  the input ends inside an EDS. Correct LINES, or the file\n\
     \n\
     Exit status: 0 where all was answered, refused commands too; 1 where the\n\
     session failed, with cobench: N NAME on the standard error; 2 for wrong words.\n\

@@ -10,7 +10,7 @@ use Rattle.co_edits.specs.declared.fault.EditFault.TheVariants.{Unknown}
 use Rattle.co_commands.specs.declared.query.Query.{Query}
 use Rattle.co_commands.specs.declared.query.Query.TheVariants.{Dcf, Cdcf, Diag, Trace, Project}
 use Rattle.co_project.specs.Project.{Content}
-use Rattle.co_project.specs.Script.{script}
+use Rattle.project_script.specs.Script.{script}
 use Rattle.can_bus.specs.Lines.{lines_text}
 use Rattle.can_bus.specs.Runs.{trace}
 use Rattle.can_bus.specs.declared.line.Line.{Line}

@@ -5,7 +5,7 @@ ghost use Rattle.co_diag.specs.Found.{diagnostics_of};
 ghost use Rattle.co_edits.specs.Accepts.{Accepts};
 ghost use Rattle.co_edits.specs.Faults.{is_memory};
 ghost use Rattle.co_project.specs.Project.{accept, adds, first};
-ghost use Rattle.co_project.specs.Script.{script};
+ghost use Rattle.project_script.specs.Script.{script};
 ghost use Rattle.co_project.specs.Sound.{IsSound};
 ghost use Rattle.co_project.specs.Tables.{node_at};
 ghost use Rattle.co_memo.specs.Work.{idle};
@@ -24,6 +24,7 @@ use co_segments::Store;
 use kept_diagnostics::{Diagnostics, KeptDiagnostics};
 use kept_image::{ImagePart, KeptImage};
 use kept_parts::Part;
+use project_script::script_text;
 use std::alloc::{AllocError, Global};
 use std::marker::Model;
 
@@ -249,6 +250,6 @@ impl Workbench {
         // So these commands make it again.
         ensures sound { IsSound self.now.project }
     {
-        self.project.script()
+        script_text(self.alloc, &self.project)
     }
 }

@@ -15,11 +15,16 @@ use Rattle.co_text.specs.Words.{after}
 use Rattle.co_text.specs.Digits.{byte_digits, index_digits}
 use Rattle.co_base.specs.Ranges.{is_between, AreIndices}
 use Rattle.co_edits.specs.Forms.{is_name, is_node_number, is_node_or_all, is_bit_rate, is_time, is_sync_period}
-use Rattle.co_edits.specs.Forms.{is_event_number}
+use Rattle.co_edits.specs.Forms.{is_event_number, is_sync_counter}
+use Rattle.co_edits.specs.declared.script_version.ScriptVersion.{ScriptVersion}
+use Rattle.co_edits.specs.declared.script_version.ScriptVersion.TheVariants.{One, Two}
+use Rattle.co_edits.specs.Versions.{number_of as version_number, version_of as version_by_number}
 use Rattle.co_commands.specs.Requests.{block_of, bitrate_of, horizon_of, manager_of, drop_eds_of, node_of, drop_node_of}
 use Rattle.co_commands.specs.Requests.{id_of, param_of, unparam_of, event_at_time, set_of, switch, power_of, nmt}
 use Rattle.co_commands.specs.Requests.{nmt_of, happening_of, event_of, drop_event_of}
+use Rattle.co_commands.specs.Requests.{version_of, sync_counter_of, is_mandatory, need_of}
 use Rattle.co_edits.specs.Edits.{IsManager, IsSetting}
+use Rattle.co_lines.specs.Lines.{need_word}
 use Rattle.co_commands.proofs.NumberLemmas.{decimal_again, index_again, sub_again}
 use Rattle.co_commands.proofs.LineLemmas.{Has, Ends, Keeps}
 
@@ -57,6 +62,13 @@ command_below EnterPreOperational = lit< tt
 command_below ResetNode = lit< tt
 command_below ResetCommunication = lit< tt
 
+pub counter_below : (n : ℕ) → is_sync_counter n ≡ true → n < 10 ^ 10
+counter_below n fits = let few : n ≤ 240 = grind (arith, nat_tests) in omega arith
+
+pub version_below : (v : ScriptVersion) → version_number v < 10 ^ 10
+version_below One = lit< tt
+version_below Two = lit< tt
+
 -- ---- commands
 
 pub block_is : (line : List ℕ) (name : List ℕ) (count : ℕ) → Has Ends line (name ∷ decimal count ∷ [])
@@ -70,6 +82,15 @@ block_is line name count h named few = rw (
   h.0,
   named,
 ) refl
+
+version_again : (v : ScriptVersion) → version_by_number (version_number v) ≡ Ok v
+version_again One = refl
+version_again Two = refl
+
+pub version_is : (line : List ℕ) (v : ScriptVersion) → Has Ends line (decimal (version_number v) ∷ [])
+    → version_of line ≡ Ok (edit.Version v)
+unfolding version_of
+version_is line v h = rw (h.1, h.0, decimal_again (version_number v) (version_below v), version_again v) refl
 
 pub bitrate_is : (line : List ℕ) (rate : ℕ) → Has Ends line (decimal rate ∷ []) → is_bit_rate rate ≡ true
     → bitrate_of line ≡ Ok (edit.Bitrate rate)
@@ -95,6 +116,11 @@ manager_is line m h is =
     ) (
     rw (is.0, is.1, is.2, is.3) refl))
 
+pub sync_counter_is : (line : List ℕ) (n : ℕ) → Has Ends line (decimal n ∷ []) → is_sync_counter n ≡ true
+    → sync_counter_of line ≡ Ok (edit.SyncCounter n)
+unfolding sync_counter_of
+sync_counter_is line n h fits = rw (h.1, h.0, decimal_again n (counter_below n fits), fits) refl
+
 pub drop_eds_is : (line name : List ℕ) → Has Ends line (name ∷ []) → is_name name ≡ true
     → drop_eds_of line ≡ Ok (edit.DropEds name)
 unfolding drop_eds_of
@@ -106,6 +132,16 @@ pub node_is : (line : List ℕ) (id : ℕ) (called eds : List ℕ) → Has Ends 
 unfolding node_of
 node_is line id called eds h fits named made =
     rw (h.1.1.1, h.0, h.1.0, h.1.1.0, decimal_again id (id_below id fits), named, made, fits) refl
+
+need_again : (mandatory : Bool) → is_mandatory (need_word mandatory) ≡ Ok mandatory
+need_again true = refl
+need_again false = refl
+
+pub need_is : (line : List ℕ) (id : ℕ) (mandatory : Bool) → Has Ends line (decimal id ∷ need_word mandatory ∷ [])
+    → is_node_number id ≡ true → need_of line ≡ Ok (edit.Need id mandatory)
+unfolding need_of
+need_is line id mandatory h fits =
+    rw (h.1.1, h.0, h.1.0, decimal_again id (id_below id fits), need_again mandatory, fits) refl
 
 pub drop_node_is : (line : List ℕ) (id : ℕ) → Has Ends line (decimal id ∷ []) → is_node_number id ≡ true
     → drop_node_of line ≡ Ok (edit.DropNode id)

@@ -5,14 +5,14 @@ use Rattle.co_text.specs.Words.{after}
 use Rattle.co_text.specs.Digits.{byte_digits, index_digits, identifier_digits}
 use Rattle.co_base.specs.Ranges.{is_between, AreIndices}
 use Rattle.co_messages.specs.declared.message.Message.{Message}
-use Rattle.co_messages.specs.Messages.{IsMessage, is_position}
+use Rattle.co_messages.specs.Messages.{IsMessage, is_position, is_start}
 use Rattle.co_edits.specs.declared.edit.Edit.TheVariants as edit
 use Rattle.co_edits.specs.Forms.{is_name, is_node_number, is_tpdo_number}
 use Rattle.co_lines.specs.Lines.{words_of, line_of}
 use Rattle.co_commands.specs.declared.stated.Stated.{Stated}
 use Rattle.co_commands.specs.declared.request.Request.TheVariants.{Edit as EditAsked}
 use Rattle.co_commands.specs.Links.{stated_numbers, message_within, message_of, drop_message_of, source_of, unsource_of}
-use Rattle.co_commands.specs.Links.{sink_of, unsink_of}
+use Rattle.co_commands.specs.Links.{sink_of, start_of, unsink_of}
 use Rattle.co_commands.specs.Requests.{command_of, link_of, edit_request}
 use Rattle.co_commands.proofs.NumberLemmas.{number_word, index_is_word, sub_is_word, identifier_is_word, name_word}
 use Rattle.co_commands.proofs.NumberLemmas.{decimal_again, index_again, sub_again, identifier_again}
@@ -29,6 +29,9 @@ byte_below n fits = omega (arith, most 0 255 n fits)
 
 position_below : (n : ℕ) → is_position n ≡ true → n < 10 ^ 10
 position_below n fits = omega (arith, most 1 64 n fits)
+
+start_below : (n : ℕ) → is_start n ≡ true → n < 10 ^ 10
+start_below n fits = omega (arith, most 0 240 n fits)
 
 -- ---- commands
 
@@ -72,6 +75,12 @@ module _ (m : Message) (is : IsMessage m) where
       → message_of line ≡ Ok (edit.Message name m)
   unfolding message_of
   message_is line name h named = rw (h.0, named, stated_is (after line) h.1, within_is) refl
+
+start_is : (line message : List ℕ) (n : ℕ) → Has Ends line (message ∷ decimal n ∷ []) → is_name message ≡ true
+    → is_start n ≡ true → start_of line ≡ Ok (edit.Start message n)
+unfolding start_of
+start_is line message n h named fits =
+    rw (h.1.1, h.0, h.1.0, named, decimal_again n (start_below n fits), fits) refl
 
 drop_message_is : (line name : List ℕ) → Has Ends line (name ∷ []) → is_name name ≡ true
     → drop_message_of line ≡ Ok (edit.DropMessage name)
@@ -148,6 +157,13 @@ read_message name m named is =
     (more (number_word m.transmission (byte_below m.transmission is.3)) times)) in
     let line = more (name_word name named) sender in
     command (codes "message") refl (lit≤ tt) line refl (ap edit_request (message_is m is _ name line.has named))
+
+pub read_start : (message : List ℕ) (n : ℕ) → is_name message ≡ true → is_start n ≡ true
+    → IsRead (line_of (edit.Start message n)) (EditAsked (edit.Start message n))
+unfolding line_of words_of command_of link_of
+read_start message n named fits =
+    let line = more (name_word message named) (last (number_word n (start_below n fits))) in
+    command (codes "start") refl (lit≤ tt) line refl (ap edit_request (start_is _ message n line.has named fits))
 
 pub read_drop_message : (name : List ℕ) → is_name name ≡ true
     → IsRead (line_of (edit.DropMessage name)) (EditAsked (edit.DropMessage name))

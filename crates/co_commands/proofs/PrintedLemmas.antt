@@ -14,7 +14,8 @@ use Rattle.co_edits.specs.Eds.{IsEds}
 use Rattle.co_edits.specs.Forms.{is_event_number, is_time}
 use Rattle.co_commands.specs.Requests.{command_of, edit_request, event_at_time, happening_of}
 use Rattle.co_edits.specs.Edits.{IsEdit, IsManager, IsSetting, IsEvent}
-use Rattle.co_lines.specs.Lines.{event_words, words_of, line_of}
+use Rattle.co_edits.specs.Versions.{number_of as version_number}
+use Rattle.co_lines.specs.Lines.{event_words, need_word, words_of, line_of}
 use Rattle.co_commands.specs.Asked.{asks}
 use Rattle.co_commands.proofs.WordLemmas.{IsWord}
 use Rattle.co_commands.proofs.NumberLemmas.{number_word, index_is_word, sub_is_word, name_word}
@@ -23,8 +24,9 @@ use Rattle.co_commands.proofs.CommandLemmas.{most, node_below, id_below, rate_be
 use Rattle.co_commands.proofs.CommandLemmas.{key_below, short_below, command_below, block_is, bitrate_is, horizon_is}
 use Rattle.co_commands.proofs.CommandLemmas.{manager_is, drop_eds_is, node_is, drop_node_is, param_is, unparam_is}
 use Rattle.co_commands.proofs.CommandLemmas.{drop_event_is, event_is, set_is, power_is, nmt_is}
+use Rattle.co_commands.proofs.CommandLemmas.{counter_below, need_is, sync_counter_is, version_below, version_is}
 use Rattle.co_commands.proofs.LinkLemmas.{read_message, read_drop_message, read_source, read_unsource, read_sink}
-use Rattle.co_commands.proofs.LinkLemmas.{read_unsink}
+use Rattle.co_commands.proofs.LinkLemmas.{read_start, read_unsink}
 use Rattle.co_commands.proofs.BlockLemmas.{lines_counted}
 
 -- ---- words at the end of a line
@@ -40,6 +42,10 @@ setting index sub text is = more (index_is_word index (most 0 65535 index is.0.0
 switch_word : (on : Bool) → IsWord 12 (if on then codes "on" else codes "off")
 switch_word true = short (codes "on") refl
 switch_word false = short (codes "off") refl
+
+need_is_word : (mandatory : Bool) → IsWord 12 (need_word mandatory)
+need_is_word true = short (codes "mandatory") refl
+need_is_word false = short (codes "optional") refl
 
 -- ---- events
 
@@ -93,6 +99,9 @@ read_eds name text is =
 -- the line of each edit asks for it
 pub read_again : (o : Edit) → IsEdit o → IsRead (line_of o) (asks o)
 unfolding IsEdit line_of words_of command_of
+read_again (edit.Version v) is =
+    let line = last (number_word (version_number v) (version_below v)) in
+    command (codes "version") refl (lit≤ tt) line refl (ap edit_request (version_is _ v line.has))
 read_again (edit.Bitrate rate) fits =
     let line = last (number_word rate (rate_below rate fits)) in
     command (codes "bitrate") refl (lit≤ tt) line refl (ap edit_request (bitrate_is _ rate line.has fits))
@@ -100,6 +109,9 @@ read_again (edit.Horizon time) fits =
     let line = last (number_word time (time_below time fits)) in
     command (codes "horizon") refl (lit≤ tt) line refl (ap edit_request (horizon_is _ time line.has fits))
 read_again (edit.Manager m) is = read_manager m is
+read_again (edit.SyncCounter n) fits =
+    let line = last (number_word n (counter_below n fits)) in
+    command (codes "sync-counter") refl (lit≤ tt) line refl (ap edit_request (sync_counter_is _ n line.has fits))
 read_again (edit.Eds name text) is = read_eds name text is
 read_again (edit.DropEds name) named =
     let line = last (name_word name named) in
@@ -107,6 +119,9 @@ read_again (edit.DropEds name) named =
 read_again (edit.Node id name eds) is =
     let line = more (number_word id (id_below id is.0)) (more (name_word name is.1) (last (name_word eds is.2))) in
     command (codes "node") refl (lit≤ tt) line refl (ap edit_request (node_is _ id name eds line.has is.0 is.1 is.2))
+read_again (edit.Need id mandatory) fits =
+    let line = more (number_word id (id_below id fits)) (last (need_is_word mandatory)) in
+    command (codes "need") refl (lit≤ tt) line refl (ap edit_request (need_is _ id mandatory line.has fits))
 read_again (edit.DropNode id) fits =
     let line = last (number_word id (id_below id fits)) in
     command (codes "drop-node") refl (lit≤ tt) line refl (ap edit_request (drop_node_is _ id line.has fits))
@@ -118,6 +133,7 @@ read_again (edit.Unparam id index sub) is =
     (more (index_is_word index (most 0 65535 index is.1.0)) (last (sub_is_word sub (most 0 255 sub is.1.1)))) in
     command (codes "unparam") refl (lit≤ tt) line refl (ap edit_request (unparam_is _ id index sub line.has is.0 is.1))
 read_again (edit.Message name m) is = read_message name m is.0 is.1
+read_again (edit.Start message n) is = read_start message n is.0 is.1
 read_again (edit.DropMessage name) named = read_drop_message name named
 read_again (edit.Source message position index sub) is = read_source message position index sub is.0 is.1 is.2
 read_again (edit.Unsource message position) is = read_unsource message position is.0 is.1

@@ -3,7 +3,7 @@ use Rattle.std.specs.Prelude.{ℕ, List, Result, Ok}
 use Rattle.co_base.specs.Ranges.{is_between}
 use Rattle.co_text.specs.Words.{word, after}
 use Rattle.co_messages.specs.declared.message.Message.{Message}
-use Rattle.co_messages.specs.Messages.{is_position}
+use Rattle.co_messages.specs.Messages.{is_position, is_start}
 use Rattle.co_edits.specs.declared.fault.EditFault.{EditFault}
 use Rattle.co_edits.specs.declared.edit.Edit.{Edit}
 use Rattle.co_edits.specs.declared.edit.Edit.TheVariants as edit
@@ -42,6 +42,15 @@ message_of rest = do
   stated ← stated_numbers (after rest)
   message ← message_within stated
   Ok (edit.Message called message)
+
+-- `MESSAGE N`
+unfoldable pub start_of : List ℕ → Result Edit EditFault
+start_of rest = do
+  last ← last_word (after rest)
+  message ← name (word rest)
+  number ← decimal last
+  start ← limited is_start number
+  Ok (edit.Start message start)
 
 -- `NAME`
 unfoldable pub drop_message_of : List ℕ → Result Edit EditFault

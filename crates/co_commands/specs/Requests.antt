@@ -19,9 +19,10 @@ use Rattle.co_text.specs.Words.{word, after}
 use Rattle.co_edits.specs.Eds.{most_lines}
 use Rattle.co_base.specs.Ranges.{is_between}
 use Rattle.co_edits.specs.Forms.{is_name, limited, is_node_number, is_node_or_all, is_own_index, is_bit_rate, is_time}
-use Rattle.co_edits.specs.Forms.{is_sync_period, is_event_number}
+use Rattle.co_edits.specs.Forms.{is_sync_counter, is_sync_period, is_event_number}
+use Rattle.co_edits.specs.Versions.{version_of as version_by_number}
 use Rattle.co_commands.specs.Steps.{◌>>=◌}
-use Rattle.co_commands.specs.Links.{message_of, drop_message_of, source_of, unsource_of, sink_of, unsink_of}
+use Rattle.co_commands.specs.Links.{message_of, start_of, drop_message_of, source_of, unsource_of, sink_of, unsink_of}
 use Rattle.co_commands.specs.Words.{last_word, is_bad_line, name, decimal, hexadecimal, text}
 
 -- an edit is asked
@@ -68,6 +69,14 @@ name_of rest = do
   last ← last_word rest
   name last
 
+-- `V`
+unfoldable pub version_of : List ℕ → Result Edit EditFault
+version_of rest = do
+  last ← last_word rest
+  number ← decimal last
+  version ← version_by_number number
+  Ok (edit.Version version)
+
 -- `K`, in kbit/s
 unfoldable pub bitrate_of : List ℕ → Result Edit EditFault
 bitrate_of rest = do
@@ -98,6 +107,14 @@ manager_of rest = do
   wait ← limited (is_between 1 65535) timeout
   Ok (edit.Manager (record { id = id; sync_us = sync; heartbeat_ms = producer; timeout_ms = wait }))
 
+-- `N`
+unfoldable pub sync_counter_of : List ℕ → Result Edit EditFault
+sync_counter_of rest = do
+  last ← last_word rest
+  number ← decimal last
+  counter ← limited is_sync_counter number
+  Ok (edit.SyncCounter counter)
+
 -- `NAME`
 unfoldable pub drop_eds_of : List ℕ → Result Edit EditFault
 drop_eds_of rest = do
@@ -113,6 +130,22 @@ node_of rest = do
   eds ← name last
   id ← limited is_node_number number
   Ok (edit.Node id called eds)
+
+-- `mandatory` or `optional`
+abbrev pub is_mandatory : List ℕ → Result Bool EditFault
+is_mandatory word =
+    if bytes_eq word (codes "mandatory") then Ok true
+    else if bytes_eq word (codes "optional") then Ok false
+    else Err Syntax
+
+-- `ID mandatory` or `ID optional`
+unfoldable pub need_of : List ℕ → Result Edit EditFault
+need_of rest = do
+  last ← last_word (after rest)
+  number ← decimal (word rest)
+  mandatory ← is_mandatory last
+  id ← limited is_node_number number
+  Ok (edit.Need id mandatory)
 
 -- `ID`
 unfoldable pub drop_node_of : List ℕ → Result Edit EditFault
@@ -229,6 +262,7 @@ query_of first rest =
 unfoldable pub link_of : List ℕ → List ℕ → Result Request EditFault
 link_of first rest =
     if bytes_eq first (codes "message") then edit_request (message_of rest)
+    else if bytes_eq first (codes "start") then edit_request (start_of rest)
     else if bytes_eq first (codes "drop-message") then edit_request (drop_message_of rest)
     else if bytes_eq first (codes "source") then edit_request (source_of rest)
     else if bytes_eq first (codes "unsource") then edit_request (unsource_of rest)
@@ -239,11 +273,14 @@ link_of first rest =
 -- what a first word and the rest of its line ask
 unfoldable pub command_of : List ℕ → List ℕ → Result Request EditFault
 command_of first rest =
-    if bytes_eq first (codes "bitrate") then edit_request (bitrate_of rest)
+    if bytes_eq first (codes "version") then edit_request (version_of rest)
+    else if bytes_eq first (codes "bitrate") then edit_request (bitrate_of rest)
     else if bytes_eq first (codes "horizon") then edit_request (horizon_of rest)
     else if bytes_eq first (codes "manager") then edit_request (manager_of rest)
+    else if bytes_eq first (codes "sync-counter") then edit_request (sync_counter_of rest)
     else if bytes_eq first (codes "drop-eds") then edit_request (drop_eds_of rest)
     else if bytes_eq first (codes "node") then edit_request (node_of rest)
+    else if bytes_eq first (codes "need") then edit_request (need_of rest)
     else if bytes_eq first (codes "drop-node") then edit_request (drop_node_of rest)
     else if bytes_eq first (codes "param") then edit_request (param_of rest)
     else if bytes_eq first (codes "unparam") then edit_request (unparam_of rest)

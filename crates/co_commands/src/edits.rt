@@ -3,14 +3,17 @@ ghost use Rattle.std.specs.Prelude.{◌≡◌, true, IfOk};
 ghost use Rattle.co_base.specs.Gives.{Gives};
 ghost use Rattle.co_edits.specs.Faults.{is_memory};
 ghost use Rattle.co_edits.specs.Forms.{is_node_number};
-ghost use Rattle.co_commands.specs.Requests.{id_of, bitrate_of, horizon_of, manager_of, drop_eds_of, node_of};
-ghost use Rattle.co_commands.specs.Requests.{drop_node_of, param_of, unparam_of};
+ghost use Rattle.co_commands.specs.Requests.{id_of, version_of, bitrate_of, horizon_of, manager_of, sync_counter_of};
+ghost use Rattle.co_commands.specs.Requests.{drop_eds_of, node_of, is_mandatory, need_of, drop_node_of, param_of, unparam_of};
 
 use crate::command::Command;
 use crate::numbers::{decimal, index, sub_index};
 use crate::words::{last_word, name, text};
 use co_base::Octets;
-use co_edits::limits::{bit_rate, limited, node_number, own_index, sync_period, time};
+use co_edits::limits::{
+    bit_rate, limited, node_number, own_index, script_version, sync_counter as last_count,
+    sync_period, time,
+};
 use co_edits::{Edit, EditFault, ManagerSettings};
 use co_text::next_word;
 use std::alloc::Global;
@@ -23,6 +26,16 @@ pub(crate) fn id(rest: &[u8]) -> Result<u8, EditFault>
 {
     let id = decimal(last_word(rest)?)?;
     node_number(id)
+}
+
+/// `version V`
+#[tactic(auto, unfolding(crate::specs::Requests::version_of, co_edits::specs::Edits::IsEdit))]
+pub(crate) fn version(rest: &[u8]) -> Result<Command, EditFault>
+    ensures { Gives is_memory (λ c. c) result (version_of rest.now) }
+{
+    let number = decimal(last_word(rest)?)?;
+    let version = script_version(number)?;
+    Ok(Command::new(Edit::Version(version)))
 }
 
 /// `bitrate K`, in kbit/s.
@@ -70,6 +83,16 @@ pub(crate) fn manager(rest: &[u8]) -> Result<Command, EditFault>
     })))
 }
 
+/// `sync-counter N`
+#[tactic(auto, unfolding(crate::specs::Requests::sync_counter_of, co_edits::specs::Edits::IsEdit))]
+pub(crate) fn sync_counter(rest: &[u8]) -> Result<Command, EditFault>
+    ensures { Gives is_memory (λ c. c) result (sync_counter_of rest.now) }
+{
+    let last = decimal(last_word(rest)?)?;
+    let last = last_count(last)?;
+    Ok(Command::new(Edit::SyncCounter(last)))
+}
+
 /// `drop-eds NAME`
 #[tactic(auto, unfolding(crate::specs::Requests::drop_eds_of, co_edits::specs::Edits::IsEdit))]
 pub(crate) fn drop_eds(alloc: Global, rest: &[u8]) -> Result<Command, EditFault>
@@ -95,6 +118,32 @@ pub(crate) fn node(alloc: Global, rest: &[u8]) -> Result<Command, EditFault>
     let name = Octets::from_slice(alloc, called)?;
     let eds = Octets::from_slice(alloc, eds)?;
     Ok(Command::new(Edit::Node { id, name, eds }))
+}
+
+/// `mandatory` or `optional`.
+fn is_mandatory(word: &[u8]) -> Result<bool, EditFault>
+    ensures { Gives is_memory (λ mandatory. mandatory) result (is_mandatory word.now) }
+{
+    if word == b"mandatory".as_slice() {
+        Ok(true)
+    } else if word == b"optional".as_slice() {
+        Ok(false)
+    } else {
+        Err(EditFault::Syntax)
+    }
+}
+
+/// `need ID mandatory` or `need ID optional`
+#[tactic(auto, unfolding(crate::specs::Requests::need_of, co_edits::specs::Edits::IsEdit))]
+pub(crate) fn need(rest: &[u8]) -> Result<Command, EditFault>
+    ensures { Gives is_memory (λ c. c) result (need_of rest.now) }
+{
+    let (id, rest) = next_word(rest);
+    let word = last_word(rest)?;
+    let id = decimal(id)?;
+    let mandatory = is_mandatory(word)?;
+    let id = node_number(id)?;
+    Ok(Command::new(Edit::Need { id, mandatory }))
 }
 
 /// `drop-node ID`

@@ -13,7 +13,7 @@ mod request;
 mod stated;
 mod words;
 
-pub use co_edits::{Edit, EditFault, ManagerSettings, refusal};
+pub use co_edits::{Edit, EditFault, ManagerSettings, ScriptVersion, refusal};
 pub use command::Command;
 pub use query::Query;
 pub use request::Request;

@@ -3,15 +3,15 @@ ghost use Rattle.std.specs.Prelude.{◌≡◌, IfOk};
 ghost use Rattle.co_base.specs.Gives.{Gives};
 ghost use Rattle.co_edits.specs.Faults.{is_memory};
 ghost use Rattle.co_messages.specs.Messages.{IsMessage};
-ghost use Rattle.co_commands.specs.Links.{stated_numbers, message_within, message_of, drop_message_of, source_of};
-ghost use Rattle.co_commands.specs.Links.{unsource_of, sink_of, unsink_of};
+ghost use Rattle.co_commands.specs.Links.{stated_numbers, message_within, message_of, start_of, drop_message_of};
+ghost use Rattle.co_commands.specs.Links.{source_of, unsource_of, sink_of, unsink_of};
 
 use crate::command::Command;
 use crate::numbers::{cob, decimal, index, sub_index};
 use crate::stated::Stated;
 use crate::words::{last_word, name};
 use co_base::Octets;
-use co_edits::limits::{byte, identifier, node_number, position, short, tpdo_number};
+use co_edits::limits::{byte, identifier, node_number, position, short, sync_start, tpdo_number};
 use co_edits::{Edit, EditFault};
 use co_messages::Message;
 use co_text::next_word;
@@ -65,6 +65,20 @@ pub(crate) fn message(alloc: Global, rest: &[u8]) -> Result<Command, EditFault>
     let message = message_within(stated)?;
     let name = Octets::from_slice(alloc, called)?;
     Ok(Command::new(Edit::Message { name, message }))
+}
+
+/// `start MESSAGE N`
+#[tactic(auto, unfolding(crate::specs::Links::start_of, co_edits::specs::Edits::IsEdit))]
+pub(crate) fn start(alloc: Global, rest: &[u8]) -> Result<Command, EditFault>
+    ensures { Gives is_memory (λ c. c) result (start_of rest.now) }
+{
+    let (called, rest) = next_word(rest);
+    let number = last_word(rest)?;
+    let called = name(called)?;
+    let number = decimal(number)?;
+    let start = sync_start(number)?;
+    let message = Octets::from_slice(alloc, called)?;
+    Ok(Command::new(Edit::Start { message, start }))
 }
 
 /// `drop-message NAME`

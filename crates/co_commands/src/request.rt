@@ -5,9 +5,12 @@ ghost use Rattle.co_edits.specs.Faults.{is_memory};
 ghost use Rattle.co_commands.specs.Requests.{block_of, command_of, edit_request, query_request, link_of, request};
 
 use crate::command::Command;
-use crate::edits::{bitrate, drop_eds, drop_node, horizon, manager, node, param, unparam};
+use crate::edits::{
+    bitrate, drop_eds, drop_node, horizon, manager, need, node, param, sync_counter, unparam,
+    version,
+};
 use crate::events::{drop_event, event};
-use crate::links::{drop_message, message, sink, source, unsink, unsource};
+use crate::links::{drop_message, message, sink, source, start, unsink, unsource};
 use crate::numbers::decimal;
 use crate::query::Query;
 use crate::words::{is_bad_line, last_word};
@@ -94,16 +97,22 @@ fn query(query: Result<Query, EditFault>) -> Result<Request, EditFault>
 fn command(alloc: Global, first: &[u8], rest: &[u8]) -> Result<Request, EditFault>
     ensures { Gives is_memory (λ r. r) result (command_of first.now rest.now) }
 {
-    if first == b"bitrate".as_slice() {
+    if first == b"version".as_slice() {
+        edit(version(rest))
+    } else if first == b"bitrate".as_slice() {
         edit(bitrate(rest))
     } else if first == b"horizon".as_slice() {
         edit(horizon(rest))
     } else if first == b"manager".as_slice() {
         edit(manager(rest))
+    } else if first == b"sync-counter".as_slice() {
+        edit(sync_counter(rest))
     } else if first == b"drop-eds".as_slice() {
         edit(drop_eds(alloc, rest))
     } else if first == b"node".as_slice() {
         edit(node(alloc, rest))
+    } else if first == b"need".as_slice() {
+        edit(need(rest))
     } else if first == b"drop-node".as_slice() {
         edit(drop_node(rest))
     } else if first == b"param".as_slice() {
@@ -125,6 +134,8 @@ fn link(alloc: Global, first: &[u8], rest: &[u8]) -> Result<Request, EditFault>
 {
     if first == b"message".as_slice() {
         edit(message(alloc, rest))
+    } else if first == b"start".as_slice() {
+        edit(start(alloc, rest))
     } else if first == b"drop-message".as_slice() {
         edit(drop_message(alloc, rest))
     } else if first == b"source".as_slice() {

@@ -1,6 +1,6 @@
 -- One device at a moment, and what it does (CiA 301). All moments are absolute, in microseconds from the power-on of
 -- the network.
-use Rattle.std.specs.Prelude.{ℕ, ◌==◌, ◌&&◌, ◌||◌, nat_lt, Bool, true, false, List, [], ◌∷◌, ◌++◌, length, replicate}
+use Rattle.std.specs.Prelude.{ℕ, ◌==◌, not, ◌&&◌, ◌||◌, nat_lt, Bool, true, false, List, [], ◌∷◌, ◌++◌, length, replicate}
 use Rattle.std.specs.Prelude.{slice_index_or, Option, Some, None, if◌then◌else◌}
 use Rattle.std.specs.FinMap as map
 use Rattle.asking.specs.Asking.{Asking, Answer, Ask}
@@ -19,9 +19,11 @@ use Rattle.co_parts.specs.Contents.{Content, shape_of, values_of}
 use Rattle.co_base.specs.Moments.{earliest, is_due, moments_of}
 use Rattle.co_parts.specs.declared.part.Part.{Part}
 use Rattle.co_parts.specs.declared.part.Part.TheVariants.{Defaults, Shape}
+use Rattle.co_pdos.specs.declared.sync.SyncMessage.{SyncMessage}
+use Rattle.co_pdos.specs.declared.sync_seen.SyncSeen.{SyncSeen}
 use Rattle.device_objects.specs.Consumers as consumers
 use Rattle.device_objects.specs.Profile.{emergency_frame, without_error_bits, error_register, with_error_bits}
-use Rattle.device_objects.specs.Profile.{learnt_of, next_heartbeat}
+use Rattle.device_objects.specs.Profile.{counter_overflow, learnt_of, next_heartbeat}
 use Rattle.device_objects.specs.declared.consumer.Consumer.{Consumer}
 use Rattle.device_objects.specs.declared.learnt.Learnt.{Learnt}
 use Rattle.co_scenario.specs.declared.nmt_command.NmtCommand.{NmtCommand}
@@ -40,7 +42,7 @@ use Rattle.device_pdos.specs.declared.tpdo_state.TpdoState.{TpdoState}
 use Rattle.co_fields.specs.declared.nmt_state.NmtState.{NmtState}
 use Rattle.co_fields.specs.declared.nmt_state.NmtState.TheVariants.{PreOperational, Operational, Stopped}
 
--- its values by entry, its heartbeat consumers by sub-index, its PDOs by number; whether a SYNC came in this instant;
+-- its values by entry, its heartbeat consumers by sub-index, its PDOs by number; the SYNC of this instant, if one came;
 -- the moment of its next heartbeat; the frames that wait; the open transfer of its SDO server
 pub record Device : Type 0 where
   pub spent : Bool
@@ -52,7 +54,7 @@ pub record Device : Type 0 where
   pub consumers : List Consumer
   pub rpdos : List RpdoState
   pub tpdos : List TpdoState
-  pub synced : Bool
+  pub synced : Option SyncMessage
   pub heartbeat : Option ℕ
   pub waiting : List Waiting
   pub transfer : Transfer
@@ -62,7 +64,12 @@ is_in state d = state_byte d.state == state_byte state
 
 -- a device of no entries learns that it has none
 abbrev pub nothing_learnt : Learnt
-nothing_learnt = record { has_error_register = false; has_sync_cob_id = false; has_producer_time = false }
+nothing_learnt = record {
+  has_error_register = false;
+  has_sync_cob_id = false;
+  has_producer_time = false;
+  has_counter_overflow = false;
+}
 
 -- a device without power: nothing waits, nothing is due, nothing is open
 abbrev pub without_power : Bool → ℕ → Device
@@ -76,7 +83,7 @@ without_power spent number = record {
   consumers = [];
   rpdos = [];
   tpdos = [];
-  synced = false;
+  synced = None;
   heartbeat = None;
   waiting = [];
   transfer = Idle;
@@ -100,7 +107,7 @@ after_initialisation t shape values d = record {
   consumers = consumers.consumers_of shape values;
   rpdos = rpdos_of shape values;
   tpdos = tpdos_of shape values;
-  synced = false;
+  synced = None;
   heartbeat = next_heartbeat t (learnt_of shape) values;
   waiting = boot_up_frame d.number ∷ [];
   transfer = Idle;
@@ -302,15 +309,22 @@ after_timers t d = after_heartbeat t (after_consumers t d)
 -- ---- the TPDOs of a moment: in Operational each is looked at, by number; an inhibit moment that has come is
 -- forgotten in any state, and so is the SYNC of the instant
 
+-- the SYNC of the instant as the TPDOs find it: the device counts SYNCs where its synchronous counter overflow value
+-- isn't 0 then
+abbrev pub sync_seen : Learnt → Values → Option SyncMessage → Option SyncSeen
+sync_seen learnt values None = None
+sync_seen learnt values (Some sync) =
+    Some (record { counter = sync.counter; is_counted = not (counter_overflow learnt values == 0) })
+
 unfoldable pub after_tpdos : ℕ → Device → Device
 after_tpdos t d =
     if is_in Operational d
     then record d {
-      synced = false;
-      tpdos = tpdos_after_turns t d.synced d.values d.tpdos;
-      waiting = with_tpdos t d.synced d.values d.tpdos d.waiting;
+      synced = None;
+      tpdos = tpdos_after_turns t (sync_seen d.learnt d.values d.synced) d.values d.tpdos;
+      waiting = with_tpdos t (sync_seen d.learnt d.values d.synced) d.values d.tpdos d.waiting;
     }
-    else record d { synced = false; tpdos = tpdos_after_inhibit t d.tpdos }
+    else record d { synced = None; tpdos = tpdos_after_inhibit t d.tpdos }
 
 -- WHAT A DEVICE DOES OF ITSELF AT A MOMENT: its timers, and then its TPDOs
 unfoldable pub after_instant : ℕ → Device → Device

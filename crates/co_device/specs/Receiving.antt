@@ -11,6 +11,7 @@ use Rattle.co_mapping.specs.Packing.{after_entries, frame_bits, takes, with_bits
 use Rattle.co_parts.specs.Contents.{Content, shape_of}
 use Rattle.co_parts.specs.declared.part.Part.{Part}
 use Rattle.co_parts.specs.declared.part.Part.TheVariants.{Shape}
+use Rattle.co_pdos.specs.Sync.{sync_message}
 use Rattle.co_pdos.specs.declared.receipt.Receipt.{Receipt}
 use Rattle.co_pdos.specs.declared.receipt.Receipt.TheVariants.{Short, Kept, AtOnce, Ignored}
 use Rattle.device_objects.specs.Consumers.{any_expects}
@@ -76,8 +77,10 @@ after_kept_frame t (Some frame) i d =
 unfoldable pub after_sync_at : ℕ → ℕ → Device → Asking Part Content Device
 after_sync_at t i d = after_kept_frame t (rpdo_at d.rpdos i).kept i d
 
-unfoldable pub after_sync : ℕ → Device → Asking Part Content Device
-after_sync t d = if is_in Operational d then walk (after_sync_at t) (rpdo_places d) (record d { synced = true })
+unfoldable pub after_sync : ℕ → List ℕ → Device → Asking Part Content Device
+after_sync t bytes d =
+    if is_in Operational d
+    then walk (after_sync_at t) (rpdo_places d) (record d { synced = Some (sync_message bytes) })
     else Answer d
 
 -- ---- RECEIVED FRAMES
@@ -90,7 +93,7 @@ unfoldable pub after_frame : ℕ → BaseFrame → Device → Asking Part Conten
 after_frame t frame d =
     if not d.has_power then Answer d
     else if frame.id == nmt_id then after_nmt_frame t frame.bytes d
-    else if frame.id == sync_identifier d.learnt d.values then after_sync t d
+    else if frame.id == sync_identifier d.learnt d.values then after_sync t frame.bytes d
     else if (frame.id == sdo_request_id d.number) && (length frame.bytes == 8) then after_sdo_request t frame.bytes d
     else if is_error_control frame then Answer (after_error_control t (frame.id - error_control_id 0) d)
     else after_pdo t frame d

@@ -16,6 +16,7 @@ use co_base::earlier;
 use co_dict::Dict;
 use co_fields::NmtState;
 use co_parts::END;
+use co_pdos::SyncMessage;
 use co_sdo::transfer::{self, Transfer};
 use device_objects::{Consumer, Learnt, Shapes, same_consumers};
 use device_pdos::{RpdoState, TpdoState, same_rpdos, same_tpdos};
@@ -38,7 +39,7 @@ pub struct DeviceState {
     pub(crate) consumers: Vec<Consumer>,
     pub(crate) rpdos: Vec<RpdoState>,
     pub(crate) tpdos: Vec<TpdoState>,
-    pub(crate) synced: bool,
+    pub(crate) synced: Option<SyncMessage>,
     pub(crate) heartbeat: Option<u64>,
     pub(crate) waiting: Pending,
     pub(crate) transfer: Transfer,
@@ -87,7 +88,7 @@ impl DeviceState {
             consumers: Vec::new(alloc),
             rpdos: Vec::new(alloc),
             tpdos: Vec::new(alloc),
-            synced: false,
+            synced: None,
             heartbeat: None,
             waiting: Pending::new(alloc),
             transfer: Transfer::Idle,

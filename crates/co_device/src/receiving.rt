@@ -39,7 +39,7 @@ impl DeviceState {
             return Ok(());
         }
         if frame.id() == sync_identifier(self.learnt, &self.values) {
-            return self.take_sync(t, shapes);
+            return self.take_sync(t, bytes, shapes);
         }
         if frame.id() == identifiers::sdo_request(self.number) && bytes.len() == 8 {
             return self.take_request(t, &frame.eight(), shapes);

@@ -34,7 +34,7 @@ impl DeviceState {
         self.consumers = Vec::new(self.alloc);
         self.rpdos = Vec::new(self.alloc);
         self.tpdos = Vec::new(self.alloc);
-        self.synced = false;
+        self.synced = None;
         self.heartbeat = None;
         self.waiting = Pending::new(self.alloc);
         self.transfer = Transfer::Idle;
@@ -55,7 +55,7 @@ impl DeviceState {
         self.has_power = true;
         self.state = NmtState::PreOperational;
         self.learnt = Learnt::of(shape);
-        self.synced = false;
+        self.synced = None;
         self.heartbeat = next_heartbeat(t, self.learnt, &values);
         self.values = values;
         self.waiting = waiting;

@@ -15,7 +15,7 @@ use co_dict::{Shape, mapped_length, mapped_place};
 use co_fields::NmtState;
 use co_mapping::unpack_entry;
 use co_parts::END;
-use co_pdos::{Configuration, Receipt};
+use co_pdos::{Configuration, Receipt, SyncMessage};
 use device_objects::{Shapes, shape_or, without_entries};
 use device_pdos::keep;
 use std::alloc::AllocError;
@@ -149,6 +149,7 @@ impl DeviceState {
         }
         Ok(())
     }
+
     /// Applies the frame that the RPDO at a place keeps, if it keeps one.
     #[tactic(auto, unfolding(crate::specs::Receiving::after_sync_at, crate::specs::Receiving::after_kept_frame))]
     fn sync_rpdo<P: Shapes>(&mut self, t: u64, i: usize, shapes: &mut P) -> Result<(), AllocError>
@@ -172,15 +173,20 @@ impl DeviceState {
     /// Takes a SYNC message, in Operational alone: the frames that RPDOs keep are applied, each in its turn;
     /// the TPDOs come later in the instant.
     #[tactic(auto, unfolding(crate::specs::Receiving::after_sync))]
-    pub(crate) fn take_sync<P: Shapes>(&mut self, t: u64, shapes: &mut P) -> Result<(), AllocError>
+    pub(crate) fn take_sync<P: Shapes>(
+        &mut self,
+        t: u64,
+        bytes: &[u8],
+        shapes: &mut P,
+    ) -> Result<(), AllocError>
         requires { t < END }
-        ensures state { OnOk result (self.new ≡ outcome (after_sync t self.old) (P.seen shapes.old).image) }
-        ensures asked { OnOk result (IsAsked (after_sync t self.old)
+        ensures state { OnOk result (self.new ≡ outcome (after_sync t bytes.now self.old) (P.seen shapes.old).image) }
+        ensures asked { OnOk result (IsAsked (after_sync t bytes.now self.old)
             (P.seen shapes.old) (P.seen shapes.new) (P.asks shapes.old) (P.asks shapes.new)) }
         ensures lasts { Lasts (P.seen shapes.old) (P.seen shapes.new) }
     {
         if self.is_in(NmtState::Operational) {
-            self.synced = true;
+            self.synced = Some(SyncMessage::of(bytes));
             for i in 0..self.rpdos.len() {
                 self.sync_rpdo(t, i, shapes)?;
             }

@@ -2,12 +2,14 @@
 
 ghost use Rattle.std.specs.Prelude.{◌≡◌, ◌<◌, OnOk};
 ghost use Rattle.co_device.specs.Device.{after_consumers, after_heartbeat, after_instant, after_timers, after_tpdos};
+ghost use Rattle.co_device.specs.Device.{sync_seen};
 
 use crate::device_state::DeviceState;
 use can_frame::{Frame, Purpose, identifiers};
 use co_fields::NmtState;
 use co_parts::END;
-use device_objects::{expire, failures, set_error};
+use co_pdos::SyncSeen;
+use device_objects::{counter_overflow, expire, failures, set_error};
 use device_pdos::{free_tpdos, look_at_tpdos};
 use std::alloc::AllocError;
 
@@ -61,16 +63,29 @@ impl DeviceState {
         self.run_heartbeat(t)
     }
 
+    /// The SYNC of the instant as the TPDOs find it.
+    fn sync_seen(&self) -> Option<SyncSeen>
+        ensures { result ≡ sync_seen self.now.learnt self.now.values self.now.synced }
+    {
+        match self.synced {
+            Some(sync) => Some(SyncSeen {
+                counter: sync.counter,
+                is_counted: counter_overflow(self.learnt, &self.values) != 0,
+            }),
+            None => None,
+        }
+    }
+
     /// Looks at the TPDOs.
     #[tactic(auto, unfolding(crate::specs::Device::after_tpdos))]
     fn run_tpdos(&mut self, t: u64) -> Result<(), AllocError>
         requires { t < END }
         ensures { OnOk result (self.new ≡ after_tpdos t self.old) }
     {
-        let synced = self.synced;
-        self.synced = false;
+        let seen = self.sync_seen();
+        self.synced = None;
         if self.is_in(NmtState::Operational) {
-            return look_at_tpdos(&mut self.tpdos, t, synced, &self.values, &mut self.waiting);
+            return look_at_tpdos(&mut self.tpdos, t, seen, &self.values, &mut self.waiting);
         }
         free_tpdos(&mut self.tpdos, t);
         Ok(())

@@ -18,7 +18,7 @@ use Rattle.project_plan.specs.Network.{Member}
 use Rattle.diag_lines.specs.declared.code.Code.TheVariants.{UnfitConsumer}
 use Rattle.diag_lines.specs.declared.diag.Diag.{Diag}
 use Rattle.diag_lines.specs.declared.subject.Subject.TheVariants as of
-use Rattle.co_diag.specs.Values.{members, number_after, values_after}
+use Rattle.configured_nodes.specs.Values.{members, number_after, values_after}
 use Rattle.co_diag.specs.Holds.{HasUnfitConsumer, HoldsOf, Holds, is_unfit}
 use Rattle.co_diag.specs.Found.{diagnostic, unfit_consumer, unfit_consumers}
 use Rattle.co_diag.proofs.ListLemmas.{Contains-flat_map, from_flat_map}
@@ -33,7 +33,7 @@ record Unfit (p : Content) (e : ℕ × Member) (place : ℕ × ℕ) (d : Diag) :
   numbered : nat_le 1 place.1 ≡ true
   there : number_after Bits32 p e.1 e.0 place ≡ Some consumer
   unfit : is_unfit p consumer ≡ true
-  is : diagnostic UnfitConsumer (of.Node e.0 place.1) ≡ d
+  is : diagnostic UnfitConsumer (of.Node e.0 (Some place.1)) ≡ d
 
 unfit_by : (p : Content) (e : ℕ × Member) (place : ℕ × ℕ) (d : Diag) → unfit_consumer p e place ≡ Some d
     → Unfit p e place d
@@ -43,15 +43,15 @@ unfit_by p e place d h = by (place.0 == 0x1016) (nat_le 1 place.1)
   where
     of_number : (n : ℕ) → place.0 ≡ 0x1016 → nat_le 1 place.1 ≡ true → number_after Bits32 p e.1 e.0 place ≡ Some n
         → (t : Bool) → is_unfit p n ≡ t
-        → (if t then Some (diagnostic UnfitConsumer (of.Node e.0 place.1)) else None) ≡ Some d → Unfit p e place d
+        → (if t then Some (diagnostic UnfitConsumer (of.Node e.0 (Some place.1))) else None) ≡ Some d → Unfit p e place d
     of_number n object numbered there true unfit h =
-        let same : diagnostic UnfitConsumer (of.Node e.0 place.1) ≡ d = cc
+        let same : diagnostic UnfitConsumer (of.Node e.0 (Some place.1)) ≡ d = cc
         in record { consumer = n; object = object; numbered = numbered; there = there; unfit = unfit; is = same }
     of_number n object numbered there false unfit h = cc
 
     by : (a b : Bool) (o : Option ℕ) → (place.0 == 0x1016) ≡ a → nat_le 1 place.1 ≡ b
         → number_after Bits32 p e.1 e.0 place ≡ o
-        → (if a && b && option_map_or (is_unfit p) o false then Some (diagnostic UnfitConsumer (of.Node e.0 place.1))
+        → (if a && b && option_map_or (is_unfit p) o false then Some (diagnostic UnfitConsumer (of.Node e.0 (Some place.1)))
         else None) ≡ Some d → Unfit p e place d
     by true true (Some n) object numbered there h =
         of_number n (eqb-true place.0 0x1016 object) numbered there (is_unfit p n) refl h
@@ -94,13 +94,13 @@ number_there width p m node place n h = by (is_unsigned (kind_at m.sections plac
     by false is h = cc
 
 pub consumers_listed : (p : Content) (node sub : ℕ) → HasUnfitConsumer p node sub
-    → Contains (flat_map (unfit_consumers p) (members p)) (diagnostic UnfitConsumer (of.Node node sub))
+    → Contains (flat_map (unfit_consumers p) (members p)) (diagnostic UnfitConsumer (of.Node node (Some sub)))
 unfolding unfit_consumers unfit_consumer
 consumers_listed p node sub h =
-    let found : unfit_consumer p (node, h.member) (0x1016, sub) ≡ Some (diagnostic UnfitConsumer (of.Node node sub)) =
+    let found : unfit_consumer p (node, h.member) (0x1016, sub) ≡ Some (diagnostic UnfitConsumer (of.Node node (Some sub))) =
     rw (h.numbered, h.there, h.unfit) refl in
-    Contains-flat_map (unfit_consumers p) (members p) (node, h.member) (diagnostic UnfitConsumer (of.Node node sub))
+    Contains-flat_map (unfit_consumers p) (members p) (node, h.member) (diagnostic UnfitConsumer (of.Node node (Some sub)))
     (member_listed p node h.member h.is)
     (Contains-filter_map (unfit_consumer p (node, h.member)) (pairs_of h.member.sections) (0x1016, sub)
-    (diagnostic UnfitConsumer (of.Node node sub))
+    (diagnostic UnfitConsumer (of.Node node (Some sub)))
     (number_there Bits32 p h.member node (0x1016, sub) h.consumer h.there) found)

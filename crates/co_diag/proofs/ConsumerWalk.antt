@@ -17,14 +17,16 @@ use Rattle.diag_lines.specs.declared.code.Code.TheVariants.{UnfitConsumer}
 use Rattle.co_diag.specs.declared.consumer.HeartbeatConsumer.{HeartbeatConsumer}
 use Rattle.diag_lines.specs.declared.diag.Diag.{Diag}
 use Rattle.diag_lines.specs.declared.subject.Subject.TheVariants as of
-use Rattle.co_diag.specs.Configured.{consumer_among, consumers_by, identifiers_by, producer_among, times_by}
-use Rattle.co_diag.specs.Configured.{unfit_among, unfit_diagnostic}
+use Rattle.co_diag.specs.Kept.{consumer_among, consumers_by, counter_diagnostic, counters_by, identifiers_by}
+use Rattle.co_diag.specs.Kept.{producer_among, times_by, unfit_among, unfit_diagnostic}
 use Rattle.co_diag.specs.Found.{diagnostic, identifier_of, identifiers, shared_identifiers, shared_in, unfit_consumer}
-use Rattle.co_diag.specs.Found.{unfit_consumers}
+use Rattle.co_diag.specs.Found.{other_counter, unfit_consumers}
 use Rattle.co_diag.specs.Holds.{is_unfit, producer_time}
-use Rattle.co_diag.specs.Values.{members, number_after, values_after}
+use Rattle.configured_nodes.specs.Values.{members, number_after, values_after}
 use Rattle.diag_lines.proofs.ListLemmas.{Contains-nil, Contains-first, Contains-later, Contains-cases}
-use Rattle.co_diag.proofs.ConfiguredLemmas.{consumer_asked, identifier_asked, number_asked}
+use Rattle.co_diag.proofs.KeptLemmas.{consumer_asked, identifier_asked}
+use Rattle.configured_nodes.proofs.ConfiguredLemmas.{number_asked}
+use Rattle.co_diag.proofs.CounterFound.{all_counters}
 use Rattle.co_diag.proofs.MemberLemmas.{member_found, member_listed}
 
 -- ---- identifiers
@@ -173,9 +175,9 @@ module _ (p : Content) where
     where
       by : (a b : Bool) (o : Option ℕ) → option_and_then (unfit_diagnostic p.manager times)
           (if a && b then option_map (λ n. record { node = e.0; sub = place.1; number = n }) o else None)
-          ≡ (if a && b && option_map_or (is_unfit p) o false then Some (diagnostic UnfitConsumer (of.Node e.0 place.1))
+          ≡ (if a && b && option_map_or (is_unfit p) o false then Some (diagnostic UnfitConsumer (of.Node e.0 (Some place.1)))
           else None)
-      by true true (Some n) = ap (λ t. if t then Some (diagnostic UnfitConsumer (of.Node e.0 place.1)) else None)
+      by true true (Some n) = ap (λ t. if t then Some (diagnostic UnfitConsumer (of.Node e.0 (Some place.1))) else None)
           (unfit_is n)
       by true true None = refl
       by true false o = refl
@@ -204,20 +206,28 @@ module _ (p : Content) where
 -- ---- both
 
 pub configured_found : (p : Content) (plan : List PlannedMessage) (ids : List ℕ) (ts : List (ℕ × ℕ))
-    (cs : List HeartbeatConsumer) (old between new : List Diag) → plan ≡ plan_of_project p
+    (cs : List HeartbeatConsumer) (ns : List (ℕ × ℕ)) (old first second new : List Diag) → plan ≡ plan_of_project p
     → ids ≡ flat_map (identifiers_by plan) (members p) → ts ≡ flat_map (times_by plan) (members p)
-    → cs ≡ flat_map (consumers_by plan) (members p)
-    → between ≡ old ++ filter_map (unfit_diagnostic p.manager ts) cs → new ≡ between ++ filter_map (shared_in ids) ids
+    → cs ≡ flat_map (consumers_by plan) (members p) → ns ≡ flat_map (counters_by plan) (members p)
+    → first ≡ old ++ filter_map (unfit_diagnostic p.manager ts) cs → second ≡ first ++ filter_map (shared_in ids) ids
+    → new ≡ second ++ filter_map (counter_diagnostic p.sync_counter) ns
     → new ≡ old ++ flat_map (unfit_consumers p) (members p) ++ shared_identifiers p
+    ++ filter_map (other_counter p) (members p)
 unfolding shared_identifiers
-configured_found p plan ids ts cs old between new is are_ids are_times are_consumers first second =
+configured_found p plan ids ts cs ns old first second new is are_ids are_times are_consumers are_counters one two three =
     let all : ids ≡ identifiers p = are_ids ∙ ap (λ (m : List PlannedMessage). flat_map (identifiers_by m)
     (members p)) is ∙ all_identifiers p in
     let by_times : ts ≡ flat_map (times_by (plan_of_project p)) (members p) = are_times
     ∙ ap (λ (m : List PlannedMessage). flat_map (times_by m) (members p)) is in
     let by_all : cs ≡ flat_map (consumers_by (plan_of_project p)) (members p) = are_consumers
     ∙ ap (λ (m : List PlannedMessage). flat_map (consumers_by m) (members p)) is in
-    second
+    let counters : filter_map (counter_diagnostic p.sync_counter) ns ≡ filter_map (other_counter p) (members p) =
+    ap (filter_map (counter_diagnostic p.sync_counter)) (are_counters
+    ∙ ap (λ (m : List PlannedMessage). flat_map (counters_by m) (members p)) is) ∙ all_counters p in
+    let so_far : second ≡ old ++ flat_map (unfit_consumers p) (members p) ++ filter_map (shared_in (identifiers p))
+    (identifiers p) =
+    two
     ∙ ap (λ (ds : List Diag). ds ++ filter_map (shared_in ids) ids)
-    (first ∙ ap (λ (ds : List Diag). old ++ ds) (found_by p ts cs by_times by_all))
-    ∙ ap (λ (xs : List ℕ). old ++ flat_map (unfit_consumers p) (members p) ++ filter_map (shared_in xs) xs) all
+    (one ∙ ap (λ (ds : List Diag). old ++ ds) (found_by p ts cs by_times by_all))
+    ∙ ap (λ (xs : List ℕ). old ++ flat_map (unfit_consumers p) (members p) ++ filter_map (shared_in xs) xs) all in
+    three ∙ (λ i. so_far i ++ counters i)

@@ -14,7 +14,7 @@ use Rattle.project_plan.specs.Network.{Member}
 use Rattle.diag_lines.specs.declared.code.Code.TheVariants.{Unreadable}
 use Rattle.diag_lines.specs.declared.diag.Diag.{Diag}
 use Rattle.diag_lines.specs.declared.subject.Subject.TheVariants as of
-use Rattle.co_diag.specs.Values.{members}
+use Rattle.configured_nodes.specs.Values.{members}
 use Rattle.co_diag.specs.Holds.{HasUnreadableDefault, HoldsOf, Holds}
 use Rattle.co_diag.specs.Found.{diagnostic, spells_none, unreadable_default, unreadable_defaults}
 use Rattle.co_diag.proofs.ListLemmas.{Contains-flat_map, from_flat_map}

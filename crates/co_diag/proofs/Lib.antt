@@ -3,6 +3,7 @@ pub mod MemberLemmas
 pub mod ParameterFound
 pub mod DefaultFound
 pub mod ConsumerFound
+pub mod CounterFound
 pub mod SharedFound
 pub mod MessageFound
 pub mod EventFound
@@ -10,7 +11,7 @@ pub mod TextFound
 pub mod FoundLemmas
 pub mod DeviceLemmas
 pub mod WalkLemmas
-pub mod ConfiguredLemmas
+pub mod KeptLemmas
 pub mod CountLemmas
 pub mod ConsumerWalk
 pub mod SetFound

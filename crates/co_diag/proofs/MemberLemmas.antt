@@ -25,7 +25,7 @@ use Rattle.pdo_stations.specs.Devices.{is_unsigned}
 use Rattle.co_project.specs.declared.node.Node.{Node}
 use Rattle.co_project.specs.Project.{Content}
 use Rattle.project_plan.specs.Network.{Member, with_sections, member_at}
-use Rattle.co_diag.specs.Values.{members}
+use Rattle.configured_nodes.specs.Values.{members}
 use Rattle.diag_lines.proofs.ListLemmas.{Contains-first, Contains-later}
 
 -- ---- tables

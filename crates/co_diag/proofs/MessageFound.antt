@@ -1,13 +1,12 @@
--- The faults and transmission types of messages are found.
-use Rattle.std.proofs.Common.{◌≡◌, ◌&&◌, ℕ, Bool, true, false, List, filter_map, map, Contains, Option, Some, None}
+-- The faults, transmission types and SYNC start values of messages are found.
+use Rattle.std.proofs.Common.{◌≡◌, ℕ, Bool, true, false, List, filter_map, map, Contains, Option, Some, None}
 use Rattle.std.proofs.Common.{refl, sym, subst}
-use Rattle.std.specs.Prelude.{◌==◌, if◌then◌else◌}
+use Rattle.std.specs.Prelude.{if◌then◌else◌}
 use Rattle.std.specs.FinMap.{entries}
 use Rattle.std.specs.List.{flat_map}
 use Rattle.std.proofs.lemmas.Cmp.{nat_list_cmp_total}
 use Rattle.std.proofs.lemmas.Map.Lookups.{exact_bytes}
-use Rattle.co_fields.specs.TransmissionTypes.{is_on_request, is_synchronous, type_of_byte}
-use Rattle.co_fields.specs.declared.transmission_type.TransmissionType.{TransmissionType}
+use Rattle.co_fields.specs.TransmissionTypes.{is_on_request}
 use Rattle.co_messages.specs.declared.linked.Linked.{Linked}
 use Rattle.co_params.proofs.WrittenLemmas.{Contains-filter_map, from_filter_map}
 use Rattle.pdo_plan.specs.declared.message_fault.MessageFault.{MessageFault}
@@ -18,12 +17,12 @@ use Rattle.pdo_plan.specs.declared.planned_message.PlannedMessage.{PlannedMessag
 use Rattle.co_project.specs.Project.{Content}
 use Rattle.project_plan.specs.Network.{plan_of_project}
 use Rattle.diag_lines.specs.declared.code.Code.{Code}
-use Rattle.diag_lines.specs.declared.code.Code.TheVariants.{RemoteType, NoSync}
+use Rattle.diag_lines.specs.declared.code.Code.TheVariants.{RemoteType, NoSync, UnreachedStart}
 use Rattle.diag_lines.specs.declared.diag.Diag.{Diag}
 use Rattle.diag_lines.specs.declared.subject.Subject.TheVariants as of
 use Rattle.co_diag.specs.Faults.{message_code}
-use Rattle.co_diag.specs.Holds.{HasMessageFault, HasType, HoldsOf, Holds}
-use Rattle.co_diag.specs.Found.{diagnostic, message_faults, message_diagnostics, remote_type, no_sync}
+use Rattle.co_diag.specs.Holds.{HasMessageFault, HasMessage, HoldsOf, Holds, starts_at_none, type_of, waits_for_none}
+use Rattle.co_diag.specs.Found.{diagnostic, message_faults, message_diagnostics, remote_type, no_sync, unreached_start}
 use Rattle.diag_lines.proofs.ListLemmas.{Contains-nil}
 use Rattle.co_diag.proofs.ListLemmas.{Contains-map, from_map, Contains-flat_map, from_flat_map}
 use Rattle.co_diag.proofs.MemberLemmas.{at_entry, entry_of}
@@ -72,24 +71,22 @@ messages_listed p fault name h =
     (subst (λ (o : Outcome). Contains (message_diagnostics h.said.name o)
     (diagnostic (message_code fault) (of.Message name))) (sym h.faulty) named)
 
--- ---- transmission types
+-- ---- messages as they are
 
--- what is said of a message whose transmission type passes a test
-abbrev typed : Code → (TransmissionType → Bool) → List ℕ × Linked → Option Diag
-typed code test m =
-    if test (type_of_byte m.1.message.transmission) then Some (diagnostic code (of.Message m.0)) else None
+-- what is said of a message that passes a test
+abbrev tested : Code → (Linked → Bool) → List ℕ × Linked → Option Diag
+tested code test m = if test m.1 then Some (diagnostic code (of.Message m.0)) else None
 
-type_by : (p : Content) (code : Code) (test : TransmissionType → Bool) (d : Diag)
-    → Contains (filter_map (typed code test) (entries p.messages)) d
-    → (name : List ℕ) × HasType p test name × (diagnostic code (of.Message name) ≡ d)
-type_by p code test d c =
-    let one = from_filter_map (typed code test) (entries p.messages) d c in
-    by one.0 one.1 (test (type_of_byte one.0.1.message.transmission)) refl one.2
+tested_by : (p : Content) (code : Code) (test : Linked → Bool) (d : Diag)
+    → Contains (filter_map (tested code test) (entries p.messages)) d
+    → (name : List ℕ) × HasMessage p test name × (diagnostic code (of.Message name) ≡ d)
+tested_by p code test d c =
+    let one = from_filter_map (tested code test) (entries p.messages) d c in
+    by one.0 one.1 (test one.0.1) refl one.2
   where
-    by : (m : List ℕ × Linked) → Contains (entries p.messages) m → (b : Bool)
-        → test (type_of_byte m.1.message.transmission) ≡ b
+    by : (m : List ℕ × Linked) → Contains (entries p.messages) m → (b : Bool) → test m.1 ≡ b
         → (if b then Some (diagnostic code (of.Message m.0)) else None) ≡ Some d
-        → (name : List ℕ) × HasType p test name × (diagnostic code (of.Message name) ≡ d)
+        → (name : List ℕ) × HasMessage p test name × (diagnostic code (of.Message name) ≡ d)
     by m c true fits h =
         let same : diagnostic code (of.Message m.0) ≡ d = cc in (
           m.0,
@@ -98,30 +95,43 @@ type_by p code test d c =
         )
     by m c false fits h = cc
 
-type_listed : (p : Content) (code : Code) (test : TransmissionType → Bool) (name : List ℕ) → HasType p test name
-    → Contains (filter_map (typed code test) (entries p.messages)) (diagnostic code (of.Message name))
-type_listed p code test name h =
-    let found : typed code test (name, h.linked) ≡ Some (diagnostic code (of.Message name)) = rw h.fits refl in
-    Contains-filter_map (typed code test) (entries p.messages) (name, h.linked) (diagnostic code (of.Message name))
+tested_listed : (p : Content) (code : Code) (test : Linked → Bool) (name : List ℕ) → HasMessage p test name
+    → Contains (filter_map (tested code test) (entries p.messages)) (diagnostic code (of.Message name))
+tested_listed p code test name h =
+    let found : tested code test (name, h.linked) ≡ Some (diagnostic code (of.Message name)) = rw h.fits refl in
+    Contains-filter_map (tested code test) (entries p.messages) (name, h.linked) (diagnostic code (of.Message name))
     (entry_of nat_list_cmp_total exact_bytes p.messages name h.linked h.there) found
+
+abbrev is_remote : Linked → Bool
+is_remote linked = is_on_request (type_of linked)
 
 pub remote_types_hold : (p : Content) (d : Diag) → Contains (filter_map remote_type (entries p.messages)) d → Holds p d
 unfolding Holds
 remote_types_hold p d c =
-    let one = type_by p RemoteType is_on_request d c in
+    let one = tested_by p RemoteType is_remote d c in
     subst (λ (x : Diag). HoldsOf p x.code x.subject) one.2 one.1
 
-pub remote_types_listed : (p : Content) (name : List ℕ) → HasType p is_on_request name
+pub remote_types_listed : (p : Content) (name : List ℕ) → HasMessage p is_remote name
     → Contains (filter_map remote_type (entries p.messages)) (diagnostic RemoteType (of.Message name))
-remote_types_listed p name h = type_listed p RemoteType is_on_request name h
+remote_types_listed p name h = tested_listed p RemoteType is_remote name h
 
 pub no_syncs_hold : (p : Content) (d : Diag) → Contains (filter_map (no_sync p) (entries p.messages)) d → Holds p d
 unfolding Holds
 no_syncs_hold p d c =
-    let one = type_by p NoSync (λ type. is_synchronous type && p.manager.sync_us == 0) d c in
+    let one = tested_by p NoSync (waits_for_none p) d c in
     subst (λ (x : Diag). HoldsOf p x.code x.subject) one.2 one.1
 
-pub no_syncs_listed : (p : Content) (name : List ℕ)
-    → HasType p (λ type. is_synchronous type && p.manager.sync_us == 0) name
+pub no_syncs_listed : (p : Content) (name : List ℕ) → HasMessage p (waits_for_none p) name
     → Contains (filter_map (no_sync p) (entries p.messages)) (diagnostic NoSync (of.Message name))
-no_syncs_listed p name h = type_listed p NoSync (λ type. is_synchronous type && p.manager.sync_us == 0) name h
+no_syncs_listed p name h = tested_listed p NoSync (waits_for_none p) name h
+
+pub starts_hold : (p : Content) (d : Diag) → Contains (filter_map (unreached_start p) (entries p.messages)) d
+    → Holds p d
+unfolding Holds
+starts_hold p d c =
+    let one = tested_by p UnreachedStart (starts_at_none p) d c in
+    subst (λ (x : Diag). HoldsOf p x.code x.subject) one.2 one.1
+
+pub starts_listed : (p : Content) (name : List ℕ) → HasMessage p (starts_at_none p) name
+    → Contains (filter_map (unreached_start p) (entries p.messages)) (diagnostic UnreachedStart (of.Message name))
+starts_listed p name h = tested_listed p UnreachedStart (starts_at_none p) name h

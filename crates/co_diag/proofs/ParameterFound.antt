@@ -22,7 +22,7 @@ use Rattle.project_plan.specs.Network.{Member, member_at}
 use Rattle.diag_lines.specs.declared.diag.Diag.{Diag}
 use Rattle.diag_lines.specs.declared.subject.Subject.TheVariants as of
 use Rattle.co_diag.specs.Faults.{parameter_code}
-use Rattle.co_diag.specs.Values.{members}
+use Rattle.configured_nodes.specs.Values.{members}
 use Rattle.co_diag.specs.Holds.{HasUnfitParameter, HoldsOf, Holds}
 use Rattle.co_diag.specs.Found.{diagnostic, parameter_diagnostic, unfit_parameters}
 use Rattle.co_diag.proofs.ListLemmas.{Contains-flat_map, from_flat_map}

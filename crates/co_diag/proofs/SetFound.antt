@@ -28,7 +28,7 @@ use Rattle.diag_lines.specs.declared.code.Code.TheVariants.{NoEntry, Unreadable,
 use Rattle.diag_lines.specs.declared.code.Code.TheVariants.{TpdoTaken, TooManyBits, NotMappable, Mismatched, NoRpdo}
 use Rattle.diag_lines.specs.declared.code.Code.TheVariants.{NoDummy, BadIdentifier, NoIdentifier, ReservedType}
 use Rattle.diag_lines.specs.declared.code.Code.TheVariants.{SharedIdentifier, NotModelled, RemoteType, NoSync}
-use Rattle.diag_lines.specs.declared.code.Code.TheVariants.{UnfitConsumer, SkippedLine}
+use Rattle.diag_lines.specs.declared.code.Code.TheVariants.{UnfitConsumer, SkippedLine, OtherCounter, UnreachedStart}
 use Rattle.diag_lines.specs.declared.diag.Diag.{Diag}
 use Rattle.diag_lines.specs.declared.subject.Subject.{Subject}
 use Rattle.diag_lines.specs.declared.subject.Subject.TheVariants as of
@@ -70,6 +70,8 @@ module _ (p : Content) (number : ℕ) where
   of_event NoSync h = absurd h
   of_event UnfitConsumer h = absurd h
   of_event SkippedLine h = absurd h
+  of_event OtherCounter h = absurd h
+  of_event UnreachedStart h = absurd h
 
   listed_is_fault : (d : Diag) → Contains (diagnostics_of p) d → d.subject ≡ of.Event number
       → (fault : ParameterFault) × SetsUnfitValue p fault number

@@ -15,7 +15,7 @@ use Rattle.project_plan.specs.Network.{Member}
 use Rattle.diag_lines.specs.declared.code.Code.TheVariants.{SharedIdentifier}
 use Rattle.diag_lines.specs.declared.diag.Diag.{Diag}
 use Rattle.diag_lines.specs.declared.subject.Subject.TheVariants as of
-use Rattle.co_diag.specs.Values.{members, number_after}
+use Rattle.configured_nodes.specs.Values.{members, number_after}
 use Rattle.co_fields.specs.CobIds.{identifier_in}
 use Rattle.co_diag.specs.Holds.{HoldsOf, Holds, IsShared, is_on, sends_with, senders_with}
 use Rattle.co_diag.specs.Found.{diagnostic, identifier_of, identifiers, shared_in, shared_identifiers}

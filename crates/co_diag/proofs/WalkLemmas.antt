@@ -23,10 +23,10 @@ use Rattle.project_plan.specs.Network.{Member, member_at, with_sections}
 use Rattle.diag_lines.specs.declared.code.Code.TheVariants.{SkippedLine}
 use Rattle.diag_lines.specs.declared.diag.Diag.{Diag}
 use Rattle.diag_lines.specs.declared.subject.Subject.TheVariants as of
-use Rattle.co_diag.specs.Devices.{device_fault, device_for, lines_at, member_of, of_node}
+use Rattle.co_diag.specs.Devices.{device_fault, device_for, lines_at, of_node}
 use Rattle.co_diag.specs.Faults.{parameter_code}
 use Rattle.co_diag.specs.Found.{diagnostic, set_fault, skipped_lines, unfit_event}
-use Rattle.co_diag.specs.Values.{members}
+use Rattle.configured_nodes.specs.Values.{member_of, members}
 
 -- ---- walks
 

@@ -17,6 +17,7 @@ use Rattle.diag_lines.specs.declared.code.Code.TheVariants.{SkippedLine}
 use Rattle.diag_lines.specs.declared.diag.Diag.{Diag}
 use Rattle.diag_lines.specs.declared.subject.Subject.TheVariants as of
 use Rattle.co_diag.specs.Faults.{parameter_code}
+use Rattle.configured_nodes.specs.Values.{member_of}
 use Rattle.co_diag.specs.Found.{diagnostic}
 
 -- the device of each text was read
@@ -32,10 +33,6 @@ device_at texts name = option_map content_of (text_at texts name)
 abbrev pub lines_at : Texts → List ℕ → List Diag
 lines_at texts name = option_map_or (λ (d : Device). map (λ line. diagnostic SkippedLine (of.Eds name line)) d.warnings)
     (device_at texts name) []
-
--- a node with its device
-abbrev pub member_of : ℕ → Node → Device → ℕ × Member
-member_of id node d = (id, record { node = node; sections = d.sections })
 
 -- what is found of a node, where it has a device
 abbrev pub of_node : {X : Type 0} → (ℕ × Member → List X) → Content → ℕ × Node → List X

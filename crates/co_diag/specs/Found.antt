@@ -8,10 +8,10 @@ use Rattle.std.specs.Option.{option_map_or}
 use Rattle.std.specs.Result.{result_err}
 use Rattle.co_base.specs.Ranges.{is_between}
 use Rattle.ini_text.specs.Content.{content_of}
-use Rattle.co_values.specs.declared.form.Width.TheVariants.{Bits32}
+use Rattle.co_values.specs.declared.form.Width.TheVariants.{Bits8, Bits32}
 use Rattle.co_values.specs.Types.{is_modelled}
 use Rattle.co_values.specs.Values.{value}
-use Rattle.co_fields.specs.TransmissionTypes.{is_on_request, is_synchronous, type_of_byte}
+use Rattle.co_fields.specs.TransmissionTypes.{is_on_request}
 use Rattle.co_dict.specs.declared.entry.Entry.{Entry}
 use Rattle.co_fields.specs.CobIds.{is_restricted}
 use Rattle.eds_device.specs.Described.{default_text}
@@ -30,16 +30,16 @@ use Rattle.co_project.specs.Project.{Content}
 use Rattle.project_plan.specs.Network.{Member, member_at, plan_of_project}
 use Rattle.diag_lines.specs.declared.code.Code.{Code}
 use Rattle.diag_lines.specs.declared.code.Code.TheVariants.{Unreadable, SharedIdentifier, RemoteType, NoSync}
-use Rattle.diag_lines.specs.declared.code.Code.TheVariants.{UnfitConsumer, SkippedLine}
+use Rattle.diag_lines.specs.declared.code.Code.TheVariants.{UnfitConsumer, SkippedLine, OtherCounter, UnreachedStart}
 use Rattle.diag_lines.specs.declared.subject.Subject.{Subject}
 use Rattle.diag_lines.specs.declared.subject.Subject.TheVariants as of
 use Rattle.diag_lines.specs.declared.diag.Diag.{Diag}
 use Rattle.co_diag.specs.Faults.{parameter_code, message_code}
 use Rattle.co_fields.specs.CobIds.{identifier_in}
-use Rattle.co_diag.specs.Holds.{is_on, is_unfit}
+use Rattle.co_diag.specs.Holds.{is_on, is_unfit, starts_at_none, type_of, waits_for_none}
 use Rattle.diag_lines.specs.Order.{diag_cmp}
 use Rattle.diag_lines.specs.Sets.{sorted_set}
-use Rattle.co_diag.specs.Values.{members, number_after}
+use Rattle.configured_nodes.specs.Values.{members, number_after}
 
 abbrev pub diagnostic : Code → Subject → Diag
 diagnostic code subject = record { code = code; subject = subject }
@@ -76,10 +76,16 @@ unreadable_defaults e = filter_map (unreadable_default e) (pairs_of e.1.sections
 unfoldable pub unfit_consumer : Content → ℕ × Member → ℕ × ℕ → Option Diag
 unfit_consumer p e place =
     if place.0 == 0x1016 && nat_le 1 place.1 && option_map_or (is_unfit p) (number_after Bits32 p e.1 e.0 place) false
-    then Some (diagnostic UnfitConsumer (of.Node e.0 place.1)) else None
+    then Some (diagnostic UnfitConsumer (of.Node e.0 (Some place.1))) else None
 
 unfoldable pub unfit_consumers : Content → ℕ × Member → List Diag
 unfit_consumers p e = filter_map (unfit_consumer p e) (pairs_of e.1.sections)
+
+-- a synchronous counter overflow value that isn't the network's
+unfoldable pub other_counter : Content → ℕ × Member → Option Diag
+other_counter p e =
+    option_and_then (λ n. if not (n == p.sync_counter) then Some (diagnostic OtherCounter (of.Node e.0 None)) else None)
+    (number_after Bits8 p e.1 e.0 (0x1019, 0))
 
 -- ---- identifiers
 
@@ -113,13 +119,16 @@ message_faults m = message_diagnostics m.name m.outcome
 
 -- a transmission type that asks for remote frames
 abbrev pub remote_type : List ℕ × Linked → Option Diag
-remote_type m = if is_on_request (type_of_byte m.1.message.transmission)
+remote_type m = if is_on_request (type_of m.1)
     then Some (diagnostic RemoteType (of.Message m.0)) else None
 
 -- a transmission type that waits for a SYNC, where there is none
 abbrev pub no_sync : Content → List ℕ × Linked → Option Diag
-no_sync p m = if is_synchronous (type_of_byte m.1.message.transmission) && p.manager.sync_us == 0
-    then Some (diagnostic NoSync (of.Message m.0)) else None
+no_sync p m = if waits_for_none p m.1 then Some (diagnostic NoSync (of.Message m.0)) else None
+
+-- a SYNC start value that no SYNC of the network has
+abbrev pub unreached_start : Content → List ℕ × Linked → Option Diag
+unreached_start p m = if starts_at_none p m.1 then Some (diagnostic UnreachedStart (of.Message m.0)) else None
 
 -- ---- events
 
@@ -148,9 +157,9 @@ unfoldable pub diagnostics_found : Content → List Diag
 diagnostics_found p =
     flat_map unfit_parameters (members p) ++ flat_map unreadable_defaults (members p) ++ flat_map (unfit_consumers p)
     (members p)
-    ++ shared_identifiers p
+    ++ shared_identifiers p ++ filter_map (other_counter p) (members p)
     ++ flat_map message_faults (plan_of_project p) ++ filter_map remote_type (entries p.messages)
-    ++ filter_map (no_sync p) (entries p.messages)
+    ++ filter_map (no_sync p) (entries p.messages) ++ filter_map (unreached_start p) (entries p.messages)
     ++ filter_map (unfit_event p) (entries p.events)
     ++ flat_map skipped_lines (entries p.texts)
 

@@ -1,18 +1,19 @@
 -- What is wrong with a project: one predicate for each code (CiA 301 and 306 say what an entry, a PDO, an identifier
 -- and a heartbeat consumer may be; the codes are this profile's own).
-use Rattle.std.specs.Prelude.{◌≡◌, ◌≤◌, ℕ, ◌==◌, ◌&&◌, ◌||◌, not, Bool, true, false, nat_le}
+use Rattle.std.specs.Prelude.{◌≡◌, ◌≤◌, ℕ, ◌==◌, ◌&&◌, ◌||◌, not, Bool, true, false, nat_le, nat_lt}
 use Rattle.std.specs.Prelude.{if◌then◌else◌, List, length, filter, map, Option, Some, None, option_map, Err, Contains}
 use Rattle.std.specs.FinMap.{get}
 use Rattle.std.specs.List.{flat_map}
 use Rattle.std.specs.Option.{option_map_or, unwrap_or}
 use Rattle.co_base.specs.Ranges.{is_between}
 use Rattle.ini_text.specs.Content.{content_of}
-use Rattle.co_values.specs.declared.form.Width.TheVariants.{Bits16, Bits32}
+use Rattle.co_values.specs.declared.form.Width.TheVariants.{Bits8, Bits16, Bits32}
 use Rattle.co_values.specs.Types.{is_modelled}
 use Rattle.co_values.specs.Values.{value}
 use Rattle.co_fields.specs.ConsumerHeartbeatTimes.{consumed_node, consumer_time}
 use Rattle.co_fields.specs.TransmissionTypes.{is_on_request, is_synchronous, type_of_byte}
 use Rattle.co_fields.specs.declared.transmission_type.TransmissionType.{TransmissionType}
+use Rattle.co_fields.specs.declared.transmission_type.TransmissionType.TheVariants.{Cyclic}
 use Rattle.co_dict.specs.declared.entry.Entry.{Entry}
 use Rattle.co_fields.specs.CobIds.{is_restricted}
 use Rattle.eds_device.specs.Described.{default_text}
@@ -35,12 +36,12 @@ use Rattle.diag_lines.specs.declared.code.Code.TheVariants.{NoEntry, Unreadable,
 use Rattle.diag_lines.specs.declared.code.Code.TheVariants.{TpdoTaken, TooManyBits, NotMappable, Mismatched, NoRpdo}
 use Rattle.diag_lines.specs.declared.code.Code.TheVariants.{NoDummy, BadIdentifier, NoIdentifier, ReservedType}
 use Rattle.diag_lines.specs.declared.code.Code.TheVariants.{SharedIdentifier, NotModelled, RemoteType, NoSync}
-use Rattle.diag_lines.specs.declared.code.Code.TheVariants.{UnfitConsumer, SkippedLine}
+use Rattle.diag_lines.specs.declared.code.Code.TheVariants.{UnfitConsumer, SkippedLine, OtherCounter, UnreachedStart}
 use Rattle.diag_lines.specs.declared.subject.Subject.{Subject}
 use Rattle.diag_lines.specs.declared.subject.Subject.TheVariants as of
 use Rattle.diag_lines.specs.declared.diag.Diag.{Diag}
 use Rattle.co_fields.specs.CobIds.{identifier_in, is_of_base_frames, is_valid}
-use Rattle.co_diag.specs.Values.{members, number_after}
+use Rattle.configured_nodes.specs.Values.{members, number_after}
 
 -- a parameter of a node, its own or one of the EDS, has this fault
 pub record HasUnfitParameter (p : Content) (fault : ParameterFault) (node index sub : ℕ) : Type 0 where
@@ -82,11 +83,29 @@ pub record HasMessageFault (p : Content) (fault : MessageFault) (name : List ℕ
   pub faulty : said.outcome ≡ Faulty faults
   pub has : Contains faults fault
 
--- a message of a transmission type that passes a test, whether it is clean or not
-pub record HasType (p : Content) (test : TransmissionType → Bool) (name : List ℕ) : Type 0 where
+-- a message that passes a test, whether it is clean or not
+pub record HasMessage (p : Content) (test : Linked → Bool) (name : List ℕ) : Type 0 where
   pub linked : Linked
   pub there : get p.messages name ≡ Some linked
-  pub fits : test (type_of_byte linked.message.transmission) ≡ true
+  pub fits : test linked ≡ true
+
+-- the transmission type of a message
+abbrev pub type_of : Linked → TransmissionType
+type_of linked = type_of_byte linked.message.transmission
+
+-- a type that waits for a SYNC, where the manager sends none
+abbrev pub waits_for_none : Content → Linked → Bool
+waits_for_none p linked = is_synchronous (type_of linked) && p.manager.sync_us == 0
+
+-- a type by which SYNCs are counted (CiA 301: 1 to 240)
+abbrev pub is_cyclic : TransmissionType → Bool
+is_cyclic (Cyclic n) = true
+is_cyclic other = false
+
+-- SYNCs are counted from a SYNC start value on that is above the network's synchronous counter overflow value, and so
+-- that of no SYNC
+abbrev pub starts_at_none : Content → Linked → Bool
+starts_at_none p linked = is_cyclic (type_of linked) && nat_lt p.sync_counter linked.start
 
 -- the COB-ID of a PDO (CiA 301): it is on and of 11 bits where bits 31 and 29 are clear
 abbrev pub is_on : ℕ → Bool
@@ -130,6 +149,14 @@ pub record HasUnfitConsumer (p : Content) (node sub : ℕ) : Type 0 where
   pub there : number_after Bits32 p member node (0x1016, sub) ≡ Some consumer
   pub unfit : is_unfit p consumer ≡ true
 
+-- the synchronous counter overflow value (CiA 301, 1019h) that a node has isn't that of the network
+pub record HasOtherCounter (p : Content) (node : ℕ) : Type 0 where
+  pub member : Member
+  pub counter : ℕ
+  pub is : member_at p node ≡ Some member
+  pub there : number_after Bits8 p member node (0x1019, 0) ≡ Some counter
+  pub other : (counter == p.sync_counter) ≡ false
+
 -- a line of the text of an EDS that isn't used
 pub record SkipsLine (p : Content) (name : List ℕ) (line : ℕ) : Type 0 where
   pub text : List ℕ
@@ -158,10 +185,12 @@ HoldsOf p BadIdentifier (of.Message name) = HasMessageFault p message.BadIdentif
 HoldsOf p NoIdentifier (of.Message name) = HasMessageFault p message.NoIdentifier name
 HoldsOf p ReservedType (of.Message name) = HasMessageFault p message.ReservedType name
 HoldsOf p SharedIdentifier (of.Cob id) = IsShared p id
-HoldsOf p RemoteType (of.Message name) = HasType p is_on_request name
-HoldsOf p NoSync (of.Message name) = HasType p (λ type. is_synchronous type && p.manager.sync_us == 0) name
-HoldsOf p UnfitConsumer (of.Node node sub) = HasUnfitConsumer p node sub
+HoldsOf p RemoteType (of.Message name) = HasMessage p (λ linked. is_on_request (type_of linked)) name
+HoldsOf p NoSync (of.Message name) = HasMessage p (waits_for_none p) name
+HoldsOf p UnfitConsumer (of.Node node (Some sub)) = HasUnfitConsumer p node sub
 HoldsOf p SkippedLine (of.Eds name line) = SkipsLine p name line
+HoldsOf p OtherCounter (of.Node node None) = HasOtherCounter p node
+HoldsOf p UnreachedStart (of.Message name) = HasMessage p (starts_at_none p) name
 HoldsOf p code subject = ⊥
 
 unfoldable pub Holds : Content → Diag → Type 0

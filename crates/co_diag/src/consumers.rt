@@ -1,7 +1,7 @@
 //! The heartbeat consumers that are unfit, put at the end of what was found.
 ghost use Rattle.std.specs.Prelude.{◌≡◌, ◌++◌, ◌==◌, OnOk, filter_map, option_copied};
 ghost use Rattle.std.specs.List.{find};
-ghost use Rattle.co_diag.specs.Configured.{producer_among, unfit_among, unfit_diagnostic};
+ghost use Rattle.co_diag.specs.Kept.{producer_among, unfit_among, unfit_diagnostic};
 
 use crate::consumer::HeartbeatConsumer;
 use co_fields::ConsumerHeartbeatTime;
@@ -53,7 +53,7 @@ fn unfit_said(project: &Project, times: &[(u8, u16)], consumer: &HeartbeatConsum
     }
     Some(Diag {
         code: Code::UnfitConsumer,
-        subject: Subject::Node(consumer.node, consumer.sub),
+        subject: Subject::Node(consumer.node, Some(consumer.sub)),
     })
 }
 

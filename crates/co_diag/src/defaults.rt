@@ -2,9 +2,9 @@
 ghost use Rattle.std.specs.Prelude.{◌≡◌, ◌++◌, OnOk, IfOk, filter_map, is_some};
 ghost use Rattle.std.specs.List.{flat_map};
 ghost use Rattle.eds_device.specs.Places.{pairs_of};
-ghost use Rattle.co_diag.specs.Devices.{AreAllRead, member_of, of_node};
+ghost use Rattle.co_diag.specs.Devices.{AreAllRead, of_node};
 ghost use Rattle.co_diag.specs.Found.{spells_none, unreadable_default, unreadable_defaults};
-ghost use Rattle.co_diag.specs.Values.{members};
+ghost use Rattle.configured_nodes.specs.Values.{member_of, members};
 
 use crate::devices::device_of;
 use co_dict::Entry;

@@ -5,15 +5,19 @@ ghost use Rattle.std.specs.List.{flat_map};
 ghost use Rattle.project_plan.specs.Network.{plan_of_project};
 ghost use Rattle.co_diag.specs.Devices.{AreAllRead};
 ghost use Rattle.co_diag.specs.Found.{unfit_parameters, unreadable_defaults, unfit_consumers, shared_identifiers};
-ghost use Rattle.co_diag.specs.Found.{message_faults, remote_type, no_sync, diagnostics_found, diagnostics_of};
-ghost use Rattle.co_diag.specs.Values.{members};
+ghost use Rattle.co_diag.specs.Found.{message_faults, remote_type, no_sync, unreached_start, other_counter};
+ghost use Rattle.co_diag.specs.Found.{diagnostics_found, diagnostics_of};
+ghost use Rattle.configured_nodes.specs.Values.{members};
 
 use crate::consumers::find_unfit_consumers;
+use crate::counters::find_other_counters;
 use crate::defaults::find_unreadable_defaults;
 use crate::devices::read_all;
 use crate::events::find_unfit_events;
 use crate::kept::keep_all;
-use crate::messages::{find_message_faults, find_no_syncs, find_remote_types};
+use crate::messages::{
+    find_message_faults, find_no_syncs, find_remote_types, find_unreached_starts,
+};
 use crate::parameters::find_unfit_parameters;
 use crate::shared::find_shared;
 use crate::texts::find_skipped_lines;
@@ -34,11 +38,13 @@ fn find_of_configured(
     requires plan { plan.now ≡ plan_of_project library.now.project }
     ensures { OnOk result (found.new.items
         ≡ found.old.items ++ flat_map (unfit_consumers library.now.project) (members library.now.project)
-        ++ shared_identifiers library.now.project) }
+        ++ shared_identifiers library.now.project ++ filter_map (other_counter library.now.project)
+        (members library.now.project)) }
 {
     let kept = keep_all(alloc, library, plan)?;
     find_unfit_consumers(found, library.project(), &kept.times, &kept.consumers)?;
     find_shared(found, &kept.identifiers)?;
+    find_other_counters(found, library.project(), &kept.counters)?;
     Ok(())
 }
 
@@ -51,11 +57,13 @@ fn find_of_messages(
 ) -> Result<(), AllocError>
     ensures { OnOk result (found.new.items ≡ found.old.items ++ flat_map message_faults plan.now
         ++ filter_map remote_type (table.entries project.now.messages) ++ filter_map (no_sync project.now)
+        (table.entries project.now.messages) ++ filter_map (unreached_start project.now)
         (table.entries project.now.messages)) }
 {
     find_message_faults(found, alloc, plan)?;
     find_remote_types(found, alloc, project)?;
     find_no_syncs(found, alloc, project)?;
+    find_unreached_starts(found, alloc, project)?;
     Ok(())
 }
 

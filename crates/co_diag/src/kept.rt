@@ -2,16 +2,17 @@
 ghost use Rattle.std.specs.Prelude.{◌≡◌, ◌++◌, OnOk, IfOk, filter_map};
 ghost use Rattle.std.specs.List.{flat_map};
 ghost use Rattle.eds_device.specs.Places.{pairs_of};
-ghost use Rattle.co_diag.specs.Configured.{identifier_among, consumer_among, identifiers_by, consumers_by, times_by};
-ghost use Rattle.co_diag.specs.Devices.{AreAllRead, member_of, of_node};
-ghost use Rattle.co_diag.specs.Values.{members};
+ghost use Rattle.co_diag.specs.Kept.{identifier_among, consumer_among, counter_among};
+ghost use Rattle.co_diag.specs.Kept.{identifiers_by, consumers_by, times_by, counters_by};
+ghost use Rattle.co_diag.specs.Devices.{AreAllRead, of_node};
+ghost use Rattle.configured_nodes.specs.Values.{member_of, members};
 
-use crate::configured::{configured_values, unsigned_16, unsigned_32};
 use crate::consumer::HeartbeatConsumer;
 use crate::devices::device_of;
 use co_dict::Dict;
 use co_fields::{CobId, Identifier};
 use co_project::Node;
+use configured_nodes::{configured_values, unsigned_8, unsigned_16, unsigned_32};
 use eds_device::Device;
 use pdo_plan::Plan;
 use project_plan::Library;
@@ -26,6 +27,8 @@ pub(crate) struct Kept {
     pub consumers: Vec<HeartbeatConsumer>,
     /// The heartbeat time of each node in milliseconds, 0 where it sends none.
     pub times: Vec<(u8, u16)>,
+    /// The synchronous counter overflow value of each node that has one.
+    pub counters: Vec<(u8, u8)>,
 }
 
 /// The identifier with which a TPDO is on.
@@ -101,6 +104,22 @@ fn keep_consumers(
     Ok(())
 }
 
+/// Keeps the synchronous counter overflow value of a node, where it has one.
+fn keep_counter(
+    counters: &mut Vec<(u8, u8)>,
+    id: u8,
+    device: &Device,
+    values: &Dict,
+) -> Result<(), AllocError>
+    ensures { OnOk result (counters.new.items
+        ≡ counters.old.items ++ counter_among id device.now.sections values.now) }
+{
+    if let Some(counter) = unsigned_8(device, values, 0x1019, 0) {
+        counters.push((id, counter))?;
+    }
+    Ok(())
+}
+
 /// Keeps what a node has once it is configured.
 fn keep_device(
     kept: &mut Kept,
@@ -116,13 +135,15 @@ fn keep_device(
         ≡ kept.old.consumers.items ++ consumers_by plan.now (member_of id node.now device.now)) }
     ensures times { OnOk result (kept.new.times.items
         ≡ kept.old.times.items ++ times_by plan.now (member_of id node.now device.now)) }
+    ensures counters { OnOk result (kept.new.counters.items
+        ≡ kept.old.counters.items ++ counters_by plan.now (member_of id node.now device.now)) }
 {
     let values = configured_values(alloc, plan, id, node, device)?;
     keep_identifiers(&mut kept.identifiers, device, &values)?;
     keep_consumers(&mut kept.consumers, id, device, &values)?;
     let time = unsigned_16(device, &values, 0x1017, 0).unwrap_or(0);
     kept.times.push((id, time))?;
-    Ok(())
+    keep_counter(&mut kept.counters, id, device, &values)
 }
 
 /// Keeps it of a node, where it has a device.
@@ -141,6 +162,8 @@ fn keep_node(
         ≡ kept.old.consumers.items ++ of_node (consumers_by plan.now) library.now.project (id, node.now)) }
     ensures times { OnOk result (kept.new.times.items
         ≡ kept.old.times.items ++ of_node (times_by plan.now) library.now.project (id, node.now)) }
+    ensures counters { OnOk result (kept.new.counters.items
+        ≡ kept.old.counters.items ++ of_node (counters_by plan.now) library.now.project (id, node.now)) }
 {
     match device_of(library, node.eds.as_slice()) {
         Some(device) => keep_device(kept, alloc, plan, id, node, device),
@@ -161,11 +184,14 @@ pub(crate) fn keep_all(
         (members library.now.project)) }
     ensures times { IfOk result (λ kept. kept.times.items ≡ flat_map (times_by plan.now)
         (members library.now.project)) }
+    ensures counters { IfOk result (λ kept. kept.counters.items ≡ flat_map (counters_by plan.now)
+        (members library.now.project)) }
 {
     let mut kept = Kept {
         identifiers: Vec::new(alloc),
         consumers: Vec::new(alloc),
         times: Vec::new(alloc),
+        counters: Vec::new(alloc),
     };
     for (id, node) in library.project().nodes() {
         keep_node(&mut kept, alloc, library, plan, *id, node)?;

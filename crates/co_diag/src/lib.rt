@@ -1,9 +1,9 @@
 //! The diagnostics of a project: all that is wrong with it, each once, in order.
 #![tactic(auto)]
 
-mod configured;
 mod consumer;
 mod consumers;
+mod counters;
 mod defaults;
 mod devices;
 mod events;

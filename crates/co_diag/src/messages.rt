@@ -4,7 +4,8 @@ ghost use Rattle.std.specs.FinMap as table;
 ghost use Rattle.std.specs.List.{flat_map};
 ghost use Rattle.diag_lines.specs.declared.subject.Subject.TheVariants as of;
 ghost use Rattle.co_diag.specs.Faults.{message_code};
-ghost use Rattle.co_diag.specs.Found.{diagnostic, message_faults, remote_type, no_sync};
+ghost use Rattle.co_diag.specs.Found.{diagnostic, message_faults, remote_type, no_sync, unreached_start};
+ghost use Rattle.co_diag.specs.Holds.{is_cyclic};
 
 use co_fields::TransmissionType;
 use co_messages::Linked;
@@ -146,6 +147,48 @@ pub(crate) fn find_no_syncs(
 {
     for (name, linked) in project.messages().iter() {
         if let Some(diag) = no_sync(alloc, project, name, linked)? {
+            found.push(diag)?;
+        }
+    }
+    Ok(())
+}
+
+/// Whether SYNCs are counted by a type.
+fn is_cyclic(kind: TransmissionType) -> bool
+    ensures { result ≡ is_cyclic kind }
+{
+    matches!(kind, TransmissionType::Cyclic(_))
+}
+
+/// What is said of a message that counts SYNCs from a number on that none of them has.
+fn unreached_start(
+    alloc: Global,
+    project: &Project,
+    name: &[u8],
+    linked: &Linked,
+) -> Result<Option<Diag>, AllocError>
+    ensures { IfOk result (λ diag. diag ≡ unreached_start project.now (name.now, linked.now)) }
+{
+    if !is_cyclic(TransmissionType::of(linked.message.transmission))
+        || linked.start <= project.sync_counter()
+    {
+        return Ok(None);
+    }
+    let diag = said_of(alloc, Code::UnreachedStart, name)?;
+    Ok(Some(diag))
+}
+
+/// Finds the messages that count SYNCs from such a number on.
+pub(crate) fn find_unreached_starts(
+    found: &mut Vec<Diag>,
+    alloc: Global,
+    project: &Project,
+) -> Result<(), AllocError>
+    ensures { OnOk result (found.new.items ≡ found.old.items ++ filter_map (unreached_start project.now)
+        (table.entries project.now.messages)) }
+{
+    for (name, linked) in project.messages().iter() {
+        if let Some(diag) = unreached_start(alloc, project, name, linked)? {
             found.push(diag)?;
         }
     }

@@ -4,9 +4,9 @@ ghost use Rattle.std.specs.FinMap as table;
 ghost use Rattle.std.specs.List.{flat_map};
 ghost use Rattle.eds_device.specs.Places.{pairs_of};
 ghost use Rattle.co_diag.specs.Faults.{parameter_code};
-ghost use Rattle.co_diag.specs.Devices.{AreAllRead, member_of, of_node};
+ghost use Rattle.co_diag.specs.Devices.{AreAllRead, of_node};
 ghost use Rattle.co_diag.specs.Found.{parameter_diagnostic, unfit_parameters};
-ghost use Rattle.co_diag.specs.Values.{members};
+ghost use Rattle.configured_nodes.specs.Values.{member_of, members};
 
 use crate::devices::device_of;
 use co_params::{ParameterFault, judge, parameter_text};

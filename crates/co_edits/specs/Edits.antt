@@ -6,9 +6,9 @@ use Rattle.co_edits.specs.declared.edit.Edit.{Edit}
 use Rattle.co_edits.specs.declared.edit.Edit.TheVariants as edit
 use Rattle.co_edits.specs.declared.manager_settings.ManagerSettings.{ManagerSettings}
 use Rattle.co_base.specs.Ranges.{is_between, AreIndices}
-use Rattle.co_messages.specs.Messages.{IsMessage, is_position}
+use Rattle.co_messages.specs.Messages.{IsMessage, is_position, is_start}
 use Rattle.co_edits.specs.Forms.{is_name, is_text, is_node_number, is_node_or_all, is_own_index, is_bit_rate, is_time}
-use Rattle.co_edits.specs.Forms.{is_sync_period, is_event_number}
+use Rattle.co_edits.specs.Forms.{is_sync_counter, is_sync_period, is_event_number}
 use Rattle.co_edits.specs.Eds.{IsEds}
 
 -- the manager (CiA 302): the number of its node, the period of SYNC, and in milliseconds its heartbeat's time and the
@@ -30,16 +30,20 @@ IsEvent (event.Nmt node command) = is_node_or_all node ≡ true
 
 -- EVERY EDIT: its names and texts are of their forms, its numbers within their limits, its EDS is one
 unfoldable pub IsEdit : Edit → Type 0
+IsEdit (edit.Version version) = Unit {0}
 IsEdit (edit.Bitrate rate) = is_bit_rate rate ≡ true
 IsEdit (edit.Horizon time) = is_time time ≡ true
 IsEdit (edit.Manager m) = IsManager m
+IsEdit (edit.SyncCounter n) = is_sync_counter n ≡ true
 IsEdit (edit.Eds name text) = IsEds name text
 IsEdit (edit.DropEds name) = is_name name ≡ true
 IsEdit (edit.Node id name eds) = (is_node_number id ≡ true) × (is_name name ≡ true) × (is_name eds ≡ true)
+IsEdit (edit.Need id mandatory) = is_node_number id ≡ true
 IsEdit (edit.DropNode id) = is_node_number id ≡ true
 IsEdit (edit.Param id index sub text) = (is_node_number id ≡ true) × IsSetting index sub text
 IsEdit (edit.Unparam id index sub) = (is_node_number id ≡ true) × AreIndices index sub
 IsEdit (edit.Message name m) = (is_name name ≡ true) × IsMessage m
+IsEdit (edit.Start message n) = (is_name message ≡ true) × (is_start n ≡ true)
 IsEdit (edit.DropMessage name) = is_name name ≡ true
 IsEdit (edit.Source message position index sub) = (is_name message ≡ true) × (is_position position ≡ true)
     × AreIndices index sub

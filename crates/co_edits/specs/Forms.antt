@@ -62,6 +62,10 @@ is_time n = is_between 0 10000000 n
 abbrev pub is_sync_period : ℕ → Bool
 is_sync_period n = n == 0 || is_between 1000 10000000 n
 
+-- the last number of a SYNC counter (CiA 301, synchronous counter overflow value); 0 for no counter
+abbrev pub is_sync_counter : ℕ → Bool
+is_sync_counter n = n == 0 || is_between 2 240 n
+
 -- the number of a TPDO (CiA 301)
 abbrev pub is_tpdo_number : ℕ → Bool
 is_tpdo_number n = is_between 1 512 n

@@ -1,6 +1,7 @@
 //! What an edit does.
 
 use crate::manager_settings::ManagerSettings;
+use crate::script_version::ScriptVersion;
 use co_base::Octets;
 use co_memo::Shared;
 use co_messages::Message;
@@ -9,12 +10,17 @@ use co_scenario::TimedEvent;
 /// What an edit does to a project.
 #[derive(Debug, Drop)]
 pub enum Edit {
+    /// The script has another version.
+    Version(ScriptVersion),
     /// The network's bit rate is another one, in kbit/s.
     Bitrate(u16),
     /// The simulation ends at another time, in microseconds from power-on.
     Horizon(u32),
     /// The manager (CiA 302) has other numbers.
     Manager(ManagerSettings),
+    /// The counter of the SYNC messages (CiA 301, synchronous counter overflow value) has another last number,
+    /// 2 to 240, or SYNC messages have no counter: 0.
+    SyncCounter(u8),
     /// A name gets the text of an EDS (CiA 306).
     Eds {
         /// The name of the EDS.
@@ -35,6 +41,13 @@ pub enum Edit {
         name: Octets,
         /// The name of the EDS that it is made from.
         eds: Octets,
+    },
+    /// A node is mandatory (CiA 302), or is so no more. Scripts of version 1 have no mandatory nodes.
+    Need {
+        /// The number of the node.
+        id: u8,
+        /// Whether it is mandatory.
+        mandatory: bool,
     },
     /// A node goes, and its parameters with it.
     DropNode {
@@ -61,12 +74,20 @@ pub enum Edit {
         /// The sub-index of the entry.
         sub: u8,
     },
-    /// A name gets a message (CiA 301, PDOs); a known one keeps its sources and sinks.
+    /// A name gets a message (CiA 301, PDOs); a known one keeps its SYNC start value, its sources and its
+    /// sinks.
     Message {
         /// The name of the message.
         name: Octets,
         /// How it is sent.
         message: Message,
+    },
+    /// A message gets a SYNC start value (CiA 301).
+    Start {
+        /// The name of the message.
+        message: Octets,
+        /// The number of the SYNC from which on SYNC messages are counted, 1 to 240; 0 for any.
+        start: u8,
     },
     /// A message goes, and its sources and sinks with it.
     DropMessage {

@@ -3,16 +3,23 @@ ghost use Rattle.std.specs.Prelude.{◌≡◌, true, IfOk};
 ghost use Rattle.co_base.specs.Gives.{Gives};
 ghost use Rattle.co_edits.specs.Faults.{is_memory};
 ghost use Rattle.co_base.specs.Ranges.{is_between};
-ghost use Rattle.co_messages.specs.Messages.{is_position};
+ghost use Rattle.co_messages.specs.Messages.{is_position, is_start};
 ghost use Rattle.co_edits.specs.Forms.{limited, is_node_number, is_node_or_all, is_own_index, is_bit_rate, is_time};
-ghost use Rattle.co_edits.specs.Forms.{is_sync_period, is_tpdo_number, is_identifier, is_event_number};
+ghost use Rattle.co_edits.specs.Forms.{is_sync_counter, is_sync_period, is_tpdo_number, is_identifier};
+ghost use Rattle.co_edits.specs.Forms.{is_event_number};
+ghost use Rattle.co_edits.specs.Versions.{version_of};
 
 use crate::fault::EditFault;
+use crate::script_version::ScriptVersion;
 use co_dict::is_of_pdos;
 
 const MAX_TIME: u64 = 10_000_000;
 
 const MIN_SYNC_PERIOD: u64 = 1000;
+
+const MIN_COUNTER: u64 = 2;
+
+const MAX_COUNTER: u64 = 240;
 
 const MAX_TPDO: u64 = 512;
 
@@ -98,6 +105,38 @@ pub fn sync_period(number: u64) -> Result<u32, EditFault>
     }
     let period = limited(number, MIN_SYNC_PERIOD, MAX_TIME)?;
     Ok(period as u32)
+}
+
+/// The last number of the counter of SYNC messages, 2 to 240; 0 for no counter.
+pub fn sync_counter(number: u64) -> Result<u8, EditFault>
+    ensures value { Gives is_memory (λ n. n) result (limited is_sync_counter number) }
+    ensures within { IfOk result (λ n. is_sync_counter n ≡ true) }
+{
+    if number == 0 {
+        return Ok(0);
+    }
+    let last = limited(number, MIN_COUNTER, MAX_COUNTER)?;
+    Ok(last as u8)
+}
+
+/// A SYNC start value, 1 to 240; 0 for any SYNC.
+pub fn sync_start(number: u64) -> Result<u8, EditFault>
+    ensures value { Gives is_memory (λ n. n) result (limited is_start number) }
+    ensures within { IfOk result (λ n. is_start n ≡ true) }
+{
+    let start = limited(number, 0, MAX_COUNTER)?;
+    Ok(start as u8)
+}
+
+/// The version of a script, 1 or 2.
+pub fn script_version(number: u64) -> Result<ScriptVersion, EditFault>
+    ensures { Gives is_memory (λ v. v) result (version_of number) }
+{
+    match number {
+        1 => Ok(ScriptVersion::One),
+        2 => Ok(ScriptVersion::Two),
+        _ => Err(EditFault::Range),
+    }
 }
 
 /// A number of 8 bits.

@@ -49,6 +49,23 @@ pub fn write_message(
     Ok(())
 }
 
+/// Writes `start MESSAGE N`.
+pub fn write_start(
+    out: &mut Vec<u8>,
+    alloc: Global,
+    message: &[u8],
+    start: u8,
+) -> Result<(), AllocError>
+    ensures written { OnOk result (out.new.items ≡ out.old.items ++ text_of (edit.Start message.now start)) }
+    ensures kept { OnErr result (StartsWith out.new.items out.old.items) }
+{
+    out.extend_from_slice(b"start")?;
+    write_word(out, message)?;
+    write_number(out, alloc, u64::from(start))?;
+    out.push(b'\n')?;
+    Ok(())
+}
+
 /// Writes `source MESSAGE POS INDEX SUB`.
 pub fn write_source(
     out: &mut Vec<u8>,

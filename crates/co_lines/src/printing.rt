@@ -9,9 +9,24 @@ ghost use Rattle.co_lines.specs.Lines.{text_of};
 ghost use Rattle.co_edits.specs.declared.edit.Edit.TheVariants as edit;
 
 use crate::written::{write_index, write_number, write_sub, write_word};
-use co_edits::ManagerSettings;
+use co_edits::{ManagerSettings, ScriptVersion};
 use co_text::line_count;
 use std::alloc::{AllocError, Global};
+
+/// Writes `version V`.
+pub fn write_version(
+    out: &mut Vec<u8>,
+    alloc: Global,
+    version: ScriptVersion,
+) -> Result<(), AllocError>
+    ensures written { OnOk result (out.new.items ≡ out.old.items ++ text_of (edit.Version version)) }
+    ensures kept { OnErr result (StartsWith out.new.items out.old.items) }
+{
+    out.extend_from_slice(b"version")?;
+    write_number(out, alloc, u64::from(version.number()))?;
+    out.push(b'\n')?;
+    Ok(())
+}
 
 /// Writes `bitrate K`.
 pub fn write_bitrate(out: &mut Vec<u8>, alloc: Global, rate: u16) -> Result<(), AllocError>
@@ -67,6 +82,17 @@ pub fn write_manager(
     Ok(())
 }
 
+/// Writes `sync-counter N`.
+pub fn write_sync_counter(out: &mut Vec<u8>, alloc: Global, last: u8) -> Result<(), AllocError>
+    ensures written { OnOk result (out.new.items ≡ out.old.items ++ text_of (edit.SyncCounter last)) }
+    ensures kept { OnErr result (StartsWith out.new.items out.old.items) }
+{
+    out.extend_from_slice(b"sync-counter")?;
+    write_number(out, alloc, u64::from(last))?;
+    out.push(b'\n')?;
+    Ok(())
+}
+
 /// Writes `eds NAME LINES` and the lines.
 pub fn write_eds(
     out: &mut Vec<u8>,
@@ -100,6 +126,23 @@ pub fn write_node(
     write_number(out, alloc, u64::from(id))?;
     write_word(out, name)?;
     write_word(out, eds)?;
+    out.push(b'\n')?;
+    Ok(())
+}
+
+/// Writes `need ID mandatory` or `need ID optional`.
+pub fn write_need(
+    out: &mut Vec<u8>,
+    alloc: Global,
+    id: u8,
+    mandatory: bool,
+) -> Result<(), AllocError>
+    ensures written { OnOk result (out.new.items ≡ out.old.items ++ text_of (edit.Need id mandatory)) }
+    ensures kept { OnErr result (StartsWith out.new.items out.old.items) }
+{
+    out.extend_from_slice(b"need")?;
+    write_number(out, alloc, u64::from(id))?;
+    write_word(out, if mandatory { b"mandatory" } else { b"optional" })?;
     out.push(b'\n')?;
     Ok(())
 }

@@ -1,5 +1,5 @@
 -- What every message keeps to.
-use Rattle.std.proofs.Common.{◌≡◌, ℕ, true, List, [], ◌∷◌, All, Option, Some, None, refl, sym, subst}
+use Rattle.std.proofs.Common.{◌≡◌, ℕ, true, List, [], All, Option, Some, None, refl, sym, subst}
 use Rattle.std.proofs.lemmas.Cmp.{nat_cmp_total, nat_list_cmp_total, on_total, then_total}
 use Rattle.std.proofs.lemmas.List.Elements.{All-nil}
 use Rattle.std.proofs.lemmas.Map.Lookups.{CmpEqualImpliesEq, exact_bytes, exact_pairs, exact_unsigned}
@@ -11,11 +11,12 @@ use Rattle.std.specs.Borrow.{Bor}
 use Rattle.std.specs.Option.{IfSome, option_copied, option_map_or}
 use Rattle.std.specs.Ordering.{nat_cmp}
 use Rattle.co_base.specs.Ranges.{is_between, AreIndices}
-use Rattle.co_base.proofs.EachLemmas.{all_entries, each_empty, each_found, each_put, each_removed}
+use Rattle.co_base.proofs.EachLemmas.{all_entries, each_empty, each_put, each_removed}
 use Rattle.co_base.proofs.EntryLemmas.{All-left, All-put, strict-left, strict-put}
 use Rattle.co_messages.specs.declared.linked.Linked.{Linked}
 use Rattle.co_messages.specs.declared.message.Message.{Message}
-use Rattle.co_messages.specs.Messages.{with_changed, is_position, linked_to, seat_cmp, with_sink, with_source}
+use Rattle.co_messages.specs.Messages.{with_changed, is_position, is_start, linked_to, seat_cmp, with_sink, with_source}
+use Rattle.co_messages.specs.Messages.{with_start}
 use Rattle.co_messages.specs.Messages.{without_sink, without_source, AreMessages, AreSinks, AreSources, IsLinked}
 use Rattle.co_messages.specs.Messages.{IsMessage, IsSink, Named}
 
@@ -36,12 +37,17 @@ no_sinks : AreSinks []
 unfolding AreSinks IsStrictlySortedBy
 no_sinks = (tt, All-nil _)
 
--- a message, where a known one keeps its sources and sinks
+-- a message, where a known one keeps its SYNC start value, its sources and its sinks
 pub linked_message : (known : Option Linked) (message : Message) → IsMessage message → IfSome known IsLinked
     → IsLinked (linked_to known message)
 unfolding IsLinked
-linked_message None message is known = (is, no_sources, no_sinks)
-linked_message (Some l) message is known = (is, known.1, known.2)
+linked_message None message is known = (is, refl, no_sources, no_sinks)
+linked_message (Some l) message is known = (is, known.1, known.2, known.3)
+
+-- with another SYNC start value
+pub start_put : (l : Linked) (start : ℕ) → IsLinked l → is_start start ≡ true → IsLinked (with_start start l)
+unfolding IsLinked
+start_put l start is fits = (is.0, fits, is.2, is.3)
 
 -- with one source more, or another in its place
 pub source_put : (l : Linked) (position : ℕ) (place : ℕ × ℕ) → IsLinked l → is_position position ≡ true
@@ -51,12 +57,13 @@ source_put l position place is fits are =
     let IsSource : ℕ × (ℕ × ℕ) → Type 0 = λ e. is_position e.0 ≡ true in
     let IsPlace : ℕ × (ℕ × ℕ) → Type 0 = λ e. AreIndices e.1.0 e.1.1 in (
       is.0,
+      is.1,
       (
-        strict-put nat_cmp nat_cmp_total exact_unsigned l.sources position place is.1.0,
-        All-put nat_cmp IsSource l.sources position place exact_unsigned is.1.1 fits,
-        All-put nat_cmp IsPlace l.sources position place exact_unsigned is.1.2 are,
+        strict-put nat_cmp nat_cmp_total exact_unsigned l.sources position place is.2.0,
+        All-put nat_cmp IsSource l.sources position place exact_unsigned is.2.1 fits,
+        All-put nat_cmp IsPlace l.sources position place exact_unsigned is.2.2 are,
       ),
-      is.2,
+      is.3,
     )
 
 -- with one less
@@ -67,12 +74,13 @@ source_left l position is =
     let IsSource : ℕ × (ℕ × ℕ) → Type 0 = λ e. is_position e.0 ≡ true in
     let IsPlace : ℕ × (ℕ × ℕ) → Type 0 = λ e. AreIndices e.1.0 e.1.1 in (
       is.0,
+      is.1,
       (
-        strict-left test nat_cmp l.sources is.1.0,
-        All-left test IsSource l.sources is.1.1,
-        All-left test IsPlace l.sources is.1.2,
+        strict-left test nat_cmp l.sources is.2.0,
+        All-left test IsSource l.sources is.2.1,
+        All-left test IsPlace l.sources is.2.2,
       ),
-      is.2,
+      is.3,
     )
 
 -- with one sink more, or another in its place
@@ -82,9 +90,10 @@ unfolding IsLinked AreSinks
 sink_put l position node place is fits taker are = (
   is.0,
   is.1,
+  is.2,
   (
-    strict-put seat_cmp seats_total seats_exact l.sinks (position, node) place is.2.0,
-    All-put seat_cmp IsSink l.sinks (position, node) place seats_exact is.2.1 (fits, taker, are),
+    strict-put seat_cmp seats_total seats_exact l.sinks (position, node) place is.3.0,
+    All-put seat_cmp IsSink l.sinks (position, node) place seats_exact is.3.1 (fits, taker, are),
   ),
 )
 
@@ -93,7 +102,7 @@ pub sink_left : (l : Linked) (position node : ℕ) → IsLinked l → IsLinked (
 unfolding IsLinked AreSinks
 sink_left l position node is =
     let test = is_at (seat_cmp (position, node)) in
-    (is.0, is.1, (strict-left test seat_cmp l.sinks is.2.0, All-left test IsSink l.sinks is.2.1))
+    (is.0, is.1, is.2, (strict-left test seat_cmp l.sinks is.3.0, All-left test IsSink l.sinks is.3.1))
 
 -- ---- all messages
 

@@ -1,8 +1,8 @@
 -- The messages that a tree by names makes, where one is put or changed.
-use Rattle.std.proofs.Common.{◌≡◌, ℕ, Vec, List, false, Option, Some, None, IsSome, is_some, option_and_then, refl, sym}
+use Rattle.std.proofs.Common.{◌≡◌, ℕ, Vec, List, false, Some, None, IsSome, is_some, option_and_then, refl, sym}
 use Rattle.std.proofs.Common.{ap, subst, ◌∙◌}
 use Rattle.std.specs.BTreeMap.{BTreeMap, Updates, WritesThrough}
-use Rattle.std.specs.FinMap.{from_entries, get, insert}
+use Rattle.std.specs.FinMap.{get, insert}
 use Rattle.std.specs.Option.{option_map_or}
 use Rattle.std.proofs.lemmas.Cmp.{nat_list_cmp_total}
 use Rattle.std.proofs.lemmas.Map.Lookups.{exact_bytes}

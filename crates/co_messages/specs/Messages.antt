@@ -1,5 +1,5 @@
 -- The messages of a project: what each sends, and who takes it (this profile's own).
-use Rattle.std.specs.Prelude.{◌≡◌, ℕ, Bool, true, not, ◌&&◌, ◌||◌, ◌==◌, nat_le, All, List, [], ◌∷◌, map, Option, Some}
+use Rattle.std.specs.Prelude.{◌≡◌, ℕ, Bool, true, not, ◌&&◌, ◌||◌, ◌==◌, nat_le, All, List, [], map, Option, Some}
 use Rattle.std.specs.Prelude.{None, is_some, option_and_then, Vec}
 use Rattle.std.specs.declared.cmp.Ordering.{Ordering}
 use Rattle.std.specs.Ordering.{nat_cmp, ordering_then}
@@ -64,10 +64,10 @@ is_of_messages node messages = list_any (λ e. is_of_message node e.1) (entries 
 -- ---- changes
 
 abbrev pub linked_to : Option Linked → Message → Linked
-linked_to None message = record { message = message; sources = []; sinks = [] }
+linked_to None message = record { message = message; start = 0; sources = []; sinks = [] }
 linked_to (Some known) message = record known { message = message }
 
--- the messages, where a name gets a message: a known one keeps its sources and sinks
+-- the messages, where a name gets a message: a known one keeps its SYNC start value, its sources and its sinks
 abbrev pub with_message : Named → List ℕ → Message → Named
 with_message messages name message = insert messages name (linked_to (message_at messages name) message)
 
@@ -75,6 +75,10 @@ with_message messages name message = insert messages name (linked_to (message_at
 abbrev pub with_changed : (Linked → Linked) → Named → List ℕ → Named
 with_changed change messages name = option_map_or (λ known. insert messages name (change known))
     (get messages name) messages
+
+-- it gets a SYNC start value
+abbrev pub with_start : ℕ → Linked → Linked
+with_start start linked = record linked { start = start }
 
 -- it gets a source, in place of the one that stands there
 abbrev pub with_source : ℕ → ℕ × ℕ → Linked → Linked
@@ -113,6 +117,10 @@ IsMessage m =
     × (is_between 0 0xFF m.transmission ≡ true) × (is_between 0 0xFFFF m.inhibit ≡ true)
     × (is_between 0 0xFFFF m.event ≡ true)
 
+-- a SYNC start value: the number of a SYNC, or 0 for any (CiA 301, PDO communication parameters)
+abbrev pub is_start : ℕ → Bool
+is_start n = is_between 0 240 n
+
 -- a position of a source or sink: 1 to 64
 abbrev pub is_position : ℕ → Bool
 is_position n = is_between 1 64 n
@@ -131,7 +139,8 @@ unfoldable pub AreSinks : List ((ℕ × ℕ) × (ℕ × ℕ)) → Type 0
 AreSinks sinks = IsStrictlySortedBy seat_cmp (keys_of sinks) × All IsSink sinks
 
 unfoldable pub IsLinked : Linked → Type 0
-IsLinked linked = IsMessage linked.message × AreSources linked.sources × AreSinks linked.sinks
+IsLinked linked = IsMessage linked.message × (is_start linked.start ≡ true) × AreSources linked.sources
+    × AreSinks linked.sinks
 
 -- messages by name
 unfoldable pub AreMessages : Named → Type 0

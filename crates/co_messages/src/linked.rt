@@ -13,6 +13,9 @@ use std::alloc::AllocError;
 pub struct Linked {
     /// How it is sent.
     pub message: Message,
+    /// The SYNC start value (CiA 301) of its sender's PDO, 0 to 240: the number that the counter of a SYNC has
+    /// from which on SYNC messages are counted; 0 for any SYNC.
+    pub start: u8,
     /// The entries of its sender, by position.
     pub sources: Sources,
     /// The entries of other nodes, by position and node.
@@ -33,6 +36,7 @@ impl Linked {
         ensures { IsTrue result ↔ (self.now ≡ other.now) }
     {
         self.message == other.message
+            && self.start == other.start
             && self.sources.same(&other.sources)
             && self.sinks.same(&other.sinks)
     }
@@ -46,6 +50,7 @@ impl Clone for Linked {
         let sinks = self.sinks.clone()?;
         Ok(Linked {
             message: self.message,
+            start: self.start,
             sources,
             sinks,
         })

@@ -4,7 +4,8 @@ ghost use Rattle.std.specs.FinMap as map;
 ghost use Rattle.std.specs.Option.{option_copied};
 ghost use Rattle.co_base.specs.Ranges.{is_between, AreIndices};
 ghost use Rattle.co_messages.specs.Messages.{by_name, with_changed, is_of_messages, has_sink, has_source, is_full_for};
-ghost use Rattle.co_messages.specs.Messages.{is_position, message_at, with_message, with_sink, with_source};
+ghost use Rattle.co_messages.specs.Messages.{is_position, is_start, message_at, with_message, with_sink, with_source};
+ghost use Rattle.co_messages.specs.Messages.{with_start};
 ghost use Rattle.co_messages.specs.Messages.{without_sink, without_source, IsLinked, IsMessage};
 
 use crate::linked::Linked;
@@ -137,8 +138,9 @@ impl Messages {
         self.linked.iter()
     }
 
-    /// Gives a name a message. A known one keeps its sources and sinks, a new one has none. Want of
-    /// memory changes nothing, and can come at a new one alone.
+    /// Gives a name a message. A known one keeps its SYNC start value, its sources and its sinks; a new one
+    /// has the start value 0 and neither sources nor sinks. Want of memory changes nothing, and can come at
+    /// a new one alone.
     pub fn put(&mut self, alloc: Global, name: Octets, message: Message) -> Result<(), AllocError>
         requires { IsMessage message }
         ensures ok { OnOk result (self.new ≡ with_message self.old name message) }
@@ -151,6 +153,7 @@ impl Messages {
         }
         let linked = Linked {
             message,
+            start: 0,
             sources: Sources::new(alloc),
             sinks: Sinks::new(alloc),
         };
@@ -163,6 +166,17 @@ impl Messages {
         ensures { self.new ≡ map.remove self.old name.now }
     {
         self.linked.remove(name);
+    }
+
+    /// Gives the message of a name, if it has one, a SYNC start value.
+    pub fn set_start(&mut self, name: &[u8], start: u8)
+        requires { is_start start ≡ true }
+        ensures { self.new ≡ with_changed (with_start start) self.old name.now }
+    {
+        let Some(linked) = self.linked.get_mut(name) else {
+            return;
+        };
+        linked.start = start;
     }
 
     /// Gives the message of a name, if it has one, an entry of its sender at a position, in place of

@@ -8,6 +8,7 @@ use Rattle.concise_dcf.specs.declared.write.Write.{Write}
 use Rattle.co_parts.specs.declared.identity.Identity.{Identity}
 use Rattle.co_parts.specs.declared.part.Part.{Part}
 use Rattle.co_parts.specs.declared.roster.Roster.{Roster}
+use Rattle.co_parts.specs.declared.start_mode.StartMode.TheVariants.{EachNode}
 
 -- the content of a part, or none where the part is absent
 pub data Content : Type 0 where
@@ -26,7 +27,17 @@ Image = Part → Content
 
 -- the network of the first project: its manager alone
 abbrev pub first_roster : Roster
-first_roster = record { bit_rate = 1000; manager = 127; sync_us = 0; heartbeat_ms = 0; timeout_ms = 500; nodes = [] }
+first_roster = record {
+  bit_rate = 1000;
+  manager = 127;
+  sync_us = 0;
+  sync_counter = 0;
+  heartbeat_ms = 0;
+  timeout_ms = 500;
+  start_mode = EachNode;
+  mandatory = [];
+  nodes = [];
+}
 
 -- the shape of a device without entries
 abbrev pub no_shape : Shaped

@@ -31,16 +31,18 @@ abbrev pub AllDiffer : List ℕ → Type 0
 AllDiffer [] = Unit {0}
 AllDiffer (a ∷ rest) = AllByRecursion (λ b. a ≢ b) rest × AllDiffer rest
 
--- a roster has a bit rate and numbers of the manager within their limits, and node numbers that differ from one
--- another and from the manager's
+-- a roster has a bit rate and numbers of the manager within their limits, node numbers that differ from one another
+-- and from the manager's, and mandatory nodes that are among them
 pub record IsRoster (roster : Roster) : Type 0 where
   pub bit_rate : Contains bit_rates roster.bit_rate
   pub manager : (1 ≤ roster.manager) × (roster.manager ≤ 127)
   pub sync : (roster.sync_us ≡ 0) ⊎ ((1000 ≤ roster.sync_us) × (roster.sync_us ≤ 10000000))
+  pub counter : (roster.sync_counter ≡ 0) ⊎ ((2 ≤ roster.sync_counter) × (roster.sync_counter ≤ 240))
   pub heartbeat : roster.heartbeat_ms < 2 ^ 16
   pub timeout : (1 ≤ roster.timeout_ms) × (roster.timeout_ms < 2 ^ 16)
   pub nodes : AllByRecursion (IsNode roster.manager) roster.nodes
   pub differ : AllDiffer roster.nodes
+  pub mandatory : AllByRecursion (Contains roster.nodes) roster.mandatory
 
 -- the greatest number that a part can have, which no write has: so each write has a next number
 abbrev pub greatest_place : ℕ

@@ -7,6 +7,7 @@ mod identity;
 mod part;
 mod read;
 mod roster;
+mod start_mode;
 mod window;
 
 pub use content::PartContent;
@@ -14,4 +15,5 @@ pub use identity::Identity;
 pub use part::Part;
 pub use read::Read;
 pub use roster::Roster;
+pub use start_mode::StartMode;
 pub use window::{END, Window};

@@ -1,16 +1,18 @@
 -- When a TPDO is sent, and what it remembers then.
 use Rattle.std.proofs.Common.{◌≡◌, ℕ, zero, suc, ◌+◌, ◌<◌, ◌≤◌, ◌==◌, ◌&&◌, ◌||◌, not, Bool, true, false, List, Option}
 use Rattle.std.proofs.Common.{Some, None, IfSome, refl, ap, sym, ◌∙◌, arith}
-use Rattle.std.specs.Prelude.{if◌then◌else◌, nat_le, nat_lt}
+use Rattle.std.specs.Prelude.{if◌then◌else◌, is_some, nat_le, nat_lt}
 use Rattle.std.proofs.lemmas.Bool.Decides.{nat_tests}
 use Rattle.co_base.specs.Moments.{has_come, is_ahead, moment_after}
 use Rattle.co_pdos.specs.declared.communication.Communication.{Communication}
 use Rattle.co_fields.specs.declared.transmission_type.TransmissionType.{TransmissionType}
 use Rattle.co_fields.specs.declared.transmission_type.TransmissionType.TheVariants.{Acyclic, Cyclic, EventDriven}
 use Rattle.co_fields.specs.declared.transmission_type.TransmissionType.TheVariants.{Reserved, OnRequest}
-use Rattle.co_pdos.specs.Tpdo.{Remembered, acyclic_turn, cyclic_turn, differs, event_moment, event_turn}
-use Rattle.co_pdos.specs.Tpdo.{without_past_inhibit, later, turn_with_frame, turn_by_type}
-use Rattle.co_pdos.specs.Tpdo.{turn_without_frame}
+use Rattle.co_pdos.specs.Sync.{has_counter}
+use Rattle.co_pdos.specs.Tpdo.{Remembered, Turn, acyclic_turn, awaits_start, counted_turn, cyclic_turn, differs}
+use Rattle.co_pdos.specs.Tpdo.{event_moment, event_turn, just_started, without_past_inhibit, later, synced_turn}
+use Rattle.co_pdos.specs.Tpdo.{turn_with_frame, turn_by_type, turn_without_frame}
+use Rattle.co_pdos.specs.declared.sync_seen.SyncSeen.{SyncSeen}
 
 lies_ahead : (t m : ℕ) → t < m → nat_lt t m ≡ true
 lies_ahead t m h = grind (arith, nat_tests)
@@ -61,11 +63,11 @@ held c t m bytes r e h =
     event_unsent c t bytes r (held_back (is_ahead t r.inhibit) (differs bytes r) (has_come t r.event)
     (ap (is_ahead t) e ∙ lies_ahead t m h))
 
-pub held_by_type : (c : Communication) (at_sync : Bool) (t m : ℕ) (bytes : List ℕ) (r : Remembered) → r.inhibit ≡ Some m
+pub held_by_type : (c : Communication) (seen : Option SyncSeen) (t m : ℕ) (bytes : List ℕ) (r : Remembered) → r.inhibit ≡ Some m
     → t < m
-    → turn_by_type (Some EventDriven) c at_sync t bytes r ≡ turn_without_frame r
+    → turn_by_type (Some EventDriven) c seen t bytes r ≡ turn_without_frame r
 unfolding turn_by_type
-held_by_type c at_sync t m bytes r e h = held c t m bytes r e h
+held_by_type c seen t m bytes r e h = held c t m bytes r e h
 
 -- an inhibit moment that is ahead isn't over
 pub still_held : (t m : ℕ) (r : Remembered) → r.inhibit ≡ Some m → t < m → without_past_inhibit t r ≡ r
@@ -110,10 +112,10 @@ not_before t event inhibit true = tt
 not_before t event inhibit false = second_not_after (t + event) (t + inhibit)
 
 -- what an event-driven TPDO remembers that was sent
-module _ (c : Communication) (at_sync : Bool) (t : ℕ) (bytes : List ℕ) (r : Remembered)
-    (sends : (turn_by_type (Some EventDriven) c at_sync t bytes r).is_sent ≡ true) where
+module _ (c : Communication) (seen : Option SyncSeen) (t : ℕ) (bytes : List ℕ) (r : Remembered)
+    (sends : (turn_by_type (Some EventDriven) c seen t bytes r).is_sent ≡ true) where
   abbrev Now : Remembered
-  Now = (turn_by_type (Some EventDriven) c at_sync t bytes r).remembered
+  Now = (turn_by_type (Some EventDriven) c seen t bytes r).remembered
 
   now_is : Now ≡ record (moments_set c t r) { last = Some bytes }
   unfolding turn_by_type
@@ -122,7 +124,7 @@ module _ (c : Communication) (at_sync : Bool) (t : ℕ) (bytes : List ℕ) (r : 
   inhibited : 0 < c.inhibit_time → Now.inhibit ≡ Some (t + c.inhibit_time)
   inhibited h = ap (λ (s : Remembered). s.inhibit) now_is ∙ (rw (test_some c.inhibit_time h) refl)
 
-  pub silent : (next : Bool) (u : ℕ) (others : List ℕ) → 0 < c.inhibit_time → u < t + c.inhibit_time
+  pub silent : (next : Option SyncSeen) (u : ℕ) (others : List ℕ) → 0 < c.inhibit_time → u < t + c.inhibit_time
       → turn_by_type (Some EventDriven) c next u others (without_past_inhibit u Now) ≡ turn_without_frame Now
   silent next u others some h =
       ap (turn_by_type (Some EventDriven) c next u others) (still_held u (t + c.inhibit_time) Now (inhibited some) h)
@@ -146,19 +148,40 @@ module _ (bytes : List ℕ) (last : Option (List ℕ)) where
   last_of true r s e = refl
   last_of false r s e = e
 
-pub last_is : (transmission : Option TransmissionType) (c : Communication) (at_sync : Bool) (t : ℕ) (bytes : List ℕ)
-    (r : Remembered)
-    → (turn_by_type transmission c at_sync t bytes r).remembered.last
-    ≡ (if (turn_by_type transmission c at_sync t bytes r).is_sent then Some bytes else r.last)
-unfolding turn_by_type acyclic_turn cyclic_turn event_turn
-last_is None c at_sync t bytes r = refl
-last_is (Some Acyclic) c at_sync t bytes r = last_of bytes r.last (at_sync && differs bytes r) r r refl
-last_is (Some (Cyclic n)) c false t bytes r = refl
-last_is (Some (Cyclic n)) c true t bytes r = last_of bytes r.last (nat_le n (r.syncs + 1)) (record r { syncs = 0 })
+counted_last : (n : ℕ) (bytes : List ℕ) (r : Remembered)
+    → (counted_turn n bytes r).remembered.last ≡ (if (counted_turn n bytes r).is_sent then Some bytes else r.last)
+unfolding counted_turn
+counted_last n bytes r = last_of bytes r.last (nat_le n (r.syncs + 1)) (record r { syncs = 0 })
     (record r { syncs = r.syncs + 1 }) refl
-last_is (Some Reserved) c at_sync t bytes r = refl
-last_is (Some OnRequest) c at_sync t bytes r = refl
-last_is (Some EventDriven) c at_sync t bytes r = last_of bytes r.last (is_wanted_at t bytes r)
+
+synced_last : (n start : ℕ) (seen : SyncSeen) (bytes : List ℕ) (r : Remembered)
+    → (synced_turn n start seen bytes r).remembered.last
+    ≡ (if (synced_turn n start seen bytes r).is_sent then Some bytes else r.last)
+unfolding synced_turn
+synced_last n start seen bytes r = by (not (awaits_start start seen r)) (has_counter start seen)
+  where
+    by : (goes has : Bool)
+        → (if goes then counted_turn n bytes r
+        else if has then counted_turn n bytes (just_started r) else turn_without_frame r).remembered.last
+        ≡ (if (if goes then counted_turn n bytes r
+        else if has then counted_turn n bytes (just_started r) else turn_without_frame r).is_sent
+        then Some bytes else r.last)
+    by true has = counted_last n bytes r
+    by false true = counted_last n bytes (just_started r)
+    by false false = refl
+
+pub last_is : (transmission : Option TransmissionType) (c : Communication) (seen : Option SyncSeen) (t : ℕ) (bytes : List ℕ)
+    (r : Remembered)
+    → (turn_by_type transmission c seen t bytes r).remembered.last
+    ≡ (if (turn_by_type transmission c seen t bytes r).is_sent then Some bytes else r.last)
+unfolding turn_by_type acyclic_turn cyclic_turn event_turn
+last_is None c seen t bytes r = refl
+last_is (Some Acyclic) c seen t bytes r = last_of bytes r.last (is_some seen && differs bytes r) r r refl
+last_is (Some (Cyclic n)) c None t bytes r = refl
+last_is (Some (Cyclic n)) c (Some seen) t bytes r = synced_last n c.sync_start seen bytes r
+last_is (Some Reserved) c seen t bytes r = refl
+last_is (Some OnRequest) c seen t bytes r = refl
+last_is (Some EventDriven) c seen t bytes r = last_of bytes r.last (is_wanted_at t bytes r)
     (moments_set c t r) r refl
 
 -- ---- each n-th SYNC
@@ -178,19 +201,37 @@ syncs_of : (test : Bool) (bytes : List ℕ) (r s : Remembered)
 syncs_of true bytes r s = refl
 syncs_of false bytes r s = refl
 
+pub counted_sent : (n : ℕ) (bytes : List ℕ) (r : Remembered) → r.syncs < n
+    → (counted_turn n bytes r).is_sent ≡ (r.syncs + 1 == n)
+unfolding counted_turn
+counted_sent n bytes r h =
+    sent_by_test (nat_le n (r.syncs + 1)) bytes (record r { syncs = 0 }) (record r { syncs = r.syncs + 1 })
+    ∙ reached r.syncs n h
+
+pub counted_syncs : (n : ℕ) (bytes : List ℕ) (r : Remembered) → r.syncs < n
+    → (counted_turn n bytes r).remembered.syncs ≡ (if r.syncs + 1 == n then 0 else r.syncs + 1)
+unfolding counted_turn
+counted_syncs n bytes r h =
+    syncs_of (nat_le n (r.syncs + 1)) bytes (record r { syncs = 0 }) (record r { syncs = r.syncs + 1 })
+    ∙ ap (λ (test : Bool). if test then 0 else r.syncs + 1) (reached r.syncs n h)
+
 module _ (c : Communication) (n t : ℕ) (bytes : List ℕ) (r : Remembered) where
-  pub nth_sent : r.syncs < n → (turn_by_type (Some (Cyclic n)) c true t bytes r).is_sent ≡ (r.syncs + 1 == n)
-  unfolding turn_by_type cyclic_turn
-  nth_sent h = sent_by_test (nat_le n (r.syncs + 1)) bytes (record r { syncs = 0 }) (record r { syncs = r.syncs + 1 })
-      ∙ reached r.syncs n h
+  -- where it waits for no start each SYNC counts
+  pub goes_by_count : (seen : SyncSeen) → awaits_start c.sync_start seen r ≡ false
+      → turn_by_type (Some (Cyclic n)) c (Some seen) t bytes r ≡ counted_turn n bytes r
+  unfolding turn_by_type cyclic_turn synced_turn
+  goes_by_count seen e = rw e refl
 
-  pub nth_counted : r.syncs < n → (turn_by_type (Some (Cyclic n)) c true t bytes r).remembered.syncs
+  pub nth_sent : (seen : SyncSeen) → awaits_start c.sync_start seen r ≡ false → r.syncs < n
+      → (turn_by_type (Some (Cyclic n)) c (Some seen) t bytes r).is_sent ≡ (r.syncs + 1 == n)
+  nth_sent seen e h = ap (λ (turn : Turn). turn.is_sent) (goes_by_count seen e) ∙ counted_sent n bytes r h
+
+  pub nth_counted : (seen : SyncSeen) → awaits_start c.sync_start seen r ≡ false → r.syncs < n
+      → (turn_by_type (Some (Cyclic n)) c (Some seen) t bytes r).remembered.syncs
       ≡ (if r.syncs + 1 == n then 0 else r.syncs + 1)
-  unfolding turn_by_type cyclic_turn
-  nth_counted h = syncs_of (nat_le n (r.syncs + 1)) bytes (record r { syncs = 0 }) (record r { syncs = r.syncs + 1 })
-      ∙ ap (λ (test : Bool). if test then 0 else r.syncs + 1) (reached r.syncs n h)
+  nth_counted seen e h = ap (λ (turn : Turn). turn.remembered.syncs) (goes_by_count seen e) ∙ counted_syncs n bytes r h
 
-  pub nth_unsent : turn_by_type (Some (Cyclic n)) c false t bytes r ≡ turn_without_frame r
+  pub nth_unsent : turn_by_type (Some (Cyclic n)) c None t bytes r ≡ turn_without_frame r
   unfolding turn_by_type cyclic_turn
   nth_unsent = refl
 

@@ -5,8 +5,8 @@ use Rattle.co_dict.specs.Shapes.{Shaped}
 use Rattle.co_dict.specs.Values.{Values}
 use Rattle.co_pdos.specs.declared.communication.Communication.{Communication}
 use Rattle.co_pdos.specs.declared.configuration.Configuration.{Configuration}
-use Rattle.co_pdos.specs.Working.{count_of, event_time, identifier_of, inhibit_time, mapping_object, transmission_type}
-use Rattle.co_pdos.specs.Working.{works}
+use Rattle.co_pdos.specs.Working.{count_of, event_time, identifier_of, inhibit_time, mapping_object, sync_start}
+use Rattle.co_pdos.specs.Working.{transmission_type, works}
 
 -- its communication parameters
 abbrev pub communication_of : Shaped → Values → ℕ → Communication
@@ -14,6 +14,7 @@ communication_of shape values object = record {
   transmission_type = transmission_type shape values object;
   inhibit_time = inhibit_time shape values object;
   event_time = event_time shape values object;
+  sync_start = sync_start shape values object;
 }
 
 -- its mapping entries, from sub-index 1 to the count

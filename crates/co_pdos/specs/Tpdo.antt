@@ -1,23 +1,26 @@
 -- When a TPDO is sent (CiA 301). All moments are absolute, and all times are in microseconds.
 use Rattle.std.specs.Prelude.{ℕ, ◌+◌, nat_le, ◌==◌, not, ◌&&◌, ◌||◌, Bool, true, false, List, Option, Some}
-use Rattle.std.specs.Prelude.{None, if◌then◌else◌}
+use Rattle.std.specs.Prelude.{None, is_some, if◌then◌else◌}
 use Rattle.std.specs.Option.{option_map_or}
 use Rattle.std.specs.Str.{bytes_eq}
 use Rattle.co_base.specs.Moments.{has_come, is_ahead, moment_after}
+use Rattle.co_pdos.specs.Sync.{has_counter}
 use Rattle.co_pdos.specs.declared.communication.Communication.{Communication}
+use Rattle.co_pdos.specs.declared.sync_seen.SyncSeen.{SyncSeen}
 use Rattle.co_fields.specs.declared.transmission_type.TransmissionType.{TransmissionType}
 use Rattle.co_fields.specs.declared.transmission_type.TransmissionType.TheVariants.{Acyclic, Cyclic, EventDriven}
 
--- what a TPDO remembers: the bytes that were last queued, its inhibit and event moments, and the SYNCs since it was
--- last sent at one
+-- what a TPDO remembers: the bytes that were last queued, its inhibit and event moments, whether a SYNC with its start
+-- value has come, and the SYNCs counted since then or since it was last sent at one
 pub record Remembered : Type 0 where
   pub last : Option (List ℕ)
   pub inhibit : Option ℕ
   pub event : Option ℕ
+  pub started : Bool
   pub syncs : ℕ
 
 abbrev pub remembering_nothing : Remembered
-remembering_nothing = record { last = None; inhibit = None; event = None; syncs = 0 }
+remembering_nothing = record { last = None; inhibit = None; event = None; started = false; syncs = 0 }
 
 -- ---- moments
 
@@ -51,15 +54,35 @@ unfoldable pub differs : List ℕ → Remembered → Bool
 differs bytes r = option_map_or (λ last. not (bytes_eq last bytes)) r.last true
 
 -- acyclic synchronous: at a SYNC where the bytes differ
-unfoldable pub acyclic_turn : Bool → List ℕ → Remembered → Turn
-acyclic_turn at_sync bytes r = if at_sync && differs bytes r then turn_with_frame bytes r else turn_without_frame r
+unfoldable pub acyclic_turn : Option SyncSeen → List ℕ → Remembered → Turn
+acyclic_turn seen bytes r =
+    if is_some seen && differs bytes r then turn_with_frame bytes r else turn_without_frame r
 
--- cyclic synchronous: at each n-th SYNC; the SYNCs are counted, anew from each at which it is sent
-unfoldable pub cyclic_turn : ℕ → Bool → List ℕ → Remembered → Turn
-cyclic_turn n at_sync bytes r =
-    if not at_sync then turn_without_frame r
-    else if nat_le n (r.syncs + 1) then turn_with_frame bytes (record r { syncs = 0 })
+-- a SYNC counts: it is the n-th, or one more; they are counted anew from each at which the TPDO is sent
+unfoldable pub counted_turn : ℕ → List ℕ → Remembered → Turn
+counted_turn n bytes r =
+    if nat_le n (r.syncs + 1) then turn_with_frame bytes (record r { syncs = 0 })
     else turn_without_frame (record r { syncs = r.syncs + 1 })
+
+-- with a start value, on a device that counts SYNCs, a TPDO waits for the SYNC that has it
+abbrev pub awaits_start : ℕ → SyncSeen → Remembered → Bool
+awaits_start start seen r = not (start == 0) && seen.is_counted && not r.started
+
+-- that SYNC has come; it is the first that counts
+abbrev pub just_started : Remembered → Remembered
+just_started r = record r { started = true; syncs = 0 }
+
+-- at a SYNC: one for which the TPDO doesn't wait changes nothing while it waits
+unfoldable pub synced_turn : ℕ → ℕ → SyncSeen → List ℕ → Remembered → Turn
+synced_turn n start seen bytes r =
+    if not (awaits_start start seen r) then counted_turn n bytes r
+    else if has_counter start seen then counted_turn n bytes (just_started r)
+    else turn_without_frame r
+
+-- cyclic synchronous: at each n-th SYNC that counts
+unfoldable pub cyclic_turn : ℕ → ℕ → Option SyncSeen → List ℕ → Remembered → Turn
+cyclic_turn n start None bytes r = turn_without_frame r
+cyclic_turn n start (Some seen) bytes r = synced_turn n start seen bytes r
 
 -- event-driven: where the bytes differ or the event moment has come, unless the inhibit moment is ahead; both moments
 -- are then set from now
@@ -69,10 +92,10 @@ event_turn c t bytes r =
     then turn_with_frame bytes (record r { inhibit = moment_after t c.inhibit_time; event = event_moment t c })
     else turn_without_frame r
 
--- THE TURN AT THE MOMENT t of one of a transmission type that has these bytes, at a SYNC or not: one of another type,
--- or of none, is never sent
-unfoldable pub turn_by_type : Option TransmissionType → Communication → Bool → ℕ → List ℕ → Remembered → Turn
-turn_by_type (Some Acyclic) c at_sync t bytes r = acyclic_turn at_sync bytes r
-turn_by_type (Some (Cyclic n)) c at_sync t bytes r = cyclic_turn n at_sync bytes r
-turn_by_type (Some EventDriven) c at_sync t bytes r = event_turn c t bytes r
-turn_by_type other c at_sync t bytes r = turn_without_frame r
+-- THE TURN AT THE MOMENT t of one of a transmission type that has these bytes, at a SYNC or at none: one of another
+-- type, or of none, is never sent
+unfoldable pub turn_by_type : Option TransmissionType → Communication → Option SyncSeen → ℕ → List ℕ → Remembered → Turn
+turn_by_type (Some Acyclic) c seen t bytes r = acyclic_turn seen bytes r
+turn_by_type (Some (Cyclic n)) c seen t bytes r = cyclic_turn n c.sync_start seen bytes r
+turn_by_type (Some EventDriven) c seen t bytes r = event_turn c t bytes r
+turn_by_type other c seen t bytes r = turn_without_frame r

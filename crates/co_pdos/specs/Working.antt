@@ -1,6 +1,6 @@
 -- The PDOs of a device (CiA 301): their objects, which of them work, and their communication parameters. All times are
 -- in microseconds.
-use Rattle.std.specs.Prelude.{ℕ, ◌+◌, ◌*◌, not, ◌&&◌, nat_lt, Bool, true, false, Option, Some, None}
+use Rattle.std.specs.Prelude.{ℕ, ◌+◌, ◌*◌, not, ◌&&◌, nat_lt, Bool, Option, Some, None}
 use Rattle.std.specs.Prelude.{is_ok, if◌then◌else◌}
 use Rattle.co_dict.specs.PdoChecks.{has_type, is_unsigned8, is_unsigned16, is_unsigned32, mapping_check}
 use Rattle.co_fields.specs.CobIds.{is_restricted}
@@ -75,3 +75,7 @@ inhibit_time shape values object = 100 * number_of_unsigned16 shape values (obje
 -- the event time: sub-index 5, in milliseconds; 0 is none
 unfoldable pub event_time : Shaped → Values → ℕ → ℕ
 event_time shape values object = 1000 * number_of_unsigned16 shape values (object, 5)
+
+-- the SYNC start value: sub-index 6; 0, also where that isn't an UNSIGNED8, is none
+unfoldable pub sync_start : Shaped → Values → ℕ → ℕ
+sync_start shape values object = if has_type is_unsigned8 shape (object, 6) then number_at 1 values (object, 6) else 0

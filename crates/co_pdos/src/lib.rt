@@ -8,6 +8,8 @@ pub mod laws;
 mod mapping;
 mod payload;
 mod receipt;
+mod sync;
+mod sync_seen;
 mod tpdo;
 mod working;
 
@@ -15,5 +17,7 @@ pub use communication::Communication;
 pub use configuration::Configuration;
 pub use mapping::Mapping;
 pub use receipt::{Receipt, received};
+pub use sync::SyncMessage;
+pub use sync_seen::SyncSeen;
 pub use tpdo::Tpdo;
 pub use working::{is_pdo, rpdo_object, tpdo_object, works};

@@ -1,23 +1,27 @@
 //! What a TPDO remembers, and when it is sent.
 
 ghost use Rattle.std.specs.Prelude.{◌≡◌, ◌↔◌, ◌≤◌, ◌<◌, ◌^◌, length, IsTrue};
-ghost use Rattle.co_pdos.specs.Tpdo.{acyclic_turn, cyclic_turn, event_turn, turn_by_type};
+ghost use Rattle.co_pdos.specs.Tpdo.{acyclic_turn, awaits_start, counted_turn, cyclic_turn, event_turn};
+ghost use Rattle.co_pdos.specs.Tpdo.{synced_turn, turn_by_type};
 ghost use Rattle.co_pdos.specs.Tpdo.{differs, event_moment, remembering_nothing as nothing_remembered};
 ghost use Rattle.co_pdos.specs.Tpdo.{without_past_inhibit};
 
 use crate::communication::Communication;
 use crate::payload::Payload;
+use crate::sync_seen::SyncSeen;
 use co_base::{has_come, is_ahead, moment_after};
 use co_fields::TransmissionType;
 use std::marker::Model;
 
 /// What a TPDO remembers (CiA 301): the bytes that were last queued, its inhibit and event moments in
-/// microseconds, and the SYNCs since it was last sent at one.
+/// microseconds, whether a SYNC with its start value has come, and the SYNCs counted since then or since it
+/// was last sent at one.
 #[derive(Clone, Copy, Debug)]
 pub struct Tpdo {
     last: Option<Payload>,
     inhibit: Option<u64>,
     event: Option<u64>,
+    started: bool,
     syncs: u8,
 }
 
@@ -26,9 +30,9 @@ impl Model for Tpdo {
 
     ghost Value = { Remembered };
 
-    ghost view = { λ t. record { last = t.last; inhibit = t.inhibit; event = t.event; syncs = t.syncs } };
+    ghost view = { λ t. record { last = t.last; inhibit = t.inhibit; event = t.event; started = t.started; syncs = t.syncs } };
 
-    ghost inverse = { λ r. record { last = r.last; inhibit = r.inhibit; event = r.event; syncs = r.syncs } };
+    ghost inverse = { λ r. record { last = r.last; inhibit = r.inhibit; event = r.event; started = r.started; syncs = r.syncs } };
 }
 
 /// The event moment of a TPDO that is sent at t, which isn't before its inhibit moment.
@@ -68,6 +72,7 @@ impl Tpdo {
             last: None,
             inhibit: None,
             event: None,
+            started: false,
             syncs: 0,
         }
     }
@@ -79,6 +84,7 @@ impl Tpdo {
         same_payload(&self.last, &other.last)
             && self.inhibit == other.inhibit
             && self.event == other.event
+            && self.started == other.started
             && self.syncs == other.syncs
     }
 
@@ -119,28 +125,32 @@ impl Tpdo {
 
     /// Looks at an acyclic synchronous one, and answers whether it is sent.
     #[tactic(auto, unfolding(crate::specs::Tpdo::acyclic_turn))]
-    fn at_change(&mut self, at_sync: bool, bytes: &[u8]) -> bool
+    fn at_change(&mut self, seen: Option<SyncSeen>, bytes: &[u8]) -> bool
         requires { length bytes.now ≤ 8 }
-        ensures sent { result ≡ (acyclic_turn at_sync bytes.now self.old).is_sent }
-        ensures remembered { self.new ≡ (acyclic_turn at_sync bytes.now self.old).remembered }
+        ensures sent { result ≡ (acyclic_turn seen bytes.now self.old).is_sent }
+        ensures remembered { self.new ≡ (acyclic_turn seen bytes.now self.old).remembered }
     {
-        if at_sync && self.differs(bytes) {
+        if seen.is_some() && self.differs(bytes) {
             self.last = Some(Payload::of(bytes));
             return true;
         }
         false
     }
 
-    /// Looks at a cyclic synchronous one of the number n, and answers whether it is sent.
-    #[tactic(auto, unfolding(crate::specs::Tpdo::cyclic_turn))]
-    fn at_nth(&mut self, n: u8, at_sync: bool, bytes: &[u8]) -> bool
-        requires { length bytes.now ≤ 8 }
-        ensures sent { result ≡ (cyclic_turn n at_sync bytes.now self.old).is_sent }
-        ensures remembered { self.new ≡ (cyclic_turn n at_sync bytes.now self.old).remembered }
+    /// Whether it waits at a SYNC for the one that has its start value.
+    fn awaits_start(&self, start: u8, seen: SyncSeen) -> bool
+        ensures { result ≡ awaits_start start seen self.now }
     {
-        if !at_sync {
-            return false;
-        }
+        start != 0 && seen.is_counted && !self.started
+    }
+
+    /// Counts a SYNC for a cyclic synchronous one of the number n, and answers whether it is sent.
+    #[tactic(auto, unfolding(crate::specs::Tpdo::counted_turn))]
+    fn count(&mut self, n: u8, bytes: &[u8]) -> bool
+        requires { length bytes.now ≤ 8 }
+        ensures sent { result ≡ (counted_turn n bytes.now self.old).is_sent }
+        ensures remembered { self.new ≡ (counted_turn n bytes.now self.old).remembered }
+    {
         let syncs = u16::from(self.syncs) + 1;
         if syncs < u16::from(n) {
             self.syncs = syncs as u8;
@@ -149,6 +159,37 @@ impl Tpdo {
         self.syncs = 0;
         self.last = Some(Payload::of(bytes));
         true
+    }
+
+    /// Looks at a cyclic synchronous one of the number n with a start value at a SYNC, and answers whether
+    /// it is sent.
+    #[tactic(auto, unfolding(crate::specs::Tpdo::synced_turn))]
+    fn at_sync(&mut self, n: u8, start: u8, seen: SyncSeen, bytes: &[u8]) -> bool
+        requires { length bytes.now ≤ 8 }
+        ensures sent { result ≡ (synced_turn n start seen bytes.now self.old).is_sent }
+        ensures remembered { self.new ≡ (synced_turn n start seen bytes.now self.old).remembered }
+    {
+        if self.awaits_start(start, seen) {
+            if !seen.has_counter(start) {
+                return false;
+            }
+            self.started = true;
+            self.syncs = 0;
+        }
+        self.count(n, bytes)
+    }
+
+    /// Looks at a cyclic synchronous one of the number n with a start value, and answers whether it is sent.
+    #[tactic(auto, unfolding(crate::specs::Tpdo::cyclic_turn))]
+    fn at_nth(&mut self, n: u8, start: u8, seen: Option<SyncSeen>, bytes: &[u8]) -> bool
+        requires { length bytes.now ≤ 8 }
+        ensures sent { result ≡ (cyclic_turn n start seen bytes.now self.old).is_sent }
+        ensures remembered { self.new ≡ (cyclic_turn n start seen bytes.now self.old).remembered }
+    {
+        match seen {
+            Some(seen) => self.at_sync(n, start, seen, bytes),
+            None => false,
+        }
     }
 
     /// Looks at an event-driven one, and answers whether it is sent.
@@ -169,31 +210,34 @@ impl Tpdo {
     }
 
     /// Looks at a TPDO that works, at the moment t in microseconds and with the bytes that it has then,
-    /// at most 8, and answers whether it is sent; where it is, the bytes are remembered. `at_sync` says
-    /// whether a SYNC came that counts for it.
+    /// at most 8, and answers whether it is sent; where it is, the bytes are remembered. `seen` is the SYNC
+    /// of the instant, if one came.
     ///
     /// An acyclic synchronous one is sent at a SYNC where the bytes differ from those last queued; a cyclic
-    /// one of the number n at each n-th SYNC; an event-driven one where the bytes differ or the event
-    /// moment has come, unless the inhibit moment is ahead, and both moments are then set from now; one of
-    /// another type, or of none, never. Needs no memory.
+    /// one of the number n at each n-th SYNC, where one with a start value counts them, on a device that
+    /// counts SYNCs, from the first that has this value as its counter; an event-driven one where the bytes
+    /// differ or the event moment has come, unless the inhibit moment is ahead, and both moments are then
+    /// set from now; one of another type, or of none, never. Needs no memory.
     #[tactic(auto, unfolding(crate::specs::Tpdo::turn_by_type))]
     pub fn look(
         &mut self,
         communication: Communication,
-        at_sync: bool,
+        seen: Option<SyncSeen>,
         t: u64,
         bytes: &[u8],
     ) -> bool
         requires moment { t < 2 ^ 63 }
         requires short { length bytes.now ≤ 8 }
         ensures sent { result
-            ≡ (turn_by_type communication.transmission_type communication at_sync t bytes.now self.old).is_sent }
+            ≡ (turn_by_type communication.transmission_type communication seen t bytes.now self.old).is_sent }
         ensures remembered { self.new
-            ≡ (turn_by_type communication.transmission_type communication at_sync t bytes.now self.old).remembered }
+            ≡ (turn_by_type communication.transmission_type communication seen t bytes.now self.old).remembered }
     {
         match communication.transmission_type {
-            Some(TransmissionType::Acyclic) => self.at_change(at_sync, bytes),
-            Some(TransmissionType::Cyclic(n)) => self.at_nth(n, at_sync, bytes),
+            Some(TransmissionType::Acyclic) => self.at_change(seen, bytes),
+            Some(TransmissionType::Cyclic(n)) => {
+                self.at_nth(n, communication.sync_start, seen, bytes)
+            }
             Some(TransmissionType::EventDriven) => self.at_event(communication, t, bytes),
             Some(TransmissionType::Reserved | TransmissionType::OnRequest) | None => false,
         }

@@ -17,9 +17,11 @@ use Rattle.co_base.proofs.EntryLemmas.{All-left, All-put}
 use Rattle.co_base.proofs.TableLemmas.{removed_elsewhere}
 use Rattle.co_messages.specs.declared.linked.Linked.{Linked}
 use Rattle.co_messages.specs.declared.message.Message.{Message}
-use Rattle.co_messages.specs.Messages.{with_changed, is_of_messages, is_of_message, is_position, linked_to, seat_cmp}
-use Rattle.co_messages.specs.Messages.{with_message, with_sink, with_source, without_sink, without_source, Named}
+use Rattle.co_messages.specs.Messages.{with_changed, is_of_messages, is_of_message, is_position, is_start, linked_to}
+use Rattle.co_messages.specs.Messages.{seat_cmp, with_message, with_sink, with_source, with_start, without_sink}
+use Rattle.co_messages.specs.Messages.{without_source, Named}
 use Rattle.co_messages.proofs.LimitLemmas.{linked_message, seats_exact, sink_left, sink_put, source_left, source_put}
+use Rattle.co_messages.proofs.LimitLemmas.{start_put}
 use Rattle.co_edits.specs.declared.edit.Edit.TheVariants as edit
 use Rattle.co_edits.specs.Edits.{IsEdit}
 use Rattle.co_project.specs.declared.node.Node.{Node}
@@ -107,6 +109,12 @@ module _ (p : Content) (name : List ℕ) where
       by : (known : Option Linked) → IfSome known (IsMessageOf p name) → IsMessageOf p name (linked_to known m)
       by None is = (h.0, linked_message None m h.1 tt, there, All-nil _)
       by (Some l) is = (h.0, linked_message (Some l) m h.1 is.1, there, is.3)
+
+  -- one with another SYNC start value
+  pub start_kept : (start : ℕ) → is_start start ≡ true → (l : Linked) → IsMessageOf p name l
+      → IsMessageOf p name (with_start start l)
+  unfolding IsMessageOf
+  start_kept start fits l is = (is.0, start_put l start is.1 fits, is.2, is.3)
 
   -- one with one source more, or another in its place
   pub source_kept : (position : ℕ) (place : ℕ × ℕ) → is_position position ≡ true → AreIndices place.0 place.1

@@ -1,6 +1,6 @@
 -- Each edit that is taken leaves a project that keeps to what every project does.
 use Rattle.std.proofs.Common.{◌≡◌, ◌≤◌, ℕ, sym, ◌∙◌, List, [], ◌∷◌, Bool, true, false, not, ◌&&◌, ◌||◌, ◌==◌, Option}
-use Rattle.std.proofs.Common.{Some, None, Ok, refl, ap, subst, arith}
+use Rattle.std.proofs.Common.{Some, None, Ok, is_some, refl, ap, subst, arith}
 use Rattle.std.proofs.Math.Path.{ap₂}
 use Rattle.std.proofs.lemmas.Bool.{true≢false, false_from_ne_true, or_parts, not-false, eqb-true}
 use Rattle.std.specs.Option.{option_map_or}
@@ -16,29 +16,34 @@ use Rattle.co_base.proofs.TableLemmas.{removed_elsewhere}
 use Rattle.co_messages.specs.declared.linked.Linked.{Linked}
 use Rattle.co_messages.specs.declared.message.Message.{Message}
 use Rattle.co_messages.specs.Messages.{with_changed, is_of_messages, is_full_for as is_full_of, linked_to, with_message}
-use Rattle.co_messages.specs.Messages.{with_sink, with_source, without_sink, without_source, name_cmp, Named}
+use Rattle.co_messages.specs.Messages.{with_sink, with_source, with_start, without_sink, without_source, name_cmp}
+use Rattle.co_messages.specs.Messages.{Named}
 use Rattle.co_edits.specs.declared.fault.EditFault.{EditFault}
 use Rattle.co_edits.specs.declared.manager_settings.ManagerSettings.{ManagerSettings}
+use Rattle.co_edits.specs.declared.script_version.ScriptVersion.{ScriptVersion}
+use Rattle.co_edits.specs.declared.script_version.ScriptVersion.TheVariants.{One, Two}
 use Rattle.co_edits.specs.declared.edit.Edit.{Edit}
 use Rattle.co_edits.specs.declared.edit.Edit.TheVariants as edit
 use Rattle.co_edits.specs.Accepts.{unless}
 use Rattle.co_edits.specs.Eds.{IsEds}
 use Rattle.co_edits.specs.Edits.{IsEdit, IsManager, IsSetting}
-use Rattle.co_edits.specs.Forms.{is_bit_rate, is_time}
+use Rattle.co_edits.specs.Forms.{is_bit_rate, is_sync_counter, is_time}
+use Rattle.co_edits.specs.Versions.{is_one}
 use Rattle.co_dict.specs.Places.{place_cmp}
 use Rattle.co_dict.proofs.PlaceLemmas.{places_exact, places_total}
 use Rattle.co_params.specs.Params.{Texts as Params, is_full_for}
 use Rattle.co_project.specs.declared.node.Node.{Node}
 use Rattle.co_project.specs.Tables.{Texts, Nodes, name_taken, has_no_room, is_used, is_named, is_of}
-use Rattle.co_project.specs.Tables.{is_of_known, put_node, node_after_put, with_param, without_param}
+use Rattle.co_project.specs.Tables.{is_of_known, has_mandatory, put_node, node_after_put, with_need, with_param}
+use Rattle.co_project.specs.Tables.{without_param}
 use Rattle.co_project.specs.Project.{Content, first, accept, with_nodes}
 use Rattle.co_base.specs.Tables.{Each}
 use Rattle.co_project.specs.Sound.{AreTexts, AreParams, IsNodeOf, IsMessageOf, IsEventOf, IsSound}
 use Rattle.co_base.proofs.EachLemmas.{each_empty, each_fails, each_found, each_put, each_removed, each_weaker, fewer}
 use Rattle.co_base.proofs.EachLemmas.{known_after_put, none_pass, room_for}
 use Rattle.co_project.proofs.KeepsMessages.{as_many, message_sent, messages_changed, messages_with_node}
-use Rattle.co_project.proofs.KeepsMessages.{messages_without_node, sink_kept, source_kept, still_there, unsink_kept}
-use Rattle.co_project.proofs.KeepsMessages.{unsource_kept}
+use Rattle.co_project.proofs.KeepsMessages.{messages_without_node, sink_kept, source_kept, start_kept, still_there}
+use Rattle.co_project.proofs.KeepsMessages.{unsink_kept, unsource_kept}
 
 -- ---- texts
 
@@ -162,7 +167,7 @@ module _ (p : Content) (sound : IsSound p) (id : ℕ) (node : Node) (new : IsNod
   unfolding IsNodeOf
   old_node n old there is =
       let free = no_clash p.nodes id node.name new.3 n old there in
-      (is.0, is.1, is.2, name_free p.nodes (n, old) id node is.3 (turned (n, old) id node free), is.4, is.5, is.6)
+      (is.0, is.1, is.2, name_free p.nodes (n, old) id node is.3 (turned (n, old) id node free), is.4, is.5, is.6, is.7)
 
   -- its new node
   new_node : IsNodeOf with_node id node
@@ -175,6 +180,7 @@ module _ (p : Content) (sound : IsSound p) (id : ℕ) (node : Node) (new : IsNod
     new.4,
     new.5,
     new.6,
+    new.7,
   )
 
   -- its events
@@ -194,6 +200,7 @@ module _ (p : Content) (sound : IsSound p) (id : ℕ) (node : Node) (new : IsNod
     bitrate = sound.bitrate;
     horizon = sound.horizon;
     manager = sound.manager;
+    counter = sound.counter;
     texts = sound.texts;
     nodes = each_put nat_cmp_total exact_unsigned (IsNodeOf with_node) p.nodes id node (each_weaker (IsNodeOf p)
         (IsNodeOf with_node) p.nodes old_node sound.nodes) new_node;
@@ -216,7 +223,23 @@ params_of p id node is = is.6
 other_params : (p : Content) (id : ℕ) (node : Node) (params : Params) → IsNodeOf p id node → AreParams params
     → IsNodeOf p id (record node { params = params })
 unfolding IsNodeOf
-other_params p id node params is are = (is.0, is.1, is.2, is.3, is.4, is.5, are)
+other_params p id node params is are = (is.0, is.1, is.2, is.3, is.4, is.5, are, is.7)
+
+-- it, mandatory or optional, where the version knows mandatory nodes
+other_need : (p : Content) (id : ℕ) (node : Node) (mandatory : Bool) → IsNodeOf p id node → is_one p.version ≡ false
+    → IsNodeOf p id (with_need mandatory node)
+unfolding IsNodeOf
+other_need p id node mandatory is two = (is.0, is.1, is.2, is.3, is.4, is.5, is.6, rw two refl)
+
+-- whether it is mandatory fits the version
+need_fits : (p : Content) (id : ℕ) (node : Node) → IsNodeOf p id node → (is_one p.version && node.mandatory) ≡ false
+unfolding IsNodeOf
+need_fits p id node is = is.7
+
+-- an optional node fits each version
+optional_fits : (t : Bool) → (t && false) ≡ false
+optional_fits true = refl
+optional_fits false = refl
 
 -- a node, new or with another name and EDS
 renamed_node : (p : Content) (id : ℕ) (name eds : List ℕ) → IsSound p → IsEdit (edit.Node id name eds)
@@ -225,14 +248,52 @@ renamed_node : (p : Content) (id : ℕ) (name eds : List ℕ) → IsSound p → 
 unfolding IsEdit IsNodeOf
 renamed_node p id name eds sound h there free None none =
     let parts = or_parts (id == p.manager.id) (name_taken p.nodes id name) free in
-    (h.0, parts.0, h.1, parts.1, h.2, there, no_params)
+    (h.0, parts.0, h.1, parts.1, h.2, there, no_params, optional_fits (is_one p.version))
 renamed_node p id name eds sound h there free (Some node) found =
     let parts = or_parts (id == p.manager.id) (name_taken p.nodes id name) free in
-    (h.0, parts.0, h.1, parts.1, h.2, there, params_of p id node (found_node p sound id node found))
+    let old : IsNodeOf p id node = found_node p sound id node found in
+    (h.0, parts.0, h.1, parts.1, h.2, there, params_of p id node old, need_fits p id node old)
+
+-- nodes that fit a version as a whole fit it one by one
+still_fits : (nodes : Nodes) (version : ScriptVersion) → (is_one version && has_mandatory nodes) ≡ false
+    → (id : ℕ) (node : Node) → get nodes id ≡ Some node → (is_one version && node.mandatory) ≡ false
+still_fits nodes One none id node there =
+    each_found (λ k v. v.mandatory ≡ false) nodes id node
+    (each_fails nat_cmp_total exact_unsigned (λ e. e.1.mandatory) nodes none) there
+still_fits nodes Two none id node there = refl
 
 -- ---- one edit
 
 module _ (p : Content) (sound : IsSound p) where
+  -- another version, which fits the nodes
+  version_keeps : (version : ScriptVersion) → (is_one version && has_mandatory p.nodes) ≡ false
+      → IsSound (record p { version = version })
+  unfolding IsNodeOf IsMessageOf IsEventOf
+  version_keeps version h = record {
+    bitrate = sound.bitrate;
+    horizon = sound.horizon;
+    manager = sound.manager;
+    counter = sound.counter;
+    texts = sound.texts;
+    nodes = each_weaker (IsNodeOf p) (IsNodeOf (record p { version = version })) p.nodes node_of_it sound.nodes;
+    count = sound.count;
+    messages = sound.messages;
+    events = sound.events;
+  }
+    where
+      node_of_it : (id : ℕ) (node : Node) → get p.nodes id ≡ Some node → IsNodeOf p id node
+          → IsNodeOf (record p { version = version }) id node
+      node_of_it id node there is = (
+        is.0,
+        is.1,
+        is.2,
+        is.3,
+        is.4,
+        is.5,
+        is.6,
+        still_fits p.nodes version h id node there,
+      )
+
   -- another bit rate
   bitrate_keeps : (rate : ℕ) → is_bit_rate rate ≡ true → IsSound (record p { bitrate = rate })
   unfolding IsNodeOf IsMessageOf IsEventOf
@@ -240,6 +301,7 @@ module _ (p : Content) (sound : IsSound p) where
     bitrate = h;
     horizon = sound.horizon;
     manager = sound.manager;
+    counter = sound.counter;
     texts = sound.texts;
     nodes = sound.nodes;
     count = sound.count;
@@ -254,6 +316,7 @@ module _ (p : Content) (sound : IsSound p) where
     bitrate = sound.bitrate;
     horizon = h;
     manager = sound.manager;
+    counter = sound.counter;
     texts = sound.texts;
     nodes = sound.nodes;
     count = sound.count;
@@ -269,6 +332,7 @@ module _ (p : Content) (sound : IsSound p) where
     bitrate = sound.bitrate;
     horizon = sound.horizon;
     manager = h;
+    counter = sound.counter;
     texts = sound.texts;
     nodes = each_weaker (IsNodeOf p) (IsNodeOf (record p { manager = m })) p.nodes node_of_it sound.nodes;
     count = sound.count;
@@ -278,7 +342,31 @@ module _ (p : Content) (sound : IsSound p) where
     where
       node_of_it : (id : ℕ) (node : Node) → get p.nodes id ≡ Some node → IsNodeOf p id node
           → IsNodeOf (record p { manager = m }) id node
-      node_of_it id node there is = (is.0, other_number p.nodes m.id id node free there, is.2, is.3, is.4, is.5, is.6)
+      node_of_it id node there is = (
+        is.0,
+        other_number p.nodes m.id id node free there,
+        is.2,
+        is.3,
+        is.4,
+        is.5,
+        is.6,
+        is.7,
+      )
+
+  -- another last number of the SYNC counter
+  counter_keeps : (n : ℕ) → is_sync_counter n ≡ true → IsSound (record p { sync_counter = n })
+  unfolding IsNodeOf IsMessageOf IsEventOf
+  counter_keeps n h = record {
+    bitrate = sound.bitrate;
+    horizon = sound.horizon;
+    manager = sound.manager;
+    counter = h;
+    texts = sound.texts;
+    nodes = sound.nodes;
+    count = sound.count;
+    messages = sound.messages;
+    events = sound.events;
+  }
 
   -- the project with other texts
   abbrev with_texts : Texts → Content
@@ -293,6 +381,7 @@ module _ (p : Content) (sound : IsSound p) where
     bitrate = sound.bitrate;
     horizon = sound.horizon;
     manager = sound.manager;
+    counter = sound.counter;
     texts = are;
     nodes = each_weaker (IsNodeOf p) (IsNodeOf (with_texts texts)) p.nodes node_of_it sound.nodes;
     count = sound.count;
@@ -302,7 +391,7 @@ module _ (p : Content) (sound : IsSound p) where
     where
       node_of_it : (id : ℕ) (node : Node) → get p.nodes id ≡ Some node → IsNodeOf p id node
           → IsNodeOf (with_texts texts) id node
-      node_of_it id node found is = (is.0, is.1, is.2, is.3, is.4, there id node found is.5, is.6)
+      node_of_it id node found is = (is.0, is.1, is.2, is.3, is.4, there id node found is.5, is.6, is.7)
 
   -- the text of an EDS
   eds_keeps : (name text : List ℕ) → IsEds name text → has_no_room p.texts name ≡ false
@@ -330,6 +419,14 @@ module _ (p : Content) (sound : IsSound p) where
   node_keeps id name eds h there free = node_put p sound id (node_after_put name eds (get p.nodes id))
       (renamed_node p id name eds sound h there free (get p.nodes id) refl)
 
+  -- a known node, mandatory or optional
+  need_keeps : (id : ℕ) (mandatory : Bool) → is_one p.version ≡ false → (found : Option Node) → get p.nodes id ≡ found
+      → is_some found ≡ true
+      → IsSound (record p { nodes = option_map_or (λ n. insert p.nodes id (with_need mandatory n)) found p.nodes })
+  need_keeps id mandatory two None none there = absurd (true≢false (sym there))
+  need_keeps id mandatory two (Some node) found there = node_put p sound id (with_need mandatory node)
+      (other_need p id node mandatory (found_node p sound id node found) two)
+
   -- a node that no message concerns and no event is of goes
   drop_node_keeps : (id : ℕ) → is_of_messages id p.messages ≡ false → is_named p.events id ≡ false
       → IsSound (record p { nodes = remove p.nodes id })
@@ -338,6 +435,7 @@ module _ (p : Content) (sound : IsSound p) where
     bitrate = sound.bitrate;
     horizon = sound.horizon;
     manager = sound.manager;
+    counter = sound.counter;
     texts = sound.texts;
     nodes = each_removed nat_cmp_total exact_unsigned (IsNodeOf without) p.nodes id (each_weaker (IsNodeOf p)
         (IsNodeOf without) p.nodes (λ n node there. node_without n node) sound.nodes);
@@ -350,7 +448,7 @@ module _ (p : Content) (sound : IsSound p) where
       without = record p { nodes = remove p.nodes id }
 
       node_without : (n : ℕ) (node : Node) → IsNodeOf p n node → IsNodeOf without n node
-      node_without n node is = (is.0, is.1, is.2, name_left p.nodes id n node.name is.3, is.4, is.5, is.6)
+      node_without n node is = (is.0, is.1, is.2, name_left p.nodes id n node.name is.3, is.4, is.5, is.6, is.7)
 
       still_known : (o : Option ℕ) → option_map_or (λ n. n == id) o false ≡ false
           → option_map_or (contains_key p.nodes) o true ≡ true
@@ -374,6 +472,7 @@ module _ (p : Content) (sound : IsSound p) where
     bitrate = sound.bitrate;
     horizon = sound.horizon;
     manager = sound.manager;
+    counter = sound.counter;
     texts = sound.texts;
     nodes = sound.nodes;
     count = sound.count;
@@ -388,6 +487,7 @@ module _ (p : Content) (sound : IsSound p) where
     bitrate = sound.bitrate;
     horizon = sound.horizon;
     manager = sound.manager;
+    counter = sound.counter;
     texts = sound.texts;
     nodes = sound.nodes;
     count = sound.count;
@@ -403,6 +503,7 @@ module _ (p : Content) (sound : IsSound p) where
     bitrate = sound.bitrate;
     horizon = sound.horizon;
     manager = sound.manager;
+    counter = sound.counter;
     texts = sound.texts;
     nodes = sound.nodes;
     count = few;
@@ -430,6 +531,12 @@ module _ (p : Content) (sound : IsSound p) where
       → IsSound (record p { messages = with_changed change p.messages name })
   changed_keeps name change keeps = messages_keep (with_changed change p.messages name)
       (rw (as_many p name change p.messages) sound.count) (messages_changed p name change keeps sound.messages)
+
+  -- it gets a SYNC start value
+  start_keeps : (name : List ℕ) (n : ℕ) → IsEdit (edit.Start name n)
+      → IsSound (record p { messages = with_changed (with_start n) p.messages name })
+  unfolding IsEdit
+  start_keeps name n h = changed_keeps name (with_start n) (start_kept p name n h.1)
 
   -- it carries an entry of its sender
   source_keeps : (name : List ℕ) (position : ℕ) (place : ℕ × ℕ) → IsEdit (edit.Source name position place.0 place.1)
@@ -507,6 +614,7 @@ first_sound = record {
   bitrate = refl;
   horizon = refl;
   manager = (refl, refl, refl, refl);
+  counter = refl;
   texts = no_texts;
   nodes = each_empty (IsNodeOf first) empty refl;
   count = rw (len-empty name_cmp Linked) (omega arith);
@@ -517,18 +625,24 @@ first_sound = record {
 -- an edit that is taken leaves a project that keeps to it
 pub edits_keep_sound : (p q : Content) (edit : Edit) → IsSound p → IsEdit edit → accept p edit ≡ Ok q → IsSound q
 unfolding accept IsEdit
+edits_keep_sound p q (edit.Version version) sound h taken = let e = passed _ _ _ q taken
+    in subst IsSound e.1 (version_keeps p sound version e.0)
 edits_keep_sound p q (edit.Bitrate rate) sound h taken = subst IsSound (the_same _ q taken)
     (bitrate_keeps p sound rate h)
 edits_keep_sound p q (edit.Horizon time) sound h taken = subst IsSound (the_same _ q taken)
     (horizon_keeps p sound time h)
 edits_keep_sound p q (edit.Manager m) sound h taken = let e = passed _ _ _ q taken
     in subst IsSound e.1 (manager_keeps p sound m h e.0)
+edits_keep_sound p q (edit.SyncCounter n) sound h taken = subst IsSound (the_same _ q taken)
+    (counter_keeps p sound n h)
 edits_keep_sound p q (edit.Eds name text) sound h taken = let e = passed _ _ _ q taken
     in subst IsSound e.1 (eds_keeps p sound name text h e.0)
 edits_keep_sound p q (edit.DropEds name) sound h taken = let e = passed_both _ _ _ _ _ q taken
     in subst IsSound e.2 (drop_eds_keeps p sound name e.1)
 edits_keep_sound p q (edit.Node id name eds) sound h taken = let e = passed_both _ _ _ _ _ q taken
     in subst IsSound e.2 (node_keeps p sound id name eds h (not-false _ e.0) e.1)
+edits_keep_sound p q (edit.Need id mandatory) sound h taken = let e = passed_both _ _ _ _ _ q taken
+    in subst IsSound e.2 (need_keeps p sound id mandatory e.0 (get p.nodes id) refl (not-false _ e.1))
 edits_keep_sound p q (edit.DropNode id) sound h taken =
     let e = passed_both _ _ _ _ _ q taken in
     let apart = or_parts (is_of_messages id p.messages) (is_named p.events id) e.1 in
@@ -539,6 +653,8 @@ edits_keep_sound p q (edit.Unparam id index sub) sound h taken = unparam_keeps p
     (get p.nodes id) refl taken
 edits_keep_sound p q (edit.Message name m) sound h taken = let e = passed_both _ _ _ _ _ q taken
     in subst IsSound e.2 (message_keeps p sound name m h (not-false _ e.0) e.1)
+edits_keep_sound p q (edit.Start name n) sound h taken = let e = passed _ _ _ q taken
+    in subst IsSound e.1 (start_keeps p sound name n h)
 edits_keep_sound p q (edit.DropMessage name) sound h taken = let e = passed _ _ _ q taken
     in subst IsSound e.1 (drop_message_keeps p sound name)
 edits_keep_sound p q (edit.Source name position index sub) sound h taken = let e = passed _ _ _ q taken

@@ -1,10 +1,4 @@
-pub mod EditsInTurn
 pub mod KeepsMessages
 pub mod KeepsSound
-pub mod LineLemmas
-pub mod MessagesAgain
 pub mod NodeLemmas
-pub mod RoundTrip
-pub mod ScriptEdits
 pub mod SoundLemmas
-pub mod ToCome

@@ -2,6 +2,7 @@
 use Rattle.std.proofs.Common.{◌≡◌, ℕ, sym, ◌∙◌, List, true, false, Bool, cond, Some, None, Ok, Err, IsSome, refl, ap}
 use Rattle.std.proofs.Common.{subst}
 use Rattle.std.specs.BTreeMap.{BTreeMap, Updates, WritesThrough, get_by}
+use Rattle.std.specs.Option.{option_map_or}
 use Rattle.std.specs.Ordering.{nat_cmp, eq_by_cmp}
 use Rattle.std.specs.FinMap.{contains_key, from_entries, get, get-insert, insert, remove, same_map}
 use Rattle.std.proofs.lemmas.Cmp.{nat_cmp_total}
@@ -10,7 +11,8 @@ use Rattle.co_base.proofs.TableLemmas.{alike, get_made, made_put}
 use Rattle.co_edits.specs.declared.fault.EditFault.TheVariants.{Limit, Unknown}
 use Rattle.co_params.specs.Params.{Texts, is_full_for}
 use Rattle.co_project.specs.declared.node.Node.{Node}
-use Rattle.co_project.specs.Tables.{Nodes, adds_param, put_node, put_param, drop_param, node_after_put}
+use Rattle.co_project.specs.Tables.{Nodes, adds_param, put_need, put_node, put_param, drop_param, node_after_put}
+use Rattle.co_project.specs.Tables.{with_need}
 
 -- a node that is put where it is
 pub same_put : (nodes : Nodes) (id : ℕ) (node : Node) → get nodes id ≡ Some node → insert nodes id node ≡ nodes
@@ -62,6 +64,18 @@ module _ (nodes new : Nodes) (id : ℕ) (name eds : List ℕ) where
   pub node_added : get nodes id ≡ None → new ≡ insert nodes id (node_after_put name eds None)
       → new ≡ put_node nodes id name eds
   node_added none is = is ∙ ap (λ o. insert nodes id (node_after_put name eds o)) (sym none)
+
+module _ (nodes new : Nodes) (id : ℕ) (mandatory : Bool) where
+  -- a known node that is mandatory or optional
+  pub need_set : (node : Node) → get nodes id ≡ Some node → new ≡ insert nodes id (with_need mandatory node)
+      → new ≡ put_need nodes id mandatory
+  need_set node found is =
+      is ∙ ap (λ o. option_map_or (λ n. insert nodes id (with_need mandatory n)) o nodes) (sym found)
+
+  -- an unknown one
+  pub need_unknown : get nodes id ≡ None → new ≡ nodes → new ≡ put_need nodes id mandatory
+  need_unknown none is =
+      is ∙ ap (λ o. option_map_or (λ n. insert nodes id (with_need mandatory n)) o nodes) (sym none)
 
 module _ (nodes : Nodes) (id : ℕ) (place : ℕ × ℕ) where
   -- an unknown node gets no parameter

@@ -1,4 +1,3 @@
 pub mod Tables
 pub mod Project
-pub mod Script
 pub mod Sound

@@ -1,55 +1,67 @@
 -- The project, and what edits do to it (this profile's own).
-use Rattle.std.specs.Prelude.{ℕ, Bool, false, ◌||◌, not, ◌==◌, List, [], ◌∷◌, refl, Result, Ok, Err}
+use Rattle.std.specs.Prelude.{ℕ, Bool, false, ◌||◌, ◌&&◌, not, ◌==◌, List, [], ◌∷◌, refl, Result, Ok, Err}
 use Rattle.std.specs.Coded.{Coded, code_by, coded×, coded_ℕ, coded_list}
 use Rattle.std.specs.FinMap.{code, contains_key, empty, insert, remove}
 use Rattle.co_scenario.specs.declared.timed_event.TimedEvent.{TimedEvent}
 use Rattle.co_scenario.specs.Scenario.{Events}
 use Rattle.co_edits.specs.declared.fault.EditFault.{EditFault}
-use Rattle.co_edits.specs.declared.fault.EditFault.TheVariants.{Unknown, Taken, InUse, Limit}
+use Rattle.co_edits.specs.declared.fault.EditFault.TheVariants.{Range, Unknown, Taken, InUse, Limit}
 use Rattle.co_edits.specs.declared.manager_settings.ManagerSettings.{ManagerSettings}
+use Rattle.co_edits.specs.declared.script_version.ScriptVersion.{ScriptVersion}
+use Rattle.co_edits.specs.declared.script_version.ScriptVersion.TheVariants.{One}
 use Rattle.co_edits.specs.declared.edit.Edit.{Edit}
 use Rattle.co_edits.specs.declared.edit.Edit.TheVariants as edit
 use Rattle.co_edits.specs.Accepts.{unless}
+use Rattle.co_edits.specs.Versions.{is_one}
 use Rattle.co_messages.specs.Messages.{Named, with_changed, is_of_messages, has_sink, has_source, is_full_for}
-use Rattle.co_messages.specs.Messages.{with_message, with_sink, with_source, without_sink, without_source}
+use Rattle.co_messages.specs.Messages.{with_message, with_sink, with_source, with_start, without_sink, without_source}
 use Rattle.co_project.specs.declared.node.Node.{Node}
 use Rattle.co_project.specs.Tables.{Texts, Nodes, has_no_room, name_taken, is_used, is_named, is_of_known, adds_param}
-use Rattle.co_project.specs.Tables.{put_node, put_param, drop_param}
+use Rattle.co_project.specs.Tables.{has_mandatory, put_node, put_need, put_param, drop_param}
 
--- a project: bit rate in kbit/s, horizon in microseconds, the manager, the texts of EDS by name, the nodes by number,
--- the messages by name, and the events by number
+-- a project: the version of its script, bit rate in kbit/s, horizon in microseconds, the manager, the last number of the
+-- SYNC counter (0 for none), the texts of EDS by name, the nodes by number, the messages by name, and the events by
+-- number
 pub record Content : Type 0 where
+  pub version : ScriptVersion
   pub bitrate : ℕ
   pub horizon : ℕ
   pub manager : ManagerSettings
+  pub sync_counter : ℕ
   pub texts : Texts
   pub nodes : Nodes
   pub messages : Named
   pub events : Events
 
 -- a project is stored as its parts, pair by pair
-abbrev pub content_code : Coded ManagerSettings → Coded Node → Coded Named → Coded TimedEvent → Coded Content
-content_code manager_code node_code messages_code event_code =
-    code_by (ℕ × (ℕ × (ManagerSettings × (Texts × (Nodes × (Named × Events))))))
-    (coded× coded_ℕ (coded× coded_ℕ (coded× manager_code (coded× (code (coded_list coded_ℕ) (coded_list coded_ℕ))
-    (coded× (code coded_ℕ node_code) (coded× messages_code (code coded_ℕ event_code)))))))
-    (λ p. (p.bitrate, (p.horizon, (p.manager, (p.texts, (p.nodes, (p.messages, p.events)))))))
+abbrev pub content_code : Coded ScriptVersion → Coded ManagerSettings → Coded Node → Coded Named → Coded TimedEvent
+    → Coded Content
+content_code version_code manager_code node_code messages_code event_code =
+    code_by (ScriptVersion × (ℕ × (ℕ × (ManagerSettings × (ℕ × (Texts × (Nodes × (Named × Events))))))))
+    (coded× version_code (coded× coded_ℕ (coded× coded_ℕ (coded× manager_code (coded× coded_ℕ
+    (coded× (code (coded_list coded_ℕ) (coded_list coded_ℕ))
+    (coded× (code coded_ℕ node_code) (coded× messages_code (code coded_ℕ event_code)))))))))
+    (λ p. (p.version, (p.bitrate, (p.horizon, (p.manager, (p.sync_counter, (p.texts, (p.nodes, (p.messages, p.events)))))))))
     (λ t. record {
-      bitrate = t.0;
-      horizon = t.1.0;
-      manager = t.1.1.0;
-      texts = t.1.1.1.0;
-      nodes = t.1.1.1.1.0;
-      messages = t.1.1.1.1.1.0;
-      events = t.1.1.1.1.1.1;
+      version = t.0;
+      bitrate = t.1.0;
+      horizon = t.1.1.0;
+      manager = t.1.1.1.0;
+      sync_counter = t.1.1.1.1.0;
+      texts = t.1.1.1.1.1.0;
+      nodes = t.1.1.1.1.1.1.0;
+      messages = t.1.1.1.1.1.1.1.0;
+      events = t.1.1.1.1.1.1.1.1;
     }) (λ _. refl)
 
 -- the project that each session begins with
 abbrev pub first : Content
 first = record {
+  version = One;
   bitrate = 1000;
   horizon = 1000000;
   manager = record { id = 127; sync_us = 0; heartbeat_ms = 0; timeout_ms = 500 };
+  sync_counter = 0;
   texts = empty;
   nodes = empty;
   messages = empty;
@@ -63,11 +75,15 @@ with_nodes p (Err fault) = Err fault
 
 -- THE EDIT: the project that an edit makes of a project, or the first fault that applies
 unfoldable pub accept : Content → Edit → Result Content EditFault
+accept p (edit.Version version) =
+    unless ((is_one version && has_mandatory p.nodes, InUse) ∷ [])
+    (record p { version = version })
 accept p (edit.Bitrate rate) = Ok (record p { bitrate = rate })
 accept p (edit.Horizon time) = Ok (record p { horizon = time })
 accept p (edit.Manager m) =
     unless ((contains_key p.nodes m.id, Taken) ∷ [])
     (record p { manager = m })
+accept p (edit.SyncCounter n) = Ok (record p { sync_counter = n })
 accept p (edit.Eds name text) =
     unless ((has_no_room p.texts name, Limit) ∷ [])
     (record p { texts = insert p.texts name text })
@@ -77,6 +93,9 @@ accept p (edit.DropEds name) =
 accept p (edit.Node id name eds) =
     unless ((not (contains_key p.texts eds), Unknown) ∷ (id == p.manager.id || name_taken p.nodes id name, Taken) ∷ [])
     (record p { nodes = put_node p.nodes id name eds })
+accept p (edit.Need id mandatory) =
+    unless ((is_one p.version, Range) ∷ (not (contains_key p.nodes id), Unknown) ∷ [])
+    (record p { nodes = put_need p.nodes id mandatory })
 accept p (edit.DropNode id) =
     unless ((not (contains_key p.nodes id), Unknown) ∷ (is_of_messages id p.messages || is_named p.events id, InUse)
     ∷ [])
@@ -86,6 +105,9 @@ accept p (edit.Unparam id index sub) = with_nodes p (drop_param p.nodes id (inde
 accept p (edit.Message name m) =
     unless ((not (contains_key p.nodes m.node), Unknown) ∷ (is_full_for p.messages name, Limit) ∷ [])
     (record p { messages = with_message p.messages name m })
+accept p (edit.Start name n) =
+    unless ((not (contains_key p.messages name), Unknown) ∷ [])
+    (record p { messages = with_changed (with_start n) p.messages name })
 accept p (edit.DropMessage name) =
     unless ((not (contains_key p.messages name), Unknown) ∷ [])
     (record p { messages = remove p.messages name })

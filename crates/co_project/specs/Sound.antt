@@ -1,9 +1,10 @@
 -- What every project keeps to, whatever edits made it (this profile's own).
-use Rattle.std.specs.Prelude.{◌≡◌, ◌≤◌, ◌==◌, ℕ, true, false, List, All}
+use Rattle.std.specs.Prelude.{◌≡◌, ◌≤◌, ◌==◌, ◌&&◌, ℕ, true, false, List, All}
 use Rattle.std.specs.FinMap.{contains_key, len}
 use Rattle.co_base.specs.Tables.{Each}
 use Rattle.co_scenario.specs.declared.timed_event.TimedEvent.{TimedEvent}
-use Rattle.co_edits.specs.Forms.{is_name, is_node_number, is_bit_rate, is_time, is_event_number}
+use Rattle.co_edits.specs.Forms.{is_name, is_node_number, is_bit_rate, is_time, is_event_number, is_sync_counter}
+use Rattle.co_edits.specs.Versions.{is_one}
 use Rattle.co_edits.specs.Eds.{IsEds}
 use Rattle.co_edits.specs.Edits.{IsManager, IsSetting, IsEvent}
 use Rattle.co_messages.specs.declared.linked.Linked.{Linked}
@@ -21,13 +22,15 @@ AreTexts texts = (len texts ≤ 64) × Each IsEds texts
 unfoldable pub AreParams : Params → Type 0
 AreParams params = (len params ≤ 4096) × Each (λ place text. IsSetting place.0 place.1 text) params
 
--- a node of the project: its number isn't the manager's, its name no other node's, its EDS is there
+-- a node of the project: its number isn't the manager's, its name no other node's, its EDS is there; in version 1 it
+-- isn't mandatory
 unfoldable pub IsNodeOf : Content → ℕ → Node → Type 0
 IsNodeOf p id node =
     (is_node_number id ≡ true) × ((id == p.manager.id) ≡ false)
     × (is_name node.name ≡ true) × (name_taken p.nodes id node.name ≡ false)
     × (is_name node.eds ≡ true) × (contains_key p.texts node.eds ≡ true)
     × AreParams node.params
+    × ((is_one p.version && node.mandatory) ≡ false)
 
 -- a message of the project: its sender and the nodes of its sinks are there
 unfoldable pub IsMessageOf : Content → List ℕ → Linked → Type 0
@@ -45,6 +48,7 @@ pub record IsSound (p : Content) : Type 0 where
   pub bitrate : is_bit_rate p.bitrate ≡ true
   pub horizon : is_time p.horizon ≡ true
   pub manager : IsManager p.manager
+  pub counter : is_sync_counter p.sync_counter ≡ true
   pub texts : AreTexts p.texts
   pub nodes : Each (IsNodeOf p) p.nodes
   pub count : len p.messages ≤ 1024

@@ -48,6 +48,10 @@ is_used nodes name = list_any (λ e. bytes_eq e.1.eds name) (entries nodes)
 abbrev pub is_of : ℕ → Event → Bool
 is_of id event = option_map_or (λ node. node == id) (node_of event) false
 
+-- some node is mandatory
+abbrev pub has_mandatory : Nodes → Bool
+has_mandatory nodes = list_any (λ e. e.1.mandatory) (entries nodes)
+
 -- some event is of the node of this number
 abbrev pub is_named : Events → ℕ → Bool
 is_named events id = list_any (λ e. is_of id e.1.event) (entries events)
@@ -56,14 +60,22 @@ is_named events id = list_any (λ e. is_of id e.1.event) (entries events)
 abbrev pub is_of_known : Nodes → Event → Bool
 is_of_known nodes event = option_map_or (contains_key nodes) (node_of event) true
 
--- a node with another name and EDS; a new one has no parameters
+-- a node with another name and EDS; a new one is optional and has no parameters
 abbrev pub node_after_put : List ℕ → List ℕ → Option Node → Node
-node_after_put name eds None = record { name = name; eds = eds; params = empty }
+node_after_put name eds None = record { name = name; eds = eds; mandatory = false; params = empty }
 node_after_put name eds (Some known) = record known { name = name; eds = eds }
 
 -- the nodes, where that of a number gets a name and an EDS
 abbrev pub put_node : Nodes → ℕ → List ℕ → List ℕ → Nodes
 put_node nodes id name eds = insert nodes id (node_after_put name eds (get nodes id))
+
+-- a node that is mandatory, or is so no more
+abbrev pub with_need : Bool → Node → Node
+with_need mandatory node = record node { mandatory = mandatory }
+
+-- the nodes, where that of a number, if it is there, is mandatory or is so no more
+abbrev pub put_need : Nodes → ℕ → Bool → Nodes
+put_need nodes id mandatory = option_map_or (λ node. insert nodes id (with_need mandatory node)) (get nodes id) nodes
 
 -- a node with the text of a parameter
 abbrev pub with_param : Nodes → ℕ → ℕ × ℕ → List ℕ → Option Node → Result Nodes EditFault

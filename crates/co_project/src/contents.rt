@@ -9,7 +9,7 @@ use crate::node_events::{is_named, is_of_known};
 use crate::nodes::Nodes;
 use crate::texts::Texts;
 use co_base::Octets;
-use co_commands::{Edit, EditFault, ManagerSettings};
+use co_commands::{Edit, EditFault, ManagerSettings, ScriptVersion};
 use co_memo::Shared;
 use co_messages::Messages;
 use co_scenario::{Script, TimedEvent};
@@ -20,9 +20,11 @@ use std::marker::Model;
 #[derive(Drop)]
 pub(crate) struct Contents {
     pub alloc: Global,
+    pub version: ScriptVersion,
     pub bitrate: u16,
     pub horizon: u32,
     pub manager: ManagerSettings,
+    pub sync_counter: u8,
     pub texts: Texts,
     pub nodes: Nodes,
     pub messages: Messages,
@@ -31,6 +33,7 @@ pub(crate) struct Contents {
 
 impl Model for Contents {
     ghost use Rattle.co_edits.specs.contracts.manager_settings.ManagerSettings as settings;
+    ghost use Rattle.co_edits.specs.contracts.script_version.ScriptVersion as numbered;
     ghost use Rattle.co_scenario.specs.contracts.timed_event.TimedEvent as timed;
     ghost use Rattle.co_project.specs.contracts.node.Node as node;
     ghost use Rattle.co_messages.specs.contracts.messages.Messages as linked;
@@ -38,12 +41,15 @@ impl Model for Contents {
 
     ghost Value = { Content };
 
-    ghost coded = { content_code settings.the_row.coded node.the_row.coded linked.the_row.coded timed.the_row.coded };
+    ghost coded = { content_code numbered.the_row.coded settings.the_row.coded node.the_row.coded linked.the_row.coded
+        timed.the_row.coded };
 
     ghost view = { λ c. record {
+      version = c.version;
       bitrate = c.bitrate;
       horizon = c.horizon;
       manager = c.manager;
+      sync_counter = c.sync_counter;
       texts = c.texts;
       nodes = c.nodes;
       messages = c.messages;
@@ -57,6 +63,7 @@ impl Contents {
     {
         Contents {
             alloc,
+            version: ScriptVersion::One,
             bitrate: 1000,
             horizon: 1_000_000,
             manager: ManagerSettings {
@@ -65,6 +72,7 @@ impl Contents {
                 heartbeat_ms: 0,
                 timeout_ms: 500,
             },
+            sync_counter: 0,
             texts: Texts::new(alloc),
             nodes: Nodes::new(alloc),
             messages: Messages::new(alloc),
@@ -82,9 +90,11 @@ impl Contents {
         let events = self.events.copy()?;
         Ok(Contents {
             alloc,
+            version: self.version,
             bitrate: self.bitrate,
             horizon: self.horizon,
             manager: self.manager,
+            sync_counter: self.sync_counter,
             texts,
             nodes,
             messages,
@@ -96,9 +106,11 @@ impl Contents {
     pub fn same(&self, other: &Contents) -> bool
         ensures { IsTrue result ↔ (self.now ≡ other.now) }
     {
-        self.bitrate == other.bitrate
+        self.version == other.version
+            && self.bitrate == other.bitrate
             && self.horizon == other.horizon
             && self.manager == other.manager
+            && self.sync_counter == other.sync_counter
             && self.nodes.same(&other.nodes)
             && self.messages.same(&other.messages)
             && self.events.same(&other.events)
@@ -113,6 +125,7 @@ impl Contents {
         ensures memory { IsErrOf result EditFault.Memory → IsTrue (adds self.old edit) }
     {
         match edit {
+            Edit::Version(version) => self.set_version(version),
             Edit::Bitrate(rate) => {
                 self.bitrate = rate;
                 Ok(())
@@ -122,9 +135,14 @@ impl Contents {
                 Ok(())
             }
             Edit::Manager(manager) => self.manage(manager),
+            Edit::SyncCounter(last) => {
+                self.sync_counter = last;
+                Ok(())
+            }
             Edit::Eds { name, text } => self.put_text(name, text),
             Edit::DropEds { name } => self.drop_text(name.as_slice()),
             Edit::Node { id, name, eds } => self.put_node(id, name, eds),
+            Edit::Need { id, mandatory } => self.set_mandatory(id, mandatory),
             Edit::DropNode { id } => self.drop_node(id),
             Edit::Param {
                 id,
@@ -134,6 +152,7 @@ impl Contents {
             } => self.nodes.put_param(id, index, sub, text),
             Edit::Unparam { id, index, sub } => self.nodes.drop_param(id, index, sub),
             Edit::Message { name, message } => self.put_message(name, message),
+            Edit::Start { message, start } => self.set_start(message.as_slice(), start),
             Edit::DropMessage { name } => self.drop_message(name.as_slice()),
             Edit::Source {
                 message,
@@ -159,6 +178,19 @@ impl Contents {
             Edit::Event { number, event } => self.put_event(number, event),
             Edit::DropEvent { number } => self.drop_event(number),
         }
+    }
+
+    /// Gives the script another version: version 1 only where no node is mandatory.
+    #[tactic(auto, unfolding(crate::specs::Project::accept, crate::specs::Project::adds))]
+    fn set_version(&mut self, version: ScriptVersion) -> Result<(), EditFault>
+        ensures accepts { Accepts self.old self.new result (accept self.old (edit.Version version)) }
+        ensures memory { IsErrOf result EditFault.Memory → IsTrue (adds self.old (edit.Version version)) }
+    {
+        if version.is_one() && self.nodes.have_mandatory() {
+            return Err(EditFault::InUse);
+        }
+        self.version = version;
+        Ok(())
     }
 
     /// Gives the manager other numbers.
@@ -216,6 +248,22 @@ impl Contents {
             return Err(EditFault::Taken);
         }
         self.nodes.put(self.alloc, id, name, eds)?;
+        Ok(())
+    }
+
+    /// Makes a node mandatory or optional, where the version knows mandatory nodes.
+    #[tactic(auto, unfolding(crate::specs::Project::accept, crate::specs::Project::adds))]
+    fn set_mandatory(&mut self, id: u8, mandatory: bool) -> Result<(), EditFault>
+        ensures accepts { Accepts self.old self.new result (accept self.old (edit.Need id mandatory)) }
+        ensures memory { IsErrOf result EditFault.Memory → IsTrue (adds self.old (edit.Need id mandatory)) }
+    {
+        if self.version.is_one() {
+            return Err(EditFault::Range);
+        }
+        if !self.nodes.contains(id) {
+            return Err(EditFault::Unknown);
+        }
+        self.nodes.set_mandatory(id, mandatory);
         Ok(())
     }
 

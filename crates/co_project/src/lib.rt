@@ -1,5 +1,4 @@
-//! The project that a script's commands edit: what each edit does, and the script that makes it
-//! again.
+//! The project that a script's commands edit, and what each edit does.
 #![tactic(auto)]
 
 mod contents;
@@ -9,10 +8,9 @@ mod node;
 mod node_events;
 mod nodes;
 mod project;
-mod script;
 mod texts;
 
-pub use co_commands::{Command, EditFault, ManagerSettings, Request, refusal};
+pub use co_commands::{Command, EditFault, ManagerSettings, Request, ScriptVersion, refusal};
 pub use co_params::Params;
 pub use node::Node;
 pub use project::Project;

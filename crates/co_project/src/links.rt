@@ -11,7 +11,7 @@ use co_commands::EditFault;
 use co_messages::Message;
 
 impl Contents {
-    /// Gives a name a message. A known one keeps its sources and sinks.
+    /// Gives a name a message. A known one keeps its SYNC start value, its sources and its sinks.
     #[tactic(auto, unfolding(crate::specs::Project::accept, crate::specs::Project::adds, co_edits::specs::Edits::IsEdit))]
     pub fn put_message(&mut self, name: Octets, message: Message) -> Result<(), EditFault>
         requires { IsEdit (edit.Message name message) }
@@ -25,6 +25,20 @@ impl Contents {
             return Err(EditFault::Limit);
         }
         self.messages.put(self.alloc, name, message)?;
+        Ok(())
+    }
+
+    /// Gives a message a SYNC start value.
+    #[tactic(auto, unfolding(crate::specs::Project::accept, crate::specs::Project::adds, co_edits::specs::Edits::IsEdit))]
+    pub fn set_start(&mut self, name: &[u8], start: u8) -> Result<(), EditFault>
+        requires { IsEdit (edit.Start name.now start) }
+        ensures accepts { Accepts self.old self.new result (accept self.old (edit.Start name.now start)) }
+        ensures memory { IsErrOf result EditFault.Memory → IsTrue (adds self.old (edit.Start name.now start)) }
+    {
+        if !self.messages.contains(name) {
+            return Err(EditFault::Unknown);
+        }
+        self.messages.set_start(name, start);
         Ok(())
     }
 

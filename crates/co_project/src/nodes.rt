@@ -2,7 +2,8 @@
 ghost use Rattle.std.specs.Prelude.{◌≡◌, ◌↔◌, IsErrOf, IsTrue, None, IfOk, OnOk, OnErr, option_copied};
 ghost use Rattle.std.specs.FinMap as map;
 ghost use Rattle.co_edits.specs.Accepts.{Accepts};
-ghost use Rattle.co_project.specs.Tables.{node_at, name_taken, is_used, put_node, adds_param, put_param, drop_param};
+ghost use Rattle.co_project.specs.Tables.{node_at, name_taken, is_used, has_mandatory, put_node, put_need};
+ghost use Rattle.co_project.specs.Tables.{adds_param, put_param, drop_param};
 
 use crate::node::Node;
 use co_base::Octets;
@@ -107,8 +108,15 @@ impl Nodes {
         self.iter().any(|(_, node)| node.eds.as_slice() == name)
     }
 
-    /// Gives a node its name and EDS. A known one keeps all else that it has, a new one has no
-    /// parameters. Want of memory changes nothing, and can come at a new one alone.
+    /// Whether a node is mandatory.
+    pub fn have_mandatory(&self) -> bool
+        ensures { result ≡ has_mandatory self.now }
+    {
+        self.iter().any(|(_, node)| node.mandatory)
+    }
+
+    /// Gives a node its name and EDS. A known one keeps all else that it has, a new one is optional and
+    /// has no parameters. Want of memory changes nothing, and can come at a new one alone.
     pub fn put(
         &mut self,
         alloc: Global,
@@ -126,8 +134,24 @@ impl Nodes {
             return Ok(());
         }
         let params = Params::new(alloc);
-        self.nodes.insert(id, Node { name, eds, params })?;
+        let node = Node {
+            name,
+            eds,
+            mandatory: false,
+            params,
+        };
+        self.nodes.insert(id, node)?;
         Ok(())
+    }
+
+    /// Makes a node, if it is there, mandatory or optional.
+    pub fn set_mandatory(&mut self, id: u8, mandatory: bool)
+        ensures { self.new ≡ put_need self.old id mandatory }
+    {
+        let Some(node) = self.nodes.get_mut(&id) else {
+            return;
+        };
+        node.mandatory = mandatory;
     }
 
     /// Gives a node the text of a parameter.

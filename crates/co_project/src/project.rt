@@ -7,14 +7,12 @@ ghost use Rattle.co_edits.specs.Accepts.{Accepts};
 ghost use Rattle.co_messages.specs.Messages.{by_name};
 ghost use Rattle.co_project.specs.Tables.{text_at, node_at};
 ghost use Rattle.co_project.specs.Project.{accept, adds, first};
-ghost use Rattle.co_project.specs.Script.{script};
 ghost use Rattle.co_project.specs.Sound.{IsSound};
 
 use crate::contents::Contents;
 use crate::node::Node;
-use crate::script::script_text;
 use co_base::Octets;
-use co_commands::{Command, EditFault, ManagerSettings};
+use co_commands::{Command, EditFault, ManagerSettings, ScriptVersion};
 use co_memo::Shared;
 use co_messages::Messages;
 use co_scenario::Script;
@@ -22,8 +20,9 @@ use std::alloc::{AllocError, Global};
 use std::collections::btree_map::Iter;
 use std::marker::Model;
 
-/// A project: the bit rate, the horizon, the manager, the texts of EDS by name, the nodes by number
-/// with their parameters, the messages by name, and the events by number.
+/// A project: the version of its script, the bit rate, the horizon, the manager, the last number of the
+/// SYNC counter, the texts of EDS by name, the nodes by number with their parameters, the messages by
+/// name, and the events by number.
 #[derive(Drop)]
 pub struct Project {
     contents: Contents,
@@ -44,8 +43,9 @@ impl Model for Project {
 }
 
 impl Project {
-    /// The first project: 1000 kbit/s, a horizon of 1,000,000 microseconds, the manager 127
-    /// without SYNC and heartbeat and with 500 milliseconds for an SDO answer, and nothing else.
+    /// The first project: version 1, 1000 kbit/s, a horizon of 1,000,000 microseconds, the manager 127
+    /// without SYNC and heartbeat and with 500 milliseconds for an SDO answer, no SYNC counter, and
+    /// nothing else.
     pub fn new(alloc: Global) -> Self
         ensures { result ≡ first }
     {
@@ -64,8 +64,8 @@ impl Project {
         Ok(Project { contents })
     }
 
-    /// Whether the other project is the same: the bit rate, the horizon, the manager, the nodes with
-    /// their parameters, the messages, the events, and last the texts of EDS. Takes time by what stands
+    /// Whether the other project is the same: the version, the bit rate, the horizon, the manager, the
+    /// SYNC counter, the nodes with their parameters, the messages, the events, and last the texts of EDS. Takes time by what stands
     /// up to the first difference in this order, and no memory.
     pub fn same(&self, other: &Project) -> bool
         ensures { IsTrue result ↔ (self.now ≡ other.now) }
@@ -75,14 +75,14 @@ impl Project {
 
     /// Takes an edit, or refuses it with the first fault that applies and changes nothing.
     ///
-    /// Unknown: an EDS, a node, a parameter, a message, a source, a sink or an event that is named
+    /// Range: a node is to be mandatory or optional in version 1. Unknown: an EDS, a node, a parameter, a message, a source, a sink or an event that is named
     /// isn't there. Taken: the number is the manager's or a node's, or the name another node's.
-    /// InUse: a node still uses the EDS, a message is sent or taken by the node, or an event is of
+    /// InUse: a node is mandatory where version 1 is asked, a node still uses the EDS, a message is sent or taken by the node, or an event is of
     /// it. Limit: a 65th text, a 4,097th parameter of a node, or a 1,025th message. Memory can come
     /// in place of each where the edit gives a text, a node, a parameter, a message, a source, a
     /// sink or an event where there is none, and changes nothing either.
     ///
-    /// `drop-eds` and `node` take time by the number of nodes, `drop-node` by that of messages, sinks,
+    /// `version`, `drop-eds` and `node` take time by the number of nodes, `drop-node` by that of messages, sinks,
     /// events and the node's parameters, `drop-message` by that of its sources and sinks, every other
     /// edit by the logarithm of its table.
     pub fn accept(&mut self, command: Command) -> Result<(), EditFault>
@@ -90,6 +90,13 @@ impl Project {
         ensures memory { IsErrOf result EditFault.Memory → IsTrue (adds self.old command) }
     {
         self.contents.accept(command.into_edit())
+    }
+
+    /// The version of the script.
+    pub fn version(&self) -> ScriptVersion
+        ensures { result ≡ self.now.version }
+    {
+        self.contents.version
     }
 
     /// The bit rate in kbit/s.
@@ -111,6 +118,14 @@ impl Project {
         ensures { result ≡ self.now.manager }
     {
         self.contents.manager
+    }
+
+    /// The last number of the counter of SYNC messages (CiA 301, synchronous counter overflow value),
+    /// 2 to 240; 0 for no counter.
+    pub fn sync_counter(&self) -> u8
+        ensures { result ≡ self.now.sync_counter }
+    {
+        self.contents.sync_counter
     }
 
     /// The text of an EDS: its lines without the CRs at their ends, each ended by LF. It is that of
@@ -163,16 +178,5 @@ impl Project {
         ensures { IsSound self.now }
     {
         let _ = &self.contents;
-    }
-
-    /// The commands that make this project of the first one, as text: its settings, the EDS by name
-    /// with their lines, the nodes by number, their parameters by entry, the messages by name, each
-    /// with its sources and sinks, and the events by number. Takes time and memory by the length of
-    /// the text.
-    pub fn script(&self) -> Result<Vec<u8>, AllocError>
-        ensures text { IfOk result (λ text. text.items ≡ script self.now) }
-        ensures sound { IsSound self.now }
-    {
-        script_text(self.contents.alloc, &self.contents)
     }
 }

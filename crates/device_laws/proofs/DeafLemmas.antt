@@ -12,14 +12,17 @@ use Rattle.can_frame.specs.declared.waiting.Waiting.{Waiting}
 use Rattle.co_dict.specs.Values.{Values}
 use Rattle.co_parts.specs.Contents.{Content}
 use Rattle.co_parts.specs.declared.part.Part.{Part}
+use Rattle.co_pdos.specs.Sync.{sync_message}
 use Rattle.co_pdos.specs.Tpdo.{Remembered, without_past_inhibit, turn_by_type}
 use Rattle.co_fields.specs.TransmissionTypes.{is_synchronous}
 use Rattle.co_pdos.specs.declared.communication.Communication.{Communication}
 use Rattle.co_pdos.specs.declared.configuration.Configuration.{Configuration}
+use Rattle.co_pdos.specs.declared.sync.SyncMessage.{SyncMessage}
+use Rattle.co_pdos.specs.declared.sync_seen.SyncSeen.{SyncSeen}
 use Rattle.co_fields.specs.declared.transmission_type.TransmissionType.{TransmissionType}
 use Rattle.co_fields.specs.declared.transmission_type.TransmissionType.TheVariants.{Acyclic, Cyclic, EventDriven}
 use Rattle.co_fields.specs.declared.transmission_type.TransmissionType.TheVariants.{Reserved, OnRequest}
-use Rattle.device_objects.specs.Profile.{sync_identifier}
+use Rattle.device_objects.specs.Profile.{counter_overflow, sync_identifier}
 use Rattle.device_pdos.specs.Rpdos.{rpdo_at}
 use Rattle.device_pdos.specs.Tpdos as tpdos
 use Rattle.device_pdos.specs.Tpdos.{bytes_now, frame_of_turn, goes_by_sync, tpdo_after_turn, tpdos_after_turns, turn}
@@ -58,47 +61,49 @@ module _ (t : ℕ) (d : Device) (nothing_kept : AllByRecursion (λ p. p.kept ≡
 
 -- ---- TPDOs that don't go by SYNC have their turn as without it
 
-turn_alike : (transmission : Option TransmissionType) (c : Communication) (t : ℕ) (bytes : List ℕ) (r : Remembered)
+turn_alike : (transmission : Option TransmissionType) (c : Communication) (seen : SyncSeen) (t : ℕ) (bytes : List ℕ)
+    (r : Remembered)
     → option_map_or is_synchronous transmission false ≡ false
-    → turn_by_type transmission c true t bytes r ≡ turn_by_type transmission c false t bytes r
+    → turn_by_type transmission c (Some seen) t bytes r ≡ turn_by_type transmission c None t bytes r
 unfolding turn_by_type
-turn_alike None c t bytes r h = refl
-turn_alike (Some Acyclic) c t bytes r h = absurd cc
-turn_alike (Some (Cyclic n)) c t bytes r h = absurd cc
-turn_alike (Some Reserved) c t bytes r h = refl
-turn_alike (Some OnRequest) c t bytes r h = refl
-turn_alike (Some EventDriven) c t bytes r h = refl
+turn_alike None c seen t bytes r h = refl
+turn_alike (Some Acyclic) c seen t bytes r h = absurd cc
+turn_alike (Some (Cyclic n)) c seen t bytes r h = absurd cc
+turn_alike (Some Reserved) c seen t bytes r h = refl
+turn_alike (Some OnRequest) c seen t bytes r h = refl
+turn_alike (Some EventDriven) c seen t bytes r h = refl
 
-module _ (t : ℕ) (values : Values) where
+module _ (t : ℕ) (values : Values) (seen : SyncSeen) where
   turns_alike : (configuration : Option Configuration) (r : Remembered) → goes_by_sync configuration ≡ false
-      → turn configuration t true values r ≡ turn configuration t false values r
+      → turn configuration t (Some seen) values r ≡ turn configuration t None values r
   unfolding turn
   turns_alike None r h = refl
   turns_alike (Some c) r h = ap (told c.identifier (bytes_now values c))
-      (turn_alike c.communication.transmission_type c.communication t (bytes_now values c) (without_past_inhibit t r) h)
+      (turn_alike c.communication.transmission_type c.communication seen t (bytes_now values c)
+      (without_past_inhibit t r) h)
 
   one_alike : (p : TpdoState) → goes_by_sync p.configuration ≡ false
-      → tpdo_after_turn t true values p ≡ tpdo_after_turn t false values p
+      → tpdo_after_turn t (Some seen) values p ≡ tpdo_after_turn t None values p
   one_alike p h = ap (λ (own : Remembered × Option BaseFrame). record p { remembered = own.0 })
       (turns_alike p.configuration p.remembered h)
 
   all_alike : (ps : List TpdoState) → AllByRecursion (λ p. goes_by_sync p.configuration ≡ false) ps
-      → tpdos_after_turns t true values ps ≡ tpdos_after_turns t false values ps
+      → tpdos_after_turns t (Some seen) values ps ≡ tpdos_after_turns t None values ps
   unfolding tpdos_after_turns
   all_alike [] h = refl
   all_alike (p ∷ ps) h =
-      ap (λ (q : TpdoState). q ∷ tpdos_after_turns t true values ps) (one_alike p h.0)
-      ∙ ap (λ (qs : List TpdoState). tpdo_after_turn t false values p ∷ qs) (all_alike ps h.1)
+      ap (λ (q : TpdoState). q ∷ tpdos_after_turns t (Some seen) values ps) (one_alike p h.0)
+      ∙ ap (λ (qs : List TpdoState). tpdo_after_turn t None values p ∷ qs) (all_alike ps h.1)
 
   waiting_alike : (ps : List TpdoState) (frames : List Waiting)
       → AllByRecursion (λ p. goes_by_sync p.configuration ≡ false) ps
-      → with_tpdos t true values ps frames ≡ with_tpdos t false values ps frames
+      → with_tpdos t (Some seen) values ps frames ≡ with_tpdos t None values ps frames
   unfolding with_tpdos
   waiting_alike [] frames h = refl
   waiting_alike (p ∷ ps) frames h =
-      ap (λ (own : Remembered × Option BaseFrame). with_tpdos t true values ps (with_frame p.number own.1 frames))
+      ap (λ (own : Remembered × Option BaseFrame). with_tpdos t (Some seen) values ps (with_frame p.number own.1 frames))
       (turns_alike p.configuration p.remembered h.0)
-      ∙ waiting_alike ps (with_frame p.number (frame_of_turn t false values p) frames) h.1
+      ∙ waiting_alike ps (with_frame p.number (frame_of_turn t None values p) frames) h.1
 
 -- ---- the instant
 
@@ -116,44 +121,51 @@ module _ (t : ℕ) (d : Device) (rests : Rests d) (ahead : LieAfter t (moments d
   nothing_heard : IsNothing (Answer d)
   nothing_heard = ap (λ (x : Device). Answer x) (quiet_at_rest t d rests ahead)
 
-  module _ (awaits : AwaitsNoSync d) (on : is_in Operational d ≡ true) where
+  module _ (sync : SyncMessage) (awaits : AwaitsNoSync d) (on : is_in Operational d ≡ true) where
+    abbrev Heard : Device
+    Heard = record d { synced = Some sync }
+
+    abbrev Seen : SyncSeen
+    Seen = record { counter = sync.counter; is_counted = not (counter_overflow d.learnt d.values == 0) }
+
     tpdos_in_operational : LieAfter t (tpdos.moments true d.tpdos)
     tpdos_in_operational = rw on at (tpdos_after t d ahead)
 
-    looked_at_sync : after_tpdos t (record d { synced = true }) ≡ d
+    looked_at_sync : after_tpdos t Heard ≡ d
     unfolding after_tpdos
     looked_at_sync =
         let unwanted = rests.unwanted on in
         rw on
-        (equal d false _ _ (sym rests.unsynced)
-        (all_alike t d.values d.tpdos awaits.no_tpdo ∙ tpdos_rest t d.values d.tpdos unwanted tpdos_in_operational)
-        (waiting_alike t d.values d.tpdos d.waiting awaits.no_tpdo
+        (equal d None _ _ (sym rests.unsynced)
+        (all_alike t d.values Seen d.tpdos awaits.no_tpdo ∙ tpdos_rest t d.values d.tpdos unwanted tpdos_in_operational)
+        (waiting_alike t d.values Seen d.tpdos d.waiting awaits.no_tpdo
         ∙ nothing_sent t d.values d.tpdos d.waiting unwanted tpdos_in_operational))
 
-    ran_at_sync : after_instant t (record d { synced = true }) ≡ d
+    ran_at_sync : after_instant t Heard ≡ d
     unfolding after_instant
     ran_at_sync =
         let h = timers_ahead t d ahead in
-        ap (after_tpdos t) (quiet t (record d { synced = true })
+        ap (after_tpdos t) (quiet t Heard
         (record { heartbeat = h.heartbeat; consumers = h.consumers }))
         ∙ looked_at_sync
 
-    walk_is_nothing : IsNothing (walk (after_sync_at t) (rpdo_places d) (record d { synced = true }))
+    walk_is_nothing : IsNothing (walk (after_sync_at t) (rpdo_places d) Heard)
     walk_is_nothing =
         ap (λ (m : Asking Part Content Device). bind m (λ heard. Answer (after_instant t heard)))
-        (walk_idle t (record d { synced = true }) awaits.nothing_kept (rpdo_places d))
+        (walk_idle t Heard awaits.nothing_kept (rpdo_places d))
         ∙ ap (λ (x : Device). Answer x) ran_at_sync
 
-  sync_is_nothing : AwaitsNoSync d → IsNothing (after_sync t d)
+  sync_is_nothing : (bytes : List ℕ) → AwaitsNoSync d → IsNothing (after_sync t bytes d)
   unfolding after_sync
-  sync_is_nothing awaits = one_tree IsNothing (is_in Operational d) _ _ (walk_is_nothing awaits) (λ e. nothing_heard)
+  sync_is_nothing bytes awaits = one_tree IsNothing (is_in Operational d) _ _
+      (walk_is_nothing (sync_message bytes) awaits) (λ e. nothing_heard)
 
   idle_is_nothing : (frame : BaseFrame) → IsIdleSync frame d → IsNothing (after_frame t frame d)
   unfolding after_frame
   idle_is_nothing frame h =
       one_tree IsNothing (not d.has_power) _ _ (λ e. nothing_heard)
       (λ off. one_tree IsNothing (frame.id == nmt_id) _ _ (not_both (frame.id == nmt_id) h.no_command)
-      (λ e. one_tree IsNothing (frame.id == sync_identifier d.learnt d.values) _ _ (λ e. sync_is_nothing h.awaits_none)
+      (λ e. one_tree IsNothing (frame.id == sync_identifier d.learnt d.values) _ _ (λ e. sync_is_nothing frame.bytes h.awaits_none)
       (λ e. not_both (frame.id == sync_identifier d.learnt d.values) e h.is_sync)))
 
   deaf_is_nothing : (frame : BaseFrame) → IsDeafTo frame d → IsNothing (after_frame t frame d)

@@ -109,9 +109,10 @@ unaddressed : (t : ℕ) (frame : BaseFrame) (d : Device) → not (is_addressed d
     → after_nmt_frame t frame.bytes d ≡ Answer d
 unaddressed t frame d h = rw (unturned (is_addressed d.number frame.bytes) h) refl
 
-unsynced : (t : ℕ) (d : Device) → not (is_in Operational d) ≡ true → after_sync t d ≡ Answer d
+unsynced : (t : ℕ) (bytes : List ℕ) (d : Device) → not (is_in Operational d) ≡ true
+    → after_sync t bytes d ≡ Answer d
 unfolding after_sync
-unsynced t d h = rw (unturned (is_in Operational d) h) refl
+unsynced t bytes d h = rw (unturned (is_in Operational d) h) refl
 
 unasked : (t : ℕ) (request : List ℕ) (d : Device) → is_in Stopped d ≡ true → after_sdo_request t request d ≡ Answer d
 unfolding after_sdo_request
@@ -123,7 +124,7 @@ unfolding is_ignored after_frame
 ignored_changes_nothing t frame d h =
     chosen (not d.has_power) _ _ _ _ (Answer d) h (λ e. refl)
     (λ h. chosen (frame.id == nmt_id) _ _ _ _ (Answer d) h (unaddressed t frame d)
-    (λ h. chosen (frame.id == sync_identifier d.learnt d.values) _ _ _ _ (Answer d) h (unsynced t d)
+    (λ h. chosen (frame.id == sync_identifier d.learnt d.values) _ _ _ _ (Answer d) h (unsynced t frame.bytes d)
     (λ h. chosen ((frame.id == sdo_request_id d.number)
     && (length frame.bytes == 8)) _ _ _ _ (Answer d) h (unasked t frame.bytes d)
     (λ h. chosen (is_error_control frame) _ _ _ _ (Answer d) h

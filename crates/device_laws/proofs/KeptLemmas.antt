@@ -15,6 +15,8 @@ use Rattle.co_parts.specs.declared.part.Part.TheVariants.{Shape}
 use Rattle.co_pdos.specs.declared.receipt.Receipt.{Receipt}
 use Rattle.co_pdos.specs.declared.receipt.Receipt.TheVariants.{Short, Kept, AtOnce, Ignored}
 use Rattle.device_objects.specs.Consumers.{consumers_after_heartbeat, consumers_after_write, is_last_failure_over}
+use Rattle.co_pdos.specs.Sync.{sync_message}
+use Rattle.co_pdos.specs.declared.sync.SyncMessage.{SyncMessage}
 use Rattle.device_objects.specs.Profile.{sync_identifier}
 use Rattle.co_scenario.specs.Commands.{command_of}
 use Rattle.co_scenario.specs.declared.nmt_command.NmtCommand.{NmtCommand}
@@ -36,8 +38,8 @@ use Rattle.device_laws.proofs.CaseLemmas.{one_of, picked, turned, walk_keeps}
 -- it holds whatever the values, the PDOs, the frames that wait and the transfer are, and is kept where the heartbeat
 -- starts at t, a consumer is forgotten, and consumers hear a node at t
 pub record IsKept (t : ℕ) (P : Device → Type 0) : Type 0 where
-  pub others : (d : Device) (values : Values) (rpdos : List RpdoState) (tpdos : List TpdoState) (synced : Bool)
-      (frames : List Waiting) (transfer : Transfer)
+  pub others : (d : Device) (values : Values) (rpdos : List RpdoState) (tpdos : List TpdoState)
+      (synced : Option SyncMessage) (frames : List Waiting) (transfer : Transfer)
       → P d → P (record d {
         values = values;
         rpdos = rpdos;
@@ -65,7 +67,7 @@ module _ (t : ℕ) (P : Device → Type 0) (k : IsKept t P) where
   with_frames : (d : Device) (frames : List Waiting) → P d → P (record d { waiting = frames })
   with_frames d frames h = k.others d d.values d.rpdos d.tpdos d.synced frames d.transfer h
 
-  with_sync : (d : Device) (synced : Bool) → P d → P (record d { synced = synced })
+  with_sync : (d : Device) (synced : Option SyncMessage) → P d → P (record d { synced = synced })
   with_sync d synced h = k.others d d.values d.rpdos d.tpdos synced d.waiting d.transfer h
 
   -- ---- writes
@@ -168,11 +170,12 @@ module _ (t : ℕ) (P : Device → Type 0) (k : IsKept t P) where
     unfolding after_sync_at
     synced_kept i d h = stored_kept (rpdo_at d.rpdos i).kept i d h
 
-    pub sync_kept : (d : Device) → P d → P (outcome (after_sync t d) image)
+    pub sync_kept : (bytes : List ℕ) (d : Device) → P d → P (outcome (after_sync t bytes d) image)
     unfolding after_sync
-    sync_kept d h =
+    sync_kept bytes d h =
         picked image P (is_in Operational d) _ _
-        (λ e. walk_keeps image P (after_sync_at t) synced_kept (rpdo_places d) _ (with_sync d true h)) (λ e. h)
+        (λ e. walk_keeps image P (after_sync_at t) synced_kept (rpdo_places d) _
+        (with_sync d (Some (sync_message bytes)) h)) (λ e. h)
 
     -- what the NMT services keep of a device with power, each frame does
     pub frame_kept : (frame : BaseFrame) (d : Device)
@@ -184,7 +187,7 @@ module _ (t : ℕ) (P : Device → Type 0) (k : IsKept t P) where
         (λ on. picked image P (frame.id == nmt_id) _ _
         (λ e. picked image P (is_addressed d.number frame.bytes) _ _
         (λ e. service (command_of (slice_index_or frame.bytes 0 0)) (turned d.has_power on)) (λ e. h))
-        (λ e. picked image P (frame.id == sync_identifier d.learnt d.values) _ _ (λ e. sync_kept d h)
+        (λ e. picked image P (frame.id == sync_identifier d.learnt d.values) _ _ (λ e. sync_kept frame.bytes d h)
         (λ e. picked image P ((frame.id == sdo_request_id d.number)
         && (length frame.bytes == 8)) _ _ (λ e. request_kept frame.bytes d h)
         (λ e. picked image P (is_error_control frame) _ _ (λ e. control_kept (frame.id - error_control_id 0) d h)

@@ -7,6 +7,7 @@ pub mod PartLemmas
 pub mod ResetLemmas
 pub mod RestLemmas
 pub mod StateLemmas
+pub mod SyncLemmas
 pub mod DeafLemmas
 pub mod AppliedLemmas
 pub mod FailureLemmas

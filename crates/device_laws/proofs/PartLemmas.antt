@@ -12,6 +12,7 @@ use Rattle.co_parts.specs.declared.part.Part.{Part}
 use Rattle.co_parts.specs.declared.part.Part.TheVariants.{Defaults, Shape}
 use Rattle.co_pdos.specs.declared.receipt.Receipt.{Receipt}
 use Rattle.co_pdos.specs.declared.receipt.Receipt.TheVariants.{Short, Kept, AtOnce, Ignored}
+use Rattle.co_pdos.specs.Sync.{sync_message}
 use Rattle.device_objects.specs.Profile.{sync_identifier}
 use Rattle.co_scenario.specs.Commands.{command_of}
 use Rattle.co_scenario.specs.declared.nmt_command.NmtCommand.{NmtCommand}
@@ -127,12 +128,12 @@ module _ (image : Image) (t number : ℕ) where
   unfolding after_sync_at
   synced_reads i d is = stored_reads (rpdo_at d.rpdos i).kept i d is
 
-  sync_reads : (d : Device) → HasNumber number d → AreOwn (reads (after_sync t d) image)
+  sync_reads : (bytes : List ℕ) (d : Device) → HasNumber number d → AreOwn (reads (after_sync t bytes d) image)
   unfolding after_sync
-  sync_reads d is =
+  sync_reads bytes d is =
       picked image AreOwn (is_in Operational d) _ _
       (walk_reads (after_sync_at t) synced_reads (synced_kept t (HasNumber number) (number_kept t number) image)
-      (rpdo_places d) (record d { synced = true }) is) none_read
+      (rpdo_places d) (record d { synced = Some (sync_message bytes) }) is) none_read
 
   one_frame_reads : (frame : BaseFrame) (d : Device) → HasNumber number d → AreOwn (reads (after_frame t frame d) image)
   unfolding after_frame
@@ -141,7 +142,7 @@ module _ (image : Image) (t number : ℕ) where
       (picked image AreOwn (frame.id == nmt_id) _ _
       (picked image AreOwn (is_addressed d.number frame.bytes) _ _
       (service_reads (command_of (slice_index_or frame.bytes 0 0)) d is) none_read)
-      (picked image AreOwn (frame.id == sync_identifier d.learnt d.values) _ _ (sync_reads d is)
+      (picked image AreOwn (frame.id == sync_identifier d.learnt d.values) _ _ (sync_reads frame.bytes d is)
       (picked image AreOwn ((frame.id == sdo_request_id d.number)
       && (length frame.bytes == 8)) _ _ (request_reads frame.bytes d is)
       (picked image AreOwn (is_error_control frame) _ _ none_read (pdo_reads frame d is)))))

@@ -5,6 +5,7 @@ use Rattle.std.specs.Prelude.{if◌then◌else◌}
 use Rattle.std.specs.List.{AllByRecursion}
 use Rattle.can_frame.specs.declared.waiting.Waiting.{Waiting}
 use Rattle.co_base.specs.Moments.{moments_of}
+use Rattle.co_pdos.specs.declared.sync.SyncMessage.{SyncMessage}
 use Rattle.device_objects.specs.Consumers as consumers
 use Rattle.device_objects.specs.declared.consumer.Consumer.{Consumer}
 use Rattle.device_pdos.specs.Tpdos as tpdos
@@ -13,7 +14,7 @@ use Rattle.device_pdos.specs.declared.tpdo_state.TpdoState.{TpdoState}
 use Rattle.device_pdos.proofs.LaterLemmas.{all_freed_later, looked_later}
 use Rattle.device_pdos.proofs.LookLemmas.{all_both, all_parts, quiet_freed}
 use Rattle.device_pdos.proofs.RestLemmas.{none_wanted, nothing_sent, tpdos_rest}
-use Rattle.co_device.specs.Device.{Device, is_in, moments, after_instant, after_timers, after_tpdos}
+use Rattle.co_device.specs.Device.{Device, is_in, moments, after_instant, after_timers, after_tpdos, sync_seen}
 use Rattle.co_fields.specs.declared.nmt_state.NmtState.TheVariants.{Operational}
 use Rattle.device_laws.specs.Ahead.{AreAhead, IsAhead, NotBefore}
 use Rattle.device_laws.specs.Rest.{Rests}
@@ -64,7 +65,7 @@ looked_rests : (t : ℕ) (d : Device) → Rests (after_tpdos t d)
 unfolding after_tpdos
 looked_rests t d =
     either Rests (is_in Operational d) _ _
-    (λ e. record { unsynced = refl; unwanted = λ f. none_wanted t d.synced d.values d.tpdos })
+    (λ e. record { unsynced = refl; unwanted = λ f. none_wanted t (sync_seen d.learnt d.values d.synced) d.values d.tpdos })
     (λ e. record { unsynced = refl; unwanted = λ f. not_both (is_in Operational d) e f })
 
 pub ran_rests : (t : ℕ) (d : Device) → Rests (after_instant t d)
@@ -79,32 +80,32 @@ sent_moments frames d = refl
 
 -- ---- before it is due
 
-pub equal : (d : Device) (synced : Bool) (tpdos : List TpdoState) (frames : List Waiting) → synced ≡ d.synced
+pub equal : (d : Device) (synced : Option SyncMessage) (tpdos : List TpdoState) (frames : List Waiting) → synced ≡ d.synced
     → tpdos ≡ d.tpdos → frames ≡ d.waiting
     → record d { synced = synced; tpdos = tpdos; waiting = frames } ≡ d
 equal d synced tpdos frames s p f =
-    ap (λ (x : Bool). record d { synced = x; tpdos = tpdos; waiting = frames }) s
+    ap (λ (x : Option SyncMessage). record d { synced = x; tpdos = tpdos; waiting = frames }) s
     ∙ ap (λ (x : List TpdoState). record d { tpdos = x; waiting = frames }) p
     ∙ ap (λ (x : List Waiting). record d { waiting = x }) f
 
 module _ (u : ℕ) (d : Device) (rests : Rests d) where
   looked_quiet : is_in Operational d ≡ true → LieAfter u (tpdos.moments true d.tpdos)
       → record d {
-        synced = false;
-        tpdos = tpdos_after_turns u d.synced d.values d.tpdos;
-        waiting = with_tpdos u d.synced d.values d.tpdos d.waiting;
+        synced = None;
+        tpdos = tpdos_after_turns u (sync_seen d.learnt d.values d.synced) d.values d.tpdos;
+        waiting = with_tpdos u (sync_seen d.learnt d.values d.synced) d.values d.tpdos d.waiting;
       } ≡ d
   looked_quiet e h =
       let unwanted = rests.unwanted e in
-      equal d false _ _ (sym rests.unsynced)
-      (ap (λ (x : Bool). tpdos_after_turns u x d.values d.tpdos) rests.unsynced
+      equal d None _ _ (sym rests.unsynced)
+      (ap (λ x. tpdos_after_turns u (sync_seen d.learnt d.values x) d.values d.tpdos) rests.unsynced
       ∙ tpdos_rest u d.values d.tpdos unwanted h)
-      (ap (λ (x : Bool). with_tpdos u x d.values d.tpdos d.waiting) rests.unsynced
+      (ap (λ x. with_tpdos u (sync_seen d.learnt d.values x) d.values d.tpdos d.waiting) rests.unsynced
       ∙ nothing_sent u d.values d.tpdos d.waiting unwanted h)
 
   freed_quiet : LieAfter u (tpdos.moments false d.tpdos)
-      → record d { synced = false; tpdos = tpdos_after_inhibit u d.tpdos } ≡ d
-  freed_quiet h = equal d false (tpdos_after_inhibit u d.tpdos) d.waiting (sym rests.unsynced)
+      → record d { synced = None; tpdos = tpdos_after_inhibit u d.tpdos } ≡ d
+  freed_quiet h = equal d None (tpdos_after_inhibit u d.tpdos) d.waiting (sym rests.unsynced)
       (quiet_freed u d.tpdos h) refl
 
   tpdos_quiet : LieAfter u (tpdos.moments (is_in Operational d) d.tpdos) → after_tpdos u d ≡ d
@@ -113,11 +114,11 @@ module _ (u : ℕ) (d : Device) (rests : Rests d) where
     where
       by : (test : Bool) → is_in Operational d ≡ test → LieAfter u (tpdos.moments test d.tpdos)
           → (if test then record d {
-            synced = false;
-            tpdos = tpdos_after_turns u d.synced d.values d.tpdos;
-            waiting = with_tpdos u d.synced d.values d.tpdos d.waiting;
+            synced = None;
+            tpdos = tpdos_after_turns u (sync_seen d.learnt d.values d.synced) d.values d.tpdos;
+            waiting = with_tpdos u (sync_seen d.learnt d.values d.synced) d.values d.tpdos d.waiting;
           }
-          else record d { synced = false; tpdos = tpdos_after_inhibit u d.tpdos }) ≡ d
+          else record d { synced = None; tpdos = tpdos_after_inhibit u d.tpdos }) ≡ d
       by true e k = looked_quiet e k
       by false e k = freed_quiet k
 
@@ -141,8 +142,8 @@ looked_after : (t : ℕ) (d : Device) → IsAhead (t + 1) d → LieAfter t (mome
 unfolding after_tpdos
 looked_after t d h =
     either (λ e. LieAfter t (moments e)) (is_in Operational d) _ _
-    (λ e. all_after t d true (tpdos_after_turns t d.synced d.values d.tpdos) e h
-    (looked_later t d.synced d.values d.tpdos))
+    (λ e. all_after t d true (tpdos_after_turns t (sync_seen d.learnt d.values d.synced) d.values d.tpdos) e h
+    (looked_later t (sync_seen d.learnt d.values d.synced) d.values d.tpdos))
     (λ e. all_after t d false (tpdos_after_inhibit t d.tpdos) e h (all_freed_later t d.tpdos))
 
 pub ran_after : (t : ℕ) (d : Device) → IsAhead t d → LieAfter t (moments (after_instant t d))

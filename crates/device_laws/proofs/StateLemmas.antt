@@ -205,13 +205,15 @@ control_silent t producer d h =
     (told_silent 0x0000 (without_error_if true after) (cleared_silent true after now)) now
 
 module _ (image : Image) (t : ℕ) where
-  pub sync_ignored : (d : Device) → is_in Operational d ≡ false → outcome (after_sync t d) image ≡ d
+  pub sync_ignored : (bytes : List ℕ) (d : Device) → is_in Operational d ≡ false
+      → outcome (after_sync t bytes d) image ≡ d
   unfolding after_sync
-  sync_ignored d e = rw e refl
+  sync_ignored bytes d e = rw e refl
 
-  pub sync_unread : (d : Device) → is_in Operational d ≡ false → reads (after_sync t d) image ≡ []
+  pub sync_unread : (bytes : List ℕ) (d : Device) → is_in Operational d ≡ false
+      → reads (after_sync t bytes d) image ≡ []
   unfolding after_sync
-  sync_unread d e = rw e refl
+  sync_unread bytes d e = rw e refl
 
   pub pdo_ignored : (frame : BaseFrame) (d : Device) → is_in Operational d ≡ false
       → outcome (after_pdo t frame d) image ≡ d
@@ -244,9 +246,9 @@ module _ (image : Image) (t : ℕ) where
   silent_by d e true s same state h = rw (same s) h
   silent_by d e false s same state h = elsewhere d e state s
 
-  sync_silent : (d : Device) → IsSilent d → IsSilent (outcome (after_sync t d) image)
-  sync_silent d h = silent_by d _ (is_in Stopped d) refl (λ s. sync_ignored d (not_operational d.state s))
-      (sync_kept t (InState d.state) (state_kept t d.state) image d refl) h
+  sync_silent : (bytes : List ℕ) (d : Device) → IsSilent d → IsSilent (outcome (after_sync t bytes d) image)
+  sync_silent bytes d h = silent_by d _ (is_in Stopped d) refl (λ s. sync_ignored bytes d (not_operational d.state s))
+      (sync_kept t (InState d.state) (state_kept t d.state) image bytes d refl) h
 
   pdo_silent : (frame : BaseFrame) (d : Device) → IsSilent d → IsSilent (outcome (after_pdo t frame d) image)
   pdo_silent frame d h = silent_by d _ (is_in Stopped d) refl (λ s. pdo_ignored frame d (not_operational d.state s))
@@ -275,7 +277,7 @@ module _ (image : Image) (t : ℕ) where
       (λ e. picked image P (frame.id == nmt_id) _ _
       (λ e. picked image P (is_addressed d.number frame.bytes) _ _
       (λ e. service_silent (command_of (slice_index_or frame.bytes 0 0)) d h) (λ e. h))
-      (λ e. picked image P (frame.id == sync_identifier d.learnt d.values) _ _ (λ e. sync_silent d h)
+      (λ e. picked image P (frame.id == sync_identifier d.learnt d.values) _ _ (λ e. sync_silent frame.bytes d h)
       (λ e. picked image P ((frame.id == sdo_request_id d.number)
       && (length frame.bytes == 8)) _ _ (λ e. request_silent frame.bytes d h)
       (λ e. picked image P (is_error_control frame) _ _ (λ e. control_silent t (frame.id - error_control_id 0) d h)
@@ -414,9 +416,9 @@ a_failure_leaves_operational t d some =
     (λ e. either (λ e. is_in Operational e ≡ false) (is_in Operational told) _ told (λ b. refl) (λ b. b))
     (λ e. not_both _ e some)
 
-pub no_sync_is_left : (t : ℕ) (d : Device) → (after_instant t d).synced ≡ false
+pub no_sync_is_left : (t : ℕ) (d : Device) → (after_instant t d).synced ≡ None
 unfolding after_instant after_tpdos
-no_sync_is_left t d = one_of (λ e. e.synced ≡ false) (is_in Operational (after_timers t d)) _ _ refl refl
+no_sync_is_left t d = one_of (λ e. e.synced ≡ None) (is_in Operational (after_timers t d)) _ _ refl refl
 
 -- ---- what an RPDO reads
 

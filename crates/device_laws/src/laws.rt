@@ -11,6 +11,7 @@ ghost use Rattle.can_frame.specs.declared.waiting.Waiting.{Waiting};
 ghost use Rattle.co_base.specs.Ranges.{is_between};
 ghost use Rattle.co_dict.specs.Places.{place_cmp};
 ghost use Rattle.co_parts.specs.Contents.{Image, shape_of, values_of};
+ghost use Rattle.co_pdos.specs.Sync.{sync_message};
 ghost use Rattle.device_objects.specs.Consumers.{failures_at};
 ghost use Rattle.device_objects.specs.Profile.{with_error_bits, next_heartbeat};
 ghost use Rattle.co_sdo.specs.Frames.{command};
@@ -225,20 +226,28 @@ pub fn who_leaves_operational_has_no_pdo()
 /// Outside Operational a SYNC and the frame of a PDO change nothing, and nothing is read for them.
 #[tactic(auto, using(crate::proofs::StateLemmas::sync_ignored, crate::proofs::StateLemmas::sync_unread, crate::proofs::StateLemmas::pdo_ignored, crate::proofs::StateLemmas::pdo_unread))]
 pub fn pdos_work_in_operational_alone()
-    ensures sync { (image : Image) (t : ℕ) (d : Device) → is_in NmtState.Operational d ≡ false
-        → outcome (after_sync t d) image ≡ d }
-    ensures sync_unread { (image : Image) (t : ℕ) (d : Device) → is_in NmtState.Operational d ≡ false
-        → reads (after_sync t d) image ≡ [] }
+    ensures sync { (image : Image) (t : ℕ) (bytes : List ℕ) (d : Device) → is_in NmtState.Operational d ≡ false
+        → outcome (after_sync t bytes d) image ≡ d }
+    ensures sync_unread { (image : Image) (t : ℕ) (bytes : List ℕ) (d : Device) → is_in NmtState.Operational d ≡ false
+        → reads (after_sync t bytes d) image ≡ [] }
     ensures pdo { (image : Image) (t : ℕ) (frame : BaseFrame) (d : Device) → is_in NmtState.Operational d ≡ false
         → outcome (after_pdo t frame d) image ≡ d }
     ensures pdo_unread { (image : Image) (t : ℕ) (frame : BaseFrame) (d : Device) → is_in NmtState.Operational d ≡ false
         → reads (after_pdo t frame d) image ≡ [] }
 {}
 
+/// Of a SYNC that comes in Operational the TPDOs find the counter that its bytes have, later in the instant: what
+/// the frames that RPDOs keep bring about at it changes nothing of that.
+#[tactic(auto, using(crate::proofs::SyncLemmas::a_sync_is_kept))]
+pub fn the_tpdos_find_the_counter_of_a_sync()
+    ensures { (image : Image) (t : ℕ) (bytes : List ℕ) (d : Device) → is_in NmtState.Operational d ≡ true
+        → (outcome (after_sync t bytes d) image).synced ≡ Some (sync_message bytes) }
+{}
+
 /// A SYNC stands for its own instant alone.
 #[tactic(auto, using(crate::proofs::StateLemmas::no_sync_is_left))]
 pub fn a_sync_ends_with_its_instant()
-    ensures { (t : ℕ) (d : Device) → (after_instant t d).synced ≡ false }
+    ensures { (t : ℕ) (d : Device) → (after_instant t d).synced ≡ None }
 {}
 
 /// A consumer that fails takes the device out of Operational. In Stopped it has no emergency object

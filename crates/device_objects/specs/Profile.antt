@@ -1,5 +1,5 @@
 -- The objects of the communication profile area that a device goes by (CiA 301): 1001h error register, 1005h COB-ID
--- SYNC, 1017h producer heartbeat time.
+-- SYNC, 1017h producer heartbeat time, 1019h synchronous counter overflow value.
 use Rattle.std.specs.Prelude.{ℕ, ◌*◌, ◌/◌, ◌%◌, ◌-◌, bit_and, bit_or, [], ◌∷◌, Option, if◌then◌else◌}
 use Rattle.std.specs.FinMap.{insert}
 use Rattle.can_frame.specs.Frames.{BaseFrame}
@@ -17,6 +17,7 @@ learnt_of shape = record {
   has_error_register = has_type is_unsigned8 shape (0x1001, 0);
   has_sync_cob_id = has_type is_unsigned32 shape (0x1005, 0);
   has_producer_time = has_type is_unsigned16 shape (0x1017, 0);
+  has_counter_overflow = has_type is_unsigned8 shape (0x1019, 0);
 }
 
 -- ---- object 1005h: COB-ID SYNC
@@ -25,6 +26,12 @@ learnt_of shape = record {
 unfoldable pub sync_identifier : Learnt → Values → ℕ
 sync_identifier learnt values =
     if learnt.has_sync_cob_id then identifier_in (number_at 4 values (0x1005, 0)) else sync_id
+
+-- ---- object 1019h: synchronous counter overflow value
+
+-- 0 is none: the device doesn't count SYNCs
+unfoldable pub counter_overflow : Learnt → Values → ℕ
+counter_overflow learnt values = if learnt.has_counter_overflow then number_at 1 values (0x1019, 0) else 0
 
 -- ---- object 1017h: producer heartbeat time
 

@@ -15,17 +15,25 @@ pub struct Learnt {
     pub has_sync_cob_id: bool,
     /// The producer heartbeat time, 1017h:00, as UNSIGNED16.
     pub has_producer_time: bool,
+    /// The synchronous counter overflow value, 1019h:00, as UNSIGNED8.
+    pub has_counter_overflow: bool,
 }
 
 impl Learnt {
     /// What a device without entries learns.
     pub fn nothing() -> Learnt
-        ensures { result ≡ record { has_error_register = false; has_sync_cob_id = false; has_producer_time = false } }
+        ensures { result ≡ record {
+          has_error_register = false;
+          has_sync_cob_id = false;
+          has_producer_time = false;
+          has_counter_overflow = false;
+        } }
     {
         Learnt {
             has_error_register: false,
             has_sync_cob_id: false,
             has_producer_time: false,
+            has_counter_overflow: false,
         }
     }
 
@@ -38,8 +46,10 @@ impl Learnt {
             has_error_register: shape.has_unsigned8(0x1001, 0),
             has_sync_cob_id: shape.has_unsigned32(0x1005, 0),
             has_producer_time: shape.has_unsigned16(0x1017, 0),
+            has_counter_overflow: shape.has_unsigned8(0x1019, 0),
         }
     }
+
     /// Whether the other one is the same.
     pub fn same(&self, other: &Learnt) -> bool
         ensures { IsTrue result ↔ (self.now ≡ other.now) }

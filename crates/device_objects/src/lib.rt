@@ -1,5 +1,6 @@
 //! The objects of the communication profile area that a device goes by (CiA 301): error register, COB-ID
-//! SYNC, consumer and producer heartbeat time; and the values and entries that it asks for.
+//! SYNC, synchronous counter overflow value, consumer and producer heartbeat time; and the values and
+//! entries that it asks for.
 #![tactic(auto)]
 
 mod consumer;
@@ -21,5 +22,7 @@ pub use defaults::{communication_restored, values_of};
 pub use emergencies::emergency_frame;
 pub use learnt::Learnt;
 pub use messages::{command, is_addressed, producer_of};
-pub use profile::{clear_error, error_register, next_heartbeat, set_error, sync_identifier};
+pub use profile::{
+    clear_error, counter_overflow, error_register, next_heartbeat, set_error, sync_identifier,
+};
 pub use shapes::{Shapes, shape_or, without_entries};

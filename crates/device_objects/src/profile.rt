@@ -1,8 +1,9 @@
-//! The error register, the identifier of SYNC messages, and the producer heartbeat time.
+//! The error register, the identifier and the counter of SYNC messages, and the producer heartbeat time.
 
 ghost use Rattle.std.specs.Prelude.{◌≡◌, ◌<◌, OnErr, OnOk};
 ghost use Rattle.device_objects.specs.Profile.{without_error_bits, error_register as register_of, with_error_bits};
 ghost use Rattle.device_objects.specs.Profile.{next_heartbeat as next_of, producer_heartbeat_time};
+ghost use Rattle.device_objects.specs.Profile.{counter_overflow as overflow_of};
 ghost use Rattle.device_objects.specs.Profile.{sync_identifier as identifier_of_sync, with_register};
 
 use crate::learnt::Learnt;
@@ -22,6 +23,9 @@ const SYNC_COB_ID: u16 = 0x1005;
 /// The index of the producer heartbeat time, which has sub-index 0.
 const PRODUCER_HEARTBEAT_TIME: u16 = 0x1017;
 
+/// The index of the synchronous counter overflow value, which has sub-index 0.
+const SYNC_COUNTER_OVERFLOW: u16 = 0x1019;
+
 /// Bit 0 of the error register, generic error, and bit 4, communication error.
 const ERROR_BITS: u8 = 0x11;
 
@@ -37,6 +41,19 @@ pub fn sync_identifier(learnt: Learnt, values: &Dict) -> u16
             .number()
     } else {
         identifiers::sync()
+    }
+}
+
+/// The synchronous counter overflow value (CiA 301); 0, also where the device has none, is that it counts no
+/// SYNCs.
+#[tactic(auto, unfolding(crate::specs::Profile::counter_overflow))]
+pub fn counter_overflow(learnt: Learnt, values: &Dict) -> u8
+    ensures { result ≡ overflow_of learnt values.now }
+{
+    if learnt.has_counter_overflow {
+        values.number_8(SYNC_COUNTER_OVERFLOW, 0)
+    } else {
+        0
     }
 }
 

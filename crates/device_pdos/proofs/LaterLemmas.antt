@@ -1,7 +1,7 @@
 -- After a look at the TPDOs every moment of theirs lies later.
 use Rattle.std.proofs.Common.{◌≡◌, ℕ, zero, suc, ◌+◌, ◌==◌, ◌<◌, Bool, true, false, List, [], ◌∷◌, Option, Some, None}
 use Rattle.std.proofs.Common.{refl, ap, arith}
-use Rattle.std.specs.Prelude.{if◌then◌else◌, nat_le, not, ◌&&◌, ◌||◌}
+use Rattle.std.specs.Prelude.{if◌then◌else◌, is_some, nat_le, not, ◌&&◌, ◌||◌}
 use Rattle.std.specs.List.{AllByRecursion}
 use Rattle.std.specs.Option.{option_map_or}
 use Rattle.std.proofs.lemmas.Bool.Decides.{nat_tests}
@@ -9,12 +9,14 @@ use Rattle.co_dict.specs.Values.{Values}
 use Rattle.co_base.specs.Moments.{moments_of, has_come, is_ahead, moment_after}
 use Rattle.co_pdos.specs.declared.communication.Communication.{Communication}
 use Rattle.co_pdos.specs.declared.configuration.Configuration.{Configuration}
+use Rattle.co_pdos.specs.declared.sync_seen.SyncSeen.{SyncSeen}
 use Rattle.co_fields.specs.declared.transmission_type.TransmissionType.{TransmissionType}
 use Rattle.co_fields.specs.declared.transmission_type.TransmissionType.TheVariants.{Acyclic, Cyclic, EventDriven}
 use Rattle.co_fields.specs.declared.transmission_type.TransmissionType.TheVariants.{Reserved, OnRequest}
-use Rattle.co_pdos.specs.Tpdo.{Remembered, acyclic_turn, cyclic_turn, differs, event_moment, event_turn}
-use Rattle.co_pdos.specs.Tpdo.{without_past_inhibit, later, turn_with_frame, turn_by_type}
-use Rattle.co_pdos.specs.Tpdo.{turn_without_frame}
+use Rattle.co_pdos.specs.Sync.{has_counter}
+use Rattle.co_pdos.specs.Tpdo.{Remembered, acyclic_turn, awaits_start, counted_turn, cyclic_turn, differs}
+use Rattle.co_pdos.specs.Tpdo.{event_moment, event_turn, just_started, without_past_inhibit, later, synced_turn}
+use Rattle.co_pdos.specs.Tpdo.{turn_with_frame, turn_by_type, turn_without_frame}
 use Rattle.co_fields.specs.TransmissionTypes.{is_event_driven}
 use Rattle.co_pdos.proofs.TpdoLemmas.{event_sent, event_unsent, is_wanted_at}
 use Rattle.device_pdos.specs.Tpdos.{bytes_now, due_of, tpdo_after_inhibit, tpdo_after_turn, moments, tpdo_moment}
@@ -53,17 +55,34 @@ inhibit_of : (test : Bool) (bytes : List ℕ) (r s : Remembered) → r.inhibit �
 inhibit_of true bytes r s e = e
 inhibit_of false bytes r s e = refl
 
-acyclic_inhibit : (at_sync : Bool) (bytes : List ℕ) (r : Remembered)
-    → (acyclic_turn at_sync bytes r).remembered.inhibit ≡ r.inhibit
+acyclic_inhibit : (seen : Option SyncSeen) (bytes : List ℕ) (r : Remembered)
+    → (acyclic_turn seen bytes r).remembered.inhibit ≡ r.inhibit
 unfolding acyclic_turn
-acyclic_inhibit at_sync bytes r = inhibit_of (at_sync && differs bytes r) bytes r r refl
+acyclic_inhibit seen bytes r = inhibit_of (is_some seen && differs bytes r) bytes r r refl
 
-cyclic_inhibit : (n : ℕ) (at_sync : Bool) (bytes : List ℕ) (r : Remembered)
-    → (cyclic_turn n at_sync bytes r).remembered.inhibit ≡ r.inhibit
-unfolding cyclic_turn
-cyclic_inhibit n false bytes r = refl
-cyclic_inhibit n true bytes r = inhibit_of (nat_le n (r.syncs + 1)) bytes (record r { syncs = 0 })
+counted_inhibit : (n : ℕ) (bytes : List ℕ) (r : Remembered)
+    → (counted_turn n bytes r).remembered.inhibit ≡ r.inhibit
+unfolding counted_turn
+counted_inhibit n bytes r = inhibit_of (nat_le n (r.syncs + 1)) bytes (record r { syncs = 0 })
     (record r { syncs = r.syncs + 1 }) refl
+
+synced_inhibit : (n start : ℕ) (seen : SyncSeen) (bytes : List ℕ) (r : Remembered)
+    → (synced_turn n start seen bytes r).remembered.inhibit ≡ r.inhibit
+unfolding synced_turn
+synced_inhibit n start seen bytes r = by (not (awaits_start start seen r)) (has_counter start seen)
+  where
+    by : (goes has : Bool)
+        → (if goes then counted_turn n bytes r
+        else if has then counted_turn n bytes (just_started r) else turn_without_frame r).remembered.inhibit ≡ r.inhibit
+    by true has = counted_inhibit n bytes r
+    by false true = counted_inhibit n bytes (just_started r)
+    by false false = refl
+
+cyclic_inhibit : (n start : ℕ) (seen : Option SyncSeen) (bytes : List ℕ) (r : Remembered)
+    → (cyclic_turn n start seen bytes r).remembered.inhibit ≡ r.inhibit
+unfolding cyclic_turn
+cyclic_inhibit n start None bytes r = refl
+cyclic_inhibit n start (Some seen) bytes r = synced_inhibit n start seen bytes r
 
 -- ---- the event-driven type
 
@@ -118,45 +137,46 @@ event_later c t bytes r h = by (is_wanted_at t bytes r) refl
 
 -- ---- whatever the type
 
-later_by_type : (transmission : Option TransmissionType) (c : Communication) (at_sync : Bool) (t : ℕ) (bytes : List ℕ)
+later_by_type : (transmission : Option TransmissionType) (c : Communication) (seen : Option SyncSeen) (t : ℕ) (bytes : List ℕ)
     (r : Remembered) → IsLater t r.inhibit
     → Ahead t (option_map_or is_event_driven transmission false)
-    (turn_by_type transmission c at_sync t bytes r).remembered
+    (turn_by_type transmission c seen t bytes r).remembered
 unfolding turn_by_type
-later_by_type transmission c at_sync t bytes r h = by transmission
+later_by_type transmission c seen t bytes r h = by transmission
   where
     still : (s : Remembered) → s.inhibit ≡ r.inhibit → Ahead t false s
     still s e = inhibit_alone t s.inhibit s.event (rw e h)
 
     by : (transmission : Option TransmissionType)
         → Ahead t (option_map_or is_event_driven transmission false)
-        (turn_by_type transmission c at_sync t bytes r).remembered
+        (turn_by_type transmission c seen t bytes r).remembered
     by None = still r refl
-    by (Some Acyclic) = still (acyclic_turn at_sync bytes r).remembered (acyclic_inhibit at_sync bytes r)
-    by (Some (Cyclic n)) = still (cyclic_turn n at_sync bytes r).remembered (cyclic_inhibit n at_sync bytes r)
+    by (Some Acyclic) = still (acyclic_turn seen bytes r).remembered (acyclic_inhibit seen bytes r)
+    by (Some (Cyclic n)) = still (cyclic_turn n c.sync_start seen bytes r).remembered
+        (cyclic_inhibit n c.sync_start seen bytes r)
     by (Some Reserved) = still r refl
     by (Some OnRequest) = still r refl
     by (Some EventDriven) = event_later c t bytes r h
 
 -- ---- one TPDO, and all of a device
 
-later_by : (configuration : Option Configuration) (t : ℕ) (at_sync : Bool) (values : Values) (r : Remembered)
-    → Ahead t (waits_for_event configuration) (turn configuration t at_sync values r).0
+later_by : (configuration : Option Configuration) (t : ℕ) (seen : Option SyncSeen) (values : Values) (r : Remembered)
+    → Ahead t (waits_for_event configuration) (turn configuration t seen values r).0
 unfolding turn
-later_by None t at_sync values r = inhibit_alone t (without_past_inhibit t r).inhibit (without_past_inhibit t r).event
+later_by None t seen values r = inhibit_alone t (without_past_inhibit t r).inhibit (without_past_inhibit t r).event
     (freed_later t r)
-later_by (Some c) t at_sync values r =
-    later_by_type c.communication.transmission_type c.communication at_sync t (bytes_now values c)
+later_by (Some c) t seen values r =
+    later_by_type c.communication.transmission_type c.communication seen t (bytes_now values c)
     (without_past_inhibit t r) (freed_later t r)
 
-pub looked_later : (t : ℕ) (at_sync : Bool) (values : Values) (tpdos : List TpdoState)
-    → AllByRecursion (λ m. t < m) (moments true (tpdos_after_turns t at_sync values tpdos))
+pub looked_later : (t : ℕ) (seen : Option SyncSeen) (values : Values) (tpdos : List TpdoState)
+    → AllByRecursion (λ m. t < m) (moments true (tpdos_after_turns t seen values tpdos))
 unfolding tpdos_after_turns
-looked_later t at_sync values [] = tt
-looked_later t at_sync values (p ∷ tpdos) =
-    all_both (λ m. t < m) (moments_of (tpdo_moment true (tpdo_after_turn t at_sync values p)))
-    (moments true (tpdos_after_turns t at_sync values tpdos))
-    (later_by p.configuration t at_sync values p.remembered) (looked_later t at_sync values tpdos)
+looked_later t seen values [] = tt
+looked_later t seen values (p ∷ tpdos) =
+    all_both (λ m. t < m) (moments_of (tpdo_moment true (tpdo_after_turn t seen values p)))
+    (moments true (tpdos_after_turns t seen values tpdos))
+    (later_by p.configuration t seen values p.remembered) (looked_later t seen values tpdos)
 
 pub all_freed_later : (t : ℕ) (tpdos : List TpdoState)
     → AllByRecursion (λ m. t < m) (moments false (tpdos_after_inhibit t tpdos))

@@ -9,6 +9,7 @@ use Rattle.co_dict.specs.Values.{Values}
 use Rattle.co_base.specs.Moments.{moments_of}
 use Rattle.co_pdos.specs.declared.communication.Communication.{Communication}
 use Rattle.co_pdos.specs.declared.configuration.Configuration.{Configuration}
+use Rattle.co_pdos.specs.declared.sync_seen.SyncSeen.{SyncSeen}
 use Rattle.co_fields.specs.declared.transmission_type.TransmissionType.{TransmissionType}
 use Rattle.co_fields.specs.declared.transmission_type.TransmissionType.TheVariants.{Acyclic, Cyclic, EventDriven}
 use Rattle.co_fields.specs.declared.transmission_type.TransmissionType.TheVariants.{Reserved, OnRequest}
@@ -28,8 +29,8 @@ told id bytes own = (own.remembered, frame_if own.is_sent id bytes)
 -- ---- one that isn't sent without a SYNC
 
 unsent_stays : (transmission : Option TransmissionType) (c : Communication) (t : ℕ) (bytes : List ℕ) (r : Remembered)
-    → (turn_by_type transmission c false t bytes r).is_sent ≡ false
-    → turn_by_type transmission c false t bytes r ≡ turn_without_frame r
+    → (turn_by_type transmission c None t bytes r).is_sent ≡ false
+    → turn_by_type transmission c None t bytes r ≡ turn_without_frame r
 unfolding turn_by_type acyclic_turn cyclic_turn
 unsent_stays None c t bytes r e = refl
 unsent_stays (Some Acyclic) c t bytes r e = refl
@@ -43,8 +44,8 @@ not_if true id bytes e = absurd cc
 not_if false id bytes e = refl
 
 by_configuration : (configuration : Option Configuration) (t : ℕ) (values : Values) (r : Remembered)
-    → (turn configuration t false values r).1 ≡ None
-    → (turn configuration t false values r).0 ≡ without_past_inhibit t r
+    → (turn configuration t None values r).1 ≡ None
+    → (turn configuration t None values r).0 ≡ without_past_inhibit t r
 unfolding turn
 by_configuration None t values r e = refl
 by_configuration (Some c) t values r e =
@@ -52,8 +53,8 @@ by_configuration (Some c) t values r e =
     (unsent_stays c.communication.transmission_type c.communication t (bytes_now values c)
     (without_past_inhibit t r) (not_if _ c.identifier (bytes_now values c) e))
 
-unsent_kept : (t : ℕ) (values : Values) (p : TpdoState) → frame_of_turn t false values p ≡ None
-    → tpdo_after_turn t false values p ≡ tpdo_after_inhibit t p
+unsent_kept : (t : ℕ) (values : Values) (p : TpdoState) → frame_of_turn t None values p ≡ None
+    → tpdo_after_turn t None values p ≡ tpdo_after_inhibit t p
 unsent_kept t values p e = ap (λ (r : Remembered). record p { remembered = r })
     (by_configuration p.configuration t values p.remembered e)
 
@@ -61,7 +62,7 @@ unsent_kept t values p e = ap (λ (r : Remembered). record p { remembered = r })
 
 silent : (transmission : Option TransmissionType) (c : Communication) (t : ℕ) (bytes : List ℕ) (r : Remembered)
     → option_map_or is_synchronous transmission false ≡ true
-    → turn_by_type transmission c false t bytes r ≡ turn_without_frame r
+    → turn_by_type transmission c None t bytes r ≡ turn_without_frame r
 unfolding turn_by_type acyclic_turn cyclic_turn
 silent None c t bytes r e = absurd cc
 silent (Some Acyclic) c t bytes r e = refl
@@ -71,7 +72,7 @@ silent (Some OnRequest) c t bytes r e = absurd cc
 silent (Some EventDriven) c t bytes r e = absurd cc
 
 without_sync : (configuration : Option Configuration) (t : ℕ) (values : Values) (r : Remembered)
-    → goes_by_sync configuration ≡ true → (turn configuration t false values r).1 ≡ None
+    → goes_by_sync configuration ≡ true → (turn configuration t None values r).1 ≡ None
 unfolding turn
 without_sync None t values r e = absurd cc
 without_sync (Some c) t values r e =
@@ -79,48 +80,48 @@ without_sync (Some c) t values r e =
     (silent c.communication.transmission_type c.communication t (bytes_now values c) (without_past_inhibit t r) e)
 
 module _ (t : ℕ) (values : Values) (p : TpdoState) (synchronous : goes_by_sync p.configuration ≡ true) where
-  pub unsent_without_sync : frame_of_turn t false values p ≡ None
+  pub unsent_without_sync : frame_of_turn t None values p ≡ None
   unsent_without_sync = without_sync p.configuration t values p.remembered synchronous
 
-  pub kept_without_sync : tpdo_after_turn t false values p ≡ tpdo_after_inhibit t p
+  pub kept_without_sync : tpdo_after_turn t None values p ≡ tpdo_after_inhibit t p
   kept_without_sync = unsent_kept t values p unsent_without_sync
 
 -- ---- the inhibit moment
 
-held_type : (transmission : Option TransmissionType) (c : Communication) (at_sync : Bool) (t m : ℕ) (bytes : List ℕ)
+held_type : (transmission : Option TransmissionType) (c : Communication) (seen : Option SyncSeen) (t m : ℕ) (bytes : List ℕ)
     (r : Remembered)
     → option_map_or is_event_driven transmission false ≡ true → r.inhibit ≡ Some m → t < m
-    → turn_by_type transmission c at_sync t bytes r ≡ turn_without_frame r
-held_type None c at_sync t m bytes r event e h = absurd cc
-held_type (Some Acyclic) c at_sync t m bytes r event e h = absurd cc
-held_type (Some (Cyclic n)) c at_sync t m bytes r event e h = absurd cc
-held_type (Some Reserved) c at_sync t m bytes r event e h = absurd cc
-held_type (Some OnRequest) c at_sync t m bytes r event e h = absurd cc
-held_type (Some EventDriven) c at_sync t m bytes r event e h = held_by_type c at_sync t m bytes r e h
+    → turn_by_type transmission c seen t bytes r ≡ turn_without_frame r
+held_type None c seen t m bytes r event e h = absurd cc
+held_type (Some Acyclic) c seen t m bytes r event e h = absurd cc
+held_type (Some (Cyclic n)) c seen t m bytes r event e h = absurd cc
+held_type (Some Reserved) c seen t m bytes r event e h = absurd cc
+held_type (Some OnRequest) c seen t m bytes r event e h = absurd cc
+held_type (Some EventDriven) c seen t m bytes r event e h = held_by_type c seen t m bytes r e h
 
-held_turn : (configuration : Option Configuration) (at_sync : Bool) (t m : ℕ) (values : Values) (r : Remembered)
+held_turn : (configuration : Option Configuration) (seen : Option SyncSeen) (t m : ℕ) (values : Values) (r : Remembered)
     → waits_for_event configuration ≡ true
-    → r.inhibit ≡ Some m → t < m → ◌≡◌ {A = Remembered × Option BaseFrame} (turn configuration t at_sync values r)
+    → r.inhibit ≡ Some m → t < m → ◌≡◌ {A = Remembered × Option BaseFrame} (turn configuration t seen values r)
     (r, None)
 unfolding turn
-held_turn None at_sync t m values r event e h = absurd cc
-held_turn (Some c) at_sync t m values r event e h =
+held_turn None seen t m values r event e h = absurd cc
+held_turn (Some c) seen t m values r event e h =
     let bytes : List ℕ = bytes_now values c in
     ap (λ (s : Remembered). told c.identifier bytes
-    (turn_by_type c.communication.transmission_type c.communication at_sync t bytes s)) (still_held t m r e h)
+    (turn_by_type c.communication.transmission_type c.communication seen t bytes s)) (still_held t m r e h)
     ∙ ap (told c.identifier bytes)
-    (held_type c.communication.transmission_type c.communication at_sync t m bytes r event e h)
+    (held_type c.communication.transmission_type c.communication seen t m bytes r event e h)
 
-module _ (t m : ℕ) (at_sync : Bool) (values : Values) (p : TpdoState) (event : waits_for_event p.configuration ≡ true)
+module _ (t m : ℕ) (seen : Option SyncSeen) (values : Values) (p : TpdoState) (event : waits_for_event p.configuration ≡ true)
     (held : p.remembered.inhibit ≡ Some m) (ahead : t < m) where
-  pub unsent_while_inhibited : frame_of_turn t at_sync values p ≡ None
+  pub unsent_while_inhibited : frame_of_turn t seen values p ≡ None
   unsent_while_inhibited = ap (λ (own : Remembered × Option BaseFrame). own.1)
-      (held_turn p.configuration at_sync t m values p.remembered event held ahead)
+      (held_turn p.configuration seen t m values p.remembered event held ahead)
 
-  pub kept_while_inhibited : tpdo_after_turn t at_sync values p ≡ p
+  pub kept_while_inhibited : tpdo_after_turn t seen values p ≡ p
   kept_while_inhibited =
       ap (λ (own : Remembered × Option BaseFrame). record p { remembered = own.0 })
-      (held_turn p.configuration at_sync t m values p.remembered event held ahead)
+      (held_turn p.configuration seen t m values p.remembered event held ahead)
 
 -- ---- between moments
 
@@ -151,18 +152,18 @@ held_ahead t counts r ahead = by r.inhibit refl ahead
     by (Some m) e h = still_held t m r e h.0
 
 pub quiet_tpdos : (t : ℕ) (values : Values) (tpdos : List TpdoState)
-    → AllByRecursion (λ p. frame_of_turn t false values p ≡ None) tpdos
+    → AllByRecursion (λ p. frame_of_turn t None values p ≡ None) tpdos
     → AllByRecursion (λ m. t < m) (moments true tpdos)
-    → tpdos_after_turns t false values tpdos ≡ tpdos
+    → tpdos_after_turns t None values tpdos ≡ tpdos
 unfolding tpdos_after_turns
 quiet_tpdos t values [] turn_without_frame ahead = refl
 quiet_tpdos t values (p ∷ tpdos) turn_without_frame ahead =
     let split = all_parts (λ m. t < m) (moments_of (tpdo_moment true p)) (moments true tpdos) ahead in
     let held = held_ahead t (waits_for_event p.configuration) p.remembered split.0 in
-    let one : tpdo_after_turn t false values p ≡ p = unsent_kept t values p turn_without_frame.0
+    let one : tpdo_after_turn t None values p ≡ p = unsent_kept t values p turn_without_frame.0
     ∙ ap (λ (r : Remembered). record p { remembered = r }) held in
     let others = quiet_tpdos t values tpdos turn_without_frame.1 split.1 in
-    ap (λ (q : TpdoState). q ∷ tpdos_after_turns t false values tpdos) one ∙ ap (λ ps. p ∷ ps) others
+    ap (λ (q : TpdoState). q ∷ tpdos_after_turns t None values tpdos) one ∙ ap (λ ps. p ∷ ps) others
 
 -- outside Operational
 pub quiet_freed : (t : ℕ) (tpdos : List TpdoState) → AllByRecursion (λ m. t < m) (moments false tpdos)
@@ -176,10 +177,10 @@ quiet_freed t (p ∷ tpdos) ahead =
     ap (λ (q : TpdoState). q ∷ tpdos_after_inhibit t tpdos) one ∙ ap (λ ps. p ∷ ps) (quiet_freed t tpdos split.1)
 
 pub quiet_waiting : (t : ℕ) (values : Values) (tpdos : List TpdoState) (frames : List Waiting)
-    → AllByRecursion (λ p. frame_of_turn t false values p ≡ None) tpdos
-    → with_tpdos t false values tpdos frames ≡ frames
+    → AllByRecursion (λ p. frame_of_turn t None values p ≡ None) tpdos
+    → with_tpdos t None values tpdos frames ≡ frames
 unfolding with_tpdos
 quiet_waiting t values [] frames turn_without_frame = refl
 quiet_waiting t values (p ∷ tpdos) frames turn_without_frame =
-    ap (λ frame. with_tpdos t false values tpdos (with_frame p.number frame frames)) turn_without_frame.0
+    ap (λ frame. with_tpdos t None values tpdos (with_frame p.number frame frames)) turn_without_frame.0
     ∙ quiet_waiting t values tpdos frames turn_without_frame.1

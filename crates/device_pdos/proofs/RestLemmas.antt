@@ -11,6 +11,7 @@ use Rattle.co_dict.specs.Values.{Values}
 use Rattle.co_base.specs.Moments.{moments_of, has_come, is_ahead}
 use Rattle.co_pdos.specs.declared.communication.Communication.{Communication}
 use Rattle.co_pdos.specs.declared.configuration.Configuration.{Configuration}
+use Rattle.co_pdos.specs.declared.sync_seen.SyncSeen.{SyncSeen}
 use Rattle.co_fields.specs.declared.transmission_type.TransmissionType.{TransmissionType}
 use Rattle.co_fields.specs.declared.transmission_type.TransmissionType.TheVariants.{Acyclic, Cyclic, EventDriven}
 use Rattle.co_fields.specs.declared.transmission_type.TransmissionType.TheVariants.{Reserved, OnRequest}
@@ -102,20 +103,20 @@ abbrev Idle : Option TransmissionType → List ℕ → Remembered → Type 0
 Idle transmission bytes r = (option_map_or is_event_driven transmission false && is_none r.inhibit && differs bytes r)
     ≡ false
 
-looked_idle : (transmission : Option TransmissionType) (c : Communication) (at_sync : Bool) (t : ℕ) (bytes : List ℕ)
+looked_idle : (transmission : Option TransmissionType) (c : Communication) (seen : Option SyncSeen) (t : ℕ) (bytes : List ℕ)
     (r : Remembered)
-    → Idle transmission bytes (turn_by_type transmission c at_sync t bytes r).remembered
+    → Idle transmission bytes (turn_by_type transmission c seen t bytes r).remembered
 unfolding turn_by_type
-looked_idle None c at_sync t bytes r = refl
-looked_idle (Some Acyclic) c at_sync t bytes r = refl
-looked_idle (Some (Cyclic n)) c at_sync t bytes r = refl
-looked_idle (Some Reserved) c at_sync t bytes r = refl
-looked_idle (Some OnRequest) c at_sync t bytes r = refl
-looked_idle (Some EventDriven) c at_sync t bytes r = event_unwanted c t bytes r
+looked_idle None c seen t bytes r = refl
+looked_idle (Some Acyclic) c seen t bytes r = refl
+looked_idle (Some (Cyclic n)) c seen t bytes r = refl
+looked_idle (Some Reserved) c seen t bytes r = refl
+looked_idle (Some OnRequest) c seen t bytes r = refl
+looked_idle (Some EventDriven) c seen t bytes r = event_unwanted c t bytes r
 
 idle_unsent : (transmission : Option TransmissionType) (c : Communication) (u : ℕ) (bytes : List ℕ) (r : Remembered)
     → Ahead u (option_map_or is_event_driven transmission false) r
-    → Idle transmission bytes r → (turn_by_type transmission c false u bytes r).is_sent ≡ false
+    → Idle transmission bytes r → (turn_by_type transmission c None u bytes r).is_sent ≡ false
 unfolding turn_by_type acyclic_turn cyclic_turn
 idle_unsent None c u bytes r ahead unwanted = refl
 idle_unsent (Some Acyclic) c u bytes r ahead unwanted = refl
@@ -127,37 +128,37 @@ idle_unsent (Some EventDriven) c u bytes r ahead unwanted = event_is_sent c u by
 
 -- ---- one TPDO, and all of a device
 
-looked_unwanted : (configuration : Option Configuration) (at_sync : Bool) (t : ℕ) (values : Values) (r : Remembered)
-    → is_wanted_by configuration values (turn configuration t at_sync values r).0 ≡ false
+looked_unwanted : (configuration : Option Configuration) (seen : Option SyncSeen) (t : ℕ) (values : Values) (r : Remembered)
+    → is_wanted_by configuration values (turn configuration t seen values r).0 ≡ false
 unfolding turn
-looked_unwanted None at_sync t values r = refl
-looked_unwanted (Some c) at_sync t values r =
-    looked_idle c.communication.transmission_type c.communication at_sync t (bytes_now values c)
+looked_unwanted None seen t values r = refl
+looked_unwanted (Some c) seen t values r =
+    looked_idle c.communication.transmission_type c.communication seen t (bytes_now values c)
     (without_past_inhibit t r)
 
 unsent_by : (configuration : Option Configuration) (u : ℕ) (values : Values) (r : Remembered)
     → Ahead u (waits_for_event configuration) r → is_wanted_by configuration values r ≡ false
-    → (turn configuration u false values r).1 ≡ None
+    → (turn configuration u None values r).1 ≡ None
 unfolding turn
 unsent_by None u values r ahead unwanted = refl
 unsent_by (Some c) u values r ahead unwanted =
     let bytes : List ℕ = bytes_now values c in
     let transmission : Option TransmissionType = c.communication.transmission_type in
-    ap (λ (s : Remembered). frame_if (turn_by_type transmission c.communication false u bytes s).is_sent c.identifier
+    ap (λ (s : Remembered). frame_if (turn_by_type transmission c.communication None u bytes s).is_sent c.identifier
     bytes) (held_ahead u (waits_for_event (Some c)) r ahead)
     ∙ ap (λ test. frame_if test c.identifier bytes) (idle_unsent transmission c.communication u bytes r ahead unwanted)
 
-pub none_wanted : (t : ℕ) (at_sync : Bool) (values : Values) (tpdos : List TpdoState)
-    → AllByRecursion (λ p. is_wanted values p ≡ false) (tpdos_after_turns t at_sync values tpdos)
+pub none_wanted : (t : ℕ) (seen : Option SyncSeen) (values : Values) (tpdos : List TpdoState)
+    → AllByRecursion (λ p. is_wanted values p ≡ false) (tpdos_after_turns t seen values tpdos)
 unfolding tpdos_after_turns is_wanted
-none_wanted t at_sync values [] = tt
-none_wanted t at_sync values (p ∷ tpdos) =
-    (looked_unwanted p.configuration at_sync t values p.remembered, none_wanted t at_sync values tpdos)
+none_wanted t seen values [] = tt
+none_wanted t seen values (p ∷ tpdos) =
+    (looked_unwanted p.configuration seen t values p.remembered, none_wanted t seen values tpdos)
 
 module _ (u : ℕ) (values : Values) where
   pub none_sent : (tpdos : List TpdoState) → AllByRecursion (λ p. is_wanted values p ≡ false) tpdos
       → AllByRecursion (λ m. u < m) (moments true tpdos)
-      → AllByRecursion (λ p. frame_of_turn u false values p ≡ None) tpdos
+      → AllByRecursion (λ p. frame_of_turn u None values p ≡ None) tpdos
   unfolding is_wanted
   none_sent [] unwanted ahead = tt
   none_sent (p ∷ tpdos) unwanted ahead =
@@ -166,12 +167,12 @@ module _ (u : ℕ) (values : Values) where
 
   pub tpdos_rest : (tpdos : List TpdoState) → AllByRecursion (λ p. is_wanted values p ≡ false) tpdos
       → AllByRecursion (λ m. u < m) (moments true tpdos)
-      → tpdos_after_turns u false values tpdos ≡ tpdos
+      → tpdos_after_turns u None values tpdos ≡ tpdos
   tpdos_rest tpdos unwanted ahead = quiet_tpdos u values tpdos (none_sent tpdos unwanted ahead) ahead
 
   pub nothing_sent : (tpdos : List TpdoState) (frames : List Waiting)
       → AllByRecursion (λ p. is_wanted values p ≡ false) tpdos → AllByRecursion (λ m. u < m) (moments true tpdos)
-      → with_tpdos u false values tpdos frames ≡ frames
+      → with_tpdos u None values tpdos frames ≡ frames
   nothing_sent tpdos frames unwanted ahead = quiet_waiting u values tpdos frames (none_sent tpdos unwanted ahead)
 
 pub ruleset rests = (none_wanted, none_sent, tpdos_rest, nothing_sent)

@@ -16,6 +16,7 @@ use Rattle.co_fields.specs.TransmissionTypes.{is_event_driven, is_synchronous}
 use Rattle.co_pdos.specs.Working.{tpdo_object}
 use Rattle.co_pdos.specs.declared.communication.Communication.{Communication}
 use Rattle.co_pdos.specs.declared.configuration.Configuration.{Configuration}
+use Rattle.co_pdos.specs.declared.sync_seen.SyncSeen.{SyncSeen}
 use Rattle.co_fields.specs.declared.transmission_type.TransmissionType.{TransmissionType}
 use Rattle.device_pdos.specs.Objects.{number_of_object, numbers_of}
 use Rattle.device_pdos.specs.declared.tpdo_state.TpdoState.{TpdoState}
@@ -65,21 +66,21 @@ tpdos_after_inhibit t tpdos = map (tpdo_after_inhibit t) tpdos
 abbrev pub frame_if : Bool → ℕ → List ℕ → Option BaseFrame
 frame_if is_sent id bytes = if is_sent then Some (record { id = id; bytes = bytes }) else None
 
--- THE TURN OF A TPDO at the moment t, at a SYNC or not, by what it goes by: what it remembers then, and its frame if it
+-- THE TURN OF A TPDO at the moment t, at a SYNC or at none, by what it goes by: what it remembers then, and its frame if it
 -- is sent
-unfoldable pub turn : Option Configuration → ℕ → Bool → Values → Remembered → Remembered × Option BaseFrame
-turn None t at_sync values r = (without_past_inhibit t r, None)
-turn (Some c) t at_sync values r =
+unfoldable pub turn : Option Configuration → ℕ → Option SyncSeen → Values → Remembered → Remembered × Option BaseFrame
+turn None t seen values r = (without_past_inhibit t r, None)
+turn (Some c) t seen values r =
     let bytes : List ℕ = bytes_now values c in
     let by : Communication = c.communication in
-    let own : Turn = turn_by_type by.transmission_type by at_sync t bytes (without_past_inhibit t r) in
+    let own : Turn = turn_by_type by.transmission_type by seen t bytes (without_past_inhibit t r) in
     (own.remembered, frame_if own.is_sent c.identifier bytes)
 
-abbrev pub tpdo_after_turn : ℕ → Bool → Values → TpdoState → TpdoState
-tpdo_after_turn t at_sync values p = record p { remembered = (turn p.configuration t at_sync values p.remembered).0 }
+abbrev pub tpdo_after_turn : ℕ → Option SyncSeen → Values → TpdoState → TpdoState
+tpdo_after_turn t seen values p = record p { remembered = (turn p.configuration t seen values p.remembered).0 }
 
-abbrev pub frame_of_turn : ℕ → Bool → Values → TpdoState → Option BaseFrame
-frame_of_turn t at_sync values p = (turn p.configuration t at_sync values p.remembered).1
+abbrev pub frame_of_turn : ℕ → Option SyncSeen → Values → TpdoState → Option BaseFrame
+frame_of_turn t seen values p = (turn p.configuration t seen values p.remembered).1
 
 -- it takes the place of a frame of the same TPDO that still waits
 abbrev pub with_frame : ℕ → Option BaseFrame → List Waiting → List Waiting
@@ -87,13 +88,13 @@ with_frame number None frames = frames
 with_frame number (Some frame) frames = with_latest (purpose.Tpdo number) frame frames
 
 -- EACH TPDO IN ITS TURN, by number: what they remember, and what waits
-unfoldable pub tpdos_after_turns : ℕ → Bool → Values → List TpdoState → List TpdoState
-tpdos_after_turns t at_sync values tpdos = map (tpdo_after_turn t at_sync values) tpdos
+unfoldable pub tpdos_after_turns : ℕ → Option SyncSeen → Values → List TpdoState → List TpdoState
+tpdos_after_turns t seen values tpdos = map (tpdo_after_turn t seen values) tpdos
 
-unfoldable pub with_tpdos : ℕ → Bool → Values → List TpdoState → List Waiting → List Waiting
-with_tpdos t at_sync values [] frames = frames
-with_tpdos t at_sync values (p ∷ tpdos) frames =
-    with_tpdos t at_sync values tpdos (with_frame p.number (frame_of_turn t at_sync values p) frames)
+unfoldable pub with_tpdos : ℕ → Option SyncSeen → Values → List TpdoState → List Waiting → List Waiting
+with_tpdos t seen values [] frames = frames
+with_tpdos t seen values (p ∷ tpdos) frames =
+    with_tpdos t seen values tpdos (with_frame p.number (frame_of_turn t seen values p) frames)
 
 -- ---- what a TPDO waits for
 

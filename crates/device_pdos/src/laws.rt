@@ -1,10 +1,11 @@
 //! Laws of a device's PDOs, each a function whose contract is the law.
 
-ghost use Rattle.std.specs.Prelude.{◌≡◌, ◌≢◌, ◌<◌, ℕ, Bool, true, false, List, None, Some};
+ghost use Rattle.std.specs.Prelude.{◌≡◌, ◌≢◌, ◌<◌, ℕ, true, false, List, None, Option, Some};
 ghost use Rattle.std.specs.List.{AllByRecursion};
 ghost use Rattle.can_frame.specs.declared.waiting.Waiting.{Waiting as WaitingFrame};
 ghost use Rattle.co_dict.specs.Shapes.{Shaped};
 ghost use Rattle.co_dict.specs.Values.{Values};
+ghost use Rattle.co_pdos.specs.declared.sync_seen.SyncSeen.{SyncSeen as Seen};
 ghost use Rattle.device_pdos.specs.Objects.{number_of_object};
 ghost use Rattle.device_pdos.specs.Rpdos.{rpdo, rpdo_after_write, rpdos_after_write};
 ghost use Rattle.device_pdos.specs.Tpdos.{frame_of_turn, tpdo_after_inhibit, goes_by_sync, is_wanted};
@@ -45,17 +46,17 @@ pub fn a_write_judges_its_pdo_anew()
 #[tactic(auto, using(crate::proofs::LookLemmas::unsent_without_sync, crate::proofs::LookLemmas::kept_without_sync))]
 pub fn without_a_sync_no_synchronous_tpdo_is_sent()
     ensures sent { (t : ℕ) (values : Values) (p : State) → goes_by_sync p.configuration ≡ true
-        → frame_of_turn t false values p ≡ None }
+        → frame_of_turn t None values p ≡ None }
     ensures kept { (t : ℕ) (values : Values) (p : State) → goes_by_sync p.configuration ≡ true
-        → tpdo_after_turn t false values p ≡ tpdo_after_inhibit t p }
+        → tpdo_after_turn t None values p ≡ tpdo_after_inhibit t p }
 {}
 
 /// An event-driven TPDO whose inhibit moment is ahead isn't sent, and stays.
 pub fn an_inhibited_tpdo_is_not_sent()
-    ensures sent { (t m : ℕ) (at_sync : Bool) (values : Values) (p : State) → waits_for_event p.configuration ≡ true
-        → p.remembered.inhibit ≡ Some m → t < m → frame_of_turn t at_sync values p ≡ None }
-    ensures kept { (t m : ℕ) (at_sync : Bool) (values : Values) (p : State) → waits_for_event p.configuration ≡ true
-        → p.remembered.inhibit ≡ Some m → t < m → tpdo_after_turn t at_sync values p ≡ p }
+    ensures sent { (t m : ℕ) (seen : Option Seen) (values : Values) (p : State) → waits_for_event p.configuration ≡ true
+        → p.remembered.inhibit ≡ Some m → t < m → frame_of_turn t seen values p ≡ None }
+    ensures kept { (t m : ℕ) (seen : Option Seen) (values : Values) (p : State) → waits_for_event p.configuration ≡ true
+        → p.remembered.inhibit ≡ Some m → t < m → tpdo_after_turn t seen values p ≡ p }
 {}
 
 /// Where no TPDO is sent at t without a SYNC, and all moments lie ahead, a look at the TPDOs changes
@@ -63,11 +64,11 @@ pub fn an_inhibited_tpdo_is_not_sent()
 #[tactic(auto, using(crate::proofs::LookLemmas::quiet_tpdos, crate::proofs::LookLemmas::quiet_waiting, crate::proofs::LookLemmas::quiet_freed))]
 pub fn quiet_between_moments()
     ensures tpdos { (t : ℕ) (values : Values) (tpdos : List State)
-        → AllByRecursion (λ p. frame_of_turn t false values p ≡ None) tpdos
-        → AllByRecursion (λ m. t < m) (moments true tpdos) → tpdos_after_turns t false values tpdos ≡ tpdos }
+        → AllByRecursion (λ p. frame_of_turn t None values p ≡ None) tpdos
+        → AllByRecursion (λ m. t < m) (moments true tpdos) → tpdos_after_turns t None values tpdos ≡ tpdos }
     ensures waiting { (t : ℕ) (values : Values) (tpdos : List State) (frames : List WaitingFrame)
-        → AllByRecursion (λ p. frame_of_turn t false values p ≡ None) tpdos
-        → with_tpdos t false values tpdos frames ≡ frames }
+        → AllByRecursion (λ p. frame_of_turn t None values p ≡ None) tpdos
+        → with_tpdos t None values tpdos frames ≡ frames }
     ensures freed { (t : ℕ) (tpdos : List State) → AllByRecursion (λ m. t < m) (moments false tpdos)
         → tpdos_after_inhibit t tpdos ≡ tpdos }
 {}
@@ -76,25 +77,25 @@ pub fn quiet_between_moments()
 /// without a SYNC, and no look without one changes what they remember, or what waits.
 #[tactic(auto, using(crate::proofs::RestLemmas::rests))]
 pub fn tpdos_that_were_looked_at_rest()
-    ensures unwanted { (t : ℕ) (at_sync : Bool) (values : Values) (tpdos : List State)
-        → AllByRecursion (λ p. is_wanted values p ≡ false) (tpdos_after_turns t at_sync values tpdos) }
+    ensures unwanted { (t : ℕ) (seen : Option Seen) (values : Values) (tpdos : List State)
+        → AllByRecursion (λ p. is_wanted values p ≡ false) (tpdos_after_turns t seen values tpdos) }
     ensures unsent { (u : ℕ) (values : Values) (tpdos : List State)
         → AllByRecursion (λ p. is_wanted values p ≡ false) tpdos → AllByRecursion (λ m. u < m) (moments true tpdos)
-        → AllByRecursion (λ p. frame_of_turn u false values p ≡ None) tpdos }
+        → AllByRecursion (λ p. frame_of_turn u None values p ≡ None) tpdos }
     ensures tpdos { (u : ℕ) (values : Values) (tpdos : List State)
         → AllByRecursion (λ p. is_wanted values p ≡ false) tpdos → AllByRecursion (λ m. u < m) (moments true tpdos)
-        → tpdos_after_turns u false values tpdos ≡ tpdos }
+        → tpdos_after_turns u None values tpdos ≡ tpdos }
     ensures waiting { (u : ℕ) (values : Values) (tpdos : List State) (frames : List WaitingFrame)
         → AllByRecursion (λ p. is_wanted values p ≡ false) tpdos → AllByRecursion (λ m. u < m) (moments true tpdos)
-        → with_tpdos u false values tpdos frames ≡ frames }
+        → with_tpdos u None values tpdos frames ≡ frames }
 {}
 
 /// After a look at the TPDOs every moment at which one is due lies later; so it does outside Operational
 /// where the inhibit moments that had come are forgotten.
 #[tactic(auto, using(crate::proofs::LaterLemmas::looked_later, crate::proofs::LaterLemmas::all_freed_later))]
 pub fn moments_lie_later()
-    ensures looked { (t : ℕ) (at_sync : Bool) (values : Values) (tpdos : List State)
-        → AllByRecursion (λ m. t < m) (moments true (tpdos_after_turns t at_sync values tpdos)) }
+    ensures looked { (t : ℕ) (seen : Option Seen) (values : Values) (tpdos : List State)
+        → AllByRecursion (λ m. t < m) (moments true (tpdos_after_turns t seen values tpdos)) }
     ensures freed { (t : ℕ) (tpdos : List State)
         → AllByRecursion (λ m. t < m) (moments false (tpdos_after_inhibit t tpdos)) }
 {}

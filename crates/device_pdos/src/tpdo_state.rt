@@ -8,7 +8,7 @@ ghost use Rattle.device_pdos.specs.Tpdos.{with_frame};
 use can_frame::{Frame, Pending, Purpose};
 use co_dict::Dict;
 use co_mapping::pack;
-use co_pdos::{Configuration, Tpdo};
+use co_pdos::{Configuration, SyncSeen, Tpdo};
 use std::alloc::AllocError;
 
 /// A TPDO of a device at a moment (CiA 301).
@@ -90,10 +90,10 @@ impl TpdoState {
 
     /// Looks at it at the moment t, and answers its frame where it is sent.
     #[tactic(auto, using(crate::proofs::PackedLemmas::few), unfolding(crate::specs::Tpdos::bytes_now, crate::specs::Tpdos::turn))]
-    fn look(&mut self, t: u64, at_sync: bool, dict: &Dict) -> Option<Frame>
+    fn look(&mut self, t: u64, seen: Option<SyncSeen>, dict: &Dict) -> Option<Frame>
         requires { t < 2 ^ 63 }
-        ensures state { self.new ≡ tpdo_after_turn t at_sync dict.now self.old }
-        ensures frame { result ≡ frame_of_turn t at_sync dict.now self.old }
+        ensures state { self.new ≡ tpdo_after_turn t seen dict.now self.old }
+        ensures frame { result ≡ frame_of_turn t seen dict.now self.old }
     {
         self.remembered.end_inhibit(t);
         let configuration = self.configuration?;
@@ -101,7 +101,7 @@ impl TpdoState {
         let bytes = &frame[..count];
         if self
             .remembered
-            .look(configuration.communication, at_sync, t, bytes)
+            .look(configuration.communication, seen, t, bytes)
         {
             Some(Frame::of(configuration.identifier.number(), bytes))
         } else {
@@ -114,16 +114,16 @@ impl TpdoState {
     pub(crate) fn take_turn(
         &mut self,
         t: u64,
-        at_sync: bool,
+        seen: Option<SyncSeen>,
         dict: &Dict,
         waiting: &mut Pending,
     ) -> Result<(), AllocError>
         requires { t < 2 ^ 63 }
-        ensures state { OnOk result (self.new ≡ tpdo_after_turn t at_sync dict.now self.old) }
+        ensures state { OnOk result (self.new ≡ tpdo_after_turn t seen dict.now self.old) }
         ensures waiting { OnOk result (waiting.new
-            ≡ with_frame self.old.number (frame_of_turn t at_sync dict.now self.old) waiting.old) }
+            ≡ with_frame self.old.number (frame_of_turn t seen dict.now self.old) waiting.old) }
     {
-        match self.look(t, at_sync, dict) {
+        match self.look(t, seen, dict) {
             Some(frame) => waiting.replace(Purpose::Tpdo(self.number), frame),
             None => Ok(()),
         }

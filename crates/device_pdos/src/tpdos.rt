@@ -10,7 +10,7 @@ use crate::tpdo_state::TpdoState;
 use can_frame::Pending;
 use co_base::earlier;
 use co_dict::{Dict, Shape};
-use co_pdos::{Configuration, Tpdo, is_pdo, tpdo_object};
+use co_pdos::{Configuration, SyncSeen, Tpdo, is_pdo, tpdo_object};
 use std::alloc::{AllocError, Global};
 
 /// The TPDOs of a device as its entries say, by number; they remember nothing. Takes time by the
@@ -64,23 +64,23 @@ pub fn free_tpdos(tpdos: &mut [TpdoState], t: u64)
     }
 }
 
-/// Looks at each TPDO in its turn, at the moment t in microseconds, at a SYNC or not: one that is sent
+/// Looks at each TPDO in its turn, at the moment t in microseconds, at a SYNC or at none: one that is sent
 /// gets a frame that waits, in the place of one of its own that still waits. Takes time by the TPDOs
 /// that work, their mapping, and the logarithm of the number of entries.
 #[tactic(auto, unfolding(crate::specs::Tpdos::tpdos_after_turns, crate::specs::Tpdos::with_tpdos))]
 pub fn look_at_tpdos(
     tpdos: &mut [TpdoState],
     t: u64,
-    at_sync: bool,
+    seen: Option<SyncSeen>,
     dict: &Dict,
     waiting: &mut Pending,
 ) -> Result<(), AllocError>
     requires { t < 2 ^ 63 }
-    ensures tpdos { OnOk result (tpdos.new ≡ tpdos_after_turns t at_sync dict.now tpdos.old) }
-    ensures waiting { OnOk result (waiting.new ≡ with_tpdos t at_sync dict.now tpdos.old waiting.old) }
+    ensures tpdos { OnOk result (tpdos.new ≡ tpdos_after_turns t seen dict.now tpdos.old) }
+    ensures waiting { OnOk result (waiting.new ≡ with_tpdos t seen dict.now tpdos.old waiting.old) }
 {
     for tpdo in tpdos.iter_mut() {
-        tpdo.take_turn(t, at_sync, dict, waiting)?;
+        tpdo.take_turn(t, seen, dict, waiting)?;
     }
     Ok(())
 }

@@ -1,5 +1,5 @@
 -- The derived order is that of the words.
-use Rattle.std.proofs.Common.{◌≡◌, ℕ, ◌-◌, true, refl, List, [], ◌∷◌, get_or, ap, subst, sym, ◌∙◌}
+use Rattle.std.proofs.Common.{◌≡◌, ℕ, ◌-◌, true, refl, List, [], ◌∷◌, Some, None, get_or, ap, subst, sym, ◌∙◌}
 use Rattle.std.specs.declared.cmp.Ordering.{Ordering}
 use Rattle.std.specs.declared.cmp.Ordering.TheVariants.{Less, Equal, Greater}
 use Rattle.std.specs.Ordering.{nat_cmp, ordering_then, is_eq, eq_by_cmp}
@@ -14,7 +14,7 @@ use Rattle.diag_lines.specs.declared.code.Code.TheVariants.{NoEntry, Unreadable,
 use Rattle.diag_lines.specs.declared.code.Code.TheVariants.{TpdoTaken, TooManyBits, NotMappable, Mismatched, NoRpdo}
 use Rattle.diag_lines.specs.declared.code.Code.TheVariants.{NoDummy, BadIdentifier, NoIdentifier, ReservedType}
 use Rattle.diag_lines.specs.declared.code.Code.TheVariants.{SharedIdentifier, NotModelled, RemoteType, NoSync}
-use Rattle.diag_lines.specs.declared.code.Code.TheVariants.{UnfitConsumer, SkippedLine}
+use Rattle.diag_lines.specs.declared.code.Code.TheVariants.{UnfitConsumer, SkippedLine, OtherCounter, UnreachedStart}
 use Rattle.diag_lines.specs.declared.subject.Subject.{Subject}
 use Rattle.diag_lines.specs.declared.subject.Subject.TheVariants.{Cob, Default, Eds, Event, Message, Node, Param}
 use Rattle.diag_lines.specs.declared.diag.Diag.{Diag}
@@ -37,7 +37,10 @@ subject_same (Default a b c) (Default d e f) = ap (λ o. ordering_then (nat_cmp 
 subject_same (Eds a m) (Eds b n) = ap (λ o. ordering_then (slice_cmp nat_cmp a b) o) (then_equal (nat_cmp m n))
 subject_same (Event a) (Event b) = then_equal (nat_cmp a b)
 subject_same (Message a) (Message b) = then_equal (slice_cmp nat_cmp a b)
-subject_same (Node a m) (Node b n) = ap (λ o. ordering_then (nat_cmp a b) o) (then_equal (nat_cmp m n))
+subject_same (Node a None) (Node b None) = refl
+subject_same (Node a None) (Node b (Some n)) = refl
+subject_same (Node a (Some m)) (Node b None) = refl
+subject_same (Node a (Some m)) (Node b (Some n)) = ap (λ o. ordering_then (nat_cmp a b) o) (then_equal (nat_cmp m n))
 subject_same (Param a b c) (Param d e f) = ap (λ o. ordering_then (nat_cmp a d) (ordering_then (nat_cmp b e) o))
     (then_equal (nat_cmp c f))
 subject_same a b = refl
@@ -63,7 +66,7 @@ all_codes =
     NoEntry ∷ Unreadable ∷ OutsideLimits ∷ NotWritable ∷ NoObjects ∷ TpdoTaken ∷ TooManyBits ∷ NotMappable ∷ Mismatched
     ∷ NoRpdo
     ∷ NoDummy ∷ BadIdentifier ∷ NoIdentifier ∷ ReservedType ∷ SharedIdentifier ∷ NotModelled ∷ RemoteType ∷ NoSync
-    ∷ UnfitConsumer ∷ SkippedLine ∷ []
+    ∷ UnfitConsumer ∷ SkippedLine ∷ OtherCounter ∷ UnreachedStart ∷ []
 
 its_code : (a : Code) → get_or all_codes (number_of a - 1) NoEntry ≡ a
 unfolding number_of all_codes
@@ -89,8 +92,12 @@ subject_exact (Eds a m) (Eds b n) e = let both = then_both (slice_cmp nat_cmp a 
     in λ i. Eds (exact_bytes a b both.0 i) (exact_unsigned m n both.1 i)
 subject_exact (Event a) (Event b) e = ap Event (exact_unsigned a b e)
 subject_exact (Message a) (Message b) e = ap Message (exact_bytes a b e)
-subject_exact (Node a m) (Node b n) e = let both = then_both (nat_cmp a b) (nat_cmp m n) e
-    in λ i. Node (exact_unsigned a b both.0 i) (exact_unsigned m n both.1 i)
+subject_exact (Node a None) (Node b None) e = let both = then_both (nat_cmp a b) Equal e
+    in λ i. Node (exact_unsigned a b both.0 i) None
+subject_exact (Node a None) (Node b (Some n)) e = let both = then_both (nat_cmp a b) Less e in cc
+subject_exact (Node a (Some m)) (Node b None) e = let both = then_both (nat_cmp a b) Greater e in cc
+subject_exact (Node a (Some m)) (Node b (Some n)) e = let both = then_both (nat_cmp a b) (nat_cmp m n) e
+    in λ i. Node (exact_unsigned a b both.0 i) (Some (exact_unsigned m n both.1 i))
 subject_exact (Param a b c) (Param d e f) h = let same = three_exact a b c d e f h
     in λ i. Param (same.0 i) (same.1 i) (same.2 i)
 subject_exact a b e = cc

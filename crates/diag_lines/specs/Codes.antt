@@ -5,7 +5,7 @@ use Rattle.diag_lines.specs.declared.code.Code.TheVariants.{NoEntry, Unreadable,
 use Rattle.diag_lines.specs.declared.code.Code.TheVariants.{TpdoTaken, TooManyBits, NotMappable, Mismatched, NoRpdo}
 use Rattle.diag_lines.specs.declared.code.Code.TheVariants.{NoDummy, BadIdentifier, NoIdentifier, ReservedType}
 use Rattle.diag_lines.specs.declared.code.Code.TheVariants.{SharedIdentifier, NotModelled, RemoteType, NoSync}
-use Rattle.diag_lines.specs.declared.code.Code.TheVariants.{UnfitConsumer, SkippedLine}
+use Rattle.diag_lines.specs.declared.code.Code.TheVariants.{UnfitConsumer, SkippedLine, OtherCounter, UnreachedStart}
 
 unfoldable pub number_of : Code → ℕ
 number_of NoEntry = 1
@@ -28,3 +28,5 @@ number_of RemoteType = 17
 number_of NoSync = 18
 number_of UnfitConsumer = 19
 number_of SkippedLine = 20
+number_of OtherCounter = 21
+number_of UnreachedStart = 22

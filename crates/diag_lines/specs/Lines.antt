@@ -1,5 +1,6 @@
 -- Diagnostics as lines (this profile's own).
-use Rattle.std.specs.Prelude.{ℕ, nat_le, ◌/◌, ◌%◌, ◌+◌, if◌then◌else◌, List, [], ◌∷◌, ◌++◌, codes, decimal}
+use Rattle.std.specs.Prelude.{ℕ, nat_le, ◌/◌, ◌%◌, ◌+◌, if◌then◌else◌, List, [], ◌∷◌, ◌++◌, codes, decimal, Option, Some}
+use Rattle.std.specs.Prelude.{None}
 use Rattle.std.specs.List.{flat_map}
 use Rattle.std.specs.Str.{byte}
 use Rattle.co_text.specs.Digits.{byte_digits, index_digits, identifier_digits}
@@ -15,6 +16,11 @@ abbrev pub code_word : Code → List ℕ
 code_word code = (if nat_le (number_of code) 16 then byte "E" else byte "W") ∷ (byte "0" + number_of code / 10)
     ∷ (byte "0" + number_of code % 10) ∷ []
 
+-- the sub-index of a subject that has one
+abbrev pub sub_words : Option ℕ → List (List ℕ)
+sub_words None = []
+sub_words (Some sub) = byte_digits sub ∷ []
+
 -- the words of a subject
 unfoldable pub subject_words : Subject → List (List ℕ)
 subject_words (Cob id) = codes "cob" ∷ identifier_digits id ∷ []
@@ -22,7 +28,7 @@ subject_words (Default node index sub) = codes "default" ∷ decimal node ∷ in
 subject_words (Eds name line) = codes "eds" ∷ name ∷ decimal line ∷ []
 subject_words (Event number) = codes "event" ∷ decimal number ∷ []
 subject_words (Message name) = codes "message" ∷ name ∷ []
-subject_words (Node node sub) = codes "node" ∷ decimal node ∷ byte_digits sub ∷ []
+subject_words (Node node sub) = codes "node" ∷ decimal node ∷ sub_words sub
 subject_words (Param node index sub) = codes "param" ∷ decimal node ∷ index_digits index ∷ byte_digits sub ∷ []
 
 -- a diagnostic: the code, and behind a space each the words of the subject

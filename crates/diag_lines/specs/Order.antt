@@ -1,6 +1,6 @@
 -- The order of diagnostics (this profile's own): by the number of the code, then by the subject's words from left to
 -- right, numbers as numbers, names by their bytes.
-use Rattle.std.specs.Prelude.{ℕ, List, [], ◌∷◌, codes}
+use Rattle.std.specs.Prelude.{ℕ, List, [], ◌∷◌, Option, Some, None, codes}
 use Rattle.std.specs.declared.cmp.Ordering.{Ordering}
 use Rattle.std.specs.declared.cmp.Ordering.TheVariants.{Less, Greater}
 use Rattle.std.specs.Ordering.{nat_cmp, ordering_then}
@@ -21,6 +21,11 @@ word_cmp (Name a) (Number n) = Less
 word_cmp (Number m) (Name b) = Greater
 word_cmp (Number m) (Number n) = nat_cmp m n
 
+-- the sub-index of a subject that has one
+abbrev pub word_of : Option ℕ → List Word
+word_of None = []
+word_of (Some sub) = Number sub ∷ []
+
 -- the words of a subject
 abbrev pub words_of : Subject → List Word
 words_of (Cob id) = Name (codes "cob") ∷ Number id ∷ []
@@ -28,7 +33,7 @@ words_of (Default node index sub) = Name (codes "default") ∷ Number node ∷ N
 words_of (Eds name line) = Name (codes "eds") ∷ Name name ∷ Number line ∷ []
 words_of (Event number) = Name (codes "event") ∷ Number number ∷ []
 words_of (Message name) = Name (codes "message") ∷ Name name ∷ []
-words_of (Node node sub) = Name (codes "node") ∷ Number node ∷ Number sub ∷ []
+words_of (Node node sub) = Name (codes "node") ∷ Number node ∷ word_of sub
 words_of (Param node index sub) = Name (codes "param") ∷ Number node ∷ Number index ∷ Number sub ∷ []
 
 unfoldable pub diag_cmp : Diag → Diag → Ordering

@@ -54,10 +54,15 @@ pub enum Code {
     UnfitConsumer,
     /// 20: a line of the text of an EDS isn't used.
     SkippedLine,
+    /// 21: the synchronous counter overflow value (1019h) of a node isn't that of the network's SYNC.
+    OtherCounter,
+    /// 22: the transmission type of a message counts SYNCs, and the counter of the network's SYNC doesn't
+    /// reach the message's SYNC start value.
+    UnreachedStart,
 }
 
 impl Code {
-    /// Its number, from 1 to 20.
+    /// Its number, from 1 to 22.
     #[tactic(auto, unfolding(crate::specs::Codes::number_of))]
     pub fn number(self) -> u8
         ensures { result ≡ number_of self }
@@ -83,6 +88,8 @@ impl Code {
             Code::NoSync => 18,
             Code::UnfitConsumer => 19,
             Code::SkippedLine => 20,
+            Code::OtherCounter => 21,
+            Code::UnreachedStart => 22,
         }
     }
 

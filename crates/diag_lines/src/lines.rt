@@ -6,7 +6,7 @@ ghost use Rattle.std.specs.Prelude.{◌≡◌, ◌++◌, ◌∷◌, decimal, IfO
 ghost use Rattle.std.specs.Str.{byte};
 ghost use Rattle.std.specs.List.{flat_map};
 ghost use Rattle.co_text.specs.Digits.{byte_digits, index_digits};
-ghost use Rattle.diag_lines.specs.Lines.{code_word, subject_words, diag_line, diag_text};
+ghost use Rattle.diag_lines.specs.Lines.{code_word, sub_words, subject_words, diag_line, diag_text};
 
 use crate::code::Code;
 use crate::diag::Diag;
@@ -41,6 +41,16 @@ fn write_number(out: &mut Vec<u8>, alloc: Global, number: u32) -> Result<(), All
     let digits = number.to_string(alloc)?;
     write_word(out, digits.as_bytes())?;
     Ok(())
+}
+
+/// Writes a space and a sub-index as a word, where there is one.
+fn write_sub(out: &mut Vec<u8>, sub: Option<u8>) -> Result<(), AllocError>
+    ensures { OnOk result (out.new.items ≡ out.old.items ++ flat_map (λ word. byte " " ∷ word) (sub_words sub)) }
+{
+    match sub {
+        Some(sub) => write_word(out, &byte_digits(sub)),
+        None => Ok(()),
+    }
 }
 
 /// Writes a space, and a node, an index and a sub-index as words.
@@ -90,7 +100,7 @@ fn write_subject(out: &mut Vec<u8>, alloc: Global, subject: &Subject) -> Result<
         Subject::Node(node, sub) => {
             write_word(out, b"node")?;
             write_number(out, alloc, u32::from(*node))?;
-            write_word(out, &byte_digits(*sub))
+            write_sub(out, *sub)
         }
         Subject::Param(node, index, sub) => {
             write_word(out, b"param")?;

@@ -16,8 +16,8 @@ pub enum Subject {
     Event(u16),
     /// `message`: a message, by its name.
     Message(Name),
-    /// `node`: a heartbeat consumer, by its node and sub-index.
-    Node(u8, u8),
+    /// `node`: a node, or a heartbeat consumer of it by its sub-index.
+    Node(u8, Option<u8>),
     /// `param`: a parameter of a node, by node, index and sub-index.
     Param(u8, u16, u8),
 }

@@ -9,3 +9,4 @@ mod PlanLemmas
 mod TextLemmas
 mod ValueLemmas
 mod WritesLemmas
+mod AskedLemmas

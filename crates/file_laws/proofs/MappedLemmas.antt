@@ -19,6 +19,7 @@ use Rattle.co_dict.specs.declared.entry.Entry.{Entry}
 use Rattle.co_messages.specs.declared.linked.Linked.{Linked}
 use Rattle.co_messages.specs.declared.message.Message.{Message}
 use Rattle.co_messages.specs.Messages.{seat_cmp, sink_at, AreSinks, AreSources, IsLinked, IsMessage, IsSink}
+use Rattle.co_messages.specs.Messages.{is_start}
 use Rattle.co_params.proofs.WrittenLemmas.{All-filter_map}
 use Rattle.pdo_stations.specs.declared.mapped.Mapped.{Mapped}
 use Rattle.pdo_stations.specs.Devices.{Devices, devices_of, width_at}
@@ -157,6 +158,7 @@ pub record IsWritable (c : Clean) : Type 0 where
   pub sent : AreMapped c.mapping
   pub taken : All (λ (k : Consumer). AreMapped k.mapping) c.consumers
   pub transmission : c.message.transmission < 256
+  pub start : c.start < 256
 
 consumer_writable : (had : Had) (devices : Devices) (m : Linked) → AreSinks m.sinks → (node : ℕ) (k : Consumer)
     → consumer_of had devices m node ≡ Some k → AreMapped k.mapping
@@ -176,16 +178,20 @@ writable_transmission : (m : Message) → IsMessage m → m.transmission < 256
 unfolding IsMessage
 writable_transmission m is = small_sub m.transmission is.3
 
+small_start : (start : ℕ) → is_start start ≡ true → start < 256
+small_start start is = grind (arith, nat_tests)
+
 writable : (devices : Devices) (before : List Clean) (m : Linked) (c : Clean) → IsLinked m
     → judged_message (had_by before) devices m ≡ Planned c → IsWritable c
 unfolding IsLinked
 writable devices before m c kept e =
     let is = judged_clean (had_by before) devices m c e in
     record {
-      sent = subst AreMapped is.mapping (sent_mappable devices m.message.node m.sources kept.1);
+      sent = subst AreMapped is.mapping (sent_mappable devices m.message.node m.sources kept.2);
       taken = subst (λ (ks : List Consumer). All (λ (k : Consumer). AreMapped k.mapping) ks) is.consumers
-          (consumers_writable (had_by before) devices m kept.2);
+          (consumers_writable (had_by before) devices m kept.3);
       transmission = subst (λ (x : Message). x.transmission < 256) is.message (writable_transmission m.message kept.0);
+      start = subst (λ (n : ℕ). n < 256) is.start (small_start m.start kept.1);
     }
 
 pub all_writable : (p : Content) → IsSound p → All IsWritable (clean (plan_of_project p))

@@ -17,7 +17,7 @@ use Rattle.std.proofs.lemmas.List.Elements.{All-tail, All-weaker, filter-append}
 use Rattle.byteorder.specs.Endian.{little_bytes}
 use Rattle.co_base.specs.Ranges.{is_between}
 use Rattle.co_dict.specs.Pdos.{is_of_pdos}
-use Rattle.co_values.specs.declared.form.Width.TheVariants.{Bits16}
+use Rattle.co_values.specs.declared.form.Width.TheVariants.{Bits8, Bits16}
 use Rattle.co_fields.specs.CobIds.{no_rtr_bit, off_bit}
 use Rattle.concise_dcf.specs.declared.write.Write.{Write}
 use Rattle.ini_text.specs.Content.{Section}
@@ -34,7 +34,7 @@ use Rattle.pdo_plan.specs.Mapping.{mapped_bytes}
 use Rattle.pdo_plan.specs.Plan.{clean, IsNumbered, IsWithin}
 use Rattle.pdo_plan.proofs.LimitLemmas.{between}
 use Rattle.pdo_links.specs.Order.{IsOfSent, IsOfTaken, IsSentAlone, IsTakenAlone}
-use Rattle.pdo_links.specs.Writes.{write_at, cob_write, taken_type, mapped_writes, mapping_writes}
+use Rattle.pdo_links.specs.Writes.{write_at, cob_write, taken_type, mapped_writes, mapping_writes, start_write}
 use Rattle.pdo_links.specs.Writes.{time_write, tpdo_writes, rpdo_writes, at_number, by_number, tpdo_of, rpdo_of}
 use Rattle.pdo_links.specs.Writes.{link_writes, node_writes}
 use Rattle.pdo_links.proofs.Numbered.{Sends, Takes, sends, takes}
@@ -103,6 +103,13 @@ module _ (P : Write → Type 0) where
         by true = All-cons P (write_at object sub (little_bytes 2 time)) [] (each sub (little_bytes 2 time)) (All-nil P)
         by false = All-nil P
 
+    start_all : (ss : List Section) (node start : ℕ) → All P (start_write ss node object start)
+    start_all ss node start = by (option_map_or (takes_unsigned Bits8) (entry_at ss node object 6) false)
+      where
+        by : (b : Bool) → let ws : List Write = if b then write_at object 6 (start ∷ []) ∷ [] else [] in All P ws
+        by true = All-cons P (write_at object 6 (start ∷ [])) [] (each 6 (start ∷ [])) (All-nil P)
+        by false = All-nil P
+
     mapped_all : (first : ℕ) (mapping : List Mapped) → All P (mapped_writes object first mapping)
     mapped_all first [] = All-nil P
     mapped_all first (m ∷ ms) = All-cons P (write_at object first (mapped_bytes m))
@@ -131,16 +138,19 @@ module _ (P : Write → Type 0) where
         let on : List Write = cob_write own (no_rtr_bit + c.identifier) ∷ [] in
         let times : List Write = time_write ss node own 3 c.message.inhibit ++ time_write ss node own 5 c.message.event
         in
-        let rest : List Write = times ++ mapping_writes (mapping_of own) c.mapping in
+        let start : List Write = start_write ss node own c.start in
+        let rest : List Write = times ++ start ++ mapping_writes (mapping_of own) c.mapping in
         let kind : List ℕ = c.message.transmission ∷ [] in
         let off : ℕ = off_bit + (no_rtr_bit + c.identifier) in
         All-cons P (cob_write own off) (write_at own 2 kind ∷ (rest ++ on)) (whole own is 1 (little_bytes 4 off))
         (All-cons P (write_at own 2 kind) (rest ++ on) (whole own is 2 kind)
         (All-append P rest on
-        (All-append P times (mapping_writes (mapping_of own) c.mapping)
+        (All-append P (times ++ start) (mapping_writes (mapping_of own) c.mapping)
+        (All-append P times start
         (All-append P (time_write ss node own 3 c.message.inhibit) (time_write ss node own 5 c.message.event)
         (time_all own (whole own is) ss node 3 c.message.inhibit)
         (time_all own (whole own is) ss node 5 c.message.event))
+        (start_all own (whole own is) ss node c.start))
         (mapping_all (mapping_of own) (inner (mapping_of own) (ap mapping_of is)) c.mapping))
         (All-cons P (cob_write own (no_rtr_bit + c.identifier)) []
         (whole own is 1 (little_bytes 4 (no_rtr_bit + c.identifier))) (All-nil P))))

@@ -136,7 +136,7 @@ module _ (ss : List Section) (node : ℕ) where
         let numbers = All-contains IsWritable (clean plan) c writable of.1 in
         taken_given w
         (All-contains (IsTaken ss node) (tpdo_writes ss node c) w
-        (tpdo_taken ss node c ((made c of.1).0 of.2) numbers.transmission (few_entries (length c.mapping) limits.sent.1)
+        (tpdo_taken ss node c ((made c of.1).0 of.2) numbers.transmission numbers.start (few_entries (length c.mapping) limits.sent.1)
         numbers.sent) of.3)
 
     took_given : (w : Write) → IsOfTaken (clean plan) node w → IsGivenBy w

@@ -1,5 +1,6 @@
 //! Laws of all writes of a node of a sound project.
-ghost use Rattle.std.specs.Prelude.{◌≡◌, ◌⊎◌, ℕ, Contains, IsTrue, false};
+ghost use Rattle.std.specs.Prelude.{◌≡◌, ◌⊎◌, ℕ, Contains, IsTrue, false, [], ◌∷◌};
+ghost use Rattle.byteorder.specs.Endian.{little_bytes};
 ghost use Rattle.concise_dcf.specs.declared.write.Write.{Write as written};
 ghost use Rattle.co_dict.specs.Pdos.{is_of_pdos};
 ghost use Rattle.co_messages.specs.Messages.{is_of_messages};
@@ -10,7 +11,7 @@ ghost use Rattle.pdo_plan.specs.declared.clean.Clean.{Clean};
 ghost use Rattle.pdo_plan.specs.declared.consumer.Consumer.{Consumer};
 ghost use Rattle.pdo_plan.specs.Plan.{clean};
 ghost use Rattle.pdo_links.specs.Order.{IsConfigured, IsOfSent, IsOfTaken};
-ghost use Rattle.pdo_links.specs.Writes.{tpdo_writes, rpdo_writes};
+ghost use Rattle.pdo_links.specs.Writes.{tpdo_writes, rpdo_writes, write_at};
 ghost use Rattle.project_plan.specs.Network.{plan_of_project, writes_of, Member};
 ghost use Rattle.file_laws.specs.Nodes.{IsSoundNode, Sends, Takes};
 ghost use Rattle.file_laws.specs.Pdos.{to_pdo};
@@ -48,6 +49,20 @@ pub fn no_pdo_of_a_node_is_missing()
     ensures taken { (project : Content) (id : ℕ) (m : Member) (c : Clean) (k : Consumer) (w : written)
         → IsSoundNode project id m → Takes project id c k
         → Contains (rpdo_writes c k) w → Contains (writes_of project m id) w }
+{}
+
+/// What a message asks of the TPDO that sends it is written: inhibit time, event timer and SYNC start
+/// value, each where it isn't 0 (CiA 301, PDO communication parameter).
+pub fn what_a_message_asks_of_its_tpdo_is_written()
+    ensures inhibit { (project : Content) (id : ℕ) (m : Member) (c : Clean)
+        → IsSoundNode project id m → Sends project id c → (c.message.inhibit ≡ 0 → ⊥) → Contains (writes_of project m id)
+        (write_at (tpdo_object c.message.tpdo) 3 (little_bytes 2 c.message.inhibit)) }
+    ensures event { (project : Content) (id : ℕ) (m : Member) (c : Clean)
+        → IsSoundNode project id m → Sends project id c → (c.message.event ≡ 0 → ⊥) → Contains (writes_of project m id)
+        (write_at (tpdo_object c.message.tpdo) 5 (little_bytes 2 c.message.event)) }
+    ensures start { (project : Content) (id : ℕ) (m : Member) (c : Clean)
+        → IsSoundNode project id m → Sends project id c → (c.start ≡ 0 → ⊥) → Contains (writes_of project m id)
+        (write_at (tpdo_object c.message.tpdo) 6 (c.start ∷ [])) }
 {}
 
 /// The writes of a node to the objects of PDOs are those of the clean messages that it sends or takes;

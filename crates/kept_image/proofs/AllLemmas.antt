@@ -27,7 +27,7 @@ use Rattle.kept_image.specs.declared.image_part.ImagePart.{ImagePart}
 use Rattle.kept_image.specs.declared.image_part.ImagePart.TheVariants as image
 use Rattle.kept_image.specs.declared.kept_image.KeptImage.{KeptImage}
 use Rattle.kept_image.proofs.CurrentLemmas.{itself}
-use Rattle.kept_image.proofs.Stays.{brought_now, brought_without, still_now, AreNow}
+use Rattle.kept_image.proofs.Stays.{brought_now, brought_without, still_now}
 
 pub or_left : (s t : Bool) → s ≡ true → (s || t) ≡ true
 or_left s t h = ap (λ b. b || t) h

@@ -1,41 +1,52 @@
 -- What an edit that is taken makes of a project.
-use Rattle.std.proofs.Common.{◌≡◌, ◌∙◌, ℕ, Bool, true, false, not, ◌||◌, ◌==◌, List, [], ◌∷◌, Option, Some, None}
+use Rattle.std.proofs.Common.{◌≡◌, ℕ, Bool, true, false, not, ◌||◌, ◌==◌, List, [], ◌∷◌, Option, Some, None}
 use Rattle.std.proofs.Common.{Result, Ok}
-use Rattle.std.proofs.Common.{refl, sym, ap}
 use Rattle.std.specs.FinMap.{contains_key, get, insert, remove}
 use Rattle.std.specs.Option.{option_map_or}
 use Rattle.co_edits.specs.declared.edit.Edit.{Edit}
 use Rattle.co_edits.specs.declared.edit.Edit.TheVariants as edit
 use Rattle.co_edits.specs.declared.fault.EditFault.{EditFault}
-use Rattle.co_edits.specs.declared.fault.EditFault.TheVariants.{InUse, Limit, Taken, Unknown}
+use Rattle.co_edits.specs.declared.fault.EditFault.TheVariants.{InUse, Limit, Range, Taken, Unknown}
 use Rattle.co_edits.specs.Accepts.{unless}
+use Rattle.co_edits.specs.Versions.{is_one}
 use Rattle.co_messages.specs.Messages.{is_full_for as has_full_messages, is_of_messages, with_changed}
-use Rattle.co_messages.specs.Messages.{with_message, with_sink, with_source, without_sink, without_source}
+use Rattle.co_messages.specs.Messages.{with_message, with_sink, with_source, with_start, without_sink, without_source}
 use Rattle.co_params.specs.Params.{is_full_for, Texts as Params}
 use Rattle.co_project.specs.declared.node.Node.{Node}
 use Rattle.co_project.specs.Project.{accept, with_nodes, Content as Project}
-use Rattle.co_project.specs.Tables.{is_named, is_used, name_taken, put_node, with_param, without_param, Nodes}
+use Rattle.co_project.specs.Tables.{is_named, is_used, name_taken, put_need, put_node, with_param, without_param, Nodes}
+
+-- the nodes, where that of a number, if it is there, is another one
+abbrev pub with_node : Nodes → ℕ → (Node → Node) → Option Node → Nodes
+with_node nodes id change o = option_map_or (λ node. insert nodes id (change node)) o nodes
+
+-- a node with other parameters
+abbrev pub other_params : (Params → Params) → Node → Node
+other_params change node = record node { params = change node.params }
 
 -- the nodes, where that of a number has other parameters
 abbrev pub with_params : Nodes → ℕ → (Params → Params) → Option Node → Nodes
-with_params nodes id change None = nodes
-with_params nodes id change (Some node) = insert nodes id (record node { params = change node.params })
+with_params nodes id change o = with_node nodes id (other_params change) o
 
 abbrev pub changed_params : Project → ℕ → (Params → Params) → Project
 changed_params p id change = record p { nodes = with_params p.nodes id change (get p.nodes id) }
 
 -- the project that an edit makes where it is taken
 abbrev pub made : Project → Edit → Project
+made p (edit.Version version) = record p { version = version }
 made p (edit.Bitrate rate) = record p { bitrate = rate }
 made p (edit.Horizon time) = record p { horizon = time }
 made p (edit.Manager m) = record p { manager = m }
+made p (edit.SyncCounter n) = record p { sync_counter = n }
 made p (edit.Eds name text) = record p { texts = insert p.texts name text }
 made p (edit.DropEds name) = record p { texts = remove p.texts name }
 made p (edit.Node id name eds) = record p { nodes = put_node p.nodes id name eds }
+made p (edit.Need id mandatory) = record p { nodes = put_need p.nodes id mandatory }
 made p (edit.DropNode id) = record p { nodes = remove p.nodes id }
 made p (edit.Param id index sub text) = changed_params p id (λ params. insert params (index, sub) text)
 made p (edit.Unparam id index sub) = changed_params p id (λ params. remove params (index, sub))
 made p (edit.Message name m) = record p { messages = with_message p.messages name m }
+made p (edit.Start name n) = record p { messages = with_changed (with_start n) p.messages name }
 made p (edit.DropMessage name) = record p { messages = remove p.messages name }
 made p (edit.Source name position index sub) =
     record p { messages = with_changed (with_source position (index, sub)) p.messages name }
@@ -81,9 +92,11 @@ module _ (p new : Project) where
 
   pub taken_as : (e : Edit) → accept p e ≡ Ok new → made p e ≡ new
   unfolding accept
+  taken_as (edit.Version version) h = one_test _ _ (made p (edit.Version version)) new h
   taken_as (edit.Bitrate rate) h = taken (made p (edit.Bitrate rate)) new h
   taken_as (edit.Horizon time) h = taken (made p (edit.Horizon time)) new h
   taken_as (edit.Manager m) h = one_test _ _ (made p (edit.Manager m)) new h
+  taken_as (edit.SyncCounter n) h = taken (made p (edit.SyncCounter n)) new h
   taken_as (edit.Eds name text) h = one_test _ _ (made p (edit.Eds name text)) new h
   taken_as (edit.DropEds name) h =
       two_tests (not (contains_key p.texts name)) (is_used p.nodes name) Unknown InUse
@@ -91,6 +104,8 @@ module _ (p new : Project) where
   taken_as (edit.Node id name eds) h =
       two_tests (not (contains_key p.texts eds)) (id == p.manager.id || name_taken p.nodes id name) Unknown Taken
       (made p (edit.Node id name eds)) new h
+  taken_as (edit.Need id mandatory) h =
+      two_tests (is_one p.version) (not (contains_key p.nodes id)) Range Unknown (made p (edit.Need id mandatory)) new h
   taken_as (edit.DropNode id) h =
       two_tests (not (contains_key p.nodes id)) (is_of_messages id p.messages || is_named p.events id) Unknown InUse
       (made p (edit.DropNode id)) new h
@@ -99,6 +114,7 @@ module _ (p new : Project) where
   taken_as (edit.Message name m) h =
       two_tests (not (contains_key p.nodes m.node)) (has_full_messages p.messages name) Unknown Limit
       (made p (edit.Message name m)) new h
+  taken_as (edit.Start name n) h = one_test _ _ (made p (edit.Start name n)) new h
   taken_as (edit.DropMessage name) h = one_test _ _ (made p (edit.DropMessage name)) new h
   taken_as (edit.Source name position index sub) h =
       one_test _ _ (made p (edit.Source name position index sub)) new h

@@ -2,15 +2,12 @@
 use Rattle.std.proofs.Common.{◌≡◌, ◌∙◌, ℕ, ◌+◌, ◌*◌, Bool, true, false, ◌==◌, ◌&&◌, List, [], ◌∷◌, Option, Some, None}
 use Rattle.std.proofs.Common.{is_some, filter_map, option_map, option_and_then, refl, sym, ap}
 use Rattle.std.specs.FinMap.{contains_key-keys, get, keys, same_map}
-use Rattle.std.specs.List.{cons_option, list_any, AllByRecursion}
+use Rattle.std.specs.List.{cons_option, AllByRecursion}
 use Rattle.std.specs.Option.{option_map_or}
-use Rattle.std.specs.Ordering.{eq_by_cmp}
 use Rattle.std.proofs.lemmas.Bool.{eqb-true, false≢true}
 use Rattle.co_base.specs.Ranges.{is_between}
-use Rattle.co_scenario.specs.Scenario.{events_between, moment_cmp, moments_between, Events, HasEventBetween}
-use Rattle.co_scenario.specs.declared.step.Step.{Step}
+use Rattle.co_scenario.specs.Scenario.{events_between, moments_between, Events, HasEventBetween}
 use Rattle.co_scenario.specs.declared.timed_event.TimedEvent.{TimedEvent}
-use Rattle.co_scenario.specs.declared.timed_step.TimedStep.{TimedStep}
 use Rattle.co_scenario.proofs.BetweenLemmas.{fits, listed, moments_exact, moments_total}
 use Rattle.project_plan.specs.Events.{step_of, Shapes}
 use Rattle.network_image.specs.Steps.{at_moment, steps_in, timed_step_of}

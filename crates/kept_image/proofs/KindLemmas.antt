@@ -1,5 +1,5 @@
 -- Each kind of part, brought up to date.
-use Rattle.std.proofs.Common.{◌≡◌, ◌⊎◌, inl, inr, ℕ, Bool, true, false, ◌||◌, List, [], ◌∷◌, Option, Some, None}
+use Rattle.std.proofs.Common.{◌≡◌, ◌⊎◌, inl, inr, ℕ, Bool, true, false, ◌||◌, List, [], ◌∷◌, Option, Some}
 use Rattle.std.proofs.Common.{◌∙◌, if◌then◌else◌, ◌==◌, refl, sym, ap, subst, option_map, arith}
 use Rattle.std.proofs.lemmas.Bool.{eqb-true}
 use Rattle.co_project.specs.Project.{Content as Project}

@@ -1,6 +1,6 @@
 -- The network of what is held.
 use Rattle.std.proofs.Common.{◌≡◌, ◌∙◌, ℕ, Bool, true, false, cond, ◌||◌, ◌==◌, List, [], ◌∷◌, ◌++◌, Option, Some, None}
-use Rattle.std.proofs.Common.{append_assoc, arith, option_map, option_and_then, refl, sym, ap, zero, suc, ◌+◌, ◌-◌, ◌<◌}
+use Rattle.std.proofs.Common.{append_assoc, arith, option_map, option_and_then, refl, sym, ap, zero, suc, ◌<◌}
 use Rattle.std.specs.FinMap.{empty, entries, find, get, get-empty, get-entries, get-insert}
 use Rattle.std.specs.List.{list_any}
 use Rattle.std.specs.Ordering.{eq_by_cmp, nat_cmp}
@@ -19,7 +19,6 @@ use Rattle.co_memo.proofs.Brought.{option_map_back}
 use Rattle.co_parts.specs.declared.identity.Identity.{Identity}
 use Rattle.co_project.specs.declared.node.Node.{Node}
 use Rattle.co_project.specs.Project.{Content as Project}
-use Rattle.co_project.specs.Tables.{node_at}
 use Rattle.eds_device.specs.Entries.{defaults_of, shape_of}
 use Rattle.eds_device.specs.Identity.{identity}
 use Rattle.kept_parts.specs.Kept as parts
@@ -29,7 +28,7 @@ use Rattle.kept_parts.proofs.PlanLemmas.{writes_are_of}
 use Rattle.network_image.specs.Held.{held_of, AllHeld, Held}
 use Rattle.network_image.specs.Image.{window_steps}
 use Rattle.project_plan.specs.Network.{member_at, with_sections, writes_of, Member}
-use Rattle.kept_image.specs.Kept.{device_from, given, held, of_node, of_nodes, reached_by_trace, roster_from, same_part}
+use Rattle.kept_image.specs.Kept.{device_from, of_node, of_nodes, reached_by_trace, roster_from, same_part}
 use Rattle.kept_image.specs.Kept.{for_plan, windows_below, with_parts, AreHeld, IsCurrent, OfDefaults, OfEvents}
 use Rattle.kept_image.specs.Kept.{OfExpect}
 use Rattle.kept_image.specs.Kept.{OfKept, OfRoster, OfShape}

@@ -1,5 +1,5 @@
 -- Where nothing is kept.
-use Rattle.std.proofs.Common.{◌≡◌, ◌∙◌, ℕ, true, false, option_map, ap}
+use Rattle.std.proofs.Common.{◌≡◌, ℕ, false, option_map, ap}
 use Rattle.co_memo.specs.Shelved.{is_fresh}
 use Rattle.co_project.specs.Project.{Content as Project}
 use Rattle.kept_parts.specs.Kept as parts

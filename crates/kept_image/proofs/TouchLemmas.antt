@@ -1,5 +1,5 @@
 -- What is held after an edit.
-use Rattle.std.proofs.Common.{◌≡◌, ◌∙◌, ℕ, Bool, true, false, List, Some, Ok, option_map, sym, ap}
+use Rattle.std.proofs.Common.{◌≡◌, ◌∙◌, ℕ, List, Some, Ok, option_map, sym, ap}
 use Rattle.co_edits.specs.declared.edit.Edit.{Edit}
 use Rattle.co_memo.specs.At.{at}
 use Rattle.co_project.specs.Project.{accept, Content as Project}

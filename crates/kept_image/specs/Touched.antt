@@ -13,9 +13,12 @@ use Rattle.kept_image.specs.declared.image_part.ImagePart.{ImagePart}
 use Rattle.kept_image.specs.declared.image_part.ImagePart.TheVariants as image
 
 abbrev pub touches_roster : Edit → Bool
+touches_roster (edit.Version version) = true
 touches_roster (edit.Bitrate rate) = true
 touches_roster (edit.Manager m) = true
+touches_roster (edit.SyncCounter n) = true
 touches_roster (edit.Node id name eds) = true
+touches_roster (edit.Need id mandatory) = true
 touches_roster (edit.DropNode id) = true
 touches_roster others = false
 

@@ -3,7 +3,7 @@
 use co_memo::{Makes, Shared};
 use co_parts::Roster;
 
-/// The roster itself: bit rate, manager and node numbers.
+/// The roster itself: bit rate, manager, when it starts nodes, and node numbers.
 #[derive(Drop)]
 pub struct RosterFrom {
     /// The roster.

@@ -23,9 +23,12 @@ fn mark_roster(roster: &mut Memo<RosterFrom, Shared<Roster>>, edit: &Edit)
     ensures { MarksOne (touches_roster edit.now) roster.old roster.new }
 {
     match edit {
+        Edit::Version(_) => roster.mark(),
         Edit::Bitrate(_) => roster.mark(),
         Edit::Manager(_) => roster.mark(),
+        Edit::SyncCounter(_) => roster.mark(),
         Edit::Node { .. } => roster.mark(),
+        Edit::Need { .. } => roster.mark(),
         Edit::DropNode { .. } => roster.mark(),
         _ => (),
     }

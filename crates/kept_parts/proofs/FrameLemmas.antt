@@ -2,6 +2,7 @@
 use Rattle.std.proofs.Common.{◌≡◌, ℕ, Bool, true, false, cond, not, ◌||◌, ◌==◌, List, [], ◌∷◌, map, filter_map, Option}
 use Rattle.std.proofs.Common.{Some, None, Result, Ok, option_map, option_and_then, refl, sym, ap, subst, ◌∙◌}
 use Rattle.std.specs.FinMap.{contains_key, entries, get, get-insert, get-remove, insert, remove}
+use Rattle.std.specs.Option.{option_map_or}
 use Rattle.std.specs.Ordering.{eq_by_cmp, nat_cmp}
 use Rattle.std.proofs.lemmas.Bool.{eq-eqb}
 use Rattle.std.proofs.lemmas.Cmp.{nat_cmp_total, nat_list_cmp_total}
@@ -11,15 +12,16 @@ use Rattle.ini_text.specs.Content.{Content as Device}
 use Rattle.co_edits.specs.declared.edit.Edit.{Edit}
 use Rattle.co_edits.specs.declared.edit.Edit.TheVariants as edit
 use Rattle.co_edits.specs.declared.fault.EditFault.{EditFault}
-use Rattle.co_edits.specs.declared.fault.EditFault.TheVariants.{InUse, Limit, Taken, Unknown}
+use Rattle.co_edits.specs.declared.fault.EditFault.TheVariants.{InUse, Limit, Range, Taken, Unknown}
 use Rattle.co_edits.specs.Accepts.{unless}
 use Rattle.co_messages.specs.Messages.{is_full_for as has_full_messages, is_of_messages, name_cmp, with_changed, Named}
-use Rattle.co_messages.specs.Messages.{with_message, with_sink, with_source, without_sink, without_source}
-use Rattle.co_params.specs.Params.{is_full_for, Texts as Params}
+use Rattle.co_edits.specs.Versions.{is_one}
+use Rattle.co_messages.specs.Messages.{with_message, with_sink, with_source, with_start, without_sink, without_source}
+use Rattle.co_params.specs.Params.{is_full_for}
 use Rattle.co_project.specs.declared.node.Node.{Node}
 use Rattle.co_project.specs.Project.{accept, first, with_nodes, Content as Project}
-use Rattle.co_project.specs.Tables.{is_named, is_used, name_taken, node_at, put_node, text_at, with_param}
-use Rattle.co_project.specs.Tables.{without_param, Nodes, Texts}
+use Rattle.co_project.specs.Tables.{is_named, is_used, name_taken, node_at, put_need, put_node, text_at, with_need}
+use Rattle.co_project.specs.Tables.{with_param, without_param, Nodes, Texts}
 use Rattle.kept_parts.specs.Made.{plan_made, writes_made}
 use Rattle.kept_parts.specs.Kept.{dcf_of_node, device_at, given, of_node, plan_from, writes_from, writes_of_node}
 use Rattle.kept_parts.specs.Kept.{OfConcise, OfDcf, OfDevice, OfPlan, OfWrites}
@@ -93,14 +95,11 @@ module _ (p new : Project) where
   texts_left name o t (part.Concise n) h = cc
   texts_left name o t (part.Dcf n) h = cc
 
--- ---- parameters
+-- ---- a node of the same EDS in the place of one
 
-module _ (p : Project) (id : ℕ) (node : Node) (params : Params) (there : get p.nodes id ≡ Some node) where
-  abbrev changed_node : Node
-  changed_node = record node { params = params }
-
+module _ (p : Project) (id : ℕ) (node other : Node) (there : get p.nodes id ≡ Some node) (eds : other.eds ≡ node.eds) where
   abbrev changed : Project
-  changed = record p { nodes = insert p.nodes id changed_node }
+  changed = record p { nodes = insert p.nodes id other }
 
   abbrev by_eds : ℕ × List ℕ → Option (ℕ × Device)
   by_eds e = option_map (λ d. (e.0, d)) (device_at p e.1)
@@ -111,17 +110,30 @@ module _ (p : Project) (id : ℕ) (node : Node) (params : Params) (there : get p
   same_plan : plan_from changed ≡ plan_from p
   same_plan =
       ap (plan_with)
-      (filter_shown (λ (n : Node). n.eds) by_eds (entries (insert p.nodes id changed_node))
+      (filter_shown (λ (n : Node). n.eds) by_eds (entries (insert p.nodes id other))
       ∙ ap (filter_map by_eds)
-      (entries_alike (λ (n : Node). n.eds) nat_cmp_total exact_unsigned p.nodes id node changed_node there refl)
+      (entries_alike (λ (n : Node). n.eds) nat_cmp_total exact_unsigned p.nodes id node other there eds)
       ∙ sym (filter_shown (λ (n : Node). n.eds) by_eds (entries p.nodes)))
 
   other_node : (n : ℕ) → (n == id) ≡ false → node_at changed.nodes n ≡ node_at p.nodes n
-  other_node n apart = get-insert nat_cmp_total p.nodes id changed_node n ∙ by (eq_by_cmp nat_cmp n id) refl
+  other_node n apart = get-insert nat_cmp_total p.nodes id other n ∙ by (eq_by_cmp nat_cmp n id) refl
     where
-      by : (t : Bool) → eq_by_cmp nat_cmp n id ≡ t → cond t (Some changed_node) (get p.nodes n) ≡ get p.nodes n
+      by : (t : Bool) → eq_by_cmp nat_cmp n id ≡ t → cond t (Some other) (get p.nodes n) ≡ get p.nodes n
       by true same = let e : (n == id) ≡ true = eq-eqb n id (alike nat_cmp_total exact_unsigned n id same) in cc
-      by false other = refl
+      by false others = refl
+
+  -- what is made of the node of a number, where it is made alike of both
+  made_alike : {X : Type 0} (make : Node → Option X) → make other ≡ make node → (n : ℕ)
+      → option_and_then make (node_at changed.nodes n) ≡ option_and_then make (node_at p.nodes n)
+  made_alike make same n =
+      ap (option_and_then make) (get-insert nat_cmp_total p.nodes id other n) ∙ by (eq_by_cmp nat_cmp n id) refl
+    where
+      by : (t : Bool) → eq_by_cmp nat_cmp n id ≡ t
+          → option_and_then make (cond t (Some other) (get p.nodes n)) ≡ option_and_then make (get p.nodes n)
+      by true one =
+          same
+          ∙ ap (option_and_then make) (sym (ap (get p.nodes) (alike nat_cmp_total exact_unsigned n id one) ∙ there))
+      by false others = refl
 
   -- what the writes of a node are built from, with its node
   abbrev writes_with : ℕ → PlanFrom → Node → Option WritesFrom
@@ -157,6 +169,33 @@ module _ (p : Project) (id : ℕ) (node : Node) (params : Params) (there : get p
       ap (λ o. option_map OfDcf (option_and_then (dcf_of_node changed n) o)) (other_node n h)
       ∙ ap (λ f. option_map OfDcf (dcf_by n f)) same_plan
 
+-- ---- whether a node is mandatory
+
+module _ (p : Project) (id : ℕ) (node : Node) (mandatory : Bool) (there : get p.nodes id ≡ Some node) where
+  abbrev needed_node : Node
+  needed_node = with_need mandatory node
+
+  abbrev needed : Project
+  needed = changed p id node needed_node there refl
+
+  needed_plan : plan_from needed ≡ plan_from p
+  needed_plan = same_plan p id node needed_node there refl
+
+  needed_writes : (n : ℕ) → writes_from needed n ≡ writes_from p n
+  needed_writes n =
+      made_alike p id node needed_node there refl (writes_of_node needed n) refl n
+      ∙ ap (writes_by p id node needed_node there refl n) needed_plan
+
+  pub need_left : (q : Part) → given needed q ≡ given p q
+  need_left (part.Device e) = refl
+  need_left part.Plan = ap (λ f. Some (OfPlan f)) needed_plan
+  need_left (part.Writes n) = ap (option_map OfWrites) (needed_writes n)
+  need_left (part.Concise n) =
+      ap (λ o. option_map OfConcise (option_map (λ w. record { writes = writes_made w }) o)) (needed_writes n)
+  need_left (part.Dcf n) =
+      ap (option_map OfDcf) (made_alike p id node needed_node there refl (dcf_of_node needed n) refl n)
+      ∙ ap (λ f. option_map OfDcf (dcf_by p id node needed_node there refl n f)) needed_plan
+
 -- ---- an edit that is taken
 
 -- what is taken
@@ -191,18 +230,25 @@ module _ (p new : Project) (q : Part) where
   put_param_left id place text None there h apart = cc
   put_param_left id place text (Some node) there h apart =
       so _ (nodes_test p (is_full_for node.params place) _ _ new h)
-      (params_left p id node (insert node.params place text) there q apart)
+      (params_left p id node (record node { params = insert node.params place text }) there refl q apart)
 
   drop_param_left : (id : ℕ) (place : ℕ × ℕ) (o : Option Node) → get p.nodes id ≡ o
       → with_nodes p (without_param p.nodes id place o) ≡ Ok new → is_of_node id q ≡ false → Left new
   drop_param_left id place None there h apart = cc
   drop_param_left id place (Some node) there h apart =
-      so _ (nodes_test p _ _ _ new h) (params_left p id node (remove node.params place) there q apart)
+      so _ (nodes_test p _ _ _ new h)
+      (params_left p id node (record node { params = remove node.params place }) there refl q apart)
 
   -- an edit of a setting that no part is built from
   setting_left : (made : Project) → made ≡ new → made.bitrate ≡ p.bitrate → made.texts ≡ p.texts
       → made.nodes ≡ p.nodes → made.messages ≡ p.messages → Left new
   setting_left made is r t n m = so made is (settings_left p made r t n m q)
+
+  -- whether a node is mandatory
+  needed_left : (id : ℕ) (mandatory : Bool) (o : Option Node) → get p.nodes id ≡ o
+      → Left (record p { nodes = option_map_or (λ node. insert p.nodes id (with_need mandatory node)) o p.nodes })
+  needed_left id mandatory None none = refl
+  needed_left id mandatory (Some node) there = need_left p id node mandatory there q
 
   -- one of the nodes or messages
   network_left : (made : Project) → made ≡ new → made.texts ≡ p.texts → is_planned q ≡ false → Left new
@@ -211,6 +257,9 @@ module _ (p new : Project) (q : Part) where
   -- an edit that is taken leaves what it doesn't touch as it was
   pub frame : (e : Edit) → accept p e ≡ Ok new → touched e q ≡ false → given new q ≡ given p q
   unfolding accept
+  frame (edit.Version version) h apart =
+      let made : Project = record p { version = version } in
+      setting_left made (one_test _ _ made new h) refl refl refl refl
   frame (edit.Bitrate rate) h apart =
       let made : Project = record p { bitrate = rate } in
       so made (taken made new h) (rate_left p made refl refl refl q apart)
@@ -220,6 +269,9 @@ module _ (p new : Project) (q : Part) where
   frame (edit.Manager m) h apart =
       let made : Project = record p { manager = m } in
       setting_left made (one_test _ _ made new h) refl refl refl refl
+  frame (edit.SyncCounter n) h apart =
+      let made : Project = record p { sync_counter = n } in
+      setting_left made (taken made new h) refl refl refl refl
   frame (edit.Eds name text) h apart =
       let made : Project = record p { texts = insert p.texts name text } in
       so made (one_test _ _ made new h)
@@ -234,6 +286,10 @@ module _ (p new : Project) (q : Part) where
       network_left made
       (two_tests (not (contains_key p.texts eds)) (id == p.manager.id || name_taken p.nodes id name) Unknown Taken
       made new h) refl apart
+  frame (edit.Need id mandatory) h apart =
+      so (record p { nodes = put_need p.nodes id mandatory })
+      (two_tests (is_one p.version) (not (contains_key p.nodes id)) Range Unknown _ new h)
+      (needed_left id mandatory (get p.nodes id) refl)
   frame (edit.DropNode id) h apart =
       let made : Project = record p { nodes = remove p.nodes id } in
       network_left made
@@ -246,6 +302,9 @@ module _ (p new : Project) (q : Part) where
       network_left made
       (two_tests (not (contains_key p.nodes m.node)) (has_full_messages p.messages name) Unknown Limit made new h)
       refl apart
+  frame (edit.Start name n) h apart =
+      let made : Project = record p { messages = with_changed (with_start n) p.messages name } in
+      network_left made (one_test _ _ made new h) refl apart
   frame (edit.DropMessage name) h apart =
       let made : Project = record p { messages = remove p.messages name } in
       network_left made (one_test _ _ made new h) refl apart
@@ -288,13 +347,12 @@ module _ (p new : Project) where
   same_so : (made : Project) → made ≡ new → SameNodes made → SameNodes new
   same_so made is same = subst SameNodes is same
 
-  params_same : (id : ℕ) (node : Node) (params : Params) (there : get p.nodes id ≡ Some node)
-      → SameNodes (changed p id node params there)
-  params_same id node params there =
-      of_shown (entries (insert p.nodes id (changed_node p id node params there)))
+  changed_same : (id : ℕ) (node other : Node) (there : get p.nodes id ≡ Some node) (eds : other.eds ≡ node.eds)
+      → SameNodes (changed p id node other there eds)
+  changed_same id node other there eds =
+      of_shown (entries (insert p.nodes id other))
       ∙ ap (map named)
-      (entries_alike (λ (n : Node). n.eds) nat_cmp_total exact_unsigned p.nodes id node
-      (changed_node p id node params there) there refl)
+      (entries_alike (λ (n : Node). n.eds) nat_cmp_total exact_unsigned p.nodes id node other there eds)
       ∙ sym (of_shown (entries p.nodes))
 
   put_param_same : (id : ℕ) (place : ℕ × ℕ) (text : List ℕ) (o : Option Node) → get p.nodes id ≡ o
@@ -302,27 +360,40 @@ module _ (p new : Project) where
   put_param_same id place text None there h = cc
   put_param_same id place text (Some node) there h =
       same_so _ (nodes_test p (is_full_for node.params place) _ _ new h)
-      (params_same id node (insert node.params place text) there)
+      (changed_same id node (record node { params = insert node.params place text }) there refl)
 
   drop_param_same : (id : ℕ) (place : ℕ × ℕ) (o : Option Node) → get p.nodes id ≡ o
       → with_nodes p (without_param p.nodes id place o) ≡ Ok new → SameNodes new
   drop_param_same id place None there h = cc
   drop_param_same id place (Some node) there h =
-      same_so _ (nodes_test p _ _ _ new h) (params_same id node (remove node.params place) there)
+      same_so _ (nodes_test p _ _ _ new h)
+      (changed_same id node (record node { params = remove node.params place }) there refl)
+
+  need_same : (id : ℕ) (mandatory : Bool) (o : Option Node) → get p.nodes id ≡ o
+      → SameNodes (record p { nodes = option_map_or (λ node. insert p.nodes id (with_need mandatory node)) o p.nodes })
+  need_same id mandatory None none = refl
+  need_same id mandatory (Some node) there = changed_same id node (with_need mandatory node) there refl
 
   -- an edit that is taken and doesn't touch the plan leaves the nodes with their EDS
   pub nodes_left : (e : Edit) → accept p e ≡ Ok new → touched e part.Plan ≡ false → SameNodes new
   unfolding accept
+  nodes_left (edit.Version version) h apart = same_so (record p { version = version }) (one_test _ _ _ new h) refl
   nodes_left (edit.Bitrate rate) h apart = same_so (record p { bitrate = rate }) (taken _ new h) refl
   nodes_left (edit.Horizon time) h apart = same_so (record p { horizon = time }) (taken _ new h) refl
   nodes_left (edit.Manager m) h apart = same_so (record p { manager = m }) (one_test _ _ _ new h) refl
+  nodes_left (edit.SyncCounter n) h apart = same_so (record p { sync_counter = n }) (taken _ new h) refl
   nodes_left (edit.Eds name text) h apart = cc
   nodes_left (edit.DropEds name) h apart = cc
   nodes_left (edit.Node id name eds) h apart = cc
+  nodes_left (edit.Need id mandatory) h apart =
+      same_so (record p { nodes = put_need p.nodes id mandatory })
+      (two_tests (is_one p.version) (not (contains_key p.nodes id)) Range Unknown _ new h)
+      (need_same id mandatory (get p.nodes id) refl)
   nodes_left (edit.DropNode id) h apart = cc
   nodes_left (edit.Param id index sub text) h apart = put_param_same id (index, sub) text (get p.nodes id) refl h
   nodes_left (edit.Unparam id index sub) h apart = drop_param_same id (index, sub) (get p.nodes id) refl h
   nodes_left (edit.Message name m) h apart = cc
+  nodes_left (edit.Start name n) h apart = cc
   nodes_left (edit.DropMessage name) h apart = cc
   nodes_left (edit.Source name position index sub) h apart = cc
   nodes_left (edit.Unsource name position) h apart = cc

@@ -122,16 +122,20 @@ module _ (asked : Part → Bool) (old new : KeptParts) (m : Marks asked old new)
 
 -- where the plan isn't touched, no device is
 pub plan_below : (e : Edit) (name : List ℕ) → touched e part.Plan ≡ false → touched e (part.Device name) ≡ false
+plan_below (edit.Version version) name h = refl
 plan_below (edit.Bitrate rate) name h = refl
 plan_below (edit.Horizon time) name h = refl
 plan_below (edit.Manager m) name h = refl
+plan_below (edit.SyncCounter n) name h = refl
 plan_below (edit.Eds other text) name h = cc
 plan_below (edit.DropEds other) name h = cc
 plan_below (edit.Node id node eds) name h = refl
+plan_below (edit.Need id mandatory) name h = refl
 plan_below (edit.DropNode id) name h = refl
 plan_below (edit.Param id index sub text) name h = refl
 plan_below (edit.Unparam id index sub) name h = refl
 plan_below (edit.Message message m) name h = refl
+plan_below (edit.Start message n) name h = refl
 plan_below (edit.DropMessage message) name h = refl
 plan_below (edit.Source message position index sub) name h = refl
 plan_below (edit.Unsource message position) name h = refl

@@ -30,16 +30,20 @@ is_dcf (part.Dcf n) = true
 is_dcf others = false
 
 abbrev pub touched : Edit → Part → Bool
+touched (edit.Version version) q = false
 touched (edit.Bitrate rate) q = is_dcf q
 touched (edit.Horizon time) q = false
 touched (edit.Manager m) q = false
+touched (edit.SyncCounter n) q = false
 touched (edit.Eds name text) q = is_of_text name q
 touched (edit.DropEds name) q = is_of_text name q
 touched (edit.Node id name eds) q = is_planned q
+touched (edit.Need id mandatory) q = false
 touched (edit.DropNode id) q = is_planned q
 touched (edit.Param id index sub text) q = is_of_node id q
 touched (edit.Unparam id index sub) q = is_of_node id q
 touched (edit.Message name m) q = is_planned q
+touched (edit.Start name n) q = is_planned q
 touched (edit.DropMessage name) q = is_planned q
 touched (edit.Source name position index sub) q = is_planned q
 touched (edit.Unsource name position) q = is_planned q

@@ -49,16 +49,20 @@ impl KeptParts {
         ensures { Marks (touched edit.now) self.old self.new }
     {
         match edit {
+            Edit::Version(_) => (),
             Edit::Bitrate(_) => self.touch_rate(),
             Edit::Horizon(_) => (),
             Edit::Manager(_) => (),
+            Edit::SyncCounter(_) => (),
             Edit::Eds { name, .. } => self.touch_text(name.as_slice()),
             Edit::DropEds { name } => self.touch_text(name.as_slice()),
             Edit::Node { .. } => self.touch_plan(),
+            Edit::Need { .. } => (),
             Edit::DropNode { .. } => self.touch_plan(),
             Edit::Param { id, .. } => self.touch_node(*id),
             Edit::Unparam { id, .. } => self.touch_node(*id),
             Edit::Message { .. } => self.touch_plan(),
+            Edit::Start { .. } => self.touch_plan(),
             Edit::DropMessage { .. } => self.touch_plan(),
             Edit::Source { .. } => self.touch_plan(),
             Edit::Unsource { .. } => self.touch_plan(),

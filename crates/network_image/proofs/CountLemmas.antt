@@ -26,7 +26,7 @@ use Rattle.co_project.specs.declared.node.Node.{Node}
 use Rattle.co_project.specs.Project.{Content as Project}
 use Rattle.co_project.specs.Sound.{AreTexts, IsMessageOf, IsSound}
 use Rattle.co_project.specs.Tables.{node_at, text_at}
-use Rattle.co_values.specs.declared.form.Width.TheVariants.{Bits16}
+use Rattle.co_values.specs.declared.form.Width.TheVariants.{Bits8, Bits16}
 use Rattle.concise_dcf.specs.declared.write.Write.{Write}
 use Rattle.eds_device.specs.Entries.{entry_at}
 use Rattle.eds_device.specs.Faults.{most_entries, device_of}
@@ -37,7 +37,7 @@ use Rattle.byteorder.specs.Endian.{little_bytes}
 use Rattle.ini_text.specs.Content.{Content, Section, content_of}
 use Rattle.ini_text.specs.Text.{is_out_of_range, has_bad_byte}
 use Rattle.pdo_links.specs.Writes.{at_number, by_number, cob_write, link_writes, mapped_writes, mapping_writes}
-use Rattle.pdo_links.specs.Writes.{node_writes, rpdo_of, rpdo_writes, time_write, tpdo_of, tpdo_writes}
+use Rattle.pdo_links.specs.Writes.{node_writes, rpdo_of, rpdo_writes, start_write, time_write, tpdo_of, tpdo_writes}
 use Rattle.pdo_links.specs.Writes.{write_at}
 use Rattle.pdo_plan.specs.declared.clean.Clean.{Clean}
 use Rattle.pdo_plan.specs.declared.consumer.Consumer.{Consumer}
@@ -56,13 +56,20 @@ joined_few a b vs ws h k = omega (arith, h, k, length-append vs ws)
 not_over : (most n : ℕ) → nat_lt most n ≡ false → n ≤ most
 not_over most n e = grind (arith, nat_tests)
 
--- ---- the writes of a PDO: at most 71
+-- ---- the writes of a PDO: at most 72
 
 time_few : (ss : List Section) (node object sub time : ℕ) → length (time_write ss node object sub time) ≤ 1
 time_few ss node object sub time = by (option_map_or (takes_unsigned Bits16) (entry_at ss node object sub) false)
   where
     by : (b : Bool) → let ws : List Write = if b then write_at object sub (little_bytes 2 time) ∷ [] else []
         in length ws ≤ 1
+    by true = omega arith
+    by false = omega arith
+
+start_few : (ss : List Section) (node object start : ℕ) → length (start_write ss node object start) ≤ 1
+start_few ss node object start = by (option_map_or (takes_unsigned Bits8) (entry_at ss node object 6) false)
+  where
+    by : (b : Bool) → let ws : List Write = if b then write_at object 6 (start ∷ []) ∷ [] else [] in length ws ≤ 1
     by true = omega arith
     by false = omega arith
 
@@ -77,23 +84,27 @@ mapping_few object mapping few =
     let both = joined_few 64 1 (mapped_writes object 1 mapping) count (omega (arith, mapped, few)) (omega arith) in
     omega (arith, both)
 
-tpdo_few : (ss : List Section) (node : ℕ) (c : Clean) → length c.mapping ≤ 64 → length (tpdo_writes ss node c) ≤ 71
+tpdo_few : (ss : List Section) (node : ℕ) (c : Clean) → length c.mapping ≤ 64 → length (tpdo_writes ss node c) ≤ 72
 unfolding tpdo_writes
 tpdo_few ss node c few =
     let object : ℕ = tpdo_object c.message.tpdo in
     let inhibit : List Write = time_write ss node object 3 c.message.inhibit in
     let event : List Write = time_write ss node object 5 c.message.event in
+    let start : List Write = start_write ss node object c.start in
     let mapping : List Write = mapping_writes (mapping_of object) c.mapping in
     let on : List Write = cob_write object (no_rtr_bit + c.identifier) ∷ [] in
+    let times =
+    joined_few 1 1 inhibit event (time_few ss node object 3 c.message.inhibit)
+    (time_few ss node object 5 c.message.event) in
     let rest =
-    joined_few 68 1 (inhibit ++ event ++ mapping) on
-    (joined_few 2 66 (inhibit ++ event) mapping
-    (joined_few 1 1 inhibit event (time_few ss node object 3 c.message.inhibit)
-    (time_few ss node object 5 c.message.event)) (mapping_few (mapping_of object) c.mapping few))
+    joined_few 69 1 (inhibit ++ event ++ start ++ mapping) on
+    (joined_few 3 66 (inhibit ++ event ++ start) mapping
+    (joined_few 2 1 (inhibit ++ event) start times (start_few ss node object c.start))
+    (mapping_few (mapping_of object) c.mapping few))
     (omega arith) in
     omega (arith, rest)
 
-rpdo_few : (c : Clean) (k : Consumer) → length k.mapping ≤ 64 → length (rpdo_writes c k) ≤ 71
+rpdo_few : (c : Clean) (k : Consumer) → length k.mapping ≤ 64 → length (rpdo_writes c k) ≤ 72
 unfolding rpdo_writes
 rpdo_few c k few =
     let object : ℕ = rpdo_object k.rpdo in
@@ -106,28 +117,28 @@ rpdo_few c k few =
 
 module _ {Y : Type 0} (f : Y → List Write) where
   abbrev AreFew : List (ℕ × Y) → Type 0
-  AreFew pdos = AllByRecursion (λ pdo. length (f pdo.1) ≤ 71) pdos
+  AreFew pdos = AllByRecursion (λ pdo. length (f pdo.1) ≤ 72) pdos
 
-  number_few : (pdos : List (ℕ × Y)) (number : ℕ) → AreFew pdos → length (at_number f pdos number) ≤ 71
+  number_few : (pdos : List (ℕ × Y)) (number : ℕ) → AreFew pdos → length (at_number f pdos number) ≤ 72
   number_few [] number few = omega arith
   number_few (pdo ∷ pdos) number few = by (is_at (nat_cmp number) pdo.0) (number_few pdos number few.1)
     where
-      by : (b : Bool) → length (option_map_or f (lookup (is_at (nat_cmp number)) pdos) []) ≤ 71
-          → length (option_map_or f (cond b (Some pdo.1) (lookup (is_at (nat_cmp number)) pdos)) []) ≤ 71
+      by : (b : Bool) → length (option_map_or f (lookup (is_at (nat_cmp number)) pdos) []) ≤ 72
+          → length (option_map_or f (cond b (Some pdo.1) (lookup (is_at (nat_cmp number)) pdos)) []) ≤ 72
       by true rest = few.0
       by false rest = rest
 
   range_few : (pdos : List (ℕ × Y)) (first count : ℕ) → AreFew pdos
-      → length (flat_map (at_number f pdos) (range_with_len first count)) ≤ 71 * count
+      → length (flat_map (at_number f pdos) (range_with_len first count)) ≤ 72 * count
   range_few pdos first zero few = omega arith
   range_few pdos first (suc count) few =
       let both =
-      joined_few 71 (71 * count) (at_number f pdos first)
+      joined_few 72 (72 * count) (at_number f pdos first)
       (flat_map (at_number f pdos) (range_with_len (first + 1) count)) (number_few pdos first few)
       (range_few pdos (first + 1) count few) in
       omega (arith, both)
 
-  by_number_few : (pdos : List (ℕ × Y)) → AreFew pdos → length (by_number f pdos) ≤ 36352
+  by_number_few : (pdos : List (ℕ × Y)) → AreFew pdos → length (by_number f pdos) ≤ 36864
   unfolding by_number
   by_number_few pdos few = range_few pdos 1 512 few
 
@@ -152,13 +163,13 @@ module _ (p : Project) (sound : IsSound p) where
 
   module _ (node : ℕ) where
     sent_by : (ss : List Section) (c : Clean) (pdo : ℕ × Clean) → IsWithin c → tpdo_of node c ≡ Some pdo
-        → length (tpdo_writes ss node pdo.1) ≤ 71
+        → length (tpdo_writes ss node pdo.1) ≤ 72
     sent_by ss c pdo within = by (c.message.node == node)
       where
         by : (b : Bool) → (let none : Option (ℕ × Clean) = None in if b then Some (c.message.tpdo, c) else none)
-            ≡ Some pdo → length (tpdo_writes ss node pdo.1) ≤ 71
+            ≡ Some pdo → length (tpdo_writes ss node pdo.1) ≤ 72
         by true is =
-            subst (λ (x : ℕ × Clean). length (tpdo_writes ss node x.1) ≤ 71) (same_Some (c.message.tpdo, c) pdo is)
+            subst (λ (x : ℕ × Clean). length (tpdo_writes ss node x.1) ≤ 72) (same_Some (c.message.tpdo, c) pdo is)
             (tpdo_few ss node c within.sent.1)
         by false is = cc
 
@@ -175,31 +186,31 @@ module _ (p : Project) (sound : IsSound p) where
         by false rest = rest
 
     taken_by : (c : Clean) (pdo : ℕ × (Clean × Consumer)) → IsWithin c → rpdo_of node c ≡ Some pdo
-        → length (rpdo_writes pdo.1.0 pdo.1.1) ≤ 71
+        → length (rpdo_writes pdo.1.0 pdo.1.1) ≤ 72
     taken_by c pdo within = by (find (λ (k : Consumer). k.node == node) c.consumers)
         (consumer_few c.consumers
         (recursion_from_All (λ (k : Consumer). IsNumbered k.rpdo k.mapping) c.consumers within.taken))
       where
         by : (o : Option Consumer) → IfSome o (λ (k : Consumer). length k.mapping ≤ 64)
-            → option_map (λ (k : Consumer). (k.rpdo, (c, k))) o ≡ Some pdo → length (rpdo_writes pdo.1.0 pdo.1.1) ≤ 71
+            → option_map (λ (k : Consumer). (k.rpdo, (c, k))) o ≡ Some pdo → length (rpdo_writes pdo.1.0 pdo.1.1) ≤ 72
         by None few is = cc
         by (Some k) few is =
-            subst (λ (x : ℕ × (Clean × Consumer)). length (rpdo_writes x.1.0 x.1.1) ≤ 71)
+            subst (λ (x : ℕ × (Clean × Consumer)). length (rpdo_writes x.1.0 x.1.1) ≤ 72)
             (same_Some (k.rpdo, (c, k)) pdo is) (rpdo_few c k few)
 
-    links_few : (ss : List Section) → length (link_writes (plan_of_project p) ss node) ≤ 72704
+    links_few : (ss : List Section) → length (link_writes (plan_of_project p) ss node) ≤ 73728
     unfolding link_writes
     links_few ss =
         let cs : List Clean = clean (plan_of_project p) in
         let taken : Clean × Consumer → List Write = λ (t : Clean × Consumer). rpdo_writes t.0 t.1 in
         let tpdos : List (ℕ × Clean) = filter_map (tpdo_of node) cs in
         let rpdos : List (ℕ × (Clean × Consumer)) = filter_map (rpdo_of node) cs in
-        joined_few 36352 36352 (by_number (tpdo_writes ss node) tpdos) (by_number taken rpdos)
+        joined_few 36864 36864 (by_number (tpdo_writes ss node) tpdos) (by_number taken rpdos)
         (by_number_few (tpdo_writes ss node) tpdos
-        (picked (tpdo_of node) IsWithin (λ (pdo : ℕ × Clean). length (tpdo_writes ss node pdo.1) ≤ 71) (sent_by ss) cs
+        (picked (tpdo_of node) IsWithin (λ (pdo : ℕ × Clean). length (tpdo_writes ss node pdo.1) ≤ 72) (sent_by ss) cs
         all_within))
         (by_number_few taken rpdos
-        (picked (rpdo_of node) IsWithin (λ (pdo : ℕ × (Clean × Consumer)). length (rpdo_writes pdo.1.0 pdo.1.1) ≤ 71)
+        (picked (rpdo_of node) IsWithin (λ (pdo : ℕ × (Clean × Consumer)). length (rpdo_writes pdo.1.0 pdo.1.1) ≤ 72)
         taken_by cs all_within))
 
   -- ---- the EDS of each node has at most 4,096 entries
@@ -246,6 +257,6 @@ module _ (p : Project) (sound : IsSound p) where
       let entries = member_few id m is in
       let parameters = writes_few m.sections m.node.params id in
       let both =
-      joined_few 4096 72704 (parameter_writes m.sections m.node.params id)
+      joined_few 4096 73728 (parameter_writes m.sections m.node.params id)
       (link_writes (plan_of_project p) m.sections id) (omega (arith, entries, parameters)) (links_few id m.sections) in
       omega (arith, both)

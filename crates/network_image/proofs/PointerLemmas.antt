@@ -1,11 +1,8 @@
 -- What lies behind pointers, and at places of lists.
-use Rattle.std.proofs.Common.{◌≡◌, ℕ, zero, suc, ◌<◌, ◌≤◌, false, length, arith, List, [], ◌∷◌, Result, Ok, Err, Option}
-use Rattle.std.proofs.Common.{refl, Some, None, IfOk, IfSome, All, option_map, sym, ap, subst, ◌∙◌, slice_get}
+use Rattle.std.proofs.Common.{◌≡◌, ℕ, zero, suc, ◌<◌, ◌≤◌, length, arith, List, [], ◌∷◌, Result, Ok, Err, Option}
+use Rattle.std.proofs.Common.{refl, Some, None, IfOk, IfSome, All, sym, subst, slice_get}
 use Rattle.std.proofs.lemmas.List.Elements.{All-head, All-tail}
-use Rattle.std.proofs.lemmas.Option.{slice_get-get_or, slice_get-map, slice_get_past}
-use Rattle.std.specs.Prelude.{get_or, nat_lt}
 use Rattle.std.specs.declared.rc.Rc.{Rc}
-use Rattle.std.proofs.lemmas.Bool.Decides.{nat_tests}
 use Rattle.co_parts.specs.Shared.{shared}
 
 -- what holds of all holds at a place

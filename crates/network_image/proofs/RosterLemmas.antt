@@ -1,35 +1,36 @@
 -- The roster of a project is one.
-use Rattle.std.proofs.Common.{◌≡◌, ◌≢◌, ℕ, ◌<◌, ◌≤◌, ◌==◌, ◌||◌, ◌⊎◌, Bool, true, false, T, List, [], ◌∷◌}
-use Rattle.std.proofs.Common.{All, refl, arith, inl, inr}
-use Rattle.std.specs.Prelude.{map, nat_eq}
+use Rattle.std.proofs.Common.{◌≡◌, ◌≢◌, ℕ, ◌<◌, ◌≤◌, ◌==◌, ◌||◌, ◌⊎◌, Bool, true, false, cond, T, List, [], ◌∷◌}
+use Rattle.std.proofs.Common.{All, Contains, refl, arith, inl, inr}
+use Rattle.std.specs.Prelude.{map, nat_eq, filter}
 use Rattle.std.specs.List.{AllByRecursion}
 use Rattle.std.specs.Ordering.{nat_cmp, is_lt}
-use Rattle.std.specs.FinMap.{entries, entries_sorted, is_sorted}
+use Rattle.std.specs.FinMap.{entries, entries_sorted, is_sorted, keys}
+use Rattle.std.specs.Map.{keys_of}
 use Rattle.std.specs.FinMap.Entries.{below_all}
 use Rattle.std.proofs.lemmas.Bool.{eq-eqb, eqb-true}
 use Rattle.std.proofs.lemmas.Bool.Decides.{nat_tests}
 use Rattle.std.proofs.lemmas.Cmp.{nat_cmp_total}
-use Rattle.std.proofs.lemmas.List.Elements.{All-head, All-tail}
+use Rattle.std.proofs.lemmas.List.Elements.{All-contains_itself, All-head, All-tail, recursion_from_All}
 use Rattle.std.proofs.lemmas.Map.Lookups.{exact_unsigned}
 use Rattle.std.proofs.lemmas.Map.Views.{Contains-from_any}
 use Rattle.co_base.proofs.EachLemmas.{all_entries, first_part, second_part}
 use Rattle.pdo_plan.proofs.LimitLemmas.{between}
 use Rattle.co_base.specs.Ranges.{is_between}
 use Rattle.co_edits.specs.Edits.{IsManager}
-use Rattle.co_edits.specs.Forms.{is_sync_period}
 use Rattle.co_project.specs.declared.node.Node.{Node}
 use Rattle.co_project.specs.Project.{Content as Project}
 use Rattle.co_project.specs.Sound.{IsNodeOf, IsSound}
 use Rattle.co_parts.specs.Images.{AllDiffer, bit_rates, IsNode, IsRoster}
-use Rattle.network_image.specs.Image.{roster_of_project}
+use Rattle.network_image.specs.Image.{mandatory_of, roster_of_project}
 
--- none, or from a millisecond to ten seconds
-sync_period : (n : ℕ) → is_sync_period n ≡ true → (n ≡ 0) ⊎ ((1000 ≤ n) × (n ≤ 10000000))
-sync_period n is = by (n == 0) refl is
+-- none, or from a least number to a greatest
+none_or_between : (least most n : ℕ) → (n == 0 || is_between least most n) ≡ true
+    → (n ≡ 0) ⊎ ((least ≤ n) × (n ≤ most))
+none_or_between least most n is = by (n == 0) refl is
   where
-    by : (t : Bool) → (n == 0) ≡ t → (t || is_between 1000 10000000 n) ≡ true → (n ≡ 0) ⊎ ((1000 ≤ n) × (n ≤ 10000000))
+    by : (t : Bool) → (n == 0) ≡ t → (t || is_between least most n) ≡ true → (n ≡ 0) ⊎ ((least ≤ n) × (n ≤ most))
     by true none h = inl (eqb-true n 0 none)
-    by false some h = inr (between 1000 10000000 n h)
+    by false some h = inr (between least most n h)
 
 -- the numbers of nodes aren't the manager's
 numbers_apart : (p : Project) (nodes : List (ℕ × Node)) → All (λ e. IsNodeOf p e.0 e.1) nodes
@@ -59,14 +60,33 @@ keys_differ : {X : Type 0} (es : List (ℕ × X)) → T (is_sorted nat_cmp es) �
 keys_differ [] sorted = tt
 keys_differ (e ∷ es) sorted = (apart e.0 es (first_part _ _ sorted), keys_differ es (second_part _ _ sorted))
 
+-- what holds of each key of a table holds of each that a test leaves
+keys_left : {X : Type 0} (P : ℕ → Type 0) (test : ℕ × X → Bool) (es : List (ℕ × X))
+    → AllByRecursion P (keys_of es) → AllByRecursion P (keys_of (filter test es))
+keys_left P test [] all = tt
+keys_left P test (e ∷ es) all = by (test e) (keys_left P test es all.1)
+  where
+    by : (t : Bool) → AllByRecursion P (keys_of (filter test es))
+        → AllByRecursion P (keys_of (cond t (e ∷ filter test es) (filter test es)))
+    by true rest = (all.0, rest)
+    by false rest = rest
+
+-- the mandatory nodes are among the nodes
+mandatory_among : (p : Project) → AllByRecursion (Contains (keys p.nodes)) (mandatory_of p.nodes)
+mandatory_among p =
+    keys_left (Contains (keys p.nodes)) (λ (e : ℕ × Node). e.1.mandatory) (entries p.nodes)
+    (recursion_from_All (Contains (keys p.nodes)) (keys p.nodes) (All-contains_itself (keys p.nodes)))
+
 pub is_roster : (p : Project) → IsSound p → IsRoster (roster_of_project p)
 unfolding roster_of_project IsManager
 is_roster p sound = record {
   bit_rate = Contains-from_any {eq = nat_eq} (λ x y. eqb-true x y) p.bitrate bit_rates sound.bitrate;
   manager = between 1 127 p.manager.id sound.manager.0;
-  sync = sync_period p.manager.sync_us sound.manager.1;
+  sync = none_or_between 1000 10000000 p.manager.sync_us sound.manager.1;
+  counter = none_or_between 2 240 p.sync_counter sound.counter;
   heartbeat = let most = between 0 65535 p.manager.heartbeat_ms sound.manager.2 in omega (arith, most.1);
   timeout = let range = between 1 65535 p.manager.timeout_ms sound.manager.3 in (range.0, omega (arith, range.1));
   nodes = numbers_apart p (entries p.nodes) (all_entries nat_cmp_total exact_unsigned (IsNodeOf p) p.nodes sound.nodes);
   differ = keys_differ (entries p.nodes) (entries_sorted p.nodes);
+  mandatory = mandatory_among p;
 }

@@ -9,7 +9,7 @@ use Rattle.std.specs.Option.{option_map_or}
 use Rattle.std.specs.Ordering.{nat_cmp}
 use Rattle.std.proofs.lemmas.List.Elements.{All-append, All-cons, All-nil}
 use Rattle.byteorder.specs.Endian.{little_bytes}
-use Rattle.co_values.specs.declared.form.Width.TheVariants.{Bits16}
+use Rattle.co_values.specs.declared.form.Width.TheVariants.{Bits8, Bits16}
 use Rattle.co_fields.specs.CobIds.{no_rtr_bit, off_bit}
 use Rattle.concise_dcf.specs.declared.write.Write.{Write}
 use Rattle.ini_text.specs.Content.{Section}
@@ -25,7 +25,7 @@ use Rattle.pdo_plan.specs.declared.planned_message.PlannedMessage.{PlannedMessag
 use Rattle.pdo_plan.specs.Mapping.{mapped_bytes}
 use Rattle.pdo_plan.specs.Plan.{clean}
 use Rattle.pdo_links.specs.Writes.{at_number, by_number, cob_write, link_writes, mapped_writes, mapping_writes}
-use Rattle.pdo_links.specs.Writes.{node_writes, rpdo_of, rpdo_writes, taken_type, time_write}
+use Rattle.pdo_links.specs.Writes.{node_writes, rpdo_of, rpdo_writes, start_write, taken_type, time_write}
 use Rattle.pdo_links.specs.Writes.{tpdo_of, tpdo_writes, write_at}
 use Rattle.project_plan.specs.Network.{plan_of_project, writes_of, Member}
 use Rattle.co_parts.specs.Images.{IsBootWrite}
@@ -58,6 +58,13 @@ time_fits ss node object sub time = by (option_map_or (takes_unsigned Bits16) (e
     by true = one_more (write_at object sub (little_bytes 2 time)) [] (omega arith, omega arith) none_fit
     by false = none_fit
 
+start_fits : (ss : List Section) (node object start : ℕ) → AllFit (start_write ss node object start)
+start_fits ss node object start = by (option_map_or (takes_unsigned Bits8) (entry_at ss node object 6) false)
+  where
+    by : (b : Bool) → let ws : List Write = if b then write_at object 6 (start ∷ []) ∷ [] else [] in AllFit ws
+    by true = one_more (write_at object 6 (start ∷ [])) [] (byte_fits object 6 start) none_fit
+    by false = none_fit
+
 entries_fit : (object first : ℕ) (mapping : List Mapped) → AllFit (mapped_writes object first mapping)
 entries_fit object first [] = none_fit
 entries_fit object first (m ∷ ms) =
@@ -78,14 +85,18 @@ tpdo_fits ss node c =
     let object : ℕ = tpdo_object c.message.tpdo in
     let inhibit : List Write = time_write ss node object 3 c.message.inhibit in
     let event : List Write = time_write ss node object 5 c.message.event in
+    let start : List Write = start_write ss node object c.start in
     let mapping : List Write = mapping_writes (mapping_of object) c.mapping in
     let on : List Write = cob_write object (no_rtr_bit + c.identifier) ∷ [] in
     one_more (cob_write object (off_bit + (no_rtr_bit + c.identifier))) _
     (word_fits object 1 (off_bit + (no_rtr_bit + c.identifier)))
     (one_more (write_at object 2 (c.message.transmission ∷ [])) _ (byte_fits object 2 c.message.transmission)
-    (both_fit (inhibit ++ event ++ mapping) on
-    (both_fit (inhibit ++ event) mapping (both_fit inhibit event (time_fits ss node object 3 c.message.inhibit)
-    (time_fits ss node object 5 c.message.event)) (mapping_fits (mapping_of object) c.mapping))
+    (both_fit (inhibit ++ event ++ start ++ mapping) on
+    (both_fit (inhibit ++ event ++ start) mapping
+    (both_fit (inhibit ++ event) start
+    (both_fit inhibit event (time_fits ss node object 3 c.message.inhibit)
+    (time_fits ss node object 5 c.message.event)) (start_fits ss node object c.start))
+    (mapping_fits (mapping_of object) c.mapping))
     (one_more (cob_write object (no_rtr_bit + c.identifier)) [] (word_fits object 1 (no_rtr_bit + c.identifier))
     none_fit)))
 

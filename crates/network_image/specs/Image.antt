@@ -1,28 +1,46 @@
 -- THE IMAGE of a project: what each part of a simulation is, by its name (this profile's own).
-use Rattle.std.specs.Prelude.{ℕ, List, Option, Some, option_map, option_and_then, slice_get}
-use Rattle.std.specs.FinMap.{keys}
+use Rattle.std.specs.Prelude.{ℕ, List, Option, Some, option_map, option_and_then, slice_get, filter}
+use Rattle.std.specs.FinMap.{entries, keys}
+use Rattle.std.specs.Map.{keys_of}
 use Rattle.concise_dcf.specs.declared.write.Write.{Write}
 use Rattle.co_dict.specs.Values.{Values}
 use Rattle.eds_device.specs.Entries.{defaults_of}
 use Rattle.eds_device.specs.Identity.{identity}
+use Rattle.co_edits.specs.declared.script_version.ScriptVersion.{ScriptVersion}
+use Rattle.co_edits.specs.declared.script_version.ScriptVersion.TheVariants.{One, Two}
 use Rattle.project_plan.specs.Events.{shape_of_node}
 use Rattle.project_plan.specs.Network.{member_at, writes_of, Member}
 use Rattle.co_project.specs.Project.{Content as Project}
+use Rattle.co_project.specs.Tables.{Nodes}
 use Rattle.co_scenario.specs.declared.timed_step.TimedStep.{TimedStep}
 use Rattle.co_parts.specs.Contents.{Image, RosterIs, DefaultsAre, ShapeIs, ExpectIs, BootIs, EventsAre}
 use Rattle.co_parts.specs.declared.identity.Identity.{Identity}
 use Rattle.co_parts.specs.declared.part.Part.TheVariants as part
 use Rattle.co_parts.specs.declared.roster.Roster.{Roster}
+use Rattle.co_parts.specs.declared.start_mode.StartMode.{StartMode}
+use Rattle.co_parts.specs.declared.start_mode.StartMode.TheVariants.{EachNode, WholeNetwork}
 use Rattle.network_image.specs.Steps.{steps_in, unless_none}
 
--- the bit rate, the manager and the numbers of the nodes
+-- by the version of its script: each node is started by itself, or the network as a whole
+abbrev pub start_mode_of : ScriptVersion → StartMode
+start_mode_of One = EachNode
+start_mode_of Two = WholeNetwork
+
+-- the numbers of the mandatory nodes, in rising order
+abbrev pub mandatory_of : Nodes → List ℕ
+mandatory_of nodes = keys_of (filter (λ e. e.1.mandatory) (entries nodes))
+
+-- the bit rate, the manager, when it starts nodes, and the numbers of the nodes
 unfoldable pub roster_of_project : Project → Roster
 roster_of_project project = record {
   bit_rate = project.bitrate;
   manager = project.manager.id;
   sync_us = project.manager.sync_us;
+  sync_counter = project.sync_counter;
   heartbeat_ms = project.manager.heartbeat_ms;
   timeout_ms = project.manager.timeout_ms;
+  start_mode = start_mode_of project.version;
+  mandatory = mandatory_of project.nodes;
   nodes = keys project.nodes;
 }
 

@@ -1,5 +1,5 @@
 -- The parts that are held of a network, and the image that they are.
-use Rattle.std.specs.Prelude.{ℕ, List, Some, option_map, option_and_then, slice_get, refl}
+use Rattle.std.specs.Prelude.{Some, option_map, option_and_then, slice_get, refl}
 use Rattle.std.specs.Coded.{Coded, code_by, coded×}
 use Rattle.std.specs.FinMap.{get}
 use Rattle.co_parts.specs.Contents.{Image, RosterIs, DefaultsAre, ShapeIs, ExpectIs, BootIs, EventsAre}

@@ -3,47 +3,15 @@ ghost use Rattle.std.specs.Prelude.{◌≡◌, IfOk};
 ghost use Rattle.eds_device.specs.Entries.{defaults_of, shape_of};
 ghost use Rattle.eds_device.specs.Identity.{identity};
 ghost use Rattle.pdo_links.specs.Writes.{node_writes};
-ghost use Rattle.network_image.specs.Image.{roster_of_project};
-ghost use Rattle.std.specs.FinMap as map;
 
-use co_base::Octets;
 use co_dict::{Dict, Shape};
-use co_parts::{Identity, Roster};
-use co_project::{Params, Project};
+use co_parts::Identity;
+use co_project::Params;
 use eds_device::Device;
 use pdo_links::Plan;
 use project_plan::NodeWrites;
 use std::alloc::{AllocError, Global};
 use std::rc::Rc;
-
-/// The numbers of a project's nodes, in rising order.
-fn node_numbers(alloc: Global, project: &Project) -> Result<Octets, AllocError>
-    ensures { IfOk result (λ numbers. numbers ≡ map.keys project.now.nodes) }
-{
-    let mut numbers = Vec::new(alloc);
-    for (id, _node) in project.nodes() {
-        numbers.push(*id)?;
-    }
-    Ok(Octets::from_vec(numbers))
-}
-
-/// The roster of a project. Takes time by the number of nodes. Want of memory is the only error, here
-/// and of each part.
-#[tactic(auto, unfolding(crate::specs::Image::roster_of_project))]
-pub fn make_roster(alloc: Global, project: &Project) -> Result<Roster, AllocError>
-    ensures { IfOk result (λ roster. roster ≡ roster_of_project project.now) }
-{
-    let manager = project.manager();
-    let nodes = node_numbers(alloc, project)?;
-    Ok(Roster {
-        bit_rate: project.bitrate(),
-        manager: manager.id,
-        sync_us: manager.sync_us,
-        heartbeat_ms: manager.heartbeat_ms,
-        timeout_ms: manager.timeout_ms,
-        nodes,
-    })
-}
 
 /// The values that the entries of a node have by its device: at most 4,096 of at most 512 bytes.
 /// Takes time by the number of entries and its logarithm.

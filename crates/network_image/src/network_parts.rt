@@ -13,10 +13,10 @@ ghost use Rattle.network_image.specs.Held.{held_of, shapes_held};
 ghost use Rattle.network_image.specs.Network.{image_held};
 ghost use Rattle.network_image.specs.Steps.{steps_in, unless_none};
 
-use crate::made::make_roster;
 use crate::node_table::NodeTable;
 use crate::pointer::some_pointer;
 use crate::reading::read_nodes;
+use crate::roster::make_roster;
 use crate::window_table::WindowTable;
 use crate::windows::make_windows;
 use co_dict::{Dict, Shape};

@@ -6,10 +6,12 @@ use Rattle.can_frame.specs.Frames.{BaseFrame}
 use Rattle.co_parts.specs.Contents.{Image}
 use Rattle.node_boot.proofs.DeadlineLemmas.{IsOpenFrom, boot_from, answer_from}
 use Rattle.nmt_boot.proofs.FrameLemmas.{received_holds}
-use Rattle.nmt_boot.proofs.MomentLemmas.{AreFrom, IsFrom, from_ahead, ahead_from}
+use Rattle.boot_table.proofs.QuietLemmas.{AreFrom}
+use Rattle.nmt_boot.proofs.MomentLemmas.{IsFrom, from_ahead, ahead_from}
 use Rattle.nmt_boot.specs.Ahead.{IsAhead}
-use Rattle.nmt_boot.specs.Manager.{Manager, node_at, after_frame}
-use Rattle.nmt_boot.specs.declared.booting.Booting.{Booting}
+use Rattle.nmt_boot.specs.Manager.{Manager, after_frame}
+use Rattle.boot_table.specs.Table.{node_at}
+use Rattle.boot_table.specs.declared.booting.Booting.{Booting}
 
 set_from : (t i : ℕ) (ns : List Booting) (n : Booting) → AreFrom t ns → IsOpenFrom t n.stage
     → AreFrom t (slice_set ns i n)

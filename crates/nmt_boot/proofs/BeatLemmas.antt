@@ -130,8 +130,10 @@ beats_between t m h = beats_by t m (is_due t m.heartbeat) refl h
 
 syncs_by : (t : ℕ) (m : Manager) (b : Bool) → is_due t m.sync ≡ b → IsBetween t m
     → IsOnTime (t + 1)
-    (if b then record m { sync = moment_after t m.sync_period; waiting = with_latest Sync sync_frame m.waiting }
-    else m)
+    (if b then record m {
+      sync = moment_after t m.sync_period;
+      waiting = with_latest Sync (sync_frame m.sync_counter m.sync_period t) m.waiting;
+    } else m)
 syncs_by t m true e h = record {
   heartbeat = h.heartbeat;
   sync = goes_on t m.sync_period (subst (IsNextOf t m.sync_period) (is_the_moment t m.sync e) h.sync);

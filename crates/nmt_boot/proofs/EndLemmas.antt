@@ -16,9 +16,11 @@ use Rattle.node_boot.specs.declared.note_kind.NoteKind.{NoteKind}
 use Rattle.node_boot.specs.declared.note_kind.NoteKind.TheVariants as kind
 use Rattle.nmt_boot.proofs.FrameLemmas.{received_holds}
 use Rattle.nmt_boot.specs.Ends.{configured_note, WritesEnd}
-use Rattle.nmt_boot.specs.Manager.{Manager, node_at, note_of_loss, note_of_time_out, notes_of, after_frame}
-use Rattle.nmt_boot.specs.Manager.{time_outs, timed_out, timers}
-use Rattle.nmt_boot.specs.declared.booting.Booting.{Booting}
+use Rattle.nmt_boot.specs.Manager.{Manager, after_frame}
+use Rattle.boot_table.specs.Table.{node_at, note_of_loss, note_of_time_out, notes_of}
+use Rattle.nmt_boot.specs.Manager.{time_outs, timers}
+use Rattle.boot_table.specs.Table.{timed_out}
+use Rattle.boot_table.specs.declared.booting.Booting.{Booting}
 use Rattle.node_boot.specs.declared.note.Note.{Note}
 
 -- ---- elements of short lists

@@ -6,14 +6,16 @@ use Rattle.asking.proofs.QuestionLemmas.{outcome_bind, reads_bind, followed_last
 use Rattle.co_parts.specs.Contents.{Content, Image}
 use Rattle.co_parts.specs.declared.part.Part.{Part}
 use Rattle.node_boot.specs.Boot.{boot_nmt_slave, sdo_answer}
-use Rattle.nmt_boot.specs.Manager.{Manager, node_at, after_step, after_boot_start, after_boot_at, after_answer_at}
-use Rattle.nmt_boot.specs.Manager.{with_stage, sdo_frames, start_frames, notes_of, note_of_loss}
+use Rattle.nmt_boot.specs.Manager.{Manager, after_step, after_boot_start, after_boot_at, after_answer_at}
+use Rattle.boot_table.specs.Table.{node_at}
+use Rattle.boot_table.specs.Table.{with_stage, sdo_frames, notes_of, note_of_loss}
+use Rattle.nmt_boot.specs.Startup.{Startup, start_frames, startup_after}
 use Rattle.can_frame.specs.WaitingFrames.{without_unwanted}
 use Rattle.can_frame.specs.declared.unwanted.Unwanted.TheVariants.{SdoOf}
-use Rattle.nmt_boot.specs.Sending.{sending_of}
+use Rattle.boot_table.specs.Sending.{sending_of}
 use Rattle.can_frame.specs.declared.waiting.Waiting.{Waiting}
-use Rattle.nmt_boot.specs.declared.sent.Sent.{Sent}
-use Rattle.nmt_boot.specs.declared.booting.Booting.{Booting}
+use Rattle.boot_table.specs.declared.sent.Sent.{Sent}
+use Rattle.boot_table.specs.declared.booting.Booting.{Booting}
 use Rattle.node_boot.specs.declared.note.Note.{Note}
 
 module _ {A B : Type 0} (m : Asking Part Content A) (f : A → B) where
@@ -65,12 +67,15 @@ module _ (t : ℕ) (answer : List ℕ) (i : ℕ) (m : Manager) where
       (node_at m.nodes i).number (node_at m.nodes i).stage answer) (λ step. after_step i step m) seen
 
 -- what the calls left, put together
-module _ (t i : ℕ) (m : Manager) (image : Image) (sent : Sent) (nodes : List Booting) (waiting : List Waiting) where
+module _ (t i : ℕ) (m : Manager) (image : Image) (sent : Sent) (startup : Startup) (nodes : List Booting)
+    (waiting : List Waiting) where
   pub boots_state :
       nodes ≡ with_stage m.nodes i (outcome (boot_nmt_slave (t + m.timeout) (node_at m.nodes i).number) image).stage →
       sent ≡ sending_of (outcome (boot_nmt_slave (t + m.timeout) (node_at m.nodes i).number) image) →
       waiting ≡ (without_unwanted (SdoOf (node_at m.nodes i).number) m.waiting
-      ++ sdo_frames (node_at m.nodes i).number sent.request) ++ start_frames (node_at m.nodes i).number sent.note →
+      ++ sdo_frames (node_at m.nodes i).number sent.request)
+      ++ start_frames m.startup nodes (node_at m.nodes i).number sent.note →
+      startup ≡ startup_after m.startup nodes sent.note →
       record {
         spent = m.spent;
         number = m.number;
@@ -78,12 +83,14 @@ module _ (t i : ℕ) (m : Manager) (image : Image) (sent : Sent) (nodes : List B
         period = m.period;
         heartbeat = m.heartbeat;
         sync_period = m.sync_period;
+        sync_counter = m.sync_counter;
         sync = m.sync;
+        startup = startup;
         nodes = nodes;
         waiting = waiting;
       }
       ≡ (outcome (after_boot_at t i m) image).0
-  boots_state e f h = rw (boots_outcome t i m image, e, h, f) refl
+  boots_state e f h k = rw (boots_outcome t i m image, k, h, e, f) refl
 
   pub boots_notes : (before after between : List Note) →
       sent ≡ sending_of (outcome (boot_nmt_slave (t + m.timeout) (node_at m.nodes i).number) image) →
@@ -92,15 +99,16 @@ module _ (t i : ℕ) (m : Manager) (image : Image) (sent : Sent) (nodes : List B
       after ≡ before ++ (outcome (after_boot_at t i m) image).1
   boots_notes before after between f h k = rw (boots_outcome t i m image, k, h, f) (append_assoc before _ _)
 
-module _ (t : ℕ) (answer : List ℕ) (i : ℕ) (m : Manager) (image : Image) (sent : Sent) (nodes : List Booting)
-    (waiting : List Waiting) where
+module _ (t : ℕ) (answer : List ℕ) (i : ℕ) (m : Manager) (image : Image) (sent : Sent) (startup : Startup)
+    (nodes : List Booting) (waiting : List Waiting) where
   pub answered_state :
       nodes ≡ with_stage m.nodes i (outcome (sdo_answer (t + m.timeout)
       (node_at m.nodes i).number (node_at m.nodes i).stage answer) image).stage →
       sent ≡ sending_of (outcome (sdo_answer (t + m.timeout)
       (node_at m.nodes i).number (node_at m.nodes i).stage answer) image) →
       waiting ≡ (m.waiting ++ sdo_frames (node_at m.nodes i).number sent.request)
-      ++ start_frames (node_at m.nodes i).number sent.note →
+      ++ start_frames m.startup nodes (node_at m.nodes i).number sent.note →
+      startup ≡ startup_after m.startup nodes sent.note →
       record {
         spent = m.spent;
         number = m.number;
@@ -108,9 +116,11 @@ module _ (t : ℕ) (answer : List ℕ) (i : ℕ) (m : Manager) (image : Image) (
         period = m.period;
         heartbeat = m.heartbeat;
         sync_period = m.sync_period;
+        sync_counter = m.sync_counter;
         sync = m.sync;
+        startup = startup;
         nodes = nodes;
         waiting = waiting;
       }
       ≡ (outcome (after_answer_at t answer i m) image).0
-  answered_state e f h = rw (answered_outcome t answer i m image, e, h, f) refl
+  answered_state e f h k = rw (answered_outcome t answer i m image, k, h, e, f) refl

@@ -9,8 +9,10 @@ use Rattle.co_parts.specs.declared.part.Part.{Part}
 use Rattle.nmt_boot.proofs.EventLemmas.{boots_outcome, boots_reads, answered_outcome, answered_reads}
 use Rattle.node_boot.proofs.ChoiceLemmas.{picked}
 use Rattle.node_boot.specs.Boot.{boot_nmt_slave, sdo_answer}
-use Rattle.nmt_boot.specs.Manager.{Manager, node_at, after_boot_start, after_step, after_boot_up, after_sdo_frame}
-use Rattle.nmt_boot.specs.Manager.{is_boot_up, place_of, after_frame}
+use Rattle.nmt_boot.specs.Manager.{Manager, after_boot_start, after_step, after_boot_up, after_sdo_frame}
+use Rattle.boot_table.specs.Table.{node_at}
+use Rattle.nmt_boot.specs.Manager.{is_boot_up, after_frame}
+use Rattle.boot_table.specs.Table.{place_of}
 use Rattle.node_boot.specs.declared.note.Note.{Note}
 
 module _ (image : Image) (t : ℕ) (frame : BaseFrame) (m : Manager)

@@ -1,4 +1,4 @@
-pub mod EarliestLemmas
+pub mod DueLemmas
 pub mod EventLemmas
 pub mod FrameLemmas
 pub mod MomentLemmas
@@ -6,4 +6,5 @@ pub mod AheadLemmas
 pub mod BeatLemmas
 pub mod TableLemmas
 pub mod EndLemmas
-pub mod QuietLemmas
+pub mod CounterLemmas
+pub mod StartLemmas

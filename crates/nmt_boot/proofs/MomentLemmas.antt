@@ -8,18 +8,15 @@ use Rattle.can_frame.specs.WaitingFrames.{with_latest}
 use Rattle.can_frame.specs.declared.purpose.Purpose.TheVariants.{Heartbeat, Sync}
 use Rattle.co_scenario.specs.declared.nmt_command.NmtCommand.{NmtCommand}
 use Rattle.co_base.specs.Moments.{is_due, moment_after, moments_of}
+use Rattle.boot_table.proofs.QuietLemmas.{AreFrom, quiet_list, quiet_nodes}
 use Rattle.nmt_boot.specs.Ahead.{IsAhead}
 use Rattle.node_boot.specs.Boot.{deadline_of, is_at, is_timed_out, sdo_time_out}
-use Rattle.nmt_boot.specs.Manager.{Manager, with_command, deadlines, heartbeat_frame, heartbeats, moments, node_after}
-use Rattle.nmt_boot.specs.Manager.{sync_frame, syncs, time_outs, timed_out, timers}
+use Rattle.nmt_boot.specs.Manager.{Manager, with_command, heartbeat_frame, heartbeats, moments}
+use Rattle.boot_table.specs.Table.{deadlines, node_after}
+use Rattle.nmt_boot.specs.Manager.{sync_frame, syncs, time_outs, timers}
 use Rattle.node_boot.specs.declared.boot_stage.BootStage.{BootStage}
-use Rattle.nmt_boot.specs.declared.booting.Booting.{Booting}
+use Rattle.boot_table.specs.declared.booting.Booting.{Booting}
 use Rattle.node_boot.specs.declared.note.Note.{Note}
-
--- no deadline of these nodes lies before t
-abbrev pub AreFrom : ℕ → List Booting → Type 0
-AreFrom t [] = Unit {0}
-AreFrom t (n ∷ ns) = IfSome (deadline_of n.stage) (λ d. t ≤ d) × AreFrom t ns
 
 -- no moment of the manager lies before t
 pub record IsFrom (t : ℕ) (m : Manager) : Type 0 where
@@ -81,21 +78,9 @@ module _ (t : ℕ) where
 
 -- ---- nothing happens before the first moment
 
-not_at : (t : ℕ) (o : Option ℕ) → IfSome o (λ d. t + 1 ≤ d) → is_at t o ≡ false
-not_at t None h = refl
-not_at t (Some d) h = grind (arith, nat_tests)
-
 not_due : (t : ℕ) (o : Option ℕ) → IfSome o (λ d. t + 1 ≤ d) → is_due t o ≡ false
 not_due t None h = refl
 not_due t (Some d) h = grind (arith, nat_tests)
-
-pub quiet_nodes : (t : ℕ) (ns : List Booting) → AreFrom (t + 1) ns → map (node_after t) ns ≡ ns
-quiet_nodes t [] h = refl
-quiet_nodes t (n ∷ ns) h = rw (not_at t (deadline_of n.stage) h.0, quiet_nodes t ns h.1) refl
-
-pub quiet_list : (t : ℕ) (ns : List Booting) → AreFrom (t + 1) ns → timed_out t ns ≡ []
-quiet_list t [] h = refl
-quiet_list t (n ∷ ns) h = rw (not_at t (deadline_of n.stage) h.0) (quiet_list t ns h.1)
 
 quiet_time_outs : (t : ℕ) (m : Manager) → AreFrom (t + 1) m.nodes → time_outs t m ≡ (m, [])
 unfolding time_outs
@@ -178,8 +163,10 @@ beats_later t m h sync nodes = beats_by t m (is_due t m.heartbeat) refl h sync n
 
 syncs_by : (t : ℕ) (m : Manager) (b : Bool) → is_due t m.sync ≡ b → IsBetween t m
     → IsFrom (t + 1)
-    (if b then record m { sync = moment_after t m.sync_period; waiting = with_latest Sync sync_frame m.waiting }
-    else m)
+    (if b then record m {
+      sync = moment_after t m.sync_period;
+      waiting = with_latest Sync (sync_frame m.sync_counter m.sync_period t) m.waiting;
+    } else m)
 syncs_by t m true e h = record { heartbeat = h.heartbeat; sync = period_later t m.sync_period; nodes = h.nodes }
 syncs_by t m false e h = record { heartbeat = h.heartbeat; sync = stays_later t m.sync e h.sync; nodes = h.nodes }
 

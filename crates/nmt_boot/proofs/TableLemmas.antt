@@ -9,8 +9,9 @@ use Rattle.can_frame.specs.Frames.{BaseFrame}
 use Rattle.can_frame.specs.Identifiers.{error_control_id, sdo_answer_id}
 use Rattle.co_parts.specs.Contents.{Image}
 use Rattle.nmt_boot.proofs.FrameLemmas.{received_holds}
-use Rattle.nmt_boot.specs.Manager.{Manager, is_from, no_node, node_at, place_of, after_frame}
-use Rattle.nmt_boot.specs.declared.booting.Booting.{Booting}
+use Rattle.nmt_boot.specs.Manager.{Manager, after_frame}
+use Rattle.boot_table.specs.Table.{is_from, no_node, node_at, place_of}
+use Rattle.boot_table.specs.declared.booting.Booting.{Booting}
 
 sum_is : (a b c : ℕ) → (a + b == c) ≡ true → a + b ≡ c
 sum_is a b c e = grind (arith, nat_tests)

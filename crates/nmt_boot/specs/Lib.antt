@@ -1,6 +1,8 @@
 pub mod Manager
+pub mod Startup
+pub mod Mandatory
 pub mod Ahead
 pub mod Beats
 pub mod Ends
-pub mod Sending
-pub mod Shared
+pub mod Counter
+pub mod Starts

@@ -1,19 +1,24 @@
 //! Laws of managers, each a function whose contract is the law.
 
-ghost use Rattle.std.specs.Prelude.{◌≡◌, ◌≢◌, ◌+◌, ◌↔◌, ℕ, Contains, true, []};
+ghost use Rattle.std.specs.Prelude.{◌≡◌, ◌≢◌, ◌≤◌, ◌⊎◌, ◌+◌, ◌*◌, ◌↔◌, ℕ, Contains, true, [], ◌∷◌};
 ghost use Rattle.asking.specs.Alike.{AreAlike};
 ghost use Rattle.asking.specs.Asking.{Agrees, outcome, reads};
 ghost use Rattle.can_frame.specs.Frames.{BaseFrame};
 ghost use Rattle.can_frame.specs.Identifiers.{error_control_id, sdo_answer_id};
 ghost use Rattle.co_parts.specs.Contents.{Image};
+ghost use Rattle.co_parts.specs.Images.{IsRoster};
 ghost use Rattle.co_base.specs.Moments.{is_due};
 ghost use Rattle.co_parts.specs.declared.roster.Roster.{Roster as Network};
+ghost use Rattle.co_parts.specs.declared.start_mode.StartMode.TheVariants.{EachNode};
 ghost use Rattle.co_scenario.specs.declared.nmt_command.NmtCommand.{NmtCommand};
 ghost use Rattle.nmt_boot.specs.Ahead.{IsAhead};
 ghost use Rattle.nmt_boot.specs.Beats.{IsMultiple, IsOnTime};
+ghost use Rattle.nmt_boot.specs.Counter.{IsCounting, sync_with};
 ghost use Rattle.nmt_boot.specs.Ends.{configured_note, WritesEnd};
-ghost use Rattle.nmt_boot.specs.Manager.{Manager as State, with_command, node_at, manager_at_power_on, after_frame};
-ghost use Rattle.nmt_boot.specs.Manager.{timers};
+ghost use Rattle.nmt_boot.specs.Manager.{Manager as State, with_command, manager_at_power_on, after_frame};
+ghost use Rattle.boot_table.specs.Table.{node_at};
+ghost use Rattle.nmt_boot.specs.Manager.{sync_number, timers};
+ghost use Rattle.nmt_boot.specs.Starts.{HasNodeNumbers, KeepsStart, StartsNetwork};
 
 /// Before the first of its moments nothing happens to the manager, and nothing is noted.
 #[tactic(auto, using(crate::proofs::MomentLemmas::quiet))]
@@ -73,4 +78,43 @@ pub fn a_boot_ends_with_its_writes()
         → Contains (outcome (after_frame t frame m) image).1 (configured_note node)
         → WritesEnd image node (reads (after_frame t frame m) image) }
     ensures timers { (t : ℕ) (m : State) (node : ℕ) → Contains (timers t m).1 (configured_note node) → ⊥ }
+{}
+
+/// The SYNC of a manager with a counter carries its number: that of the k-th SYNC of a run, at k whole periods, counts
+/// from 1 to the last number of the counter, and then from 1 again. Without a counter it has no byte.
+#[tactic(auto, using(crate::proofs::CounterLemmas::counting, crate::proofs::CounterLemmas::numbered, crate::proofs::CounterLemmas::without_counter))]
+pub fn sync_messages_are_numbered()
+    ensures counts { (last : ℕ) → 1 ≤ last → IsCounting last (sync_number last) }
+    ensures numbered { (t k : ℕ) (m : State) → IsOnTime t m → 1 ≤ m.sync_counter → 1 ≤ t → t ≡ k * m.sync_period
+        → Contains (timers t m).0.waiting (sync_with (sync_number m.sync_counter k ∷ [])) }
+    ensures plain { (t : ℕ) (m : State) → IsOnTime t m → IsMultiple t m.sync_period → m.sync_counter ≡ 0
+        → Contains (timers t m).0.waiting (sync_with []) }
+{}
+
+/// A frame leaves the start of the network as it is, or starts the network: as a whole by one command, where that
+/// wasn't done before and each mandatory node is configured now. So that never happens where each node is started by
+/// itself, nor twice. Timers start nothing, and a command of the scenario is none of the manager's own.
+#[tactic(auto, using(crate::proofs::StartLemmas::frame_starts, crate::proofs::StartLemmas::each_by_itself, crate::proofs::StartLemmas::at_most_once, crate::proofs::StartLemmas::timers_keep))]
+pub fn the_network_is_started_once()
+    ensures frames { (image : Image) (t : ℕ) (frame : BaseFrame) (m : State) → HasNodeNumbers m
+        → KeepsStart m (outcome (after_frame t frame m) image).0
+        ⊎ StartsNetwork m (outcome (after_frame t frame m) image).0 }
+    ensures each_node { (image : Image) (t : ℕ) (frame : BaseFrame) (m : State) → HasNodeNumbers m
+        → m.startup.mode ≡ EachNode → KeepsStart m (outcome (after_frame t frame m) image).0 }
+    ensures once { (image : Image) (t : ℕ) (frame : BaseFrame) (m : State) → HasNodeNumbers m
+        → m.startup.is_started ≡ true → KeepsStart m (outcome (after_frame t frame m) image).0 }
+    ensures timers { (t : ℕ) (m : State) → KeepsStart m (timers t m).0 }
+    ensures commands { (command : NmtCommand) (node : ℕ) (m : State)
+        → (with_command command node m).startup ≡ m.startup }
+{}
+
+/// The nodes of a network have numbers above 0 in the table, at power-on and after whatever happens.
+#[tactic(auto, using(crate::proofs::StartLemmas::numbers_first, crate::proofs::StartLemmas::numbers_of_frame, crate::proofs::StartLemmas::numbers_of_timers))]
+pub fn nodes_have_their_numbers()
+    ensures first { (network : Network) → IsRoster network → HasNodeNumbers (manager_at_power_on network) }
+    ensures frames { (image : Image) (t : ℕ) (frame : BaseFrame) (m : State) → HasNodeNumbers m
+        → HasNodeNumbers (outcome (after_frame t frame m) image).0 }
+    ensures timers { (t : ℕ) (m : State) → HasNodeNumbers m → HasNodeNumbers (timers t m).0 }
+    ensures commands { (command : NmtCommand) (node : ℕ) (m : State) → HasNodeNumbers m
+        → HasNodeNumbers (with_command command node m) }
 {}

@@ -7,8 +7,10 @@ ghost use Rattle.asking.specs.Record.{BeginsWith, IsAsked, Lasts};
 ghost use Rattle.can_frame.specs.Winner.{contenders_of, IsWinner};
 ghost use Rattle.nmt_boot.specs.Manager as rules;
 
-use crate::node_table::NodeTable;
-use crate::telling::{note, send_command, tell};
+use crate::startup::Startup;
+use crate::sync::sync_frame;
+use crate::telling::{send_command, tell};
+use boot_table::{NodeTable, note};
 use can_frame::{Contender, Frame, Pending, Purpose, Unwanted, Waiting, identifiers};
 use co_base::{earlier, is_due, moment_after};
 use co_parts::{END, Roster};
@@ -17,8 +19,8 @@ use node_boot::{Boots, Notes};
 use std::alloc::{AllocError, Global};
 use std::marker::Model;
 
-/// The NMT manager of a network at a moment (CiA 302): the boots of its nodes, its heartbeat, its SYNC
-/// (CiA 301), and what it has waiting.
+/// The NMT manager of a network at a moment (CiA 302): the boots of its nodes, when it starts them, its
+/// heartbeat, its SYNC (CiA 301), and what it has waiting.
 ///
 /// A manager that found no memory in a call is spent: `spent` answers true, and each later call that can
 /// answer `AllocError` does. All moments are microseconds from the power-on of the network.
@@ -31,7 +33,9 @@ pub struct Manager {
     period: u64,
     heartbeat: Option<u64>,
     sync_period: u64,
+    sync_counter: u8,
     sync: Option<u64>,
+    startup: Startup,
     nodes: NodeTable,
     waiting: Pending,
 }
@@ -49,7 +53,9 @@ impl Model for Manager {
       period = m.period;
       heartbeat = m.heartbeat;
       sync_period = m.sync_period;
+      sync_counter = m.sync_counter;
       sync = m.sync;
+      startup = m.startup;
       nodes = m.nodes;
       waiting = m.waiting;
     } };
@@ -88,13 +94,6 @@ fn heartbeat_frame(number: u8) -> Frame
     Frame::of(identifiers::error_control(number), &[5])
 }
 
-/// The frame of SYNC: it has no bytes.
-fn sync_frame() -> Frame
-    ensures { result ≡ rules.sync_frame }
-{
-    Frame::of(identifiers::sync(), &[])
-}
-
 impl Manager {
     /// A manager of no network. Takes no memory.
     pub fn new(alloc: Global) -> Manager
@@ -108,7 +107,9 @@ impl Manager {
             period: 0,
             heartbeat: None,
             sync_period: 0,
+            sync_counter: 0,
             sync: None,
+            startup: Startup::none(),
             nodes: NodeTable::none(),
             waiting: Pending::new(alloc),
         }
@@ -121,6 +122,7 @@ impl Manager {
     {
         let period = microseconds(roster.heartbeat_ms);
         let sync_period = sync_time(roster);
+        let startup = Startup::of(alloc, roster)?;
         let nodes = NodeTable::unseen(alloc, roster.nodes.as_slice())?;
         let mut waiting = Pending::new(alloc);
         let boot_up = Frame::of(identifiers::error_control(roster.manager), &[0]);
@@ -133,7 +135,9 @@ impl Manager {
             period,
             heartbeat: moment_after(0, period),
             sync_period,
+            sync_counter: roster.sync_counter,
             sync: moment_after(0, sync_period),
+            startup,
             nodes,
             waiting,
         })
@@ -147,6 +151,7 @@ impl Manager {
         if self.spent {
             return Err(AllocError);
         }
+        let startup = self.startup.copy()?;
         let nodes = self.nodes.copy()?;
         let waiting = self.waiting.copy()?;
         Ok(Manager {
@@ -157,20 +162,24 @@ impl Manager {
             period: self.period,
             heartbeat: self.heartbeat,
             sync_period: self.sync_period,
+            sync_counter: self.sync_counter,
             sync: self.sync,
+            startup,
             nodes,
             waiting,
         })
     }
 
-    /// Whether heartbeat and SYNC of two managers come at the same moments.
+    /// Whether heartbeat and SYNC of two managers are the same, and come at the same moments.
     fn has_times_of(&self, other: &Manager) -> bool
         ensures { IsTrue result ↔ ((self.now.period ≡ other.now.period) × (self.now.heartbeat ≡ other.now.heartbeat)
-            × (self.now.sync_period ≡ other.now.sync_period) × (self.now.sync ≡ other.now.sync)) }
+            × (self.now.sync_period ≡ other.now.sync_period) × (self.now.sync_counter ≡ other.now.sync_counter)
+            × (self.now.sync ≡ other.now.sync)) }
     {
         self.period == other.period
             && self.heartbeat == other.heartbeat
             && self.sync_period == other.sync_period
+            && self.sync_counter == other.sync_counter
             && self.sync == other.sync
     }
 
@@ -182,13 +191,14 @@ impl Manager {
             && self.number == other.number
             && self.timeout == other.timeout
             && self.has_times_of(other)
+            && self.startup.same(&other.startup)
             && self.nodes.same(&other.nodes)
             && self.waiting.same(&other.waiting)
     }
 
     /// The first moment at which a request times out, or a heartbeat or SYNC is due. Takes constant time; by
     /// the number of nodes where the manager is spent.
-    #[tactic(auto, using(crate::proofs::EarliestLemmas::next_due_is))]
+    #[tactic(auto, using(crate::proofs::DueLemmas::next_due_is))]
     pub fn next_due(&self) -> Option<u64>
         ensures { result ≡ rules.next_due self.now }
     {
@@ -276,7 +286,14 @@ impl Manager {
         note(notes, number, self.nodes.lost_at(i))?;
         self.waiting.drop_of(Unwanted::SdoOf(number));
         let sent = self.nodes.boot_at(self.alloc, i, deadline, boots)?;
-        tell(&mut self.waiting, notes, number, sent)?;
+        tell(
+            &mut self.waiting,
+            &mut self.startup,
+            &self.nodes,
+            notes,
+            number,
+            sent,
+        )?;
         Ok(())
     }
 
@@ -306,7 +323,14 @@ impl Manager {
         let sent = self
             .nodes
             .answer_at(self.alloc, i, deadline, answer, boots)?;
-        tell(&mut self.waiting, notes, number, sent)?;
+        tell(
+            &mut self.waiting,
+            &mut self.startup,
+            &self.nodes,
+            notes,
+            number,
+            sent,
+        )?;
         Ok(())
     }
 
@@ -430,8 +454,10 @@ impl Manager {
         if !is_due(t, self.sync) {
             return Ok(());
         }
-        self.sync = moment_after(t, self.sync_period());
-        self.waiting.replace(Purpose::Sync, sync_frame())
+        let period = self.sync_period();
+        self.sync = moment_after(t, period);
+        let frame = sync_frame(self.sync_counter, period, t);
+        self.waiting.replace(Purpose::Sync, frame)
     }
 
     /// Runs what is due, where there was memory before.
@@ -448,7 +474,8 @@ impl Manager {
     }
 
     /// Takes a frame of a node at the moment t, and notes what that brings about. Takes time by the number
-    /// of nodes.
+    /// of nodes; where it leaves a node configured and the network is started as a whole, by that number times
+    /// the number of mandatory nodes.
     pub fn on_frame<P: Boots>(
         &mut self,
         t: u64,

@@ -1,27 +1,19 @@
-//! What a rule of a boot queues at the manager, and notes.
+//! What a step of a boot queues at the manager, which nodes it starts, and what it notes.
 
 ghost use Rattle.std.specs.Prelude.{◌≡◌, ◌++◌, ◌∷◌, [], OnOk};
 ghost use Rattle.asking.specs.Record.{BeginsWith};
+ghost use Rattle.boot_table.specs.Table.{notes_of, sdo_frames};
 ghost use Rattle.can_frame.specs.WaitingFrames.{waiting as queued};
 ghost use Rattle.can_frame.specs.declared.purpose.Purpose.TheVariants as purposes;
-ghost use Rattle.nmt_boot.specs.Manager.{nmt_frame as frame_of_command, notes_of, sdo_frames, start_frames};
+ghost use Rattle.nmt_boot.specs.Startup.{nmt_frame as frame_of_command, start_frames, startup_after};
+ghost use Rattle.nmt_boot.specs.Startup.{frames_of_configured, startup_of_configured};
 
-use crate::sent::Sent;
+use crate::startup::Startup;
+use boot_table::{NodeTable, Sent, note, send_request};
 use can_frame::{Frame, Pending, Purpose, identifiers};
 use co_scenario::NmtCommand;
-use node_boot::{Note, NoteKind, Notes};
+use node_boot::{NoteKind, Notes};
 use std::alloc::AllocError;
-
-/// Queues an SDO frame to a node, if there is one.
-fn send_request(waiting: &mut Pending, node: u8, request: Option<[u8; 8]>) -> Result<(), AllocError>
-    ensures { OnOk result (waiting.new ≡ waiting.old ++ sdo_frames node request) }
-{
-    if let Some(bytes) = request {
-        let frame = Frame::of(identifiers::sdo_request(node), &bytes);
-        waiting.add(Purpose::Sdo(node), frame)?;
-    }
-    Ok(())
-}
 
 /// The frame of a command to a node, 0 for all nodes.
 fn nmt_frame(command: NmtCommand, node: u8) -> Frame
@@ -41,40 +33,62 @@ pub(crate) fn send_command(
     waiting.add(Purpose::Nmt, nmt_frame(command, node))
 }
 
-/// Queues the start of a node that is configured.
-fn start(waiting: &mut Pending, node: u8, note: Option<NoteKind>) -> Result<(), AllocError>
-    ensures { OnOk result (waiting.new ≡ waiting.old ++ start_frames node note) }
+/// Queues what starts nodes where a node was configured: the start of that node, or of the whole network, or
+/// nothing.
+#[tactic(auto, unfolding(crate::specs::Startup::frames_of_configured, crate::specs::Startup::startup_of_configured))]
+fn start_configured(
+    waiting: &mut Pending,
+    startup: &mut Startup,
+    nodes: &NodeTable,
+    node: u8,
+) -> Result<(), AllocError>
+    ensures queued { OnOk result (waiting.new ≡ waiting.old ++ frames_of_configured startup.old nodes.now node) }
+    ensures started { OnOk result (startup.new ≡ startup_of_configured startup.old nodes.now) }
 {
-    match note {
-        Some(NoteKind::Configured) => send_command(waiting, NmtCommand::Start, node),
-        _ => Ok(()),
+    if startup.starts_each() {
+        return send_command(waiting, NmtCommand::Start, node);
     }
-}
-
-/// Notes what there is to note of a node, if there is one.
-pub(crate) fn note(notes: &mut Notes, node: u8, note: Option<NoteKind>) -> Result<(), AllocError>
-    ensures notes { OnOk result (notes.new ≡ notes.old ++ notes_of node note) }
-    ensures notes_before { BeginsWith notes.new notes.old }
-{
-    if let Some(kind) = note {
-        notes.add(Note { node, kind })?;
+    if startup.starts_network(nodes) {
+        startup.start();
+        return send_command(waiting, NmtCommand::Start, 0);
     }
     Ok(())
 }
 
-/// Queues what a rule queues, and notes what it notes.
+/// Queues what starts nodes, where a node was configured.
+fn start(
+    waiting: &mut Pending,
+    startup: &mut Startup,
+    nodes: &NodeTable,
+    node: u8,
+    note: Option<NoteKind>,
+) -> Result<(), AllocError>
+    ensures queued { OnOk result (waiting.new ≡ waiting.old ++ start_frames startup.old nodes.now node note) }
+    ensures started { OnOk result (startup.new ≡ startup_after startup.old nodes.now note) }
+{
+    match note {
+        Some(NoteKind::Configured) => start_configured(waiting, startup, nodes, node),
+        _ => Ok(()),
+    }
+}
+
+/// Queues what a step of a boot queues, starts the nodes that are to be started then, and notes what it notes. The
+/// table has the step's stage already.
 pub(crate) fn tell(
     waiting: &mut Pending,
+    startup: &mut Startup,
+    nodes: &NodeTable,
     notes: &mut Notes,
     node: u8,
     sent: Sent,
 ) -> Result<(), AllocError>
     ensures queued { OnOk result (waiting.new ≡ (waiting.old ++ sdo_frames node sent.request)
-        ++ start_frames node sent.note) }
+        ++ start_frames startup.old nodes.now node sent.note) }
+    ensures started { OnOk result (startup.new ≡ startup_after startup.old nodes.now sent.note) }
     ensures notes { OnOk result (notes.new ≡ notes.old ++ notes_of node sent.note) }
     ensures notes_before { BeginsWith notes.new notes.old }
 {
     send_request(waiting, node, sent.request)?;
-    start(waiting, node, sent.note)?;
+    start(waiting, startup, nodes, node, sent.note)?;
     note(notes, node, sent.note)
 }

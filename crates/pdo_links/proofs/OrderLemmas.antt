@@ -5,7 +5,7 @@ use Rattle.std.specs.Prelude.{◌==◌, if◌then◌else◌}
 use Rattle.std.specs.Option.{option_map_or}
 use Rattle.std.proofs.lemmas.List.Elements.{filter-append}
 use Rattle.byteorder.specs.Endian.{little_bytes, little_number}
-use Rattle.co_values.specs.declared.form.Width.TheVariants.{Bits16}
+use Rattle.co_values.specs.declared.form.Width.TheVariants.{Bits8, Bits16}
 use Rattle.co_fields.specs.CobIds.{is_valid, no_rtr_bit, off_bit}
 use Rattle.concise_dcf.specs.declared.write.Write.{Write}
 use Rattle.ini_text.specs.Content.{Section}
@@ -16,7 +16,7 @@ use Rattle.pdo_stations.specs.declared.mapped.Mapped.{Mapped}
 use Rattle.pdo_stations.specs.Devices.{takes_unsigned, tpdo_object, rpdo_object, mapping_of}
 use Rattle.pdo_plan.specs.Plan.{IsWithin}
 use Rattle.pdo_links.specs.Order.{is_to, to_object, AreBetween, IsConfigured}
-use Rattle.pdo_links.specs.Writes.{write_at, cob_write, mapped_writes, mapping_writes, time_write, taken_type}
+use Rattle.pdo_links.specs.Writes.{write_at, cob_write, mapped_writes, mapping_writes, start_write, time_write, taken_type}
 use Rattle.pdo_links.specs.Writes.{tpdo_writes, rpdo_writes}
 
 -- ---- lists
@@ -122,6 +122,14 @@ module _ (object index : ℕ) (apart : (index == object) ≡ false) where
       by true = rw apart refl
       by false = refl
 
+  no_start : (ss : List Section) (node start : ℕ) → to_object object (start_write ss node index start) ≡ []
+  no_start ss node start = by (option_map_or (takes_unsigned Bits8) (entry_at ss node index 6) false)
+    where
+      by : (b : Bool) → let ws : List Write = if b then write_at index 6 (start ∷ []) ∷ [] else []
+          in to_object object ws ≡ []
+      by true = rw apart refl
+      by false = refl
+
 -- ---- writes to the mapping object itself
 
 module _ (object : ℕ) where
@@ -178,43 +186,71 @@ module _ (object index : ℕ) (mapping_apart : (object == index) ≡ false) (apa
       by true = rw other refl
       by false = refl
 
+  no_start_cobs : (ss : List Section) (node start : ℕ) → filter (is_to object 1) (start_write ss node object start) ≡ []
+  no_start_cobs ss node start = by (option_map_or (takes_unsigned Bits8) (entry_at ss node object 6) false)
+    where
+      by : (b : Bool) → let ws : List Write = if b then write_at object 6 (start ∷ []) ∷ [] else []
+          in filter (is_to object 1) ws ≡ []
+      by true = refl
+      by false = refl
+
+  -- the times and the SYNC start value of a TPDO
+  abbrev timing : List Section → ℕ → ℕ → ℕ → ℕ → List Write
+  timing ss node inhibit event start =
+      time_write ss node object 3 inhibit ++ time_write ss node object 5 event ++ start_write ss node object start
+
+  no_timing : (ss : List Section) (node inhibit event start : ℕ)
+      → to_object index (timing ss node inhibit event start) ≡ []
+  no_timing ss node inhibit event start = rw (
+    filter-append (λ (w : Write). w.index == index)
+        (time_write ss node object 3 inhibit ++ time_write ss node object 5 event) (start_write ss node object start),
+    filter-append (λ (w : Write). w.index == index) (time_write ss node object 3 inhibit)
+        (time_write ss node object 5 event),
+    no_times index object mapping_apart ss node 3 inhibit,
+    no_times index object mapping_apart ss node 5 event,
+    no_start index object mapping_apart ss node start,
+  ) refl
+
+  no_timing_cobs : (ss : List Section) (node inhibit event start : ℕ)
+      → filter (is_to object 1) (timing ss node inhibit event start) ≡ []
+  no_timing_cobs ss node inhibit event start = rw (
+    filter-append (is_to object 1) (time_write ss node object 3 inhibit ++ time_write ss node object 5 event)
+        (start_write ss node object start),
+    filter-append (is_to object 1) (time_write ss node object 3 inhibit) (time_write ss node object 5 event),
+    no_time_cobs ss node 3 inhibit refl,
+    no_time_cobs ss node 5 event refl,
+    no_start_cobs ss node start,
+  ) refl
+
   -- the writes to the mapping object of a TPDO
-  tpdo_mapping : (ss : List Section) (node off type inhibit event on : ℕ) (mapping : List Mapped)
+  tpdo_mapping : (ss : List Section) (node off type inhibit event start on : ℕ) (mapping : List Mapped)
       → to_object index (cob_write object off ∷ write_at object 2 (type ∷ [])
-      ∷ (time_write ss node object 3 inhibit ++ time_write ss node object 5 event ++ mapping_writes index mapping
+      ∷ (timing ss node inhibit event start ++ mapping_writes index mapping
       ++ cob_write object on ∷ [])) ≡ mapping_writes index mapping
-  tpdo_mapping ss node off type inhibit event on mapping =
+  tpdo_mapping ss node off type inhibit event start on mapping =
       rw (
         mapping_apart,
         filter-append (λ (w : Write). w.index == index)
-            (time_write ss node object 3 inhibit ++ time_write ss node object 5 event ++ mapping_writes index mapping)
-            (cob_write object on ∷ []),
-        filter-append (λ (w : Write). w.index == index)
-            (time_write ss node object 3 inhibit ++ time_write ss node object 5 event) (mapping_writes index mapping),
-        filter-append (λ (w : Write). w.index == index) (time_write ss node object 3 inhibit)
-            (time_write ss node object 5 event),
-        no_times index object mapping_apart ss node 3 inhibit,
-        no_times index object mapping_apart ss node 5 event,
+            (timing ss node inhibit event start ++ mapping_writes index mapping) (cob_write object on ∷ []),
+        filter-append (λ (w : Write). w.index == index) (timing ss node inhibit event start)
+            (mapping_writes index mapping),
+        no_timing ss node inhibit event start,
         all_mapping index mapping,
         mapping_apart,
       )
       (append_none (mapping_writes index mapping))
 
-  tpdo_meanwhile : (ss : List Section) (node off type inhibit event on : ℕ) (mapping : List Mapped)
+  tpdo_meanwhile : (ss : List Section) (node off type inhibit event start on : ℕ) (mapping : List Mapped)
       → AreBetween (is_to object 1) (cob_write object off) (cob_write object on)
       (cob_write object off ∷ write_at object 2 (type ∷ [])
-      ∷ (time_write ss node object 3 inhibit ++ time_write ss node object 5 event ++ mapping_writes index mapping
-      ++ cob_write object on ∷ []))
-  tpdo_meanwhile ss node off type inhibit event on mapping =
+      ∷ (timing ss node inhibit event start ++ mapping_writes index mapping ++ cob_write object on ∷ []))
+  tpdo_meanwhile ss node off type inhibit event start on mapping =
       between (is_to object 1) (cob_write object on) (same_number object) (cob_write object off)
-      (write_at object 2 (type ∷ []) ∷ (time_write ss node object 3 inhibit ++ time_write ss node object 5 event
-      ++ mapping_writes index mapping)) (same_number object)
+      (write_at object 2 (type ∷ []) ∷ (timing ss node inhibit event start ++ mapping_writes index mapping))
+      (same_number object)
       (rw (
-        filter-append (is_to object 1) (time_write ss node object 3 inhibit ++ time_write ss node object 5 event)
-            (mapping_writes index mapping),
-        filter-append (is_to object 1) (time_write ss node object 3 inhibit) (time_write ss node object 5 event),
-        no_time_cobs ss node 3 inhibit refl,
-        no_time_cobs ss node 5 event refl,
+        filter-append (is_to object 1) (timing ss node inhibit event start) (mapping_writes index mapping),
+        no_timing_cobs ss node inhibit event start,
         no_cobs object index apart mapping,
       ) refl)
 
@@ -276,10 +312,10 @@ tpdo_configured ss node c within =
     configured object (off_bit + (no_rtr_bit + c.identifier))
     (no_rtr_bit + c.identifier) c.identifier c.mapping (tpdo_writes ss node c)
     (tpdo_meanwhile object (mapping_of object) before behind ss node (off_bit + (no_rtr_bit + c.identifier))
-    c.message.transmission c.message.inhibit c.message.event (no_rtr_bit + c.identifier) c.mapping)
+    c.message.transmission c.message.inhibit c.message.event c.start (no_rtr_bit + c.identifier) c.mapping)
     (omega arith) (omega arith) (omega arith) (omega arith)
     (tpdo_mapping object (mapping_of object) before behind ss node (off_bit + (no_rtr_bit + c.identifier))
-    c.message.transmission c.message.inhibit c.message.event (no_rtr_bit + c.identifier) c.mapping)
+    c.message.transmission c.message.inhibit c.message.event c.start (no_rtr_bit + c.identifier) c.mapping)
 
 pub rpdo_configured : (c : Clean) (k : Consumer) → IsWithin c
     → IsConfigured (rpdo_object k.rpdo) c.identifier k.mapping (rpdo_writes c k)

@@ -9,7 +9,7 @@ use Rattle.std.specs.Option.{option_map_or}
 use Rattle.std.specs.Ordering.{nat_cmp}
 use Rattle.std.proofs.lemmas.List.Elements.{All-nil, All-cons, All-append}
 use Rattle.byteorder.specs.Endian.{little_bytes}
-use Rattle.co_values.specs.declared.form.Width.TheVariants.{Bits16}
+use Rattle.co_values.specs.declared.form.Width.TheVariants.{Bits8, Bits16}
 use Rattle.co_fields.specs.CobIds.{no_rtr_bit, off_bit}
 use Rattle.concise_dcf.specs.declared.write.Write.{Write}
 use Rattle.ini_text.specs.Content.{Section}
@@ -20,7 +20,7 @@ use Rattle.pdo_stations.specs.declared.mapped.Mapped.{Mapped}
 use Rattle.pdo_stations.specs.Devices.{takes_unsigned, tpdo_object, rpdo_object, mapping_of}
 use Rattle.pdo_plan.specs.Mapping.{mapped_bytes}
 use Rattle.pdo_links.specs.Tables.{AreFew}
-use Rattle.pdo_links.specs.Writes.{write_at, cob_write, mapped_writes, mapping_writes, time_write, taken_type}
+use Rattle.pdo_links.specs.Writes.{write_at, cob_write, mapped_writes, mapping_writes, start_write, time_write, taken_type}
 use Rattle.pdo_links.specs.Writes.{tpdo_writes, rpdo_writes, at_number, by_number}
 
 abbrev IsSized : Write → Type 0
@@ -64,6 +64,13 @@ time_held ss node object sub time = by (option_map_or (takes_unsigned Bits16) (e
     by true = holds_one 0 (write_at object sub (little_bytes 2 time)) [] (omega arith, omega arith) holds_none
     by false = at_most 0 1 [] (omega arith) holds_none
 
+start_held : (ss : List Section) (node object start : ℕ) → Holds 1 (start_write ss node object start)
+start_held ss node object start = by (option_map_or (takes_unsigned Bits8) (entry_at ss node object 6) false)
+  where
+    by : (b : Bool) → let ws : List Write = if b then write_at object 6 (start ∷ []) ∷ [] else [] in Holds 1 ws
+    by true = holds_one 0 (write_at object 6 (start ∷ [])) [] (byte_sized object 6 start) holds_none
+    by false = at_most 0 1 [] (omega arith) holds_none
+
 entries_held : (object first : ℕ) (mapping : List Mapped) → Holds (length mapping) (mapped_writes object first mapping)
 entries_held object first [] = holds_none
 entries_held object first (m ∷ ms) =
@@ -80,24 +87,27 @@ mapping_held object mapping short =
     (entries_held object 1 mapping)
     (holds_one 0 (write_at object 0 (length mapping ∷ [])) [] (byte_sized object 0 (length mapping)) holds_none)))
 
-tpdo_held : (ss : List Section) (node : ℕ) (c : Clean) → length c.mapping ≤ 64 → Holds 71 (tpdo_writes ss node c)
+tpdo_held : (ss : List Section) (node : ℕ) (c : Clean) → length c.mapping ≤ 64 → Holds 72 (tpdo_writes ss node c)
 unfolding tpdo_writes
 tpdo_held ss node c short =
     let object : ℕ = tpdo_object c.message.tpdo in
-    holds_one 70 (cob_write object (off_bit + (no_rtr_bit + c.identifier))) _
+    let inhibit : List Write = time_write ss node object 3 c.message.inhibit in
+    let event : List Write = time_write ss node object 5 c.message.event in
+    let start : List Write = start_write ss node object c.start in
+    holds_one 71 (cob_write object (off_bit + (no_rtr_bit + c.identifier))) _
     (word_sized object 1 (off_bit + (no_rtr_bit + c.identifier)))
-    (holds_one 69 (write_at object 2 (c.message.transmission ∷ [])) _ (byte_sized object 2 c.message.transmission)
-    (holds_both 68 1 (time_write ss node object 3 c.message.inhibit ++ time_write ss node object 5 c.message.event
-    ++ mapping_writes (mapping_of object) c.mapping) (cob_write object (no_rtr_bit + c.identifier) ∷ [])
-    (holds_both 2 66 (time_write ss node object 3 c.message.inhibit ++ time_write ss node object 5 c.message.event)
-    (mapping_writes (mapping_of object) c.mapping)
-    (holds_both 1 1 (time_write ss node object 3 c.message.inhibit) (time_write ss node object 5 c.message.event)
-    (time_held ss node object 3 c.message.inhibit) (time_held ss node object 5 c.message.event))
+    (holds_one 70 (write_at object 2 (c.message.transmission ∷ [])) _ (byte_sized object 2 c.message.transmission)
+    (holds_both 69 1 (inhibit ++ event ++ start ++ mapping_writes (mapping_of object) c.mapping)
+    (cob_write object (no_rtr_bit + c.identifier) ∷ [])
+    (holds_both 3 66 (inhibit ++ event ++ start) (mapping_writes (mapping_of object) c.mapping)
+    (holds_both 2 1 (inhibit ++ event) start
+    (holds_both 1 1 inhibit event (time_held ss node object 3 c.message.inhibit)
+    (time_held ss node object 5 c.message.event)) (start_held ss node object c.start))
     (mapping_held (mapping_of object) c.mapping short))
     (holds_one 0 (cob_write object (no_rtr_bit + c.identifier)) [] (word_sized object 1 (no_rtr_bit + c.identifier))
     holds_none)))
 
-rpdo_held : (c : Clean) (k : Consumer) → length k.mapping ≤ 64 → Holds 71 (rpdo_writes c k)
+rpdo_held : (c : Clean) (k : Consumer) → length k.mapping ≤ 64 → Holds 72 (rpdo_writes c k)
 unfolding rpdo_writes
 rpdo_held c k short =
     let object : ℕ = rpdo_object k.rpdo in
@@ -108,29 +118,29 @@ rpdo_held c k short =
     (holds_both 66 1 (mapping_writes (mapping_of object) k.mapping) (cob_write object c.identifier ∷ [])
     (mapping_held (mapping_of object) k.mapping short)
     (holds_one 0 (cob_write object c.identifier) [] (word_sized object 1 c.identifier) holds_none))) in
-    at_most 69 71 (rpdo_writes c k) (omega arith) writes
+    at_most 69 72 (rpdo_writes c k) (omega arith) writes
 
 -- ---- by number
 
 module _ {Y : Type 0} (f : Y → List Write) (pdos : List (ℕ × Y))
-    (each : (number : ℕ) (y : Y) → lookup (is_at (nat_cmp number)) pdos ≡ Some y → Holds 71 (f y)) where
-  number_held : (number : ℕ) → Holds 71 (at_number f pdos number)
+    (each : (number : ℕ) (y : Y) → lookup (is_at (nat_cmp number)) pdos ≡ Some y → Holds 72 (f y)) where
+  number_held : (number : ℕ) → Holds 72 (at_number f pdos number)
   number_held number = by (lookup (is_at (nat_cmp number)) pdos) refl
     where
-      by : (o : Option Y) → lookup (is_at (nat_cmp number)) pdos ≡ o → Holds 71 (option_map_or f o [])
-      by None is = at_most 0 71 [] (omega arith) holds_none
+      by : (o : Option Y) → lookup (is_at (nat_cmp number)) pdos ≡ o → Holds 72 (option_map_or f o [])
+      by None is = at_most 0 72 [] (omega arith) holds_none
       by (Some y) is = each number y is
 
-  range_held : (first n : ℕ) → Holds (n * 71) (flat_map (at_number f pdos) (range_with_len first n))
-  range_held first zero = at_most 0 (0 * 71) [] (omega arith) holds_none
+  range_held : (first n : ℕ) → Holds (n * 72) (flat_map (at_number f pdos) (range_with_len first n))
+  range_held first zero = at_most 0 (0 * 72) [] (omega arith) holds_none
   range_held first (suc n) =
-      at_most (71 + n * 71) (suc n * 71) (flat_map (at_number f pdos) (range_with_len first (suc n))) (omega arith)
-      (holds_both 71 (n * 71) (at_number f pdos first) (flat_map (at_number f pdos) (range_with_len (first + 1) n))
+      at_most (72 + n * 72) (suc n * 72) (flat_map (at_number f pdos) (range_with_len first (suc n))) (omega arith)
+      (holds_both 72 (n * 72) (at_number f pdos first) (flat_map (at_number f pdos) (range_with_len (first + 1) n))
       (number_held first) (range_held (first + 1) n))
 
   few : AreFew (by_number f pdos)
   unfolding by_number
-  few = let h : Holds (512 * 71) (flat_map (at_number f pdos) (range_with_len 1 512)) = range_held 1 512
+  few = let h : Holds (512 * 72) (flat_map (at_number f pdos) (range_with_len 1 512)) = range_held 1 512
       in record { sizes = h.sizes; count = h.count }
 
 pub few_tpdos : (ss : List Section) (node : ℕ) (pdos : List (ℕ × Clean))

@@ -29,7 +29,7 @@ use Rattle.pdo_stations.proofs.UnsignedLemmas.{unsigned_form}
 use Rattle.pdo_plan.specs.Mapping.{mapped_bytes}
 use Rattle.pdo_plan.specs.Plan.{HasPdo}
 use Rattle.pdo_links.specs.Tables.{AreMapped, AreValues}
-use Rattle.pdo_links.specs.Writes.{write_at, cob_write, mapped_writes, mapping_writes, time_write, taken_type}
+use Rattle.pdo_links.specs.Writes.{write_at, cob_write, mapped_writes, mapping_writes, start_write, time_write, taken_type}
 use Rattle.pdo_links.specs.Writes.{tpdo_writes, rpdo_writes}
 
 -- ---- tests
@@ -152,6 +152,20 @@ module _ (ss : List Section) where
             }) none_taken
         by false is = none_taken
 
+    start_taken : (object start : ℕ) → start < 256 → AreTaken (start_write ss node object start)
+    start_taken object start lt = by (option_map_or (takes_unsigned Bits8) (entry_at ss node object 6) false) refl
+      where
+        by : (b : Bool) → option_map_or (takes_unsigned Bits8) (entry_at ss node object 6) false ≡ b
+            → let ws : List Write = if b then write_at object 6 (start ∷ []) ∷ [] else [] in AreTaken ws
+        by true is =
+            one_taken (write_at object 6 (start ∷ [])) [] (record {
+              width = Bits8;
+              takes = is;
+              are = one_byte start lt;
+              long = refl;
+            }) none_taken
+        by false is = none_taken
+
     entries_taken : (object first : ℕ) (mapping : List Mapped)
         → list_all (λ sub. has_unsigned (devices_of ((node, ss) ∷ [])) node Bits32 (object, sub))
         (range_with_len first (length mapping)) ≡ true
@@ -189,10 +203,10 @@ module _ (ss : List Section) where
     -- ---- PDOs
 
     pub tpdo_taken : (c : Clean) → HasPdo ss node (tpdo_object c.message.tpdo) (length c.mapping)
-        → c.message.transmission < 256
+        → c.message.transmission < 256 → c.start < 256
         → length c.mapping < 256 → AreMapped c.mapping → All (IsTaken ss node) (tpdo_writes ss node c)
     unfolding tpdo_writes
-    tpdo_taken c has transmission short are =
+    tpdo_taken c has transmission started short are =
         let object : ℕ = tpdo_object c.message.tpdo in
         let cob : has_unsigned (devices_of ((node, ss) ∷ [])) node Bits32 (object, 1)
         ≡ true = first_of _ _ (first_of _ _ has) in
@@ -202,15 +216,18 @@ module _ (ss : List Section) where
         let type : List ℕ = c.message.transmission ∷ [] in
         let times : List Write = time_write ss node object 3 c.message.inhibit
         ++ time_write ss node object 5 c.message.event in
-        let rest : List Write = times ++ mapping_writes (mapping_of object) c.mapping in
+        let start : List Write = start_write ss node object c.start in
+        let rest : List Write = times ++ start ++ mapping_writes (mapping_of object) c.mapping in
         let on : List Write = cob_write object (no_rtr_bit + c.identifier) ∷ [] in
         one_taken (cob_write object off) (write_at object 2 type ∷ (rest ++ on)) (cob_taken object off cob)
         (one_taken (write_at object 2 type) (rest ++ on)
         (has_taken ss node object 2 Bits8 type kind (one_byte c.message.transmission transmission) refl)
         (both_taken rest on
-        (both_taken times (mapping_writes (mapping_of object) c.mapping)
+        (both_taken (times ++ start) (mapping_writes (mapping_of object) c.mapping)
+        (both_taken times start
         (both_taken (time_write ss node object 3 c.message.inhibit) (time_write ss node object 5 c.message.event)
         (time_taken object 3 c.message.inhibit) (time_taken object 5 c.message.event))
+        (start_taken object c.start started))
         (mapping_taken (mapping_of object) c.mapping (second_of _ _ has) short are))
         (one_taken (cob_write object (no_rtr_bit + c.identifier)) [] (cob_taken object (no_rtr_bit + c.identifier) cob)
         none_taken)))
@@ -242,10 +259,10 @@ module _ (ss : List Section) where
   -- ---- their values
 
   pub tpdo_values : (node : ℕ) (c : Clean) → HasPdo ss node (tpdo_object c.message.tpdo) (length c.mapping)
-      → c.message.transmission < 256
+      → c.message.transmission < 256 → c.start < 256
       → length c.mapping < 256 → AreMapped c.mapping → AreValues ss (tpdo_writes ss node c)
-  tpdo_values node c has transmission short are = taken_values node (tpdo_writes ss node c)
-      (tpdo_taken node c has transmission short are)
+  tpdo_values node c has transmission started short are = taken_values node (tpdo_writes ss node c)
+      (tpdo_taken node c has transmission started short are)
 
   pub rpdo_values : (node : ℕ) (c : Clean) (k : Consumer) → HasPdo ss node (rpdo_object k.rpdo) (length k.mapping)
       → length k.mapping < 256 → AreMapped k.mapping → AreValues ss (rpdo_writes c k)

@@ -24,9 +24,10 @@ AreMapped mapping = All (λ m. AreBytes (mapped_bytes m)) mapping
 unfoldable pub AreValues : List Section → List Write → Type 0
 AreValues ss ws = All (λ w. Fits (kind_at ss (w.index, w.sub)) w.bytes) ws
 
--- at most 71 writes a PDO: COB-ID twice, transmission type, two times, and 64 mapping entries with their count twice
+-- at most 72 writes a PDO: COB-ID twice, transmission type, two times, SYNC start value, and 64 mapping entries with
+-- their count twice
 abbrev pub most_pdo_writes : ℕ
-most_pdo_writes = 512 * 71
+most_pdo_writes = 512 * 72
 
 -- the writes of a node's PDOs have from 1 to 512 bytes, and there aren't too many
 pub record AreFew (ws : List Write) : Type 0 where

@@ -8,7 +8,7 @@ use Rattle.std.specs.Map.{lookup}
 use Rattle.std.specs.Option.{option_map_or}
 use Rattle.std.specs.Ordering.{nat_cmp}
 use Rattle.byteorder.specs.Endian.{little_bytes}
-use Rattle.co_values.specs.declared.form.Width.TheVariants.{Bits16}
+use Rattle.co_values.specs.declared.form.Width.TheVariants.{Bits8, Bits16}
 use Rattle.co_fields.specs.CobIds.{no_rtr_bit, off_bit}
 use Rattle.co_fields.specs.TransmissionTypes.{is_synchronous, type_of_byte}
 use Rattle.concise_dcf.specs.declared.write.Write.{Write}
@@ -45,14 +45,21 @@ time_write ss node object sub time =
     if option_map_or (takes_unsigned Bits16) (entry_at ss node object sub) false
     then write_at object sub (little_bytes 2 time) ∷ [] else []
 
--- a TPDO: it is switched off; transmission type, inhibit time and event timer; the mapping; it is switched on
+-- and so is the SYNC start value, where its entry is UNSIGNED8
+abbrev pub start_write : List Section → ℕ → ℕ → ℕ → List Write
+start_write ss node object start =
+    if option_map_or (takes_unsigned Bits8) (entry_at ss node object 6) false
+    then write_at object 6 (start ∷ []) ∷ [] else []
+
+-- a TPDO: it is switched off; transmission type, inhibit time, event timer and SYNC start value; the mapping; it is
+-- switched on
 unfoldable pub tpdo_writes : List Section → ℕ → Clean → List Write
 tpdo_writes ss node c =
     let object = tpdo_object c.message.tpdo in
     cob_write object (off_bit + (no_rtr_bit + c.identifier))
     ∷ write_at object 2 (c.message.transmission ∷ [])
     ∷ (time_write ss node object 3 c.message.inhibit ++ time_write ss node object 5 c.message.event
-    ++ mapping_writes (mapping_of object) c.mapping
+    ++ start_write ss node object c.start ++ mapping_writes (mapping_of object) c.mapping
     ++ cob_write object (no_rtr_bit + c.identifier) ∷ [])
 
 -- the transmission type of the RPDOs of a message: with the SYNC for 0 to 240, else at once

@@ -24,6 +24,9 @@ pub(crate) const INHIBIT_TIME: u8 = 3;
 /// Event timer, in milliseconds.
 pub(crate) const EVENT_TIMER: u8 = 5;
 
+/// SYNC start value.
+pub(crate) const SYNC_START: u8 = 6;
+
 /// The number of mapped entries, in a mapping parameter.
 pub(crate) const MAPPED_COUNT: u8 = 0;
 

@@ -2,36 +2,34 @@
 ghost use Rattle.std.specs.Prelude.{◌≡◌, ◌<◌, true, false, [], ◌∷◌, ◌++◌, length, filter_map, OnOk, IfOk};
 ghost use Rattle.std.specs.Option.{option_map, option_map_or, option_and_then};
 ghost use Rattle.co_base.specs.Ranges.{is_between};
-ghost use Rattle.co_values.specs.declared.form.Width.TheVariants.{Bits16};
 ghost use Rattle.eds_device.specs.Entries.{entry_at};
 ghost use Rattle.pdo_stations.specs.Devices.{takes_unsigned, tpdo_object};
 ghost use Rattle.pdo_plan.specs.Plan.{HasPdo, IsMadeFor, IsWithin, clean, clean_of};
 ghost use Rattle.pdo_links.specs.Tables.{AreFew, AreValues, IsTableOf};
-ghost use Rattle.pdo_links.specs.Writes.{write_at, time_write, tpdo_writes, tpdo_of, by_number};
+ghost use Rattle.pdo_links.specs.Writes.{write_at, start_write, time_write, tpdo_writes, tpdo_of, by_number};
 
 use crate::first::put_first;
 use crate::mapping::put_mapping;
 use crate::parameters::{
-    COB_ID, EVENT_TIMER, FIRST_TPDO, INHIBIT_TIME, LAST_PDO, MAPPING_DISTANCE, TRANSMISSION_TYPE,
+    COB_ID, EVENT_TIMER, FIRST_TPDO, INHIBIT_TIME, LAST_PDO, MAPPING_DISTANCE, SYNC_START,
+    TRANSMISSION_TYPE,
 };
 use crate::put::{put_u8, put_u16, put_u32};
 use co_fields::CobId;
-use co_messages::Message;
-use co_values::{Form, Width};
+use co_values::Width;
 use concise_dcf::Write;
 use eds_device::Device;
 use pdo_plan::{Clean, Outcome, Plan, PlannedMessage};
+use pdo_stations::is_unsigned;
 use std::alloc::{AllocError, Global};
 use std::collections::BTreeMap;
 
-/// Whether an entry is there, UNSIGNED16 and writable.
-fn takes_unsigned16(device: &Device, node: u8, index: u16, sub: u8) -> bool
-    ensures { result ≡ option_map_or (takes_unsigned Bits16) (entry_at device.now.sections node index sub) false }
+/// Whether an entry is there, an UNSIGNEDn of a width and writable.
+fn takes_unsigned(device: &Device, node: u8, width: Width, index: u16, sub: u8) -> bool
+    ensures { result ≡ option_map_or (takes_unsigned width) (entry_at device.now.sections node index sub) false }
 {
     match device.entry(node, index, sub) {
-        Some(entry) => {
-            matches!(entry.kind.form(), Form::Unsigned(Width::Bits16)) && entry.access.is_writable()
-        }
+        Some(entry) => is_unsigned(entry.kind, width) && entry.access.is_writable(),
         None => false,
     }
 }
@@ -47,29 +45,51 @@ fn put_time(
 ) -> Result<(), AllocError>
     ensures { OnOk result (writes.new.items ≡ writes.old.items ++ time_write device.now.sections node object sub time) }
 {
-    if takes_unsigned16(device, node, object, sub) {
+    if takes_unsigned(device, node, Width::Bits16, object, sub) {
         put_u16(writes, object, sub, time)?;
     }
     Ok(())
 }
 
-/// Adds the writes that say when a TPDO is sent: transmission type, inhibit time and event timer.
+/// Adds the write of a SYNC start value, where its entry is there, UNSIGNED8 and writable.
+fn put_start(
+    writes: &mut Vec<Write>,
+    device: &Device,
+    node: u8,
+    object: u16,
+    start: u8,
+) -> Result<(), AllocError>
+    ensures write { OnOk result (writes.new.items ≡ writes.old.items ++ start_write device.now.sections node object start) }
+    ensures range { start < 256 }
+{
+    if takes_unsigned(device, node, Width::Bits8, object, SYNC_START) {
+        put_u8(writes, object, SYNC_START, start)?;
+    }
+    Ok(())
+}
+
+/// Adds the writes that say when a TPDO is sent: transmission type, inhibit time, event timer and
+/// SYNC start value.
 fn put_timing(
     writes: &mut Vec<Write>,
     device: &Device,
     node: u8,
     object: u16,
-    message: &Message,
+    clean: &Clean,
 ) -> Result<(), AllocError>
     ensures writes { OnOk result (writes.new.items
-        ≡ writes.old.items ++ (write_at object 2 (message.now.transmission ∷ [])
-        ∷ (time_write device.now.sections node object 3 message.now.inhibit
-        ++ time_write device.now.sections node object 5 message.now.event))) }
-    ensures range { OnOk result (message.now.transmission < 256) }
+        ≡ writes.old.items ++ (write_at object 2 (clean.now.message.transmission ∷ [])
+        ∷ (time_write device.now.sections node object 3 clean.now.message.inhibit
+        ++ time_write device.now.sections node object 5 clean.now.message.event
+        ++ start_write device.now.sections node object clean.now.start))) }
+    ensures range { OnOk result (clean.now.message.transmission < 256) }
+    ensures start { OnOk result (clean.now.start < 256) }
 {
+    let message = &clean.message;
     put_u8(writes, object, TRANSMISSION_TYPE, message.transmission)?;
     put_time(writes, device, node, object, INHIBIT_TIME, message.inhibit)?;
-    put_time(writes, device, node, object, EVENT_TIMER, message.event)
+    put_time(writes, device, node, object, EVENT_TIMER, message.event)?;
+    put_start(writes, device, node, object, clean.start)
 }
 
 /// The communication parameter of a TPDO.
@@ -98,7 +118,7 @@ fn put_tpdo(
     let object = tpdo_object(clean.message.tpdo);
     let identifier = CobId::NO_RTR_BIT + u32::from(clean.identifier);
     put_u32(writes, object, COB_ID, CobId::OFF_BIT + identifier)?;
-    put_timing(writes, device, node, object, &clean.message)?;
+    put_timing(writes, device, node, object, clean)?;
     put_mapping(writes, object + MAPPING_DISTANCE, clean.mapping.as_slice())?;
     put_u32(writes, object, COB_ID, identifier)?;
     Ok(())

@@ -47,7 +47,13 @@ module _ (had : Had) (devices : Devices) (m : Linked) where
       ap (λ (x : List Carried). filter_map (consumer_by had devices m.sinks x) nodes) carried
       ∙ ap (filter_map (consumer_by had devices m.sinks sources)) named ∙ consumers_same in
       let made : Planned (clean_by had devices m cs nodes id) ≡ message_outcome had devices m (Some id) [] =
-      λ i. Planned (record { message = m.message; identifier = id; mapping = sent_is i; consumers = taken_is i }) in
+      λ i. Planned (record {
+        message = m.message;
+        start = m.start;
+        identifier = id;
+        mapping = sent_is i;
+        consumers = taken_is i;
+      }) in
       let clean : [] ≡ faults had devices m = sym none ∙ all in
       made ∙ (λ i. message_outcome had devices m (sym found i) (clean i))
 

@@ -9,7 +9,7 @@ use Rattle.pdo_plan.specs.declared.message_fault.MessageFault.{MessageFault}
 use Rattle.pdo_plan.specs.declared.message_fault.MessageFault.TheVariants.{NoObjects, TpdoTaken, TooManyBits}
 use Rattle.pdo_plan.specs.declared.message_fault.MessageFault.TheVariants.{NotMappable, Mismatched, NoRpdo, NoDummy}
 use Rattle.pdo_plan.specs.declared.message_fault.MessageFault.TheVariants.{BadIdentifier, NoIdentifier, ReservedType}
-use Rattle.pdo_stations.specs.Devices.{Devices, has_pdo, has_times, tpdo_object}
+use Rattle.pdo_stations.specs.Devices.{Devices, has_pdo, has_start, has_times, tpdo_object}
 use Rattle.pdo_plan.specs.Carried.{carried_by, carried_of, total_bits, lacks_some, mismatches}
 use Rattle.pdo_plan.specs.Plan.{Had, rpdo_for, identifier_for, has_unmappable, consumers_of, faults_that_hold, faults}
 use Rattle.pdo_plan.proofs.CarriedLemmas.{bits_same, lacks_same, mismatch_same}
@@ -19,7 +19,8 @@ abbrev pub tested : Had → Devices → Linked → List Carried → List ℕ →
 tested had devices m cs consumers has =
     faults_that_hold ((
       not (has_pdo devices m.message.node (tpdo_object m.message.tpdo) (length cs)
-          && has_times devices m.message.node (tpdo_object m.message.tpdo) m.message.inhibit m.message.event),
+          && has_times devices m.message.node (tpdo_object m.message.tpdo) m.message.inhibit m.message.event
+          && has_start devices m.message.node (tpdo_object m.message.tpdo) m.start),
       NoObjects,
     )
     ∷ (had.tpdo m.message.node m.message.tpdo, TpdoTaken)
@@ -42,7 +43,8 @@ module _ (had : Had) (devices : Devices) (m : Linked) where
   tested_all =
       λ i. faults_that_hold ((
         not (has_pdo devices m.message.node (tpdo_object m.message.tpdo) (counted i)
-            && has_times devices m.message.node (tpdo_object m.message.tpdo) m.message.inhibit m.message.event),
+            && has_times devices m.message.node (tpdo_object m.message.tpdo) m.message.inhibit m.message.event
+            && has_start devices m.message.node (tpdo_object m.message.tpdo) m.start),
         NoObjects,
       )
       ∷ (had.tpdo m.message.node m.message.tpdo, TpdoTaken)

@@ -39,6 +39,7 @@ use Rattle.pdo_plan.proofs.LimitLemmas.{limits_of, is_within}
 -- what a clean message is
 pub record IsCleanAs (had : Had) (devices : Devices) (m : Linked) (c : Clean) : Type 0 where
   pub message : m.message ≡ c.message
+  pub start : m.start ≡ c.start
   pub identifier : identifier_for had m.message ≡ Some c.identifier
   pub mapping : sent_mapping devices m.message.node m.sources ≡ c.mapping
   pub consumers : planned_consumers had devices m ≡ c.consumers
@@ -56,6 +57,7 @@ judged_clean had devices m c e = by (identifier_for had m.message) (faults had d
     by (Some id) [] io fo e =
         let made : Clean = record {
           message = m.message;
+          start = m.start;
           identifier = id;
           mapping = sent_mapping devices m.message.node m.sources;
           consumers = planned_consumers had devices m;
@@ -63,6 +65,7 @@ judged_clean had devices m c e = by (identifier_for had m.message) (faults had d
         let same : made ≡ c = cc in
         record {
           message = ap (λ (x : Clean). x.message) same;
+          start = ap (λ (x : Clean). x.start) same;
           identifier = io ∙ ap (λ (x : Clean). Some x.identifier) same;
           mapping = ap (λ (x : Clean). x.mapping) same;
           consumers = ap (λ (x : Clean). x.consumers) same;

@@ -51,7 +51,7 @@ limits_of m kept = record {
   node = between 1 127 m.message.node kept.0.0;
   tpdo = between 1 512 m.message.tpdo kept.0.1;
   cob = (between 0 0x7FF m.message.cob kept.0.2).1;
-  sources = few_sources m.sources kept.1;
+  sources = few_sources m.sources kept.2;
 }
 
 pub is_within : (low high n : ℕ) → low ≤ n → n ≤ high → is_between low high n ≡ true

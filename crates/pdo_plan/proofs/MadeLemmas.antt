@@ -127,7 +127,7 @@ module _ (nodes : List (ℕ × List Section)) (node : ℕ) (ss : List Section)
       let is = judged_clean (had_by before) (devices_of nodes) m c e in
       let objects = (faultless (had_by before) (devices_of nodes) m is.faultless).objects in
       let has : has_pdo (devices_of nodes) m.message.node (tpdo_object m.message.tpdo) (length m.sources)
-      ≡ true = and_left _ _ objects in
+      ≡ true = and_left _ _ (and_left _ _ objects) in
       let same : has_pdo (devices_of nodes) c.message.node (tpdo_object c.message.tpdo) (length m.sources) ≡ true =
       subst (λ (x : Message). has_pdo (devices_of nodes) x.node (tpdo_object x.tpdo) (length m.sources)
       ≡ true) is.message has in

@@ -33,7 +33,7 @@ use Rattle.pdo_plan.specs.Plan.{planned_consumers, identifier_for, has_objects, 
 use Rattle.pdo_plan.specs.Plan.{lacks_rpdo, lacks_dummy, faults_that_hold, faults, message_outcome, judged_message}
 use Rattle.pdo_plan.specs.Plan.{planned_message, clean, plan_after, plan_of}
 use Rattle.pdo_plan.proofs.OrderLemmas.{all_inserted}
-use Rattle.pdo_stations.proofs.AlikeLemmas.{pdo_alike, times_alike}
+use Rattle.pdo_stations.proofs.AlikeLemmas.{pdo_alike, start_alike, times_alike}
 
 -- ---- lists
 
@@ -91,6 +91,7 @@ module _ (had : Had) (d e : Devices) (m : Linked) (same : AreAlikeFor d e m) whe
       let object = tpdo_object m.message.tpdo in
       λ i. pdo_alike d e sender sender object (length m.sources) same.sender.entry i
       && times_alike d e sender sender object m.message.inhibit m.message.event same.sender.entry i
+      && start_alike d e sender sender object m.start same.sender.entry i
 
   bits_alike : bits_of d sender m.sources ≡ bits_of e sender m.sources
   bits_alike = λ i. bits_of (one (same.sender.entry i) (same.sender.dummy i)) sender m.sources
@@ -176,6 +177,7 @@ module _ (had : Had) (d e : Devices) (m : Linked) (same : AreAlikeFor d e m) whe
   outcome_alike (Some id) [] =
       λ i. Planned (record {
         message = m.message;
+        start = m.start;
         identifier = id;
         mapping = sent_alike i;
         consumers = consumers_alike i;

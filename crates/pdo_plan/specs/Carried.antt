@@ -73,6 +73,7 @@ consumer_by had devices sinks cs node =
 abbrev pub clean_by : Had → Devices → Linked → List Carried → List ℕ → ℕ → Clean
 clean_by had devices m cs nodes id = record {
   message = m.message;
+  start = m.start;
   identifier = id;
   mapping = sent_by cs;
   consumers = filter_map (consumer_by had devices m.sinks cs) nodes;

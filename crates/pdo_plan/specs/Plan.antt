@@ -23,7 +23,7 @@ use Rattle.pdo_plan.specs.declared.outcome.Outcome.{Outcome}
 use Rattle.pdo_plan.specs.declared.outcome.Outcome.TheVariants.{Planned, Faulty}
 use Rattle.pdo_plan.specs.declared.planned_message.PlannedMessage.{PlannedMessage}
 use Rattle.pdo_stations.specs.declared.mapped.Mapped.{Mapped}
-use Rattle.pdo_stations.specs.Devices.{Devices, devices_of, can_map, has_pdo, has_times, tpdo_object, rpdo_object}
+use Rattle.pdo_stations.specs.Devices.{Devices, devices_of, can_map, has_pdo, has_start, has_times, tpdo_object, rpdo_object}
 use Rattle.pdo_plan.specs.Least.{least_free}
 use Rattle.pdo_plan.specs.Mapping.{Sinks, mapping_bits, bits_of, sent_mapping, taken_mapping, is_mismatched}
 use Rattle.pdo_plan.specs.Mapping.{lacks_dummy_at}
@@ -106,6 +106,7 @@ abbrev pub has_objects : Devices → Linked → Bool
 has_objects devices m =
     has_pdo devices m.message.node (tpdo_object m.message.tpdo) (length m.sources)
     && has_times devices m.message.node (tpdo_object m.message.tpdo) m.message.inhibit m.message.event
+    && has_start devices m.message.node (tpdo_object m.message.tpdo) m.start
 
 -- a source or sink that isn't there or can't be mapped in its direction, or a sink on the sender
 abbrev pub has_unmappable : Devices → Linked → Bool
@@ -149,6 +150,7 @@ faults had devices m =
 abbrev pub message_outcome : Had → Devices → Linked → Option ℕ → List MessageFault → Outcome
 message_outcome had devices m (Some id) [] = Planned (record {
   message = m.message;
+  start = m.start;
   identifier = id;
   mapping = sent_mapping devices m.message.node m.sources;
   consumers = planned_consumers had devices m;

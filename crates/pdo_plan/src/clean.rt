@@ -10,6 +10,8 @@ use pdo_stations::Mapped;
 pub struct Clean {
     /// How it is sent.
     pub message: Message,
+    /// The SYNC start value of its sender's TPDO (CiA 301), 0 to 240.
+    pub start: u8,
     /// The identifier of its frames (COB-ID).
     pub identifier: u16,
     /// What the sender's TPDO maps.

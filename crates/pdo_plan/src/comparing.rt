@@ -56,6 +56,7 @@ fn same_clean(a: &Clean, b: &Clean) -> bool
     ensures { IsTrue result ↔ (a.now ≡ b.now) }
 {
     a.message == b.message
+        && a.start == b.start
         && a.identifier == b.identifier
         && are_same(a.mapping.as_slice(), b.mapping.as_slice())
         && are_same(a.consumers.as_slice(), b.consumers.as_slice())

@@ -130,7 +130,7 @@ pub(crate) fn faults(
     let sinks = &linked.sinks;
     let count = carried.len();
     let tests = [
-        (!has_tpdo(stations, message, count), MessageFault::NoObjects),
+        (!has_tpdo(stations, linked, count), MessageFault::NoObjects),
         (
             taken.tpdos.contains(&(message.node, message.tpdo)),
             MessageFault::TpdoTaken,

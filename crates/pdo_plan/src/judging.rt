@@ -85,6 +85,7 @@ fn clean(
     let consumers = planned_consumers(alloc, stations, taken, &linked.sinks, carried, nodes)?;
     Ok(Clean {
         message: linked.message,
+        start: linked.start,
         identifier,
         mapping,
         consumers,

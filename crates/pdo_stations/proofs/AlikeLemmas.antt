@@ -3,7 +3,7 @@ use Rattle.std.proofs.Common.{◌≡◌, ℕ, false, List, Option, Some, None, o
 use Rattle.std.specs.FinMap.{get}
 use Rattle.co_dict.specs.declared.entry.Entry.{Entry}
 use Rattle.co_dict.specs.Shapes.{Shaped}
-use Rattle.pdo_stations.specs.Devices.{Devices, has_mapping, has_pdo, has_times}
+use Rattle.pdo_stations.specs.Devices.{Devices, has_mapping, has_pdo, has_start, has_times}
 use Rattle.pdo_stations.specs.Rooms.{device_with}
 use Rattle.pdo_stations.specs.Stations.{shape_at, devices_in}
 
@@ -18,6 +18,12 @@ pub times_alike : (d e : Devices) (m n object inhibit event : ℕ) → d.entry m
 times_alike d e m n object inhibit event same =
     ap (λ (f : ℕ × ℕ → Option Entry). let one : Devices = record { entry = λ node. f; dummy = λ node kind. false }
     in has_times one 0 object inhibit event) same
+
+pub start_alike : (d e : Devices) (m n object start : ℕ) → d.entry m ≡ e.entry n
+    → has_start d m object start ≡ has_start e n object start
+start_alike d e m n object start same =
+    ap (λ (f : ℕ × ℕ → Option Entry). let one : Devices = record { entry = λ node. f; dummy = λ node kind. false }
+    in has_start one 0 object start) same
 
 -- the entries of a node with a station
 pub entries_at : (stations : List (ℕ × Shaped)) (node : ℕ) (shape : Shaped) → shape_at stations node ≡ Some shape
@@ -44,6 +50,12 @@ pub times_at : (stations : List (ℕ × Shaped)) (node object inhibit event : �
     → has_times (device_with shape) 0 object inhibit event ≡ has_times (devices_in stations) node object inhibit event
 times_at stations node object inhibit event shape at = times_alike (device_with shape)
     (devices_in stations) 0 node object inhibit event (sym (entries_at stations node shape at))
+
+pub start_at : (stations : List (ℕ × Shaped)) (node object start : ℕ) (shape : Shaped)
+    → shape_at stations node ≡ Some shape
+    → has_start (device_with shape) 0 object start ≡ has_start (devices_in stations) node object start
+start_at stations node object start shape at = start_alike (device_with shape)
+    (devices_in stations) 0 node object start (sym (entries_at stations node shape at))
 
 -- a node without a station has none
 pub no_pdo_at : (stations : List (ℕ × Shaped)) (node object count : ℕ) → shape_at stations node ≡ None

@@ -78,3 +78,7 @@ abbrev pub has_times : Devices → ℕ → ℕ → ℕ → ℕ → Bool
 has_times devices node object inhibit event =
     (inhibit == 0 || has_unsigned devices node Bits16 (object, 3))
     && (event == 0 || has_unsigned devices node Bits16 (object, 5))
+
+-- and the SYNC start value, where it isn't 0
+abbrev pub has_start : Devices → ℕ → ℕ → ℕ → Bool
+has_start devices node object start = start == 0 || has_unsigned devices node Bits8 (object, 6)

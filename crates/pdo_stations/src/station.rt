@@ -4,7 +4,7 @@ ghost use Rattle.std.specs.FinMap as map;
 ghost use Rattle.std.specs.Option.{option_copied};
 ghost use Rattle.co_dict.specs.Shapes.{is_dummy_allowed};
 ghost use Rattle.co_values.specs.declared.form.Width.TheVariants as width;
-ghost use Rattle.pdo_stations.specs.Devices.{has_pdo, has_times, has_unsigned, rpdo_object, tpdo_object};
+ghost use Rattle.pdo_stations.specs.Devices.{has_pdo, has_start, has_times, has_unsigned, rpdo_object, tpdo_object};
 ghost use Rattle.pdo_stations.specs.Rooms.{device_with, has_room, AreRoomsOf};
 
 use crate::room::{has_unsigned, room};
@@ -114,5 +114,13 @@ impl Station {
     {
         let object = 0x17FF + number;
         has_time(&self.shape, object, 3, inhibit) && has_time(&self.shape, object, 5, event)
+    }
+
+    /// Whether a TPDO, up to 512, has an UNSIGNED8 for its SYNC start value, where that isn't 0.
+    pub fn has_start(&self, number: u16, start: u8) -> bool
+        requires { number ≤ 512 }
+        ensures { result ≡ has_start (device_with self.now) 0 (tpdo_object number) start }
+    {
+        start == 0 || has_unsigned(&self.shape, Width::Bits8, 0x17FF + number, 6)
     }
 }

@@ -2,7 +2,7 @@
 ghost use Rattle.std.specs.Prelude.{◌≡◌, ◌==◌, ◌≤◌, ℕ, if◌then◌else◌, Some, IfOk, OnOk};
 ghost use Rattle.std.specs.Option.{option_copied};
 ghost use Rattle.eds_device.specs.Entries.{shape_of};
-ghost use Rattle.pdo_stations.specs.Devices.{devices_of, can_map, has_pdo, has_times, tpdo_object, width_at};
+ghost use Rattle.pdo_stations.specs.Devices.{devices_of, can_map, has_pdo, has_start, has_times, tpdo_object, width_at};
 ghost use Rattle.pdo_stations.specs.Dummies.{dummy_for};
 ghost use Rattle.pdo_stations.specs.Shown.{nodes_of};
 ghost use Rattle.pdo_stations.specs.Stations.{shape_at, devices_in};
@@ -160,6 +160,17 @@ impl Stations {
         match self.get(node) {
             Some(station) => station.has_times(number, inhibit, event),
             None => inhibit == 0 && event == 0,
+        }
+    }
+
+    /// Whether a node's TPDO, up to 512, has an UNSIGNED8 for its SYNC start value, where that isn't 0.
+    pub fn has_start(&self, node: u8, number: u16, start: u8) -> bool
+        requires { number ≤ 512 }
+        ensures { result ≡ has_start (devices_in self.now) node (tpdo_object number) start }
+    {
+        match self.get(node) {
+            Some(station) => station.has_start(number, start),
+            None => start == 0,
         }
     }
 }

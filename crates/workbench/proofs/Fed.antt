@@ -18,7 +18,7 @@ use Rattle.co_lines.specs.Lines.{words_of, line_of, block_of, text_of}
 use Rattle.co_commands.specs.Asked.{asks}
 use Rattle.co_text.specs.Lines.{line_count}
 use Rattle.co_project.specs.Project.{Content, first, accept, accept_all}
-use Rattle.co_project.specs.Script.{edits, script}
+use Rattle.project_script.specs.Script.{edits, script}
 use Rattle.co_project.specs.Sound.{IsSound}
 use Rattle.workbench.specs.Replies.{State, After, start, ok_reply, with_reply, in_block, after_request, is_skipped}
 use Rattle.workbench.specs.Replies.{after_line, after_lines, cut_off, replies}

@@ -2,14 +2,14 @@
 ghost use Rattle.std.specs.Prelude.{◌≡◌, ◌≢◌, ◌++◌, ◌∷◌, [], ℕ, List, None, false, map};
 ghost use Rattle.co_text.specs.Lines.{lines_of};
 ghost use Rattle.co_project.specs.Project.{Content};
-ghost use Rattle.co_project.specs.Script.{edits, script};
+ghost use Rattle.project_script.specs.Script.{edits, script};
 ghost use Rattle.co_project.specs.Sound.{IsSound};
 ghost use Rattle.workbench.specs.Lines.{AreLines, has_break, with_breaks, if_some};
 ghost use Rattle.workbench.specs.Replies.{State, start, ok_reply, after_line, after_lines, replies, replies_to_lines};
 ghost use Rattle.workbench.specs.Replies.{complete_replies};
 
 use co_commands::laws::{printed_blocks_are_read, printed_edits_are_lines, printed_lines_are_read};
-use co_project::laws::{script_has_edits, script_makes_the_project_again};
+use project_script::laws::{script_has_edits, script_makes_the_project_again};
 
 /// An input that is made of lines, each ended by LF, and of a last one that its end ends, has the
 /// replies to these lines, taken one after the other.

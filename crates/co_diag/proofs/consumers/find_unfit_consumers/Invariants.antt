@@ -1,5 +1,5 @@
 use Rattle.std.proofs.Common.{◌≡◌, ◌++◌, filter_map, take}
-use Rattle.co_diag.specs.Configured.{unfit_diagnostic}
+use Rattle.co_diag.specs.Kept.{unfit_diagnostic}
 use Rattle.co_diag.proofs.consumers.find_unfit_consumers.Given as goal
 
 abbrev pub invariant-loop-consumer : goal.invariant-loop-consumer

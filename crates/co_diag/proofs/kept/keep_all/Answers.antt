@@ -1,6 +1,6 @@
 use Rattle.std.proofs.Common.{◌≡◌, ◌∙◌, ℕ, [], ◌∷◌, rules}
 use Rattle.co_project.specs.declared.node.Node.{Node}
-use Rattle.co_diag.specs.Configured.{identifiers_by, consumers_by, times_by}
+use Rattle.co_diag.specs.Kept.{identifiers_by, consumers_by, times_by, counters_by}
 use Rattle.co_diag.specs.Devices.{of_node}
 use Rattle.co_diag.proofs.WalkLemmas.{all_members, walk_ends, walk_on}
 use Rattle.co_diag.proofs.kept.keep_all.Goals as goal
@@ -20,6 +20,9 @@ loop-id-preserved c =
       times = walk_on (of_node (times_by c.args.plan.now) c.args.library.now.project) _ c.loop-id.kept.times.items
           c.keep_node.new.kept.times.items e c.next.new.self c.loop-id.id-iterator left c.in_ok-keep_node.ensures.times
           c.loop-id.invariant.times;
+      counters = walk_on (of_node (counters_by c.args.plan.now) c.args.library.now.project) _
+          c.loop-id.kept.counters.items c.keep_node.new.kept.counters.items e c.next.new.self c.loop-id.id-iterator left
+          c.in_ok-keep_node.ensures.counters c.loop-id.invariant.counters;
     }
 
 pub returns-clause-identifiers : goal.returns-clause-identifiers
@@ -42,3 +45,10 @@ returns-clause-times c =
     walk_ends (of_node (times_by c.args.plan.now) c.args.library.now.project) _ c.loop-id.kept.times.items
     c.loop-id.id-iterator ended c.loop-id.invariant.times
     ∙ all_members (times_by c.args.plan.now) c.args.library.now.project
+
+pub returns-clause-counters : goal.returns-clause-counters
+returns-clause-counters c =
+    let ended : c.loop-id.id-iterator ≡ [] = search rules in
+    walk_ends (of_node (counters_by c.args.plan.now) c.args.library.now.project) _ c.loop-id.kept.counters.items
+    c.loop-id.id-iterator ended c.loop-id.invariant.counters
+    ∙ all_members (counters_by c.args.plan.now) c.args.library.now.project

@@ -1,5 +1,5 @@
 use Rattle.std.proofs.Common.{◌≡◌, ◌++◌, filter_map, take}
-use Rattle.co_diag.specs.Configured.{consumer_among}
+use Rattle.co_diag.specs.Kept.{consumer_among}
 use Rattle.co_diag.proofs.kept.keep_consumers.Given as goal
 
 abbrev pub invariant-loop-index : goal.invariant-loop-index

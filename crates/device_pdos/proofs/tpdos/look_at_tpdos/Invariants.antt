@@ -5,9 +5,9 @@ use Rattle.device_pdos.proofs.tpdos.look_at_tpdos.Given as goal
 -- what is done and what is left give what all give
 abbrev pub invariant-loop-tpdo : goal.invariant-loop-tpdo
 invariant-loop-tpdo l =
-    let step = tpdo_after_turn l.fn.t l.fn.at_sync l.fn.dict in
+    let step = tpdo_after_turn l.fn.t l.fn.seen l.fn.dict in
     record {
       states : take l.tpdo-index l.tpdos ++ map step (drop l.tpdo-index l.tpdos) ≡ map step l.fn.tpdos;
-      queued : with_tpdos l.fn.t l.fn.at_sync l.fn.dict (drop l.tpdo-index l.tpdos) l.waiting
-          ≡ with_tpdos l.fn.t l.fn.at_sync l.fn.dict l.fn.tpdos l.fn.waiting;
+      queued : with_tpdos l.fn.t l.fn.seen l.fn.dict (drop l.tpdo-index l.tpdos) l.waiting
+          ≡ with_tpdos l.fn.t l.fn.seen l.fn.dict l.fn.tpdos l.fn.waiting;
     }

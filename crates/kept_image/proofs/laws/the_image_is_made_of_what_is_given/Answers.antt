@@ -1,4 +1,4 @@
-use Rattle.std.proofs.Common.{refl, ap}
+use Rattle.std.proofs.Common.{ap}
 use Rattle.co_parts.specs.Contents.{BootIs, DefaultsAre, ExpectIs, ShapeIs}
 use Rattle.kept_image.proofs.MadeLemmas.{defaults_are, expects_are, shapes_are, writes_are}
 use Rattle.kept_image.proofs.laws.the_image_is_made_of_what_is_given.Goals as goal

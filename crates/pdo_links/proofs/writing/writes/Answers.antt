@@ -47,8 +47,8 @@ returns-clause-sizes c =
 few_joined : (parameters tpdos rpdos two three : List Write) → two ≡ parameters ++ tpdos → three ≡ two ++ rpdos
     → length parameters ≤ 4096 → AreFew tpdos → AreFew rpdos → length three ≤ 4294967295
 few_joined parameters tpdos rpdos two three a b p t r =
-    let i : length tpdos ≤ 36352 = t.count in
-    let j : length rpdos ≤ 36352 = r.count in
+    let i : length tpdos ≤ 36864 = t.count in
+    let j : length rpdos ≤ 36864 = r.count in
     omega (
       arith,
       ap (λ (ws : List Write). length ws) a,

@@ -1,7 +1,8 @@
-use Rattle.std.proofs.Common.{◌≡◌, ◌≤◌, ◌+◌, length, true}
+use Rattle.std.proofs.Common.{◌≡◌, ◌≤◌, ◌+◌, length, Some}
 use Rattle.asking.specs.Asking.{outcome, after_reads, reads}
 use Rattle.asking.specs.Record.{Lasts}
 use Rattle.co_device.specs.Receiving.{rpdo_places, after_sync_at, walk}
+use Rattle.co_pdos.specs.Sync.{sync_message}
 use Rattle.co_device.proofs.WalkLemmas.{from}
 use Rattle.co_device.proofs.device_state.DeviceState.take_sync.Given as goal
 
@@ -10,7 +11,7 @@ abbrev pub invariant-loop-i : goal.invariant-loop-i
 invariant-loop-i g l =
     let seen = g.P.Asked.seen l.fn.shapes in
     let rest = walk (after_sync_at l.fn.t) (from l.i (length l.fn.self.rpdos)) l.self in
-    let all = walk (after_sync_at l.fn.t) (rpdo_places l.fn.self) (record l.fn.self { synced = true }) in
+    let all = walk (after_sync_at l.fn.t) (rpdo_places l.fn.self) (record l.fn.self { synced = Some (sync_message l.fn.bytes) }) in
     record {
       state : outcome rest seen.image ≡ outcome all seen.image;
       noted : after_reads rest (g.P.Asked.seen l.shapes) ≡ after_reads all seen;

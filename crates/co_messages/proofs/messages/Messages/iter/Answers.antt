@@ -1,4 +1,4 @@
-use Rattle.std.proofs.Common.{◌≡◌, List, ℕ, ap, sym, subst, All, ◌∙◌}
+use Rattle.std.proofs.Common.{List, ℕ, ap, sym, subst, All, ◌∙◌}
 use Rattle.std.specs.FinMap as map
 use Rattle.co_messages.specs.declared.linked.Linked.{Linked}
 use Rattle.co_messages.specs.Messages.{by_name, IsLinked}

@@ -1,15 +1,15 @@
-use Rattle.std.proofs.Common.{ap, subst, sym, refl, None, ◌∙◌, [], ℕ, List}
+use Rattle.std.proofs.Common.{ap, subst, sym, refl, ◌∙◌, [], ℕ, List}
 use Rattle.std.specs.FinMap as map
 use Rattle.std.proofs.lemmas.Result.{err_from_is_err_and}
 use Rattle.co_messages.specs.declared.linked.Linked.{Linked}
-use Rattle.co_messages.specs.Messages.{linked_to, with_message, AreMessages}
+use Rattle.co_messages.specs.Messages.{with_message, AreMessages}
 use Rattle.co_messages.proofs.MessageLemmas.{message_added, message_missing, message_sent, messages_stay, sent_within}
 use Rattle.co_messages.proofs.messages.Messages.put.Goals as goal
 
 pub returns-in-Some-clause-ok : goal.returns-in-Some-clause-ok
 returns-in-Some-clause-ok c =
     let old = c.in-Some.linked.now in
-    let new : Linked = record { message = c.args.message; sources = old.sources; sinks = old.sinks } in
+    let new : Linked = record old { message = c.args.message } in
     message_sent c.self.inside.linked c.args.self.now c.as_slice.result.now c.self.view_is
     (c.get_mut.follows.lender new) old c.in-Some.ensures.value new (c.get_mut.follows.holds new) c.args.message refl
     ∙ ap (λ name. with_message c.args.self.now name c.args.message) c.as_slice.ensures
@@ -32,9 +32,14 @@ returns-clause-ok c =
     let messages = c.args.self.now in
     let key = c.into_vec.result in
     let same = c.into_vec.ensures in
-    let new : Linked = record { message = c.args.message; sources = c.new.result; sinks = c.new-2.result } in
+    let new : Linked = record {
+      message = c.args.message;
+      start = 0;
+      sources = c.new.result;
+      sinks = c.new-2.result;
+    } in
     let bare : List (ℕ × (ℕ × ℕ)) → List ((ℕ × ℕ) × (ℕ × ℕ))
-    → Linked = λ sources sinks. record { message = c.args.message; sources = sources; sinks = sinks } in
+    → Linked = λ sources sinks. record { message = c.args.message; start = 0; sources = sources; sinks = sinks } in
     let none = message_missing c.self.inside.linked messages c.as_slice.result.now c.self.view_is
     c.in_default.ensures.value in
     message_added before c.insert.new.self messages key new c.args.message

@@ -1,4 +1,4 @@
-use Rattle.std.proofs.Common.{ap, ◌∙◌}
+use Rattle.std.proofs.Common.{ap, ◌∙◌, false}
 use Rattle.std.specs.FinMap as map
 use Rattle.std.proofs.lemmas.Result.{err_from_is_err_and}
 use Rattle.co_params.specs.Params.{Texts}
@@ -24,7 +24,12 @@ returns-clause-ok c =
     let tree = c.self.inside.nodes in
     let nodes = c.args.self.now in
     let before = c.get_mut.follows.lender-at-none in
-    let with : Texts → Node = λ params. record { name = c.args.name; eds = c.args.eds; params = params } in
+    let with : Texts → Node = λ params. record {
+      name = c.args.name;
+      eds = c.args.eds;
+      mandatory = false;
+      params = params;
+    } in
     node_added nodes (map.from_entries c.insert.new.self.entries) c.args.id c.args.name c.args.eds
     (node_missing tree nodes c.args.id c.self.view_is c.in_default.ensures.value)
     (node_put before nodes c.args.id (nodes_stay tree nodes c.args.id c.self.view_is before

@@ -1,4 +1,4 @@
-use Rattle.std.proofs.Common.{◌≡◌, ◌∙◌, List, ℕ, Some, None, option_copied, option_map, sym, ap}
+use Rattle.std.proofs.Common.{◌∙◌, List, ℕ, Some, option_copied, option_map, sym, ap}
 use Rattle.std.specs.Result.{result_ok}
 use Rattle.ini_text.specs.Content.{content_of}
 use Rattle.kept_devices.specs.Slots.{text_kept}

@@ -1,4 +1,4 @@
-use Rattle.std.proofs.Common.{◌≡◌, ◌∙◌, ℕ, List, Some, None, option_copied, sym, ap, subst}
+use Rattle.std.proofs.Common.{◌∙◌, ℕ, List, option_copied, sym, ap, subst}
 use Rattle.co_scenario.specs.declared.timed_step.TimedStep.{TimedStep}
 use Rattle.network_image.specs.Held.{with_window, IsWindow}
 use Rattle.network_image.specs.Image.{window_steps}

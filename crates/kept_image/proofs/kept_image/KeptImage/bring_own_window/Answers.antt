@@ -1,5 +1,4 @@
-use Rattle.std.proofs.Common.{◌≡◌, ◌∙◌, ℕ, ◌+◌, ◌*◌, arith, sym, ap, subst}
-use Rattle.co_scenario.specs.Scenario.{events_between}
+use Rattle.std.proofs.Common.{◌∙◌, sym}
 use Rattle.kept_image.proofs.KindLemmas.{window_stays}
 use Rattle.kept_image.proofs.kept_image.KeptImage.bring_own_window.Goals as goal
 

@@ -1,4 +1,4 @@
-use Rattle.std.proofs.Common.{◌≡◌, ◌∙◌, Some, None, option_copied, sym, ap}
+use Rattle.std.proofs.Common.{◌∙◌, Some, option_copied, sym, ap}
 use Rattle.eds_device.specs.Entries.{defaults_of, shape_of}
 use Rattle.eds_device.specs.Identity.{identity}
 use Rattle.project_plan.specs.Network.{writes_of, Member}

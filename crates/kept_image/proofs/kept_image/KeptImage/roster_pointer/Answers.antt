@@ -1,4 +1,4 @@
-use Rattle.std.proofs.Common.{◌≡◌, ◌∙◌, Some, None, option_map, option_copied, sym, ap}
+use Rattle.std.proofs.Common.{◌∙◌, option_map, option_copied, sym, ap}
 use Rattle.kept_image.specs.Made.{roster_made}
 use Rattle.kept_image.proofs.NetworkLemmas.{roster_kept, same_some, some_none}
 use Rattle.kept_image.proofs.kept_image.KeptImage.roster_pointer.Goals as goal

@@ -2,7 +2,7 @@ use Rattle.std.proofs.Common.{subst}
 use Rattle.co_scenario.specs.Scenario.{Events}
 use Rattle.kept_image.specs.Marks.{MarksAt}
 use Rattle.kept_image.specs.Touched.{touches_window}
-use Rattle.kept_image.proofs.TouchLemmas.{follows, held_still, still_of}
+use Rattle.kept_image.proofs.TouchLemmas.{follows, still_of}
 use Rattle.kept_image.proofs.kept_image.KeptImage.touch.Goals as goal
 
 pub returns-clause-same : goal.returns-clause-same

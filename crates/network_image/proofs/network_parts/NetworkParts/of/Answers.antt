@@ -6,7 +6,6 @@ use Rattle.co_project.specs.Sound.{IsSound}
 use Rattle.project_plan.specs.Network.{member_at}
 use Rattle.network_image.specs.Held.{held_of}
 use Rattle.network_image.specs.Image.{image_of, roster_of_project}
-use Rattle.network_image.specs.Network.{image_held}
 use Rattle.network_image.proofs.CoherentLemmas.{coherent, is_image}
 use Rattle.network_image.proofs.HeldLemmas.{same_image}
 use Rattle.network_image.proofs.RosterLemmas.{is_roster}

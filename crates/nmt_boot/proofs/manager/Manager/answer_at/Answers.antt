@@ -9,5 +9,5 @@ returns-clause-state g c =
     let done = rw (c.timeout.ensures.timeout, ← c.self.view_is) at c.in_ok-sent.ensures in
     let queued = rw c.number_at-number.ensures at c.in_ok-tell.ensures.queued in
     rw (← c.self.view_is)
-    (answered_state c.args.t c.args.answer.now c.args.i m image c.in_ok-sent.sent c.answer_at.new.self
-    c.tell.new.waiting done.nodes done.sent queued)
+    (answered_state c.args.t c.args.answer.now c.args.i m image c.in_ok-sent.sent c.tell.new.startup
+    c.answer_at.new.self c.tell.new.waiting done.nodes done.sent queued c.in_ok-tell.ensures.started)

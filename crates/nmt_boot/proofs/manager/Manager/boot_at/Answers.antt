@@ -14,8 +14,8 @@ returns-clause-state g c =
     let told = rw c.number_at-number.ensures at c.in_ok-tell.ensures.queued in
     let queued = rw dropped at told in
     rw (← c.self.view_is)
-    (boots_state c.args.t c.args.i m image c.in_ok-sent.sent c.boot_at.new.self c.tell.new.waiting done.nodes done.sent
-    queued)
+    (boots_state c.args.t c.args.i m image c.in_ok-sent.sent c.tell.new.startup c.boot_at.new.self c.tell.new.waiting
+    done.nodes done.sent queued c.in_ok-tell.ensures.started)
 
 pub returns-clause-notes : goal.returns-clause-notes
 returns-clause-notes g c =
@@ -25,5 +25,5 @@ returns-clause-notes g c =
     let between = rw (c.lost_at.ensures, c.number_at-number.ensures) at c.in_ok-note.ensures.notes in
     let after = rw c.number_at-number.ensures at c.in_ok-tell.ensures.notes in
     rw (← c.self.view_is)
-    (boots_notes c.args.t c.args.i m image c.in_ok-sent.sent c.boot_at.new.self c.tell.new.waiting c.args.notes.now
+    (boots_notes c.args.t c.args.i m image c.in_ok-sent.sent c.tell.new.startup c.boot_at.new.self c.tell.new.waiting c.args.notes.now
     c.tell.new.notes c.note.new.notes done.sent between after)

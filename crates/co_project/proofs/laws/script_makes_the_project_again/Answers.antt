@@ -1,5 +1,0 @@
-use Rattle.co_project.proofs.RoundTrip.{script_again}
-use Rattle.co_project.proofs.laws.script_makes_the_project_again.Goals as goal
-
-pub returns : goal.returns
-returns c = script_again

@@ -1,9 +1,0 @@
-use Rattle.std.proofs.Common.{◌≡◌, ◌++◌, map}
-use Rattle.std.specs.List.{flat_map}
-use Rattle.co_lines.specs.Lines.{text_of}
-use Rattle.co_project.specs.Script.{source_edit}
-use Rattle.co_project.proofs.script.write_sources.Given as goal
-
-abbrev pub invariant-loop-position : goal.invariant-loop-position
-invariant-loop-position l = l.out.items ++ flat_map text_of (map (source_edit l.name) l.position-iterator)
-    ≡ l.fn.out.items ++ flat_map text_of (map (source_edit l.name) l.sources)

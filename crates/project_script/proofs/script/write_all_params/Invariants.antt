@@ -1,0 +1,10 @@
+use Rattle.std.proofs.Common.{◌≡◌, ◌++◌}
+use Rattle.std.specs.FinMap.{entries}
+use Rattle.std.specs.List.{flat_map}
+use Rattle.co_lines.specs.Lines.{text_of}
+use Rattle.project_script.specs.Script.{param_edits}
+use Rattle.project_script.proofs.script.write_all_params.Given as goal
+
+abbrev pub invariant-loop-id : goal.invariant-loop-id
+invariant-loop-id l = l.out.items ++ flat_map text_of (flat_map param_edits l.id-iterator)
+    ≡ l.fn.out.items ++ flat_map text_of (flat_map param_edits (entries l.project.nodes))

@@ -1,0 +1,9 @@
+use Rattle.std.proofs.Common.{◌≡◌, ◌++◌, map}
+use Rattle.std.specs.List.{flat_map}
+use Rattle.co_lines.specs.Lines.{text_of}
+use Rattle.project_script.specs.Script.{sink_edit}
+use Rattle.project_script.proofs.script.write_sinks.Given as goal
+
+abbrev pub invariant-loop-position : goal.invariant-loop-position
+invariant-loop-position l = l.out.items ++ flat_map text_of (map (sink_edit l.name) l.position-iterator)
+    ≡ l.fn.out.items ++ flat_map text_of (map (sink_edit l.name) l.sinks)
