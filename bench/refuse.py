@@ -156,13 +156,17 @@ trace
 trace
 """,
     "label": PUMPED + eds("a", PUMP.replace("ParameterName=Label", "ParameterName=Tag")) + "dcf 5\ntrace\ntrace\n",
-    "every": eds("a", PUMP) + eds("b", MODULE) + eds("c", "[2000]\nDataType=5") + """bitrate 500
+    "every": eds("a", PUMP) + eds("b", MODULE) + eds("c", "[2000]\nDataType=5") + """version 2
+bitrate 500
 manager 127 10000 100 500
+sync-counter 4
 horizon 60000
 node 5 pump a
 node 6 q b
 node 7 r b
 node 8 s c
+need 7 mandatory
+need 8 mandatory
 param 5 1017 0 20
 param 5 2001 0 ABCDEFGHIJ
 param 6 2000 0 7
@@ -173,6 +177,7 @@ source m 2 2002 0
 unsource m 2
 sink m 1 7 2000 0
 message n 7 1 1 0 0 0
+start n 2
 source n 1 2000 0
 sink n 1 6 2000 0
 unsink n 1 6
@@ -191,6 +196,8 @@ dcf 6
 cdcf 6
 cdcf 7
 trace
+trace
+need 7 optional
 trace
 drop-node 8
 drop-eds c

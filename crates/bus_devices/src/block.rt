@@ -1,8 +1,9 @@
 //! What a few devices of a bus do.
 
-ghost use Rattle.std.specs.Prelude.{◌≡◌, ◌<◌, OnOk};
+ghost use Rattle.std.specs.Prelude.{◌≡◌, ◌<◌, option_copied, OnOk};
 ghost use Rattle.asking.specs.Asking.{outcome};
 ghost use Rattle.asking.specs.Record.{IsAsked, Lasts};
+ghost use Rattle.bus_devices.specs.Numbers.{device_of as first_of, values_of as first_values_of};
 ghost use Rattle.bus_devices.specs.Senders.{contends_with as contends, device_lists, is_contender, sender_place};
 ghost use Rattle.asking.specs.Each.{each};
 ghost use Rattle.can_frame.specs.Winner.{contenders, IsWinner};
@@ -13,6 +14,7 @@ ghost use Rattle.device_agenda.specs.Agenda.{at_instant, IsAgendaOf};
 
 use can_frame::Contender;
 use co_base::earlier;
+use co_dict::Dict;
 use co_parts::END;
 use device_agenda::{Agenda, Delivery, SharedDevice};
 use device_objects::Shapes;
@@ -101,4 +103,19 @@ pub(crate) fn place_of_sender(contender: &Contender, devices: &[SharedDevice]) -
     devices
         .iter()
         .position(|device| contends_with(contender, device))
+}
+
+/// The first device of a number. Walks them.
+fn device_of(node: u8, devices: &[SharedDevice]) -> Option<&SharedDevice>
+    ensures { option_copied result ≡ first_of node devices.now }
+{
+    devices.iter().find(|device| device.number() == node)
+}
+
+/// The values of the first device of a number. Walks the devices.
+pub(crate) fn values_of(node: u8, devices: &[SharedDevice]) -> Option<&Dict>
+    ensures { option_copied result ≡ first_values_of node devices.now }
+{
+    let device = device_of(node, devices)?;
+    Some(device.values())
 }

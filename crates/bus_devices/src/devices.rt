@@ -1,10 +1,12 @@
 //! The devices of a bus.
 
 ghost use Rattle.std.specs.Prelude.{◌≡◌, ◌<◌, ◌↔◌, [], length, slice_get, Some, IfOk, IsTrue, OnOk};
+ghost use Rattle.std.specs.Prelude.{option_copied};
 ghost use Rattle.std.specs.List.{flat_map};
 ghost use Rattle.asking.specs.Asking.{outcome};
 ghost use Rattle.asking.specs.Record.{IsAsked, Lasts};
 ghost use Rattle.asking.specs.Each.{each};
+ghost use Rattle.bus_devices.specs.Numbers.{values_of as first_values_of};
 ghost use Rattle.bus_devices.specs.Senders.{device_lists, sender_place as place_of, with_sent};
 ghost use Rattle.bus_events.specs.Places.{device_at};
 ghost use Rattle.can_frame.specs.Winner.{contenders, IsWinner};
@@ -12,10 +14,11 @@ ghost use Rattle.co_device.specs.Device.{moments};
 ghost use Rattle.co_base.specs.Moments.{earliest};
 ghost use Rattle.device_agenda.specs.Agenda.{at_instant};
 
-use crate::block::{first_due, place_of_sender, winner_of};
+use crate::block::{first_due, place_of_sender, values_of, winner_of};
 use crate::blocks::{first_of, is_awake, plan, plan_block, run_blocks, sender_place, winner};
 use crate::lists::{copy_all, same_all};
 use can_frame::{Contender, Waiting};
+use co_dict::Dict;
 use co_parts::END;
 use device_agenda::{Agenda, Delivery, SharedDevice};
 use device_objects::Shapes;
@@ -129,6 +132,13 @@ impl Devices {
             return first_of(&self.agendas);
         }
         first_due(&self.devices)
+    }
+
+    /// The values of the first of them that has this number, if one has. Walks them, and takes no memory.
+    pub fn values(&self, node: u8) -> Option<&Dict>
+        ensures { option_copied result ≡ first_values_of node self.now }
+    {
+        values_of(node, &self.devices)
     }
 
     /// The frame with which one of them contends for the bus: of all that wait at them the one that wins.

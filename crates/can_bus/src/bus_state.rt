@@ -1,8 +1,10 @@
 //! The bus at a moment.
 
 ghost use Rattle.std.specs.Prelude.{◌≡◌, ◌<◌, ◌≤◌, ◌+◌, ◌*◌, ◌++◌, ◌↔◌, IfOk, OnOk, OnErr, IsErr, IsTrue};
+ghost use Rattle.std.specs.Prelude.{option_copied};
 ghost use Rattle.asking.specs.Asking.{outcome};
 ghost use Rattle.asking.specs.Record.{BeginsWith, IsAsked, Lasts};
+ghost use Rattle.bus_devices.specs.Numbers.{values_of};
 ghost use Rattle.can_bus.specs.Bus.{blank_bus, ended_slot, from_delivery_on, instant, open_slot, power_on, power_on_of};
 ghost use Rattle.can_bus.specs.Bus.{after_arbitration};
 ghost use Rattle.can_bus.specs.Dues.{next_due};
@@ -21,6 +23,7 @@ use bus_devices::{Devices, new_devices, power_all};
 use bus_events::StepsLeft;
 use can_frame::{Frame, bit_time, slot_bits};
 use co_base::Octets;
+use co_dict::Dict;
 use co_parts::{END, Roster, StartMode};
 use nmt_boot::Manager;
 use node_boot::Notes;
@@ -305,6 +308,14 @@ impl BusState {
         ensures { result ≡ self.now.spent }
     {
         self.spent
+    }
+
+    /// The values that the device of a node holds, if the node has one: the first of its number. Takes time by
+    /// the number of nodes, and no memory.
+    pub fn values(&self, node: u8) -> Option<&Dict>
+        ensures { option_copied result ≡ values_of node self.now.devices }
+    {
+        self.devices.values(node)
     }
 
     /// The least moment at which something is due: a timer of a device or of the manager, the end of the

@@ -1,23 +1,30 @@
 //! Runs the networks that its input lays out from due moment to due moment, and prints the runs.
 //!
 //! A line is an edit of the project, as a session takes it, or `run`: a run to the horizon; or `reads`: a run
-//! to the horizon and what it reads; or `diag`: all that is wrong with the project; or `ask` and a query, which a
-//! workbench answers; or `new`, for the first project.
+//! to the horizon and what it reads; or `held`: a run to the horizon and what nodes hold of what was written to them,
+//! where lines `marked` before it say which entries are marked; or `diag`: all that is wrong with the project; or
+//! `ask` or `answer` and a query, which a workbench answers; or `new`, for the first project.
 //! Prints each line but those of data sheets, and of a run the number of its turns and of the lines that it told,
 //! whether a copy of the bus that was taken halfway was equal then, was left behind by the rest of the run, and came to
 //! the same by a run of its own, and the first moments; of what is read the number of calls that asked, of readings
-//! and of names, and the names in order; the line of each diagnostic; and of what is asked the numbers of segments
-//! of traces that were run and of parts that were made anew for all answers so far.
+//! and of names, and the names in order; of what nodes hold, as each has just been configured and at the end for those
+//! that are configured then, each entry that their writes name, whether it is as the last write to it gave it, and
+//! whether it is marked; the line of each diagnostic; and of what is asked the numbers of segments of traces that were
+//! run and of parts that were made anew for all answers so far; and an answer, or that there was no memory for it.
 #![tactic(auto)]
 
 mod block;
+mod held;
+mod holding;
 mod layout;
+mod marks;
 mod outcome;
 mod record;
 mod run;
 mod wrong;
 
 use anyhow::Result;
+use held::Held;
 use layout::Layout;
 use record::read_project;
 use run::run_project;
@@ -37,11 +44,26 @@ fn show_reads<W: Write>(alloc: Global, out: &mut W, layout: &Layout) -> Result<(
     record.show(out)
 }
 
+/// Runs the network that is laid out, and shows what its nodes hold.
+fn show_held<W: Write>(alloc: Global, out: &mut W, layout: &Layout) -> Result<()> {
+    let held = Held::of(alloc, layout.project())?;
+    held.show(out, layout.marks())
+}
+
 /// Asks a query, and shows how much work all answers so far took.
 fn show_work<W: Write>(out: &mut W, layout: &mut Layout, query: &str) -> Result<()> {
     let work = layout.ask(query)?;
     let (segments, parts) = (work.segments, work.parts);
     writeln!(out, "work {segments} {parts}")?;
+    Ok(())
+}
+
+/// Asks a query, and shows the answer.
+fn show_answer<W: Write>(out: &mut W, layout: &mut Layout, query: &str) -> Result<()> {
+    match layout.answer(query)? {
+        Some(text) => out.write_all(text.as_slice())?,
+        None => out.write_all(b"no memory\n")?,
+    }
     Ok(())
 }
 
@@ -52,10 +74,16 @@ fn obey<W: Write>(alloc: Global, out: &mut W, layout: &mut Layout, line: &str) -
         show_run(alloc, out, layout)
     } else if line == "reads" {
         show_reads(alloc, out, layout)
+    } else if line == "held" {
+        show_held(alloc, out, layout)
+    } else if let Some(mark) = line.strip_prefix("marked ") {
+        layout.take_mark(mark)
     } else if line == "diag" {
         show_wrong(alloc, out, layout.project())
     } else if let Some(query) = line.strip_prefix("ask ") {
         show_work(out, layout, query)
+    } else if let Some(query) = line.strip_prefix("answer ") {
+        show_answer(out, layout, query)
     } else if line == "new" {
         layout.clear()
     } else {

@@ -4,3 +4,4 @@ pub mod RecordedLemmas
 pub mod ValidLemmas
 pub mod PlacedLemmas
 pub mod MatchLemmas
+pub mod NumberedLemmas

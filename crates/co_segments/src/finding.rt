@@ -1,8 +1,7 @@
 //! The search for a segment that serves.
 
 ghost use Rattle.std.specs.Prelude.{◌≡◌, ◌≤◌, ◌+◌, ℕ, Contains, IfOk, OnOk, MatchOption, Some, nat_eq};
-ghost use Rattle.std.specs.List.{IsDistinct};
-ghost use Rattle.std.specs.Map.{keys_of, lookup};
+ghost use Rattle.std.specs.Map.{lookup};
 ghost use Rattle.co_parts.specs.Contents.{Content};
 ghost use Rattle.kept_reads.specs.Numbers.{StandsFor};
 ghost use Rattle.kept_reads.specs.Reads.{AreKnown, AreMarked, Extends};
@@ -15,46 +14,9 @@ use crate::segment::Segment;
 use can_bus::Parts;
 use kept_reads::ReadsNow;
 use kept_shelf::Shelf;
-use lru::LruCache;
 use std::alloc::{AllocError, Global};
 
-/// The key of a segment in a cache that serves.
-fn find_in<P: Parts>(
-    alloc: Global,
-    cache: &LruCache<u64, Segment>,
-    now: &mut ReadsNow,
-    given: &mut Given,
-    number: u64,
-    state: &NumberedBus,
-    parts: &mut P,
-) -> Result<Option<u64>, AllocError>
-    requires distinct { IsDistinct nat_eq (keys_of cache.now.entries) }
-    requires told { (m : Meaning) × (AreNamed m given.now cache.now.entries
-        × (StandsFor m.buses given.now.buses state.now.number state.now.bus
-        × AreKnown (P.seen parts.now).image m.contents given.now.contents now.now)) }
-    ensures found { IfOk result (λ place. MatchOption place
-        (IsStale (P.seen parts.old).image (kept_of cache.now.entries) number state.now.bus)
-        (λ key. (s : Placed) × ((lookup (nat_eq key) cache.now.entries ≡ Some s)
-        × Serves (P.seen parts.old).image number state.now.bus s.kept))) }
-    ensures known { OnOk result ((contents : ℕ → Content)
-        → AreKnown (P.seen parts.old).image contents given.old.contents now.old
-        → ((e : ℕ × Placed) → Contains cache.now.entries e → AreMarked contents given.old.contents e.1.reads)
-        → Extends (P.seen parts.old).image contents given.old.contents given.new.contents now.new) }
-    ensures more { given.old.contents ≤ given.new.contents }
-    ensures buses { given.new.buses ≡ given.old.buses }
-    ensures counted { OnOk result (P.asks parts.new
-        ≤ P.asks parts.old + recorded_of number (kept_of cache.now.entries)) }
-    ensures kept { (P.seen parts.new).image ≡ (P.seen parts.old).image }
-{
-    for (key, segment) in cache.iter() {
-        if segment.serves(alloc, now, given, number, state, parts)? {
-            return Ok(Some(*key));
-        }
-    }
-    Ok(None)
-}
-
-/// The key of a segment that serves.
+/// The key of a segment that serves. Those of the number are tried, the last run or used first.
 pub(crate) fn find<P: Parts>(
     alloc: Global,
     shelf: &Shelf<Segment>,
@@ -81,9 +43,12 @@ pub(crate) fn find<P: Parts>(
         ≤ P.asks parts.old + recorded_of number (kept_of shelf.now.entries)) }
     ensures kept { (P.seen parts.new).image ≡ (P.seen parts.old).image }
 {
-    let _count = shelf.len();
-    match shelf.cache() {
-        None => Ok(None),
-        Some(cache) => find_in(alloc, cache, now, given, number, state, parts),
+    for place in 0..shelf.count(number) {
+        if let Some((key, segment)) = shelf.at(number, place) {
+            if segment.serves(alloc, now, given, number, state, parts)? {
+                return Ok(Some(key));
+            }
+        }
     }
+    Ok(None)
 }

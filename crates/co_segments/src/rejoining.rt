@@ -8,27 +8,7 @@ use crate::segment::Segment;
 use crate::serving::give;
 use can_bus::BusState;
 use kept_shelf::Shelf;
-use lru::LruCache;
 use std::alloc::{AllocError, Global};
-
-/// The equal bus that a segment of a number in a cache starts from, if there is one.
-fn start_in(
-    cache: &LruCache<u64, Segment>,
-    number: u64,
-    bus: &BusState,
-) -> Result<Option<NumberedBus>, AllocError>
-    ensures { IfOk result (λ start. IfSome start (λ n. (e : ℕ × Placed)
-        × (Contains cache.now.entries e × IsStart e.1 n bus.now))) }
-{
-    for (key, segment) in cache.iter() {
-        let _key = *key;
-        let start = segment.start_at(number, bus)?;
-        if let Some(found) = start {
-            return Ok(Some(found));
-        }
-    }
-    Ok(None)
-}
 
 /// The equal bus that a held segment of a number starts from, if there is one.
 fn held_start(
@@ -39,10 +19,15 @@ fn held_start(
     ensures { IfOk result (λ start. IfSome start (λ n. (e : ℕ × Placed)
         × (Contains shelf.now.entries e × IsStart e.1 n bus.now))) }
 {
-    match shelf.cache() {
-        None => Ok(None),
-        Some(cache) => start_in(cache, number, bus),
+    for place in 0..shelf.count(number) {
+        if let Some((_key, segment)) = shelf.at(number, place) {
+            let start = segment.start_at(number, bus)?;
+            if let Some(found) = start {
+                return Ok(Some(found));
+            }
+        }
     }
+    Ok(None)
 }
 
 /// A bus with the number that it has as the start of a held segment, and else with a new one.

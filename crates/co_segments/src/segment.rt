@@ -12,6 +12,7 @@ use crate::matching::matches;
 use crate::numbered_bus::NumberedBus;
 use can_bus::{BusState, Line, Parts};
 use kept_reads::{KeptRead, ReadsNow};
+use kept_shelf::Numbered;
 use std::alloc::{AllocError, Global};
 use std::marker::Model;
 
@@ -50,6 +51,14 @@ impl Model for Segment {
       reads = a.reads.items;
       end = a.end.number;
     } };
+}
+
+impl Numbered for Segment {
+    ghost number_of = { λ s. s.kept.number };
+
+    fn number(&self) -> u64 {
+        self.number
+    }
 }
 
 impl Segment {

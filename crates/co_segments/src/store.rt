@@ -111,8 +111,8 @@ impl Store {
     /// whatever was traced before. A segment that serves is used, each other one is run and kept.
     ///
     /// Takes the time of the segments that are run, as `can_bus::trace` takes it, and for each other one
-    /// that of comparing its reads. Want of memory is the only error: other segments may then be held, each of
-    /// them valid.
+    /// that of comparing its reads: only segments of its number are looked at. Want of memory is the only
+    /// error: other segments may then be held, each of them valid.
     pub fn trace<P: Parts>(
         &mut self,
         parts: &mut P,

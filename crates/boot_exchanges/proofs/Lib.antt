@@ -1,0 +1,4 @@
+pub mod WaitingLemmas
+pub mod NodeLemmas
+pub mod OwnLemmas
+pub mod StepLemmas

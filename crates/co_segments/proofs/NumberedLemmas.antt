@@ -1,0 +1,52 @@
+-- Segments of a number.
+use Rattle.std.proofs.Common.{◌≡◌, ℕ, zero, suc, ◌+◌, ◌<◌, ◌≤◌, true, false, List, [], ◌∷◌, drop, length, None, Some, nat_eq, refl, sym, ap, ◌∙◌, arith}
+use Rattle.std.specs.Prelude.{slice_get}
+use Rattle.std.proofs.lemmas.Bool.{false≢true}
+use Rattle.std.proofs.lemmas.Bool.Decides.{nat_tests}
+use Rattle.std.proofs.lemmas.List.{drop_more}
+use Rattle.std.proofs.lemmas.Option.{get_or_from_slice_get, none-some, slice_get_within}
+use Rattle.can_bus.specs.Bus.{Bus}
+use Rattle.co_parts.specs.Contents.{Image}
+use Rattle.kept_shelf.specs.Numbers.{of_number}
+use Rattle.kept_shelf.proofs.EntryLemmas.{head_in, tail_in}
+use Rattle.co_segments.specs.Placed.{Placed, kept_of}
+use Rattle.co_segments.specs.Segments.{IsStale, recorded_of}
+use Rattle.co_segments.proofs.PlacedLemmas.{one_stale}
+
+-- the held segments of a number
+abbrev pub numbered : ℕ → List (ℕ × Placed) → List (ℕ × Placed)
+numbered = of_number (λ (s : Placed). s.kept.number)
+
+has_number : (a b : ℕ) → a ≡ b → nat_eq a b ≡ true
+has_number a b h = grind (arith, nat_tests)
+
+-- where none of the number serves, none does
+pub all_stale : (image : Image) (number : ℕ) (start : Bus) (es : List (ℕ × Placed)) → IsStale image (kept_of (numbered number es)) number start → IsStale image (kept_of es) number start
+all_stale image number start [] h = h
+all_stale image number start (e ∷ es) h = (elim (nat_eq e.1.kept.number number) as (λ t. nat_eq e.1.kept.number number ≡ t → IsStale image (kept_of (e ∷ es)) number start) [
+  | true ↦ λ t.
+      let of = rw t at h in
+      one_stale image number start e es (λ s. of e.1.kept (head_in e.1.kept (kept_of (numbered number es))) s)
+      (all_stale image number start es (λ k c s. of k (tail_in e.1.kept (kept_of (numbered number es)) k c) s))
+  | false ↦ λ t.
+      one_stale image number start e es (λ s. false≢true (sym t ∙ has_number e.1.kept.number number s.0))
+      (all_stale image number start es (rw t at h))
+]) refl
+
+-- those of the number have all its reads
+pub numbered_recorded : (number : ℕ) (es : List (ℕ × Placed)) → recorded_of number (kept_of (numbered number es)) ≤ recorded_of number (kept_of es)
+numbered_recorded number [] = omega arith
+numbered_recorded number (e ∷ es) = (elim (nat_eq e.1.kept.number number) as (λ t. nat_eq e.1.kept.number number ≡ t → recorded_of number (kept_of (numbered number (e ∷ es))) ≤ recorded_of number (kept_of (e ∷ es))) [
+  | true ↦ λ t. rw (t, t) (omega (arith, numbered_recorded number es))
+  | false ↦ λ t. rw t (omega (arith, numbered_recorded number es))
+]) refl
+
+-- the rest from a place on
+pub rest_at : {X : Type 0} (xs : List X) (i : ℕ) (x : X) → slice_get xs i ≡ Some x → drop i xs ≡ x ∷ drop (i + 1) xs
+rest_at xs i x h = drop_more xs i x (slice_get_within xs i x h) ∙ ap (λ y. y ∷ drop (i + 1) xs) (get_or_from_slice_get xs i x x h)
+
+-- within the list something stands at a place
+pub none_there : {X : Type 0} (xs : List X) (i : ℕ) → i < length xs → slice_get xs i ≡ None → ⊥
+none_there [] i h e = omega (arith, h)
+none_there (x ∷ xs) zero h e = none-some x (sym e)
+none_there (x ∷ xs) (suc i) h e = none_there xs i (omega (arith, h)) e

@@ -1,0 +1,5 @@
+pub mod ListLemmas
+pub mod LeaveLemmas
+pub mod RpdoWrites
+pub mod FrameWrites
+pub mod InstantWrites

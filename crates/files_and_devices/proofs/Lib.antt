@@ -1,0 +1,14 @@
+pub mod Others
+pub mod ListLemmas
+pub mod MarkLemmas
+pub mod ValueLemmas
+pub mod DeviceLemmas
+pub mod BootLemmas
+pub mod SendLemmas
+pub mod RosterLemmas
+pub mod TurnLemmas
+pub mod GoodLemmas
+pub mod StartLemmas
+pub mod RunLemmas
+pub mod FileLemmas
+pub mod NoteLemmas

@@ -1,0 +1,86 @@
+-- Marks: the entries that an event or an RPDO was the last to write.
+use Rattle.std.specs.Prelude.{ℕ, zero, suc, ◌==◌, ◌&&◌, Bool, true, false, List, [], ◌∷◌, ◌++◌, Option, Some, None}
+use Rattle.std.specs.Prelude.{if◌then◌else◌}
+use Rattle.std.specs.List.{flat_map}
+use Rattle.asking.specs.Asking.{outcome}
+use Rattle.bus_events.specs.Events.{after_event}
+use Rattle.bus_events.specs.Steps.{steps_due}
+use Rattle.bus_laws.specs.Reads.{at_delivery}
+use Rattle.bus_laws.specs.Spans.{bus_at}
+use Rattle.can_bus.specs.Bus.{Bus, after_window_start, ended_slot}
+use Rattle.can_bus.specs.declared.slot.Slot.{Slot}
+use Rattle.co_device.specs.Device.{Device}
+use Rattle.co_parts.specs.Contents.{Image}
+use Rattle.co_scenario.specs.declared.step.Step.{Step}
+use Rattle.co_scenario.specs.declared.step.Step.TheVariants.{Set, Power, Nmt}
+use Rattle.co_scenario.specs.declared.timed_step.TimedStep.{TimedStep}
+use Rattle.device_writes.specs.Writes.{writes_of_frame, writes_of_set}
+use Rattle.device_writes.specs.Written.{Event, Rpdo, Sdo, Writer, Written}
+use Rattle.nmt_boot.specs.Manager.{Manager}
+
+-- ---- a set of pairs of a node and an entry, told by which pairs it has
+
+abbrev pub Marks : Type 0
+Marks = ℕ → ℕ × ℕ → Bool
+
+abbrev pub no_marks : Marks
+no_marks = λ node place. false
+
+-- a write by an event or an RPDO marks its entry, a write by SDO takes the mark away
+abbrev pub is_marking : Writer → Bool
+is_marking Event = true
+is_marking Rpdo = true
+is_marking Sdo = false
+
+-- the write is of this entry of this node
+abbrev pub is_of : Written → ℕ → ℕ × ℕ → Bool
+is_of w node place = (w.node == node) && ((w.place.0 == place.0) && (w.place.1 == place.1))
+
+-- whether a pair is marked after a write, where it was or wasn't before
+abbrev pub marked_after : Written → ℕ → ℕ × ℕ → Bool → Bool
+marked_after w node place before = if is_of w node place then is_marking w.by else before
+
+-- the marks after writes, one after another
+abbrev pub after_writes : Marks → List Written → Marks
+after_writes marks [] = marks
+after_writes marks (w ∷ writes) = after_writes (λ node place. marked_after w node place (marks node place)) writes
+
+-- ---- the writes of an instant, in their order
+
+abbrev pub written_at : ℕ → ℕ × ℕ → Device → List Written
+written_at node place d = if d.number == node then writes_of_set place d else []
+
+-- those of an event: power and commands write nothing
+abbrev pub writes_of_step : Step → List Device → List Written
+writes_of_step (Set node index sub bytes) ds = flat_map (written_at node (index, sub)) ds
+writes_of_step (Power node on) ds = []
+writes_of_step (Nmt node command) ds = []
+
+-- those of events, each on what the one before it left
+abbrev pub writes_of_events : Image → ℕ → List TimedStep → List Device × Manager → List Written
+writes_of_events image t [] nodes = []
+writes_of_events image t (step ∷ steps) nodes =
+    writes_of_step step.step nodes.0 ++ writes_of_events image t steps (outcome (after_event t step.step nodes) image)
+
+-- those of the frame that is delivered, at each device but its sender
+abbrev pub written_by_frame : Image → ℕ → Slot → Device → List Written
+written_by_frame image t slot d = if d.number == slot.sender then [] else writes_of_frame image t slot.frame d
+
+abbrev pub writes_of_delivery : Image → ℕ → Option Slot → List Device → List Written
+writes_of_delivery image t None ds = []
+writes_of_delivery image t (Some slot) ds = flat_map (written_by_frame image t slot) ds
+
+-- the bus once its window has started
+abbrev pub begun : Image → ℕ → Bus → Bus
+begun image t s = outcome (after_window_start t s) image
+
+-- THE WRITES OF AN INSTANT: those of its events, and then those of the frame that is delivered
+unfoldable pub writes_at : Image → ℕ → Bus → List Written
+writes_at image t s =
+    writes_of_events image t (steps_due t (begun image t s).steps) ((begun image t s).devices, (begun image t s).manager)
+    ++ writes_of_delivery image t (ended_slot t s.wire) (at_delivery image t s).devices
+
+-- THE MARKS OF A RUN just before the moment t: none at power-on, and then those after each instant
+unfoldable pub marks_at : Image → ℕ → Marks
+marks_at image zero = no_marks
+marks_at image (suc t) = after_writes (marks_at image t) (writes_at image t (bus_at image t))

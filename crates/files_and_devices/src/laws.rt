@@ -1,0 +1,67 @@
+//! What the files say is what the devices hold: laws of the runs of a bus, each a function whose contract is the law.
+
+ghost use Rattle.std.specs.Prelude.{◌≡◌, ◌⊎◌, ◌+◌, ◌<◌, ◌++◌, ◌∷◌, ℕ, false, All, Contains, List, length};
+ghost use Rattle.asking.specs.Asking.{outcome};
+ghost use Rattle.boot_exchanges.specs.Requests.{requests_to};
+ghost use Rattle.boot_table.specs.Table.{node_at};
+ghost use Rattle.bus_events.specs.Places.{device_at};
+ghost use Rattle.bus_laws.specs.Spans.{bus_at};
+ghost use Rattle.can_bus.specs.Bus.{instant};
+ghost use Rattle.can_bus.specs.declared.line.Line.TheVariants as line;
+ghost use Rattle.co_device.specs.Device.{Device};
+ghost use Rattle.co_parts.specs.Contents.{Image};
+ghost use Rattle.co_parts.specs.Images.{IsImage};
+ghost use Rattle.device_writes.specs.Written.{Written};
+ghost use Rattle.files_and_devices.specs.Exchanges.{Exchanges};
+ghost use Rattle.files_and_devices.specs.Files.{Configures, Holds, IsConfigured, IsExcepted, IsUp};
+ghost use Rattle.files_and_devices.specs.Marks.{Marks, after_writes, is_marking, is_of, marks_at};
+ghost use Rattle.nmt_boot.specs.Ends.{configured_note};
+
+/// WHAT THE FILES SAY IS WHAT THE DEVICES HOLD. Under every image and at every moment of its run: a node that the
+/// manager has configured, that has power, and of which no boot-up message waits or is on the wire, holds at every
+/// entry that its writes name the data of its last write there. Excepted are the error register, and the entries that
+/// are marked.
+pub fn files_match_devices()
+    ensures { (image : Image) → IsImage image → (t node : ℕ) (d : Device)
+        → IsConfigured (bus_at image (t + 1)) node → IsUp (bus_at image (t + 1)) node d
+        → (place : ℕ × ℕ) (bytes : List ℕ) → Configures image node place bytes
+        → IsExcepted (marks_at image (t + 1) node) place ⊎ Holds d.values place bytes }
+{}
+
+/// The last write of an entry marks it, or takes the mark away: it is marked where an event or an RPDO wrote it, and
+/// isn't where an SDO download did. A write of another entry, or of another node, leaves it as it was.
+pub fn the_last_write_marks_its_entry_or_takes_the_mark_away()
+    ensures last { (marks : Marks) (before later : List Written) (w : Written) (node : ℕ) (place : ℕ × ℕ)
+        → w.node ≡ node → w.place ≡ place → All (λ v. is_of v node place ≡ false) later
+        → after_writes marks (before ++ w ∷ later) node place ≡ is_marking w.by }
+    ensures others { (marks : Marks) (writes : List Written) (node : ℕ) (place : ℕ × ℕ)
+        → All (λ v. is_of v node place ≡ false) writes → after_writes marks writes node place ≡ marks node place }
+{}
+
+/// At every moment of a run, of each node that has power and of which no boot-up message waits: its boot-up message is
+/// on the wire, and no SDO answer of it waits; or of the SDO frames between the manager and it as many are under way,
+/// one at most, as the stage of its boot has it, with the open transfer of its server and with what the writes so far
+/// gave. The device and the manager's node at one place are of one number.
+pub fn each_exchange_is_as_its_stage_has_it()
+    ensures exchange { (image : Image) → IsImage image → (t i : ℕ) → i < length (bus_at image t).devices
+        → Exchanges image (device_at (bus_at image t).devices i).number
+        (marks_at image t (device_at (bus_at image t).devices i).number) (device_at (bus_at image t).devices i)
+        (node_at (bus_at image t).manager.nodes i).stage
+        (requests_to (device_at (bus_at image t).devices i).number (bus_at image t).manager.waiting)
+        (bus_at image t).wire }
+    ensures number { (image : Image) → IsImage image → (t i : ℕ) → i < length (bus_at image t).devices
+        → (node_at (bus_at image t).manager.nodes i).number ≡ (device_at (bus_at image t).devices i).number }
+{}
+
+/// What a note is worth: a node that an instant notes as configured is so after it, and holds its files wherever it has
+/// power and no boot-up message of it waits or is on the wire.
+pub fn a_node_that_is_noted_configured_holds_its_files()
+    ensures configured { (image : Image) (t node : ℕ)
+        → Contains (outcome (instant t (bus_at image t)) image).1 (line.Note t (configured_note node))
+        → IsConfigured (bus_at image (t + 1)) node }
+    ensures holds { (image : Image) → IsImage image → (t node : ℕ) (d : Device)
+        → Contains (outcome (instant t (bus_at image t)) image).1 (line.Note t (configured_note node))
+        → IsUp (bus_at image (t + 1)) node d
+        → (place : ℕ × ℕ) (bytes : List ℕ) → Configures image node place bytes
+        → IsExcepted (marks_at image (t + 1) node) place ⊎ Holds d.values place bytes }
+{}

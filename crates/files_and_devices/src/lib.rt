@@ -1,0 +1,4 @@
+//! Laws of files and devices.
+#![tactic(auto)]
+
+pub mod laws;

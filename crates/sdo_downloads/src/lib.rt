@@ -1,0 +1,4 @@
+//! Laws of a download, request by request.
+#![tactic(auto)]
+
+pub mod laws;
