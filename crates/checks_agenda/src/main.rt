@@ -1,16 +1,17 @@
 //! Runs the networks that its input lays out from due moment to due moment, and prints the runs.
 //!
-//! A line is an edit of the project, as a session takes it, or `run`: a run to the horizon; or `reads`: a run
-//! to the horizon and what it reads; or `held`: a run to the horizon and what nodes hold of what was written to them,
-//! where lines `marked` before it say which entries are marked; or `diag`: all that is wrong with the project; or
-//! `ask` or `answer` and a query, which a workbench answers; or `new`, for the first project.
+//! A line is an edit of the project, as a session takes it; or `run`, a run to the horizon; or `reads`, such a run and
+//! what it reads; or `held`, such a run and what nodes hold of what was written to them, where lines `marked` before it
+//! say which entries are marked; or `diag`, all that is wrong; or `ask` or `answer` and a query, which a workbench
+//! answers; or `store` and a capacity, for a store of segments, and `stored`, a trace over it, with the most calls and
+//! segments; or `new`, for the first project.
 //! Prints each line but those of data sheets, and of a run the number of its turns and of the lines that it told,
-//! whether a copy of the bus that was taken halfway was equal then, was left behind by the rest of the run, and came to
-//! the same by a run of its own, and the first moments; of what is read the number of calls that asked, of readings
-//! and of names, and the names in order; of what nodes hold, as each has just been configured and at the end for those
-//! that are configured then, each entry that their writes name, whether it is as the last write to it gave it, and
-//! whether it is marked; the line of each diagnostic; and of what is asked the numbers of segments of traces that were
-//! run and of parts that were made anew for all answers so far; and an answer, or that there was no memory for it.
+//! whether a copy of the bus that was taken halfway was equal then, was left behind by the rest, and came to the same,
+//! and the first moments; of what is read the number of calls that asked, of readings and of names, and the names; of
+//! what nodes hold, as each has just been configured and at the end, each entry that their writes name, whether it is
+//! as the last write gave it, and whether it is marked; the line of each diagnostic; of what is asked the numbers of
+//! segments run and of parts made anew so far; an answer, or that there was no memory for it; and of a trace over a
+//! store its lines, and that it asked for parts and ran segments at most so often, or how often.
 #![tactic(auto)]
 
 mod block;
@@ -21,6 +22,7 @@ mod marks;
 mod outcome;
 mod record;
 mod run;
+mod stored;
 mod wrong;
 
 use anyhow::Result;
@@ -84,6 +86,10 @@ fn obey<W: Write>(alloc: Global, out: &mut W, layout: &mut Layout, line: &str) -
         show_work(out, layout, query)
     } else if let Some(query) = line.strip_prefix("answer ") {
         show_answer(out, layout, query)
+    } else if let Some(most) = line.strip_prefix("stored ") {
+        layout.show_stored(out, most)
+    } else if let Some(capacity) = line.strip_prefix("store ") {
+        layout.open_store(capacity)
     } else if line == "new" {
         layout.clear()
     } else {
