@@ -3,7 +3,7 @@ use Rattle.std.proofs.Common.{◌≡◌, ◌≢◌, ℕ, zero, suc, ◌+◌, ◌
 use Rattle.std.proofs.Common.{Some, None, ◌⊎◌, inl, inr, refl, sym, ap, ◌∙◌, arith, get_or}
 use Rattle.std.specs.Prelude.{if◌then◌else◌, ◌==◌, position}
 use Rattle.std.specs.List.{position_or_len}
-use Rattle.std.proofs.lemmas.Bool.{false≢true}
+use Rattle.std.proofs.lemmas.Bool.{cases_eq, false≢true}
 use Rattle.std.proofs.lemmas.Bool.Decides.{nat_tests}
 use Rattle.std.proofs.lemmas.Grind.{common_steps}
 use Rattle.std.proofs.lemmas.List.{append-nil, get_or-set_other, get_or-set_same}
@@ -12,11 +12,10 @@ use Rattle.std.proofs.lemmas.List.Sums.{fails_before_first}
 use Rattle.asking.specs.Asking.{Answer, outcome}
 use Rattle.can_frame.specs.Frames.{BaseFrame}
 use Rattle.can_frame.specs.Identifiers.{error_control_id, sdo_answer_id}
-use Rattle.can_frame.specs.WaitingFrames.{waiting, with_latest, without_unwanted}
+use Rattle.can_frame.specs.WaitingFrames.{waiting, without_unwanted}
 use Rattle.can_frame.specs.declared.purpose.Purpose.TheVariants.{Heartbeat, Nmt, Sync}
 use Rattle.can_frame.specs.declared.unwanted.Unwanted.TheVariants.{SdoOf}
 use Rattle.can_frame.specs.declared.waiting.Waiting.{Waiting}
-use Rattle.co_base.specs.Moments.{is_due, moment_after}
 use Rattle.co_parts.specs.Contents.{Image}
 use Rattle.co_scenario.specs.declared.nmt_command.NmtCommand.{NmtCommand}
 use Rattle.node_boot.specs.Boot.{boot_nmt_slave, is_timed_out, sdo_answer, sdo_time_out}
@@ -24,14 +23,15 @@ use Rattle.node_boot.specs.declared.boot_stage.BootStage.TheVariants.{Failed}
 use Rattle.node_boot.specs.declared.boot_step.BootStep.{BootStep}
 use Rattle.nmt_boot.proofs.EventLemmas.{answered_outcome, boots_outcome}
 use Rattle.nmt_boot.specs.Manager.{Manager, after_boot_up, after_frame, after_sdo_frame, after_step, heartbeat_frame}
-use Rattle.nmt_boot.specs.Manager.{heartbeats, is_boot_up}
+use Rattle.nmt_boot.specs.Manager.{is_boot_up}
 use Rattle.nmt_boot.specs.Startup.{nmt_frame}
 use Rattle.boot_table.specs.Table.{is_from, no_node, node_after, node_at, place_of}
-use Rattle.nmt_boot.specs.Manager.{sync_frame, syncs, time_outs}
+use Rattle.nmt_boot.specs.Manager.{sync_frame, time_outs}
 use Rattle.boot_table.specs.Table.{queue_after_time_out, queue_after_time_outs, timed_out, with_stage}
 use Rattle.nmt_boot.specs.Manager.{timers, with_command}
 use Rattle.boot_table.specs.declared.booting.Booting.{Booting}
 use Rattle.boot_exchanges.specs.Requests.{IsAlone, IsBootUp, LeavesBoot, TakesStep, requests_to}
+use Rattle.boot_exchanges.proofs.TimerLemmas.{timers_have}
 use Rattle.boot_exchanges.proofs.WaitingLemmas.{latest_leaves, other_more, other_step, others_dropped, own_dropped, own_step}
 use Rattle.boot_exchanges.proofs.WaitingLemmas.{requests-append}
 
@@ -42,22 +42,6 @@ sum_is a b c e = grind (arith, nat_tests)
 
 sum_tells : (a b c : ℕ) → a + b ≡ c → (a + b == c) ≡ true
 sum_tells a b c e = grind (arith, nat_tests)
-
-same_or_not : (i k : ℕ) → (i ≡ k) ⊎ (i ≢ k)
-same_or_not i k = by (i == k) refl
-  where
-    is : (i == k) ≡ true → i ≡ k
-    is e = grind (arith, nat_tests)
-
-    is_not : (i == k) ≡ false → i ≢ k
-    is_not e f = absurd (false≢true (sym e ∙ ap (λ n. n == k) f ∙ itself k))
-      where
-        itself : (n : ℕ) → (n == n) ≡ true
-        itself n = grind (arith, nat_tests)
-
-    by : (b : Bool) → (i == k) ≡ b → (i ≡ k) ⊎ (i ≢ k)
-    by true e = inl (is e)
-    by false e = inr (is_not e)
 
 none_found : {X : Type 0} (p : X → Bool) (xs : List X) → position p xs ≡ None → (k : ℕ) (d : X) → k < length xs
     → p (get_or xs k d) ≡ false
@@ -170,7 +154,7 @@ module _ (m : Manager) (i : ℕ) (own : IsAlone m.nodes i) where
           → is_boot_up frame.bytes ≡ true → Goes (outcome (after_boot_up t o m) image).0
       unfolding after_boot_up
       by_boot_up None e b = inr stays
-      by_boot_up (Some k) e b = rw (boots_outcome t k m image) (by (same_or_not i k))
+      by_boot_up (Some k) e b = rw (boots_outcome t k m image) (by (cases_eq i k))
         where
           within : k < length m.nodes
           within = found_within (error_control_id 0) frame.id m.nodes k e
@@ -197,7 +181,7 @@ module _ (m : Manager) (i : ℕ) (own : IsAlone m.nodes i) where
           → Goes (outcome (after_sdo_frame t frame.bytes o m) image).0
       unfolding after_sdo_frame
       by_answer None e = inr stays
-      by_answer (Some k) e = rw (answered_outcome t frame.bytes k m image) (by (same_or_not i k))
+      by_answer (Some k) e = rw (answered_outcome t frame.bytes k m image) (by (cases_eq i k))
         where
           within : k < length m.nodes
           within = found_within (sdo_answer_id 0) frame.id m.nodes k e
@@ -263,60 +247,6 @@ module _ (m : Manager) (i : ℕ) (own : IsAlone m.nodes i) where
         by rest true e = rest (queue_after_time_out b ws) ∙ one_out b (others 0 (omega arith) e) ws
         by rest false e = rest ws
 
-    beats_leave : (o : Manager) → LeavesBoot i m o → LeavesBoot i m (heartbeats t o)
-    unfolding heartbeats
-    beats_leave o h = by (is_due t o.heartbeat)
-      where
-        by : (b : Bool)
-            → LeavesBoot i m (if b
-            then record o {
-              heartbeat = moment_after t o.period;
-              waiting = with_latest Heartbeat (heartbeat_frame o.number) o.waiting;
-            } else o)
-        by true = record {
-          node = h.node;
-          requests = latest_leaves n Heartbeat (heartbeat_frame o.number) refl o.waiting ∙ h.requests;
-        }
-        by false = h
-
-    syncs_leave : (o : Manager) → LeavesBoot i m o → LeavesBoot i m (syncs t o)
-    unfolding syncs
-    syncs_leave o h = by (is_due t o.sync)
-      where
-        by : (b : Bool)
-            → LeavesBoot i m (if b
-            then record o { sync = moment_after t o.sync_period; waiting = with_latest Sync (sync_frame o.sync_counter o.sync_period t) o.waiting }
-            else o)
-        by true = record {
-          node = h.node;
-          requests = latest_leaves n Sync (sync_frame o.sync_counter o.sync_period t) refl o.waiting ∙ h.requests;
-        }
-        by false = h
-
-    beats_stage : (o : Manager) → node_at (heartbeats t o).nodes i ≡ node_at o.nodes i
-    unfolding heartbeats
-    beats_stage o = by (is_due t o.heartbeat)
-      where
-        by : (b : Bool)
-            → node_at (if b
-            then record o {
-              heartbeat = moment_after t o.period;
-              waiting = with_latest Heartbeat (heartbeat_frame o.number) o.waiting;
-            } else o).nodes i ≡ node_at o.nodes i
-        by true = refl
-        by false = refl
-
-    syncs_stage : (o : Manager) → node_at (syncs t o).nodes i ≡ node_at o.nodes i
-    unfolding syncs
-    syncs_stage o = by (is_due t o.sync)
-      where
-        by : (b : Bool)
-            → node_at (if b
-            then record o { sync = moment_after t o.sync_period; waiting = with_latest Sync (sync_frame o.sync_counter o.sync_period t) o.waiting }
-            else o).nodes i ≡ node_at o.nodes i
-        by true = refl
-        by false = refl
-
     outs_here : is_timed_out t (node_at m.nodes i).stage ≡ true
         → (node_at (time_outs t m).0.nodes i).stage ≡ Failed
     unfolding time_outs sdo_time_out
@@ -332,16 +262,24 @@ module _ (m : Manager) (i : ℕ) (own : IsAlone m.nodes i) where
     }
 
     pub timers_go : ((node_at (timers t m).0.nodes i).stage ≡ Failed) ⊎ LeavesBoot i m (timers t m).0
-    unfolding timers
     timers_go = by (is_timed_out t (node_at m.nodes i).stage) refl
       where
         by : (b : Bool) → is_timed_out t (node_at m.nodes i).stage ≡ b
             → ((node_at (timers t m).0.nodes i).stage ≡ Failed) ⊎ LeavesBoot i m (timers t m).0
         by true e =
-            inl (ap (λ (x : Booting). x.stage) (syncs_stage (heartbeats t (time_outs t m).0)
-            ∙ beats_stage (time_outs t m).0) ∙ outs_here e)
-        by false e = inr (syncs_leave (heartbeats t (time_outs t m).0)
-            (beats_leave (time_outs t m).0 (outs_leave e)))
+            inl (timers_have t (λ o. (node_at o.nodes i).stage ≡ Failed) (λ o moment h. h) (λ o moment h. h) m
+            (outs_here e))
+        by false e =
+            inr (timers_have t (LeavesBoot i m)
+            (λ o moment h. record {
+              node = h.node;
+              requests = latest_leaves n Heartbeat (heartbeat_frame o.number) refl o.waiting ∙ h.requests;
+            })
+            (λ o moment h. record {
+              node = h.node;
+              requests =
+                  latest_leaves n Sync (sync_frame o.sync_counter o.sync_period t) refl o.waiting ∙ h.requests;
+            }) m (outs_leave e))
 
 no_command : (n : ℕ) (c : NmtCommand) (node : ℕ) → requests_to n (waiting Nmt (nmt_frame c node) ∷ []) ≡ []
 unfolding requests_to

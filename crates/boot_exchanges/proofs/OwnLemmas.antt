@@ -15,7 +15,6 @@ use Rattle.can_frame.specs.declared.purpose.Purpose.TheVariants.{Heartbeat, Sync
 use Rattle.can_frame.specs.declared.unwanted.Unwanted.{Unwanted}
 use Rattle.can_frame.specs.declared.unwanted.Unwanted.TheVariants.{SdoOf}
 use Rattle.can_frame.specs.declared.waiting.Waiting.{Waiting}
-use Rattle.co_base.specs.Moments.{is_due, moment_after}
 use Rattle.co_parts.specs.Contents.{Image}
 use Rattle.co_parts.specs.declared.roster.Roster.{Roster}
 use Rattle.co_scenario.specs.declared.nmt_command.NmtCommand.{NmtCommand}
@@ -25,15 +24,16 @@ use Rattle.node_boot.specs.declared.boot_step.BootStep.{BootStep}
 use Rattle.node_boot.specs.declared.note_kind.NoteKind.{NoteKind}
 use Rattle.node_boot.specs.declared.note_kind.NoteKind.TheVariants as kind
 use Rattle.nmt_boot.proofs.FrameLemmas.{received_holds}
-use Rattle.nmt_boot.specs.Manager.{Manager, after_frame, after_step, heartbeat_frame, heartbeats, manager_at_power_on}
+use Rattle.nmt_boot.specs.Manager.{Manager, after_frame, after_step, heartbeat_frame, manager_at_power_on}
 use Rattle.boot_table.specs.Table.{is_from}
 use Rattle.boot_table.specs.Table.{no_node, node_after, node_at, place_of, queue_after_time_out, queue_after_time_outs}
-use Rattle.nmt_boot.specs.Manager.{sync_frame, syncs, time_outs, timers}
+use Rattle.nmt_boot.specs.Manager.{sync_frame, time_outs, timers}
 use Rattle.nmt_boot.specs.Startup.{Startup, frames_of_configured, start_frames, start_of, starts_each, starts_network}
 use Rattle.boot_table.specs.Table.{sdo_frames, timed_out, unseen_node}
 use Rattle.nmt_boot.specs.Manager.{with_command}
 use Rattle.boot_table.specs.Table.{with_stage}
 use Rattle.boot_table.specs.declared.booting.Booting.{Booting}
+use Rattle.boot_exchanges.proofs.TimerLemmas.{timers_have}
 use Rattle.boot_exchanges.specs.Requests.{HasOwnFrames, IsManagersFrame, IsNodeNumber, StaysManager, numbers_of}
 
 -- ---- the table
@@ -214,50 +214,14 @@ module _ (t : ℕ) where
     nodes = renumbered m.nodes _ (later_numbers t m.nodes) h.nodes;
   }
 
-  module _ (P : Manager → Type 0)
-      (beats : (m : Manager) (moment : Option ℕ) → P m
-      → P (record m { heartbeat = moment; waiting = with_latest Heartbeat (heartbeat_frame m.number) m.waiting }))
-      (synced : (m : Manager) (moment : Option ℕ) → P m
-      → P (record m {
-        sync = moment;
-        waiting = with_latest Sync (sync_frame m.sync_counter m.sync_period t) m.waiting;
-      })) where
-    beats_have : (m : Manager) → P m → P (heartbeats t m)
-    unfolding heartbeats
-    beats_have m h = by (is_due t m.heartbeat)
-      where
-        by : (b : Bool)
-            → P (if b
-            then record m {
-              heartbeat = moment_after t m.period;
-              waiting = with_latest Heartbeat (heartbeat_frame m.number) m.waiting;
-            } else m)
-        by true = beats m (moment_after t m.period) h
-        by false = h
-
-    syncs_have : (m : Manager) → P m → P (syncs t m)
-    unfolding syncs
-    syncs_have m h = by (is_due t m.sync)
-      where
-        by : (b : Bool)
-            → P (if b
-            then record m { sync = moment_after t m.sync_period; waiting = with_latest Sync (sync_frame m.sync_counter m.sync_period t) m.waiting }
-            else m)
-        by true = synced m (moment_after t m.sync_period) h
-        by false = h
-
-    timers_have : (m : Manager) → P (time_outs t m).0 → P (timers t m).0
-    unfolding timers
-    timers_have m h = syncs_have (heartbeats t (time_outs t m).0) (beats_have (time_outs t m).0 h)
-
   pub timers_stay : (m : Manager) → StaysManager m (timers t m).0
   timers_stay m =
-      timers_have (λ o. StaysManager m o) (λ o moment h. record { number = h.number; numbers = h.numbers })
+      timers_have t (λ o. StaysManager m o) (λ o moment h. record { number = h.number; numbers = h.numbers })
       (λ o moment h. record { number = h.number; numbers = h.numbers }) m (outs_stay m)
 
   pub timers_own : (m : Manager) → HasOwnFrames m → HasOwnFrames (timers t m).0
   timers_own m h =
-      timers_have HasOwnFrames
+      timers_have t HasOwnFrames
       (λ o moment own. record {
         frames = latest_owns o.number Heartbeat (heartbeat_frame o.number) refl o.waiting own.frames;
         nodes = own.nodes;

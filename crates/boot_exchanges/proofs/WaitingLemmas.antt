@@ -19,11 +19,11 @@ use Rattle.nmt_boot.specs.Startup.{Startup, frames_of_configured, start_frames, 
 use Rattle.boot_table.specs.Table.{sdo_frames}
 use Rattle.boot_exchanges.specs.Requests.{requests_to}
 
-itself : (n : ℕ) → (n == n) ≡ true
-itself n = grind (arith, nat_tests)
+pub number_itself : (n : ℕ) → (n == n) ≡ true
+number_itself n = grind (arith, nat_tests)
 
-pub differ : (n k : ℕ) → n ≢ k → (n == k) ≡ false
-differ n k apart = by (n == k) refl
+pub number_other : (n k : ℕ) → n ≢ k → (n == k) ≡ false
+number_other n k apart = by (n == k) refl
   where
     is : (n == k) ≡ true → n ≡ k
     is e = grind (arith, nat_tests)
@@ -40,12 +40,12 @@ module _ (n : ℕ) where
   own_request : (r : Option (List ℕ)) → requests_to n (sdo_frames n r) ≡ sdo_frames n r
   unfolding requests_to
   own_request None = refl
-  own_request (Some bytes) = rw (itself n) refl
+  own_request (Some bytes) = rw (number_itself n) refl
 
   other_request : (k : ℕ) → n ≢ k → (r : Option (List ℕ)) → requests_to n (sdo_frames k r) ≡ []
   unfolding requests_to
   other_request k apart None = refl
-  other_request k apart (Some bytes) = rw (differ n k apart) refl
+  other_request k apart (Some bytes) = rw (number_other n k apart) refl
 
   no_start : (startup : Startup) (nodes : List Booting) (k : ℕ) (note : Option NoteKind)
       → requests_to n (start_frames startup nodes k note) ≡ []
@@ -114,7 +114,7 @@ module _ (n : ℕ) where
     not_both BootUp e = refl
     not_both Heartbeat e = refl
     not_both (Tpdo j) e = refl
-    not_both (Sdo j) e = differ n j (λ same. apart (same ∙ sym (is k j e)))
+    not_both (Sdo j) e = number_other n j (λ same. apart (same ∙ sym (is k j e)))
       where
         is : (a b : ℕ) → (a == b) ≡ true → a ≡ b
         is a b f = grind (arith, nat_tests)

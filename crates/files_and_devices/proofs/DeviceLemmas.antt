@@ -27,13 +27,14 @@ use Rattle.files_and_devices.specs.Exchanges.{Anything, Asks, Exchanges, HoldsBe
 use Rattle.files_and_devices.specs.Exchanges.{IsTraffic, Silence, TellsTruth, Tells, Traffic, answers_under_way}
 use Rattle.files_and_devices.specs.Exchanges.{bytes_of, on_wire, requests_under_way}
 use Rattle.files_and_devices.specs.Files.{IsWrite, entry_of}
-use Rattle.files_and_devices.proofs.ListLemmas.{both_empty, head_is, not_empty, number_itself, number_other, one_of_two}
+use Rattle.files_and_devices.proofs.ListLemmas.{both_empty, head_is, not_empty, one_of_two}
 use Rattle.files_and_devices.proofs.MarkLemmas.{stored_elsewhere, told}
 use Rattle.files_and_devices.proofs.Others.{download_answered, download_dropped}
 use Rattle.files_and_devices.proofs.ValueLemmas.{nothing_wrote, one_more_below, others_wrote}
 use Rattle.node_boot.specs.declared.boot_stage.BootStage.{BootStage}
 use Rattle.node_boot.specs.declared.boot_stage.BootStage.TheVariants.{Unseen, Comparing, Writing, Configured, Failed}
 use Rattle.sdo_downloads.specs.Downloads.{IsUnderWay}
+use Rattle.boot_exchanges.proofs.WaitingLemmas.{number_itself, number_other}
 
 -- ---- frames on the wire
 

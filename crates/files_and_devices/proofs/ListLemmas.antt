@@ -3,52 +3,23 @@ use Rattle.std.proofs.Common.{◌≡◌, ◌≢◌, ℕ, zero, suc, ◌+◌, ◌
 use Rattle.std.proofs.Common.{◌⊎◌, inl, inr, refl, sym, ap, ◌∙◌, arith}
 use Rattle.std.specs.Prelude.{cond, drop, filter, remove, ◌==◌, ◌||◌}
 use Rattle.std.specs.List.{list_any}
-use Rattle.std.proofs.lemmas.Bool.{false≢true}
+use Rattle.std.proofs.lemmas.Bool.{cases_eq, false≢true}
 use Rattle.std.proofs.lemmas.Bool.Decides.{nat_tests}
 use Rattle.can_frame.specs.declared.waiting.Waiting.{Waiting}
 use Rattle.files_and_devices.specs.Exchanges.{bytes_of}
 
 -- ---- numbers, and places of entries
 
-pub same_or_not : (i k : ℕ) → (i ≡ k) ⊎ (i ≢ k)
-same_or_not i k = by (i == k) refl
-  where
-    is : (i == k) ≡ true → i ≡ k
-    is e = grind (arith, nat_tests)
-
-    is_not : (i == k) ≡ false → i ≢ k
-    is_not e f = absurd (false≢true (sym e ∙ ap (λ n. n == k) f ∙ itself k))
-      where
-        itself : (n : ℕ) → (n == n) ≡ true
-        itself n = grind (arith, nat_tests)
-
-    by : (b : Bool) → (i == k) ≡ b → (i ≡ k) ⊎ (i ≢ k)
-    by true e = inl (is e)
-    by false e = inr (is_not e)
-
 -- below the next of a number, and not that number
 pub below_next : (a b : ℕ) → a < b + 1 → a ≢ b → a < b
-below_next a b l d = by (same_or_not a b)
+below_next a b l d = by (cases_eq a b)
   where
     by : (a ≡ b) ⊎ (a ≢ b) → a < b
     by (inl e) = absurd (d e)
     by (inr e) = omega (arith, l, e)
 
-pub number_itself : (n : ℕ) → (n == n) ≡ true
-number_itself n = grind (arith, nat_tests)
-
-pub number_other : (n k : ℕ) → n ≢ k → (n == k) ≡ false
-number_other n k apart = by (n == k) refl
-  where
-    is : (n == k) ≡ true → n ≡ k
-    is e = grind (arith, nat_tests)
-
-    by : (b : Bool) → (n == k) ≡ b → b ≡ false
-    by true e = absurd (apart (is e))
-    by false e = refl
-
 pub place_or_not : (p q : ℕ × ℕ) → (p ≡ q) ⊎ (p ≢ q)
-place_or_not p q = by (same_or_not p.0 q.0) (same_or_not p.1 q.1)
+place_or_not p q = by (cases_eq p.0 q.0) (cases_eq p.1 q.1)
   where
     by : (p.0 ≡ q.0) ⊎ (p.0 ≢ q.0) → (p.1 ≡ q.1) ⊎ (p.1 ≢ q.1) → (p ≡ q) ⊎ (p ≢ q)
     by (inl a) (inl b) = inl (λ i. (a i, b i))

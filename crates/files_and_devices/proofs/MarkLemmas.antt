@@ -6,8 +6,8 @@ use Rattle.std.specs.List.{AllByRecursion, flat_map}
 use Rattle.std.proofs.lemmas.Bool.{false≢true}
 use Rattle.std.proofs.lemmas.List.Elements.{All-head, All-tail}
 use Rattle.device_writes.specs.Written.{AreOf, Event, IsWritten, NoneBySdo, Rpdo, Sdo, Writer, Written, written_by}
-use Rattle.files_and_devices.proofs.ListLemmas.{number_itself, number_other}
 use Rattle.files_and_devices.specs.Marks.{Marks, after_writes, is_marking, is_of, marked_after}
+use Rattle.boot_exchanges.proofs.WaitingLemmas.{number_itself, number_other}
 
 -- whether a pair is marked after writes, where it was or wasn't before
 abbrev pub told : Bool → List Written → ℕ → ℕ × ℕ → Bool

@@ -2,6 +2,7 @@
 use Rattle.std.proofs.Common.{◌≡◌, ℕ, zero, suc, ◌+◌, ◌<◌, Bool, true, false, List, [], ◌∷◌, ◌++◌, Option, Some, None}
 use Rattle.std.proofs.Common.{◌⊎◌, inl, inr, refl, sym, ap, ◌∙◌, subst, arith, get_or, length, map}
 use Rattle.std.specs.Prelude.{Contains, if◌then◌else◌, slice_set}
+use Rattle.boot_exchanges.proofs.TimerLemmas as lasting
 use Rattle.std.proofs.lemmas.List.{get_or_default, get_or-map, get_or-set_same, length-map, length-set}
 use Rattle.std.proofs.lemmas.List.Elements.{Contains-append_cases}
 use Rattle.std.proofs.lemmas.List.Quantifiers.{position-Some}
@@ -22,10 +23,7 @@ use Rattle.can_bus.proofs.ManagerLemmas.{outcome_managed}
 use Rattle.can_bus.proofs.NodeLemmas.{outcome_nodes}
 use Rattle.can_frame.specs.Frames.{BaseFrame}
 use Rattle.can_frame.specs.Identifiers.{error_control_id, sdo_answer_id}
-use Rattle.can_frame.specs.WaitingFrames.{with_latest}
-use Rattle.can_frame.specs.declared.purpose.Purpose.TheVariants.{Heartbeat, Sync}
 use Rattle.can_frame.specs.declared.waiting.Waiting.{Waiting}
-use Rattle.co_base.specs.Moments.{is_due, moment_after}
 use Rattle.co_parts.specs.Contents.{Image, identity_of, write_of}
 use Rattle.co_parts.specs.declared.identity.Identity.{Identity}
 use Rattle.co_parts.specs.declared.part.Part.TheVariants.{Boot, Expect}
@@ -37,7 +35,7 @@ use Rattle.concise_dcf.specs.declared.write.Write.{Write}
 use Rattle.files_and_devices.specs.Files.{IsConfigured}
 use Rattle.nmt_boot.proofs.FrameLemmas.{received_holds}
 use Rattle.nmt_boot.specs.Ends.{configured_note}
-use Rattle.nmt_boot.specs.Manager.{Manager, after_frame, after_step, heartbeat_frame, heartbeats, sync_frame, syncs}
+use Rattle.nmt_boot.specs.Manager.{Manager, after_frame, after_step}
 use Rattle.nmt_boot.specs.Manager.{time_outs, timers}
 use Rattle.node_boot.specs.Boot.{after_compare, after_write, boot_failed, boot_nmt_slave, check_identity, compared_next}
 use Rattle.node_boot.specs.Boot.{comparison_started, download_configuration, is_as_expected, next_compared, sdo_answer}
@@ -228,37 +226,12 @@ module _ (node : ℕ) where
       stage = ap (λ (ns : List Booting). (node_at ns h.place).stage) e ∙ h.stage;
     }
 
-    beats_nodes : (m : Manager) → (heartbeats t m).nodes ≡ m.nodes
-    unfolding heartbeats
-    beats_nodes m = by (is_due t m.heartbeat)
-      where
-        by : (b : Bool)
-            → (if b
-            then record m {
-              heartbeat = moment_after t m.period;
-              waiting = with_latest Heartbeat (heartbeat_frame m.number) m.waiting;
-            } else m).nodes ≡ m.nodes
-        by true = refl
-        by false = refl
-
-    syncs_nodes : (m : Manager) → (syncs t m).nodes ≡ m.nodes
-    unfolding syncs
-    syncs_nodes m = by (is_due t m.sync)
-      where
-        by : (b : Bool)
-            → (if b
-            then record m {
-              sync = moment_after t m.sync_period;
-              waiting = with_latest Sync (sync_frame m.sync_counter m.sync_period t) m.waiting;
-            } else m).nodes ≡ m.nodes
-        by true = refl
-        by false = refl
-
     timers_have : (m : Manager) → Has node m → Has node (timers t m).0
-    unfolding timers
     timers_have m h =
-        alike (time_outs t m).0 (syncs t (heartbeats t (time_outs t m).0))
-        (syncs_nodes (heartbeats t (time_outs t m).0) ∙ beats_nodes (time_outs t m).0) (outs_have m h)
+        lasting.timers_have t (Has node)
+        (λ o moment h. record { place = h.place; within = h.within; number = h.number; stage = h.stage })
+        (λ o moment h. record { place = h.place; within = h.within; number = h.number; stage = h.stage }) m
+        (outs_have m h)
 
     none_times_out : (ns : List Booting) → Contains (map note_of_time_out ns) (configured_note node) → ⊥
     none_times_out [] h = none_in (configured_note node) h

@@ -18,12 +18,12 @@ use Rattle.co_device.specs.Device.{Device, without_power}
 use Rattle.co_parts.specs.Images.{AllDiffer, IsNode, IsRoster}
 use Rattle.co_parts.specs.declared.roster.Roster.{Roster}
 use Rattle.device_frames.specs.Own.{HasOwnFrames as DeviceOwns, IsOwnFrame}
-use Rattle.files_and_devices.proofs.ListLemmas.{same_or_not}
 use Rattle.files_and_devices.proofs.SendLemmas.{IsForeign, control_foreign, device_foreign, emergency_foreign}
 use Rattle.files_and_devices.proofs.SendLemmas.{manager_foreign, pdo_foreign}
 use Rattle.nmt_boot.specs.Manager.{Manager}
 use Rattle.boot_table.specs.Table.{no_node, node_at}
 use Rattle.boot_table.specs.declared.booting.Booting.{Booting}
+use Rattle.std.proofs.lemmas.Bool.{cases_eq}
 
 -- ---- numbers that differ
 
@@ -165,7 +165,7 @@ module _ (roster : Roster) (n : ℕ) (is : IsNodeNumber n) (apart : n ≢ roster
   pub kind_of : IsSent roster slot → Is
   kind_of (inl sent) =
       of_manager sent.1.0 sent.0 sent.1.1 (is_unwanted (SdoOf n) sent.1.0) refl
-  kind_of (inr sent) = by (same_or_not slot.sender n)
+  kind_of (inr sent) = by (cases_eq slot.sender n)
     where
       by : (slot.sender ≡ n) ⊎ (slot.sender ≢ n) → Is
       by (inl e) = own sent.1.0 e (subst (λ k. IsOwnFrame k sent.1.0 slot.frame) e sent.1.1)

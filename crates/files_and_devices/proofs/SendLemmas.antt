@@ -25,9 +25,10 @@ use Rattle.files_and_devices.specs.Exchanges.{Anything, Asks, Exchanges, IsBooti
 use Rattle.files_and_devices.specs.Exchanges.{Tells, Traffic, answers_under_way, bytes_of, on_wire, requests_under_way}
 use Rattle.files_and_devices.proofs.DeviceLemmas.{AsStage, here_on_wire, not_on_wire}
 use Rattle.files_and_devices.proofs.ListLemmas.{any_left, both_empty, none_has_bytes, none_passes}
-use Rattle.files_and_devices.proofs.ListLemmas.{number_itself, one_has_bytes, one_left, others_left}
-use Rattle.files_and_devices.proofs.ListLemmas.{same_or_not}
+use Rattle.files_and_devices.proofs.ListLemmas.{one_has_bytes, one_left, others_left}
 use Rattle.node_boot.specs.declared.boot_stage.BootStage.{BootStage}
+use Rattle.boot_exchanges.proofs.WaitingLemmas.{number_itself}
+use Rattle.std.proofs.lemmas.Bool.{cases_eq}
 
 -- ---- identifiers that no PDO has
 
@@ -187,7 +188,7 @@ module _ (node : ℕ) (is : IsNodeNumber node) where
     manager_foreign BootUp frame h apart other = control_foreign frame h.0 (of_another frame h.0 apart)
     manager_foreign Heartbeat frame h apart other = control_foreign frame h (of_another frame h apart)
     manager_foreign (Tpdo j) frame h apart other = absurd h
-    manager_foreign (Sdo j) frame h apart other = by (same_or_not node j)
+    manager_foreign (Sdo j) frame h apart other = by (cases_eq node j)
       where
         by : (node ≡ j) ⊎ (node ≢ j) → IsForeign frame
         by (inl e) = absurd (false≢true (sym other ∙ ap (λ x. node == x) (sym e) ∙ number_itself node))

@@ -33,7 +33,6 @@ use Rattle.device_frames.specs.Own.{HasOwnFrames as DeviceOwns, IsOwnFrame}
 use Rattle.device_writes.specs.Leaves.{answers_of}
 use Rattle.files_and_devices.specs.Marks.{Marks}
 use Rattle.files_and_devices.proofs.GoodLemmas.{IsGood}
-use Rattle.files_and_devices.proofs.ListLemmas.{same_or_not}
 use Rattle.files_and_devices.proofs.Others.{sent_owns}
 use Rattle.files_and_devices.proofs.RosterLemmas.{IsAt, device_numbers, stands_at}
 use Rattle.files_and_devices.proofs.SendLemmas.{device_foreign, foreign_starts, manager_foreign}
@@ -41,6 +40,7 @@ use Rattle.files_and_devices.proofs.SendLemmas.{managers_starts, own_starts, req
 use Rattle.files_and_devices.proofs.TurnLemmas.{Ex}
 use Rattle.nmt_boot.specs.Manager.{Manager}
 use Rattle.boot_table.specs.Table.{node_at}
+use Rattle.std.proofs.lemmas.Bool.{cases_eq}
 
 abbrev none : Waiting
 none = waiting Nmt (record { id = 0; bytes = [] })
@@ -255,7 +255,7 @@ module _ (image : Image) (roster : Roster) (is : IsRoster roster) where
 
       sends : (i : ℕ) → i < length left
           → Ex image (device_at left i).number (marks (device_at left i).number) (device_at left i) m i (Some slot)
-      sends i l = by (same_or_not i j)
+      sends i l = by (cases_eq i j)
         where
           inside : i < length ds
           inside = subst (λ (k : ℕ). i < k) (length-set ds j _) l

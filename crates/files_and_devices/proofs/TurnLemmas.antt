@@ -28,7 +28,6 @@ use Rattle.files_and_devices.specs.Exchanges.{Exchanges}
 use Rattle.files_and_devices.specs.Marks.{written_by_frame}
 use Rattle.files_and_devices.proofs.BootLemmas.{exchange_begins, exchange_fails, exchange_steps}
 use Rattle.files_and_devices.proofs.DeviceLemmas.{exchange_left, exchange_served, slot_over}
-use Rattle.files_and_devices.proofs.ListLemmas.{number_itself, number_other, same_or_not}
 use Rattle.files_and_devices.proofs.MarkLemmas.{told}
 use Rattle.files_and_devices.proofs.Others.{frame_does, frame_writes_own, instant_leaves}
 use Rattle.files_and_devices.proofs.RosterLemmas.{IsItsAnswer, IsItsBootUp, IsNone, IsToIt, Kind, alone_still}
@@ -41,6 +40,8 @@ use Rattle.node_boot.specs.Boot.{boot_nmt_slave, sdo_answer}
 use Rattle.node_boot.specs.declared.boot_stage.BootStage.{BootStage}
 use Rattle.node_boot.specs.declared.boot_stage.BootStage.TheVariants.{Failed}
 use Rattle.node_boot.specs.declared.boot_step.BootStep.{BootStep}
+use Rattle.boot_exchanges.proofs.WaitingLemmas.{number_itself, number_other}
+use Rattle.std.proofs.lemmas.Bool.{cases_eq}
 
 -- a node that has booted has its boot-up message waiting
 pub booted_exchanges : (image : Image) (n : ℕ) (marks : ℕ × ℕ → Bool) (d : Device) (number : ℕ) → HasBooted number d
@@ -318,7 +319,7 @@ module _ (image : Image) (n : ℕ) where
     -- a frame that is none of the exchange, once the device has had it
     foreign_heard : (e : Device) → outcome (hears t (delivered_of slot) d) image ≡ e → IsForeign n is slot.frame
         → Ex after (after_instant t e) m i None → Ex after d_after m_after i None
-    foreign_heard e f foreign h = by (same_or_not slot.sender roster.manager)
+    foreign_heard e f foreign h = by (cases_eq slot.sender roster.manager)
       where
         by : (slot.sender ≡ roster.manager) ⊎ (slot.sender ≢ roster.manager) → Ex after d_after m_after i None
         by (inl its) = finish e m f (manager_unheard its) refl h
@@ -341,7 +342,7 @@ module _ (image : Image) (n : ℕ) where
         finish (outcome (after_frame t slot.frame d) image) m (other_heard other) (manager_unheard from_manager) refl
         (device_runs t after (outcome (after_frame t slot.frame d) image) m i None
         (device_takes t marks after d m i slot of_node (request_no_boot id) (other_written other) h))
-    delivery_turns (IsNone foreign) h = by (same_or_not slot.sender n)
+    delivery_turns (IsNone foreign) h = by (cases_eq slot.sender n)
       where
         by : (slot.sender ≡ n) ⊎ (slot.sender ≢ n) → Ex after d_after m_after i None
         by (inl from_node) =

@@ -11,8 +11,9 @@ use Rattle.concise_dcf.specs.declared.write.Write.{Write}
 use Rattle.device_writes.specs.Written.{AgreeButRegister, AreOf, ChangeOnly, NoneBySdo, Written, error_register}
 use Rattle.files_and_devices.specs.Exchanges.{GivesBelow, HoldsBelow}
 use Rattle.files_and_devices.specs.Files.{Holds, IsExcepted, IsWrite, entry_of}
-use Rattle.files_and_devices.proofs.ListLemmas.{below_next, place_or_not, same_or_not}
+use Rattle.files_and_devices.proofs.ListLemmas.{below_next, place_or_not}
 use Rattle.files_and_devices.proofs.MarkLemmas.{stays_marked, told, written_is_marked}
+use Rattle.std.proofs.lemmas.Bool.{cases_eq}
 
 module _ (image : Image) (node : ℕ) where
   abbrev Below : (ℕ × ℕ → Bool) → Values → ℕ → Type 0
@@ -78,7 +79,7 @@ module _ (image : Image) (node : ℕ) where
       (agree : AgreeButRegister (insert values (entry_of write) write.bytes) left)
       (h : Below marks values j) where
     found : (k : ℕ) → k < j + 1 → write_of (image (Boot node k)) ≢ None
-    found k below = by (same_or_not k j)
+    found k below = by (cases_eq k j)
       where
         some : (o : Option Write) → o ≡ Some write → o ≢ None
         some o e f = absurd (cc)
@@ -141,7 +142,7 @@ module _ (image : Image) (node : ℕ) where
         → (place ≡ error_register) ⊎ (place ≢ error_register) → Is place bytes
     by_register place bytes g (inl e) = inl (inl e)
     by_register place bytes g (inr apart) =
-        by_place place bytes g (place_or_not (entry_of write) place) (same_or_not g.number j) apart
+        by_place place bytes g (place_or_not (entry_of write) place) (cases_eq g.number j) apart
 
     pub one_more_below : Below after left (j + 1)
     one_more_below = record {
