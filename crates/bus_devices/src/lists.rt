@@ -1,6 +1,6 @@
 //! The devices of a network as the power comes on.
 
-ghost use Rattle.std.specs.Prelude.{◌≡◌, ◌↔◌, false, true, map, IfOk, IsTrue, OnOk};
+ghost use Rattle.std.specs.Prelude.{◌≡◌, ◌↔◌, false, length, true, map, IfOk, IsTrue, OnOk};
 ghost use Rattle.asking.specs.Asking.{outcome};
 ghost use Rattle.asking.specs.Record.{IsAsked, Lasts};
 ghost use Rattle.asking.specs.Each.{each};
@@ -37,11 +37,25 @@ pub(crate) fn copy_all(
     Ok(copies)
 }
 
-/// Whether the devices of two lists are the same.
+/// Whether each device of two lists of one length may be the same: a quick look at each.
+fn may_be_all(devices: &[SharedDevice], others: &[SharedDevice]) -> bool
+    requires { length devices.now ≡ length others.now }
+    ensures { devices.now ≡ others.now → IsTrue result }
+{
+    for i in 0..devices.len() {
+        if !devices[i].may_be(&others[i]) {
+            return false;
+        }
+    }
+    true
+}
+
+/// Whether the devices of two lists are the same. Looks at each of them quickly before it compares one by
+/// value.
 pub(crate) fn same_all(devices: &[SharedDevice], others: &[SharedDevice]) -> bool
     ensures { IsTrue result ↔ (devices.now ≡ others.now) }
 {
-    if devices.len() != others.len() {
+    if devices.len() != others.len() || !may_be_all(devices, others) {
         return false;
     }
     for i in 0..devices.len() {

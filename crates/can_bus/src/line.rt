@@ -1,10 +1,10 @@
 //! A line of a trace.
 
-ghost use Rattle.std.specs.Prelude.{◌≡◌, IfOk};
+ghost use Rattle.std.specs.Prelude.{◌≡◌, ◌++◌, IfOk, OnOk};
 ghost use Rattle.can_bus.specs.Lines.{line_text, line_time};
 
-use crate::note_line::note_line;
-use can_frame::{Frame, line};
+use crate::note_line::write_note;
+use can_frame::{Frame, write_line};
 use node_boot::Note;
 use std::alloc::{AllocError, Global};
 
@@ -42,9 +42,18 @@ impl Line {
     pub fn text(&self, alloc: Global) -> Result<Vec<u8>, AllocError>
         ensures { IfOk result (λ text. text.items ≡ line_text self.now) }
     {
+        let mut out = Vec::new(alloc);
+        self.write(alloc, &mut out)?;
+        Ok(out)
+    }
+
+    /// Writes its text, without a line feed, at the end of what was written.
+    pub fn write(&self, alloc: Global, out: &mut Vec<u8>) -> Result<(), AllocError>
+        ensures { OnOk result (out.new.items ≡ out.old.items ++ line_text self.now) }
+    {
         match self {
-            Line::Frame { time, frame } => line(alloc, *time, frame),
-            Line::Note { time, note } => note_line(alloc, *time, note),
+            Line::Frame { time, frame } => write_line(out, *time, frame),
+            Line::Note { time, note } => write_note(alloc, out, *time, note),
         }
     }
 }

@@ -12,8 +12,7 @@ pub fn text(alloc: Global, lines: &[Line]) -> Result<Vec<u8>, AllocError>
 {
     let mut out = Vec::new(alloc);
     for line in lines {
-        let line = line.text(alloc)?;
-        out.extend_from_slice(&line)?;
+        line.write(alloc, &mut out)?;
         out.push(b'\n')?;
     }
     Ok(out)

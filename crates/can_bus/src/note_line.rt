@@ -1,6 +1,6 @@
 //! The line of a note in a trace.
 
-ghost use Rattle.std.specs.Prelude.{◌≡◌, ◌++◌, IfOk, OnOk};
+ghost use Rattle.std.specs.Prelude.{◌≡◌, ◌++◌, OnOk};
 ghost use Rattle.can_bus.specs.Lines.{abort_digits, note_line as line_of_note, kind_text};
 
 use can_frame::write_time;
@@ -9,22 +9,22 @@ use co_text::index_digits;
 use node_boot::{Note, NoteKind};
 use std::alloc::{AllocError, Global};
 
-/// The longest line has as many bytes.
-const LONGEST_LINE: usize = 37;
-
-/// The line of a note at a time in microseconds: the time in ten digits, the node, and what is noted of it; it
-/// has no line feed.
-pub(crate) fn note_line(alloc: Global, time: u32, note: &Note) -> Result<Vec<u8>, AllocError>
-    ensures { IfOk result (λ line. line.items ≡ line_of_note time note.now) }
+/// Writes the line of a note at a time in microseconds: the time in ten digits, the node, and what is noted of
+/// it; it has no line feed.
+pub(crate) fn write_note(
+    alloc: Global,
+    out: &mut Vec<u8>,
+    time: u32,
+    note: &Note,
+) -> Result<(), AllocError>
+    ensures { OnOk result (out.new.items ≡ out.old.items ++ line_of_note time note.now) }
 {
-    let mut out = Vec::with_capacity(alloc, LONGEST_LINE)?;
-    write_time(&mut out, alloc, time)?;
+    write_time(out, time)?;
     out.extend_from_slice(b" note ")?;
     let node = note.node.to_string(alloc)?;
     out.extend_from_slice(node.as_bytes())?;
     out.push(b' ')?;
-    write_kind(&mut out, note.kind)?;
-    Ok(out)
+    write_kind(out, note.kind)
 }
 
 /// Writes what is noted of a node.

@@ -1,14 +1,15 @@
 -- Lines of a trace: how a time is written, and that a line is of one time and one frame alone.
-use Rattle.std.proofs.Common.{◌≡◌, ℕ, zero, suc, ◌-◌, ◌/◌, ◌%◌, ◌^◌, ◌<◌, true, List, [], ◌∷◌, ◌++◌, length, take, drop}
-use Rattle.std.proofs.Common.{get_or, replicate, refl, ap, sym, ◌∙◌, arith, append_assoc, lit<}
+use Rattle.std.proofs.Common.{◌≡◌, ℕ, zero, suc, ◌+◌, ◌-◌, ◌/◌, ◌%◌, ◌^◌, ◌<◌, ◌≤◌, true, List, [], ◌∷◌, ◌++◌, length, take, drop}
+use Rattle.std.proofs.Common.{get_or, replicate, ⊎_elim, refl, ap, sym, ◌∙◌, arith, append_assoc, lit<}
 use Rattle.std.specs.Prelude.{decimal}
+use Rattle.std.proofs.lemmas.Bool.{cases_lt}
 use Rattle.std.specs.Char.{digit_value}
 use Rattle.std.specs.Fmt.{digit_glyph}
 use Rattle.std.specs.Str.{byte}
 use Rattle.std.specs.Str.Parse.{digits_value}
 use Rattle.std.proofs.Math.Seq.{take-append_seam, drop-append_seam}
-use Rattle.std.proofs.lemmas.Fmt.{decimal_is_IsNumeral, length-decimal-le}
-use Rattle.std.proofs.lemmas.List.{length-append, length-replicate, take-replicate}
+use Rattle.std.proofs.lemmas.Fmt.{decimal_digit, decimal_is_IsNumeral, decimal_step, length-decimal-le}
+use Rattle.std.proofs.lemmas.List.{length-append, length-replicate}
 use Rattle.std.proofs.lemmas.Option.{same_Some}
 use Rattle.co_base.specs.Bytes.{AreBytes}
 use Rattle.co_text.specs.Digits.{byte_digits, digits_number, identifier_digits}
@@ -16,11 +17,67 @@ use Rattle.co_text.proofs.DigitLemmas.{byte_again, digit_value-glyph}
 use Rattle.can_frame.specs.Frames.{BaseFrame, IsFrame}
 use Rattle.can_frame.specs.TraceLines.{byte_count, frame_line, spaced_bytes, ten_digits}
 
--- digits behind as many of ten zeros as they lack
-pub zeros_and_digits : (out digits : List ℕ) (len : ℕ) → len ≡ length digits
-    → (out ++ take (10 - len) (replicate 10 48)) ++ digits ≡ out ++ (replicate (10 - length digits) 48 ++ digits)
-zeros_and_digits out digits len e = rw (e, take-replicate {X = ℕ} (10 - length digits) 10 48 (omega arith))
-    (append_assoc out (replicate (10 - length digits) 48) digits)
+-- ---- a number in ten digits, each by a division
+
+-- a number in at least so many digits
+abbrev padded : ℕ → ℕ → List ℕ
+padded k n = replicate (k - length (decimal n)) 48 ++ decimal n
+
+abbrev zeros : ℕ → List ℕ
+zeros k = replicate k 48
+
+abbrev and_digit : List ℕ → ℕ → List ℕ
+and_digit digits n = digits ++ (48 + n % 10) ∷ []
+
+zeros_end_in_one : (k : ℕ) → zeros (suc k) ≡ zeros k ++ 48 ∷ []
+zeros_end_in_one zero = refl
+zeros_end_in_one (suc k) = ap (λ (xs : List ℕ). 48 ∷ xs) (zeros_end_in_one k)
+
+one_digit : (k n : ℕ) → n < 10 → padded (suc k) n ≡ zeros k ++ (48 + n) ∷ []
+one_digit k n h =
+    let lacks : suc k - 1 ≡ k = omega arith in
+    ap (λ (digits : List ℕ). zeros (suc k - length digits) ++ digits) (decimal_digit n h)
+    ∙ ap (λ z. zeros z ++ (48 + n) ∷ []) lacks
+
+-- the last digit, behind the others
+last_digit : (k n m : ℕ) → n < 2 ^ 64 → n / 10 ≡ m → padded (suc (suc k)) n ≡ and_digit (padded (suc k) m) n
+last_digit k n m small e = ⊎_elim few many (cases_lt n 10)
+  where
+    few : n < 10 → padded (suc (suc k)) n ≡ and_digit (padded (suc k) m) n
+    few h =
+        let none : m ≡ 0 = omega arith in
+        let same : n % 10 ≡ n = omega arith in
+        one_digit (suc k) n h
+        ∙ ap (λ (front : List ℕ). front ++ (48 + n) ∷ []) (zeros_end_in_one k ∙ sym (one_digit k 0 (omega arith)))
+        ∙ ap (λ d. padded (suc k) d ++ (48 + n) ∷ []) (sym none)
+        ∙ ap (λ d. padded (suc k) m ++ (48 + d) ∷ []) (sym same)
+
+    many : 10 ≤ n → padded (suc (suc k)) n ≡ and_digit (padded (suc k) m) n
+    many h =
+        let front = decimal m in
+        let end : List ℕ = (48 + n % 10) ∷ [] in
+        let split : decimal n ≡ front ++ end = decimal_step n h small ∙ ap (λ d. decimal d ++ end) e in
+        let long : length (front ++ end) ≡ length front + 1 = length-append front end in
+        let lacks : suc (suc k) - length (front ++ end) ≡ suc k - length front = omega (arith, long) in
+        ap (λ (digits : List ℕ). zeros (suc (suc k) - length digits) ++ digits) split
+        ∙ ap (λ z. zeros z ++ (front ++ end)) lacks
+        ∙ sym (append_assoc (zeros (suc k - length front)) front end)
+
+pub ten_digits_by_division : (n : ℕ) → n < 2 ^ 32
+    → (48 + n / 1000000000) ∷ (48 + n / 100000000 % 10) ∷ (48 + n / 10000000 % 10) ∷ (48 + n / 1000000 % 10)
+    ∷ (48 + n / 100000 % 10) ∷ (48 + n / 10000 % 10) ∷ (48 + n / 1000 % 10) ∷ (48 + n / 100 % 10) ∷ (48 + n / 10 % 10)
+    ∷ (48 + n % 10) ∷ [] ≡ ten_digits n
+ten_digits_by_division n h = sym (
+    last_digit 8 n (n / 10) (omega arith) refl
+    ∙ ap (λ ds. and_digit ds n) (last_digit 7 (n / 10) (n / 100) (omega arith) (omega arith)
+    ∙ ap (λ ds. and_digit ds (n / 10)) (last_digit 6 (n / 100) (n / 1000) (omega arith) (omega arith)
+    ∙ ap (λ ds. and_digit ds (n / 100)) (last_digit 5 (n / 1000) (n / 10000) (omega arith) (omega arith)
+    ∙ ap (λ ds. and_digit ds (n / 1000)) (last_digit 4 (n / 10000) (n / 100000) (omega arith) (omega arith)
+    ∙ ap (λ ds. and_digit ds (n / 10000)) (last_digit 3 (n / 100000) (n / 1000000) (omega arith) (omega arith)
+    ∙ ap (λ ds. and_digit ds (n / 100000)) (last_digit 2 (n / 1000000) (n / 10000000) (omega arith) (omega arith)
+    ∙ ap (λ ds. and_digit ds (n / 1000000)) (last_digit 1 (n / 10000000) (n / 100000000) (omega arith) (omega arith)
+    ∙ ap (λ ds. and_digit ds (n / 10000000)) (last_digit 0 (n / 100000000) (n / 1000000000) (omega arith) (omega arith)
+    ∙ ap (λ ds. and_digit ds (n / 100000000)) (one_digit 0 (n / 1000000000) (omega arith)))))))))))
 
 -- ---- ten digits write one number
 

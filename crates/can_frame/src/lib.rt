@@ -20,6 +20,6 @@ pub use frame::Frame;
 pub use pending::Pending;
 pub use purpose::Purpose;
 pub use slots::{bit_time, slot_bits, slot_time};
-pub use trace_line::{line, write_time};
+pub use trace_line::{line, write_line, write_time};
 pub use unwanted::Unwanted;
 pub use waiting::Waiting;

@@ -1,5 +1,5 @@
 //! The line of a frame in a trace.
-ghost use Rattle.std.specs.Prelude.{◌≡◌, ◌≤◌, ◌++◌, ◌∷◌, [], length, IfOk, OnOk};
+ghost use Rattle.std.specs.Prelude.{◌≡◌, ◌<◌, ◌≤◌, ◌+◌, ◌++◌, ◌∷◌, [], length, IfOk, OnOk};
 ghost use Rattle.can_frame.specs.TraceLines.{byte_count, frame_line, spaced_bytes, ten_digits};
 
 use crate::frame::Frame;
@@ -9,30 +9,57 @@ use std::alloc::{AllocError, Global};
 /// That of a frame of 8 bytes has as many bytes.
 const LONGEST_LINE: usize = 42;
 
-/// A time has as many digits.
-const ZEROS: [u8; 10] = *b"0000000000";
-
 /// The line of a frame that is delivered at a time in microseconds: the time in ten digits, the
 /// identifier, the number of bytes, and each byte; it has no line feed.
 pub fn line(alloc: Global, time: u32, frame: &Frame) -> Result<Vec<u8>, AllocError>
     ensures { IfOk result (λ line. line.items ≡ frame_line time frame.now) }
 {
     let mut out = Vec::with_capacity(alloc, LONGEST_LINE)?;
-    write_time(&mut out, alloc, time)?;
-    out.push(b' ')?;
-    out.extend_from_slice(&identifier_digits(frame.id()))?;
-    write_bytes(&mut out, frame.bytes())?;
+    write_line(&mut out, time, frame)?;
     Ok(out)
 }
 
+/// Writes the same line at the end of what was written.
+pub fn write_line(out: &mut Vec<u8>, time: u32, frame: &Frame) -> Result<(), AllocError>
+    ensures { OnOk result (out.new.items ≡ out.old.items ++ frame_line time frame.now) }
+{
+    write_time(out, time)?;
+    out.push(b' ')?;
+    out.extend_from_slice(&identifier_digits(frame.id()))?;
+    write_bytes(out, frame.bytes())
+}
+
+/// The decimal digit of a number below ten.
+fn decimal_digit(number: u32) -> u8
+    requires { number < 10 }
+    ensures { result ≡ 48 + number }
+{
+    b'0' + number as u8
+}
+
+/// A time in ten digits, the highest first.
+fn ten_digits(time: u32) -> [u8; 10]
+    ensures { result ≡ ten_digits time }
+{
+    [
+        decimal_digit(time / 1_000_000_000),
+        decimal_digit(time / 100_000_000 % 10),
+        decimal_digit(time / 10_000_000 % 10),
+        decimal_digit(time / 1_000_000 % 10),
+        decimal_digit(time / 100_000 % 10),
+        decimal_digit(time / 10_000 % 10),
+        decimal_digit(time / 1_000 % 10),
+        decimal_digit(time / 100 % 10),
+        decimal_digit(time / 10 % 10),
+        decimal_digit(time % 10),
+    ]
+}
+
 /// Writes a time in ten digits.
-pub fn write_time(out: &mut Vec<u8>, alloc: Global, time: u32) -> Result<(), AllocError>
+pub fn write_time(out: &mut Vec<u8>, time: u32) -> Result<(), AllocError>
     ensures { OnOk result (out.new.items ≡ out.old.items ++ ten_digits time) }
 {
-    let digits = time.to_string(alloc)?;
-    out.extend_from_slice(&ZEROS[..ZEROS.len().saturating_sub(digits.len())])?;
-    out.extend_from_slice(digits.as_bytes())?;
-    Ok(())
+    out.extend_from_slice(&ten_digits(time))
 }
 
 /// A byte as a space and two digits.

@@ -133,8 +133,7 @@ impl Held {
         Ok(())
     }
 
-    /// Runs a bus at its next due moment if that isn't after the last one, and takes what is told. Answers whether
-    /// it isn't.
+    /// Runs a bus at its next due moment, and takes what is told. Answers whether that isn't after the last one.
     fn run_turn<P: Parts>(
         &mut self,
         bus: &mut BusState,
@@ -187,8 +186,7 @@ impl Held {
         self.look_at_all(last, &bus, parts)
     }
 
-    /// What nodes hold in a run of a project's network to its horizon: each as it has just been configured, and at
-    /// the end those that are still configured.
+    /// What nodes hold in a run to the horizon: each as it has just been configured, and at the end.
     pub fn of(alloc: Global, project: &Project) -> Result<Held, AllocError> {
         let mut parts = ProjectParts::new(alloc, project)?;
         let mut held = Held::none(alloc);

@@ -1,17 +1,11 @@
 //! Runs the networks that its input lays out from due moment to due moment, and prints the runs.
 //!
-//! A line is an edit of the project, as a session takes it; or `run`, a run to the horizon; or `reads`, such a run and
-//! what it reads; or `held`, such a run and what nodes hold of what was written to them, where lines `marked` before it
-//! say which entries are marked; or `diag`, all that is wrong; or `ask` or `answer` and a query, which a workbench
-//! answers; or `store` and a capacity, for a store of segments, and `stored`, a trace over it, with the most calls and
-//! segments; or `new`, for the first project.
-//! Prints each line but those of data sheets, and of a run the number of its turns and of the lines that it told,
-//! whether a copy of the bus that was taken halfway was equal then, was left behind by the rest, and came to the same,
-//! and the first moments; of what is read the number of calls that asked, of readings and of names, and the names; of
-//! what nodes hold, as each has just been configured and at the end, each entry that their writes name, whether it is
-//! as the last write gave it, and whether it is marked; the line of each diagnostic; of what is asked the numbers of
-//! segments run and of parts made anew so far; an answer, or that there was no memory for it; and of a trace over a
-//! store its lines, and that it asked for parts and ran segments at most so often, or how often.
+//! A line is an edit, as a session takes it; `run`, a run to the horizon; `reads`, such a run and what it reads;
+//! `held`, such a run and what nodes hold, by the lines `marked` before it; `diag`; `ask` or `answer` and a query;
+//! `store` and a capacity; `stored`, a trace over that store, with the most calls and segments; or `new`.
+//! Prints each line but those of data sheets; of a run the numbers of its turns and lines, how a copy did that was
+//! taken halfway, and the first moments; what is read; what nodes hold, whether as written, and whether marked;
+//! diagnostics; the segments run and parts made anew so far; an answer, or that memory lacked; a stored trace.
 #![tactic(auto)]
 
 mod block;
@@ -26,6 +20,7 @@ mod stored;
 mod wrong;
 
 use anyhow::Result;
+use co_text::split_once;
 use held::Held;
 use layout::Layout;
 use record::read_project;
@@ -60,10 +55,18 @@ fn show_work<W: Write>(out: &mut W, layout: &mut Layout, query: &str) -> Result<
     Ok(())
 }
 
+/// The lines of a reply, behind the one that tells their number.
+fn lines_of(reply: &[u8]) -> &[u8] {
+    match split_once(reply, b'\n') {
+        Some((_head, lines)) => lines,
+        None => reply,
+    }
+}
+
 /// Asks a query, and shows the answer.
 fn show_answer<W: Write>(out: &mut W, layout: &mut Layout, query: &str) -> Result<()> {
     match layout.answer(query)? {
-        Some(text) => out.write_all(text.as_slice())?,
+        Some(answer) => out.write_all(lines_of(answer.reply()))?,
         None => out.write_all(b"no memory\n")?,
     }
     Ok(())

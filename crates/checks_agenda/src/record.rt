@@ -11,8 +11,7 @@ use std::io::Write;
 /// The most turns of a run.
 const MOST: u32 = 1_000_000;
 
-/// The names that a run read, in order, the number of calls that asked, and whether the bus was a blank one before the
-/// power-on and after it.
+/// The names that a run read, in order, how many calls asked, and whether the bus was blank before and after power-on.
 #[derive(Drop)]
 pub struct Record {
     names: Vec<Part>,

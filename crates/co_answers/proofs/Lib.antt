@@ -1,3 +1,2 @@
-pub mod Hexes
 pub mod Plans
 pub mod KeptFiles

@@ -1,3 +1,3 @@
-pub mod Hex
 pub mod Bench
 pub mod Queries
+pub mod Texts

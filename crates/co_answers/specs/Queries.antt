@@ -1,7 +1,6 @@
 -- What queries are answered. The lines of a DCF are CiA 306's, the bytes of a concise DCF are CiA 302's; how replies
 -- show them is this profile's own.
-use Rattle.std.specs.Prelude.{ℕ, List, ◌∷◌, [], ◌++◌, codes, decimal, Option, Some, None, option_map, Result, Ok, Err}
-use Rattle.co_text.specs.Lines.{line_feed, line_count}
+use Rattle.std.specs.Prelude.{ℕ, List, Option, Some, None, option_map, Result, Ok, Err}
 use Rattle.ini_text.specs.Change.{text_of}
 use Rattle.concise_dcf.specs.Concise.{text_of as concise_text}
 use Rattle.eds_dcf.specs.Dcf.{dcf_sections}
@@ -18,7 +17,7 @@ use Rattle.network_image.specs.Image.{image_of}
 use Rattle.co_diag.specs.Found.{diagnostics_of}
 use Rattle.diag_lines.specs.Lines.{diag_text}
 use Rattle.project_plan.specs.Network.{Member, member_at, writes_of}
-use Rattle.co_answers.specs.Hex.{hex_text}
+use Rattle.listed_text.specs.Hex.{hex_text}
 
 -- what is named isn't there
 abbrev pub or_unknown : {X : Type 0} → Option X → Result X EditFault
@@ -48,7 +47,3 @@ answer project (Cdcf id) = or_unknown (option_map hex_text (concise_of project i
 answer project Diag = Ok (diag_text (diagnostics_of project))
 answer project Trace = Ok (lines_text (trace_of project))
 answer project Project = Ok (script project)
-
--- how a reply shows lines, each ended by LF: `lines K`, and these K lines
-unfoldable pub lines_reply : List ℕ → List ℕ
-lines_reply text = codes "lines " ++ decimal (line_count text) ++ (line_feed ∷ []) ++ text

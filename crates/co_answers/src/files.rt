@@ -5,24 +5,24 @@ ghost use Rattle.project_plan.specs.Network.{member_at};
 ghost use Rattle.kept_image.specs.Kept.{given, held, reached, same_part, IsOf};
 ghost use Rattle.co_answers.specs.Queries.{concise_of, dcf_of};
 
-use co_memo::Meter;
+use co_memo::{Meter, Shared};
 use co_project::Project;
 use kept_image::{ImagePart, KeptImage};
 use kept_parts::Part;
-use std::alloc::{AllocError, Global};
+use listed_text::{ListedBytes, ListedText};
+use std::alloc::AllocError;
 
-/// The DCF of a node: a copy of the one that is kept, which is first brought up to date. Want of memory
-/// is the only error; what is kept is then still of the project.
+/// The DCF of a node: the one that is kept, which is first brought up to date. Want of memory is the only
+/// error; what is kept is then still of the project.
 pub(crate) fn dcf(
-    alloc: Global,
     project: &Project,
     image: &mut KeptImage,
     meter: &mut Meter,
     node: u8,
-) -> Result<Vec<u8>, AllocError>
+) -> Result<Shared<ListedText>, AllocError>
     requires is_of { IsOf project.now image.old }
     requires node { IsTrue (is_some (member_at project.now node)) }
-    ensures file { IfOk result (λ text. dcf_of project.now node ≡ Some text.items) }
+    ensures file { IfOk result (λ text. dcf_of project.now node ≡ Some text) }
     ensures brings { OnOk result (AreBrought same_part (given project.now)
         (reached project.now (ImagePart.Kept (Part.Dcf node)))
         (held image.old) (held image.new) meter.old meter.new) }
@@ -32,22 +32,21 @@ pub(crate) fn dcf(
     let Some(kept) = image.dcf(node) else {
         unreachable!()
     };
-    let text = Vec::from_slice(alloc, kept.get().as_slice())?;
+    let text = kept.share()?;
     Ok(text)
 }
 
-/// The concise DCF of a node: a copy of the one that is kept, which is first brought up to date. Want of
-/// memory is the only error; what is kept is then still of the project.
+/// The concise DCF of a node: the one that is kept, which is first brought up to date. Want of memory is
+/// the only error; what is kept is then still of the project.
 pub(crate) fn concise(
-    alloc: Global,
     project: &Project,
     image: &mut KeptImage,
     meter: &mut Meter,
     node: u8,
-) -> Result<Vec<u8>, AllocError>
+) -> Result<Shared<ListedBytes>, AllocError>
     requires is_of { IsOf project.now image.old }
     requires node { IsTrue (is_some (member_at project.now node)) }
-    ensures file { IfOk result (λ bytes. concise_of project.now node ≡ Some bytes.items) }
+    ensures file { IfOk result (λ bytes. concise_of project.now node ≡ Some bytes) }
     ensures brings { OnOk result (AreBrought same_part (given project.now)
         (reached project.now (ImagePart.Kept (Part.Concise node)))
         (held image.old) (held image.new) meter.old meter.new) }
@@ -57,6 +56,6 @@ pub(crate) fn concise(
     let Some(kept) = image.concise(node) else {
         unreachable!()
     };
-    let bytes = Vec::from_slice(alloc, kept.get().as_slice())?;
+    let bytes = kept.share()?;
     Ok(bytes)
 }

@@ -1,8 +1,8 @@
 //! A project with what is kept of it, and its answers to queries.
 #![tactic(auto)]
 
+mod answers;
 mod files;
-mod hex;
 pub mod laws;
 mod planning;
 mod queries;
@@ -10,7 +10,7 @@ mod tracing;
 mod work;
 mod workbench;
 
-pub use hex::hex_text;
-pub use queries::{answer, shown};
+pub use answers::Answer;
+pub use queries::answer;
 pub use work::Work;
 pub use workbench::Workbench;

@@ -1,47 +1,58 @@
 //! The answers to queries.
 ghost use Rattle.std.specs.Prelude.{◌≡◌, IfOk};
+ghost use Rattle.can_bus.specs.Lines.{lines_text};
 ghost use Rattle.co_base.specs.Gives.{Gives};
 ghost use Rattle.co_edits.specs.Faults.{is_memory};
-ghost use Rattle.co_answers.specs.Queries.{answer, lines_reply};
+ghost use Rattle.co_answers.specs.Queries.{answer, trace_of};
+ghost use Rattle.co_answers.specs.Texts.{text_of};
 
-use crate::hex::hex_text;
+use crate::answers::Answer;
 use crate::workbench::Workbench;
 use co_commands::Query;
 use co_project::EditFault;
-use co_text::line_count;
+use listed_text::ListedText;
 use std::alloc::{AllocError, Global};
 
 /// The answer to a query, of the project as it is now.
-pub fn answer(alloc: Global, workbench: &mut Workbench, query: Query) -> Result<Vec<u8>, EditFault>
-    ensures answer { Gives is_memory (λ v. v.items) result (answer workbench.old.project query) }
+///
+/// A file and diagnostics are shared with what is kept: where no edit came since, they take no memory, and
+/// no time by their lines. The text of a trace and of a script is made anew, and copied once.
+pub fn answer(alloc: Global, workbench: &mut Workbench, query: Query) -> Result<Answer, EditFault>
+    ensures answer { Gives is_memory text_of result (answer workbench.old.project query) }
     ensures same { workbench.new.project ≡ workbench.old.project }
 {
     match query {
-        Query::Dcf(id) => workbench.dcf(id),
+        Query::Dcf(id) => {
+            let file = workbench.listed_dcf(id)?;
+            Ok(Answer::File(file))
+        }
         Query::Cdcf(id) => {
-            let bytes = workbench.concise(id)?;
-            Ok(hex_text(alloc, &bytes)?)
+            let file = workbench.listed_concise(id)?;
+            Ok(Answer::Concise(file))
         }
         Query::Diag => {
             let found = workbench.diagnostics()?;
-            Ok(Vec::from_slice(alloc, found.get().text())?)
+            Ok(Answer::Diagnostics(found))
         }
         Query::Trace => {
-            let lines = workbench.trace()?;
-            Ok(can_bus::text(alloc, &lines)?)
+            let text = trace_text(alloc, workbench)?;
+            let lines = ListedText::new(alloc, &text)?;
+            Ok(Answer::Made(lines))
         }
-        Query::Project => Ok(workbench.script()?),
+        Query::Project => {
+            let text = workbench.script()?;
+            let lines = ListedText::new(alloc, &text)?;
+            Ok(Answer::Made(lines))
+        }
     }
 }
 
-/// `lines K`, and the K lines of the text.
-#[tactic(auto, unfolding(crate::specs::Queries::lines_reply))]
-pub fn shown(alloc: Global, text: &[u8]) -> Result<Vec<u8>, AllocError>
-    ensures { IfOk result (λ v. v.items ≡ lines_reply text.now) }
+/// The lines of the trace.
+fn trace_text(alloc: Global, workbench: &mut Workbench) -> Result<Vec<u8>, AllocError>
+    ensures text { IfOk result (λ text. text.items ≡ lines_text (trace_of workbench.old.project)) }
+    ensures same { workbench.new.project ≡ workbench.old.project }
 {
-    let count = line_count(text);
-    let head = format!(in alloc; "lines {count}\n")?;
-    let mut out = Vec::from_slice(alloc, head.as_bytes())?;
-    out.extend_from_slice(text)?;
-    Ok(out)
+    let lines = workbench.trace()?;
+    let text = can_bus::text(alloc, &lines)?;
+    Ok(text)
 }

@@ -24,6 +24,7 @@ use co_segments::Store;
 use kept_diagnostics::{Diagnostics, KeptDiagnostics};
 use kept_image::{ImagePart, KeptImage};
 use kept_parts::Part;
+use listed_text::{ListedBytes, ListedText};
 use project_script::script_text;
 use std::alloc::{AllocError, Global};
 use std::marker::Model;
@@ -38,7 +39,7 @@ const CAPACITY: usize = 2048;
 /// and identity, and the events by windows; the diagnostics; and the segments of traces; each with what it
 /// was built from or read. An edit marks what it may
 /// leave with other inputs; a query looks at what it is built from, in its order, and makes anew what has
-/// other inputs than it was built from, and no more. A file that is kept as it is now is copied.
+/// other inputs than it was built from, and no more. A file that is kept as it is now is shared, or copied.
 #[derive(Drop)]
 pub struct Workbench {
     alloc: Global,
@@ -127,12 +128,14 @@ impl Workbench {
         self.project.keeps_to_rules();
     }
 
-    /// The device configuration file (CiA 306) of a node, of the project as it is now.
+    /// The device configuration file (CiA 306) of a node, of the project as it is now, with the reply that
+    /// shows it. It is shared with what is kept: where no edit came since, that takes no memory, and no
+    /// time by its length.
     ///
     /// Unknown: the number isn't a node's. Memory can come in place of the file.
     #[tactic(auto, unfolding(crate::specs::Queries::dcf_of, project_plan::specs::Network::member_at))]
-    pub fn dcf(&mut self, node: u8) -> Result<Vec<u8>, EditFault>
-        ensures file { Gives is_memory (λ v. v.items) result (or_unknown (dcf_of self.old.project node)) }
+    pub fn listed_dcf(&mut self, node: u8) -> Result<Shared<ListedText>, EditFault>
+        ensures file { Gives is_memory (λ text. text) result (or_unknown (dcf_of self.old.project node)) }
         ensures brings { OnOk result (Brings (reached self.old.project (ImagePart.Kept (Part.Dcf node)))
             self.old self.new) }
         ensures unknown { IsErrOf result EditFault.Unknown ↔ (node_at self.old.project.nodes node ≡ None) }
@@ -144,23 +147,36 @@ impl Workbench {
         if self.project.node(node).is_none() {
             return Err(EditFault::Unknown);
         }
-        let text = dcf(
-            self.alloc,
-            &self.project,
-            &mut self.image,
-            &mut self.meter,
-            node,
-        )?;
+        let text = dcf(&self.project, &mut self.image, &mut self.meter, node)?;
         Ok(text)
     }
 
-    /// The bytes of the concise device configuration file (CiA 302) of a node, of the project as it
-    /// is now.
+    /// The device configuration file (CiA 306) of a node, of the project as it is now: a copy.
+    ///
+    /// Unknown: the number isn't a node's. Memory can come in place of the file.
+    pub fn dcf(&mut self, node: u8) -> Result<Vec<u8>, EditFault>
+        ensures file { Gives is_memory (λ v. v.items) result (or_unknown (dcf_of self.old.project node)) }
+        ensures brings { OnOk result (Brings (reached self.old.project (ImagePart.Kept (Part.Dcf node)))
+            self.old self.new) }
+        ensures unknown { IsErrOf result EditFault.Unknown ↔ (node_at self.old.project.nodes node ≡ None) }
+
+        // Then nothing is looked at.
+        ensures unlooked { IsErrOf result EditFault.Unknown → self.new ≡ self.old }
+        ensures same { self.new.project ≡ self.old.project }
+    {
+        let file = self.listed_dcf(node)?;
+        let text = Vec::from_slice(self.alloc, file.get().text())?;
+        Ok(text)
+    }
+
+    /// The bytes of the concise device configuration file (CiA 302) of a node, of the project as it is now,
+    /// with the reply that shows them. They are shared with what is kept: where no edit came since, that
+    /// takes no memory, and no time by their number.
     ///
     /// Unknown: the number isn't a node's. Memory can come in place of the file.
     #[tactic(auto, unfolding(crate::specs::Queries::concise_of, project_plan::specs::Network::member_at))]
-    pub fn concise(&mut self, node: u8) -> Result<Vec<u8>, EditFault>
-        ensures file { Gives is_memory (λ v. v.items) result (or_unknown (concise_of self.old.project node)) }
+    pub fn listed_concise(&mut self, node: u8) -> Result<Shared<ListedBytes>, EditFault>
+        ensures file { Gives is_memory (λ bytes. bytes) result (or_unknown (concise_of self.old.project node)) }
         ensures brings { OnOk result (Brings (reached self.old.project (ImagePart.Kept (Part.Concise node)))
             self.old self.new) }
         ensures unknown { IsErrOf result EditFault.Unknown ↔ (node_at self.old.project.nodes node ≡ None) }
@@ -172,13 +188,26 @@ impl Workbench {
         if self.project.node(node).is_none() {
             return Err(EditFault::Unknown);
         }
-        let bytes = concise(
-            self.alloc,
-            &self.project,
-            &mut self.image,
-            &mut self.meter,
-            node,
-        )?;
+        let bytes = concise(&self.project, &mut self.image, &mut self.meter, node)?;
+        Ok(bytes)
+    }
+
+    /// The bytes of the concise device configuration file (CiA 302) of a node, of the project as it
+    /// is now: a copy.
+    ///
+    /// Unknown: the number isn't a node's. Memory can come in place of the file.
+    pub fn concise(&mut self, node: u8) -> Result<Vec<u8>, EditFault>
+        ensures file { Gives is_memory (λ v. v.items) result (or_unknown (concise_of self.old.project node)) }
+        ensures brings { OnOk result (Brings (reached self.old.project (ImagePart.Kept (Part.Concise node)))
+            self.old self.new) }
+        ensures unknown { IsErrOf result EditFault.Unknown ↔ (node_at self.old.project.nodes node ≡ None) }
+
+        // Then nothing is looked at.
+        ensures unlooked { IsErrOf result EditFault.Unknown → self.new ≡ self.old }
+        ensures same { self.new.project ≡ self.old.project }
+    {
+        let file = self.listed_concise(node)?;
+        let bytes = Vec::from_slice(self.alloc, file.get().bytes())?;
         Ok(bytes)
     }
 

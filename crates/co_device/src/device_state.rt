@@ -142,6 +142,14 @@ impl DeviceState {
             && self.heartbeat == other.heartbeat
     }
 
+    /// Whether the other device may be the same: a quick look ahead of `same`, which passes over lists, transfer
+    /// and waiting frames, and most of the values.
+    pub fn may_be(&self, other: &DeviceState) -> bool
+        ensures { self.now ≡ other.now → IsTrue result }
+    {
+        self.is_like(other) && self.values.may_be(&other.values)
+    }
+
     /// Whether the other device is the same.
     pub fn same(&self, other: &DeviceState) -> bool
         ensures { IsTrue result ↔ (self.now ≡ other.now) }

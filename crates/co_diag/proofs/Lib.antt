@@ -15,3 +15,4 @@ pub mod KeptLemmas
 pub mod CountLemmas
 pub mod ConsumerWalk
 pub mod SetFound
+pub mod DoubtLemmas

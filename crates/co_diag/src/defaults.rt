@@ -1,32 +1,18 @@
 //! The unreadable defaults of the devices of nodes, put at the end of what was found.
-ghost use Rattle.std.specs.Prelude.{◌≡◌, ◌++◌, OnOk, IfOk, filter_map, is_some};
+ghost use Rattle.std.specs.Prelude.{◌≡◌, ◌++◌, OnOk, IfOk, IfSome, filter_map};
 ghost use Rattle.std.specs.List.{flat_map};
-ghost use Rattle.eds_device.specs.Places.{pairs_of};
 ghost use Rattle.co_diag.specs.Devices.{AreAllRead, of_node};
-ghost use Rattle.co_diag.specs.Found.{spells_none, unreadable_default, unreadable_defaults};
+ghost use Rattle.co_diag.specs.Found.{unreadable_default, unreadable_defaults};
+ghost use Rattle.configured_nodes.specs.Doubtful.{AreDoubts};
 ghost use Rattle.configured_nodes.specs.Values.{member_of, members};
 
 use crate::devices::device_of;
-use co_dict::Entry;
 use co_project::Node;
-use co_values::value_of;
+use configured_nodes::{Doubts, doubts_of, spells_none};
 use diag_lines::{Code, Diag, Subject};
 use eds_device::Device;
 use project_plan::Library;
 use std::alloc::{AllocError, Global};
-
-/// Whether an entry is of a modelled type and a text spells none of its values.
-fn spells_none(alloc: Global, id: u8, text: &[u8], entry: &Entry) -> Result<bool, AllocError>
-    ensures { IfOk result (λ none. none ≡ is_some (spells_none id text.now entry.now)) }
-{
-    if !entry.kind.is_modelled() {
-        return Ok(false);
-    }
-    match value_of(alloc, entry.kind, text, id)? {
-        Some(_value) => Ok(false),
-        None => Ok(true),
-    }
-}
 
 /// What is said of the default of an entry.
 #[tactic(auto, unfolding(crate::specs::Found::unreadable_default))]
@@ -44,10 +30,7 @@ fn unreadable_default(
     let Some(text) = device.default_text(index, sub) else {
         return Ok(None);
     };
-    let Some(entry) = device.entry(id, index, sub) else {
-        return Ok(None);
-    };
-    if !spells_none(alloc, id, text, &entry)? {
+    if !spells_none(alloc, id, text, device.kind(index, sub))? {
         return Ok(None);
     }
     Ok(Some(Diag {
@@ -56,45 +39,53 @@ fn unreadable_default(
     }))
 }
 
-/// Finds the unreadable defaults of a node's device.
-#[tactic(auto, unfolding(crate::specs::Found::unreadable_defaults))]
-fn find_in_device(
+/// Finds those at places of a node's device.
+fn find_at(
     found: &mut Vec<Diag>,
     alloc: Global,
     id: u8,
     node: &Node,
     device: &Device,
+    places: &[(u16, u8)],
 ) -> Result<(), AllocError>
     ensures { OnOk result (found.new.items ≡ found.old.items
-        ++ unreadable_defaults (member_of id node.now device.now)) }
+        ++ filter_map (unreadable_default (member_of id node.now device.now)) places.now) }
 {
-    for (index, sub) in device.pairs() {
-        if let Some(diag) = unreadable_default(alloc, id, node, device, *index, *sub)? {
+    for place in places {
+        if let Some(diag) = unreadable_default(alloc, id, node, device, place.0, place.1)? {
             found.push(diag)?;
         }
     }
     Ok(())
 }
 
-/// Finds those of a node.
+/// Finds those of a node, by the doubtful places of the EDS that was looked at last. Returns those of its own.
 fn find_of_node(
     found: &mut Vec<Diag>,
     alloc: Global,
     library: &Library<'_>,
+    last: Option<Doubts>,
     id: u8,
     node: &Node,
-) -> Result<(), AllocError>
-    requires { AreAllRead library.now }
-    ensures { OnOk result (found.new.items ≡ found.old.items
+) -> Result<Option<Doubts>, AllocError>
+    requires read { AreAllRead library.now }
+    requires last { IfSome last (AreDoubts library.now.project.texts) }
+    ensures found { OnOk result (found.new.items ≡ found.old.items
         ++ of_node unreadable_defaults library.now.project (id, node.now)) }
+    ensures last { IfOk result (λ last. IfSome last (AreDoubts library.now.project.texts)) }
 {
     match device_of(library, node.eds.as_slice()) {
-        Some(device) => find_in_device(found, alloc, id, node, device),
-        None => Ok(()),
+        Some(device) => {
+            let doubts = doubts_of(alloc, library.project(), node.eds.as_slice(), device, last)?;
+            find_at(found, alloc, id, node, device, &doubts.places)?;
+            Ok(Some(doubts))
+        }
+        None => Ok(last),
     }
 }
 
-/// Finds the unreadable defaults of all nodes.
+/// Finds the unreadable defaults of all nodes. Each default is looked at once for all nodes that follow one another
+/// with its EDS, and at each of them only where it may spell no value at some node.
 pub(crate) fn find_unreadable_defaults(
     found: &mut Vec<Diag>,
     alloc: Global,
@@ -104,8 +95,9 @@ pub(crate) fn find_unreadable_defaults(
     ensures { OnOk result (found.new.items ≡ found.old.items
         ++ flat_map unreadable_defaults (members library.now.project)) }
 {
+    let mut last = None;
     for (id, node) in library.project().nodes() {
-        find_of_node(found, alloc, library, *id, node)?;
+        last = find_of_node(found, alloc, library, last, *id, node)?;
     }
     Ok(())
 }

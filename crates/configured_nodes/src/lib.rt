@@ -1,6 +1,11 @@
-//! The values of a node's entries once it is configured: its defaults, and over them each of its writes.
+//! The values of a node's entries once it is configured: its defaults, and over them each of its writes; and which
+//! defaults may spell no value at some node.
 #![tactic(auto)]
 
 mod configured;
+mod doubtful_defaults;
+mod doubts;
 
 pub use configured::{configured_values, unsigned_8, unsigned_16, unsigned_32};
+pub use doubtful_defaults::{doubtful_places, spells_none};
+pub use doubts::{Doubts, doubts_of};

@@ -173,6 +173,13 @@ impl ScheduledDevice {
         })
     }
 
+    /// Whether the other device may be the same: a quick look ahead of `same`.
+    pub fn may_be(&self, other: &ScheduledDevice) -> bool
+        ensures { self.now ≡ other.now → IsTrue result }
+    {
+        self.device.may_be(&other.device)
+    }
+
     /// Whether the other device is the same.
     pub fn same(&self, other: &ScheduledDevice) -> bool
         ensures { IsTrue result ↔ (self.now ≡ other.now) }

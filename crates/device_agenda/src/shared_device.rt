@@ -123,6 +123,13 @@ impl SharedDevice {
         Ok(SharedDevice { device })
     }
 
+    /// Whether the other device may be the same: a quick look ahead of `same`.
+    pub fn may_be(&self, other: &SharedDevice) -> bool
+        ensures { self.now ≡ other.now → IsTrue result }
+    {
+        self.device.may_be(&other.device)
+    }
+
     /// Whether the other device is the same.
     pub fn same(&self, other: &SharedDevice) -> bool
         ensures { IsTrue result ↔ (self.now ≡ other.now) }

@@ -11,10 +11,14 @@ ghost use Rattle.co_values.specs.Values.{longest_value};
 
 use crate::held::Held;
 use crate::layer::Layer;
-use crate::places::{agree_on, has_each, write_each};
+use crate::places::{agree_above, agree_on, has_each, write_each};
 use co_values::{number_8, number_16, number_32, number_64};
 use std::alloc::{AllocError, Global};
 use std::marker::Model;
+
+/// The first index behind the communication profile (CiA 301), whose objects rarely change once a device is
+/// configured.
+const APPLICATION: u16 = 0x2000;
 
 /// The values that the entries of a device hold, by index and sub.
 ///
@@ -172,6 +176,26 @@ impl Dict {
             return true;
         }
         self.agrees_on_both(other, &self.base, &other.base)
+    }
+
+    /// Whether the other dictionary has the same at each place of a layer that is behind the communication
+    /// profile.
+    fn agrees_above(&self, other: &Dict, places: &Layer) -> bool
+        ensures { self.now ≡ other.now → IsTrue result }
+    {
+        match places.table() {
+            None => true,
+            Some(table) => agree_above(self, other, APPLICATION, table),
+        }
+    }
+
+    /// Whether the other dictionary may be the same: a quick look ahead of `same`, at what lies behind the
+    /// communication profile and was written since a copy was made. Takes time by the number of these
+    /// entries, up to the first that differs.
+    pub fn may_be(&self, other: &Dict) -> bool
+        ensures { self.now ≡ other.now → IsTrue result }
+    {
+        self.agrees_above(other, &self.own)
     }
 
     /// Whether the other dictionary has the same entries with the same values. Takes time by the number of

@@ -42,6 +42,19 @@ pub(crate) fn agree_on(a: &Dict, b: &Dict, places: &Table) -> bool
     true
 }
 
+/// Whether two dictionaries have the same at each place of a table whose index is `first` or above. Said
+/// of equal ones always.
+pub(crate) fn agree_above(a: &Dict, b: &Dict, first: u16, places: &Table) -> bool
+    ensures { a.now ≡ b.now → IsTrue result }
+{
+    for (place, _value) in places.held.iter() {
+        if place.0 >= first && !agree_at(a, b, *place) {
+            return false;
+        }
+    }
+    true
+}
+
 /// Whether a place has a value, if its index isn't from `first` to `last`.
 fn has_at(dict: &Dict, first: u16, last: u16, place: (u16, u8)) -> bool
     ensures { IsTrue result → is_kept first last false place.0 ≡ true → IsSome (map.get dict.now place) }

@@ -1,16 +1,18 @@
-//! Diagnostics with their lines.
+//! Diagnostics with their lines and the reply that shows these.
 ghost use Rattle.std.specs.Prelude.{◌≡◌, IfOk};
 ghost use Rattle.diag_lines.specs.Lines.{diag_text};
+ghost use Rattle.listed_text.specs.Replies.{lines_reply};
 
 use diag_lines::Diag;
+use listed_text::ListedText;
 use std::alloc::{AllocError, Global};
 use std::marker::Model;
 
-/// Diagnostics with their lines. Contracts see the list of diagnostics.
+/// Diagnostics with their lines and the reply that shows these. Contracts see the list of diagnostics.
 #[derive(Drop)]
 pub struct Diagnostics {
     list: Vec<Diag>,
-    text: Vec<u8>,
+    lines: ListedText,
 }
 
 impl Model for Diagnostics {
@@ -22,17 +24,18 @@ impl Model for Diagnostics {
 
     ghost view = { λ d. d.list.items };
 
-    ghost invariant = { λ d. d.text.items ≡ diag_text d.list.items };
+    ghost invariant = { λ d. d.lines ≡ diag_text d.list.items };
 }
 
 impl Diagnostics {
-    /// These diagnostics, with their lines. Takes time and memory by the length of the lines; want of
-    /// memory is the only error.
+    /// These diagnostics, with their lines and the reply that shows these. Takes time and memory by the
+    /// length of the lines; want of memory is the only error.
     pub fn new(alloc: Global, list: Vec<Diag>) -> Result<Diagnostics, AllocError>
         ensures { IfOk result (λ d. d ≡ list.items) }
     {
         let text = diag_lines::text(alloc, &list)?;
-        Ok(Diagnostics { list, text })
+        let lines = ListedText::new(alloc, &text)?;
+        Ok(Diagnostics { list, lines })
     }
 
     /// The diagnostics in their order. Takes constant time.
@@ -46,6 +49,13 @@ impl Diagnostics {
     pub fn text(&self) -> &[u8]
         ensures { result.now ≡ diag_text self.now }
     {
-        &self.text
+        self.lines.text()
+    }
+
+    /// `lines K`, and the K lines. Takes constant time: they were made with the list.
+    pub fn reply(&self) -> &[u8]
+        ensures { result.now ≡ lines_reply (diag_text self.now) }
+    {
+        self.lines.reply()
     }
 }

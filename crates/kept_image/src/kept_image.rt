@@ -13,13 +13,13 @@ use crate::device_at::DeviceAt;
 use crate::image_part::ImagePart;
 use crate::roster_from::RosterFrom;
 use crate::window_shelf::WindowShelf;
-use co_base::Octets;
 use co_dict::{Dict, Shape};
 use co_memo::{Memo, Meter, Shared, Shelf};
 use co_parts::{Identity, Roster};
 use co_project::Project;
 use eds_device::Device;
 use kept_parts::{KeptParts, Part};
+use listed_text::{ListedBytes, ListedText};
 use network_image::NetworkParts;
 use pdo_plan::Plan;
 use std::alloc::{AllocError, Global};
@@ -139,15 +139,15 @@ impl KeptImage {
         self.parts.plan()
     }
 
-    /// The concise DCF (CiA 302) of a node that is kept.
-    pub fn concise(&self, node: u8) -> Option<&Shared<Octets>>
+    /// The concise DCF (CiA 302) of a node that is kept, with the reply that shows it.
+    pub fn concise(&self, node: u8) -> Option<&Shared<ListedBytes>>
         ensures { option_copied result ≡ option_map concise_made (kept_at self.now.parts.concise node) }
     {
         self.parts.concise(node)
     }
 
-    /// The DCF (CiA 306) of a node that is kept.
-    pub fn dcf(&self, node: u8) -> Option<&Shared<Octets>>
+    /// The DCF (CiA 306) of a node that is kept, with the reply that shows it.
+    pub fn dcf(&self, node: u8) -> Option<&Shared<ListedText>>
         ensures { option_copied result ≡ option_map dcf_made (kept_at self.now.parts.dcf node) }
     {
         self.parts.dcf(node)

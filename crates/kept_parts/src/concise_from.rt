@@ -1,7 +1,7 @@
 //! What the concise DCF of a node is built from.
 
-use co_base::Octets;
 use co_memo::{Makes, Shared};
+use listed_text::ListedBytes;
 use project_plan::NodeWrites;
 
 /// The writes of a node.
@@ -11,7 +11,7 @@ pub struct ConciseFrom {
     pub writes: Shared<NodeWrites>,
 }
 
-impl Makes<Shared<Octets>> for ConciseFrom {
+impl Makes<Shared<ListedBytes>> for ConciseFrom {
     ghost use Rattle.kept_parts.specs.Made.{concise_made};
 
     ghost made = { concise_made };

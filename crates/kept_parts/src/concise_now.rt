@@ -4,9 +4,9 @@ ghost use Rattle.kept_parts.specs.Offered.{concise_by, offered_concise};
 
 use crate::concise_from::ConciseFrom;
 use crate::device_writes::DeviceWrites;
-use co_base::Octets;
 use co_memo::{Offers, Shared};
 use concise_dcf::{encode, same_writes};
+use listed_text::ListedBytes;
 use project_plan::NodeWrites;
 use std::alloc::{AllocError, Global};
 
@@ -28,7 +28,7 @@ impl ConciseNow {
     }
 }
 
-impl Offers<ConciseFrom, Shared<Octets>> for ConciseNow {
+impl Offers<ConciseFrom, Shared<ListedBytes>> for ConciseNow {
     ghost offered = { λ o. record { writes = o.writes } };
 
     fn same(&self, kept: &ConciseFrom) -> bool {
@@ -41,8 +41,9 @@ impl Offers<ConciseFrom, Shared<Octets>> for ConciseNow {
     }
 
     #[tactic(auto, unfolding(crate::specs::Made::concise_made))]
-    fn make(&self, alloc: Global) -> Result<Shared<Octets>, AllocError> {
+    fn make(&self, alloc: Global) -> Result<Shared<ListedBytes>, AllocError> {
         let bytes = encode(alloc, self.writes.get().as_slice())?;
-        Shared::new(alloc, Octets::from_vec(bytes))
+        let listed = ListedBytes::new(alloc, bytes)?;
+        Shared::new(alloc, listed)
     }
 }

@@ -3,6 +3,7 @@
 use co_base::Octets;
 use co_memo::{Makes, Shared};
 use eds_device::Device;
+use listed_text::ListedText;
 use project_plan::NodeWrites;
 
 /// The device, the name, the writes and the number of a node, and the bit rate in kbit/s.
@@ -20,7 +21,7 @@ pub struct DcfFrom {
     pub node: u8,
 }
 
-impl Makes<Shared<Octets>> for DcfFrom {
+impl Makes<Shared<ListedText>> for DcfFrom {
     ghost use Rattle.kept_parts.specs.Made.{dcf_made};
 
     ghost made = { dcf_made };

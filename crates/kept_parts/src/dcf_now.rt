@@ -10,6 +10,7 @@ use co_base::Octets;
 use co_memo::{Offers, Shared};
 use co_project::Project;
 use concise_dcf::same_writes;
+use listed_text::ListedText;
 use std::alloc::{AllocError, Global};
 
 /// The writes of a node with its device, its name and its number, and the bit rate in kbit/s.
@@ -38,7 +39,7 @@ impl<'a> DcfNow<'a> {
     }
 }
 
-impl<'a> Offers<DcfFrom, Shared<Octets>> for DcfNow<'a> {
+impl<'a> Offers<DcfFrom, Shared<ListedText>> for DcfNow<'a> {
     ghost use Rattle.kept_parts.specs.Offered.{offered_dcf};
 
     ghost offered = { offered_dcf };
@@ -69,9 +70,10 @@ impl<'a> Offers<DcfFrom, Shared<Octets>> for DcfNow<'a> {
     }
 
     #[tactic(auto, unfolding(crate::specs::Made::dcf_made))]
-    fn make(&self, alloc: Global) -> Result<Shared<Octets>, AllocError> {
+    fn make(&self, alloc: Global) -> Result<Shared<ListedText>, AllocError> {
         let name = self.name.as_slice();
         let text = self.written.dcf_text(alloc, self.node, name, self.rate)?;
-        Shared::new(alloc, Octets::from_vec(text))
+        let listed = ListedText::new(alloc, &text)?;
+        Shared::new(alloc, listed)
     }
 }

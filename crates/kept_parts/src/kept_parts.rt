@@ -14,11 +14,11 @@ use crate::device_writes::DeviceWrites;
 use crate::part::Part;
 use crate::plan_from::PlanFrom;
 use crate::writes_from::WritesFrom;
-use co_base::Octets;
 use co_memo::{Memo, Meter, Shared, Shelf};
 use co_project::Project;
 use eds_device::Device;
 use kept_devices::DeviceShelf;
+use listed_text::{ListedBytes, ListedText};
 use pdo_plan::Plan;
 use project_plan::NodeWrites;
 use std::alloc::{AllocError, Global};
@@ -31,8 +31,8 @@ pub struct KeptParts {
     pub(crate) devices: DeviceShelf,
     pub(crate) plan: Memo<PlanFrom, Shared<Plan>>,
     pub(crate) writes: Shelf<WritesFrom, DeviceWrites>,
-    pub(crate) concise: Shelf<ConciseFrom, Shared<Octets>>,
-    pub(crate) dcf: Shelf<DcfFrom, Shared<Octets>>,
+    pub(crate) concise: Shelf<ConciseFrom, Shared<ListedBytes>>,
+    pub(crate) dcf: Shelf<DcfFrom, Shared<ListedText>>,
 }
 
 impl KeptParts {
@@ -100,15 +100,15 @@ impl KeptParts {
         }
     }
 
-    /// The concise DCF (CiA 302) of a node that is kept.
-    pub fn concise(&self, node: u8) -> Option<&Shared<Octets>>
+    /// The concise DCF (CiA 302) of a node that is kept, with the reply that shows it.
+    pub fn concise(&self, node: u8) -> Option<&Shared<ListedBytes>>
         ensures { option_copied result ≡ option_map concise_made (kept_at self.now.concise node) }
     {
         self.concise.value(node)
     }
 
-    /// The DCF (CiA 306) of a node that is kept.
-    pub fn dcf(&self, node: u8) -> Option<&Shared<Octets>>
+    /// The DCF (CiA 306) of a node that is kept, with the reply that shows it.
+    pub fn dcf(&self, node: u8) -> Option<&Shared<ListedText>>
         ensures { option_copied result ≡ option_map dcf_made (kept_at self.now.dcf node) }
     {
         self.dcf.value(node)

@@ -5,6 +5,8 @@ use Rattle.co_edits.specs.declared.fault.EditFault.TheVariants.{Memory}
 use Rattle.co_edits.specs.Eds.{block_lines}
 use Rattle.co_edits.specs.Faults.{refusal_text}
 use Rattle.co_project.specs.Project.{Content}
+use Rattle.listed_text.specs.Replies.{lines_reply}
+use Rattle.co_answers.specs.Texts.{text_of}
 use Rattle.workbench.specs.declared.cursor.Cursor.{Cursor as TheCursor}
 use Rattle.workbench.specs.declared.open_block.OpenBlock.{OpenBlock as TheBlock}
 use Rattle.workbench.specs.declared.reply.Reply.{Reply}
@@ -22,7 +24,7 @@ cursor_of c = record { state = record { project = c.workbench.project; block = b
 abbrev pub replies_of : Reply → List (List ℕ)
 replies_of Nothing = []
 replies_of (Fixed text) = text.now ∷ []
-replies_of (Lines text) = text.items ∷ []
+replies_of (Lines answer) = lines_reply (text_of answer) ∷ []
 
 -- a line has ended
 abbrev pub ended_at : TheCursor → Reply → After Cursor

@@ -3,11 +3,13 @@ ghost use Rattle.std.specs.Prelude.{◌≡◌};
 ghost use Rattle.std.specs.List.{concat};
 ghost use Rattle.workbench.specs.Views.{replies_of};
 
+use co_answers::Answer;
+
 #[derive(Drop)]
 pub enum Reply {
     Nothing,
     Fixed(&'static [u8]),
-    Lines(Vec<u8>),
+    Lines(Answer),
 }
 
 impl Reply {
@@ -17,7 +19,7 @@ impl Reply {
         match self {
             Reply::Nothing => b"",
             Reply::Fixed(text) => text,
-            Reply::Lines(text) => text,
+            Reply::Lines(answer) => answer.reply(),
         }
     }
 }

@@ -9,7 +9,7 @@ ghost use Rattle.workbench.specs.Views.{taken_at, block_of, Refuses};
 
 use crate::open_block::OpenBlock;
 use crate::reply::Reply;
-use co_answers::{Workbench, answer, shown};
+use co_answers::{Workbench, answer};
 use co_base::Octets;
 use co_commands::Query;
 use co_project::{Command, EditFault, Request, refusal};
@@ -114,7 +114,7 @@ fn reply_to(alloc: Global, workbench: &mut Workbench, query: Query) -> Result<Re
         ≡ after_query workbench.old.project (answer workbench.old.project query)) }
 {
     match answer(alloc, workbench, query) {
-        Ok(text) => Ok(Reply::Lines(shown(alloc, &text)?)),
+        Ok(given) => Ok(Reply::Lines(given)),
         Err(fault) => refuse(fault),
     }
 }

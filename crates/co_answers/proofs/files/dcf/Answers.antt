@@ -12,7 +12,7 @@ unreachable-requires c =
 
 pub returns-clause-file : goal.returns-clause-file
 returns-clause-file c =
-    let same : c.in_ok-text.text.items ≡ c.in-Some.kept.now = search rules in
+    let same : c.in_ok-text.text ≡ c.in-Some.kept.now = search rules in
     sym (dcf_now c.args.project.now c.refresh.new.self.parts c.args.node
     (kept_now c.args.project.now c.refresh.new.self (part.Dcf c.args.node) c.in_ok-refresh.ensures.current))
     ∙ sym c.in-Some.ensures ∙ ap Some (sym same)

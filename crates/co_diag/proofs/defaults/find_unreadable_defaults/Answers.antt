@@ -9,14 +9,16 @@ use Rattle.co_diag.proofs.defaults.find_unreadable_defaults.Goals as goal
 pub loop-id-preserved : goal.loop-id-preserved
 loop-id-preserved c =
     let e : ℕ × Node = (c.in-Some.id.now, c.in-Some.node.now) in
-    let left : c.loop-id.id-iterator ≡ e ∷ c.next.new.self = search rules in
-    walk_on (of_node unreadable_defaults c.args.library.now.project) _ c.loop-id.found.items
-    c.find_of_node.new.found.items e c.next.new.self c.loop-id.id-iterator left
-    c.in_ok-find_of_node.ensures c.loop-id.invariant
+    let left : c.loop-id.id-iterator ≡ e ∷ c.next.new.self = search rules in (
+      walk_on (of_node unreadable_defaults c.args.library.now.project) _ c.loop-id.found.items
+          c.find_of_node.new.found.items e c.next.new.self c.loop-id.id-iterator left
+          c.in_ok-last.ensures.found c.loop-id.invariant.0,
+      c.in_ok-last.ensures.last,
+    )
 
 pub returns : goal.returns
 returns c =
     let ended : c.loop-id.id-iterator ≡ [] = search rules in
     walk_ends (of_node unreadable_defaults c.args.library.now.project) _ c.loop-id.found.items c.loop-id.id-iterator
-    ended c.loop-id.invariant
+    ended c.loop-id.invariant.0
     ∙ ap (λ (ds : List Diag). c.args.found.now.items ++ ds) (all_members unreadable_defaults c.args.library.now.project)

@@ -1,12 +1,14 @@
-use Rattle.std.proofs.Common.{◌≡◌, ◌++◌}
+use Rattle.std.proofs.Common.{◌≡◌, ◌++◌, IfSome}
 use Rattle.std.specs.FinMap.{entries}
 use Rattle.std.specs.List.{flat_map}
 use Rattle.co_diag.specs.Devices.{of_node}
+use Rattle.configured_nodes.specs.Doubtful.{AreDoubts}
 use Rattle.co_diag.specs.Found.{unreadable_defaults}
 use Rattle.co_diag.proofs.defaults.find_unreadable_defaults.Given as goal
 
--- with those of the nodes that are left they are all
+-- with those of the nodes that are left they are all, and the last doubtful entries are those of their EDS
 abbrev pub invariant-loop-id : goal.invariant-loop-id
 invariant-loop-id l =
-    l.found.items ++ flat_map (of_node unreadable_defaults l.library.project) l.id-iterator
-    ≡ l.fn.found.items ++ flat_map (of_node unreadable_defaults l.library.project) (entries l.library.project.nodes)
+    (l.found.items ++ flat_map (of_node unreadable_defaults l.library.project) l.id-iterator
+    ≡ l.fn.found.items ++ flat_map (of_node unreadable_defaults l.library.project) (entries l.library.project.nodes))
+    × IfSome l.last (AreDoubts l.library.project.texts)

@@ -1,0 +1,134 @@
+-- A default that spells a number and a value at one node spells that value at each.
+use Rattle.std.proofs.Common.{◌≡◌, ◌&&◌, ◌||◌, ℕ, pos, Bool, true, false, cond, List, [], ◌∷◌, Option, Some, None, refl}
+use Rattle.std.proofs.Common.{sym, ap, ◌∙◌, filter, filter_map}
+use Rattle.std.specs.Prelude.{ℤ, if◌then◌else◌, is_none, option_map, option_and_then}
+use Rattle.std.specs.List.{cons_option}
+use Rattle.std.specs.Option.{option_map_or, option_or}
+use Rattle.byteorder.specs.Endian.{little_bytes}
+use Rattle.ini_text.specs.Content.{Content as Device}
+use Rattle.co_values.specs.declared.data_type.DataType.{DataType}
+use Rattle.co_values.specs.declared.data_type.DataType.TheVariants.{NotModelled}
+use Rattle.co_values.specs.declared.form.Form.{Form}
+use Rattle.co_values.specs.declared.form.Form.TheVariants.{Flag, Signed, Unsigned, Characters, HexPairs, Unmodelled}
+use Rattle.co_values.specs.Number.{formula, hexadecimal, is_node_id, node_sum, number}
+use Rattle.co_values.specs.Types.{form, is_modelled, octets}
+use Rattle.co_values.specs.Values.{flag_bits, signed_bits, unsigned_bits, value, value_in}
+use Rattle.eds_device.specs.Described.{Described, default_text, description_of, kind_at}
+use Rattle.eds_device.specs.Entries.{entry_at, entry_by}
+use Rattle.co_project.specs.declared.node.Node.{Node}
+use Rattle.co_project.specs.Project.{Content}
+use Rattle.project_plan.specs.Network.{Member}
+use Rattle.diag_lines.specs.declared.code.Code.TheVariants.{Unreadable}
+use Rattle.diag_lines.specs.declared.diag.Diag.{Diag}
+use Rattle.diag_lines.specs.declared.subject.Subject.TheVariants as of
+use Rattle.configured_nodes.specs.Values.{member_of}
+use Rattle.co_diag.specs.Devices.{device_at, of_node}
+use Rattle.configured_nodes.specs.Doubtful.{doubtful_places, is_doubtful, spells_none as spells_none_of}
+use Rattle.co_diag.specs.Found.{diagnostic, spells_none, unreadable_default, unreadable_defaults}
+use Rattle.eds_device.specs.Places.{pairs_of}
+
+-- ---- a number is the same at each node
+
+number_anywhere : (text : List ℕ) (n : ℤ) → number text ≡ Some n → (node : ℕ) → formula text node ≡ Some n
+unfolding formula
+number_anywhere text n h node =
+    ap (λ (o : Option ℤ). option_or o (if is_node_id text then Some (pos node) else node_sum text node)) h
+
+same_value : (kind : DataType) (text : List ℕ) (n : ℤ) → number text ≡ Some n → (a b : ℕ)
+    → value kind text a ≡ value kind text b
+unfolding value
+same_value kind text n h a b = by (form kind)
+  where
+    same : formula text a ≡ formula text b
+    same = number_anywhere text n h a ∙ sym (number_anywhere text n h b)
+
+    by : (f : Form) → value_in f text a ≡ value_in f text b
+    by Flag = ap (λ (o : Option ℤ). option_map (little_bytes 1) (option_and_then flag_bits o)) same
+    by (Signed width) = ap (λ (o : Option ℤ). option_map (little_bytes (octets width))
+        (option_or (option_and_then (signed_bits width) o)
+        (option_and_then (unsigned_bits width) (option_map pos (hexadecimal text))))) same
+    by (Unsigned width) = ap (λ (o : Option ℤ). option_map (little_bytes (octets width))
+        (option_and_then (unsigned_bits width) o)) same
+    by Characters = refl
+    by HexPairs = refl
+    by Unmodelled = refl
+
+-- ---- what is said of a default, by the type of its entry
+
+module _ (e : ℕ × Member) where
+  abbrev pub of_place : ℕ × ℕ → Bool → Option Diag
+  of_place place none = if none then Some (diagnostic Unreadable (of.Default e.0 place.0 place.1)) else None
+
+  abbrev of_text : ℕ × ℕ → Option (List ℕ) → Option Diag
+  of_text place o = option_map (λ _. diagnostic Unreadable (of.Default e.0 place.0 place.1))
+      (option_and_then (λ text. option_and_then (spells_none e.0 text)
+      (entry_at e.1.sections e.0 place.0 place.1)) o)
+
+  pub by_kind : (place : ℕ × ℕ) (text : List ℕ) → default_text e.1.sections place.0 place.1 ≡ Some text
+      → unreadable_default e place ≡ of_place place (spells_none_of e.0 text (kind_at e.1.sections place))
+  unfolding unreadable_default entry_at kind_at
+  by_kind place text h = ap (of_text place) h ∙ by (description_of e.1.sections place.0 place.1)
+    where
+      tested : (b : Bool) → option_map (λ (u : Unit {0}). diagnostic Unreadable (of.Default e.0 place.0 place.1))
+          (if b then Some tt else None) ≡ of_place place b
+      tested true = refl
+      tested false = refl
+
+      by : (o : Option Described) → option_map (λ (u : Unit {0}). diagnostic Unreadable (of.Default e.0 place.0 place.1))
+          (option_and_then (spells_none e.0 text) (option_map (entry_by e.0) o))
+          ≡ of_place place (spells_none_of e.0 text (option_map_or (λ (d : Described). d.kind) o NotModelled))
+      by None = refl
+      by (Some d) = tested (spells_none_of e.0 text d.kind)
+
+  -- ---- nothing is said of a default that isn't doubtful
+
+  certain : (place : ℕ × ℕ) → is_doubtful e.1.sections place ≡ false → unreadable_default e place ≡ None
+  unfolding unreadable_default is_doubtful
+  certain place h = by (default_text e.1.sections place.0 place.1) refl
+    where
+      kind : DataType
+      kind = kind_at e.1.sections place
+
+      never : (b : Bool) → of_place place (b && false) ≡ None
+      never true = refl
+      never false = refl
+
+      none : (text : List ℕ) (n : Option ℤ) → number text ≡ n → (v : Option (List ℕ)) → value kind text 1 ≡ v
+          → (is_none n || is_none v) ≡ false → of_place place (spells_none_of e.0 text kind) ≡ None
+      none text None at v is sure = cc
+      none text (Some n) at None is sure = cc
+      none text (Some n) at (Some v) is sure =
+          ap (λ o. of_place place (is_modelled kind && is_none o)) (same_value kind text n at e.0 1 ∙ is)
+          ∙ never (is_modelled kind)
+
+      by : (o : Option (List ℕ)) → default_text e.1.sections place.0 place.1 ≡ o → unreadable_default e place ≡ None
+      by None is = ap (of_text place) is
+      by (Some text) is = by_kind place text is
+          ∙ none text (number text) refl (value kind text 1) refl
+          (sym (ap (λ o. option_map_or (λ t. is_none (number t) || is_none (value kind t 1)) o false) is) ∙ h)
+
+  found_among : (places : List (ℕ × ℕ)) → filter_map (unreadable_default e) (filter (is_doubtful e.1.sections) places)
+      ≡ filter_map (unreadable_default e) places
+  found_among [] = refl
+  found_among (p ∷ ps) = by (is_doubtful e.1.sections p) refl (found_among ps)
+    where
+      by : (b : Bool) → is_doubtful e.1.sections p ≡ b
+          → filter_map (unreadable_default e) (filter (is_doubtful e.1.sections) ps) ≡ filter_map (unreadable_default e) ps
+          → filter_map (unreadable_default e) (cond b (p ∷ filter (is_doubtful e.1.sections) ps)
+          (filter (is_doubtful e.1.sections) ps))
+          ≡ cons_option (unreadable_default e p) (filter_map (unreadable_default e) ps)
+      by true is rest = ap (cons_option (unreadable_default e p)) rest
+      by false is rest = rest ∙ sym (ap (λ o. cons_option o (filter_map (unreadable_default e) ps)) (certain p is))
+
+  pub doubts_suffice : filter_map (unreadable_default e) (doubtful_places e.1.sections) ≡ unreadable_defaults e
+  unfolding unreadable_defaults
+  doubts_suffice = found_among (pairs_of e.1.sections)
+
+-- what is found of a node at the doubtful entries of its device
+pub of_member : (p : Content) (id : ℕ) (node : Node) (d : Device) (places : List (ℕ × ℕ))
+    → device_at p.texts node.eds ≡ Some d → places ≡ doubtful_places d.sections
+    → filter_map (unreadable_default (member_of id node d)) places ≡ of_node unreadable_defaults p (id, node)
+of_member p id node d places is all =
+    ap (λ ps. filter_map (unreadable_default (member_of id node d)) ps) all
+    ∙ doubts_suffice (member_of id node d)
+    ∙ sym (ap (λ o. option_map_or (λ (it : Device). unreadable_defaults (member_of id node it)) o []) is)

@@ -1,8 +1,0 @@
-use Rattle.std.proofs.Common.{◌≡◌, ◌++◌, filter_map, take}
-use Rattle.configured_nodes.specs.Values.{member_of}
-use Rattle.co_diag.specs.Found.{unreadable_default}
-use Rattle.co_diag.proofs.defaults.find_in_device.Given as goal
-
-abbrev pub invariant-loop-index : goal.invariant-loop-index
-invariant-loop-index l = l.found.items ≡ l.fn.found.items
-    ++ filter_map (unreadable_default (member_of l.id l.node l.device)) (take l.index-index l.index-items)

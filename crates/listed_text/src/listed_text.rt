@@ -1,0 +1,58 @@
+//! A text with the reply that shows its lines.
+ghost use Rattle.std.specs.Prelude.{◌≡◌, IfOk};
+ghost use Rattle.listed_text.specs.Replies.{lines_reply};
+
+use co_text::line_count;
+use std::alloc::{AllocError, Global};
+use std::marker::Model;
+
+/// A text with the reply that shows its lines: `lines K`, and the K lines. Contracts see the text.
+#[derive(Debug, Drop)]
+pub struct ListedText {
+    /// The line `lines K`, and behind it the text.
+    reply: Vec<u8>,
+    /// Where the text begins.
+    start: usize,
+}
+
+impl Model for ListedText {
+    ghost use Rattle.std.specs.Prelude.{◌≡◌, ◌≤◌, List, ℕ, drop, length};
+    ghost use Rattle.listed_text.specs.Replies.{lines_reply};
+
+    ghost Value = { List ℕ };
+
+    ghost view = { λ t. drop t.start t.reply.items };
+
+    ghost invariant = { λ t. (t.start ≤ length t.reply.items)
+        × (t.reply.items ≡ lines_reply (drop t.start t.reply.items)) };
+}
+
+impl ListedText {
+    /// A copy of this text, with its reply. Takes time and memory by its length; want of memory is the
+    /// only error.
+    #[tactic(auto, unfolding(crate::specs::Replies::lines_reply))]
+    pub fn new(alloc: Global, text: &[u8]) -> Result<ListedText, AllocError>
+        ensures { IfOk result (λ t. t ≡ text.now) }
+    {
+        let count = line_count(text);
+        let head = format!(in alloc; "lines {count}\n")?;
+        let start = head.len();
+        let mut reply = Vec::from_slice(alloc, head.as_bytes())?;
+        reply.extend_from_slice(text)?;
+        Ok(ListedText { reply, start })
+    }
+
+    /// The text. Takes constant time.
+    pub fn text(&self) -> &[u8]
+        ensures { result.now ≡ self.now }
+    {
+        &self.reply[self.start..]
+    }
+
+    /// `lines K`, and the K lines of the text. Takes constant time: they were put together with it.
+    pub fn reply(&self) -> &[u8]
+        ensures { result.now ≡ lines_reply self.now }
+    {
+        &self.reply
+    }
+}
