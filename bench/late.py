@@ -2,7 +2,7 @@
 """Times a trace after each of 100 edits of a late event, of the example's drives to ten seconds.
 
 Takes the path of the built program, or of more: then it prints them one below the other. A first trace alone,
-and one after each edit: an `event` at 9.9 s sets another target position each time, so that the ten windows
+and one after each edit: an `event` at 9.9 s sets another target position each time, so that the windows
 behind it are simulated anew and the others are taken as they are kept. Prints milliseconds of the processor,
 and the bytes of the last trace. Run it from the top of the repository:
 
