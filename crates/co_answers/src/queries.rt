@@ -1,9 +1,8 @@
 //! The answers to queries.
 ghost use Rattle.std.specs.Prelude.{◌≡◌, IfOk};
-ghost use Rattle.can_bus.specs.Lines.{lines_text};
 ghost use Rattle.co_base.specs.Gives.{Gives};
 ghost use Rattle.co_edits.specs.Faults.{is_memory};
-ghost use Rattle.co_answers.specs.Queries.{answer, trace_of};
+ghost use Rattle.co_answers.specs.Queries.{answer};
 ghost use Rattle.co_answers.specs.Texts.{text_of};
 
 use crate::answers::Answer;
@@ -11,12 +10,13 @@ use crate::workbench::Workbench;
 use co_commands::Query;
 use co_project::EditFault;
 use listed_text::ListedText;
-use std::alloc::{AllocError, Global};
+use std::alloc::Global;
 
 /// The answer to a query, of the project as it is now.
 ///
 /// A file and diagnostics are shared with what is kept: where no edit came since, they take no memory, and
-/// no time by their lines. The text of a trace and of a script is made anew, and copied once.
+/// no time by their lines. The text of a trace is put together of what was written for the last one and what is
+/// written now, that of a script is made anew; each is copied once.
 pub fn answer(alloc: Global, workbench: &mut Workbench, query: Query) -> Result<Answer, EditFault>
     ensures answer { Gives is_memory text_of result (answer workbench.old.project query) }
     ensures same { workbench.new.project ≡ workbench.old.project }
@@ -35,7 +35,7 @@ pub fn answer(alloc: Global, workbench: &mut Workbench, query: Query) -> Result<
             Ok(Answer::Diagnostics(found))
         }
         Query::Trace => {
-            let text = trace_text(alloc, workbench)?;
+            let text = workbench.trace_text()?;
             let lines = ListedText::new(alloc, &text)?;
             Ok(Answer::Made(lines))
         }
@@ -45,14 +45,4 @@ pub fn answer(alloc: Global, workbench: &mut Workbench, query: Query) -> Result<
             Ok(Answer::Made(lines))
         }
     }
-}
-
-/// The lines of the trace.
-fn trace_text(alloc: Global, workbench: &mut Workbench) -> Result<Vec<u8>, AllocError>
-    ensures text { IfOk result (λ text. text.items ≡ lines_text (trace_of workbench.old.project)) }
-    ensures same { workbench.new.project ≡ workbench.old.project }
-{
-    let lines = workbench.trace()?;
-    let text = can_bus::text(alloc, &lines)?;
-    Ok(text)
 }

@@ -8,6 +8,7 @@ ghost use Rattle.co_project.specs.Project.{accept, adds, first};
 ghost use Rattle.project_script.specs.Script.{script};
 ghost use Rattle.co_project.specs.Sound.{IsSound};
 ghost use Rattle.co_project.specs.Tables.{node_at};
+ghost use Rattle.can_bus.specs.Lines.{lines_text};
 ghost use Rattle.co_memo.specs.Work.{idle};
 ghost use Rattle.kept_image.specs.Kept.{held, reached};
 ghost use Rattle.co_answers.specs.Bench.{no_segments, Brings, BringsDiagnostics, Traces};
@@ -28,6 +29,7 @@ use listed_text::{ListedBytes, ListedText};
 use project_script::script_text;
 use std::alloc::{AllocError, Global};
 use std::marker::Model;
+use trace_text::TraceText;
 
 /// The segments of traces that are kept at most.
 const CAPACITY: usize = 2048;
@@ -37,7 +39,7 @@ const CAPACITY: usize = 2048;
 /// Each answer is that of the project of now. Kept are the devices of EDS, the plan of the messages, of each
 /// node its writes and its files, what a simulation reads: the roster, of each node its values, entries
 /// and identity, and the events by windows; the diagnostics; and the segments of traces; each with what it
-/// was built from or read. An edit marks what it may
+/// was built from or read; and of the last trace its lines with their text. An edit marks what it may
 /// leave with other inputs; a query looks at what it is built from, in its order, and makes anew what has
 /// other inputs than it was built from, and no more. A file that is kept as it is now is shared, or copied.
 #[derive(Drop)]
@@ -47,6 +49,7 @@ pub struct Workbench {
     image: KeptImage,
     found: KeptDiagnostics,
     store: Store,
+    told: TraceText,
     meter: Meter,
 }
 
@@ -89,6 +92,7 @@ impl Workbench {
             image: KeptImage::new(alloc),
             found: KeptDiagnostics::new(),
             store,
+            told: TraceText::new(alloc),
             meter: Meter::new(),
         })
     }
@@ -258,6 +262,17 @@ impl Workbench {
             &mut self.meter,
         )?;
         Ok(lines)
+    }
+
+    /// The text of the trace, each line ended by LF. Takes the time of `trace`, and that of writing the lines
+    /// which the trace that was asked for last hadn't at the same places; the others are copied.
+    pub(crate) fn trace_text(&mut self) -> Result<Vec<u8>, AllocError>
+        ensures text { IfOk result (λ text. text.items ≡ lines_text (trace_of self.old.project)) }
+        ensures same { self.new.project ≡ self.old.project }
+    {
+        let lines = self.trace()?;
+        let text = self.told.text(&lines)?;
+        Ok(text)
     }
 
     /// How much work the answers took so far: the segments of traces that were run, and the parts that were

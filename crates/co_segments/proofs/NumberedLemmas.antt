@@ -10,7 +10,7 @@ use Rattle.co_parts.specs.Contents.{Image}
 use Rattle.kept_shelf.specs.Numbers.{of_number}
 use Rattle.kept_shelf.proofs.EntryLemmas.{head_in, tail_in}
 use Rattle.co_segments.specs.Placed.{Placed, kept_of}
-use Rattle.co_segments.specs.Segments.{IsStale, recorded_of}
+use Rattle.co_segments.specs.Segments.{IsStale, Serves, recorded_of}
 use Rattle.co_segments.proofs.PlacedLemmas.{one_stale}
 
 -- the held segments of a number
@@ -50,3 +50,13 @@ pub none_there : {X : Type 0} (xs : List X) (i : ℕ) → i < length xs → slic
 none_there [] i h e = omega (arith, h)
 none_there (x ∷ xs) zero h e = none-some x (sym e)
 none_there (x ∷ xs) (suc i) h e = none_there xs i (omega (arith, h)) e
+
+-- one more of the number is passed over, which serves nowhere from the bus
+pub one_passed : (image : Image) (number : ℕ) (start : Bus) (es : List (ℕ × Placed)) (i key : ℕ) (s : Placed)
+    → slice_get (numbered number es) i ≡ Some (key, s) → (Serves image number start s.kept → ⊥)
+    → (IsStale image (kept_of (drop i (numbered number es))) number start → IsStale image (kept_of es) number start)
+    → IsStale image (kept_of (drop (i + 1) (numbered number es))) number start → IsStale image (kept_of es) number start
+one_passed image number start es i key s is other before h =
+    let xs = numbered number es in
+    let earlier = rw (rest_at xs i (key, s) is) at before in
+    earlier (one_stale image number start (key, s) (drop (i + 1) xs) other h)

@@ -6,7 +6,7 @@ use Rattle.lru.specs.LruCache.{promoted}
 use Rattle.lru.proofs.CallerLemmas.{Contains-take, Contains-promoted}
 use Rattle.kept_shelf.proofs.EntryLemmas.{head_in, tail_in, in_cons, none_in}
 use Rattle.can_bus.specs.Bus.{Bus, blank_bus}
-use Rattle.co_segments.specs.Placed.{AreNamed, AreSegments, AreSound, IsLater, IsNamed, IsReached, IsTold}
+use Rattle.co_segments.specs.Placed.{AreNamed, AreSegments, AreSound, IsLater, IsNamed, IsNew, IsReached, IsTold}
 use Rattle.co_segments.specs.Placed.{Meaning, Numbered, Placed, kept_of}
 use Rattle.co_segments.specs.declared.given.Given.{Given}
 use Rattle.co_parts.specs.declared.part.Part.{Part}
@@ -300,6 +300,13 @@ one_stale image number start e es not rest = λ k c s. by k s (in_cons e.1.kept 
     by : (k : Kept) → Serves image number start k → (e.1.kept ≡ k) ⊎ Contains (kept_of es) k → ⊥
     by k s (inl is) = not (subst (λ (x : Kept). Serves image number start x) (sym is) s)
     by k s (inr c) = rest k c s
+
+-- one of another number more, and those of a front of all
+pub new_added : (n key : ℕ) (s : Placed) (es : List (ℕ × Placed)) (number : ℕ) (bus : Bus) → (s.kept.number ≡ number → ⊥)
+    → IsNew es number bus → IsNew (take n ((key, s) ∷ es)) number bus
+new_added n key s es number bus other h = λ image k c serves.
+    one_stale image number bus (key, s) es (λ x. other x.0) (h image) k
+    (Contains-take n (s.kept ∷ kept_of es) k (subst (λ ks. Contains ks k) (kept_added n key s es) c)) serves
 
 or_placed : Placed → Option Placed → Placed
 or_placed d None = d

@@ -7,7 +7,7 @@ use Rattle.co_parts.specs.declared.part.Part.{Part}
 use Rattle.kept_reads.specs.Numbers.{KeepsMeaning, StandsFor}
 use Rattle.kept_reads.specs.Reads.{AreKnown, AreMarked, Known, Recorded}
 use Rattle.co_segments.specs.declared.given.Given.{Given}
-use Rattle.co_segments.specs.Segments.{IsSound, Kept}
+use Rattle.co_segments.specs.Segments.{IsSound, IsStale, Kept}
 
 -- a bus with its number
 pub record Numbered : Type 0 where
@@ -38,6 +38,10 @@ IsStart s n bus = (n ≡ record { number = s.start; bus = s.kept.start }) × (s.
 -- the segments, without their keys and numbers
 abbrev pub kept_of : List (ℕ × Placed) → List Kept
 kept_of entries = map (λ e. e.1.kept) entries
+
+-- a bus from which no held segment of a number starts: none serves there, whatever the image
+abbrev pub IsNew : List (ℕ × Placed) → ℕ → Bus → Type 0
+IsNew entries number bus = (image : Image) → IsStale image (kept_of entries) number bus
 
 -- the numbers that were given, and what they stand for
 pub record Meaning : Type 0 where

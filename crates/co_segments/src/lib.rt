@@ -10,6 +10,7 @@ mod given;
 mod handing;
 mod matching;
 mod numbered_bus;
+mod reached;
 mod rejoining;
 mod running;
 mod segment;

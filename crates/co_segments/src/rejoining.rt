@@ -1,52 +1,84 @@
 //! A bus at which a trace joins one that was traced before.
 
-ghost use Rattle.std.specs.Prelude.{◌≡◌, ◌≤◌, ℕ, Contains, IfOk, IfSome};
-ghost use Rattle.co_segments.specs.Placed.{IsReached, IsStart, Placed};
+ghost use Rattle.std.specs.Prelude.{◌≡◌, ◌≤◌, ℕ, Contains, IfOk, IsTrue, MatchOption};
+ghost use Rattle.co_segments.specs.Placed.{IsNew, IsReached, IsStart, Placed};
 
 use crate::numbered_bus::NumberedBus;
+use crate::reached::Reached;
 use crate::segment::Segment;
 use crate::serving::give;
 use can_bus::BusState;
 use kept_shelf::Shelf;
 use std::alloc::{AllocError, Global};
 
-/// The equal bus that a held segment of a number starts from, if there is one.
+/// The first node whose device tells a bus from the one that a segment starts from, if one does by a quick look.
+fn node_that_differs(segment: &Segment, bus: &BusState) -> Option<u8> {
+    (1..=127).find(|node| segment.differs_at(*node, bus))
+}
+
+/// Whether a segment starts from another bus, by a quick look at a node, if there is one to look at.
+fn differs_there(segment: &Segment, node: Option<u8>, bus: &BusState) -> bool
+    ensures { IsTrue result → segment.now.kept.start ≡ bus.now → ⊥ }
+{
+    match node {
+        Some(node) => segment.differs_at(node, bus),
+        None => false,
+    }
+}
+
+/// The equal bus that a held segment of a number starts from, if there is one. Buses that were reached by edits
+/// of one value mostly differ at one node: where it told one from the bus, it is looked at first in the others.
 fn held_start(
     shelf: &Shelf<Segment>,
     number: u64,
     bus: &BusState,
 ) -> Result<Option<NumberedBus>, AllocError>
-    ensures { IfOk result (λ start. IfSome start (λ n. (e : ℕ × Placed)
-        × (Contains shelf.now.entries e × IsStart e.1 n bus.now))) }
+    ensures { IfOk result (λ start. MatchOption start (IsNew shelf.now.entries number bus.now)
+        (λ n. (e : ℕ × Placed) × (Contains shelf.now.entries e × IsStart e.1 n bus.now))) }
 {
-    for place in 0..shelf.count(number) {
+    let count = shelf.count(number);
+    let mut node = None;
+    for place in 0..count {
         if let Some((_key, segment)) = shelf.at(number, place) {
-            let start = segment.start_at(number, bus)?;
-            if let Some(found) = start {
+            if differs_there(segment, node, bus) {
+                continue;
+            }
+            if let Some(found) = segment.start_at(number, bus)? {
                 return Ok(Some(found));
+            }
+            if place + 1 < count {
+                node = node_that_differs(segment, bus);
             }
         }
     }
     Ok(None)
 }
 
-/// A bus with the number that it has as the start of a held segment, and else with a new one.
+/// A bus with the number that it has as the start of a held segment, and else with a new one. Each held segment
+/// of the number is compared once: where none starts from the bus, none has to be looked for again.
 pub(crate) fn reach(
     alloc: Global,
     shelf: &Shelf<Segment>,
     given: &mut u64,
     number: u64,
     bus: BusState,
-) -> Result<NumberedBus, AllocError>
-    ensures reached { IfOk result (λ n. IsReached shelf.now.entries given.old given.new bus n) }
+) -> Result<Reached, AllocError>
+    ensures reached { IfOk result (λ end. IsReached shelf.now.entries given.old given.new bus end.state) }
+    ensures new { IfOk result (λ end. IsTrue end.is_new → IsNew shelf.now.entries number bus) }
     ensures more { given.old ≤ given.new }
 {
     let start = held_start(shelf, number, &bus)?;
     match start {
-        Some(start) => Ok(start),
+        Some(state) => Ok(Reached {
+            state,
+            is_new: false,
+        }),
         None => {
-            let end = give(alloc, given, bus)?;
-            Ok(end)
+            let state = give(alloc, given, bus)?;
+            Ok(Reached {
+                state,
+                is_new: true,
+            })
         }
     }
 }

@@ -1,7 +1,7 @@
 //! A segment of a run.
 
-ghost use Rattle.std.specs.Prelude.{◌≡◌, ◌≤◌, ◌+◌, ◌↔◌, ℕ, length, if◌then◌else◌, ◌==◌, IfOk, IfSome, OnOk, IsTrue};
-ghost use Rattle.co_parts.specs.Contents.{Content};
+ghost use Rattle.std.specs.Prelude.{◌≡◌, ◌≤◌, ◌+◌, ◌↔◌, ℕ, length, if◌then◌else◌, ◌==◌, IfOk, MatchOption, OnOk, IsTrue};
+ghost use Rattle.co_parts.specs.Contents.{Content, Image};
 ghost use Rattle.kept_reads.specs.Numbers.{StandsFor};
 ghost use Rattle.kept_reads.specs.Reads.{AreKnown, AreMarked, Extends, plain};
 ghost use Rattle.co_segments.specs.Placed.{IsNamed, IsStart, Meaning};
@@ -109,7 +109,9 @@ impl Segment {
 
     /// The bus at its start, if it has this number and starts from an equal bus.
     pub fn start_at(&self, number: u64, bus: &BusState) -> Result<Option<NumberedBus>, AllocError>
-        ensures { IfOk result (λ start. IfSome start (λ n. IsStart self.now n bus.now)) }
+        ensures { IfOk result (λ start. MatchOption start
+            ((image : Image) → Serves image number bus.now self.now.kept → ⊥)
+            (λ n. IsStart self.now n bus.now)) }
     {
         if self.number != number {
             return Ok(None);
@@ -121,6 +123,17 @@ impl Segment {
         }
         let start = self.start.share()?;
         Ok(Some(start))
+    }
+
+    /// Whether its bus at its start is another one, by a quick look at the values of one node's device.
+    pub fn differs_at(&self, node: u8, bus: &BusState) -> bool
+        ensures { IsTrue result → self.now.kept.start ≡ bus.now → ⊥ }
+    {
+        let own = self.start.bus();
+        match (own.values(node), bus.values(node)) {
+            (Some(values), Some(others)) => !values.may_be(others),
+            _ => false,
+        }
     }
 
     /// Whether it serves.

@@ -1,6 +1,6 @@
 //! One segment of a trace.
 
-ghost use Rattle.std.specs.Prelude.{◌≡◌, ◌≤◌, ◌+◌, ◌++◌, ◌∷◌, ℕ, IfOk, OnOk, OnErr, List, Some, nat_eq, length, take};
+ghost use Rattle.std.specs.Prelude.{◌≡◌, ◌≤◌, ◌+◌, ◌++◌, ◌∷◌, ℕ, IfOk, IsTrue, OnOk, OnErr, List, Some, nat_eq, length, take};
 ghost use Rattle.std.specs.Map.{lookup};
 ghost use Rattle.asking.specs.Asking.{outcome, reads};
 ghost use Rattle.bus_laws.specs.Spans.{span};
@@ -9,13 +9,14 @@ ghost use Rattle.co_parts.specs.Images.{IsImage};
 ghost use Rattle.kept_reads.specs.Reads.{AreKnown, AreMarked, Extends, Recorded, plain};
 ghost use Rattle.kept_reads.specs.Records.{IsRecordOf};
 ghost use Rattle.lru.specs.LruCache.{promoted};
-ghost use Rattle.co_segments.specs.Placed.{AreSegments, IsReached, IsTold, Placed, kept_of};
+ghost use Rattle.co_segments.specs.Placed.{AreSegments, IsNew, IsReached, IsTold, Placed, kept_of};
 ghost use Rattle.co_segments.specs.Segments.{HasRun, IsServed, Kept, recorded_of};
 ghost use Rattle.co_segments.specs.Spans.{IsReady};
 
 use crate::finding::find;
 use crate::given::Given;
 use crate::numbered_bus::NumberedBus;
+use crate::reached::Reached;
 use crate::rejoining::reach;
 use crate::running::run;
 use crate::segment::Segment;
@@ -74,7 +75,7 @@ fn run_new<P: Parts>(
     state: NumberedBus,
     parts: &mut P,
     told: &mut Vec<Line>,
-) -> Result<NumberedBus, AllocError>
+) -> Result<Reached, AllocError>
     requires within { number ≤ 1000 }
     requires image { IsImage (P.seen parts.now).image }
     requires ready { IsReady number state.bus }
@@ -83,10 +84,10 @@ fn run_new<P: Parts>(
         (shelf.new ≡ record {
           capacity = shelf.old.capacity;
           entries = take shelf.old.capacity
-              ((shelf.old.given, record { kept = kept; start = state.number; reads = marked; end = end.number }) ∷ shelf.old.entries);
+              ((shelf.old.given, record { kept = kept; start = state.number; reads = marked; end = end.state.number }) ∷ shelf.old.entries);
           given = shelf.old.given + 1;
         })
-        × (end.bus ≡ kept.end)
+        × (end.state.bus ≡ kept.end)
         × (kept.number ≡ number) × (kept.start ≡ state.bus)
         × IsRecordOf (reads (span number state.bus) (P.seen parts.old).image) kept.reads
         × (outcome (span number state.bus) (P.seen parts.old).image ≡ (kept.end, kept.lines))
@@ -94,7 +95,8 @@ fn run_new<P: Parts>(
         × ((contents : ℕ → Content) → AreKnown (P.seen parts.old).image contents given.old.contents now.old
         → (e : Extends (P.seen parts.old).image contents given.old.contents given.new.contents now.new)
         × AreMarked e.meaning given.new.contents marked)))) }
-    ensures reached { IfOk result (λ end. IsReached shelf.old.entries given.old.buses given.new.buses end.bus end) }
+    ensures reached { IfOk result (λ end. IsReached shelf.old.entries given.old.buses given.new.buses end.state.bus end.state) }
+    ensures new { IfOk result (λ end. IsTrue end.is_new → IsNew shelf.new.entries (number + 1) end.state.bus) }
     ensures err { OnErr result (shelf.new ≡ shelf.old) }
     ensures more { (given.old.buses ≤ given.new.buses) × (given.old.contents ≤ given.new.contents) }
     ensures counted { OnOk result (P.asks parts.new ≤ P.asks parts.old
@@ -104,7 +106,7 @@ fn run_new<P: Parts>(
     let ran = run(alloc, now, &mut given.contents, number, state.bus(), parts)?;
     told.extend_from_slice(&ran.lines)?;
     let end = reach(alloc, shelf, &mut given.buses, number + 1, ran.end)?;
-    let copy = end.share()?;
+    let copy = end.state.share()?;
     shelf.add(Segment::new(number, state, ran.reads, ran.lines, copy))?;
     Ok(end)
 }
@@ -116,37 +118,42 @@ pub(crate) fn advance<P: Parts>(
     now: &mut ReadsNow,
     given: &mut Given,
     number: u64,
-    state: NumberedBus,
+    here: Reached,
     parts: &mut P,
     meter: &mut Meter,
     told: &mut Vec<Line>,
-) -> Result<NumberedBus, AllocError>
+) -> Result<Reached, AllocError>
     requires within { number ≤ 1000 }
     requires image { IsImage (P.seen parts.now).image }
-    requires ready { IsReady number state.bus }
-    requires told { IsTold (P.seen parts.now).image shelf.old.entries given.old now.old state }
+    requires ready { IsReady number here.state.bus }
+    requires told { IsTold (P.seen parts.now).image shelf.old.entries given.old now.old here.state }
+    requires new { IsTrue here.is_new → IsNew shelf.old.entries number here.state.bus }
     ensures served { IfOk result (λ end. (kept : Kept) × ((rest : List Kept) × ((ran : ℕ) × ((read : ℕ) × (
-        IsServed (P.seen parts.old).image (kept_of shelf.old.entries) number state.bus kept rest ran read
-        × (end.bus ≡ kept.end)
+        IsServed (P.seen parts.old).image (kept_of shelf.old.entries) number here.state.bus kept rest ran read
+        × (end.state.bus ≡ kept.end)
         × (told.new.items ≡ told.old.items ++ kept.lines)
         × (kept_of shelf.new.entries ≡ take shelf.old.capacity (kept ∷ rest))
         × HasRun ran meter.old meter.new
         × (P.asks parts.new ≤ P.asks parts.old + recorded_of number (kept_of shelf.old.entries) + read)))))) }
-    ensures told { IfOk result (λ end. IsTold (P.seen parts.old).image shelf.new.entries given.new now.new end) }
+    ensures told { IfOk result (λ end. IsTold (P.seen parts.old).image shelf.new.entries given.new now.new end.state) }
+    ensures new { IfOk result (λ end. IsTrue end.is_new → IsNew shelf.new.entries (number + 1) end.state.bus) }
     ensures segments { AreSegments shelf.new.entries given.new }
     ensures capacity { shelf.new.capacity ≡ shelf.old.capacity }
     ensures kept { (P.seen parts.new).image ≡ (P.seen parts.old).image }
 {
     let _count = shelf.len();
-    let found = find(alloc, shelf, now, given, number, &state, parts)?;
+    let found = find(alloc, shelf, now, given, number, &here, parts)?;
     match found {
         Some(key) => {
-            let used = use_held(shelf, key, told)?;
-            Ok(used)
+            let state = use_held(shelf, key, told)?;
+            Ok(Reached {
+                state,
+                is_new: false,
+            })
         }
         None => {
             meter.ran();
-            let reached = run_new(alloc, shelf, now, given, number, state, parts, told)?;
+            let reached = run_new(alloc, shelf, now, given, number, here.state, parts, told)?;
             Ok(reached)
         }
     }

@@ -10,6 +10,7 @@ ghost use Rattle.co_segments.specs.Segments.{HasRun, IsSound, Kept, Traced, reco
 ghost use Rattle.co_segments.specs.Spans.{lines_of_spans};
 
 use crate::given::Given;
+use crate::reached::Reached;
 use crate::segment::Segment;
 use crate::serving::{advance, give};
 use can_bus::{BusState, Line, Parts};
@@ -81,12 +82,16 @@ fn trace_spans<P: Parts>(
 {
     let mut told = Vec::new(alloc);
     let mut now = ReadsNow::new(alloc);
-    let mut state = give(alloc, &mut given.buses, BusState::new(alloc))?;
+    let state = give(alloc, &mut given.buses, BusState::new(alloc))?;
+    let mut here = Reached {
+        state,
+        is_new: false,
+    };
     for number in 0..count {
         let end = advance(
-            alloc, shelf, &mut now, given, number, state, parts, meter, &mut told,
+            alloc, shelf, &mut now, given, number, here, parts, meter, &mut told,
         )?;
-        state = end;
+        here = end;
     }
     Ok(told)
 }

@@ -11,7 +11,7 @@ ghost use Rattle.co_values.specs.Values.{longest_value};
 
 use crate::held::Held;
 use crate::layer::Layer;
-use crate::places::{agree_above, agree_on, has_each, write_each};
+use crate::places::{agree_on, has_each, may_agree_above, write_each};
 use co_values::{number_8, number_16, number_32, number_64};
 use std::alloc::{AllocError, Global};
 use std::marker::Model;
@@ -178,24 +178,16 @@ impl Dict {
         self.agrees_on_both(other, &self.base, &other.base)
     }
 
-    /// Whether the other dictionary has the same at each place of a layer that is behind the communication
-    /// profile.
-    fn agrees_above(&self, other: &Dict, places: &Layer) -> bool
-        ensures { self.now ≡ other.now → IsTrue result }
-    {
-        match places.table() {
-            None => true,
-            Some(table) => agree_above(self, other, APPLICATION, table),
-        }
-    }
-
     /// Whether the other dictionary may be the same: a quick look ahead of `same`, at what lies behind the
-    /// communication profile and was written since a copy was made. Takes time by the number of these
-    /// entries, up to the first that differs.
+    /// communication profile and was written in both since copies were made. Takes time by the number of
+    /// these entries, up to the first that differs; one that is the same in both is only passed over.
     pub fn may_be(&self, other: &Dict) -> bool
         ensures { self.now ≡ other.now → IsTrue result }
     {
-        self.agrees_above(other, &self.own)
+        match (self.own.table(), other.own.table()) {
+            (Some(own), Some(others)) => may_agree_above(self, other, APPLICATION, own, others),
+            _ => true,
+        }
     }
 
     /// Whether the other dictionary has the same entries with the same values. Takes time by the number of

@@ -42,13 +42,29 @@ pub(crate) fn agree_on(a: &Dict, b: &Dict, places: &Table) -> bool
     true
 }
 
-/// Whether two dictionaries have the same at each place of a table whose index is `first` or above. Said
-/// of equal ones always.
-pub(crate) fn agree_above(a: &Dict, b: &Dict, first: u16, places: &Table) -> bool
+/// Whether two dictionaries have the same at the place of the first entry, which isn't read where both entries
+/// are the same. Said of equal dictionaries always.
+fn may_agree_at(a: &Dict, b: &Dict, one: (&(u16, u8), &Held), other: (&(u16, u8), &Held)) -> bool
     ensures { a.now ≡ b.now → IsTrue result }
 {
-    for (place, _value) in places.held.iter() {
-        if place.0 >= first && !agree_at(a, b, *place) {
+    (one.0 == other.0 && one.1.as_slice() == other.1.as_slice()) || agree_at(a, b, *one.0)
+}
+
+/// Whether two dictionaries may have the same where the index is `first` or above, by the entries of a table of
+/// each, one beside the other. Said of equal dictionaries always.
+pub(crate) fn may_agree_above(
+    a: &Dict,
+    b: &Dict,
+    first: u16,
+    places: &Table,
+    others: &Table,
+) -> bool
+    ensures { a.now ≡ b.now → IsTrue result }
+{
+    let ours = places.held.range((first, 0)..);
+    let theirs = others.held.range((first, 0)..);
+    for (one, other) in ours.zip(theirs) {
+        if !may_agree_at(a, b, one, other) {
             return false;
         }
     }

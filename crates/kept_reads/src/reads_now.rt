@@ -1,6 +1,6 @@
 //! What is known of an image.
 
-ghost use Rattle.std.specs.Prelude.{◌≡◌, ◌≤◌, ◌↔◌, ℕ, [], IfOk, IfSome, IsTrue, OnErr, OnOk, Some, cond};
+ghost use Rattle.std.specs.Prelude.{◌≡◌, ◌≤◌, ◌↔◌, ℕ, [], IfOk, IfSome, IsNone, IsTrue, None, OnErr, OnOk, Some, cond};
 ghost use Rattle.std.specs.BTreeMap.{is_at};
 ghost use Rattle.co_parts.specs.Contents.{Content, Image};
 ghost use Rattle.co_parts.specs.declared.part.Part.{Part as Name};
@@ -14,7 +14,8 @@ use std::collections::BTreeMap;
 use std::marker::Model;
 
 /// What is known of an image as it is now: the parts that were asked for, each once, with the numbers of
-/// their contents.
+/// their contents. The events of a window are read in that window alone: they aren't noted where they are what
+/// was read.
 ///
 /// A call takes time by the logarithm of the number of parts, and that of at most one comparison.
 #[derive(Drop)]
@@ -63,13 +64,14 @@ impl ReadsNow {
         }
     }
 
-    /// Whether the image has what was read, if the part is known: by the numbers, where these tell.
+    /// Whether the image has what was read, where the part is known: by the numbers, where these tell.
     pub fn compare(&mut self, read: &KeptRead) -> Result<Option<bool>, AllocError>
         requires { (image : Image) × ((contents : ℕ → Content) × ((given : ℕ) × (
             AreKnown image contents given self.old × IsMarked contents given read.now))) }
         ensures answer { IfOk result (λ answer. (image : Image) (contents : ℕ → Content) (given : ℕ)
             → AreKnown image contents given self.old
             → IfSome answer (λ b. IsTrue b ↔ (image read.now.name ≡ read.now.content))) }
+        ensures unknown { IfOk result (λ answer. IsNone answer ↔ (known_at self.old read.now.name ≡ None)) }
         ensures known { OnOk result ((image : Image) (contents : ℕ → Content) (given : ℕ)
             → AreKnown image contents given self.old → IsMarked contents given read.now
             → AreKnown image contents given self.new) }
@@ -85,6 +87,20 @@ impl ReadsNow {
         };
         learn(&mut self.known, read.part(), learnt)?;
         Ok(Some(same))
+    }
+
+    /// Notes that a part is what was read, with the number of the read: where it may be read in other windows.
+    fn take_over(&mut self, read: &KeptRead) -> Result<(), AllocError>
+        ensures { OnOk result ((image : Image) (contents : ℕ → Content) (given : ℕ)
+            → image read.now.name ≡ read.now.content → AreKnown image contents given self.old
+            → IsMarked contents given read.now → Extends image contents given given self.new) }
+    {
+        if matches!(read.part(), Part::Events(_)) {
+            return Ok(());
+        }
+        let known = KnownRead::new(read.share()?, None);
+        learn(&mut self.known, read.part(), known)?;
+        Ok(())
     }
 
     /// Whether the content of a part that wasn't known is what was read. It takes over the number of the
@@ -106,8 +122,7 @@ impl ReadsNow {
         let recorded = read.content();
         let same = content.same(recorded);
         if same {
-            let known = KnownRead::new(read.share()?, None);
-            learn(&mut self.known, read.part(), known)?;
+            self.take_over(read)?;
             return Ok(true);
         }
         let now = KeptRead::give(alloc, given, Read::new(read.part(), content))?;

@@ -14,7 +14,7 @@ loop-place-init g c =
     let image = (g.P.Asked.seen c.args.parts.now).image in
     let es = c.args.shelf.now.entries in
     record {
-      stale = all_stale image c.args.number c.args.state.now.bus es;
+      stale = all_stale image c.args.number c.args.here.now.state.bus es;
       known = λ contents h m. extends_itself image contents c.args.given.now.contents c.args.now.now h;
       more = omega arith;
       buses = refl;
@@ -22,12 +22,15 @@ loop-place-init g c =
       kept = refl;
     }
 
+pub returns-then-here-clause-found : goal.returns-then-here-clause-found
+returns-then-here-clause-found g c = c.requires.new c.if-here.true (g.P.Asked.seen c.args.parts.now).image
+
 pub serves-requires : goal.serves-requires
 serves-requires g c =
     let old = c.loop-place.invariant in
     let s = c.in-Some.segment.now in
     let e = in_lookup c.in-Some.key c.args.shelf.now.entries s c.in-Some.ensures.held in
-    let r = c.requires in
+    let r = c.requires.named in
     let ext = old.known r.0.contents r.1.1.1 (λ f k. (r.1.0 f k).reads) in
     let m : Meaning = record { buses = r.0.buses; contents = ext.meaning } in
     let grows : IsLater r.0 c.args.given.now m c.loop-place.given = record {
@@ -78,7 +81,7 @@ loop-place-preserved g c =
           let before = rw cut at old.stale in
           let counted = rw cut at old.counted in
           rw (w.now-is, w.given-is, w.parts-is) (record {
-            stale = λ h. before (one_stale image c.args.number c.args.state.now.bus (w.in-Some.key, s) rest (λ k. false≢true (sym w.if-branch.false ∙ answer.1 k)) h);
+            stale = λ h. before (one_stale image c.args.number c.args.here.now.state.bus (w.in-Some.key, s) rest (λ k. false≢true (sym w.if-branch.false ∙ answer.1 k)) h);
             known = λ contents h m.
                 let ext = old.known contents h m in
                 let marked = all_marked_later contents ext.meaning c.args.given.now.contents c.loop-place.given.contents s.reads
@@ -101,4 +104,4 @@ returns-clause-found g c =
     let xs = numbered c.args.number c.args.shelf.now.entries in
     let all = drop_all c.loop-place.place xs (omega (arith, c.loop-place-test.false, c.count-place-end.ensures)) in
     let rest = drop c.loop-place.place xs in
-    c.loop-place.invariant.stale (none_stale image c.args.number c.args.state.now.bus rest (ap length all))
+    c.loop-place.invariant.stale (none_stale image c.args.number c.args.here.now.state.bus rest (ap length all))

@@ -12,8 +12,8 @@ invariant-loop-place g l =
     let image = (g.P.Asked.seen l.fn.parts).image in
     let rest = drop l.place (numbered l.number l.shelf.entries) in
     record {
-      stale : IsStale image (kept_of rest) l.number l.state.bus
-          → IsStale image (kept_of l.shelf.entries) l.number l.state.bus;
+      stale : IsStale image (kept_of rest) l.number l.here.state.bus
+          → IsStale image (kept_of l.shelf.entries) l.number l.here.state.bus;
       known : (contents : ℕ → Content) → AreKnown image contents l.fn.given.contents l.fn.now
           → ((e : ℕ × Placed) → Contains l.shelf.entries e → AreMarked contents l.fn.given.contents e.1.reads)
           → Extends image contents l.fn.given.contents l.given.contents l.now;

@@ -1,9 +1,9 @@
-use Rattle.std.proofs.Common.{◌≡◌, refl, sym, ap, subst, ◌∙◌}
+use Rattle.std.proofs.Common.{◌≡◌, ◌+◌, refl, sym, ap, arith, subst, ◌∙◌}
 use Rattle.co_segments.specs.Placed.{IsReached, Numbered, Placed}
 use Rattle.can_bus.specs.Bus.{Bus}
 use Rattle.kept_reads.specs.Reads.{plain}
 use Rattle.co_segments.specs.Segments.{Kept}
-use Rattle.co_segments.proofs.PlacedLemmas.{reached_bus}
+use Rattle.co_segments.proofs.PlacedLemmas.{new_added, reached_bus}
 use Rattle.co_segments.proofs.serving.run_new.Goals as goal
 
 pub returns-clause-ran : goal.returns-clause-ran
@@ -23,9 +23,9 @@ returns-clause-ran g c =
       reads = ran.reads.items;
       end = n.number;
     } in
-    let kept : Kept = (made end).kept in
-    let placed : c.new.result ≡ made end = c.new.ensures ∙ ap made c.in_ok-copy.ensures in
-    let bus : end.bus ≡ ran.end = reached_bus _ _ _ ran.end end c.in_ok-end.ensures.reached in
+    let kept : Kept = (made end.state).kept in
+    let placed : c.new.result ≡ made end.state = c.new.ensures ∙ ap made c.in_ok-copy.ensures in
+    let bus : end.state.bus ≡ ran.end = reached_bus _ _ _ ran.end end.state c.in_ok-end.ensures.reached in
     let told = rw c.deref.ensures.value at c.in_ok-extend_from_slice.ensures.items in (
       kept,
       (
@@ -45,7 +45,16 @@ returns-clause-ran g c =
 
 pub returns-clause-reached : goal.returns-clause-reached
 returns-clause-reached g c =
-    let bus : c.in_ok-end.end.bus ≡ c.in_ok-ran.ran.end =
-    reached_bus _ _ _ c.in_ok-ran.ran.end c.in_ok-end.end c.in_ok-end.ensures.reached in
-    subst (λ (b : Bus). IsReached c.args.shelf.now.entries c.args.given.now.buses c.reach.new.given b c.in_ok-end.end)
+    let bus : c.in_ok-end.end.state.bus ≡ c.in_ok-ran.ran.end =
+    reached_bus _ _ _ c.in_ok-ran.ran.end c.in_ok-end.end.state c.in_ok-end.ensures.reached in
+    subst (λ (b : Bus). IsReached c.args.shelf.now.entries c.args.given.now.buses c.reach.new.given b c.in_ok-end.end.state)
     (sym bus) c.in_ok-end.ensures.reached
+
+pub returns-clause-new : goal.returns-clause-new
+returns-clause-new g c = λ h.
+    let end = c.in_ok-end.end in
+    let bus : end.state.bus ≡ c.in_ok-ran.ran.end =
+    reached_bus _ _ _ c.in_ok-ran.ran.end end.state c.in_ok-end.ensures.reached in
+    rw c.in_ok-add.ensures.ok (new_added c.args.shelf.now.capacity c.args.shelf.now.given c.new.result
+    c.args.shelf.now.entries (c.args.number + 1) end.state.bus
+    (λ e. omega (arith, sym (ap (λ (p : Placed). p.kept.number) c.new.ensures) ∙ e)) (rw bus (c.in_ok-end.ensures.new h)))

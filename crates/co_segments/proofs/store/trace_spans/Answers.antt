@@ -1,4 +1,5 @@
 use Rattle.std.proofs.Common.{arith, refl, sym, ap, ◌∙◌, ◌<◌, ◌≡◌, ◌++◌, ◌+◌, ◌-◌, ◌∷◌, take}
+use Rattle.std.proofs.lemmas.Bool.{false≢true}
 use Rattle.std.proofs.lemmas.List.{append-nil}
 use Rattle.asking.proofs.LoopLemmas.{turned_told}
 use Rattle.can_bus.specs.Bus.{blank_bus}
@@ -21,6 +22,7 @@ loop-number-init g c =
       lines = rw (none, bus, whole) refl;
       traced = (0, (0, (bus, refl, none, refl, refl), (omega arith, refl), omega arith));
       ready = λ h. absurd (omega (arith, h));
+      new = λ h. absurd (false≢true h);
       named = rw (c.in_ok-state.ensures.is, c.new-now.ensures) (told_new image c.args.shelf.now.entries c.args.given.now _ c.new.result c.requires.segments c.in_ok-state.ensures.ok refl);
       capacity = refl;
       kept = refl;
@@ -41,22 +43,23 @@ loop-number-preserved g c =
     let is = facts.0 in
     let gives = is.gives in
     let within : number < c.args.count = omega arith in
-    let after = c.in_ok-end.end.bus in
+    let after = c.in_ok-end.end.state.bus in
     let end : after ≡ kept.end = facts.1 in
     let told : c.advance.new.told.items ≡ c.loop-number.told.items ++ kept.lines = facts.2 in
     let held : kept_of c.advance.new.shelf.entries ≡ take c.args.shelf.now.capacity (kept ∷ rest) = rw old.capacity at facts.3 in
     record {
-      lines = turned_told span number c.args.count c.loop-number.state.bus after image within (end ∙ sym (ap (λ r. r.0) gives)) c.loop-number.told.items c.advance.new.told.items (told ∙ ap (λ r. c.loop-number.told.items ++ r.1) (sym gives)) ∙ old.lines;
+      lines = turned_told span number c.args.count c.loop-number.here.state.bus after image within (end ∙ sym (ap (λ r. r.0) gives)) c.loop-number.told.items c.advance.new.told.items (told ∙ ap (λ r. c.loop-number.told.items ++ r.1) (sym gives)) ∙ old.lines;
       traced = (
         old.traced.0 + ran,
         (
           old.traced.1.0 + read,
-          traced_more image c.args.shelf.now.capacity (kept_of c.args.shelf.now.entries) number c.loop-number.state.bus after (kept_of c.loop-number.shelf.entries) (kept_of c.advance.new.shelf.entries) c.loop-number.told.items c.advance.new.told.items old.traced.0 old.traced.1.0 kept rest ran read old.traced.1.1 is end held told,
+          traced_more image c.args.shelf.now.capacity (kept_of c.args.shelf.now.entries) number c.loop-number.here.state.bus after (kept_of c.loop-number.shelf.entries) (kept_of c.advance.new.shelf.entries) c.loop-number.told.items c.advance.new.told.items old.traced.0 old.traced.1.0 kept rest ran read old.traced.1.1 is end held told,
           (omega (arith, old.traced.1.2.0, facts.4.0), facts.4.1 ∙ old.traced.1.2.1),
-          rw held (omega (arith, old.traced.1.3, facts.5, recorded_served image (kept_of c.loop-number.shelf.entries) number c.loop-number.state.bus kept rest ran read c.args.shelf.now.capacity is)),
+          rw held (omega (arith, old.traced.1.3, facts.5, recorded_served image (kept_of c.loop-number.shelf.entries) number c.loop-number.here.state.bus kept rest ran read c.args.shelf.now.capacity is)),
         ),
       );
-      ready = λ h. rw (end ∙ sym (ap (λ r. r.0) gives)) (span_ready image c.requires.image number c.loop-number.state.bus old.ready);
+      ready = λ h. rw (end ∙ sym (ap (λ r. r.0) gives)) (span_ready image c.requires.image number c.loop-number.here.state.bus old.ready);
+      new = e.new;
       named = rw old.kept at e.told;
       capacity = e.capacity ∙ old.capacity;
       kept = e.kept ∙ old.kept;
@@ -65,11 +68,11 @@ loop-number-preserved g c =
 pub returns-clause-lines : goal.returns-clause-lines
 returns-clause-lines g c =
     let old = c.loop-number.invariant in
-    let e = none_left (g.P.Asked.seen c.args.parts.now).image c.loop-number.number c.args.count c.loop-number.state.bus c.loop-number-test.false in
+    let e = none_left (g.P.Asked.seen c.args.parts.now).image c.loop-number.number c.args.count c.loop-number.here.state.bus c.loop-number-test.false in
     sym (append-nil c.loop-number.told.items) ∙ (rw e at old.lines)
 
 pub returns-clause-traced : goal.returns-clause-traced
 returns-clause-traced g c =
     let old = c.loop-number.invariant in
     let all : c.loop-number.number ≡ c.args.count = omega arith in
-    (c.loop-number.state.bus, (old.traced.0, (old.traced.1.0, (rw (← all) old.traced.1.1, old.traced.1.2, omega (arith, old.traced.1.3)))))
+    (c.loop-number.here.state.bus, (old.traced.0, (old.traced.1.0, (rw (← all) old.traced.1.1, old.traced.1.2, omega (arith, old.traced.1.3)))))

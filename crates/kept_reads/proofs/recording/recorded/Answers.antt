@@ -1,5 +1,4 @@
 use Rattle.std.proofs.Common.{◌≡◌, ◌++◌, length, arith, sym, ap, ◌∙◌, append_assoc}
-use Rattle.asking.specs.Asking.{Agrees}
 use Rattle.kept_reads.proofs.KnownLemmas.{marked_in_turn, none_marked}
 use Rattle.kept_reads.proofs.OnceLemmas.{agrees_middle, agrees_on, all_came, none_once}
 use Rattle.kept_reads.specs.Reads.{plain}

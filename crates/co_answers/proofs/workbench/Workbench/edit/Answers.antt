@@ -1,13 +1,8 @@
 use Rattle.std.proofs.Common.{rules}
-use Rattle.kept_image.specs.Kept.{IsOf}
 use Rattle.co_answers.proofs.workbench.Workbench.edit.Goals as goal
 
 pub invariant_of-self : goal.invariant_of-self
-invariant_of-self c =
-    let image : IsOf c.accept.new.self c.touch.new.self = search rules in
-    (image, c.mark.ensures.are_of c.accept.new.self)
+invariant_of-self c = (search rules, c.mark.ensures.are_of c.accept.new.self)
 
 pub invariant_of-self-2 : goal.invariant_of-self-2
-invariant_of-self-2 c =
-    let image : IsOf c.accept.new.self c.touch.new.self = search rules in
-    (image, c.mark.ensures.are_of c.accept.new.self)
+invariant_of-self-2 c = (search rules, c.mark.ensures.are_of c.accept.new.self)

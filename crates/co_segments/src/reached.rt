@@ -1,0 +1,12 @@
+//! A bus that a trace has reached.
+
+use crate::numbered_bus::NumberedBus;
+
+/// The bus at which a trace stands between two segments.
+#[derive(Drop)]
+pub(crate) struct Reached {
+    /// The bus, with its number.
+    pub state: NumberedBus,
+    /// Whether it is known that no held segment of the next number starts from it.
+    pub is_new: bool,
+}
