@@ -15,8 +15,8 @@ use std::alloc::Global;
 /// The answer to a query, of the project as it is now.
 ///
 /// A file and diagnostics are shared with what is kept: where no edit came since, they take no memory, and
-/// no time by their lines. The text of a trace is put together of what was written for the last one and what is
-/// written now, that of a script is made anew; each is copied once.
+/// no time by their lines. The text of a trace is put together of those that are kept with its windows, that of a
+/// script is made anew; each is copied once.
 pub fn answer(alloc: Global, workbench: &mut Workbench, query: Query) -> Result<Answer, EditFault>
     ensures answer { Gives is_memory text_of result (answer workbench.old.project query) }
     ensures same { workbench.new.project ≡ workbench.old.project }
@@ -35,8 +35,7 @@ pub fn answer(alloc: Global, workbench: &mut Workbench, query: Query) -> Result<
             Ok(Answer::Diagnostics(found))
         }
         Query::Trace => {
-            let text = workbench.trace_text()?;
-            let lines = ListedText::new(alloc, &text)?;
+            let lines = workbench.trace_text()?;
             Ok(Answer::Made(lines))
         }
         Query::Project => {

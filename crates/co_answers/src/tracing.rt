@@ -7,15 +7,15 @@ ghost use Rattle.network_image.specs.Image.{image_of};
 ghost use Rattle.network_image.specs.Network.{image_held};
 ghost use Rattle.co_answers.specs.Queries.{trace_of};
 
-use can_bus::Line;
 use co_depend::ProjectParts;
 use co_memo::Meter;
 use co_project::Project;
 use co_segments::Store;
 use network_image::NetworkParts;
 use std::alloc::{AllocError, Global};
+use trace_text::TraceText;
 
-/// The trace of the network of a project, by its parts and the segments that are kept. Want of memory is the
+/// The trace of the network of a project with its text, by its parts and the segments that are kept. Want of memory is the
 /// only error; other segments may then be held, each of them valid.
 #[tactic(auto, unfolding(crate::specs::Queries::trace_of))]
 pub(crate) fn traced(
@@ -24,10 +24,10 @@ pub(crate) fn traced(
     network: NetworkParts,
     store: &mut Store,
     meter: &mut Meter,
-) -> Result<Vec<Line>, AllocError>
+) -> Result<TraceText, AllocError>
     requires { image_held network ≡ image_of project.now }
-    ensures lines { IfOk result (λ lines. lines.items ≡ trace_of project.now) }
-    ensures traced { IfOk result (λ lines. (end : Bus) × ((all : List Told) × ((ran : ℕ) × ((read : ℕ) × (
+    ensures lines { IfOk result (λ told. told ≡ trace_of project.now) }
+    ensures traced { IfOk result (λ told. (end : Bus) × ((all : List Told) × ((ran : ℕ) × ((read : ℕ) × (
         Traced (image_of project.now) store.old.capacity store.old.segments (project.now.horizon / 10000 + 1)
         end store.new.segments all ran read
         × HasRun ran meter.old meter.new))))) }
@@ -36,6 +36,6 @@ pub(crate) fn traced(
     project.keeps_to_rules();
     let horizon = project.horizon();
     let mut parts = ProjectParts::of(alloc, network);
-    let lines = store.trace(&mut parts, horizon, meter)?;
-    Ok(lines)
+    let told = store.trace_text(&mut parts, horizon, meter)?;
+    Ok(told)
 }

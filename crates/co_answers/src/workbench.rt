@@ -38,8 +38,8 @@ const CAPACITY: usize = 2048;
 ///
 /// Each answer is that of the project of now. Kept are the devices of EDS, the plan of the messages, of each
 /// node its writes and its files, what a simulation reads: the roster, of each node its values, entries
-/// and identity, and the events by windows; the diagnostics; and the segments of traces; each with what it
-/// was built from or read; and of the last trace its lines with their text. An edit marks what it may
+/// and identity, and the events by windows; the diagnostics; and the segments of traces, with the text of their
+/// lines; each with what it was built from or read. An edit marks what it may
 /// leave with other inputs; a query looks at what it is built from, in its order, and makes anew what has
 /// other inputs than it was built from, and no more. A file that is kept as it is now is shared, or copied.
 #[derive(Drop)]
@@ -49,7 +49,6 @@ pub struct Workbench {
     image: KeptImage,
     found: KeptDiagnostics,
     store: Store,
-    told: TraceText,
     meter: Meter,
 }
 
@@ -92,7 +91,6 @@ impl Workbench {
             image: KeptImage::new(alloc),
             found: KeptDiagnostics::new(),
             store,
-            told: TraceText::new(alloc),
             meter: Meter::new(),
         })
     }
@@ -237,6 +235,25 @@ impl Workbench {
         Ok(found)
     }
 
+    /// The trace of the network of the project as it is now, with its text. Takes time and memory as `trace` does,
+    /// but for the copy of the lines.
+    fn told(&mut self) -> Result<TraceText, AllocError>
+        ensures lines { IfOk result (λ told. told ≡ trace_of self.old.project) }
+        ensures traces { OnOk result (Traces self.old self.new) }
+        ensures same { self.new.project ≡ self.old.project }
+    {
+        self.image.refresh_all(&self.project, &mut self.meter)?;
+        let network = self.image.network(&self.project)?;
+        let told = traced(
+            self.alloc,
+            &self.project,
+            network,
+            &mut self.store,
+            &mut self.meter,
+        )?;
+        Ok(told)
+    }
+
     /// The trace of the network of the project as it is now: from the power-on, an instant at each
     /// microsecond up to the horizon.
     ///
@@ -246,32 +263,25 @@ impl Workbench {
     /// was reached and has read nothing that is another now is used: in time by what it read. Each other
     /// window is run, at the microseconds at which something is due: in time at each by what is due or changes
     /// there, by the nodes that have to run, and by an eighth of all. It is kept, at most 2,048 of them: memory
-    /// by its lines, what it read and what changed in it.
+    /// by its lines and their text, what it read and what changed in it.
     pub fn trace(&mut self) -> Result<Vec<Line>, AllocError>
         ensures lines { IfOk result (λ lines. lines.items ≡ trace_of self.old.project) }
         ensures traces { OnOk result (Traces self.old self.new) }
         ensures same { self.new.project ≡ self.old.project }
     {
-        self.image.refresh_all(&self.project, &mut self.meter)?;
-        let network = self.image.network(&self.project)?;
-        let lines = traced(
-            self.alloc,
-            &self.project,
-            network,
-            &mut self.store,
-            &mut self.meter,
-        )?;
+        let told = self.told()?;
+        let lines = told.lines()?;
         Ok(lines)
     }
 
-    /// The text of the trace, each line ended by LF. Takes the time of `trace`, and that of writing the lines
-    /// which the trace that was asked for last hadn't at the same places; the others are copied.
-    pub(crate) fn trace_text(&mut self) -> Result<Vec<u8>, AllocError>
-        ensures text { IfOk result (λ text. text.items ≡ lines_text (trace_of self.old.project)) }
+    /// The text of the trace, each line ended by LF, with the reply that shows it. Takes the time of `trace`; the
+    /// text of each window is kept with it, and copied once.
+    pub(crate) fn trace_text(&mut self) -> Result<ListedText, AllocError>
+        ensures text { IfOk result (λ text. text ≡ lines_text (trace_of self.old.project)) }
         ensures same { self.new.project ≡ self.old.project }
     {
-        let lines = self.trace()?;
-        let text = self.told.text(&lines)?;
+        let told = self.told()?;
+        let text = told.listed()?;
         Ok(text)
     }
 

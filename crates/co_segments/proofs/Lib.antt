@@ -1,7 +1,5 @@
-pub mod SpanLemmas
 pub mod WindowLemmas
 pub mod RecordedLemmas
 pub mod ValidLemmas
 pub mod PlacedLemmas
-pub mod MatchLemmas
 pub mod NumberedLemmas

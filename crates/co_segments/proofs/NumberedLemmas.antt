@@ -1,21 +1,16 @@
 -- Segments of a number.
-use Rattle.std.proofs.Common.{◌≡◌, ℕ, zero, suc, ◌+◌, ◌<◌, ◌≤◌, true, false, List, [], ◌∷◌, drop, length, None, Some, nat_eq, refl, sym, ap, ◌∙◌, arith}
-use Rattle.std.specs.Prelude.{slice_get}
+use Rattle.std.proofs.Common.{◌≡◌, ℕ, zero, suc, ◌+◌, ◌<◌, ◌≤◌, Bool, true, false, List, [], ◌∷◌, drop, length, None, Some, nat_eq, refl, sym, ap, ◌∙◌, arith}
+use Rattle.std.specs.Prelude.{if◌then◌else◌, slice_get}
 use Rattle.std.proofs.lemmas.Bool.{false≢true}
 use Rattle.std.proofs.lemmas.Bool.Decides.{nat_tests}
 use Rattle.std.proofs.lemmas.List.{drop_more}
-use Rattle.std.proofs.lemmas.Option.{get_or_from_slice_get, none-some, slice_get_within}
+use Rattle.std.proofs.lemmas.Option.{get_or_from_slice_get, none-some, same_Some, slice_get_within}
 use Rattle.can_bus.specs.Bus.{Bus}
 use Rattle.co_parts.specs.Contents.{Image}
-use Rattle.kept_shelf.specs.Numbers.{of_number}
 use Rattle.kept_shelf.proofs.EntryLemmas.{head_in, tail_in}
-use Rattle.co_segments.specs.Placed.{Placed, kept_of}
+use Rattle.co_segments.specs.Placed.{Placed, kept_of, numbered}
 use Rattle.co_segments.specs.Segments.{IsStale, Serves, recorded_of}
 use Rattle.co_segments.proofs.PlacedLemmas.{one_stale}
-
--- the held segments of a number
-abbrev pub numbered : ℕ → List (ℕ × Placed) → List (ℕ × Placed)
-numbered = of_number (λ (s : Placed). s.kept.number)
 
 has_number : (a b : ℕ) → a ≡ b → nat_eq a b ≡ true
 has_number a b h = grind (arith, nat_tests)
@@ -60,3 +55,40 @@ one_passed image number start es i key s is other before h =
     let xs = numbered number es in
     let earlier = rw (rest_at xs i (key, s) is) at before in
     earlier (one_stale image number start (key, s) (drop (i + 1) xs) other h)
+
+-- none has passed
+pub none_passed : (image : Image) (number : ℕ) (start : Bus) (es : List (ℕ × Placed)) (key : ℕ) (s : Placed)
+    → slice_get (numbered number es) 0 ≡ Some (key, s) → (Serves image number start s.kept → ⊥)
+    → IsStale image (kept_of (drop 1 (numbered number es))) number start → IsStale image (kept_of es) number start
+none_passed image number start es key s is other =
+    one_passed image number start es 0 key s is other (all_stale image number start es)
+
+is_number : (a b : ℕ) → nat_eq a b ≡ true → a ≡ b
+is_number a b h = grind (arith, nat_tests)
+
+-- the first of a number has it
+first_number : (number : ℕ) (es : List (ℕ × Placed)) (e : ℕ × Placed) → slice_get (numbered number es) 0 ≡ Some e → e.1.kept.number ≡ number
+first_number number [] e h = absurd (none-some e h)
+first_number number (f ∷ es) e h = (elim (nat_eq f.1.kept.number number) as (λ t. nat_eq f.1.kept.number number ≡ t → e.1.kept.number ≡ number) [
+  | true ↦ λ t.
+      let same = same_Some f e (rw t at h) in
+      sym (ap (λ (x : ℕ × Placed). x.1.kept.number) same) ∙ is_number f.1.kept.number number t
+  | false ↦ λ t. first_number number es e (rw t at h)
+]) refl
+
+if_of : (b : Bool) (n : ℕ) → b ≡ true → (if b then n else 0) ≡ n
+if_of true n h = refl
+if_of false n h = absurd (false≢true h)
+
+-- at most all of it
+pub if_most : (b : Bool) (n : ℕ) → (if b then n else 0) ≤ n
+if_most true n = omega arith
+if_most false n = omega arith
+
+-- the reads of the first of a number, and those of the others
+pub first_recorded : (number : ℕ) (es : List (ℕ × Placed)) (e : ℕ × Placed) → slice_get (numbered number es) 0 ≡ Some e
+    → length e.1.kept.reads + recorded_of number (kept_of (drop 1 (numbered number es))) ≤ recorded_of number (kept_of es)
+first_recorded number es e h =
+    let own = if_of (nat_eq e.1.kept.number number) (length e.1.kept.reads) (has_number e.1.kept.number number (first_number number es e h)) in
+    let all = rw (rest_at (numbered number es) 0 e h) at (numbered_recorded number es) in
+    omega (arith, own, all)

@@ -167,6 +167,15 @@ segments_later es given later h buses contents = record {
   }) es h.named;
 }
 
+-- some of them
+pub segments_fewer : (es fs : List (ℕ × Placed)) (given : Given) → ((e : ℕ × Placed) → Contains fs e → Contains es e)
+    → AreSegments es given → AreSegments fs given
+segments_fewer es fs given fewer h = record {
+  sound = λ e c. h.sound e (fewer e c);
+  meaning = h.meaning;
+  named = λ e c. h.named e (fewer e c);
+}
+
 module _ (image : Image) where
   -- the segments stand without the bus reached
   pub segments_from_told : (es : List (ℕ × Placed)) (given : Given) (known : List (Part × Known)) (here : Numbered)

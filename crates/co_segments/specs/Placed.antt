@@ -4,6 +4,7 @@ use Rattle.std.specs.Coded.{Coded, code_by, coded×, coded_list, coded_ℕ}
 use Rattle.can_bus.specs.Bus.{Bus}
 use Rattle.co_parts.specs.Contents.{Content, Image}
 use Rattle.co_parts.specs.declared.part.Part.{Part}
+use Rattle.kept_shelf.specs.Numbers.{of_number}
 use Rattle.kept_reads.specs.Numbers.{KeepsMeaning, StandsFor}
 use Rattle.kept_reads.specs.Reads.{AreKnown, AreMarked, Known, Recorded}
 use Rattle.co_segments.specs.declared.given.Given.{Given}
@@ -39,7 +40,11 @@ IsStart s n bus = (n ≡ record { number = s.start; bus = s.kept.start }) × (s.
 abbrev pub kept_of : List (ℕ × Placed) → List Kept
 kept_of entries = map (λ e. e.1.kept) entries
 
--- a bus from which no held segment of a number starts: none serves there, whatever the image
+-- the held segments of a number, in their order
+abbrev pub numbered : ℕ → List (ℕ × Placed) → List (ℕ × Placed)
+numbered = of_number (λ (s : Placed). s.kept.number)
+
+-- a bus from which no held segment of a number serves, whatever the image
 abbrev pub IsNew : List (ℕ × Placed) → ℕ → Bus → Type 0
 IsNew entries number bus = (image : Image) → IsStale image (kept_of entries) number bus
 

@@ -7,15 +7,12 @@
 
 mod finding;
 mod given;
-mod handing;
-mod matching;
 mod numbered_bus;
 mod reached;
 mod rejoining;
-mod running;
 mod segment;
 mod serving;
-mod spans;
+mod sight;
 mod store;
 
 pub use store::Store;

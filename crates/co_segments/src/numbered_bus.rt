@@ -3,36 +3,44 @@
 ghost use Rattle.std.specs.Prelude.{◌≡◌, ◌↔◌, ℕ, IfOk, IsTrue};
 ghost use Rattle.can_bus.specs.Bus.{Bus};
 ghost use Rattle.kept_reads.specs.Numbers.{StandsFor};
+ghost use Rattle.co_segments.specs.Sights.{AreSightsOf};
 
+use crate::sight::Sight;
 use can_bus::BusState;
 use std::alloc::AllocError;
 use std::marker::Model;
 use std::rc::Rc;
 
-/// A bus at a moment, shared, with its private number: no two buses have one number.
+/// A bus at a moment, shared, with its private number: no two buses have one number. What is seen of it at one
+/// entry stands beside it, so that it is told from another one without a look at either.
 #[derive(Drop)]
 pub(crate) struct NumberedBus {
     number: u64,
     bus: Rc<BusState>,
+    sight: Option<Sight>,
 }
 
 impl Model for NumberedBus {
     ghost use Rattle.can_bus.specs.contracts.bus_state.BusState as bus_state;
     ghost use Rattle.co_segments.specs.Placed.{Numbered, numbered_code};
+    ghost use Rattle.co_segments.specs.Sights.{AreSightsOf};
 
     ghost Value = { Numbered };
 
     ghost coded = { numbered_code bus_state.the_row.coded };
 
     ghost view = { λ a. record { number = a.number; bus = a.bus.value } };
+
+    ghost invariant = { λ a. AreSightsOf a.bus.value a.sight };
 }
 
 impl NumberedBus {
-    /// The bus of this number.
-    pub fn new(number: u64, bus: Rc<BusState>) -> NumberedBus
+    /// The bus of this number, with what is seen of it, if it was looked at.
+    pub fn new(number: u64, bus: Rc<BusState>, sight: Option<Sight>) -> NumberedBus
+        requires { AreSightsOf bus.value sight }
         ensures { result ≡ record { number = number; bus = bus.value } }
     {
-        NumberedBus { number, bus }
+        NumberedBus { number, bus, sight }
     }
 
     /// The same bus, shared. Takes no memory.
@@ -43,6 +51,7 @@ impl NumberedBus {
         Ok(NumberedBus {
             number: self.number,
             bus,
+            sight: self.sight,
         })
     }
 
@@ -58,6 +67,18 @@ impl NumberedBus {
         ensures { result.now ≡ self.now.bus }
     {
         &self.bus
+    }
+
+    /// Whether it is another bus than one of which something is seen, as far as the two sights tell.
+    pub fn is_other(&self, bus: &BusState, sight: &Option<Sight>) -> bool
+        requires { AreSightsOf bus.now sight.now }
+        ensures { IsTrue result → self.now.bus ≡ bus.now → ⊥ }
+    {
+        let _ = bus;
+        match (&self.sight, sight) {
+            (Some(own), Some(other)) => own.differs(other),
+            _ => false,
+        }
     }
 
     /// Whether the buses are the same. Those of one number aren't compared.

@@ -1,14 +1,17 @@
 //! A bus at which a trace joins one that was traced before.
 
-ghost use Rattle.std.specs.Prelude.{◌≡◌, ◌≤◌, ℕ, Contains, IfOk, IsTrue, MatchOption};
+ghost use Rattle.std.specs.Prelude.{◌≡◌, ◌≤◌, ℕ, [], Contains, IfOk, IsTrue, MatchOption};
 ghost use Rattle.co_segments.specs.Placed.{IsNew, IsReached, IsStart, Placed};
+ghost use Rattle.co_segments.specs.Sights.{AreSightsOf};
 
 use crate::numbered_bus::NumberedBus;
 use crate::reached::Reached;
 use crate::segment::Segment;
 use crate::serving::give;
+use crate::sight::Sight;
 use can_bus::BusState;
 use kept_shelf::Shelf;
+use recorded_spans::Place;
 use std::alloc::{AllocError, Global};
 
 /// The first node whose device tells a bus from the one that a segment starts from, if one does by a quick look.
@@ -16,10 +19,15 @@ fn node_that_differs(segment: &Segment, bus: &BusState) -> Option<u8> {
     (1..=127).find(|node| segment.differs_at(*node, bus))
 }
 
-/// Whether a segment starts from another bus, by a quick look at a node, if there is one to look at.
-fn differs_there(segment: &Segment, node: Option<u8>, bus: &BusState) -> bool
+/// Whether a segment starts from another bus: as far as what is seen of both tells, or by a quick look at a node, if
+/// there is one to look at.
+fn differs_there(segment: &Segment, node: Option<u8>, bus: &BusState, sight: &Option<Sight>) -> bool
+    requires { AreSightsOf bus.now sight.now }
     ensures { IsTrue result → segment.now.kept.start ≡ bus.now → ⊥ }
 {
+    if segment.is_other(bus, sight) {
+        return true;
+    }
     match node {
         Some(node) => segment.differs_at(node, bus),
         None => false,
@@ -32,7 +40,11 @@ fn held_start(
     shelf: &Shelf<Segment>,
     number: u64,
     bus: &BusState,
+    sight: &Option<Sight>,
 ) -> Result<Option<NumberedBus>, AllocError>
+    requires settled { shelf.now.ahead ≡ [] }
+    requires later { shelf.now.turn ≤ number }
+    requires sight { AreSightsOf bus.now sight.now }
     ensures { IfOk result (λ start. MatchOption start (IsNew shelf.now.entries number bus.now)
         (λ n. (e : ℕ × Placed) × (Contains shelf.now.entries e × IsStart e.1 n bus.now))) }
 {
@@ -40,7 +52,7 @@ fn held_start(
     let mut node = None;
     for place in 0..count {
         if let Some((_key, segment)) = shelf.at(number, place) {
-            if differs_there(segment, node, bus) {
+            if differs_there(segment, node, bus, sight) {
                 continue;
             }
             if let Some(found) = segment.start_at(number, bus)? {
@@ -54,6 +66,16 @@ fn held_start(
     Ok(None)
 }
 
+/// What is seen of a bus at a place, if there is one.
+fn seen_at(place: Option<Place>, bus: &BusState) -> Option<Sight>
+    ensures { AreSightsOf bus.now result }
+{
+    match place {
+        Some(place) => Sight::of(place, bus),
+        None => None,
+    }
+}
+
 /// A bus with the number that it has as the start of a held segment, and else with a new one. Each held segment
 /// of the number is compared once: where none starts from the bus, none has to be looked for again.
 pub(crate) fn reach(
@@ -62,19 +84,23 @@ pub(crate) fn reach(
     given: &mut u64,
     number: u64,
     bus: BusState,
+    place: Option<Place>,
 ) -> Result<Reached, AllocError>
+    requires settled { shelf.now.ahead ≡ [] }
+    requires later { shelf.now.turn ≤ number }
     ensures reached { IfOk result (λ end. IsReached shelf.now.entries given.old given.new bus end.state) }
     ensures new { IfOk result (λ end. IsTrue end.is_new → IsNew shelf.now.entries number bus) }
     ensures more { given.old ≤ given.new }
 {
-    let start = held_start(shelf, number, &bus)?;
+    let sight = seen_at(place, &bus);
+    let start = held_start(shelf, number, &bus, &sight)?;
     match start {
         Some(state) => Ok(Reached {
             state,
             is_new: false,
         }),
         None => {
-            let state = give(alloc, given, bus)?;
+            let state = give(alloc, given, bus, sight)?;
             Ok(Reached {
                 state,
                 is_new: true,

@@ -6,15 +6,19 @@ ghost use Rattle.kept_reads.specs.Numbers.{StandsFor};
 ghost use Rattle.kept_reads.specs.Reads.{AreKnown, AreMarked, Extends, plain};
 ghost use Rattle.co_segments.specs.Placed.{IsNamed, IsStart, Meaning};
 ghost use Rattle.co_segments.specs.Segments.{Serves};
+ghost use Rattle.co_segments.specs.Sights.{AreSightsOf};
 
 use crate::given::Given;
-use crate::matching::matches;
 use crate::numbered_bus::NumberedBus;
-use can_bus::{BusState, Line, Parts};
-use kept_reads::{KeptRead, ReadsNow};
+use crate::sight::Sight;
+use can_bus::{BusState, Parts};
+use co_memo::Shared;
+use kept_reads::KeptRead;
 use kept_shelf::Numbered;
+use recorded_spans::{Look, matches};
 use std::alloc::{AllocError, Global};
 use std::marker::Model;
+use trace_text::Passage;
 
 /// A span that was run, from a bus on, with what it read and told.
 #[derive(Drop)]
@@ -22,13 +26,13 @@ pub(crate) struct Segment {
     number: u64,
     start: NumberedBus,
     reads: Vec<KeptRead>,
-    lines: Vec<Line>,
+    told: Shared<Passage>,
     end: NumberedBus,
 }
 
 impl Model for Segment {
     ghost use Rattle.can_bus.specs.contracts.bus_state.BusState as bus_state;
-    ghost use Rattle.can_bus.specs.contracts.line.Line as told;
+    ghost use Rattle.can_bus.specs.contracts.line.Line as line;
     ghost use Rattle.co_parts.specs.contracts.read.Read as noted;
     ghost use Rattle.kept_reads.specs.contracts.kept_read.KeptRead as marked;
     ghost use Rattle.kept_reads.specs.Reads.{plain};
@@ -37,14 +41,14 @@ impl Model for Segment {
 
     ghost Value = { Placed };
 
-    ghost coded = { placed_code (kept_code bus_state.the_row.coded noted.the_row.coded told.the_row.coded) marked.the_row.coded };
+    ghost coded = { placed_code (kept_code bus_state.the_row.coded noted.the_row.coded line.the_row.coded) marked.the_row.coded };
 
     ghost view = { λ a. record {
       kept = record {
         number = a.number;
         start = a.start.bus;
         reads = plain a.reads.items;
-        lines = a.lines.items;
+        lines = a.told;
         end = a.end.bus;
       };
       start = a.start.number;
@@ -67,7 +71,7 @@ impl Segment {
         number: u64,
         start: NumberedBus,
         reads: Vec<KeptRead>,
-        lines: Vec<Line>,
+        told: Shared<Passage>,
         end: NumberedBus,
     ) -> Segment
         ensures { result ≡ record {
@@ -75,7 +79,7 @@ impl Segment {
             number = number;
             start = start.bus;
             reads = plain reads.items;
-            lines = lines.items;
+            lines = told;
             end = end.bus;
           };
           start = start.number;
@@ -87,16 +91,16 @@ impl Segment {
             number,
             start,
             reads,
-            lines,
+            told,
             end,
         }
     }
 
-    /// Its lines.
-    pub fn lines(&self) -> &[Line]
-        ensures { result.now ≡ self.now.kept.lines }
+    /// Its lines, shared. Takes no memory.
+    pub fn told(&self) -> Result<Shared<Passage>, AllocError>
+        ensures { IfOk result (λ told. told ≡ self.now.kept.lines) }
     {
-        &self.lines
+        self.told.share()
     }
 
     /// The bus at its end.
@@ -125,6 +129,14 @@ impl Segment {
         Ok(Some(start))
     }
 
+    /// Whether its bus at its start is another one, as far as what is seen of both tells.
+    pub fn is_other(&self, bus: &BusState, sight: &Option<Sight>) -> bool
+        requires { AreSightsOf bus.now sight.now }
+        ensures { IsTrue result → self.now.kept.start ≡ bus.now → ⊥ }
+    {
+        self.start.is_other(bus, sight)
+    }
+
     /// Whether its bus at its start is another one, by a quick look at the values of one node's device.
     pub fn differs_at(&self, node: u8, bus: &BusState) -> bool
         ensures { IsTrue result → self.now.kept.start ≡ bus.now → ⊥ }
@@ -140,7 +152,7 @@ impl Segment {
     pub fn serves<P: Parts>(
         &self,
         alloc: Global,
-        now: &mut ReadsNow,
+        now: &mut Look,
         given: &mut Given,
         number: u64,
         state: &NumberedBus,
@@ -148,13 +160,13 @@ impl Segment {
     ) -> Result<bool, AllocError>
         requires { (m : Meaning) × (IsNamed m given.now self.now
             × (StandsFor m.buses given.now.buses state.now.number state.now.bus
-            × AreKnown (P.seen parts.now).image m.contents given.now.contents now.now)) }
+            × AreKnown (P.seen parts.now).image m.contents given.now.contents now.now.reads)) }
         ensures answer { IfOk result (λ b. IsTrue b
             ↔ Serves (P.seen parts.old).image number state.now.bus self.now.kept) }
         ensures known { OnOk result ((contents : ℕ → Content)
-            → AreKnown (P.seen parts.old).image contents given.old.contents now.old
+            → AreKnown (P.seen parts.old).image contents given.old.contents now.old.reads
             → AreMarked contents given.old.contents self.now.reads
-            → Extends (P.seen parts.old).image contents given.old.contents given.new.contents now.new) }
+            → Extends (P.seen parts.old).image contents given.old.contents given.new.contents now.new.reads) }
         ensures more { given.old.contents ≤ given.new.contents }
         ensures buses { given.new.buses ≡ given.old.buses }
         ensures counted { OnOk result (P.asks parts.new ≤ P.asks parts.old

@@ -1,34 +1,44 @@
 //! One segment of a trace.
 
-ghost use Rattle.std.specs.Prelude.{◌≡◌, ◌≤◌, ◌+◌, ◌++◌, ◌∷◌, ℕ, IfOk, IsTrue, OnOk, OnErr, List, Some, nat_eq, length, take};
+ghost use Rattle.std.specs.Prelude.{◌≡◌, ◌≤◌, ◌+◌, ◌++◌, ◌∷◌, ◌↔◌, ℕ, [], Contains, IfOk, IsTrue, MatchOption, None, OnOk, OnErr, List, Some, nat_eq, drop, length, slice_get, take};
 ghost use Rattle.std.specs.Map.{lookup};
 ghost use Rattle.asking.specs.Asking.{outcome, reads};
 ghost use Rattle.bus_laws.specs.Spans.{span};
 ghost use Rattle.co_parts.specs.Contents.{Content};
 ghost use Rattle.co_parts.specs.Images.{IsImage};
+ghost use Rattle.kept_reads.specs.Numbers.{StandsFor};
 ghost use Rattle.kept_reads.specs.Reads.{AreKnown, AreMarked, Extends, Recorded, plain};
 ghost use Rattle.kept_reads.specs.Records.{IsRecordOf};
+ghost use Rattle.kept_shelf.specs.Shelves.{HasNumber};
 ghost use Rattle.lru.specs.LruCache.{promoted};
-ghost use Rattle.co_segments.specs.Placed.{AreSegments, IsNew, IsReached, IsTold, Placed, kept_of};
-ghost use Rattle.co_segments.specs.Segments.{HasRun, IsServed, Kept, recorded_of};
-ghost use Rattle.co_segments.specs.Spans.{IsReady};
+ghost use Rattle.co_segments.specs.Placed.{AreNamed, AreSegments, IsNew, IsReached, IsTold, Meaning, Placed, kept_of, numbered};
+ghost use Rattle.co_segments.specs.Segments.{HasRun, IsServed, IsStale, Kept, Serves, recorded_of};
+ghost use Rattle.co_segments.specs.Sights.{AreSightsOf};
+ghost use Rattle.recorded_spans.specs.Spans.{IsReady};
 
 use crate::finding::find;
 use crate::given::Given;
 use crate::numbered_bus::NumberedBus;
 use crate::reached::Reached;
 use crate::rejoining::reach;
-use crate::running::run;
 use crate::segment::Segment;
-use can_bus::{BusState, Line, Parts};
-use co_memo::Meter;
-use kept_reads::ReadsNow;
+use crate::sight::Sight;
+use can_bus::{BusState, Parts};
+use co_memo::{Meter, Shared};
 use kept_shelf::Shelf;
+use recorded_spans::{Look, run};
 use std::alloc::{AllocError, Global};
 use std::rc::Rc;
+use trace_text::TraceText;
 
-/// Gives a bus a new number.
-pub(crate) fn give(alloc: Global, given: &mut u64, bus: BusState) -> Result<NumberedBus, AllocError>
+/// Gives a bus a new number, with what is seen of it, if it was looked at.
+pub(crate) fn give(
+    alloc: Global,
+    given: &mut u64,
+    bus: BusState,
+    sight: Option<Sight>,
+) -> Result<NumberedBus, AllocError>
+    requires { AreSightsOf bus sight }
     ensures is { IfOk result (λ state. state ≡ record { number = given.old; bus = bus }) }
     ensures ok { OnOk result (given.new ≡ given.old + 1) }
     ensures err { OnErr result (given.new ≡ given.old) }
@@ -37,31 +47,63 @@ pub(crate) fn give(alloc: Global, given: &mut u64, bus: BusState) -> Result<Numb
         return Err(AllocError);
     }
     let bus = Rc::new(alloc, bus)?;
-    let state = NumberedBus::new(*given, bus);
+    let state = NumberedBus::new(*given, bus, sight);
     *given += 1;
     Ok(state)
+}
+
+/// Tells what a segment told, and gives the bus at its end.
+fn tell(segment: &Segment, told: &mut TraceText) -> Result<NumberedBus, AllocError>
+    ensures end { IfOk result (λ end. end ≡ record { number = segment.now.end; bus = segment.now.kept.end }) }
+    ensures told { OnOk result (told.new ≡ told.old ++ segment.now.kept.lines) }
+{
+    let lines = segment.told()?;
+    told.add(lines)?;
+    segment.end().share()
+}
+
+/// Uses the segment that lies ahead, and puts it first.
+fn follow(shelf: &mut Shelf<Segment>, told: &mut TraceText) -> Result<NumberedBus, AllocError>
+    requires { (e : ℕ × Placed) × (slice_get shelf.old.ahead 0 ≡ Some e) }
+    ensures used { IfOk result (λ end. (e : ℕ × Placed) × ((slice_get shelf.old.ahead 0 ≡ Some e)
+        × (end ≡ record { number = e.1.end; bus = e.1.kept.end }) × (told.new ≡ told.old ++ e.1.kept.lines))) }
+    ensures first { OnOk result ((e : ℕ × Placed) → slice_get shelf.old.ahead 0 ≡ Some e → shelf.new
+        ≡ record shelf.old {
+          entries = promoted (nat_eq e.0) shelf.old.entries;
+          turn = shelf.old.turn + 1;
+          ahead = drop 1 shelf.old.ahead;
+        }) }
+    ensures err { OnErr result (shelf.new ≡ shelf.old) }
+{
+    let end = match shelf.next() {
+        None => return Err(AllocError),
+        Some((_key, segment)) => tell(segment, told)?,
+    };
+    shelf.use_next();
+    Ok(end)
 }
 
 /// Uses the segment under a key, and puts it first.
 fn use_held(
     shelf: &mut Shelf<Segment>,
     key: u64,
-    told: &mut Vec<Line>,
+    told: &mut TraceText,
 ) -> Result<NumberedBus, AllocError>
+    requires settled { shelf.old.ahead ≡ [] }
+    requires turn { HasNumber (λ (s : Placed). s.kept.number) key shelf.old.turn shelf.old.entries }
     ensures used { IfOk result (λ end. (s : Placed) × ((lookup (nat_eq key) shelf.old.entries ≡ Some s)
-        × (end ≡ record { number = s.end; bus = s.kept.end }) × (told.new.items ≡ told.old.items ++ s.kept.lines))) }
-    ensures first { OnOk result (shelf.new
-        ≡ record shelf.old { entries = promoted (nat_eq key) shelf.old.entries }) }
+        × (end ≡ record { number = s.end; bus = s.kept.end }) × (told.new ≡ told.old ++ s.kept.lines))) }
+    ensures first { OnOk result (shelf.new ≡ record shelf.old {
+      entries = promoted (nat_eq key) shelf.old.entries;
+      turn = shelf.old.turn + 1;
+    }) }
     ensures err { OnErr result (shelf.new ≡ shelf.old) }
 {
     let end = match shelf.get(key) {
         None => return Err(AllocError),
-        Some(segment) => {
-            told.extend_from_slice(segment.lines())?;
-            segment.end().share()?
-        }
+        Some(segment) => tell(segment, told)?,
     };
-    shelf.use_again(key);
+    shelf.use_again(key)?;
     Ok(end)
 }
 
@@ -69,31 +111,35 @@ fn use_held(
 fn run_new<P: Parts>(
     alloc: Global,
     shelf: &mut Shelf<Segment>,
-    now: &mut ReadsNow,
+    now: &mut Look,
     given: &mut Given,
     number: u64,
     state: NumberedBus,
     parts: &mut P,
-    told: &mut Vec<Line>,
+    told: &mut TraceText,
 ) -> Result<Reached, AllocError>
     requires within { number ≤ 1000 }
+    requires settled { shelf.old.ahead ≡ [] }
+    requires turn { shelf.old.turn ≡ number }
     requires image { IsImage (P.seen parts.now).image }
     requires ready { IsReady number state.bus }
-    requires known { (contents : ℕ → Content) × AreKnown (P.seen parts.now).image contents given.now.contents now.now }
+    requires known { (contents : ℕ → Content) × AreKnown (P.seen parts.now).image contents given.now.contents now.now.reads }
     ensures ran { IfOk result (λ end. (kept : Kept) × ((marked : List Recorded) × (
         (shelf.new ≡ record {
           capacity = shelf.old.capacity;
           entries = take shelf.old.capacity
               ((shelf.old.given, record { kept = kept; start = state.number; reads = marked; end = end.state.number }) ∷ shelf.old.entries);
           given = shelf.old.given + 1;
+          turn = shelf.old.turn + 1;
+          ahead = [];
         })
         × (end.state.bus ≡ kept.end)
         × (kept.number ≡ number) × (kept.start ≡ state.bus)
         × IsRecordOf (reads (span number state.bus) (P.seen parts.old).image) kept.reads
         × (outcome (span number state.bus) (P.seen parts.old).image ≡ (kept.end, kept.lines))
-        × (told.new.items ≡ told.old.items ++ kept.lines)
-        × ((contents : ℕ → Content) → AreKnown (P.seen parts.old).image contents given.old.contents now.old
-        → (e : Extends (P.seen parts.old).image contents given.old.contents given.new.contents now.new)
+        × (told.new ≡ told.old ++ kept.lines)
+        × ((contents : ℕ → Content) → AreKnown (P.seen parts.old).image contents given.old.contents now.old.reads
+        → (e : Extends (P.seen parts.old).image contents given.old.contents given.new.contents now.new.reads)
         × AreMarked e.meaning given.new.contents marked)))) }
     ensures reached { IfOk result (λ end. IsReached shelf.old.entries given.old.buses given.new.buses end.state.bus end.state) }
     ensures new { IfOk result (λ end. IsTrue end.is_new → IsNew shelf.new.entries (number + 1) end.state.bus) }
@@ -104,45 +150,96 @@ fn run_new<P: Parts>(
     ensures kept { (P.seen parts.new).image ≡ (P.seen parts.old).image }
 {
     let ran = run(alloc, now, &mut given.contents, number, state.bus(), parts)?;
-    told.extend_from_slice(&ran.lines)?;
-    let end = reach(alloc, shelf, &mut given.buses, number + 1, ran.end)?;
+    let lines = Shared::new(alloc, ran.told)?;
+    told.add(lines.share()?)?;
+    let end = reach(
+        alloc,
+        shelf,
+        &mut given.buses,
+        number + 1,
+        ran.end,
+        now.place,
+    )?;
     let copy = end.state.share()?;
-    shelf.add(Segment::new(number, state, ran.reads, ran.lines, copy))?;
+    shelf.add(Segment::new(number, state, ran.reads, lines, copy))?;
     Ok(end)
 }
 
-/// The next segment of a trace: one that is held, or else it is run. It is put first.
-pub(crate) fn advance<P: Parts>(
+/// Whether the segment that lies ahead serves, if one does: the first of its number.
+fn look_ahead<P: Parts>(
     alloc: Global,
-    shelf: &mut Shelf<Segment>,
-    now: &mut ReadsNow,
+    shelf: &Shelf<Segment>,
+    now: &mut Look,
     given: &mut Given,
     number: u64,
+    here: &Reached,
+    parts: &mut P,
+) -> Result<Option<bool>, AllocError>
+    requires turn { shelf.now.turn ≡ number }
+    requires named { (m : Meaning) × (AreNamed m given.now shelf.now.entries
+        × (StandsFor m.buses given.now.buses here.now.state.number here.now.state.bus
+        × AreKnown (P.seen parts.now).image m.contents given.now.contents now.now.reads)) }
+    ensures answer { IfOk result (λ answer. MatchOption answer ((slice_get shelf.now.ahead 0 ≡ None) × (P.asks parts.new ≡ P.asks parts.old)) (λ serves. (e : ℕ × Placed)
+        × ((slice_get shelf.now.ahead 0 ≡ Some e) × (lookup (nat_eq e.0) shelf.now.entries ≡ Some e.1)
+        × (slice_get (numbered number shelf.now.entries) 0 ≡ Some e)
+        × (IsTrue serves ↔ Serves (P.seen parts.old).image number here.now.state.bus e.1.kept)
+        × (P.asks parts.new ≤ P.asks parts.old + length e.1.kept.reads)))) }
+    ensures known { OnOk result ((contents : ℕ → Content)
+        → AreKnown (P.seen parts.old).image contents given.old.contents now.old.reads
+        → ((e : ℕ × Placed) → Contains shelf.now.entries e → AreMarked contents given.old.contents e.1.reads)
+        → Extends (P.seen parts.old).image contents given.old.contents given.new.contents now.new.reads) }
+    ensures more { given.old.contents ≤ given.new.contents }
+    ensures buses { given.new.buses ≡ given.old.buses }
+    ensures kept { (P.seen parts.new).image ≡ (P.seen parts.old).image }
+{
+    match shelf.next() {
+        None => Ok(None),
+        Some((_key, segment)) => {
+            let serves = segment.serves(alloc, now, given, number, &here.state, parts)?;
+            Ok(Some(serves))
+        }
+    }
+}
+
+/// The next segment of a trace: one that is held, from a place on among those of its number before which none
+/// serves, or else it is run. It is put first.
+fn search<P: Parts>(
+    alloc: Global,
+    shelf: &mut Shelf<Segment>,
+    now: &mut Look,
+    given: &mut Given,
+    number: u64,
+    from: usize,
     here: Reached,
     parts: &mut P,
     meter: &mut Meter,
-    told: &mut Vec<Line>,
+    told: &mut TraceText,
 ) -> Result<Reached, AllocError>
     requires within { number ≤ 1000 }
+    requires settled { shelf.old.ahead ≡ [] }
+    requires turn { shelf.old.turn ≡ number }
+    requires passed { IsStale (P.seen parts.now).image (kept_of (drop from (numbered number shelf.old.entries))) number here.state.bus
+        → IsStale (P.seen parts.now).image (kept_of shelf.old.entries) number here.state.bus }
     requires image { IsImage (P.seen parts.now).image }
     requires ready { IsReady number here.state.bus }
-    requires told { IsTold (P.seen parts.now).image shelf.old.entries given.old now.old here.state }
+    requires told { IsTold (P.seen parts.now).image shelf.old.entries given.old now.old.reads here.state }
     requires new { IsTrue here.is_new → IsNew shelf.old.entries number here.state.bus }
     ensures served { IfOk result (λ end. (kept : Kept) × ((rest : List Kept) × ((ran : ℕ) × ((read : ℕ) × (
         IsServed (P.seen parts.old).image (kept_of shelf.old.entries) number here.state.bus kept rest ran read
         × (end.state.bus ≡ kept.end)
-        × (told.new.items ≡ told.old.items ++ kept.lines)
+        × (told.new ≡ told.old ++ kept.lines)
         × (kept_of shelf.new.entries ≡ take shelf.old.capacity (kept ∷ rest))
         × HasRun ran meter.old meter.new
-        × (P.asks parts.new ≤ P.asks parts.old + recorded_of number (kept_of shelf.old.entries) + read)))))) }
-    ensures told { IfOk result (λ end. IsTold (P.seen parts.old).image shelf.new.entries given.new now.new end.state) }
+        × (P.asks parts.new ≤ P.asks parts.old + recorded_of number (kept_of (drop from (numbered number shelf.old.entries))) + read)))))) }
+    ensures told { IfOk result (λ end. IsTold (P.seen parts.old).image shelf.new.entries given.new now.new.reads end.state) }
     ensures new { IfOk result (λ end. IsTrue end.is_new → IsNew shelf.new.entries (number + 1) end.state.bus) }
     ensures segments { AreSegments shelf.new.entries given.new }
+    ensures turn { OnOk result (shelf.new.turn ≡ number + 1) }
     ensures capacity { shelf.new.capacity ≡ shelf.old.capacity }
     ensures kept { (P.seen parts.new).image ≡ (P.seen parts.old).image }
 {
     let _count = shelf.len();
-    let found = find(alloc, shelf, now, given, number, &here, parts)?;
+    let found = find(alloc, shelf, now, given, number, from, &here, parts)?;
     match found {
         Some(key) => {
             let state = use_held(shelf, key, told)?;
@@ -155,6 +252,106 @@ pub(crate) fn advance<P: Parts>(
             meter.ran();
             let reached = run_new(alloc, shelf, now, given, number, here.state, parts, told)?;
             Ok(reached)
+        }
+    }
+}
+
+/// The same, once nothing lies ahead any more.
+fn pass_on<P: Parts>(
+    alloc: Global,
+    shelf: &mut Shelf<Segment>,
+    now: &mut Look,
+    given: &mut Given,
+    number: u64,
+    from: usize,
+    here: Reached,
+    parts: &mut P,
+    meter: &mut Meter,
+    told: &mut TraceText,
+) -> Result<Reached, AllocError>
+    requires within { number ≤ 1000 }
+    requires turn { shelf.old.turn ≡ number }
+    requires passed { IsStale (P.seen parts.now).image (kept_of (drop from (numbered number shelf.old.entries))) number here.state.bus
+        → IsStale (P.seen parts.now).image (kept_of shelf.old.entries) number here.state.bus }
+    requires image { IsImage (P.seen parts.now).image }
+    requires ready { IsReady number here.state.bus }
+    requires told { IsTold (P.seen parts.now).image shelf.old.entries given.old now.old.reads here.state }
+    requires new { IsTrue here.is_new → IsNew shelf.old.entries number here.state.bus }
+    ensures served { IfOk result (λ end. (kept : Kept) × ((rest : List Kept) × ((ran : ℕ) × ((read : ℕ) × (
+        IsServed (P.seen parts.old).image (kept_of shelf.old.entries) number here.state.bus kept rest ran read
+        × (end.state.bus ≡ kept.end)
+        × (told.new ≡ told.old ++ kept.lines)
+        × (kept_of shelf.new.entries ≡ take shelf.old.capacity (kept ∷ rest))
+        × HasRun ran meter.old meter.new
+        × (P.asks parts.new ≤ P.asks parts.old + recorded_of number (kept_of (drop from (numbered number shelf.old.entries))) + read)))))) }
+    ensures told { IfOk result (λ end. IsTold (P.seen parts.old).image shelf.new.entries given.new now.new.reads end.state) }
+    ensures new { IfOk result (λ end. IsTrue end.is_new → IsNew shelf.new.entries (number + 1) end.state.bus) }
+    ensures segments { AreSegments shelf.new.entries given.new }
+    ensures turn { OnOk result (shelf.new.turn ≡ number + 1) }
+    ensures capacity { shelf.new.capacity ≡ shelf.old.capacity }
+    ensures kept { (P.seen parts.new).image ≡ (P.seen parts.old).image }
+{
+    shelf.settle()?;
+    let end = search(
+        alloc, shelf, now, given, number, from, here, parts, meter, told,
+    )?;
+    Ok(end)
+}
+
+/// The next segment of a trace: one that is held, or else it is run. It is put first. What the trace before
+/// used lies ahead, and is looked at first.
+pub(crate) fn advance<P: Parts>(
+    alloc: Global,
+    shelf: &mut Shelf<Segment>,
+    now: &mut Look,
+    given: &mut Given,
+    number: u64,
+    here: Reached,
+    parts: &mut P,
+    meter: &mut Meter,
+    told: &mut TraceText,
+) -> Result<Reached, AllocError>
+    requires within { number ≤ 1000 }
+    requires turn { shelf.old.turn ≡ number }
+    requires image { IsImage (P.seen parts.now).image }
+    requires ready { IsReady number here.state.bus }
+    requires told { IsTold (P.seen parts.now).image shelf.old.entries given.old now.old.reads here.state }
+    requires new { IsTrue here.is_new → IsNew shelf.old.entries number here.state.bus }
+    ensures served { IfOk result (λ end. (kept : Kept) × ((rest : List Kept) × ((ran : ℕ) × ((read : ℕ) × (
+        IsServed (P.seen parts.old).image (kept_of shelf.old.entries) number here.state.bus kept rest ran read
+        × (end.state.bus ≡ kept.end)
+        × (told.new ≡ told.old ++ kept.lines)
+        × (kept_of shelf.new.entries ≡ take shelf.old.capacity (kept ∷ rest))
+        × HasRun ran meter.old meter.new
+        × (P.asks parts.new ≤ P.asks parts.old + recorded_of number (kept_of shelf.old.entries) + read)))))) }
+    ensures told { IfOk result (λ end. IsTold (P.seen parts.old).image shelf.new.entries given.new now.new.reads end.state) }
+    ensures new { IfOk result (λ end. IsTrue end.is_new → IsNew shelf.new.entries (number + 1) end.state.bus) }
+    ensures segments { AreSegments shelf.new.entries given.new }
+    ensures turn { OnOk result (shelf.new.turn ≡ number + 1) }
+    ensures capacity { shelf.new.capacity ≡ shelf.old.capacity }
+    ensures kept { (P.seen parts.new).image ≡ (P.seen parts.old).image }
+{
+    let _count = shelf.len();
+    let ahead = look_ahead(alloc, shelf, now, given, number, &here, parts)?;
+    match ahead {
+        Some(true) => {
+            let state = follow(shelf, told)?;
+            Ok(Reached {
+                state,
+                is_new: false,
+            })
+        }
+        Some(false) => {
+            let end = pass_on(
+                alloc, shelf, now, given, number, 1, here, parts, meter, told,
+            )?;
+            Ok(end)
+        }
+        None => {
+            let end = pass_on(
+                alloc, shelf, now, given, number, 0, here, parts, meter, told,
+            )?;
+            Ok(end)
         }
     }
 }

@@ -7,7 +7,7 @@ ghost use Rattle.can_bus.specs.declared.line.Line.{Line as Told};
 ghost use Rattle.co_parts.specs.Images.{IsImage};
 ghost use Rattle.co_segments.specs.Placed.{AreSegments, kept_of};
 ghost use Rattle.co_segments.specs.Segments.{HasRun, IsSound, Kept, Traced, recorded_from};
-ghost use Rattle.co_segments.specs.Spans.{lines_of_spans};
+ghost use Rattle.recorded_spans.specs.Spans.{lines_of_spans};
 
 use crate::given::Given;
 use crate::reached::Reached;
@@ -16,10 +16,11 @@ use crate::serving::{advance, give};
 use can_bus::{BusState, Line, Parts};
 use co_memo::Meter;
 use co_parts::END;
-use kept_reads::ReadsNow;
 use kept_shelf::Shelf;
+use recorded_spans::Look;
 use std::alloc::{AllocError, Global};
 use std::marker::Model;
+use trace_text::TraceText;
 
 /// The time that a window takes, in microseconds.
 const WINDOW: u32 = 10_000;
@@ -51,13 +52,6 @@ impl Model for Store {
     ghost invariant = { λ a. AreSegments a.shelf.entries a.given };
 }
 
-/// Keeps the lines up to the horizon.
-fn keep_shown(told: &mut Vec<Line>, horizon: u32)
-    ensures { told.new.items ≡ filter (is_shown horizon) told.old.items }
-{
-    told.retain(|line| line.time() <= horizon);
-}
-
 /// What the first `count` spans tell.
 fn trace_spans<P: Parts>(
     alloc: Global,
@@ -66,23 +60,24 @@ fn trace_spans<P: Parts>(
     parts: &mut P,
     count: u64,
     meter: &mut Meter,
-) -> Result<Vec<Line>, AllocError>
+) -> Result<TraceText, AllocError>
     requires within { count ≤ 1001 }
     requires image { IsImage (P.seen parts.now).image }
     requires segments { AreSegments shelf.old.entries given.old }
-    ensures lines { IfOk result (λ told. told.items ≡ lines_of_spans (P.seen parts.old).image count) }
+    ensures lines { IfOk result (λ told. told ≡ lines_of_spans (P.seen parts.old).image count) }
     ensures traced { IfOk result (λ told. (end : Bus) × ((ran : ℕ) × ((read : ℕ) × (
         Traced (P.seen parts.old).image shelf.old.capacity (kept_of shelf.old.entries) count
-        end (kept_of shelf.new.entries) told.items ran read
+        end (kept_of shelf.new.entries) told ran read
         × HasRun ran meter.old meter.new
         × (P.asks parts.new ≤ P.asks parts.old + recorded_from 0 (kept_of shelf.old.entries) + read))))) }
     ensures segments { AreSegments shelf.new.entries given.new }
     ensures capacity { shelf.new.capacity ≡ shelf.old.capacity }
     ensures kept { (P.seen parts.new).image ≡ (P.seen parts.old).image }
 {
-    let mut told = Vec::new(alloc);
-    let mut now = ReadsNow::new(alloc);
-    let state = give(alloc, &mut given.buses, BusState::new(alloc))?;
+    shelf.begin()?;
+    let mut told = TraceText::new(alloc);
+    let mut now = Look::new(alloc);
+    let state = give(alloc, &mut given.buses, BusState::new(alloc), None)?;
     let mut here = Reached {
         state,
         is_new: false,
@@ -112,21 +107,21 @@ impl Store {
         })
     }
 
-    /// The trace up to the horizon, a moment in microseconds, of the network whose parts are handed out:
-    /// whatever was traced before. A segment that serves is used, each other one is run and kept.
+    /// The trace up to the horizon, a moment in microseconds, of the network whose parts are handed out, with
+    /// its text: whatever was traced before. A segment that serves is used, each other one is run and kept.
     ///
     /// Takes the time of the segments that are run, as `can_bus::trace` takes it, and for each other one
     /// that of comparing its reads: only segments of its number are looked at. Want of memory is the only
     /// error: other segments may then be held, each of them valid.
-    pub fn trace<P: Parts>(
+    pub fn trace_text<P: Parts>(
         &mut self,
         parts: &mut P,
         horizon: u32,
         meter: &mut Meter,
-    ) -> Result<Vec<Line>, AllocError>
+    ) -> Result<TraceText, AllocError>
         requires soon { horizon < END }
         requires image { IsImage (P.seen parts.old).image }
-        ensures lines { IfOk result (λ told. told.items ≡ trace_of (P.seen parts.old).image horizon) }
+        ensures lines { IfOk result (λ told. told ≡ trace_of (P.seen parts.old).image horizon) }
         ensures traced { IfOk result (λ told. (end : Bus) × ((all : List Told) × ((ran : ℕ) × ((read : ℕ) × (
             Traced (P.seen parts.old).image self.old.capacity self.old.segments (horizon / 10000 + 1)
             end self.new.segments all ran read
@@ -144,8 +139,33 @@ impl Store {
             count,
             meter,
         )?;
-        keep_shown(&mut told, horizon);
+        told.keep_shown(horizon)?;
         Ok(told)
+    }
+
+    /// The trace up to the horizon, a moment in microseconds, of the network whose parts are handed out:
+    /// whatever was traced before. A segment that serves is used, each other one is run and kept.
+    ///
+    /// Takes time and memory as `trace_text` does, and for a copy of the lines.
+    pub fn trace<P: Parts>(
+        &mut self,
+        parts: &mut P,
+        horizon: u32,
+        meter: &mut Meter,
+    ) -> Result<Vec<Line>, AllocError>
+        requires soon { horizon < END }
+        requires image { IsImage (P.seen parts.old).image }
+        ensures lines { IfOk result (λ told. told.items ≡ trace_of (P.seen parts.old).image horizon) }
+        ensures traced { IfOk result (λ told. (end : Bus) × ((all : List Told) × ((ran : ℕ) × ((read : ℕ) × (
+            Traced (P.seen parts.old).image self.old.capacity self.old.segments (horizon / 10000 + 1)
+            end self.new.segments all ran read
+            × HasRun ran meter.old meter.new
+            × (P.asks parts.new ≤ P.asks parts.old + recorded_from 0 self.old.segments + read)))))) }
+        ensures capacity { self.new.capacity ≡ self.old.capacity }
+        ensures kept { (P.seen parts.new).image ≡ (P.seen parts.old).image }
+    {
+        let told = self.trace_text(parts, horizon, meter)?;
+        told.lines()
     }
 
     /// How many segments it holds. Each of them is valid, and has each of its reads once.

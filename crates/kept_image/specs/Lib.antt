@@ -2,3 +2,4 @@ pub mod Made
 pub mod Kept
 pub mod Touched
 pub mod Marks
+pub mod Busy

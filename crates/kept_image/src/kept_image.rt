@@ -94,8 +94,8 @@ impl KeptImage {
 
     /// The network of a project, by pointers to what is kept of it: all parts that a simulation reads must
     /// be held as they are to be built now. Takes time by the number of nodes, of their writes and of
-    /// windows, each with its logarithm, and memory for the tables and the writes. Want of memory is the
-    /// only error.
+    /// windows with steps, each with its logarithm, and memory for the tables and the writes; a window
+    /// without steps is passed over in constant time. Want of memory is the only error.
     pub fn network(&self, project: &Project) -> Result<NetworkParts, AllocError>
         requires { IsCurrent project.now self.now }
         ensures { IfOk result (λ n. image_held n ≡ image_of project.now) }

@@ -1,5 +1,5 @@
 //! The network of a project, by pointers to what is kept of it.
-ghost use Rattle.std.specs.Prelude.{◌≡◌, ◌∷◌, [], ℕ, IfOk, OnOk, option_map};
+ghost use Rattle.std.specs.Prelude.{◌≡◌, ◌≤◌, ◌∷◌, [], ℕ, IfOk, OnOk, option_map};
 ghost use Rattle.std.specs.FinMap as map;
 ghost use Rattle.project_plan.specs.Network.{member_at};
 ghost use Rattle.network_image.specs.Held.{held_of, with_window};
@@ -68,16 +68,20 @@ impl KeptImage {
         Ok(table)
     }
 
-    /// Adds a window, if it has steps.
+    /// Adds a window, if it has steps; else takes constant time.
     fn add_window(
         &self,
         table: &mut WindowTable,
         project: &Project,
         i: u16,
     ) -> Result<(), AllocError>
-        requires { AreHeld project.now (ImagePart.Events i ∷ []) self.now }
+        requires number { i ≤ 1000 }
+        requires held { AreHeld project.now (ImagePart.Events i ∷ []) self.now }
         ensures { OnOk result (table.new ≡ with_window i (window_steps project.now i) table.old) }
     {
+        if !self.windows.has_steps(i) {
+            return Ok(());
+        }
         project.keeps_to_rules();
         let Some(window) = self.windows.value(i) else {
             unreachable!();
@@ -87,7 +91,7 @@ impl KeptImage {
         Ok(())
     }
 
-    /// All windows that have steps.
+    /// All windows that have steps. Takes constant time for each of the others.
     fn window_table(&self, project: &Project) -> Result<WindowTable, AllocError>
         requires { IsCurrent project.now self.now }
         ensures { IfOk result (λ windows. (i : ℕ) → map.get windows i ≡ unless_none (window_steps project.now i)) }

@@ -3,6 +3,7 @@ ghost use Rattle.std.specs.Prelude.{◌≡◌, ◌↔◌, ◌==◌, ◌||◌, �
 ghost use Rattle.std.specs.Prelude.{if◌then◌else◌, IsTrue, option_copied};
 ghost use Rattle.co_memo.specs.Shelved.{is_fresh, kept_at};
 ghost use Rattle.co_memo.specs.Work.{Builds, Refreshes};
+ghost use Rattle.kept_image.specs.Busy.{has_steps};
 
 use co_memo::{Meter, Shared};
 use co_parts::Window;
@@ -14,21 +15,26 @@ use std::marker::Model;
 /// The windows of a scenario by number, each kept with its steps, and a mark for each number below 1024.
 /// Without a mark the steps that are kept at a number are those of now.
 ///
-/// The marks take 1,024 bytes, and a window is found by the logarithm of their number.
+/// The marks take 1,024 bytes, and as many say at which numbers a window with steps is kept. A window is
+/// found by the logarithm of their number.
 #[derive(Drop)]
 pub struct WindowShelf {
     kept: BTreeMap<u16, Shared<Window>>,
     fresh: [bool; 1024],
+    busy: [bool; 1024],
 }
 
 impl Model for WindowShelf {
     ghost use Rattle.std.specs.Prelude.{List};
     ghost use Rattle.co_memo.specs.Shelved.{Shelved};
     ghost use Rattle.co_scenario.specs.declared.timed_step.TimedStep.{TimedStep};
+    ghost use Rattle.kept_image.specs.Busy.{AreBusy};
 
     ghost Value = { Shelved (List TimedStep) };
 
     ghost view = { λ s. record { kept = s.kept.entries; fresh = s.fresh } };
+
+    ghost invariant = { λ s. AreBusy s.busy s.kept.entries };
 }
 
 impl WindowShelf {
@@ -40,6 +46,7 @@ impl WindowShelf {
         WindowShelf {
             kept: BTreeMap::new(alloc),
             fresh: [false; 1024],
+            busy: [false; 1024],
         }
     }
 
@@ -75,6 +82,14 @@ impl WindowShelf {
         self.kept.get(&i)
     }
 
+    /// Whether a window with steps is kept at a number. Takes constant time.
+    pub fn has_steps(&self, i: u16) -> bool
+        requires { i < 1024 }
+        ensures { result ≡ has_steps (kept_at self.now i) }
+    {
+        self.busy[usize::from(i)]
+    }
+
     /// Takes the mark at a number away.
     fn clear(&mut self, i: u16)
         requires { i < 1024 }
@@ -86,12 +101,15 @@ impl WindowShelf {
 
     /// Keeps a window at a number, in place of any that is kept there. Want of memory changes nothing.
     fn insert(&mut self, i: u16, window: Shared<Window>) -> Result<(), AllocError>
+        requires { i < 1024 }
         ensures ok { OnOk result ((q : ℕ)
             → kept_at self.new q ≡ (if q == i then Some window else kept_at self.old q)) }
         ensures err { OnErr result (self.new ≡ self.old) }
         ensures fresh { self.new.fresh ≡ self.old.fresh }
     {
+        let busy = !window.get().steps().is_empty();
         self.kept.insert(i, window)?;
+        self.busy[usize::from(i)] = busy;
         Ok(())
     }
 

@@ -75,4 +75,11 @@ impl KeptRead {
     {
         self.read.content()
     }
+
+    /// Whether a content is what was read. Takes time by the length of both, and no memory.
+    pub fn is(&self, content: &PartContent) -> bool
+        ensures { IsTrue result ↔ (content.now ≡ self.now.content) }
+    {
+        content.same(self.read.content())
+    }
 }

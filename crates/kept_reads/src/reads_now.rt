@@ -14,8 +14,7 @@ use std::collections::BTreeMap;
 use std::marker::Model;
 
 /// What is known of an image as it is now: the parts that were asked for, each once, with the numbers of
-/// their contents. The events of a window are read in that window alone: they aren't noted where they are what
-/// was read.
+/// their contents.
 ///
 /// A call takes time by the logarithm of the number of parts, and that of at most one comparison.
 #[derive(Drop)]
@@ -89,15 +88,12 @@ impl ReadsNow {
         Ok(Some(same))
     }
 
-    /// Notes that a part is what was read, with the number of the read: where it may be read in other windows.
+    /// Notes that a part is what was read, with the number of the read.
     fn take_over(&mut self, read: &KeptRead) -> Result<(), AllocError>
         ensures { OnOk result ((image : Image) (contents : ℕ → Content) (given : ℕ)
             → image read.now.name ≡ read.now.content → AreKnown image contents given self.old
             → IsMarked contents given read.now → Extends image contents given given self.new) }
     {
-        if matches!(read.part(), Part::Events(_)) {
-            return Ok(());
-        }
         let known = KnownRead::new(read.share()?, None);
         learn(&mut self.known, read.part(), known)?;
         Ok(())

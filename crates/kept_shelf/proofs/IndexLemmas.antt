@@ -5,16 +5,13 @@ use Rattle.std.specs.List.{position_or_len, remove}
 use Rattle.std.proofs.lemmas.Bool.Decides.{nat_tests}
 use Rattle.std.proofs.lemmas.List.{get_or-map, get_or-set_other, get_or-set_same, get_or_past, length-map, map-set}
 use Rattle.std.specs.Prelude.{Result, Ok, Err, OnErr}
-use Rattle.kept_shelf.specs.Numbers.{Changes, HasSameKeys, keys_under, moved_first}
+use Rattle.kept_shelf.specs.Numbers.{Changes, HasSameKeys, keys_under, without}
 
 same_number : (n i : ℕ) → nat_eq n i ≡ true → n ≡ i
 same_number n i h = grind (arith, nat_tests)
 
 other_number : (n i : ℕ) → nat_eq n i ≡ false → n ≡ i → ⊥
 other_number n i h e = grind (arith, nat_tests)
-
-itself : (n : ℕ) → nat_eq n n ≡ true
-itself n = grind (arith, nat_tests)
 
 -- the same keys, twice or before a change
 pub same_twice : (xs ys zs : List (List ℕ)) → HasSameKeys xs ys → HasSameKeys ys zs → HasSameKeys xs zs
@@ -75,9 +72,9 @@ module _ {K : Type 0} (items : K → List ℕ) (xs : List K) (i : ℕ) (change :
     | false ↦ λ t. refl
   ]) refl
 
--- a key that is there goes first
-pub moved_there : (key : ℕ) (keys : List ℕ) → position_or_len (nat_eq key) keys < length keys → moved_first key keys ≡ key ∷ remove keys (position_or_len (nat_eq key) keys)
-moved_there key keys h =
+-- a key that is there is taken out at its place
+pub without_there : (key : ℕ) (keys : List ℕ) → position_or_len (nat_eq key) keys < length keys → without key keys ≡ remove keys (position_or_len (nat_eq key) keys)
+without_there key keys h =
     let e : nat_lt (position_or_len (nat_eq key) keys) (length keys) ≡ true = grind (arith, nat_tests) in
     rw e refl
 

@@ -1,25 +1,17 @@
 -- Entries by the numbers of their values, and their keys.
 use Rattle.std.proofs.Common.{◌≡◌, inl, inr, ℕ, suc, ◌+◌, ◌-◌, ◌<◌, Bool, true, false, List, [], ◌∷◌, ◌++◌, take, drop, length, Contains, Option, Some, None, nat_eq, refl, sym, ap, subst, ◌∙◌, arith, append-nil, length-append}
-use Rattle.std.specs.Prelude.{cond, if◌then◌else◌, MatchOption, option_map, slice_get}
+use Rattle.std.specs.Prelude.{cond, get_or, if◌then◌else◌, option_map, slice_get}
 use Rattle.std.specs.List.{IsDistinct, position_or_len, remove}
-use Rattle.std.specs.Map.{keys_of, lookup, lookup_entry, remove_entry}
+use Rattle.std.specs.Map.{keys_of, lookup, remove_entry}
 use Rattle.std.specs.Cmp.{nat_eq_equiv}
-use Rattle.std.proofs.lemmas.Bool.Decides.{nat_tests}
 use Rattle.std.proofs.lemmas.List.{length-map, map-append, take-append-le, take_all, take_more}
 use Rattle.std.proofs.lemmas.List.Elements.{filter-append}
 use Rattle.std.proofs.lemmas.Map.Views.{lookup-from_Contains}
-use Rattle.std.proofs.lemmas.Option.{get_or_from_slice_get, none-some, same_Some, slice_get-map, slice_get_within}
-use Rattle.lru.specs.LruCache.{LruCache, last_entry, lru_cache, promoted}
-use Rattle.kept_shelf.specs.Numbers.{Changes, HasSameKeys, IsIndexOf, keys_under, moved_first, of_number}
-use Rattle.kept_shelf.specs.Shelves.{AreGiven, HasCapacity, entries_of}
-use Rattle.kept_shelf.proofs.EntryLemmas.{head_in, in_cons, none_in, tail_in, take_first}
-use Rattle.kept_shelf.proofs.IndexLemmas.{moved_there}
-
-flip : (a b : ℕ) → nat_eq a b ≡ nat_eq b a
-flip a b = grind (arith, nat_tests)
-
-same : (a b : ℕ) → nat_eq a b ≡ true → a ≡ b
-same a b h = grind (arith, nat_tests)
+use Rattle.std.proofs.lemmas.Option.{get_or_from_slice_get, none-some, same_Some, slice_get-get_or, slice_get-map, slice_get_within}
+use Rattle.lru.specs.LruCache.{last_entry}
+use Rattle.kept_shelf.specs.Numbers.{Changes, HasSameKeys, IsIndexOf, keys_under, of_number, without}
+use Rattle.kept_shelf.proofs.EntryLemmas.{flip, head_in, in_cons, tail_in}
+use Rattle.kept_shelf.proofs.IndexLemmas.{without_there}
 
 -- all but the last
 cut_last : {X : Type 0} (xs : List X) (x : X) → take (length (xs ++ x ∷ []) - 1) (xs ++ x ∷ []) ≡ xs
@@ -105,18 +97,16 @@ module _ {V : Type 0} (number_of : V → ℕ) where
       ∙ cut_by (nat_eq (number_of e.1) n) e (keys_under n old) (of_number number_of n es)
       (h n ∙ ap (λ l. keys_of l) (filter-append (λ (x : ℕ × V). nat_eq (number_of x.1) n) es (e ∷ [])))
 
-  -- one goes first, and the last goes where there are too many
-  pub index_full : (cap : ℕ) (es : List (ℕ × V)) (e : ℕ × V) (old new : List (List ℕ)) (key number : ℕ) (v : V) → length es ≡ cap → last_entry es ≡ Some e → number ≡ number_of e.1 → Changes number (λ keys. take (length keys - 1) keys) old new → IsIndexOf number_of ((key, v) ∷ es) old → IsIndexOf number_of (take cap ((key, v) ∷ es)) new
-  index_full cap es e old new key number v full last is ch h =
-      let all : (key, v) ∷ es ≡ ((key, v) ∷ take (length es - 1) es) ++ e ∷ [] = ap (λ l. (key, v) ∷ l) (ends_in es e last) in
-      let some : take cap ((key, v) ∷ es) ≡ (key, v) ∷ take (length es - 1) es =
-      take_first cap (key, v) es (omega (arith, full, slice_get_within es (length es - 1) e last)) ∙ ap (λ n. (key, v) ∷ take (n - 1) es) (sym full) in
-      rw some (index_cut ((key, v) ∷ take (length es - 1) es) e old new number is ch (rw all at h))
+  -- the last goes, if there is one
+  pub index_less : (es : List (ℕ × V)) (e : ℕ × V) (old new : List (List ℕ)) (number : ℕ) → last_entry es ≡ Some e → number ≡ number_of e.1 → Changes number (λ keys. take (length keys - 1) keys) old new → IsIndexOf number_of es old → IsIndexOf number_of (take (length es - 1) es) new
+  index_less es e old new number last is ch h =
+      index_cut (take (length es - 1) es) e old new number is ch (subst (λ l. IsIndexOf number_of l old) (ends_in es e last) h)
 
-  pub index_room : (cap : ℕ) (es : List (ℕ × V)) (new : List (List ℕ)) (key : ℕ) (v : V) → length es < cap → IsIndexOf number_of ((key, v) ∷ es) new → IsIndexOf number_of (take cap ((key, v) ∷ es)) new
-  index_room cap es new key v room h = rw (take_all cap ((key, v) ∷ es) (omega (arith, room))) h
+  pub index_least : (es : List (ℕ × V)) (index : List (List ℕ)) → last_entry es ≡ None → IsIndexOf number_of es index → IsIndexOf number_of (take (length es - 1) es) index
+  index_least [] index none h = h
+  index_least (e ∷ es) index none h = absurd (none-some (get_or (e ∷ es) (length (e ∷ es) - 1) e) (sym none ∙ slice_get-get_or (e ∷ es) (length (e ∷ es) - 1) e (omega arith)))
 
--- ---- one goes first that was there
+-- ---- one is taken out
 
 -- what a number was taken from
 pub mapped_some : {A B : Type 0} (f : A → B) (o : Option A) (y : B) → option_map f o ≡ Some y → (x : A) × ((o ≡ Some x) × (y ≡ f x))
@@ -127,23 +117,13 @@ pub mapped_none : {A B : Type 0} (f : A → B) (o : Option A) → option_map f o
 mapped_none f None h = refl
 mapped_none f (Some x) h = absurd (none-some (f x) (sym h))
 
-module _ {V : Type 0} (key : ℕ) where
-  pub found_entry : (es : List (ℕ × V)) (v : V) → lookup (nat_eq key) es ≡ Some v → (k : ℕ) × ((lookup_entry (nat_eq key) es ≡ Some (k, v)) × (key ≡ k))
-  found_entry [] v h = absurd (none-some v h)
-  found_entry (e ∷ es) v h = (elim (nat_eq key e.0) as (λ t. nat_eq key e.0 ≡ t → (k : ℕ) × ((lookup_entry (nat_eq key) (e ∷ es) ≡ Some (k, v)) × (key ≡ k))) [
-    | true ↦ λ t. (e.0, (rw t (ap (λ (x : V). Some (e.0, x)) (same_Some e.1 v (rw t at h))), same key e.0 t))
-    | false ↦ λ t. let f = found_entry es v (rw t at h) in (f.0, (rw t f.1.0, f.1.1))
-  ]) refl
-
-  no_entry : (es : List (ℕ × V)) → lookup (nat_eq key) es ≡ None → lookup_entry (nat_eq key) es ≡ None
-  no_entry [] h = refl
-  no_entry (e ∷ es) h = (elim (nat_eq key e.0) as (λ t. nat_eq key e.0 ≡ t → lookup_entry (nat_eq key) (e ∷ es) ≡ None) [
-    | true ↦ λ t. absurd (none-some e.1 (sym (rw t at h)))
-    | false ↦ λ t. rw t (no_entry es (rw t at h))
-  ]) refl
-
-  pub none_promoted : (es : List (ℕ × V)) → lookup (nat_eq key) es ≡ None → promoted (nat_eq key) es ≡ es
-  none_promoted es h = rw (no_entry es h) refl
+-- where the key isn't there
+pub none_removed : {V : Type 0} (key : ℕ) (es : List (ℕ × V)) → lookup (nat_eq key) es ≡ None → remove_entry (nat_eq key) es ≡ es
+none_removed key [] h = refl
+none_removed key (e ∷ es) h = (elim (nat_eq key e.0) as (λ t. nat_eq key e.0 ≡ t → remove_entry (nat_eq key) (e ∷ es) ≡ e ∷ es) [
+  | true ↦ λ t. absurd (none-some e.1 (sym (rw t at h)))
+  | false ↦ λ t. rw t (ap (λ l. e ∷ l) (none_removed key es (rw t at h)))
+]) refl
 
 module _ {V : Type 0} (number_of : V → ℕ) (key n : ℕ) where
   keys : List (ℕ × V) → List ℕ
@@ -188,28 +168,22 @@ module _ {V : Type 0} (number_of : V → ℕ) (key n : ℕ) where
         ]) refl
   ]) refl
 
-  moved_keys : (es : List (ℕ × V)) (v : V) → lookup (nat_eq key) es ≡ Some v → (if nat_eq (number_of v) n then moved_first key (keys es) else keys es) ≡ keys (promoted (nat_eq key) es)
+  kept_keys : (es : List (ℕ × V)) (v : V) → lookup (nat_eq key) es ≡ Some v → (if nat_eq (number_of v) n then without key (keys es) else keys es) ≡ keys (remove_entry (nat_eq key) es)
   unfolding keys place
-  moved_keys es v h =
-      let f = found_entry key es v h in
-      (elim (nat_eq (number_of v) n) as (λ t. nat_eq (number_of v) n ≡ t → (if t then moved_first key (keys es) else keys es) ≡ keys (promoted (nat_eq key) es)) [
-        | true ↦ λ t.
-            let is = there es v h t in
-            rw (f.1.0, t) (moved_there key (keys es) is.within ∙ ap (λ l. key ∷ l) (sym is.rest) ∙ ap (λ k. k ∷ keys (remove_entry (nat_eq key) es)) f.1.1)
-        | false ↦ λ t. rw (f.1.0, t) (sym (others es v h t))
+  kept_keys es v h =
+      (elim (nat_eq (number_of v) n) as (λ t. nat_eq (number_of v) n ≡ t → (if t then without key (keys es) else keys es) ≡ keys (remove_entry (nat_eq key) es)) [
+        | true ↦ λ t. let is = there es v h t in without_there key (keys es) is.within ∙ sym is.rest
+        | false ↦ λ t. sym (others es v h t)
       ]) refl
 
 module _ {V : Type 0} (number_of : V → ℕ) where
-  pub index_moved : (es : List (ℕ × V)) (old new : List (List ℕ)) (key number : ℕ) (v : V) → lookup (nat_eq key) es ≡ Some v → number ≡ number_of v → Changes number (moved_first key) old new → IsIndexOf number_of es old → IsIndexOf number_of (promoted (nat_eq key) es) new
+  pub index_taken : (es : List (ℕ × V)) (old new : List (List ℕ)) (key number : ℕ) (v : V) → lookup (nat_eq key) es ≡ Some v → number ≡ number_of v → Changes number (without key) old new → IsIndexOf number_of es old → IsIndexOf number_of (remove_entry (nat_eq key) es) new
   unfolding IsIndexOf Changes keys
-  index_moved es old new key number v found is ch h n =
+  index_taken es old new key number v found is ch h n =
       ch n
-      ∙ ap (λ t. if t then moved_first key (keys_under n old) else keys_under n old) (is_of number_of n number v is)
-      ∙ ap (λ l. if nat_eq (number_of v) n then moved_first key l else l) (h n)
-      ∙ moved_keys number_of key n es v found
-
-  pub index_missed : (es : List (ℕ × V)) (index : List (List ℕ)) (key : ℕ) → lookup (nat_eq key) es ≡ None → IsIndexOf number_of es index → IsIndexOf number_of (promoted (nat_eq key) es) index
-  index_missed es index key none h = rw (none_promoted key es none) h
+      ∙ ap (λ t. if t then without key (keys_under n old) else keys_under n old) (is_of number_of n number v is)
+      ∙ ap (λ l. if nat_eq (number_of v) n then without key l else l) (h n)
+      ∙ kept_keys number_of key n es v found
 
 -- ---- what stands at a place
 
@@ -232,10 +206,3 @@ module _ {V : Type 0} (number_of : V → ℕ) (es : List (ℕ × V)) (index : Li
       let e = m.0 in
       let here : slice_get (of_number number_of n es) place ≡ Some (key, e.1) = m.1.0 ∙ ap (λ (k : ℕ). Some (k, e.1)) (sym m.1.1) in
       (e.1, (here, lookup-from_Contains nat_eq_equiv key e.1 es distinct (in_all number_of n es (key, e.1) (place, slice_get_within _ place (key, e.1) here, get_or_from_slice_get _ place (key, e.1) (key, e.1) here))))
-
--- ---- a new shelf
-
-pub made_new : {V : Type 0} (number_of : V → ℕ) (capacity : ℕ) (cache : Option (LruCache ℕ V)) (index : List (List ℕ)) → MatchOption cache (capacity ≡ 0) (λ c. c ≡ lru_cache [] capacity) → index ≡ []
-    → HasCapacity capacity cache × AreGiven 0 (entries_of cache) × IsIndexOf number_of (entries_of cache) index
-made_new number_of capacity None index h e = rw e (h, (λ f c. absurd (none_in f c)), index_new number_of)
-made_new number_of capacity (Some cache) index h e = rw (h, e) (refl, (λ f c. absurd (none_in f c)), index_new number_of)

@@ -1,5 +1,5 @@
 -- Keys by the numbers of their values.
-use Rattle.std.specs.Prelude.{◌≡◌, ℕ, List, [], ◌∷◌, filter, get_or, ◌==◌, if◌then◌else◌, nat_eq}
+use Rattle.std.specs.Prelude.{◌≡◌, ℕ, List, [], filter, get_or, ◌==◌, if◌then◌else◌, nat_eq}
 use Rattle.std.specs.List.{position, remove}
 use Rattle.std.specs.Map.{keys_of}
 use Rattle.std.specs.Option.{option_map_or}
@@ -24,6 +24,6 @@ Changes number change old new = (n : ℕ) → keys_under n new ≡ (if n == numb
 unfoldable pub HasSameKeys : List (List ℕ) → List (List ℕ) → Type 0
 HasSameKeys old new = (n : ℕ) → keys_under n new ≡ keys_under n old
 
--- a key goes first, if it is there
-abbrev pub moved_first : ℕ → List ℕ → List ℕ
-moved_first key keys = option_map_or (λ place. key ∷ remove keys place) (position (nat_eq key) keys) keys
+-- a key is taken out, if it is there
+abbrev pub without : ℕ → List ℕ → List ℕ
+without key keys = option_map_or (λ place. remove keys place) (position (nat_eq key) keys) keys

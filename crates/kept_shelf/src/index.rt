@@ -2,7 +2,7 @@
 
 ghost use Rattle.std.specs.Prelude.{◌≡◌, ◌<◌, ◌-◌, ◌∷◌, [], length, map, take, drop, nat_eq, slice_get, IfSome, OnErr, OnOk};
 ghost use Rattle.std.specs.List.{position};
-ghost use Rattle.kept_shelf.specs.Numbers.{Changes, HasSameKeys, keys_under, moved_first};
+ghost use Rattle.kept_shelf.specs.Numbers.{Changes, HasSameKeys, keys_under, without};
 
 use std::alloc::{AllocError, Global};
 use std::marker::Model;
@@ -41,14 +41,13 @@ fn place_of(keys: &[u64], key: u64) -> Option<usize>
     keys.iter().position(|own| key == *own)
 }
 
-/// Puts a key first, if it is there. Takes no memory.
-fn move_first(keys: &mut Vec<u64>, key: u64)
-    ensures { keys.new.items ≡ moved_first key keys.old.items }
+/// Takes a key out, if it is there.
+fn take_out(keys: &mut Vec<u64>, key: u64)
+    ensures { keys.new.items ≡ without key keys.old.items }
 {
     let place = place_of(keys, key);
     if let Some(place) = place {
         let _key = keys.remove(place);
-        let _put = keys.insert(0, key);
     }
 }
 
@@ -137,13 +136,13 @@ impl Index {
         }
     }
 
-    /// Puts a key first among those of its number.
-    pub fn move_first(&mut self, number: u64, key: u64)
-        ensures { Changes number (moved_first key) self.old self.new }
+    /// Takes a key out from those of its number.
+    pub fn take_out(&mut self, number: u64, key: u64)
+        ensures { Changes number (without key) self.old self.new }
     {
         let place = number as usize;
         if place < self.keys.len() {
-            move_first(&mut self.keys[place], key);
+            take_out(&mut self.keys[place], key);
         }
     }
 }

@@ -1,179 +1,66 @@
 //! A bounded shelf of values.
 
-ghost use Rattle.std.specs.Prelude.{◌≡◌, ℕ, ◌≤◌, ◌<◌, ◌+◌, ◌∷◌, [], Some, nat_eq, length, slice_get, take};
-ghost use Rattle.std.specs.Prelude.{option_copied, option_map, IfOk, IfSome, OnOk, OnErr, MatchOption};
+ghost use Rattle.std.specs.Prelude.{◌≡◌, ℕ, ◌≤◌, ◌+◌, ◌∷◌, [], Contains, Some, nat_eq, drop, length, slice_get, take};
+ghost use Rattle.std.specs.Prelude.{option_copied, option_map, IfOk, IfSome, OnOk, OnErr};
 ghost use Rattle.std.specs.List.{IsDistinct};
 ghost use Rattle.std.specs.Map.{keys_of, lookup};
-ghost use Rattle.lru.specs.LruCache.{last_entry, lru_cache, promoted};
-ghost use Rattle.kept_shelf.specs.Numbers.{IsIndexOf, of_number};
-ghost use Rattle.kept_shelf.specs.Shelves.{entries_of, AreGiven, HasCapacity};
+ghost use Rattle.lru.specs.LruCache.{promoted};
+ghost use Rattle.kept_shelf.specs.Numbers.{of_number};
+ghost use Rattle.kept_shelf.specs.Shelves.{AreGiven, HasNumber};
 
-use crate::index::Index;
 use crate::numbered::Numbered;
-use lru::LruCache;
+use crate::rest::Rest;
+use crate::row::{bring, fit, put_back};
 use std::alloc::{AllocError, Global};
 use std::marker::Model;
-use std::num::NonZeroUsize;
 
 /// Values under keys, at most `capacity` of them, the last added or used first. A key is never given twice.
-/// An index has the keys of the values of each number.
+///
+/// Those added or used in a round, whose numbers go up by one, stand in a row: in the next round each is used again
+/// by a step of `used`, and looked for by nothing.
 #[derive(Drop)]
 pub struct Shelf<V: Numbered> {
     capacity: usize,
     given: u64,
-    cache: Option<LruCache<u64, V>>,
-    index: Index,
+    row: Vec<(u64, V)>,
+    first: u64,
+    used: usize,
+    rest: Rest<V>,
 }
 
 impl<V: Numbered> Model for Shelf<V> {
-    ghost use Rattle.kept_shelf.specs.Numbers.{IsIndexOf};
-    ghost use Rattle.kept_shelf.specs.Shelves.{Shelved, shelved_code, entries_of, AreGiven, HasCapacity};
+    ghost use Rattle.std.specs.Prelude.{◌+◌, drop};
+    ghost use Rattle.kept_shelf.specs.Rows.{IsShelf, shown};
+    ghost use Rattle.kept_shelf.specs.Shelves.{Shelved, shelved_code};
 
     ghost Value = { Shelved V };
 
     ghost coded = { shelved_code V.code };
 
-    ghost view = { λ a. record { capacity = a.capacity; entries = entries_of a.cache; given = a.given } };
+    ghost view = { λ a. record {
+      capacity = a.capacity;
+      entries = shown a.row.items a.used a.rest;
+      given = a.given;
+      turn = a.first + a.used;
+      ahead = drop a.used a.row.items;
+    } };
 
-    ghost invariant = { λ a. HasCapacity a.capacity a.cache × AreGiven a.given (entries_of a.cache)
-        × IsIndexOf V.number_of (entries_of a.cache) a.index };
-}
-
-/// The cache of a capacity.
-fn cache_of<V: Drop>(alloc: Global, capacity: usize) -> Result<Option<LruCache<u64, V>>, AllocError>
-    ensures { IfOk result (λ cache. MatchOption cache (capacity ≡ 0) (λ c. c ≡ lru_cache [] capacity)) }
-{
-    match NonZeroUsize::new(capacity) {
-        None => Ok(None),
-        Some(capacity) => {
-            let cache = LruCache::sparse(alloc, capacity)?;
-            Ok(Some(cache))
-        }
-    }
-}
-
-/// Puts a value first, under a key that no other has.
-fn put_first<V: Drop>(cache: &mut LruCache<u64, V>, key: u64, value: V) -> Result<(), AllocError>
-    requires { AreGiven key cache.old.entries }
-    ensures entries { OnOk result (cache.new ≡ lru_cache (take cache.old.cap ((key, value) ∷ cache.old.entries)) cache.old.cap) }
-    ensures err { OnErr result (cache.new ≡ cache.old) }
-{
-    let _count = cache.len();
-    match cache.put(key, value) {
-        Ok(_replaced) => Ok(()),
-        Err(_failed) => Err(AllocError),
-    }
-}
-
-/// The number of the value that goes where one more is put, if one goes.
-fn leaving<V: Numbered>(cache: &LruCache<u64, V>) -> Option<u64>
-    ensures { MatchOption result (length cache.now.entries < cache.now.cap) (λ number. (e : ℕ × V)
-        × ((last_entry cache.now.entries ≡ Some e) × (number ≡ V.number_of e.1)
-        × (length cache.now.entries ≡ cache.now.cap))) }
-{
-    if cache.len() < cache.cap().get() {
-        return None;
-    }
-    let (_key, value) = cache.peek_lru()?;
-    Some(value.number())
-}
-
-/// Puts a value first, under a key that no other has, and its key into the index.
-fn enter<V: Numbered + Drop>(
-    cache: &mut LruCache<u64, V>,
-    index: &mut Index,
-    key: u64,
-    value: V,
-) -> Result<(), AllocError>
-    requires given { AreGiven key cache.old.entries }
-    requires index { IsIndexOf V.number_of cache.old.entries index.old }
-    ensures entries { OnOk result (cache.new ≡ lru_cache (take cache.old.cap ((key, value) ∷ cache.old.entries)) cache.old.cap) }
-    ensures err { OnErr result (cache.new ≡ cache.old) }
-    ensures index { IsIndexOf V.number_of cache.new.entries index.new }
-{
-    let number = value.number();
-    let last = leaving(cache);
-    index.add(number, key)?;
-    match put_first(cache, key, value) {
-        Ok(()) => {
-            if let Some(last) = last {
-                index.drop_last(last);
-            }
-            Ok(())
-        }
-        Err(failed) => {
-            index.drop_first(number);
-            Err(failed)
-        }
-    }
-}
-
-/// Puts a value first, where there is a cache.
-fn put<V: Numbered + Drop>(
-    cache: &mut Option<LruCache<u64, V>>,
-    index: &mut Index,
-    key: u64,
-    value: V,
-) -> Result<(), AllocError>
-    requires given { AreGiven key (entries_of cache.old) }
-    requires index { IsIndexOf V.number_of (entries_of cache.old) index.old }
-    ensures entries { OnOk result ((capacity : ℕ) → HasCapacity capacity cache.old → entries_of cache.new ≡ take capacity ((key, value) ∷ entries_of cache.old)) }
-    ensures capacity { (capacity : ℕ) → HasCapacity capacity cache.old → HasCapacity capacity cache.new }
-    ensures err { OnErr result (cache.new ≡ cache.old) }
-    ensures index { IsIndexOf V.number_of (entries_of cache.new) index.new }
-{
-    match cache {
-        None => Ok(()),
-        Some(cache) => enter(cache, index, key, value),
-    }
-}
-
-/// The number of the value under a key.
-fn number_under<V: Numbered>(cache: &LruCache<u64, V>, key: u64) -> Option<u64>
-    ensures { result ≡ option_map V.number_of (lookup (nat_eq key) cache.now.entries) }
-{
-    match cache.peek(&key) {
-        None => None,
-        Some(value) => Some(value.number()),
-    }
-}
-
-/// Puts the value under a key first, and the key in the index.
-fn bring_first<V: Numbered>(cache: &mut LruCache<u64, V>, index: &mut Index, key: u64)
-    requires { IsIndexOf V.number_of cache.old.entries index.old }
-    ensures entries { cache.new ≡ lru_cache (promoted (nat_eq key) cache.old.entries) cache.old.cap }
-    ensures index { IsIndexOf V.number_of cache.new.entries index.new }
-{
-    let number = number_under(cache, key);
-    cache.promote(&key);
-    if let Some(number) = number {
-        index.move_first(number, key);
-    }
-}
-
-/// Puts the value under a key first, where there is a cache.
-fn promote<V: Numbered>(cache: &mut Option<LruCache<u64, V>>, index: &mut Index, key: u64)
-    requires { IsIndexOf V.number_of (entries_of cache.old) index.old }
-    ensures entries { entries_of cache.new ≡ promoted (nat_eq key) (entries_of cache.old) }
-    ensures capacity { (capacity : ℕ) → HasCapacity capacity cache.old → HasCapacity capacity cache.new }
-    ensures index { IsIndexOf V.number_of (entries_of cache.new) index.new }
-{
-    if let Some(cache) = cache {
-        bring_first(cache, index, key);
-    }
+    ghost invariant = { λ a. IsShelf V.number_of a.capacity a.given a.first a.used a.row.items a.rest };
 }
 
 impl<V: Numbered + Drop> Shelf<V> {
     /// An empty shelf.
     pub fn new(alloc: Global, capacity: usize) -> Result<Shelf<V>, AllocError>
-        ensures { IfOk result (λ shelf. shelf ≡ record { capacity = capacity; entries = []; given = 0 }) }
+        ensures { IfOk result (λ shelf. shelf ≡ record { capacity = capacity; entries = []; given = 0; turn = 0; ahead = [] }) }
     {
-        let cache = cache_of(alloc, capacity)?;
+        let rest = Rest::new(alloc)?;
         Ok(Shelf {
             capacity,
             given: 0,
-            cache,
-            index: Index::new(alloc),
+            row: Vec::new(alloc),
+            first: 0,
+            used: 0,
+            rest,
         })
     }
 
@@ -184,62 +71,134 @@ impl<V: Numbered + Drop> Shelf<V> {
         ensures fits { length self.now.entries ≤ self.now.capacity }
         ensures given { AreGiven self.now.given self.now.entries }
     {
-        match &self.cache {
-            None => 0,
-            Some(cache) => cache.len(),
+        self.row.len() + self.rest.len()
+    }
+
+    /// Begins a round: it is the turn of the number 0, and the values of the round before lie ahead, as far as
+    /// they can be used again one after the other. Want of memory is the only error; then values may be gone.
+    pub fn begin(&mut self) -> Result<(), AllocError>
+        ensures ok { OnOk result ((self.new.entries ≡ self.old.entries) × (self.new.turn ≡ 0)) }
+        ensures fewer { (e : ℕ × V) → Contains self.new.entries e → Contains self.old.entries e }
+        ensures capacity { self.new.capacity ≡ self.old.capacity }
+    {
+        put_back(&mut self.row, self.used, &mut self.rest)?;
+        self.used = 0;
+        if self.first == 0 {
+            return Ok(());
+        }
+        // A row that doesn't begin with the number 0 isn't followed.
+        put_back(&mut self.row, 0, &mut self.rest)?;
+        self.first = 0;
+        Ok(())
+    }
+
+    /// Gives up what lies ahead: it stays, in its order, to be found by number. Takes time by its length. Want of
+    /// memory is the only error; then values may be gone.
+    pub fn settle(&mut self) -> Result<(), AllocError>
+        ensures ok { OnOk result (self.new ≡ record self.old { ahead = [] }) }
+        ensures fewer { (e : ℕ × V) → Contains self.new.entries e → Contains self.old.entries e }
+        ensures capacity { self.new.capacity ≡ self.old.capacity }
+    {
+        put_back(&mut self.row, self.used, &mut self.rest)
+    }
+
+    /// The value that lies ahead next, with its key: the first of those of the number whose turn it is. Takes
+    /// constant time.
+    pub fn next(&self) -> Option<(u64, &V)>
+        ensures next { option_map (λ found. (found.0, found.1.now)) result ≡ slice_get self.now.ahead 0 }
+        ensures held { IfSome result (λ found. lookup (nat_eq found.0) self.now.entries ≡ Some found.1.now) }
+        ensures first { IfSome result (λ found.
+            slice_get (of_number V.number_of self.now.turn self.now.entries) 0 ≡ Some (found.0, found.1.now)) }
+    {
+        match self.row.get(self.used) {
+            None => None,
+            Some(held) => Some((held.0, &held.1)),
         }
     }
 
-    /// The value under a key.
+    /// Uses the value that lies ahead next: it goes first. Takes constant time.
+    pub fn use_next(&mut self)
+        requires { (e : ℕ × V) × (slice_get self.old.ahead 0 ≡ Some e) }
+        ensures { (e : ℕ × V) → slice_get self.old.ahead 0 ≡ Some e → self.new ≡ record self.old {
+          entries = promoted (nat_eq e.0) self.old.entries;
+          turn = self.old.turn + 1;
+          ahead = drop 1 self.old.ahead;
+        } }
+    {
+        self.used += 1;
+    }
+
+    /// The value under a key, of a number whose turn hasn't passed.
     pub fn get(&self, key: u64) -> Option<&V>
+        requires settled { self.now.ahead ≡ [] }
+        requires later { (v : V) → lookup (nat_eq key) self.now.entries ≡ Some v → self.now.turn ≤ V.number_of v }
         ensures { option_copied result ≡ lookup (nat_eq key) self.now.entries }
     {
-        match &self.cache {
-            None => None,
-            Some(cache) => cache.peek(&key),
-        }
+        self.rest.get(key)
     }
 
-    /// How many values have a number.
+    /// How many values have a number whose turn hasn't passed.
     pub fn count(&self, number: u64) -> usize
+        requires settled { self.now.ahead ≡ [] }
+        requires later { self.now.turn ≤ number }
         ensures { result ≡ length (of_number V.number_of number self.now.entries) }
     {
-        self.index.keys(number).len()
+        self.rest.count(number)
     }
 
-    /// The value at a place among those of a number, with its key: the last added or used first.
+    /// The value at a place among those of a number whose turn hasn't passed, with its key: the last added or
+    /// used first.
     pub fn at(&self, number: u64, place: usize) -> Option<(u64, &V)>
+        requires settled { self.now.ahead ≡ [] }
+        requires later { self.now.turn ≤ number }
         ensures is { option_map (λ found. (found.0, found.1.now)) result
             ≡ slice_get (of_number V.number_of number self.now.entries) place }
         ensures held { IfSome result (λ found. lookup (nat_eq found.0) self.now.entries ≡ Some found.1.now) }
     {
-        let _count = self.len();
-        match self.index.key(number, place) {
-            None => None,
-            Some(key) => match self.get(key) {
-                None => None,
-                Some(value) => Some((key, value)),
-            },
-        }
+        self.rest.at(number, place)
     }
 
-    /// Puts the value under a key first.
-    pub fn use_again(&mut self, key: u64)
-        ensures { self.new ≡ record self.old { entries = promoted (nat_eq key) self.old.entries } }
-    {
-        promote(&mut self.cache, &mut self.index, key);
-    }
-
-    /// Puts a value first, and lets go of the last where there are too many.
-    pub fn add(&mut self, value: V) -> Result<(), AllocError>
-        ensures ok { OnOk result (self.new ≡ record { capacity = self.old.capacity; entries = take self.old.capacity ((self.old.given, value) ∷ self.old.entries); given = self.old.given + 1 }) }
+    /// Uses the value under a key, of the number whose turn it is: it goes first. Want of memory is the only
+    /// error, and changes nothing.
+    pub fn use_again(&mut self, key: u64) -> Result<(), AllocError>
+        requires settled { self.old.ahead ≡ [] }
+        requires turn { HasNumber V.number_of key self.old.turn self.old.entries }
+        ensures ok { OnOk result (self.new ≡ record self.old {
+          entries = promoted (nat_eq key) self.old.entries;
+          turn = self.old.turn + 1;
+        }) }
         ensures err { OnErr result (self.new ≡ self.old) }
     {
-        if self.given == u64::MAX {
+        bring(&mut self.row, &mut self.rest, key)?;
+        self.used = self.row.len();
+        Ok(())
+    }
+
+    /// Puts a value of the number whose turn it is first, and lets go of the last where there are too many. Takes
+    /// time by the capacity where a round has more values than that, and else constant time. Want of memory is the
+    /// only error but for the last key or number, and changes nothing: the value is let go.
+    pub fn add(&mut self, value: V) -> Result<(), AllocError>
+        requires settled { self.old.ahead ≡ [] }
+        requires turn { V.number_of value ≡ self.old.turn }
+        ensures ok { OnOk result (self.new ≡ record {
+          capacity = self.old.capacity;
+          entries = take self.old.capacity ((self.old.given, value) ∷ self.old.entries);
+          given = self.old.given + 1;
+          turn = self.old.turn + 1;
+          ahead = [];
+        }) }
+        ensures err { OnErr result (self.new ≡ self.old) }
+    {
+        let number = value.number();
+        if self.given == u64::MAX || number == u64::MAX {
             return Err(AllocError);
         }
-        put(&mut self.cache, &mut self.index, self.given, value)?;
+        if let Err(_failed) = self.row.push((self.given, value)) {
+            return Err(AllocError);
+        }
         self.given += 1;
+        self.first = fit(&mut self.row, self.first, &mut self.rest, self.capacity);
+        self.used = self.row.len();
         Ok(())
     }
 }

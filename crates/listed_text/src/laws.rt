@@ -1,5 +1,5 @@
-//! Laws of bytes in hexadecimal digits.
-ghost use Rattle.std.specs.Prelude.{◌≡◌, ◌<◌, ◌≤◌, ◌++◌, ℕ, List, length};
+//! Laws of lines that are counted, and of bytes in hexadecimal digits.
+ghost use Rattle.std.specs.Prelude.{◌≡◌, ◌<◌, ◌≤◌, ◌+◌, ◌++◌, ℕ, List, length};
 ghost use Rattle.co_text.specs.Lines.{line_count};
 ghost use Rattle.listed_text.specs.Hex.{hex_line, hex_text, row_count};
 
@@ -16,4 +16,9 @@ pub fn rows_are_counted()
 /// Up to 16 bytes are one line.
 pub fn last_row()
     ensures { (row : List ℕ) → 0 < length row → length row ≤ 16 → hex_text row ≡ hex_line row }
+{}
+
+/// Two texts, one behind the other, have the lines of both.
+pub fn lines_add_up()
+    ensures { (text more : List ℕ) → line_count (text ++ more) ≡ line_count text + line_count more }
 {}

@@ -1,7 +1,8 @@
 //! A text with the reply that shows its lines.
-ghost use Rattle.std.specs.Prelude.{◌≡◌, IfOk};
+ghost use Rattle.std.specs.Prelude.{◌≡◌, ◌≤◌, IfOk, drop, length};
 ghost use Rattle.listed_text.specs.Replies.{lines_reply};
 
+use crate::reply_head::head;
 use co_text::line_count;
 use std::alloc::{AllocError, Global};
 use std::marker::Model;
@@ -34,12 +35,20 @@ impl ListedText {
     pub fn new(alloc: Global, text: &[u8]) -> Result<ListedText, AllocError>
         ensures { IfOk result (λ t. t ≡ text.now) }
     {
-        let count = line_count(text);
-        let head = format!(in alloc; "lines {count}\n")?;
-        let start = head.len();
-        let mut reply = Vec::from_slice(alloc, head.as_bytes())?;
+        let mut reply = head(alloc, line_count(text), text.len())?;
+        let start = reply.len();
         reply.extend_from_slice(text)?;
         Ok(ListedText { reply, start })
+    }
+
+    /// The text behind the first `start` bytes of a reply that shows its lines. Takes constant time and no
+    /// memory.
+    pub fn of_reply(reply: Vec<u8>, start: usize) -> ListedText
+        requires start_in { start ≤ length reply.items }
+        requires is_reply { reply.items ≡ lines_reply (drop start reply.items) }
+        ensures { result ≡ drop start reply.items }
+    {
+        ListedText { reply, start }
     }
 
     /// The text. Takes constant time.

@@ -1,8 +1,11 @@
-//! The text of a trace, of which passages are kept: where lines are told again, they aren't written anew.
+//! The text of a trace: it is kept with the lines of each of its passages, and a reply is put together of it.
 #![tactic(auto)]
 
-mod comparing;
+mod counting;
 mod passage;
+mod passages;
+mod shown;
 mod trace_text;
 
+pub use passage::Passage;
 pub use trace_text::TraceText;

@@ -1,28 +1,24 @@
 //! The text of a trace.
 
-ghost use Rattle.std.specs.Prelude.{◌≡◌, ◌++◌, [], IfOk, OnOk};
+ghost use Rattle.std.specs.Prelude.{◌≡◌, ◌++◌, [], IfOk, OnErr, OnOk, filter};
 ghost use Rattle.can_bus.specs.Lines.{lines_text};
+ghost use Rattle.can_bus.specs.Runs.{is_shown};
 
+use crate::counting::{count_all, length_all};
 use crate::passage::Passage;
+use crate::passages::{cut_all, lines_of, write_all};
 use can_bus::Line;
+use co_memo::Shared;
+use listed_text::ListedText;
 use std::alloc::{AllocError, Global};
 use std::marker::Model;
 
-/// How many lines a passage has, but for the last one of a trace.
-const PASSAGE: usize = 64;
-
-/// How many passages are kept at most: 262,144 lines.
-const PASSAGES: usize = 4096;
-
-/// What was written of traces: the passages of the one that was asked for last, each with its text. Contracts
-/// see the lines of each.
-///
-/// What is kept changes no text: a passage is taken as it is kept only where it has the same lines. At most
-/// 4,096 passages of 64 lines are kept, by their place in the trace.
+/// The lines of a trace with their text, in passages that others may hold too. Contracts see the lines, one
+/// behind the other.
 #[derive(Drop)]
 pub struct TraceText {
     alloc: Global,
-    passages: Vec<Passage>,
+    passages: Vec<Shared<Passage>>,
 }
 
 impl Model for TraceText {
@@ -30,16 +26,17 @@ impl Model for TraceText {
     ghost use Rattle.std.specs.Prelude.{List};
     ghost use Rattle.can_bus.specs.contracts.line.Line as told;
     ghost use Rattle.can_bus.specs.declared.line.Line.{Line};
+    ghost use Rattle.trace_text.specs.Passages.{joined};
 
-    ghost Value = { List (List Line) };
+    ghost Value = { List Line };
 
-    ghost coded = { coded_list (coded_list told.the_row.coded) };
+    ghost coded = { coded_list told.the_row.coded };
 
-    ghost view = { λ t. t.passages.items };
+    ghost view = { λ t. joined t.passages.items };
 }
 
 impl TraceText {
-    /// Nothing was written yet. Takes no memory.
+    /// No lines. Takes no memory.
     pub fn new(alloc: Global) -> TraceText
         ensures { result ≡ [] }
     {
@@ -49,46 +46,45 @@ impl TraceText {
         }
     }
 
-    /// Keeps a passage at a place, if that is one of those that are kept.
-    fn keep(&mut self, place: usize, passage: Passage) -> Result<(), AllocError> {
-        if place < self.passages.len() {
-            self.passages[place] = passage;
-        } else if place < PASSAGES {
-            self.passages.push(passage)?;
-        }
+    /// Adds a passage at the end, which is shared and not copied: takes memory for a handle. Want of it is the
+    /// only error, and changes nothing.
+    pub fn add(&mut self, passage: Shared<Passage>) -> Result<(), AllocError>
+        ensures added { OnOk result (self.new ≡ self.old ++ passage) }
+        ensures unchanged { OnErr result (self.new ≡ self.old) }
+    {
+        self.passages.push(passage)?;
         Ok(())
     }
 
-    /// Writes the lines of a passage at the end of what was written.
-    fn write(&mut self, place: usize, lines: &[Line], out: &mut Vec<u8>) -> Result<(), AllocError>
-        ensures { OnOk result (out.new.items ≡ out.old.items ++ lines_text lines.now) }
+    /// Keeps the lines up to the horizon. Takes time by the number of passages, and time and memory by the
+    /// text of those that aren't shown whole, which are written anew; each other stays as it is. Want of
+    /// memory is the only error.
+    pub fn keep_shown(&mut self, horizon: u32) -> Result<(), AllocError>
+        ensures { OnOk result (self.new ≡ filter (is_shown horizon) self.old) }
     {
-        if let Some(passage) = self.passages.get(place) {
-            if passage.has(lines) {
-                return out.extend_from_slice(passage.text());
-            }
-        }
-        let passage = Passage::new(self.alloc, lines)?;
-        out.extend_from_slice(passage.text())?;
-        self.keep(place, passage)
+        let alloc = self.alloc;
+        cut_all(alloc, self.passages.as_mut_slice(), horizon)
     }
 
-    /// The text of these lines, each ended by LF. Takes time and memory by its length; lines that the trace
-    /// before had at the same places are compared and copied, and only the others are written. Want of memory is
-    /// the only error: what is kept then is of use still.
-    #[tactic(auto, unfolding(can_bus::specs::Lines::lines_text))]
-    pub fn text(&mut self, lines: &[Line]) -> Result<Vec<u8>, AllocError>
-        ensures { IfOk result (λ text. text.items ≡ lines_text lines.now) }
+    /// A copy of the lines. Takes time and memory by their number; want of memory is the only error.
+    pub fn lines(&self) -> Result<Vec<Line>, AllocError>
+        ensures { IfOk result (λ lines. lines.items ≡ self.now) }
     {
-        let mut out = Vec::new(self.alloc);
-        let mut rest = lines;
-        let mut place = 0;
-        while !rest.is_empty() {
-            let (passage, after) = rest.split_at(PASSAGE.min(rest.len()));
-            self.write(place, passage, &mut out)?;
-            rest = after;
-            place += 1;
-        }
-        Ok(out)
+        lines_of(self.alloc, &self.passages)
+    }
+
+    /// The text of the lines, each ended by LF, with the reply that shows them. Takes time and memory by its
+    /// length: each byte is copied once. Want of memory is the only error.
+    #[tactic(auto, unfolding(listed_text::specs::Replies::lines_reply))]
+    pub fn listed(&self) -> Result<ListedText, AllocError>
+        ensures { IfOk result (λ text. text ≡ lines_text self.now) }
+    {
+        let passages = self.passages.as_slice();
+        let count = count_all(passages).ok_or(AllocError)?;
+        let size = length_all(passages).ok_or(AllocError)?;
+        let mut reply = listed_text::head(self.alloc, count, size)?;
+        let start = reply.len();
+        write_all(passages, &mut reply)?;
+        Ok(ListedText::of_reply(reply, start))
     }
 }

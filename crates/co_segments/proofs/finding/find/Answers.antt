@@ -4,7 +4,8 @@ use Rattle.std.proofs.lemmas.List.{drop_all}
 use Rattle.kept_reads.proofs.NumberLemmas.{keeps_all}
 use Rattle.kept_reads.proofs.KnownLemmas.{all_marked_later, extends_in_turn, extends_itself}
 use Rattle.co_segments.specs.Placed.{IsLater, Meaning}
-use Rattle.co_segments.proofs.NumberedLemmas.{all_stale, none_there, numbered, numbered_recorded, rest_at}
+use Rattle.co_segments.proofs.NumberedLemmas.{none_there, rest_at}
+use Rattle.co_segments.specs.Placed.{numbered}
 use Rattle.co_segments.proofs.PlacedLemmas.{in_lookup, none_stale, one_later, one_stale}
 use Rattle.co_segments.proofs.finding.find.Goals.{in-Some+in_ok-serves+else-branch, in_default}
 use Rattle.co_segments.proofs.finding.find.Goals as goal
@@ -14,11 +15,11 @@ loop-place-init g c =
     let image = (g.P.Asked.seen c.args.parts.now).image in
     let es = c.args.shelf.now.entries in
     record {
-      stale = all_stale image c.args.number c.args.here.now.state.bus es;
-      known = λ contents h m. extends_itself image contents c.args.given.now.contents c.args.now.now h;
+      stale = c.requires.passed;
+      known = λ contents h m. extends_itself image contents c.args.given.now.contents c.args.now.now.reads h;
       more = omega arith;
       buses = refl;
-      counted = omega (arith, numbered_recorded c.args.number es);
+      counted = omega arith;
       kept = refl;
     }
 
@@ -56,7 +57,7 @@ returns-then-branch-clause-known g c contents h m =
     let marked = all_marked_later contents ext.meaning c.args.given.now.contents c.loop-place.given.contents s.reads
     ext.keeps ext.more (m (e.0, s) e.1) in
     extends_in_turn image contents c.args.given.now.contents c.loop-place.given.contents c.serves.new.given.contents
-    c.loop-place.now c.serves.new.now ext ((rw old.kept at c.in_ok-serves.ensures.known) ext.meaning ext.known marked)
+    c.loop-place.now.reads c.serves.new.now.reads ext ((rw old.kept at c.in_ok-serves.ensures.known) ext.meaning ext.known marked)
 
 pub returns-then-branch-clause-counted : goal.returns-then-branch-clause-counted
 returns-then-branch-clause-counted g c =
@@ -87,7 +88,7 @@ loop-place-preserved g c =
                 let marked = all_marked_later contents ext.meaning c.args.given.now.contents c.loop-place.given.contents s.reads
                 ext.keeps ext.more (m (e.0, s) e.1) in
                 extends_in_turn image contents c.args.given.now.contents c.loop-place.given.contents w.serves.new.given.contents
-                c.loop-place.now w.serves.new.now ext
+                c.loop-place.now.reads w.serves.new.now.reads ext
                 ((rw old.kept at w.in_ok-serves.ensures.known) ext.meaning ext.known marked);
             more = omega (arith, old.more, w.in_ok-serves.ensures.more);
             buses = w.in_ok-serves.ensures.buses ∙ old.buses;

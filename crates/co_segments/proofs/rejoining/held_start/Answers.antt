@@ -1,6 +1,7 @@
 use Rattle.std.proofs.Common.{drop, length, sym, ap, arith}
 use Rattle.std.proofs.lemmas.List.{drop_all}
-use Rattle.co_segments.proofs.NumberedLemmas.{all_stale, none_there, numbered, one_passed}
+use Rattle.co_segments.proofs.NumberedLemmas.{all_stale, none_there, one_passed}
+use Rattle.co_segments.specs.Placed.{numbered}
 use Rattle.co_segments.proofs.PlacedLemmas.{in_lookup, none_stale}
 use Rattle.co_segments.proofs.rejoining.held_start.Goals.{in-Some+else-differs_there+in_ok-found+in_default-2+then-place-count, in-Some+else-differs_there+in_ok-found+in_default-2+else-place-count, in_default}
 use Rattle.co_segments.proofs.rejoining.held_start.Goals as goal

@@ -2,7 +2,7 @@ use Rattle.std.proofs.Common.{drop}
 use Rattle.co_parts.specs.Contents.{Image}
 use Rattle.co_segments.specs.Placed.{kept_of}
 use Rattle.co_segments.specs.Segments.{IsStale}
-use Rattle.co_segments.proofs.NumberedLemmas.{numbered}
+use Rattle.co_segments.specs.Placed.{numbered}
 use Rattle.co_segments.proofs.rejoining.held_start.Given as goal
 
 -- none so far starts from the bus

@@ -1,59 +1,74 @@
-use Rattle.std.proofs.Common.{length, refl, ap, ◌∙◌, arith}
-use Rattle.asking.specs.Asking.{reads}
-use Rattle.bus_laws.specs.Spans.{span}
+use Rattle.std.proofs.Common.{◌≡◌, ℕ, Some, nat_eq, refl, sym, ap, subst, ◌∙◌, arith}
+use Rattle.std.proofs.lemmas.Bool.{false≢true}
+use Rattle.std.proofs.lemmas.Option.{same_Some}
+use Rattle.std.specs.Map.{lookup}
 use Rattle.kept_shelf.specs.Shelves.{Shelved}
 use Rattle.co_segments.specs.Placed.{Numbered, Placed, kept_of}
-use Rattle.co_segments.proofs.PlacedLemmas.{first_from_lookup, kept_added, promoted_fits, ran_served, segments_from_told}
-use Rattle.co_segments.proofs.PlacedLemmas.{segments_later, told_known, told_reached, told_used, used_served}
-use Rattle.co_segments.proofs.ValidLemmas.{sound_from_run}
+use Rattle.co_segments.specs.Segments.{Serves}
+use Rattle.co_segments.proofs.NumberedLemmas.{all_stale, first_recorded, none_passed, numbered_recorded}
+use Rattle.co_segments.proofs.PlacedLemmas.{first_from_lookup, promoted_fits, segments_from_told, segments_later, told_known, told_used, used_served}
 use Rattle.co_segments.proofs.serving.advance.Goals as goal
 
-pub find-requires : goal.find-requires
-find-requires g c =
+pub returns-in_err-ahead-clause-segments : goal.returns-in_err-ahead-clause-segments
+returns-in_err-ahead-clause-segments g c =
+    let image = (g.P.Asked.seen c.args.parts.now).image in
+    let es = c.args.shelf.now.entries in
+    let e = c.in_err-ahead.ensures in
+    segments_later es c.args.given.now c.look_ahead.new.given
+    (segments_from_told image es c.args.given.now c.args.now.now.reads c.args.here.state c.requires.told) (omega (arith, e.buses)) e.more
+
+pub returns-in_err-state-in-Some-true-clause-segments : goal.returns-in_err-state-in-Some-true-clause-segments
+returns-in_err-state-in-Some-true-clause-segments g c =
+    let image = (g.P.Asked.seen c.args.parts.now).image in
+    let es = c.args.shelf.now.entries in
+    let e = c.in_ok-ahead.ensures in
+    rw c.in_err-state-in-Some-true.ensures.err (segments_later es c.args.given.now c.look_ahead.new.given
+    (segments_from_told image es c.args.given.now c.args.now.now.reads c.args.here.state c.requires.told) (omega (arith, e.buses)) e.more)
+
+pub pass_on-requires-clause-passed : goal.pass_on-requires-clause-passed
+pass_on-requires-clause-passed g c =
+    let image = (g.P.Asked.seen c.args.parts.now).image in
+    let e = c.in_ok-ahead.ensures in
+    let a = rw c.in-Some-false.is at e.answer in
+    rw e.kept (none_passed image c.args.number c.args.here.state.bus c.args.shelf.now.entries a.0.0 a.0.1 a.1.2
+    (λ k. false≢true (sym c.in-Some-false.field-0-test ∙ a.1.3.1 k)))
+
+pub pass_on-requires-in-None-clause-passed : goal.pass_on-requires-in-None-clause-passed
+pass_on-requires-in-None-clause-passed g c =
+    let image = (g.P.Asked.seen c.args.parts.now).image in
+    rw c.in_ok-ahead.ensures.kept (all_stale image c.args.number c.args.here.state.bus c.args.shelf.now.entries)
+
+pub pass_on-requires-clause-told : goal.pass_on-requires-clause-told
+pass_on-requires-clause-told g c =
+    let image = (g.P.Asked.seen c.args.parts.now).image in
     let h = c.requires.told in
-    record { named = (h.meaning, (h.named, (h.state, h.known))); new = c.requires.new }
+    let e = c.in_ok-ahead.ensures in
+    rw e.kept (told_known image c.args.shelf.now.entries c.args.given.now c.look_ahead.new.given c.args.now.now.reads c.look_ahead.new.now.reads
+    c.args.here.state h e.buses (e.known h.meaning.contents h.known (λ x k. (h.named x k).reads)))
 
-pub returns-in_err-found-clause-segments : goal.returns-in_err-found-clause-segments
-returns-in_err-found-clause-segments g c =
+pub pass_on-requires-in-None-clause-told : goal.pass_on-requires-in-None-clause-told
+pass_on-requires-in-None-clause-told g c =
+    let image = (g.P.Asked.seen c.args.parts.now).image in
+    let h = c.requires.told in
+    let e = c.in_ok-ahead.ensures in
+    rw e.kept (told_known image c.args.shelf.now.entries c.args.given.now c.look_ahead.new.given c.args.now.now.reads c.look_ahead.new.now.reads
+    c.args.here.state h e.buses (e.known h.meaning.contents h.known (λ x k. (h.named x k).reads)))
+
+pub returns-in_ok-state-in-Some-true-clause-served : goal.returns-in_ok-state-in-Some-true-clause-served
+returns-in_ok-state-in-Some-true-clause-served g c =
     let image = (g.P.Asked.seen c.args.parts.now).image in
     let es = c.args.shelf.now.entries in
-    let f = c.in_err-found.ensures in
-    segments_later es c.args.given.now c.find.new.given
-    (segments_from_told image es c.args.given.now c.args.now.now c.args.here.state c.requires.told) (omega (arith, f.buses)) f.more
-
-pub returns-in_err-state-in-Some-clause-segments : goal.returns-in_err-state-in-Some-clause-segments
-returns-in_err-state-in-Some-clause-segments g c =
-    let image = (g.P.Asked.seen c.args.parts.now).image in
-    let es = c.args.shelf.now.entries in
-    let f = c.in_ok-found.ensures in
-    rw c.in_err-state-in-Some.ensures.err (segments_later es c.args.given.now c.find.new.given
-    (segments_from_told image es c.args.given.now c.args.now.now c.args.here.state c.requires.told) (omega (arith, f.buses))
-    f.more)
-
-pub returns-in_err-reached-in-None-clause-segments : goal.returns-in_err-reached-in-None-clause-segments
-returns-in_err-reached-in-None-clause-segments g c =
-    let image = (g.P.Asked.seen c.args.parts.now).image in
-    let es = c.args.shelf.now.entries in
-    let f = c.in_ok-found.ensures in
-    let e = c.in_err-reached-in-None.ensures in
-    rw e.err (segments_later es c.args.given.now c.run_new.new.given
-    (segments_from_told image es c.args.given.now c.args.now.now c.args.here.state c.requires.told)
-    (omega (arith, f.buses, e.more.0)) (omega (arith, f.more, e.more.1)))
-
-pub returns-in_ok-state-in-Some-clause-served : goal.returns-in_ok-state-in-Some-clause-served
-returns-in_ok-state-in-Some-clause-served g c =
-    let image = (g.P.Asked.seen c.args.parts.now).image in
-    let es = c.args.shelf.now.entries in
-    let found = rw c.in-Some.is at c.in_ok-found.ensures.found in
-    let e = c.in_ok-state-in-Some.ensures in
-    let s = e.used.0 in
-    let facts = e.used.1 in
-    let f = first_from_lookup c.in-Some.key es s facts.0 in
-    let served = used_served image es c.args.number c.in-Some.key c.args.here.state.bus found.0 s c.requires.told.sound
-    found.1.0 found.1.1 facts.0 in
-    let held = ap (λ (x : Shelved Placed). kept_of x.entries) e.first
-    ∙ promoted_fits c.in-Some.key es s f c.args.shelf.now.capacity c.len-count.ensures.fits in (
-      s.kept,
+    let a = rw c.in-Some-true.is at c.in_ok-ahead.ensures.answer in
+    let u = c.in_ok-state-in-Some-true.ensures.used in
+    let e : ℕ × Placed = u.0 in
+    let same : a.0 ≡ e = same_Some a.0 e (sym a.1.0 ∙ u.1.0) in
+    let found : lookup (nat_eq e.0) es ≡ Some e.1 = subst (λ (x : ℕ × Placed). lookup (nat_eq x.0) es ≡ Some x.1) same a.1.1 in
+    let serves : Serves image c.args.number c.args.here.state.bus e.1.kept =
+    subst (λ (x : ℕ × Placed). Serves image c.args.number c.args.here.state.bus x.1.kept) same (a.1.3.0 c.in-Some-true.field-0-test) in
+    let f = first_from_lookup e.0 es e.1 found in
+    let held = ap (λ (x : Shelved Placed). kept_of x.entries) (c.in_ok-state-in-Some-true.ensures.first e u.1.0)
+    ∙ promoted_fits e.0 es e.1 f c.args.shelf.now.capacity c.len-count.ensures.fits in (
+      e.1.kept,
       (
         f.rest,
         (
@@ -61,121 +76,109 @@ returns-in_ok-state-in-Some-clause-served g c =
           (
             0,
             (
-              served,
-              ap (λ (n : Numbered). n.bus) facts.1,
-              facts.2,
+              used_served image es c.args.number e.0 c.args.here.state.bus e.1 e.1 c.requires.told.sound found serves found,
+              ap (λ (n : Numbered). n.bus) u.1.1,
+              u.1.2,
               held,
               (omega arith, refl),
-              omega (arith, c.in_ok-found.ensures.counted),
+              omega (arith, a.1.4, first_recorded c.args.number es a.0 a.1.2),
             ),
           ),
         ),
       ),
     )
 
-pub returns-in_ok-state-in-Some-clause-told : goal.returns-in_ok-state-in-Some-clause-told
-returns-in_ok-state-in-Some-clause-told g c =
+pub returns-in_ok-state-in-Some-true-clause-told : goal.returns-in_ok-state-in-Some-true-clause-told
+returns-in_ok-state-in-Some-true-clause-told g c =
     let image = (g.P.Asked.seen c.args.parts.now).image in
     let es = c.args.shelf.now.entries in
     let h = c.requires.told in
-    let f = c.in_ok-found.ensures in
-    let e = c.in_ok-state-in-Some.ensures in
-    let told = told_known image es c.args.given.now c.find.new.given c.args.now.now c.find.new.now c.args.here.state h f.buses
-    (f.known h.meaning.contents h.known (λ x k. (h.named x k).reads)) in
-    rw (e.first, e.used.1.1)
-    (told_used image es c.find.new.given c.find.new.now c.args.here.state c.in-Some.key e.used.0 told e.used.1.0)
+    let l = c.in_ok-ahead.ensures in
+    let a = rw c.in-Some-true.is at l.answer in
+    let u = c.in_ok-state-in-Some-true.ensures.used in
+    let e : ℕ × Placed = u.0 in
+    let same : a.0 ≡ e = same_Some a.0 e (sym a.1.0 ∙ u.1.0) in
+    let found : lookup (nat_eq e.0) es ≡ Some e.1 = subst (λ (x : ℕ × Placed). lookup (nat_eq x.0) es ≡ Some x.1) same a.1.1 in
+    let told = told_known image es c.args.given.now c.look_ahead.new.given c.args.now.now.reads c.look_ahead.new.now.reads
+    c.args.here.state h l.buses (l.known h.meaning.contents h.known (λ x k. (h.named x k).reads)) in
+    rw (c.in_ok-state-in-Some-true.ensures.first e u.1.0, u.1.1)
+    (told_used image es c.look_ahead.new.given c.look_ahead.new.now.reads c.args.here.state e.0 e.1 told found)
 
-pub returns-in_ok-state-in-Some-clause-segments : goal.returns-in_ok-state-in-Some-clause-segments
-returns-in_ok-state-in-Some-clause-segments g c =
+pub returns-in_ok-state-in-Some-true-clause-segments : goal.returns-in_ok-state-in-Some-true-clause-segments
+returns-in_ok-state-in-Some-true-clause-segments g c =
     let image = (g.P.Asked.seen c.args.parts.now).image in
     let es = c.args.shelf.now.entries in
     let h = c.requires.told in
-    let f = c.in_ok-found.ensures in
-    let e = c.in_ok-state-in-Some.ensures in
-    let told = told_known image es c.args.given.now c.find.new.given c.args.now.now c.find.new.now c.args.here.state h f.buses
-    (f.known h.meaning.contents h.known (λ x k. (h.named x k).reads)) in
-    let used : Numbered = record { number = e.used.0.end; bus = e.used.0.kept.end } in
-    rw e.first (segments_from_told image _ c.find.new.given c.find.new.now used
-    (told_used image es c.find.new.given c.find.new.now c.args.here.state c.in-Some.key e.used.0 told e.used.1.0))
+    let l = c.in_ok-ahead.ensures in
+    let a = rw c.in-Some-true.is at l.answer in
+    let u = c.in_ok-state-in-Some-true.ensures.used in
+    let e : ℕ × Placed = u.0 in
+    let same : a.0 ≡ e = same_Some a.0 e (sym a.1.0 ∙ u.1.0) in
+    let found : lookup (nat_eq e.0) es ≡ Some e.1 = subst (λ (x : ℕ × Placed). lookup (nat_eq x.0) es ≡ Some x.1) same a.1.1 in
+    let told = told_known image es c.args.given.now c.look_ahead.new.given c.args.now.now.reads c.look_ahead.new.now.reads
+    c.args.here.state h l.buses (l.known h.meaning.contents h.known (λ x k. (h.named x k).reads)) in
+    let used : Numbered = record { number = e.1.end; bus = e.1.kept.end } in
+    rw (c.in_ok-state-in-Some-true.ensures.first e u.1.0) (segments_from_told image _ c.look_ahead.new.given c.look_ahead.new.now.reads used
+    (told_used image es c.look_ahead.new.given c.look_ahead.new.now.reads c.args.here.state e.0 e.1 told found))
 
-pub run_new-requires-clause-known : goal.run_new-requires-clause-known
-run_new-requires-clause-known g c =
-    let h = c.requires.told in
-    let f = c.in_ok-found.ensures in
-    let e = f.known h.meaning.contents h.known (λ x k. (h.named x k).reads) in
-    (e.meaning, rw f.kept e.known)
+pub returns-in_ok-state-in-Some-true-clause-turn : goal.returns-in_ok-state-in-Some-true-clause-turn
+returns-in_ok-state-in-Some-true-clause-turn g c =
+    let u = c.in_ok-state-in-Some-true.ensures.used in
+    omega (arith, c.requires.turn, ap (λ (x : Shelved Placed). x.turn) (c.in_ok-state-in-Some-true.ensures.first u.0 u.1.0))
 
-pub returns-in_ok-reached-in-None-clause-served : goal.returns-in_ok-reached-in-None-clause-served
-returns-in_ok-reached-in-None-clause-served g c =
-    let image = (g.P.Asked.seen c.args.parts.now).image in
-    let es = c.args.shelf.now.entries in
-    let shelf = c.args.shelf.now in
-    let same = c.in_ok-found.ensures.kept in
-    let e = c.in_ok-reached-in-None.ensures in
-    let kept = e.ran.0 in
-    let facts = e.ran.1.1 in
-    let stale = rw c.in-None.is at c.in_ok-found.ensures.found in
-    let gives = rw same at facts.5 in
-    let counted = rw same at e.counted in
-    let placed : Placed = record {
-      kept = kept;
-      start = c.args.here.state.number;
-      reads = e.ran.1.0;
-      end = c.in_ok-reached-in-None.reached.state.number;
-    } in
-    let held = ap (λ (x : Shelved Placed). kept_of x.entries) facts.0
-    ∙ kept_added shelf.capacity shelf.given placed es in (
-      kept,
+pub returns-in_ok-state-in-Some-true-clause-capacity : goal.returns-in_ok-state-in-Some-true-clause-capacity
+returns-in_ok-state-in-Some-true-clause-capacity g c =
+    let u = c.in_ok-state-in-Some-true.ensures.used in
+    ap (λ (x : Shelved Placed). x.capacity) (c.in_ok-state-in-Some-true.ensures.first u.0 u.1.0)
+
+pub returns-in_ok-end-in-Some-false-clause-served : goal.returns-in_ok-end-in-Some-false-clause-served
+returns-in_ok-end-in-Some-false-clause-served g c =
+    let l = c.in_ok-ahead.ensures in
+    let a = rw c.in-Some-false.is at l.answer in
+    let v = rw l.kept at c.in_ok-end-in-Some-false.ensures.served in
+    let x = v.1.1.1.1 in (
+      v.0,
       (
-        kept_of es,
+        v.1.0,
         (
-          1,
+          v.1.1.0,
           (
-            length (reads (span c.args.number c.args.here.state.bus) image),
+            v.1.1.1.0,
             (
-              ran_served image (kept_of es) c.args.number c.args.here.state.bus kept stale facts.2 facts.3 gives,
-              facts.1,
-              facts.6,
-              held,
-              (rw c.ran.ensures (omega arith), rw c.ran.ensures refl),
-              omega (arith, counted, c.in_ok-found.ensures.counted),
+              x.0,
+              x.1,
+              x.2,
+              x.3,
+              x.4,
+              omega (arith, x.5, a.1.4, first_recorded c.args.number c.args.shelf.now.entries a.0 a.1.2),
             ),
           ),
         ),
       ),
     )
 
-pub returns-in_ok-reached-in-None-clause-told : goal.returns-in_ok-reached-in-None-clause-told
-returns-in_ok-reached-in-None-clause-told g c =
-    let image = (g.P.Asked.seen c.args.parts.now).image in
-    let es = c.args.shelf.now.entries in
-    let shelf = c.args.shelf.now in
-    let h = c.requires.told in
-    let f = c.in_ok-found.ensures in
-    let e = c.in_ok-reached-in-None.ensures in
-    let kept = e.ran.0 in
-    let facts = rw f.kept at e.ran.1.1 in
-    let told = told_known image es c.args.given.now c.find.new.given c.args.now.now c.find.new.now c.args.here.state h f.buses
-    (f.known h.meaning.contents h.known (λ x k. (h.named x k).reads)) in
-    let sound = sound_from_run image c.args.number c.args.here.state.bus kept facts.2 facts.3 facts.4 facts.5 in
-    rw facts.0 (told_reached image es c.find.new.given c.run_new.new.given c.find.new.now c.run_new.new.now c.args.here.state
-    c.in_ok-reached-in-None.reached.state shelf.capacity shelf.given kept e.ran.1.0 told sound facts.3 facts.1
-    (facts.7 told.meaning.contents told.known) e.reached)
-
-pub returns-in_ok-reached-in-None-clause-segments : goal.returns-in_ok-reached-in-None-clause-segments
-returns-in_ok-reached-in-None-clause-segments g c =
-    let image = (g.P.Asked.seen c.args.parts.now).image in
-    let es = c.args.shelf.now.entries in
-    let shelf = c.args.shelf.now in
-    let h = c.requires.told in
-    let f = c.in_ok-found.ensures in
-    let e = c.in_ok-reached-in-None.ensures in
-    let kept = e.ran.0 in
-    let facts = rw f.kept at e.ran.1.1 in
-    let told = told_known image es c.args.given.now c.find.new.given c.args.now.now c.find.new.now c.args.here.state h f.buses
-    (f.known h.meaning.contents h.known (λ x k. (h.named x k).reads)) in
-    let sound = sound_from_run image c.args.number c.args.here.state.bus kept facts.2 facts.3 facts.4 facts.5 in
-    rw facts.0 (segments_from_told image _ c.run_new.new.given c.run_new.new.now c.in_ok-reached-in-None.reached.state
-    (told_reached image es c.find.new.given c.run_new.new.given c.find.new.now c.run_new.new.now c.args.here.state
-    c.in_ok-reached-in-None.reached.state shelf.capacity shelf.given kept e.ran.1.0 told sound facts.3 facts.1
-    (facts.7 told.meaning.contents told.known) e.reached))
+pub returns-in_ok-end-in-None-clause-served : goal.returns-in_ok-end-in-None-clause-served
+returns-in_ok-end-in-None-clause-served g c =
+    let l = c.in_ok-ahead.ensures in
+    let a = rw c.in-None.is at l.answer in
+    let v = rw l.kept at c.in_ok-end-in-None.ensures.served in
+    let x = v.1.1.1.1 in (
+      v.0,
+      (
+        v.1.0,
+        (
+          v.1.1.0,
+          (
+            v.1.1.1.0,
+            (
+              x.0,
+              x.1,
+              x.2,
+              x.3,
+              x.4,
+              omega (arith, x.5, a.1, numbered_recorded c.args.number c.args.shelf.now.entries),
+            ),
+          ),
+        ),
+      ),
+    )

@@ -5,26 +5,33 @@ use Rattle.asking.proofs.LoopLemmas.{turned_told}
 use Rattle.can_bus.specs.Bus.{blank_bus}
 use Rattle.co_segments.specs.Placed.{Numbered, kept_of}
 use Rattle.bus_laws.specs.Spans.{span}
-use Rattle.co_segments.proofs.SpanLemmas.{span_ready}
+use Rattle.recorded_spans.proofs.SpanLemmas.{span_ready}
 use Rattle.co_segments.proofs.RecordedLemmas.{recorded_served}
 use Rattle.co_segments.proofs.ValidLemmas.{traced_more}
-use Rattle.co_segments.proofs.PlacedLemmas.{told_new}
+use Rattle.co_segments.proofs.PlacedLemmas.{segments_fewer, told_new}
 use Rattle.co_segments.proofs.WindowLemmas.{none_left}
 use Rattle.co_segments.proofs.store.trace_spans.Goals as goal
+
+pub returns-in_err-begin-clause-segments : goal.returns-in_err-begin-clause-segments
+returns-in_err-begin-clause-segments g c =
+    segments_fewer c.args.shelf.now.entries c.begin.new.self.entries c.args.given.now c.begin.ensures.fewer c.requires.segments
 
 pub loop-number-init : goal.loop-number-init
 loop-number-init g c =
     let image = (g.P.Asked.seen c.args.parts.now).image in
+    let begun = c.in_ok-begin.ensures in
+    let entries : c.begin.new.self.entries ≡ c.args.shelf.now.entries = begun.ok.0 in
     let bus : c.in_ok-state.state.bus ≡ blank_bus = ap (λ (n : Numbered). n.bus) c.in_ok-state.ensures.is ∙ c.new.ensures in
-    let none = c.new-told.ensures.items in
+    let none = c.new-told.ensures in
     let whole : c.args.count - 0 ≡ c.args.count = omega arith in
     record {
       lines = rw (none, bus, whole) refl;
-      traced = (0, (0, (bus, refl, none, refl, refl), (omega arith, refl), omega arith));
+      traced = rw entries (0, (0, (bus, refl, none, refl, refl), (omega arith, refl), omega arith));
       ready = λ h. absurd (omega (arith, h));
       new = λ h. absurd (false≢true h);
-      named = rw (c.in_ok-state.ensures.is, c.new-now.ensures) (told_new image c.args.shelf.now.entries c.args.given.now _ c.new.result c.requires.segments c.in_ok-state.ensures.ok refl);
-      capacity = refl;
+      named = rw (entries, c.in_ok-state.ensures.is, c.new-now.ensures) (told_new image c.args.shelf.now.entries c.args.given.now _ c.new.result c.requires.segments c.in_ok-state.ensures.ok refl);
+      turn = begun.ok.1;
+      capacity = begun.capacity;
       kept = refl;
     }
 
@@ -45,15 +52,15 @@ loop-number-preserved g c =
     let within : number < c.args.count = omega arith in
     let after = c.in_ok-end.end.state.bus in
     let end : after ≡ kept.end = facts.1 in
-    let told : c.advance.new.told.items ≡ c.loop-number.told.items ++ kept.lines = facts.2 in
+    let told : c.advance.new.told ≡ c.loop-number.told ++ kept.lines = facts.2 in
     let held : kept_of c.advance.new.shelf.entries ≡ take c.args.shelf.now.capacity (kept ∷ rest) = rw old.capacity at facts.3 in
     record {
-      lines = turned_told span number c.args.count c.loop-number.here.state.bus after image within (end ∙ sym (ap (λ r. r.0) gives)) c.loop-number.told.items c.advance.new.told.items (told ∙ ap (λ r. c.loop-number.told.items ++ r.1) (sym gives)) ∙ old.lines;
+      lines = turned_told span number c.args.count c.loop-number.here.state.bus after image within (end ∙ sym (ap (λ r. r.0) gives)) c.loop-number.told c.advance.new.told (told ∙ ap (λ r. c.loop-number.told ++ r.1) (sym gives)) ∙ old.lines;
       traced = (
         old.traced.0 + ran,
         (
           old.traced.1.0 + read,
-          traced_more image c.args.shelf.now.capacity (kept_of c.args.shelf.now.entries) number c.loop-number.here.state.bus after (kept_of c.loop-number.shelf.entries) (kept_of c.advance.new.shelf.entries) c.loop-number.told.items c.advance.new.told.items old.traced.0 old.traced.1.0 kept rest ran read old.traced.1.1 is end held told,
+          traced_more image c.args.shelf.now.capacity (kept_of c.args.shelf.now.entries) number c.loop-number.here.state.bus after (kept_of c.loop-number.shelf.entries) (kept_of c.advance.new.shelf.entries) c.loop-number.told c.advance.new.told old.traced.0 old.traced.1.0 kept rest ran read old.traced.1.1 is end held told,
           (omega (arith, old.traced.1.2.0, facts.4.0), facts.4.1 ∙ old.traced.1.2.1),
           rw held (omega (arith, old.traced.1.3, facts.5, recorded_served image (kept_of c.loop-number.shelf.entries) number c.loop-number.here.state.bus kept rest ran read c.args.shelf.now.capacity is)),
         ),
@@ -61,6 +68,7 @@ loop-number-preserved g c =
       ready = λ h. rw (end ∙ sym (ap (λ r. r.0) gives)) (span_ready image c.requires.image number c.loop-number.here.state.bus old.ready);
       new = e.new;
       named = rw old.kept at e.told;
+      turn = e.turn;
       capacity = e.capacity ∙ old.capacity;
       kept = e.kept ∙ old.kept;
     }
@@ -69,7 +77,7 @@ pub returns-clause-lines : goal.returns-clause-lines
 returns-clause-lines g c =
     let old = c.loop-number.invariant in
     let e = none_left (g.P.Asked.seen c.args.parts.now).image c.loop-number.number c.args.count c.loop-number.here.state.bus c.loop-number-test.false in
-    sym (append-nil c.loop-number.told.items) ∙ (rw e at old.lines)
+    sym (append-nil c.loop-number.told) ∙ (rw e at old.lines)
 
 pub returns-clause-traced : goal.returns-clause-traced
 returns-clause-traced g c =

@@ -9,8 +9,8 @@ use Rattle.kept_image.proofs.kept_image.KeptImage.window_table.Goals as goal
 pub loop-i-init : goal.loop-i-init
 loop-i-init c = none_below (window_steps c.args.project.now) c.new-table.result c.new-table.ensures
 
-pub add_window-requires : goal.add_window-requires
-add_window-requires c =
+pub add_window-requires-clause-held : goal.add_window-requires-clause-held
+add_window-requires-clause-held c =
     window_current c.args.project.now c.args.self.now c.requires c.loop-i.i (omega (arith, c.loop-i-test.true))
 
 pub loop-i-preserved : goal.loop-i-preserved

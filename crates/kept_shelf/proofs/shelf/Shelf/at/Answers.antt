@@ -1,24 +1,21 @@
-use Rattle.std.proofs.Common.{nat_eq, sym, ap, ◌∙◌, Some}
-use Rattle.std.specs.Map.{keys_of}
-use Rattle.std.specs.List.{IsDistinct}
-use Rattle.std.proofs.lemmas.Option.{none-some, same_Some}
-use Rattle.kept_shelf.specs.Shelves.{entries_of}
-use Rattle.kept_shelf.proofs.NumberLemmas.{found_at, none_at}
+use Rattle.std.proofs.Common.{◌≡◌, Some, nat_eq, slice_get, reverse, ap, sym, ◌∙◌}
+use Rattle.std.specs.Map.{lookup}
+use Rattle.kept_shelf.specs.Rows.{shown}
+use Rattle.kept_shelf.proofs.KeyLemmas.{found_behind, if_some}
+use Rattle.kept_shelf.proofs.RowLemmas.{later_numbers, settled_shown}
 use Rattle.kept_shelf.proofs.shelf.Shelf.at.Goals as goal
 
-pub returns-in-None-clause-is : goal.returns-in-None-clause-is
-returns-in-None-clause-is g c =
-    rw (← c.self.view_is) (sym (none_at g.V.Numbered.number_of (entries_of c.self.inside.cache) c.self.inside.index c.args.number c.args.place c.self.invariant.2 (sym c.in-None.ensures)))
+pub returns-clause-is : goal.returns-clause-is
+returns-clause-is g c =
+    let in' = c.self.inside in
+    let settled = rw (← c.self.view_is) at c.requires.settled in
+    let later = rw (← c.self.view_is) at c.requires.later in
+    rw (← c.self.view_is) (c.at.ensures.is ∙ ap (λ l. slice_get l c.args.place) (sym (later_numbers g.V.Numbered.number_of in'.first in'.used in'.row.items in'.rest c.self.invariant.numbers c.self.invariant.within settled c.args.number later)))
 
-pub returns-in-None-get-clause-is : goal.returns-in-None-get-clause-is
-returns-in-None-get-clause-is g c =
-    let distinct : IsDistinct nat_eq (keys_of (entries_of c.self.inside.cache)) = rw (← c.self.view_is) at c.len-count.ensures.distinct in
-    let f = found_at g.V.Numbered.number_of (entries_of c.self.inside.cache) c.self.inside.index c.args.number c.args.place c.in-Some.key c.self.invariant.2 distinct (sym c.in-Some.ensures) in
-    absurd (none-some f.0 ((rw (← c.self.view_is) at c.in-None-get.ensures) ∙ f.1.1))
-
-pub returns-in-Some-get-clause-is : goal.returns-in-Some-get-clause-is
-returns-in-Some-get-clause-is g c =
-    let distinct : IsDistinct nat_eq (keys_of (entries_of c.self.inside.cache)) = rw (← c.self.view_is) at c.len-count.ensures.distinct in
-    let f = found_at g.V.Numbered.number_of (entries_of c.self.inside.cache) c.self.inside.index c.args.number c.args.place c.in-Some.key c.self.invariant.2 distinct (sym c.in-Some.ensures) in
-    let same = same_Some c.in-Some-get.value.now f.0 ((rw (← c.self.view_is) at c.in-Some-get.ensures) ∙ f.1.1) in
-    rw (← c.self.view_is) (ap (λ v. Some (c.in-Some.key, v)) same ∙ sym f.1.0)
+pub returns-clause-held : goal.returns-clause-held
+returns-clause-held g c =
+    let in' = c.self.inside in
+    let settled = rw (← c.self.view_is) at c.requires.settled in
+    let is = settled_shown g.V.Numbered.number_of in'.first in'.used in'.row.items in'.rest c.self.invariant.numbers c.self.invariant.within settled in
+    rw (← c.self.view_is) (if_some (λ found. lookup (nat_eq found.0) in'.rest ≡ Some found.1.now) (λ found. lookup (nat_eq found.0) (shown in'.row.items in'.used in'.rest) ≡ Some found.1.now) c.at.result
+    (λ found h. ap (lookup (nat_eq found.0)) is ∙ found_behind found.0 (reverse in'.row.items) in'.rest found.1.now c.self.invariant.distinct h) c.at.ensures.held)

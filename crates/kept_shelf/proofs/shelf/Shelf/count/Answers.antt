@@ -1,7 +1,10 @@
-use Rattle.std.proofs.Common.{length, ap, ◌∙◌}
-use Rattle.kept_shelf.specs.Shelves.{entries_of}
-use Rattle.kept_shelf.proofs.NumberLemmas.{counted_keys}
+use Rattle.std.proofs.Common.{length, ap, sym, ◌∙◌}
+use Rattle.kept_shelf.proofs.RowLemmas.{later_numbers}
 use Rattle.kept_shelf.proofs.shelf.Shelf.count.Goals as goal
 
 pub returns : goal.returns
-returns g c = rw (← c.self.view_is) (ap length c.keys.ensures ∙ counted_keys g.V.Numbered.number_of (entries_of c.self.inside.cache) c.self.inside.index c.args.number 0 c.self.invariant.2)
+returns g c =
+    let in' = c.self.inside in
+    let settled = rw (← c.self.view_is) at c.requires.settled in
+    let later = rw (← c.self.view_is) at c.requires.later in
+    rw (← c.self.view_is) (c.count.ensures ∙ ap length (sym (later_numbers g.V.Numbered.number_of in'.first in'.used in'.row.items in'.rest c.self.invariant.numbers c.self.invariant.within settled c.args.number later)))
