@@ -2,10 +2,10 @@
 
 use crate::holding::Holding;
 use crate::marks::Marks;
+use crate::run::instant;
 use anyhow::Result;
 use can_bus::{BusState, Line, Lines, Parts};
 use co_depend::ProjectParts;
-use co_parts::END;
 use co_project::Project;
 use concise_dcf::Write as Written;
 use node_boot::{Note, NoteKind};
@@ -56,18 +56,16 @@ fn holding_of<P: Parts>(
     Holding::of(alloc, t, node, bus.values(node), &writes)
 }
 
-/// An instant below `END`, of whose reads no record stays, and what it tells.
-fn run_instant<P: Parts>(
+/// What an instant tells, of whose reads no record stays.
+fn told_at<P: Parts>(
     alloc: Global,
     bus: &mut BusState,
     t: u64,
     parts: &mut P,
 ) -> Result<Lines, AllocError> {
     let mut lines = Lines::new(alloc);
-    if t < END {
-        bus.instant(t, parts, &mut lines)?;
-        let _asked = parts.take_asked();
-    }
+    instant(bus, t, parts, &mut lines)?;
+    let _asked = parts.take_asked();
     Ok(lines)
 }
 
@@ -144,7 +142,7 @@ impl Held {
         if t > last {
             return Ok(false);
         }
-        let lines = run_instant(self.alloc, bus, t, parts)?;
+        let lines = told_at(self.alloc, bus, t, parts)?;
         self.take_lines(t, lines.as_slice(), bus, parts)?;
         Ok(true)
     }

@@ -26,6 +26,7 @@ use layout::Layout;
 use record::read_project;
 use run::run_project;
 use std::alloc::Global;
+use std::io;
 use std::io::Write;
 use wrong::show_wrong;
 
@@ -72,32 +73,49 @@ fn show_answer<W: Write>(out: &mut W, layout: &mut Layout, query: &str) -> Resul
     Ok(())
 }
 
+/// Shows what a word asks of the network that is laid out.
+fn show_network<W: Write>(alloc: Global, out: &mut W, layout: &Layout, word: &str) -> Result<()> {
+    match word {
+        "run" => show_run(alloc, out, layout),
+        "reads" => show_reads(alloc, out, layout),
+        "held" => show_held(alloc, out, layout),
+        _ => show_wrong(alloc, out, layout.project()),
+    }
+}
+
+/// Shows what a word and a text ask of the workbench or the store.
+fn show_asked<W: Write>(out: &mut W, layout: &mut Layout, word: &str, text: &str) -> Result<()> {
+    match word {
+        "ask" => show_work(out, layout, text),
+        "answer" => show_answer(out, layout, text),
+        _ => layout.show_stored(out, text),
+    }
+}
+
+/// Changes what is laid out beside the project, or begins anew.
+fn change(layout: &mut Layout, word: &str, text: &str) -> Result<()> {
+    match word {
+        "marked" => layout.take_mark(text),
+        "store" => layout.open_store(text),
+        _ => layout.clear(),
+    }
+}
+
 /// Does what a line says that is none of a data sheet.
 fn obey<W: Write>(alloc: Global, out: &mut W, layout: &mut Layout, line: &str) -> Result<()> {
-    writeln!(out, "{line}")?;
-    if line == "run" {
-        show_run(alloc, out, layout)
-    } else if line == "reads" {
-        show_reads(alloc, out, layout)
-    } else if line == "held" {
-        show_held(alloc, out, layout)
-    } else if let Some(mark) = line.strip_prefix("marked ") {
-        layout.take_mark(mark)
-    } else if line == "diag" {
-        show_wrong(alloc, out, layout.project())
-    } else if let Some(query) = line.strip_prefix("ask ") {
-        show_work(out, layout, query)
-    } else if let Some(query) = line.strip_prefix("answer ") {
-        show_answer(out, layout, query)
-    } else if let Some(most) = line.strip_prefix("stored ") {
-        layout.show_stored(out, most)
-    } else if let Some(capacity) = line.strip_prefix("store ") {
-        layout.open_store(capacity)
-    } else if line == "new" {
-        layout.clear()
-    } else {
-        layout.take_command(line)
+    let (word, text) = line.split_once(' ').unwrap_or((line, ""));
+    match word {
+        "run" | "reads" | "held" | "diag" => show_network(alloc, out, layout, word),
+        "ask" | "answer" | "stored" => show_asked(out, layout, word, text),
+        "marked" | "store" | "new" => change(layout, word, text),
+        _ => layout.take_command(line),
     }
+}
+
+/// Shows a line that is none of a data sheet, and does what it says.
+fn show<W: Write>(alloc: Global, out: &mut W, layout: &mut Layout, line: &str) -> Result<()> {
+    writeln!(out, "{line}")?;
+    obey(alloc, out, layout, line)
 }
 
 /// Takes a line.
@@ -105,20 +123,20 @@ fn take<W: Write>(alloc: Global, out: &mut W, layout: &mut Layout, line: &str) -
     if layout.takes_block() {
         layout.take_line(line)
     } else {
-        obey(alloc, out, layout, line)
+        show(alloc, out, layout, line)
     }
 }
 
-/// Takes each line of the input.
-fn take_all(rt: &HostRuntime, layout: &mut Layout) -> Result<()> {
-    let alloc = rt.alloc();
-    for line in rt.lines(alloc) {
-        take(alloc, &mut rt.stdout(), layout, line?.as_str())?;
+/// Takes each line of a text.
+fn take_all(rt: &HostRuntime, layout: &mut Layout, text: &str) -> Result<()> {
+    for line in text.lines() {
+        take(rt.alloc(), &mut rt.stdout(), layout, line)?;
     }
     Ok(())
 }
 
 fn main(rt: HostRuntime) -> Result<()> {
+    let text = io::read_to_string(rt.alloc(), rt.stdin())?;
     let mut layout = Layout::new(rt.alloc())?;
-    take_all(&rt, &mut layout)
+    take_all(&rt, &mut layout, text.as_str())
 }

@@ -1,9 +1,10 @@
 //! The record of what a run reads.
 
+use crate::run::instant;
 use anyhow::Result;
 use can_bus::{BusState, Lines, Parts};
 use co_depend::ProjectParts;
-use co_parts::{END, Part, Read};
+use co_parts::{Part, Read};
 use co_project::Project;
 use std::alloc::{AllocError, Global};
 use std::io::Write;
@@ -35,7 +36,7 @@ fn take_names<P: Parts>(parts: &mut P, names: &mut Vec<Part>) -> Result<(), Allo
     Ok(())
 }
 
-/// An instant below `END`, whose reads are added.
+/// An instant, whose reads are added.
 fn run_instant<P: Parts>(
     bus: &mut BusState,
     t: u64,
@@ -43,11 +44,8 @@ fn run_instant<P: Parts>(
     lines: &mut Lines,
     names: &mut Vec<Part>,
 ) -> Result<(), AllocError> {
-    if t < END {
-        bus.instant(t, parts, lines)?;
-        take_names(parts, names)?;
-    }
-    Ok(())
+    instant(bus, t, parts, lines)?;
+    take_names(parts, names)
 }
 
 /// Runs a bus at each due moment before the end, and adds what it reads.

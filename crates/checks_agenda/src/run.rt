@@ -15,17 +15,28 @@ fn power_on<P: Parts>(alloc: Global, parts: &mut P) -> Result<BusState, AllocErr
     BusState::power_on(alloc, parts)
 }
 
-/// An instant below `END`, of whose reads no record stays.
+/// An instant, if it is below `END`.
+pub fn instant<P: Parts>(
+    bus: &mut BusState,
+    t: u64,
+    parts: &mut P,
+    lines: &mut Lines,
+) -> Result<(), AllocError> {
+    if t >= END {
+        return Ok(());
+    }
+    bus.instant(t, parts, lines)
+}
+
+/// An instant, of whose reads no record stays.
 fn run_instant<P: Parts>(
     bus: &mut BusState,
     t: u64,
     parts: &mut P,
     lines: &mut Lines,
 ) -> Result<(), AllocError> {
-    if t < END {
-        bus.instant(t, parts, lines)?;
-        let _asked = parts.take_asked();
-    }
+    instant(bus, t, parts, lines)?;
+    let _asked = parts.take_asked();
     Ok(())
 }
 

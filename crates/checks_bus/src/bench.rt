@@ -1,5 +1,8 @@
 //! A device and a manager, and the lines that play them.
 
+ghost use Rattle.std.specs.Prelude.{◌≡◌, ◌↔◌, IsTrue, false};
+ghost use Rattle.co_base.specs.Ranges.{is_between};
+
 use crate::entries::Entries;
 use crate::one_node::OneNode;
 use crate::shown::{show_device, show_frame, show_left, show_manager, show_notes, show_value};
@@ -100,15 +103,33 @@ fn show_taken<W: Write>(out: &mut W, taken: Option<Waiting>) -> Result<()> {
     Ok(())
 }
 
-/// The application sets an entry. Those of PDOs aren't its own.
-fn set(device: &mut DeviceState, step: &Step) -> Result<(), AllocError> {
-    if let Some((index, sub)) = step.place() {
-        let is_own = index < 0x1400 || index > 0x1BFF;
-        if is_own && step.time < END && step.data.len() <= 512 {
-            device.set(step.time, index, sub, &step.data)?;
-        }
+/// Whether an entry is none of a PDO.
+fn is_own(index: u16) -> bool
+    ensures { IsTrue result ↔ (is_between 0x1400 0x1BFF index ≡ false) }
+{
+    index < 0x1400 || index > 0x1BFF
+}
+
+/// The application sets an entry, unless that is one of a PDO, or the value or the moment isn't one.
+fn set_own(
+    device: &mut DeviceState,
+    t: u64,
+    index: u16,
+    sub: u8,
+    bytes: &[u8],
+) -> Result<(), AllocError> {
+    if t >= END || bytes.len() > 512 || !is_own(index) {
+        return Ok(());
     }
-    Ok(())
+    device.set(t, index, sub, bytes)
+}
+
+/// The application sets the entry that a step names, if it names one.
+fn set(device: &mut DeviceState, step: &Step) -> Result<(), AllocError> {
+    match step.place() {
+        Some((index, sub)) => set_own(device, step.time, index, sub, &step.data),
+        None => Ok(()),
+    }
 }
 
 /// The device runs what is due.

@@ -14,15 +14,26 @@ mod taken;
 
 use anyhow::Result;
 use bench::Bench;
+use std::io;
 use std::io::Write;
+
+/// Shows a line, and plays it.
+fn play<W: Write>(out: &mut W, bench: &mut Bench, line: &str) -> Result<()> {
+    writeln!(out, "{line}")?;
+    bench.play(out, line)
+}
+
+/// Plays each line of a text.
+fn play_all(rt: &HostRuntime, bench: &mut Bench, text: &str) -> Result<()> {
+    for line in text.lines() {
+        play(&mut rt.stdout(), bench, line)?;
+    }
+    Ok(())
+}
 
 fn main(rt: HostRuntime) -> Result<()> {
     let alloc = rt.alloc();
+    let text = io::read_to_string(alloc, rt.stdin())?;
     let mut bench = Bench::new(alloc)?;
-    for line in rt.lines(alloc) {
-        let line = line?;
-        println!(rt; "{}", line.as_str())?;
-        bench.play(&mut rt.stdout(), line.as_str())?;
-    }
-    Ok(())
+    play_all(&rt, &mut bench, text.as_str())
 }

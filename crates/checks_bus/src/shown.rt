@@ -8,6 +8,7 @@ use co_device::DeviceState;
 use co_dict::Dict;
 use nmt_boot::Manager;
 use node_boot::{Note, NoteKind};
+use std::alloc::AllocError;
 use std::io::Write;
 
 /// The word for what a frame is for.
@@ -88,12 +89,23 @@ fn change(same: bool, spent: bool) -> &'static str {
     }
 }
 
+/// The frame of an NMT service for all nodes.
+fn frame_of(service: u8) -> Option<Frame> {
+    Frame::new(0, &[service, 0])
+}
+
+/// A device takes an NMT service for all nodes.
+fn order(device: &mut DeviceState, service: u8, node: &mut OneNode) -> Result<(), AllocError> {
+    match frame_of(service) {
+        Some(frame) => device.on_frame(0, &frame, node),
+        None => Ok(()),
+    }
+}
+
 /// Whether an NMT service for all nodes changes nothing of a device.
 fn obeys_unchanged(device: &DeviceState, service: u8, node: &mut OneNode) -> Result<bool> {
     let mut other = device.copy()?;
-    if let Some(frame) = Frame::new(0, &[service, 0]) {
-        other.on_frame(0, &frame, node)?;
-    }
+    order(&mut other, service, node)?;
     Ok(other.same(device))
 }
 

@@ -2,7 +2,6 @@
 
 use crate::sheet::NODE;
 use crate::shown::show_octets;
-use anyhow::Result;
 use co_base::Octets;
 use co_params::{Params, writes};
 use concise_dcf::Write as Entry;
@@ -21,30 +20,48 @@ fn ones(alloc: Global, device: &Device) -> Result<Params, AllocError> {
     Ok(params)
 }
 
-fn show_write<W: Write>(out: &mut W, entry: &Entry) -> io::Result<()> {
+fn show_write(rt: &HostRuntime, entry: &Entry) -> io::Result<()> {
     let (index, sub) = (entry.index, entry.sub);
-    write!(out, "  {index:04X}:{sub:02X}")?;
-    show_octets(out, Some(entry.bytes.as_slice()))
+    print!(rt; "  {index:04X}:{sub:02X}")?;
+    show_octets(rt, Some(entry.bytes.as_slice()))
 }
 
-fn show_writes<W: Write>(out: &mut W, entries: &[Entry]) -> io::Result<()> {
+fn show_writes(rt: &HostRuntime, entries: &[Entry]) -> io::Result<()> {
     for entry in entries {
-        show_write(out, entry)?;
+        show_write(rt, entry)?;
     }
     Ok(())
 }
 
+/// Shows writes under a title.
+fn show_titled(rt: &HostRuntime, title: &[u8], entries: &[Entry]) -> io::Result<()> {
+    rt.stdout().write_all(title)?;
+    show_writes(rt, entries)
+}
+
+/// Shows the writes of the text's own parameters.
+fn show_own(rt: &HostRuntime, device: &Device) -> io::Result<()> {
+    let own = writes(rt.alloc(), &Params::new(rt.alloc()), device, NODE)?;
+    show_titled(rt, b"writes of its text:\n", &own)
+}
+
+/// Shows a DCF under its title.
+fn show_dcf(rt: &HostRuntime, text: &[u8]) -> io::Result<()> {
+    println!(rt; "DCF of these:")?;
+    rt.stdout().write_all(text)
+}
+
+/// Shows the writes of the parameter 1 for each entry, and the DCF with these.
+fn show_ones(rt: &HostRuntime, device: &Device) -> io::Result<()> {
+    let all = writes(rt.alloc(), &ones(rt.alloc(), device)?, device, NODE)?;
+    show_titled(rt, b"writes of 1 to each entry:\n", &all)?;
+    let text = dcf_text(rt.alloc(), device, NODE, b"pump", 1000, &all)?;
+    show_dcf(rt, &text)
+}
+
 /// Shows the writes of the text's own parameters, those of the parameter 1 for each entry, and the
 /// DCF with these.
-pub fn show_files<W: Write>(alloc: Global, out: &mut W, device: &Device) -> Result<()> {
-    let own = writes(alloc, &Params::new(alloc), device, NODE)?;
-    out.write_all(b"writes of its text:\n")?;
-    show_writes(out, &own)?;
-    let all = writes(alloc, &ones(alloc, device)?, device, NODE)?;
-    out.write_all(b"writes of 1 to each entry:\n")?;
-    show_writes(out, &all)?;
-    let text = dcf_text(alloc, device, NODE, b"pump", 1000, &all)?;
-    out.write_all(b"DCF of these:\n")?;
-    out.write_all(&text)?;
-    Ok(())
+pub fn show_files(rt: &HostRuntime, device: &Device) -> io::Result<()> {
+    show_own(rt, device)?;
+    show_ones(rt, device)
 }

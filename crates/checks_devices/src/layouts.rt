@@ -84,6 +84,58 @@ fn change_sink(m: &mut Messages, name: &[u8], numbers: &[u16]) -> Result<(), All
     Ok(())
 }
 
+/// What a line does with the messages.
+#[derive(Clone, Copy)]
+enum Word {
+    Message,
+    Source,
+    Sink,
+    Drop,
+    Clear,
+}
+
+/// The words as they are spelled.
+const WORDS: [(&[u8], Word); 5] = [
+    (b"message", Word::Message),
+    (b"source", Word::Source),
+    (b"sink", Word::Sink),
+    (b"drop", Word::Drop),
+    (b"clear", Word::Clear),
+];
+
+/// The word that a text is, `clear` for other texts.
+fn word_of(text: &[u8]) -> Word {
+    for (spelled, word) in &WORDS {
+        if *spelled == text {
+            return *word;
+        }
+    }
+    Word::Clear
+}
+
+/// Does with the message of a name what a word says, or takes all messages away.
+fn obey(
+    m: &mut Messages,
+    alloc: Global,
+    word: Word,
+    name: &[u8],
+    numbers: &[u16],
+) -> Result<(), AllocError> {
+    match word {
+        Word::Message => put(m, alloc, name, numbers),
+        Word::Source => change_source(m, name, numbers),
+        Word::Sink => change_sink(m, name, numbers),
+        Word::Drop => {
+            m.remove(name);
+            Ok(())
+        }
+        Word::Clear => {
+            *m = Messages::new(alloc);
+            Ok(())
+        }
+    }
+}
+
 /// Changes the messages as a line says: `message`, `source` and `sink` have a name and numbers, as
 /// hexadecimal digits. A source with its position alone, and a sink with its position and node alone, go;
 /// `drop` takes the message of a name away, and `clear` all.
@@ -91,14 +143,7 @@ pub fn change(m: &mut Messages, alloc: Global, line: &[u8]) -> Result<(), AllocE
     let (word, after) = next_word(line);
     let (name, words) = next_word(after);
     let numbers = numbers(alloc, words)?;
-    match word {
-        b"message" => put(m, alloc, name, &numbers)?,
-        b"source" => change_source(m, name, &numbers)?,
-        b"sink" => change_sink(m, name, &numbers)?,
-        b"drop" => m.remove(name),
-        _ => *m = Messages::new(alloc),
-    }
-    Ok(())
+    obey(m, alloc, word_of(word), name, &numbers)
 }
 
 /// Puts as many messages as there can be, with names of two bytes.

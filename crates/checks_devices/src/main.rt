@@ -19,31 +19,55 @@ use network::play_all;
 use sheet::{Sheet, show_sheet};
 use std::{env, fs};
 
+/// Shows a device.
+fn show_device(rt: &HostRuntime, device: &Device) -> Result<()> {
+    let sheet = Sheet::new(device)?;
+    Ok(show_sheet(rt, &sheet)?)
+}
+
+/// Shows the device of a text, or why the text is of none.
+fn show_text(rt: &HostRuntime, text: &[u8]) -> Result<()> {
+    match Device::read(rt.alloc(), text) {
+        Ok(device) => show_device(rt, &device),
+        Err(fault) => Ok(println!(rt; "! {fault}")?),
+    }
+}
+
 /// Shows the device of a data sheet, or why the text is of none.
 fn show(rt: &HostRuntime, path: &str) -> Result<()> {
     println!(rt; "=== {path}")?;
     let text = fs::read(rt, path)?;
-    match Device::read(rt.alloc(), &text) {
-        Ok(device) => {
-            let sheet = Sheet::new(rt.alloc(), &device)?;
-            show_sheet(&mut rt.stdout(), &sheet)
-        }
-        Err(fault) => {
-            println!(rt; "! {fault}")?;
-            Ok(())
-        }
+    show_text(rt, &text)
+}
+
+/// Shows the devices of the data sheets that the words name.
+fn show_all(rt: &HostRuntime) -> Result<()> {
+    for path in env::args(rt)?.skip(1) {
+        show(rt, path.as_str())?;
     }
+    Ok(())
 }
 
 /// The device of a data sheet.
 fn device(rt: &HostRuntime, path: &str) -> Result<Device> {
-    Ok(Device::read(rt.alloc(), &fs::read(rt, path)?)?)
+    let text = fs::read(rt, path)?;
+    Ok(Device::read(rt.alloc(), &text)?)
+}
+
+/// Plays the lines of the input with two of a sensor and two drives.
+fn play_with(rt: &HostRuntime, sensor: &Device) -> Result<()> {
+    let drive = device(rt, "drive.eds")?;
+    let nodes = [(5, sensor), (6, sensor), (7, &drive), (8, &drive)];
+    Ok(play_all(rt, &nodes)?)
+}
+
+/// Plays the lines of the input with two sensors and two drives.
+fn play(rt: &HostRuntime) -> Result<()> {
+    let sensor = device(rt, "sensor.eds")?;
+    play_with(rt, &sensor)
 }
 
 fn main(rt: HostRuntime) -> Result<()> {
-    for path in env::args(&rt)?.skip(1) {
-        show(&rt, path.as_str())?;
-    }
-    let (sensor, drive) = (device(&rt, "sensor.eds")?, device(&rt, "drive.eds")?);
-    play_all(&rt, &[(5, &sensor), (6, &sensor), (7, &drive), (8, &drive)])
+    show_all(&rt)?;
+    play(&rt)
 }

@@ -2,12 +2,10 @@
 
 use crate::entry::show_entry;
 use crate::files::show_files;
-use anyhow::Result;
 use co_dict::{Dict, Shape};
 use eds_device::Device;
-use std::alloc::{AllocError, Global};
+use std::alloc::AllocError;
 use std::io;
-use std::io::Write;
 
 /// The number of the node that the devices are shown at.
 pub const NODE: u8 = 5;
@@ -18,19 +16,16 @@ const ABSENT: [(u16, u8); 2] = [(0x1017, 0xFF), (0xFFFF, 0)];
 /// A device, with its shape and a copy of its defaults at the node.
 #[derive(Drop)]
 pub struct Sheet<'a> {
-    pub alloc: Global,
     pub device: &'a Device,
     pub shape: Shape,
     pub defaults: Dict,
 }
 
 impl<'a> Sheet<'a> {
-    pub fn new(alloc: Global, device: &'a Device) -> Result<Self, AllocError> {
+    pub fn new(device: &'a Device) -> Result<Self, AllocError> {
         let shape = device.shape(NODE)?;
-        let defaults = device.defaults(NODE)?;
-        let defaults = defaults.copy()?;
+        let defaults = copied_defaults(device)?;
         Ok(Sheet {
-            alloc,
             device,
             shape,
             defaults,
@@ -38,50 +33,89 @@ impl<'a> Sheet<'a> {
     }
 }
 
-/// The lines with warnings, and the identity.
-fn show_head<W: Write>(out: &mut W, device: &Device) -> io::Result<()> {
-    write!(out, "warned lines:")?;
+/// A copy of a device's defaults at the node.
+fn copied_defaults(device: &Device) -> Result<Dict, AllocError> {
+    let defaults = device.defaults(NODE)?;
+    defaults.copy()
+}
+
+/// The lines with warnings.
+fn show_warnings(rt: &HostRuntime, device: &Device) -> io::Result<()> {
+    print!(rt; "warned lines:")?;
     for line in device.warnings() {
-        write!(out, " {line}")?;
+        print!(rt; " {line}")?;
     }
-    write!(out, "\nidentity:")?;
+    println!(rt; "")
+}
+
+/// The identity.
+fn show_identity(rt: &HostRuntime, device: &Device) -> io::Result<()> {
+    print!(rt; "identity:")?;
     for number in &device.identity(NODE) {
-        write!(out, " {number:08X}")?;
+        print!(rt; " {number:08X}")?;
     }
-    out.write_all(b"\n")
+    println!(rt; "")
+}
+
+/// A type, if the device says that an RPDO may map its dummy.
+fn show_own_dummy(rt: &HostRuntime, device: &Device, kind: u16) -> io::Result<()> {
+    if device.dummy_allowed(kind) {
+        print!(rt; " {kind:04X}")
+    } else {
+        Ok(())
+    }
+}
+
+/// A type, if the shape says that an RPDO may map its dummy.
+fn show_shape_dummy(rt: &HostRuntime, shape: &Shape, kind: u16) -> io::Result<()> {
+    if shape.dummy_allowed(kind) {
+        print!(rt; " (shape {kind:04X})")
+    } else {
+        Ok(())
+    }
 }
 
 /// The types whose dummies an RPDO may map, as the device and as its shape has them.
-fn show_dummies<W: Write>(out: &mut W, sheet: &Sheet<'_>) -> io::Result<()> {
-    write!(out, "dummies:")?;
+fn show_dummies(rt: &HostRuntime, sheet: &Sheet<'_>) -> io::Result<()> {
+    print!(rt; "dummies:")?;
     for kind in 0..=8 {
-        if sheet.device.dummy_allowed(kind) {
-            write!(out, " {kind:04X}")?;
-        }
-        if sheet.shape.dummy_allowed(kind) {
-            write!(out, " (shape {kind:04X})")?;
-        }
+        show_own_dummy(rt, sheet.device, kind)?;
+        show_shape_dummy(rt, &sheet.shape, kind)?;
     }
-    out.write_all(b"\n")
+    println!(rt; "")
 }
 
-/// Shows each entry.
-fn show_entries<W: Write>(out: &mut W, sheet: &Sheet<'_>) -> Result<()> {
-    let (count, is_empty) = (sheet.shape.len(), sheet.shape.is_empty());
-    writeln!(out, "entries: {count}, none: {is_empty}")?;
-    for (index, sub) in sheet.device.pairs() {
-        show_entry(out, sheet, *index, *sub)?;
-    }
-    for (index, sub) in &ABSENT {
-        show_entry(out, sheet, *index, *sub)?;
+/// How many entries there are.
+fn show_count(rt: &HostRuntime, shape: &Shape) -> io::Result<()> {
+    let (count, is_empty) = (shape.len(), shape.is_empty());
+    println!(rt; "entries: {count}, none: {is_empty}")
+}
+
+/// Shows the entries at some places.
+fn show_places(rt: &HostRuntime, sheet: &Sheet<'_>, places: &[(u16, u8)]) -> io::Result<()> {
+    for (index, sub) in places {
+        show_entry(rt, sheet, *index, *sub)?;
     }
     Ok(())
 }
 
+/// Shows each entry.
+fn show_entries(rt: &HostRuntime, sheet: &Sheet<'_>) -> io::Result<()> {
+    show_places(rt, sheet, sheet.device.pairs())?;
+    show_places(rt, sheet, &ABSENT)
+}
+
+/// Shows what stands before the entries.
+fn show_head(rt: &HostRuntime, sheet: &Sheet<'_>) -> io::Result<()> {
+    show_warnings(rt, sheet.device)?;
+    show_identity(rt, sheet.device)?;
+    show_dummies(rt, sheet)?;
+    show_count(rt, &sheet.shape)
+}
+
 /// Shows all that is said of a device, and the files that it gets.
-pub fn show_sheet<W: Write>(out: &mut W, sheet: &Sheet<'_>) -> Result<()> {
-    show_head(out, sheet.device)?;
-    show_dummies(out, sheet)?;
-    show_entries(out, sheet)?;
-    show_files(sheet.alloc, out, sheet.device)
+pub fn show_sheet(rt: &HostRuntime, sheet: &Sheet<'_>) -> io::Result<()> {
+    show_head(rt, sheet)?;
+    show_entries(rt, sheet)?;
+    show_files(rt, sheet.device)
 }

@@ -4,30 +4,30 @@ use std::io;
 use std::io::Write;
 
 /// Shows bytes as two digits each, on the line that a name began.
-pub fn show_octets<W: Write>(out: &mut W, bytes: Option<&[u8]>) -> io::Result<()> {
+pub fn show_octets(rt: &HostRuntime, bytes: Option<&[u8]>) -> io::Result<()> {
     let Some(bytes) = bytes else {
-        return out.write_all(b" none\n");
+        return println!(rt; " none");
     };
     for byte in bytes {
-        write!(out, " {byte:02X}")?;
+        print!(rt; " {byte:02X}")?;
     }
-    out.write_all(b"\n")
+    println!(rt; "")
 }
 
 /// Shows a text as it is, on the line that a name began.
-pub fn show_text<W: Write>(out: &mut W, text: Option<&[u8]>) -> io::Result<()> {
+pub fn show_text(rt: &HostRuntime, text: Option<&[u8]>) -> io::Result<()> {
     let Some(text) = text else {
-        return out.write_all(b" none\n");
+        return println!(rt; " none");
     };
-    out.write_all(b" `")?;
-    out.write_all(text)?;
-    out.write_all(b"`\n")
+    print!(rt; " `")?;
+    rt.stdout().write_all(text)?;
+    println!(rt; "`")
 }
 
 /// Shows a number that may be missing.
-pub fn show_number<W: Write>(out: &mut W, number: Option<i128>) -> io::Result<()> {
+pub fn show_number(rt: &HostRuntime, number: Option<i128>) -> io::Result<()> {
     match number {
-        Some(number) => write!(out, " {number}"),
-        None => out.write_all(b" none"),
+        Some(number) => print!(rt; " {number}"),
+        None => print!(rt; " none"),
     }
 }

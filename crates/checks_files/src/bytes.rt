@@ -70,28 +70,28 @@ pub fn place(text: &[u8]) -> (u16, u8, &[u8]) {
 }
 
 /// Shows bytes, two digits each, to the end of the line.
-pub fn show_bytes<W: Write>(out: &mut W, bytes: &[u8]) -> io::Result<()> {
-    out.write_all(b" ")?;
+pub fn show_bytes(rt: &HostRuntime, bytes: &[u8]) -> io::Result<()> {
+    print!(rt; " ")?;
     for byte in bytes {
-        write!(out, " {byte:02X}")?;
+        print!(rt; " {byte:02X}")?;
     }
-    out.write_all(b"\n")
+    println!(rt; "")
 }
 
 /// Shows a text between marks.
-pub fn show_text<W: Write>(out: &mut W, text: Option<&[u8]>) -> io::Result<()> {
+pub fn show_text(rt: &HostRuntime, text: Option<&[u8]>) -> io::Result<()> {
     let Some(text) = text else {
-        return out.write_all(b"  none\n");
+        return println!(rt; "  none");
     };
-    out.write_all(b"  `")?;
-    out.write_all(text)?;
-    out.write_all(b"`\n")
+    print!(rt; "  `")?;
+    rt.stdout().write_all(text)?;
+    println!(rt; "`")
 }
 
 /// Shows a number, if there is one.
-pub fn show_number<W: Write>(out: &mut W, number: Option<i128>) -> io::Result<()> {
+pub fn show_number(rt: &HostRuntime, number: Option<i128>) -> io::Result<()> {
     match number {
-        Some(number) => writeln!(out, "  {number}"),
-        None => out.write_all(b"  none\n"),
+        Some(number) => println!(rt; "  {number}"),
+        None => println!(rt; "  none"),
     }
 }

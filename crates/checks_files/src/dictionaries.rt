@@ -1,12 +1,11 @@
 //! The entries and the values of a dictionary.
 
 use crate::bytes::{number, place, show_text};
-use anyhow::Result;
+use crate::words::{ChangeWord, DictWord};
 use co_dict::{Access, Dict, Entry, Shape};
 use co_values::DataType;
 use std::alloc::{AllocError, Global};
 use std::io;
-use std::io::Write;
 
 /// A heartbeat time of at most 1,000 milliseconds.
 const HEARTBEAT: Entry = Entry {
@@ -44,54 +43,74 @@ impl Kept {
         }
     }
 
-    /// Takes what a line changes.
-    fn change(&mut self, word: &str, text: &[u8]) -> Result<(), AllocError> {
-        let (index, sub, bytes) = place(text);
-        match word {
-            "write" if bytes.len() <= 512 => self.dict.write(index, sub, bytes)?,
-            "copy" => self.copy = self.dict.copy()?,
-            "heartbeat" => self.shape.insert(index, sub, HEARTBEAT)?,
-            "name" => self.shape.insert(index, sub, NAME)?,
-            _ => {}
+    /// Writes a value of at most 512 bytes.
+    fn write(&mut self, index: u16, sub: u8, bytes: &[u8]) -> Result<(), AllocError> {
+        if bytes.len() <= 512 {
+            self.dict.write(index, sub, bytes)
+        } else {
+            Ok(())
         }
+    }
+
+    /// Keeps a copy of the values.
+    fn keep(&mut self) -> Result<(), AllocError> {
+        self.copy = self.dict.copy()?;
         Ok(())
     }
 
     /// Shows the value of an entry, that in the copy, and whether the two have the same values.
-    fn show_values<W: Write>(&self, out: &mut W, index: u16, sub: u8) -> io::Result<()> {
-        show_text(out, self.dict.read(index, sub))?;
-        show_text(out, self.copy.read(index, sub))?;
-        writeln!(out, "  same: {}", self.dict.same(&self.copy))
+    fn show_values(&self, rt: &HostRuntime, index: u16, sub: u8) -> io::Result<()> {
+        show_text(rt, self.dict.read(index, sub))?;
+        show_text(rt, self.copy.read(index, sub))?;
+        println!(rt; "  same: {}", self.dict.same(&self.copy))
+    }
+
+    /// Shows what the shape says of an entry.
+    fn show_shaped(&self, rt: &HostRuntime, index: u16, sub: u8) -> io::Result<()> {
+        match self.shape.entry(index, sub) {
+            Some(entry) => println!(rt; "  {:?} {:?}", entry.kind, entry.access),
+            None => println!(rt; "  no entry"),
+        }
+    }
+
+    /// Shows whether an index is in the shape, and how many entries there are.
+    fn show_index(&self, rt: &HostRuntime, index: u16) -> io::Result<()> {
+        let (has_index, is_empty) = (self.shape.has_index(index), self.shape.is_empty());
+        let count = self.shape.len();
+        println!(rt; "  index: {has_index}, of {count}, none: {is_empty}")
     }
 
     /// Shows an entry of the shape, whether its index is there, and how many entries there are.
-    fn show_entry<W: Write>(&self, out: &mut W, index: u16, sub: u8) -> io::Result<()> {
-        match self.shape.entry(index, sub) {
-            Some(entry) => writeln!(out, "  {:?} {:?}", entry.kind, entry.access)?,
-            None => out.write_all(b"  no entry\n")?,
-        }
-        let (has_index, is_empty) = (self.shape.has_index(index), self.shape.is_empty());
-        writeln!(
-            out,
-            "  index: {has_index}, of {}, none: {is_empty}",
-            self.shape.len()
-        )
+    fn show_entry(&self, rt: &HostRuntime, index: u16, sub: u8) -> io::Result<()> {
+        self.show_shaped(rt, index, sub)?;
+        self.show_index(rt, index)
+    }
+
+    /// Shows whether RPDOs may map the dummy of a type.
+    fn show_dummy(&self, rt: &HostRuntime, text: &[u8]) -> io::Result<()> {
+        let kind = (number(text) % 0x10000) as u16;
+        println!(rt; "  {}", self.shape.dummy_allowed(kind))
     }
 }
 
 /// Shows the value of an entry (`value-of`), an entry of the shape (`entry`), or whether RPDOs may map the
-/// dummy of a type (`dummy`). All other words change values and entries: `write`, `copy`, `heartbeat` and
-/// `name`.
-pub fn show_kept<W: Write>(out: &mut W, kept: &mut Kept, word: &str, text: &[u8]) -> Result<()> {
+/// dummy of a type (`dummy`).
+pub fn show_kept(rt: &HostRuntime, kept: &Kept, word: DictWord, text: &[u8]) -> io::Result<()> {
     let (index, sub, _bytes) = place(text);
     match word {
-        "value-of" => kept.show_values(out, index, sub)?,
-        "entry" => kept.show_entry(out, index, sub)?,
-        "dummy" => {
-            let kind = (number(text) % 0x10000) as u16;
-            writeln!(out, "  {}", kept.shape.dummy_allowed(kind))?;
-        }
-        _ => kept.change(word, text)?,
+        DictWord::Value => kept.show_values(rt, index, sub),
+        DictWord::Entry => kept.show_entry(rt, index, sub),
+        DictWord::Dummy => kept.show_dummy(rt, text),
     }
-    Ok(())
+}
+
+/// Changes values and entries: `write`, `copy`, `heartbeat` and `name`.
+pub fn change_kept(kept: &mut Kept, word: ChangeWord, text: &[u8]) -> Result<(), AllocError> {
+    let (index, sub, bytes) = place(text);
+    match word {
+        ChangeWord::Write => kept.write(index, sub, bytes),
+        ChangeWord::Copy => kept.keep(),
+        ChangeWord::Heartbeat => kept.shape.insert(index, sub, HEARTBEAT),
+        ChangeWord::Name => kept.shape.insert(index, sub, NAME),
+    }
 }

@@ -1,12 +1,13 @@
 //! One line of the input.
 
+use crate::entries;
 use crate::pair::Pair;
 use crate::shown::{show_answer, show_frame, show_progress, show_reply};
 use anyhow::Result;
 use co_dict::{Dict, Shape};
 use co_sdo_client::Client;
-use std::alloc::Global;
-use std::io::Write;
+use std::alloc::{AllocError, Global};
+use std::io;
 
 /// A server with its device, and a client; and the two that are kept.
 #[derive(Drop)]
@@ -15,6 +16,20 @@ pub struct Asked {
     pub kept: Pair,
     pub shape: Shape,
     pub dict: Dict,
+}
+
+impl Asked {
+    /// A server whose device has its values at the start, and a client, both without a transfer.
+    pub fn new(alloc: Global) -> Result<Asked, AllocError> {
+        let shape = entries::shape(alloc)?;
+        let dict = entries::values(alloc)?;
+        Ok(Asked {
+            pair: Pair::new(alloc),
+            kept: Pair::new(alloc),
+            shape,
+            dict,
+        })
+    }
 }
 
 /// The first eight of some bytes, with zeros where there are fewer.
@@ -28,64 +43,102 @@ fn frame_of(bytes: &[u8]) -> [u8; 8] {
     frame
 }
 
+/// Starts the upload of an entry.
+fn start_read(rt: &HostRuntime, client: &mut Client, index: u16, sub: u8) -> io::Result<()> {
+    let frame = client.start_read(index, sub)?;
+    show_frame(rt, &frame)
+}
+
+/// Starts the download of a value of at most 512 bytes to an entry.
+fn start_write(
+    rt: &HostRuntime,
+    client: &mut Client,
+    index: u16,
+    sub: u8,
+    value: &[u8],
+) -> io::Result<()> {
+    if 512 < value.len() {
+        return Ok(());
+    }
+    let frame = client.start_write(index, sub, value)?;
+    show_frame(rt, &frame)
+}
+
 /// Starts the download of the bytes after an index and a sub, or the upload of that entry.
-fn start<W: Write>(out: &mut W, client: &mut Client, is_write: bool, bytes: &[u8]) -> Result<()> {
+fn start(rt: &HostRuntime, client: &mut Client, is_write: bool, bytes: &[u8]) -> io::Result<()> {
     let [high, low, sub, value @ ..] = bytes else {
         return Ok(());
     };
     let index = u16::from(*high) * 256 + u16::from(*low);
-    if !is_write {
-        let frame = client.start_read(index, *sub)?;
-        show_frame(out, &frame)?;
-    } else if value.len() <= 512 {
-        let frame = client.start_write(index, *sub, value)?;
-        show_frame(out, &frame)?;
+    if is_write {
+        start_write(rt, client, index, *sub, value)
+    } else {
+        start_read(rt, client, index, *sub)
     }
-    Ok(())
 }
 
-/// Asks the server by a frame: by `server` it also tells which entry it wrote, by `request` it doesn't.
-fn serve<W: Write>(out: &mut W, asked: &mut Asked, word: &str, request: &[u8; 8]) -> Result<()> {
-    let (server, shape, dict) = (&mut asked.pair.server, &asked.shape, &mut asked.dict);
-    if word == "server" {
-        let reply = server.serve(request, shape, dict)?;
-        show_reply(out, &reply)?;
-    } else {
-        let answer = server.on_request(request, shape, dict)?;
-        show_answer(out, &answer)?;
-    }
-    Ok(())
+/// Asks the server by a frame, and shows its answer and which entry it wrote.
+fn serve(rt: &HostRuntime, asked: &mut Asked, request: &[u8; 8]) -> io::Result<()> {
+    let server = &mut asked.pair.server;
+    let reply = server.serve(request, &asked.shape, &mut asked.dict)?;
+    show_reply(rt, &reply)
+}
+
+/// Asks the server by a frame, and shows its answer.
+fn request(rt: &HostRuntime, asked: &mut Asked, request: &[u8; 8]) -> io::Result<()> {
+    let server = &mut asked.pair.server;
+    let answer = server.on_request(request, &asked.shape, &mut asked.dict)?;
+    show_answer(rt, &answer)
 }
 
 /// Keeps a copy of the server and the client (`copy`), goes back to the kept ones (`back`), or drops the
-/// open transfers (`close`). Shows whether the two are those kept.
-fn turn<W: Write>(out: &mut W, asked: &mut Asked, word: &str) -> Result<()> {
+/// open transfers (`close`).
+fn change(asked: &mut Asked, word: &str) -> Result<(), AllocError> {
     match word {
-        "copy" => asked.kept = asked.pair.copy()?,
-        "back" => asked.pair = asked.kept.copy()?,
-        "close" => asked.pair.close(),
-        _ => {}
+        "copy" => asked.kept.become_copy(&asked.pair),
+        "back" => asked.pair.become_copy(&asked.kept),
+        "close" => {
+            asked.pair.close();
+            Ok(())
+        }
+        _ => Ok(()),
     }
-    asked.pair.show_beside(out, &asked.kept)?;
-    Ok(())
+}
+
+/// Changes the server and the client, or what is kept of them. Shows whether the two are those kept.
+fn turn(rt: &HostRuntime, asked: &mut Asked, word: &str) -> io::Result<()> {
+    change(asked, word)?;
+    asked.pair.show_beside(rt, &asked.kept)
+}
+
+/// Hands the client the answer to its request.
+fn answer(rt: &HostRuntime, client: &mut Client, frame: &[u8; 8]) -> io::Result<()> {
+    let progress = client.on_answer(frame)?;
+    show_progress(rt, &progress)
+}
+
+/// Lets the time of the client's request run out.
+fn time_out(rt: &HostRuntime, client: &mut Client) -> io::Result<()> {
+    let progress = client.on_time_out()?;
+    show_progress(rt, &progress)
+}
+
+/// Does what a word and the bytes after it say.
+fn ask_with(rt: &HostRuntime, asked: &mut Asked, word: &str, bytes: &[u8]) -> io::Result<()> {
+    match word {
+        "server" => serve(rt, asked, &frame_of(bytes)),
+        "request" => request(rt, asked, &frame_of(bytes)),
+        "client" => answer(rt, &mut asked.pair.client, &frame_of(bytes)),
+        "timeout" => time_out(rt, &mut asked.pair.client),
+        "write" | "read" => start(rt, &mut asked.pair.client, word == "write", bytes),
+        _ => turn(rt, asked, word),
+    }
 }
 
 /// Does what a line says: `server`, `request` and `client` take a frame, `write` and `read` an index, a sub
 /// and a value; `timeout`, `copy`, `back`, `close` and `compare` take nothing.
-pub fn ask<W: Write>(alloc: Global, out: &mut W, asked: &mut Asked, line: &str) -> Result<()> {
+pub fn ask(rt: &HostRuntime, asked: &mut Asked, line: &str) -> Result<()> {
     let (word, digits) = line.split_once(' ').unwrap_or((line, ""));
-    let bytes = hex::decode(alloc, digits.as_bytes())?;
-    match word {
-        "server" | "request" => serve(out, asked, word, &frame_of(&bytes)),
-        "client" => {
-            let progress = asked.pair.client.on_answer(&frame_of(&bytes))?;
-            Ok(show_progress(out, &progress)?)
-        }
-        "timeout" => {
-            let progress = asked.pair.client.on_time_out()?;
-            Ok(show_progress(out, &progress)?)
-        }
-        "write" | "read" => start(out, &mut asked.pair.client, word == "write", &bytes),
-        _ => turn(out, asked, word),
-    }
+    let bytes = hex::decode(rt.alloc(), digits.as_bytes())?;
+    Ok(ask_with(rt, asked, word, &bytes)?)
 }

@@ -1,10 +1,10 @@
 //! Values of a dictionary in a frame.
 
-use anyhow::Result;
 use co_dict::{Access, Dict, Entry, Shape, check_mapping};
 use co_mapping::{pack, unpack};
 use co_values::DataType;
 use std::alloc::{AllocError, Global};
+use std::io;
 
 /// The entries, each with its bytes at the start.
 const ENTRIES: [(u16, u8, DataType, &[u8]); 6] = [
@@ -33,6 +33,7 @@ fn shape(alloc: Global) -> Result<Shape, AllocError> {
     Ok(shape)
 }
 
+/// The values at the start.
 fn values(alloc: Global) -> Result<Dict, AllocError> {
     let mut dict = Dict::new(alloc);
     for row in &ENTRIES {
@@ -43,35 +44,70 @@ fn values(alloc: Global) -> Result<Dict, AllocError> {
     Ok(dict)
 }
 
+/// Prints the value of an entry.
+fn show_entry(rt: &HostRuntime, dict: &Dict, index: u16, sub: u8) -> io::Result<()> {
+    print!(rt; "{index:04X}:{sub:02X}")?;
+    for byte in dict.read(index, sub).unwrap_or(&[]) {
+        print!(rt; " {byte:02X}")?;
+    }
+    println!(rt; "")
+}
+
 /// Prints the values.
-fn show(rt: &HostRuntime, dict: &Dict) -> Result<()> {
+fn show(rt: &HostRuntime, dict: &Dict) -> io::Result<()> {
     for row in &ENTRIES {
-        print!(rt; "{:04X}:{:02X}", row.0, row.1)?;
-        for byte in dict.read(row.0, row.1).unwrap_or(&[]) {
-            print!(rt; " {byte:02X}")?;
-        }
-        println!(rt; "")?;
+        show_entry(rt, dict, row.0, row.1)?;
     }
     Ok(())
 }
 
-/// Prints a frame of three entries, and the values after one of an entry and a dummy came.
-pub fn both_ways(rt: &HostRuntime) -> Result<()> {
-    let shape = shape(rt.alloc())?;
-    let mut dict = values(rt.alloc())?;
-    let (bytes, length) = pack(&dict, &[0x2000_0008, 0x2004_0001, 0x2002_0010]);
+/// Prints a frame of three entries.
+fn show_packed(rt: &HostRuntime, dict: &Dict) -> io::Result<()> {
+    let (bytes, length) = pack(dict, &[0x2000_0008, 0x2004_0001, 0x2002_0010]);
     print!(rt; "{length}")?;
     for byte in &bytes {
         print!(rt; " {byte:02X}")?;
     }
-    println!(rt; "")?;
-    for count in 0..4 {
-        let code = check_mapping(&shape, &dict, 0x1600, count).err();
-        println!(rt;
-            "count {count} {:08X}",
-            code.map_or(0, |abort| abort.code())
-        )?;
+    println!(rt; "")
+}
+
+/// The code of the abort of a mapping with a count of entries, 0 where it is a right one.
+fn abort_code(shape: &Shape, dict: &Dict, count: u8) -> u32 {
+    match check_mapping(shape, dict, 0x1600, count) {
+        Ok(_) => 0,
+        Err(abort) => abort.code(),
     }
-    unpack(&shape, &mut dict, &[0x2000_0008, 0x0006_0010], &[9, 0, 0])?;
-    show(rt, &dict)
+}
+
+/// Prints whether the mapping may have none to three entries.
+fn show_counts(rt: &HostRuntime, shape: &Shape, dict: &Dict) -> io::Result<()> {
+    for count in 0..4 {
+        println!(rt; "count {count} {:08X}", abort_code(shape, dict, count))?;
+    }
+    Ok(())
+}
+
+/// Prints what a mapping makes of the values.
+fn show_mapped(rt: &HostRuntime, shape: &Shape, dict: &Dict) -> io::Result<()> {
+    show_packed(rt, dict)?;
+    show_counts(rt, shape, dict)
+}
+
+/// Takes a frame of an entry and a dummy, and prints the values.
+fn show_unpacked(rt: &HostRuntime, shape: &Shape, dict: &mut Dict) -> io::Result<()> {
+    unpack(shape, dict, &[0x2000_0008, 0x0006_0010], &[9, 0, 0])?;
+    show(rt, dict)
+}
+
+/// Prints a frame of three entries, and the values after one of an entry and a dummy came.
+fn show_both(rt: &HostRuntime, shape: &Shape, dict: &mut Dict) -> io::Result<()> {
+    show_mapped(rt, shape, dict)?;
+    show_unpacked(rt, shape, dict)
+}
+
+/// Prints what frames carry of the values, both ways.
+pub fn both_ways(rt: &HostRuntime) -> io::Result<()> {
+    let shape = shape(rt.alloc())?;
+    let mut dict = values(rt.alloc())?;
+    show_both(rt, &shape, &mut dict)
 }

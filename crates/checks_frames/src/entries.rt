@@ -54,14 +54,36 @@ pub fn shape(alloc: Global) -> Result<Shape, AllocError> {
     Ok(shape)
 }
 
+/// Writes 0, or what is empty, to an entry of a data type.
+fn write_default(
+    alloc: Global,
+    dict: &mut Dict,
+    index: u16,
+    sub: u8,
+    kind: DataType,
+) -> Result<(), AllocError> {
+    let value = default_value(alloc, kind)?;
+    dict.write(index, sub, value.bytes.as_slice())
+}
+
+/// Writes 0, or what is empty, to each entry.
+fn write_defaults(alloc: Global, dict: &mut Dict) -> Result<(), AllocError> {
+    for row in &ENTRIES {
+        write_default(alloc, dict, row.0, row.1, row.2)?;
+    }
+    Ok(())
+}
+
+/// Writes the values at the start.
+fn write_values(alloc: Global, dict: &mut Dict) -> Result<(), AllocError> {
+    write_defaults(alloc, dict)?;
+    dict.write(0x2001, 7, b"a label of cobnch")?;
+    dict.write(0x1800, 1, &[0, 0, 0, 0x80])
+}
+
 /// The values at the start: 0 or empty, a label of 16 bytes at 2001h:07, and a COB-ID of no PDO.
 pub fn values(alloc: Global) -> Result<Dict, AllocError> {
     let mut dict = Dict::new(alloc);
-    for row in &ENTRIES {
-        let value = default_value(alloc, row.2)?;
-        dict.write(row.0, row.1, value.bytes.as_slice())?;
-    }
-    dict.write(0x2001, 7, b"a label of cobnch")?;
-    dict.write(0x1800, 1, &[0, 0, 0, 0x80])?;
+    write_values(alloc, &mut dict)?;
     Ok(dict)
 }

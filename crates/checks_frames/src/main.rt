@@ -14,7 +14,7 @@ mod shown;
 use anyhow::Result;
 use asked::{Asked, ask};
 use can_frame::{Frame, line, slot_bits, slot_time};
-use pair::Pair;
+use std::io;
 use std::io::Write;
 
 /// Identifiers and bytes, the last two of no frame.
@@ -31,45 +31,52 @@ const FRAMES: [(u16, &[u8]); 7] = [
 /// Bit rates in kbit/s.
 const RATES: [u16; 7] = [10, 20, 50, 125, 250, 500, 1000];
 
-/// Prints a frame at a time, its slot in bits, and in microseconds at each bit rate.
-fn show(rt: &HostRuntime, time: u32, frame: &Frame) -> Result<()> {
-    let text = line(rt.alloc(), time, frame)?;
-    rt.stdout().write_all(&text)?;
+/// Prints the slot of a frame in bits, and in microseconds at each bit rate.
+fn show_slot(rt: &HostRuntime, frame: &Frame) -> io::Result<()> {
     print!(rt; " bits {} us", slot_bits(frame))?;
     for rate in &RATES {
         print!(rt; " {}", slot_time(*rate, frame))?;
     }
-    println!(rt; "")?;
-    Ok(())
+    println!(rt; "")
+}
+
+/// Prints a frame at a time, its slot in bits, and in microseconds at each bit rate.
+fn show(rt: &HostRuntime, time: u32, frame: &Frame) -> io::Result<()> {
+    let text = line(rt.alloc(), time, frame)?;
+    rt.stdout().write_all(&text)?;
+    show_slot(rt, frame)
+}
+
+/// Shows the frame of an identifier and bytes at two times, or that they are none.
+fn show_made(rt: &HostRuntime, id: u16, bytes: &[u8]) -> io::Result<()> {
+    let Some(frame) = Frame::new(id, bytes) else {
+        return println!(rt; "no frame");
+    };
+    show(rt, 55, &frame)?;
+    show(rt, 10_009_999, &frame)
 }
 
 /// Shows frames, and those that are none.
-fn show_frames(rt: &HostRuntime) -> Result<()> {
+fn show_frames(rt: &HostRuntime) -> io::Result<()> {
     for (id, bytes) in &FRAMES {
-        match Frame::new(*id, bytes) {
-            Some(frame) => {
-                show(rt, 55, &frame)?;
-                show(rt, 10_009_999, &frame)?;
-            }
-            None => println!(rt; "no frame")?,
-        }
+        show_made(rt, *id, bytes)?;
+    }
+    Ok(())
+}
+
+/// Asks by the lines of a text.
+fn play_lines(rt: &HostRuntime, asked: &mut Asked, text: &str) -> Result<()> {
+    for line in text.lines() {
+        ask(rt, asked, line)?;
     }
     Ok(())
 }
 
 /// Plays the SDO server and the client by the lines of the input.
 fn play_transfers(rt: &HostRuntime) -> Result<()> {
-    let alloc = rt.alloc();
-    let mut asked = Asked {
-        pair: Pair::new(alloc),
-        kept: Pair::new(alloc),
-        shape: entries::shape(alloc)?,
-        dict: entries::values(alloc)?,
-    };
-    for line in rt.lines(alloc) {
-        ask(alloc, &mut rt.stdout(), &mut asked, line?.as_str())?;
-    }
-    Ok(())
+    let text = io::read_to_string(rt.alloc(), rt.stdin())?;
+    let mut asked = Asked::new(rt.alloc())?;
+    play_lines(rt, &mut asked, text.as_str())
 }
 
 fn main(rt: HostRuntime) -> Result<()> {

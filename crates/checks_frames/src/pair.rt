@@ -4,7 +4,6 @@ use co_sdo::Server;
 use co_sdo_client::Client;
 use std::alloc::{AllocError, Global};
 use std::io;
-use std::io::Write;
 
 /// A server and a client, which needn't have the same transfer open.
 #[derive(Drop)]
@@ -29,6 +28,12 @@ impl Pair {
         Ok(Pair { server, client })
     }
 
+    /// Gives way to a copy of others.
+    pub fn become_copy(&mut self, other: &Pair) -> Result<(), AllocError> {
+        *self = other.copy()?;
+        Ok(())
+    }
+
     /// Drops their open transfers.
     pub fn close(&mut self) {
         self.server.close();
@@ -36,13 +41,11 @@ impl Pair {
     }
 
     /// Shows whether they are the same as the kept ones, and whether they are spent.
-    pub fn show_beside<W: Write>(&self, out: &mut W, kept: &Pair) -> io::Result<()> {
-        let (server, client) = (
-            self.server.same(&kept.server),
-            self.client.same(&kept.client),
-        );
-        let (no_server, no_client) = (self.server.spent(), self.client.spent());
-        write!(out, "as kept: server {server}, client {client}")?;
-        writeln!(out, "; spent: {no_server}, {no_client}")
+    pub fn show_beside(&self, rt: &HostRuntime, kept: &Pair) -> io::Result<()> {
+        let server = self.server.same(&kept.server);
+        let client = self.client.same(&kept.client);
+        print!(rt; "as kept: server {server}, client {client}")?;
+        let (server, client) = (self.server.spent(), self.client.spent());
+        println!(rt; "; spent: {server}, {client}")
     }
 }

@@ -1,8 +1,8 @@
 //! Frames that wait.
 
-use anyhow::Result;
 use can_frame::{Contender, Frame, Pending, Purpose, Unwanted, winner};
 use std::alloc::{AllocError, Global};
+use std::io;
 
 /// How many nodes have waiting frames.
 const NODES: u16 = 10;
@@ -50,33 +50,48 @@ fn take(lists: &mut [Pending], node: u8, place: usize) {
     }
 }
 
+/// Prints which frame wins.
+fn show_contender(rt: &HostRuntime, best: &Contender) -> io::Result<()> {
+    println!(rt; "{:03X} {} {}", best.id, best.node, best.place)
+}
+
 /// Prints the winner, if a frame waits, and takes it out of its list.
-fn show_next(rt: &HostRuntime, lists: &mut [Pending]) -> Result<()> {
-    if let Some(best) = least(lists) {
-        println!(rt; "{:03X} {} {}", best.id, best.node, best.place)?;
-        take(lists, best.node, best.place);
+fn show_next(rt: &HostRuntime, lists: &mut [Pending]) -> io::Result<()> {
+    let Some(best) = least(lists) else {
+        return Ok(());
+    };
+    show_contender(rt, &best)?;
+    take(lists, best.node, best.place);
+    Ok(())
+}
+
+/// Prints a thousand winners one after the other.
+fn show_winners(rt: &HostRuntime, lists: &mut [Pending]) -> io::Result<()> {
+    for _ in 0..COUNT {
+        show_next(rt, lists)?;
     }
     Ok(())
+}
+
+/// Prints in how many lists frames are left.
+fn show_left(rt: &HostRuntime, lists: &[Pending]) -> io::Result<()> {
+    let left = lists.iter().filter(|list| !list.is_empty()).count();
+    println!(rt; "left {left}")
 }
 
 /// Prints a thousand winners one after the other, each of which leaves its list.
-pub fn many(rt: &HostRuntime) -> Result<()> {
+pub fn many(rt: &HostRuntime) -> io::Result<()> {
     let mut lists = filled(rt.alloc())?;
-    for _ in 0..COUNT {
-        show_next(rt, &mut lists)?;
-    }
-    let left = lists.iter().filter(|list| !list.is_empty()).count();
-    println!(rt; "left {left}")?;
-    Ok(())
+    show_winners(rt, &mut lists)?;
+    show_left(rt, &lists)
 }
 
 /// Prints a list in order.
-fn show(rt: &HostRuntime, list: &Pending) -> Result<()> {
+fn show(rt: &HostRuntime, list: &Pending) -> io::Result<()> {
     for waiting in list.as_slice() {
         print!(rt; "{:03X} ", waiting.frame.id())?;
     }
-    println!(rt; "of {}", list.len())?;
-    Ok(())
+    println!(rt; "of {}", list.len())
 }
 
 /// Adds a frame without bytes.
@@ -96,11 +111,11 @@ fn replace(list: &mut Pending, purpose: Purpose, id: u16) -> Result<(), AllocErr
 }
 
 /// Prints the winner of a list and two others.
-fn show_winner(rt: &HostRuntime, list: &Pending, other: &Pending) -> Result<()> {
-    if let Some(best) = winner(&[(5, list), (4, other), (3, other)]) {
-        println!(rt; "{:03X} {} {}", best.id, best.node, best.place)?;
+fn show_winner(rt: &HostRuntime, list: &Pending, other: &Pending) -> io::Result<()> {
+    match winner(&[(5, list), (4, other), (3, other)]) {
+        Some(best) => show_contender(rt, &best),
+        None => Ok(()),
     }
-    Ok(())
 }
 
 /// A list, and a copy of what it was.
@@ -148,30 +163,38 @@ const TURNS: [Turn; 20] = [
 ];
 
 /// Prints what a turn asks for.
-fn show_turn(rt: &HostRuntime, kept: &Kept, turn: &Turn) -> Result<()> {
+fn show_turn(rt: &HostRuntime, kept: &Kept, turn: &Turn) -> io::Result<()> {
     match turn {
         Turn::Show => show(rt, &kept.list),
         Turn::Winner => show_winner(rt, &kept.list, &kept.copy),
-        Turn::IsSame => Ok(println!(rt; "same {}", kept.list.same(&kept.copy))?),
-        Turn::HasNone => Ok(println!(rt; "none {}", winner(&[(5, &kept.list)]).is_none())?),
+        Turn::IsSame => println!(rt; "same {}", kept.list.same(&kept.copy)),
+        Turn::HasNone => println!(rt; "none {}", winner(&[(5, &kept.list)]).is_none()),
         _ => Ok(()),
     }
+}
+
+/// Keeps a copy of a list.
+fn keep(kept: &mut Kept) -> Result<(), AllocError> {
+    kept.copy = kept.list.copy()?;
+    Ok(())
 }
 
 /// Does what a turn says.
 fn take_turn(kept: &mut Kept, turn: &Turn) -> Result<(), AllocError> {
     match turn {
-        Turn::Add(purpose, id) => add(&mut kept.list, *purpose, *id)?,
-        Turn::Replace(purpose, id) => replace(&mut kept.list, *purpose, *id)?,
-        Turn::Drop(unwanted) => kept.list.drop_of(*unwanted),
-        Turn::Copy => kept.copy = kept.list.copy()?,
-        _ => {}
+        Turn::Add(purpose, id) => add(&mut kept.list, *purpose, *id),
+        Turn::Replace(purpose, id) => replace(&mut kept.list, *purpose, *id),
+        Turn::Drop(unwanted) => {
+            kept.list.drop_of(*unwanted);
+            Ok(())
+        }
+        Turn::Copy => keep(kept),
+        _ => Ok(()),
     }
-    Ok(())
 }
 
 /// Prints a list after changes of it, and the winner of it and another with the same identifier.
-pub fn few(rt: &HostRuntime) -> Result<()> {
+pub fn few(rt: &HostRuntime) -> io::Result<()> {
     let mut kept = Kept {
         list: Pending::new(rt.alloc()),
         copy: Pending::new(rt.alloc()),

@@ -25,6 +25,9 @@ use trace_text::TraceText;
 /// The time that a window takes, in microseconds.
 const WINDOW: u32 = 10_000;
 
+/// The number of windows for which the record of what was asked is kept.
+const RECORDED: u64 = 64;
+
 /// Segments of traces, at most a fixed number of them: the last run or used first.
 ///
 /// Each is valid: under every image that has its recorded values at what it read, its lines and its end are
@@ -50,6 +53,17 @@ impl Model for Store {
     ghost view = { λ a. record { capacity = a.shelf.capacity; segments = kept_of a.shelf.entries } };
 
     ghost invariant = { λ a. AreSegments a.shelf.entries a.given };
+}
+
+/// At each 64th window, lets go of the record of what was asked: windows that are used need none, and so it
+/// stays small.
+fn let_go<P: Parts>(parts: &mut P, number: u64)
+    ensures image { (P.seen parts.new).image ≡ (P.seen parts.old).image }
+    ensures asks { P.asks parts.new ≡ P.asks parts.old }
+{
+    if number % RECORDED == 0 {
+        let _asked = parts.take_asked();
+    }
 }
 
 /// What the first `count` spans tell.
@@ -87,6 +101,7 @@ fn trace_spans<P: Parts>(
             alloc, shelf, &mut now, given, number, here, parts, meter, &mut told,
         )?;
         here = end;
+        let_go(parts, number);
     }
     Ok(told)
 }

@@ -1,6 +1,6 @@
 //! What a trace knows, and where it looks first.
 
-ghost use Rattle.std.specs.Prelude.{◌≡◌, [], None};
+ghost use Rattle.std.specs.Prelude.{◌≡◌, []};
 
 use crate::place::Place;
 use co_parts::Window;
@@ -14,7 +14,7 @@ use std::rc::Rc;
 pub struct Look {
     /// The parts that are known.
     pub reads: ReadsNow,
-    /// The window whose events are known, if those of one are: no others are.
+    /// The last window that has other events than were recorded, if there is one: those that it has are known.
     pub known_events: Option<u32>,
     /// An entry that an event sets, if one was met: buses that edits of events led to mostly differ there.
     pub place: Option<Place>,

@@ -1,10 +1,10 @@
 //! The text of a trace: it is kept with the lines of each of its passages, and a reply is put together of it.
 #![tactic(auto)]
 
-mod counting;
 mod passage;
 mod passages;
 mod shown;
+mod text_size;
 mod trace_text;
 
 pub use passage::Passage;

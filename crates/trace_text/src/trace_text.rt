@@ -4,9 +4,9 @@ ghost use Rattle.std.specs.Prelude.{◌≡◌, ◌++◌, [], IfOk, OnErr, OnOk, 
 ghost use Rattle.can_bus.specs.Lines.{lines_text};
 ghost use Rattle.can_bus.specs.Runs.{is_shown};
 
-use crate::counting::{count_all, length_all};
 use crate::passage::Passage;
 use crate::passages::{cut_all, lines_of, write_all};
+use crate::text_size::{TextSize, size_of_text};
 use can_bus::Line;
 use co_memo::Shared;
 use listed_text::ListedText;
@@ -80,9 +80,8 @@ impl TraceText {
         ensures { IfOk result (λ text. text ≡ lines_text self.now) }
     {
         let passages = self.passages.as_slice();
-        let count = count_all(passages).ok_or(AllocError)?;
-        let size = length_all(passages).ok_or(AllocError)?;
-        let mut reply = listed_text::head(self.alloc, count, size)?;
+        let TextSize { lines, bytes } = size_of_text(passages).ok_or(AllocError)?;
+        let mut reply = listed_text::head(self.alloc, lines, bytes)?;
         let start = reply.len();
         write_all(passages, &mut reply)?;
         Ok(ListedText::of_reply(reply, start))

@@ -62,7 +62,7 @@ loop-number-preserved g c =
           old.traced.1.0 + read,
           traced_more image c.args.shelf.now.capacity (kept_of c.args.shelf.now.entries) number c.loop-number.here.state.bus after (kept_of c.loop-number.shelf.entries) (kept_of c.advance.new.shelf.entries) c.loop-number.told c.advance.new.told old.traced.0 old.traced.1.0 kept rest ran read old.traced.1.1 is end held told,
           (omega (arith, old.traced.1.2.0, facts.4.0), facts.4.1 ∙ old.traced.1.2.1),
-          rw held (omega (arith, old.traced.1.3, facts.5, recorded_served image (kept_of c.loop-number.shelf.entries) number c.loop-number.here.state.bus kept rest ran read c.args.shelf.now.capacity is)),
+          rw held (omega (arith, old.traced.1.3, facts.5, c.let_go.ensures.asks, recorded_served image (kept_of c.loop-number.shelf.entries) number c.loop-number.here.state.bus kept rest ran read c.args.shelf.now.capacity is)),
         ),
       );
       ready = λ h. rw (end ∙ sym (ap (λ r. r.0) gives)) (span_ready image c.requires.image number c.loop-number.here.state.bus old.ready);
@@ -70,7 +70,7 @@ loop-number-preserved g c =
       named = rw old.kept at e.told;
       turn = e.turn;
       capacity = e.capacity ∙ old.capacity;
-      kept = e.kept ∙ old.kept;
+      kept = c.let_go.ensures.image ∙ e.kept ∙ old.kept;
     }
 
 pub returns-clause-lines : goal.returns-clause-lines
