@@ -4,7 +4,7 @@ use crate::run::instant;
 use anyhow::Result;
 use can_bus::{BusState, Lines, Parts};
 use co_depend::ProjectParts;
-use co_parts::{Part, Read};
+use co_parts::Part;
 use co_project::Project;
 use std::alloc::{AllocError, Global};
 use std::io::Write;
@@ -21,17 +21,11 @@ pub struct Record {
     is_blank_after: bool,
 }
 
-/// The name of what was read, which was handed out with its content.
-fn name_of(read: &Read) -> Part {
-    let _content = read.content();
-    read.part()
-}
-
 /// Takes the record over, and adds its names.
 fn take_names<P: Parts>(parts: &mut P, names: &mut Vec<Part>) -> Result<(), AllocError> {
     let record = parts.take_asked();
     for read in record.as_slice() {
-        names.push(name_of(read))?;
+        names.push(read.part())?;
     }
     Ok(())
 }
