@@ -1,8 +1,5 @@
 //! A device and a manager, and the lines that play them.
 
-ghost use Rattle.std.specs.Prelude.{◌≡◌, ◌↔◌, IsTrue, false};
-ghost use Rattle.co_base.specs.Ranges.{is_between};
-
 use crate::entries::Entries;
 use crate::one_node::OneNode;
 use crate::shown::{show_device, show_frame, show_left, show_manager, show_notes, show_value};
@@ -12,7 +9,7 @@ use anyhow::Result;
 use can_frame::{Frame, Waiting};
 use co_base::Octets;
 use co_device::DeviceState;
-use co_dict::Access;
+use co_dict::{Access, is_of_pdos};
 use co_parts::{END, Identity, Roster, StartMode};
 use co_scenario::NmtCommand;
 use concise_dcf::Write as Written;
@@ -103,13 +100,6 @@ fn show_taken<W: Write>(out: &mut W, taken: Option<Waiting>) -> Result<()> {
     Ok(())
 }
 
-/// Whether an entry is none of a PDO.
-fn is_own(index: u16) -> bool
-    ensures { IsTrue result ↔ (is_between 0x1400 0x1BFF index ≡ false) }
-{
-    index < 0x1400 || index > 0x1BFF
-}
-
 /// The application sets an entry, unless that is one of a PDO, or the value or the moment isn't one.
 fn set_own(
     device: &mut DeviceState,
@@ -118,7 +108,7 @@ fn set_own(
     sub: u8,
     bytes: &[u8],
 ) -> Result<(), AllocError> {
-    if t >= END || bytes.len() > 512 || !is_own(index) {
+    if t >= END || bytes.len() > 512 || is_of_pdos(index) {
         return Ok(());
     }
     device.set(t, index, sub, bytes)
