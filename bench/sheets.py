@@ -14,6 +14,7 @@ Run it from anywhere: bench/sheets.py crates/cobench/out/cobench
 import os
 import subprocess
 import sys
+import tempfile
 
 NODES = 126
 WINDOW = 10_000
@@ -42,17 +43,12 @@ def network(entries, horizon):
 
 def run(program, lines):
     """The processor's seconds, the peak memory in kilobytes, and the replies of one session."""
-    process = subprocess.Popen([program], stdin=subprocess.PIPE, stdout=subprocess.PIPE)
-    pid = os.fork()
-    if pid == 0:
-        process.stdout.close()
-        process.stdin.write("\n".join(lines).encode() + b"\n")
-        process.stdin.close()
-        os._exit(0)
-    process.stdin.close()
-    printed = process.stdout.read()
-    os.waitpid(pid, 0)
-    _, status, used = os.wait4(process.pid, 0)
+    with tempfile.TemporaryFile() as script:
+        script.write("\n".join(lines).encode() + b"\n")
+        script.seek(0)
+        process = subprocess.Popen([program], stdin=script, stdout=subprocess.PIPE)
+        printed = process.stdout.read()
+        _, status, used = os.wait4(process.pid, 0)
     if status != 0 or b"refused " in printed:
         sys.exit(f"{program} ended with status {status}, or refused a command")
     return used.ru_utime + used.ru_stime, used.ru_maxrss, printed
