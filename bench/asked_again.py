@@ -1,12 +1,13 @@
 #!/usr/bin/env python3
-"""Refuses each growth of memory of the built program `checks_agenda` in turn, while a workbench answers queries.
+"""Refuses each growth of memory of the built program `checks_answers` in turn, while a workbench answers queries.
 
 Takes the path of the program, and names of the sessions of `refuse.py`, or none for all. Each query is asked twice.
 Where the refused growth falls into an answer, the program says that there is no memory for it and goes on: the answer
 alone is missing, and every later one, the same query asked again first, is whole, as if the refused one hadn't been
 asked. Where it falls into an edit or before the first command, the program ends there, and what it wrote is the
 beginning of the whole output. Prints how many growths there are, and into how many answers one fell. Wants gcc.
-Run it from anywhere, after `rt run` in crates/checks_agenda: bench/asked_again.py crates/checks_agenda/out/checks_agenda
+Run it from anywhere, after `rt run` in crates/checks_answers: bench/asked_again.py PROGRAM, where PROGRAM is
+crates/checks_answers/out/checks_answers.
 """
 import importlib.util
 import os

@@ -81,12 +81,18 @@ impl Devices {
         self.devices
     }
 
-    /// Equal devices.
+    /// Equal devices, of which as much is known.
     pub fn copy(&self) -> Result<Devices, AllocError>
         ensures { IfOk result (λ devices. devices ≡ self.now) }
     {
         let devices = copy_all(self.alloc, &self.devices)?;
-        Ok(Devices::of(self.alloc, devices))
+        let agendas = Vec::from_slice(self.alloc, &self.agendas)?;
+        Ok(Devices {
+            alloc: self.alloc,
+            devices,
+            agendas,
+            known: self.known,
+        })
     }
 
     /// Whether two lists of devices are the same.
@@ -98,7 +104,8 @@ impl Devices {
 
     /// An instant of each device, by number: it hears what is delivered, if another node sent it, and then
     /// runs what is due. Takes time by the devices that have to run, and by an eighth of all. The first instant
-    /// of these devices walks all of them, and takes memory for agendas, an eighth as many as devices. Want of
+    /// of devices of which nothing is known walks all of them, and takes memory for agendas, an eighth as many as
+    /// devices. Want of
     /// memory may come halfway: some of the devices have had their instant then, and others not.
     pub fn instant<P: Shapes>(
         &mut self,

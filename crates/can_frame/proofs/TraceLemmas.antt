@@ -1,6 +1,6 @@
 -- Lines of a trace: how a time is written, and that a line is of one time and one frame alone.
-use Rattle.std.proofs.Common.{◌≡◌, ℕ, zero, suc, ◌+◌, ◌-◌, ◌/◌, ◌%◌, ◌^◌, ◌<◌, ◌≤◌, true, List, [], ◌∷◌, ◌++◌, length, take, drop}
-use Rattle.std.proofs.Common.{get_or, replicate, ⊎_elim, refl, ap, sym, ◌∙◌, arith, append_assoc, lit<}
+use Rattle.std.proofs.Common.{◌≡◌, ℕ, zero, suc, ◌+◌, ◌*◌, ◌-◌, ◌/◌, ◌%◌, ◌^◌, ◌<◌, ◌≤◌, true, List, [], ◌∷◌, ◌++◌, length, take, drop}
+use Rattle.std.proofs.Common.{get_or, set, replicate, ⊎_elim, refl, ap, sym, ◌∙◌, arith, append_assoc, lit<}
 use Rattle.std.specs.Prelude.{decimal}
 use Rattle.std.proofs.lemmas.Bool.{cases_lt}
 use Rattle.std.specs.Char.{digit_value}
@@ -9,7 +9,8 @@ use Rattle.std.specs.Str.{byte}
 use Rattle.std.specs.Str.Parse.{digits_value}
 use Rattle.std.proofs.Math.Seq.{take-append_seam, drop-append_seam}
 use Rattle.std.proofs.lemmas.Fmt.{decimal_digit, decimal_is_IsNumeral, decimal_step, length-decimal-le}
-use Rattle.std.proofs.lemmas.List.{length-append, length-replicate}
+use Rattle.std.proofs.lemmas.List.{length-append, length-replicate, length-set, take_more, take_more_set}
+use Rattle.std.proofs.lemmas.List.Concat.{flat_map-append}
 use Rattle.std.proofs.lemmas.Option.{same_Some}
 use Rattle.co_base.specs.Bytes.{AreBytes}
 use Rattle.co_text.specs.Digits.{byte_digits, digits_number, identifier_digits}
@@ -97,6 +98,36 @@ ten_digits-length n h =
       length-append (replicate (10 - length (decimal n)) 48) (decimal n),
       length-replicate {A = ℕ} (10 - length (decimal n)) 48,
     )
+
+-- ---- bytes written one after the other
+
+three_more : (s : List ℕ) (k a b c : ℕ) → k + 3 ≤ length s
+    → take (k + 3) (set (set (set s k a) (k + 1) b) (k + 2) c) ≡ take k s ++ a ∷ b ∷ c ∷ []
+three_more s k a b c h =
+    let one = set s k a in
+    let two = set one (k + 1) b in
+    let far : k + 3 ≡ k + 2 + 1 = omega arith in
+    let near : k + 2 ≡ k + 1 + 1 = omega arith in
+    ap (λ n. take n (set two (k + 2) c)) far
+    ∙ take_more_set two (k + 2) c (omega (arith, length-set {A = ℕ}))
+    ∙ ap (λ (xs : List ℕ). xs ++ c ∷ []) (ap (λ n. take n two) near ∙ take_more_set one (k + 1) b (omega (arith, length-set {A = ℕ}))
+    ∙ ap (λ (xs : List ℕ). xs ++ b ∷ []) (take_more_set s k a (omega arith)))
+    ∙ simp append_assoc
+
+pub spaced_more : (s bytes digits : List ℕ) (i : ℕ) → length s ≡ 24 → length bytes ≤ 8 → i < length bytes
+    → digits ≡ byte_digits (get_or bytes i 0) → take (3 * i) s ≡ spaced_bytes (take i bytes)
+    → take (3 * (i + 1)) (set (set (set s (3 * i) 32) (3 * i + 1) (get_or digits 0 0)) (3 * i + 2) (get_or digits 1 0))
+    ≡ spaced_bytes (take (i + 1) bytes)
+spaced_more s bytes digits i long short below is here =
+    let b = get_or bytes i 0 in
+    let both : List ℕ → List ℕ = λ ds. set (set (set s (3 * i) 32) (3 * i + 1) (get_or ds 0 0)) (3 * i + 2) (get_or ds 1 0) in
+    let size : 3 * (i + 1) ≡ 3 * i + 3 = omega arith in
+    ap (λ n. take n (both digits)) size
+    ∙ ap (λ ds. take (3 * i + 3) (both ds)) is
+    ∙ three_more s (3 * i) 32 (digit_glyph true (b / 16)) (digit_glyph true (b % 16)) (omega arith)
+    ∙ ap (λ (xs : List ℕ). xs ++ 32 ∷ byte_digits b) here
+    ∙ sym (flat_map-append (λ b. byte " " ∷ byte_digits b) (take i bytes) (b ∷ []))
+    ∙ ap spaced_bytes (sym (take_more bytes i 0 below))
 
 -- ---- the parts of two equal lines
 

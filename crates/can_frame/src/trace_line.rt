@@ -1,5 +1,7 @@
 //! The line of a frame in a trace.
-ghost use Rattle.std.specs.Prelude.{◌≡◌, ◌<◌, ◌≤◌, ◌+◌, ◌++◌, ◌∷◌, [], length, IfOk, OnOk};
+ghost use Rattle.std.specs.Prelude.{◌≡◌, ◌<◌, ◌≤◌, ◌+◌, ◌*◌, ◌++◌, ◌∷◌, length, take, IfOk, OnOk};
+ghost use Rattle.std.specs.Str.{byte};
+ghost use Rattle.co_text.specs.Digits.{identifier_digits};
 ghost use Rattle.can_frame.specs.TraceLines.{byte_count, frame_line, spaced_bytes, ten_digits};
 
 use crate::frame::Frame;
@@ -23,9 +25,7 @@ pub fn line(alloc: Global, time: u32, frame: &Frame) -> Result<Vec<u8>, AllocErr
 pub fn write_line(out: &mut Vec<u8>, time: u32, frame: &Frame) -> Result<(), AllocError>
     ensures { OnOk result (out.new.items ≡ out.old.items ++ frame_line time frame.now) }
 {
-    write_time(out, time)?;
-    out.push(b' ')?;
-    out.extend_from_slice(&identifier_digits(frame.id()))?;
+    out.extend_from_slice(&head(time, frame))?;
     write_bytes(out, frame.bytes())
 }
 
@@ -62,22 +62,50 @@ pub fn write_time(out: &mut Vec<u8>, time: u32) -> Result<(), AllocError>
     out.extend_from_slice(&ten_digits(time))
 }
 
-/// A byte as a space and two digits.
-fn spaced(byte: u8) -> [u8; 3]
-    ensures { result ≡ spaced_bytes (byte ∷ []) }
+/// What stands before the bytes: the time in ten digits, the identifier, and the number of bytes
+/// in brackets.
+fn head(time: u32, frame: &Frame) -> [u8; 18]
+    ensures { result ≡ ten_digits time ++ (byte " " ∷ identifier_digits frame.now.id ++ byte_count (length frame.now.bytes)) }
 {
-    let [high, low] = byte_digits(byte);
-    [b' ', high, low]
+    let [
+        first,
+        second,
+        third,
+        fourth,
+        fifth,
+        sixth,
+        seventh,
+        eighth,
+        ninth,
+        tenth,
+    ] = ten_digits(time);
+    let [high, middle, low] = identifier_digits(frame.id());
+    let count = upper_digit(frame.bytes().len() as u8);
+    [
+        first, second, third, fourth, fifth, sixth, seventh, eighth, ninth, tenth, b' ', high,
+        middle, low, b' ', b'[', count, b']',
+    ]
 }
 
-/// Writes the number of bytes in brackets, and each byte.
+/// At most eight bytes, each as a space and two digits, from the front of 24 places.
+fn spaced(bytes: &[u8]) -> [u8; 24]
+    requires { length bytes.now ≤ 8 }
+    ensures { take (3 * length bytes.now) result ≡ spaced_bytes bytes.now }
+{
+    let mut spaced = [0; 24];
+    for (place, byte) in bytes.iter().enumerate() {
+        let [high, low] = byte_digits(*byte);
+        spaced[3 * place] = b' ';
+        spaced[3 * place + 1] = high;
+        spaced[3 * place + 2] = low;
+    }
+    spaced
+}
+
+/// Writes each byte of a frame as a space and two digits.
 fn write_bytes(out: &mut Vec<u8>, bytes: &[u8]) -> Result<(), AllocError>
     requires { length bytes.now ≤ 8 }
-    ensures { OnOk result (out.new.items ≡ out.old.items ++ (byte_count (length bytes.now) ++ spaced_bytes bytes.now)) }
+    ensures { OnOk result (out.new.items ≡ out.old.items ++ spaced_bytes bytes.now) }
 {
-    out.extend_from_slice(&[b' ', b'[', upper_digit(bytes.len() as u8), b']'])?;
-    for byte in bytes {
-        out.extend_from_slice(&spaced(*byte))?;
-    }
-    Ok(())
+    out.extend_from_slice(&spaced(bytes)[..3 * bytes.len()])
 }

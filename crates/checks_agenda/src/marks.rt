@@ -19,7 +19,7 @@ pub struct Marks {
 }
 
 /// The number that a text has, 0 where it has none.
-pub(crate) fn decimal(text: &str) -> u64 {
+fn decimal(text: &str) -> u64 {
     text.parse::<u64>().unwrap_or(0)
 }
 

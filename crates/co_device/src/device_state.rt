@@ -19,7 +19,7 @@ use co_parts::END;
 use co_pdos::SyncMessage;
 use co_sdo::transfer::{self, Transfer};
 use device_objects::{Consumer, Learnt, Shapes, same_consumers};
-use device_pdos::{RpdoState, TpdoState, same_rpdos, same_tpdos};
+use device_pdos::{RpdoState, TpdoState, copy_rpdos, copy_tpdos, same_rpdos, same_tpdos};
 use std::alloc::{AllocError, Global};
 use std::marker::Model;
 
@@ -112,8 +112,8 @@ impl DeviceState {
             learnt: self.learnt,
             values: self.values.copy()?,
             consumers: Vec::from_slice(self.alloc, &self.consumers)?,
-            rpdos: Vec::from_slice(self.alloc, &self.rpdos)?,
-            tpdos: Vec::from_slice(self.alloc, &self.tpdos)?,
+            rpdos: copy_rpdos(self.alloc, &self.rpdos)?,
+            tpdos: copy_tpdos(self.alloc, &self.tpdos)?,
             synced: self.synced,
             heartbeat: self.heartbeat,
             waiting: self.waiting.copy()?,

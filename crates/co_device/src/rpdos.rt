@@ -115,14 +115,16 @@ impl DeviceState {
             (P.seen shapes.old) (P.seen shapes.new) (P.asks shapes.old) (P.asks shapes.new)) }
         ensures lasts { Lasts (P.seen shapes.old) (P.seen shapes.new) }
     {
-        let rpdo = self.rpdos[i];
-        match rpdo.receive(frame) {
+        match self.rpdos[i].receive(frame) {
             Receipt::Short => self.tell(PDO_TOO_SHORT),
             Receipt::Kept => {
                 keep(&mut self.rpdos, i, Some(*frame));
                 Ok(())
             }
-            Receipt::AtOnce => self.apply(t, &rpdo.configuration, frame, shapes),
+            Receipt::AtOnce => {
+                let configuration = Configuration::copy_of(&self.rpdos[i].configuration)?;
+                self.apply(t, &configuration, frame, shapes)
+            }
             Receipt::Ignored => Ok(()),
         }
     }
@@ -160,14 +162,12 @@ impl DeviceState {
             (P.seen shapes.old) (P.seen shapes.new) (P.asks shapes.old) (P.asks shapes.new)) }
         ensures lasts { Lasts (P.seen shapes.old) (P.seen shapes.new) }
     {
-        let rpdo = self.rpdos[i];
-        match rpdo.kept {
-            None => Ok(()),
-            Some(frame) => {
-                keep(&mut self.rpdos, i, None);
-                self.apply(t, &rpdo.configuration, &frame, shapes)
-            }
-        }
+        let Some(frame) = self.rpdos[i].kept else {
+            return Ok(());
+        };
+        let configuration = Configuration::copy_of(&self.rpdos[i].configuration)?;
+        keep(&mut self.rpdos, i, None);
+        self.apply(t, &configuration, &frame, shapes)
     }
 
     /// Takes a SYNC message, in Operational alone: the frames that RPDOs keep are applied, each in its turn;

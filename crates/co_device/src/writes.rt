@@ -84,12 +84,10 @@ impl DeviceState {
         ensures { OnOk result (self.new ≡ after_write t shape.now place self.old) }
     {
         if is_rpdo_object(place.0) {
-            write_rpdos(&mut self.rpdos, shape, &self.values, place.0);
-            return Ok(());
+            return write_rpdos(self.alloc, &mut self.rpdos, shape, &self.values, place.0);
         }
         if is_tpdo_object(place.0) {
-            write_tpdos(&mut self.tpdos, shape, &self.values, place.0);
-            return Ok(());
+            return write_tpdos(self.alloc, &mut self.tpdos, shape, &self.values, place.0);
         }
         self.after_own_write(t, place)
     }

@@ -2,7 +2,6 @@ pub mod Configured
 pub mod Payloads
 pub mod Rpdo
 pub mod Runs
-pub mod StoredMappings
 pub mod Sync
 pub mod Tpdo
 pub mod Working

@@ -1,6 +1,6 @@
 //! What a PDO goes by.
 
-ghost use Rattle.std.specs.Prelude.{◌≡◌, ◌≤◌, ◌↔◌, IsTrue};
+ghost use Rattle.std.specs.Prelude.{◌≡◌, ◌≤◌, ◌↔◌, IfOk, IsTrue};
 ghost use Rattle.co_dict.specs.Mappings.{mapping_bits};
 ghost use Rattle.co_pdos.specs.Configured.{configuration_of, mapping_now};
 ghost use Rattle.co_pdos.specs.Working.{count_of, works as works_now};
@@ -10,12 +10,13 @@ use crate::mapping::Mapping;
 use crate::working::{identifier, works};
 use co_dict::{Dict, Shape};
 use co_fields::Identifier;
+use std::alloc::{AllocError, Global};
 
 /// The sub-index of a mapping object that has the count of its entries.
 const COUNT: u8 = 0;
 
-/// What a PDO that works goes by (CiA 301), until one of its entries is written.
-#[derive(Clone, Copy, Debug)]
+/// What a PDO that works goes by (CiA 301), until one of its entries is written. Copies share its mapping.
+#[derive(Drop)]
 pub struct Configuration {
     /// The identifier of its frames.
     pub identifier: Identifier,
@@ -25,38 +26,44 @@ pub struct Configuration {
     pub mapping: Mapping,
 }
 
-/// The entries of the mapping of a PDO that works.
-fn mapping_of_pdo(dict: &Dict, object: u16) -> Mapping
+/// The mapping of a PDO that works.
+fn mapping_of_pdo(alloc: Global, dict: &Dict, object: u16) -> Result<Mapping, AllocError>
     requires object { object ≤ 0xFDFF }
     requires short { count_of dict.now object ≤ 64 }
     requires fits { mapping_bits (mapping_now dict.now object) ≤ 64 }
-    ensures { result ≡ mapping_now dict.now object }
+    ensures { IfOk result (λ mapping. mapping ≡ mapping_now dict.now object) }
 {
     let mapping = object + 0x200;
-    let count = usize::from(dict.number_8(mapping, COUNT));
-    let mut entries = [0; 64];
+    let count = dict.number_8(mapping, COUNT);
+    let mut entries = Vec::with_capacity(alloc, usize::from(count))?;
     for i in 0..count {
-        entries[i] = dict.number_32(mapping, i as u8 + 1);
+        entries.push(dict.number_32(mapping, i + 1))?;
     }
-    Mapping::of(&entries[..count])
+    Mapping::new(alloc, entries)
 }
 
 impl Configuration {
-    /// That of the PDO with a communication object, at most FDFFh; `None` where it doesn't work. Needs no
-    /// memory, and takes time by the length of the mapping and the logarithm of the number of entries.
+    /// That of the PDO with a communication object, at most FDFFh; `None` where it doesn't work. Takes memory
+    /// for its mapping, and time by the length of the mapping and the logarithm of the number of entries.
     #[tactic(auto, using(crate::proofs::WorkingLemmas::few, crate::proofs::WorkingLemmas::fits), unfolding(crate::specs::Configured::configuration_of))]
-    pub fn of(shape: &Shape, dict: &Dict, object: u16) -> Option<Configuration>
+    pub fn of(
+        alloc: Global,
+        shape: &Shape,
+        dict: &Dict,
+        object: u16,
+    ) -> Result<Option<Configuration>, AllocError>
         requires { object ≤ 0xFDFF }
-        ensures { result ≡ configuration_of shape.now dict.now object }
+        ensures { IfOk result (λ configuration. configuration ≡ configuration_of shape.now dict.now object) }
     {
         if !works(shape, dict, object) {
-            return None;
+            return Ok(None);
         }
-        Some(Configuration {
+        let mapping = mapping_of_pdo(alloc, dict, object)?;
+        Ok(Some(Configuration {
             identifier: identifier(dict, object),
             communication: Communication::of(shape, dict, object),
-            mapping: mapping_of_pdo(dict, object),
-        })
+            mapping,
+        }))
     }
 
     /// Whether the other one is the same.
@@ -77,5 +84,34 @@ impl Configuration {
             (None, None) => true,
             _ => false,
         }
+    }
+
+    /// What a PDO goes by, if it works; the mapping is shared. Takes no memory.
+    pub fn copy_of(
+        configuration: &Option<Configuration>,
+    ) -> Result<Option<Configuration>, AllocError>
+        ensures { IfOk result (λ copy. copy ≡ configuration.now) }
+    {
+        match configuration {
+            None => Ok(None),
+            Some(configuration) => {
+                let copy = configuration.clone()?;
+                Ok(Some(copy))
+            }
+        }
+    }
+}
+
+impl Clone for Configuration {
+    ghost is_clone = { λ a b. b ≡ a };
+
+    /// The same, of which it shares the mapping. Takes no memory.
+    fn clone(&self) -> Result<Configuration, AllocError> {
+        let mapping = self.mapping.clone()?;
+        Ok(Configuration {
+            identifier: self.identifier,
+            communication: self.communication,
+            mapping,
+        })
     }
 }

@@ -1,47 +1,38 @@
 //! The mapping of a PDO.
 
-ghost use Rattle.std.specs.Prelude.{◌≡◌, ◌≤◌, ◌↔◌, length, IsTrue};
+ghost use Rattle.std.specs.Prelude.{◌≡◌, ◌≤◌, ◌↔◌, IfOk, IsTrue};
 ghost use Rattle.co_dict.specs.Mappings.{mapping_bits};
 
+use std::alloc::{AllocError, Global};
 use std::marker::Model;
-
-/// The most entries of a mapping, each of which has a bit or more.
-const MOST: usize = 64;
+use std::rc::Rc;
 
 /// The mapping of a PDO (CiA 301): entries of 64 bits or fewer in all, as one that passes
-/// `check_mapping` has.
-#[derive(Clone, Copy, Debug)]
+/// `check_mapping` has. Copies share it.
+#[derive(Drop)]
 pub struct Mapping {
-    entries: [u32; MOST],
-    count: u8,
+    entries: Rc<Vec<u32>>,
 }
 
 impl Model for Mapping {
-    ghost use Rattle.std.specs.Prelude.{ℕ, List, length, take};
-    ghost use Rattle.co_pdos.specs.StoredMappings.{filled_up, IsMapping};
+    ghost use Rattle.std.specs.Prelude.{◌≤◌, ℕ, List};
+    ghost use Rattle.co_dict.specs.Mappings.{mapping_bits};
 
     ghost Value = { List ℕ };
 
-    ghost view = { λ m. take m.count m.entries };
+    ghost view = { λ m. m.entries.value.items };
 
-    ghost invariant = { λ m. IsMapping (take m.count m.entries) m.entries m.count };
-
-    ghost inverse = { λ v. record { entries = filled_up v; count = length v } };
+    ghost invariant = { λ m. mapping_bits m.entries.value.items ≤ 64 };
 }
 
 impl Mapping {
-    /// At most 64 entries of at most 64 bits.
-    pub(crate) fn of(entries: &[u32]) -> Mapping
-        requires short { length entries.now ≤ 64 }
-        requires fits { mapping_bits entries.now ≤ 64 }
-        ensures { result ≡ entries.now }
+    /// Entries of at most 64 bits.
+    pub(crate) fn new(alloc: Global, entries: Vec<u32>) -> Result<Mapping, AllocError>
+        requires { mapping_bits entries.items ≤ 64 }
+        ensures { IfOk result (λ mapping. mapping ≡ entries.items) }
     {
-        let mut stored = [0; MOST];
-        stored[..entries.len()].copy_from_slice(entries);
-        Mapping {
-            entries: stored,
-            count: entries.len() as u8,
-        }
+        let entries = Rc::new(alloc, entries)?;
+        Ok(Mapping { entries })
     }
 
     /// The entries, each with the index, the sub-index and the length in bits of what it maps.
@@ -49,7 +40,7 @@ impl Mapping {
         ensures entries { result.now ≡ self.now }
         ensures fits { mapping_bits result.now ≤ 64 }
     {
-        &self.entries[..usize::from(self.count)]
+        &self.entries
     }
 
     /// Whether the other one has the same entries.
@@ -57,5 +48,15 @@ impl Mapping {
         ensures { IsTrue result ↔ (self.now ≡ other.now) }
     {
         self.entries() == other.entries()
+    }
+}
+
+impl Clone for Mapping {
+    ghost is_clone = { λ a b. b ≡ a };
+
+    /// The same mapping, which it shares. Takes no memory.
+    fn clone(&self) -> Result<Mapping, AllocError> {
+        let entries = self.entries.clone()?;
+        Ok(Mapping { entries })
     }
 }

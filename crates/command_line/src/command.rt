@@ -7,7 +7,7 @@ use std::alloc::Global;
 use std::io::{Read, Write};
 use std::rt::Files;
 use std::{fs, io};
-use workbench::{Counted, SessionFault, Work, session};
+use workbench::{Counted, SessionFault, Work, session_of_process};
 
 const SUCCESS: u8 = 0;
 
@@ -89,7 +89,7 @@ fn serve<I: Read, O: Write, E: Write>(
 ) -> u8 {
     let mut reader = Counted::new(input);
     let mut writer = Counted::new(output);
-    match session(alloc, &mut reader, &mut writer) {
+    match session_of_process(alloc, &mut reader, &mut writer) {
         Ok(done) => {
             if work {
                 tell_work(done, faults);

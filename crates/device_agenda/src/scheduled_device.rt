@@ -145,6 +145,7 @@ fn run<P: Shapes>(
 impl Clone for ScheduledDevice {
     ghost is_clone = { λ a b. b ≡ a };
 
+    #[inline(never)]
     fn clone(&self) -> Result<ScheduledDevice, AllocError> {
         self.copy()
     }

@@ -10,8 +10,11 @@ mod tpdos;
 
 pub use numbers::{is_rpdo_object, is_tpdo_object};
 pub use rpdo_state::RpdoState;
-pub use rpdos::{any_has_identifier, empty_rpdos, keep, rpdos_of, same_rpdos, write_rpdos};
+pub use rpdos::{
+    any_has_identifier, copy_rpdos, empty_rpdos, keep, rpdos_of, same_rpdos, write_rpdos,
+};
 pub use tpdo_state::TpdoState;
 pub use tpdos::{
-    forget_tpdos, free_tpdos, look_at_tpdos, next_moment, same_tpdos, tpdos_of, write_tpdos,
+    copy_tpdos, forget_tpdos, free_tpdos, look_at_tpdos, next_moment, same_tpdos, tpdos_of,
+    write_tpdos,
 };

@@ -8,9 +8,10 @@ ghost use Rattle.device_pdos.specs.Rpdos.{has_identifier, receipt_of};
 use can_frame::Frame;
 use co_dict::mapped_length;
 use co_pdos::{Configuration, Mapping, Receipt, received};
+use std::alloc::AllocError;
 
-/// An RPDO of a device at a moment (CiA 301).
-#[derive(Clone, Copy, Debug)]
+/// An RPDO of a device at a moment (CiA 301). Copies share its mapping.
+#[derive(Drop)]
 pub struct RpdoState {
     /// Its number, 1 to 512.
     pub number: u16,
@@ -75,5 +76,19 @@ impl RpdoState {
             ),
             _ => Receipt::Ignored,
         }
+    }
+}
+
+impl Clone for RpdoState {
+    ghost is_clone = { λ a b. b ≡ a };
+
+    /// The same, of which it shares the mapping. Takes no memory.
+    fn clone(&self) -> Result<RpdoState, AllocError> {
+        let configuration = Configuration::copy_of(&self.configuration)?;
+        Ok(RpdoState {
+            number: self.number,
+            configuration,
+            kept: self.kept,
+        })
     }
 }

@@ -1,8 +1,8 @@
 //! The RPDOs of a device, by number.
 
-ghost use Rattle.std.specs.Prelude.{◌≡◌, ◌<◌, length, IfOk, ◌↔◌, IsTrue};
+ghost use Rattle.std.specs.Prelude.{◌≡◌, ◌<◌, length, IfOk, OnOk, ◌↔◌, IsTrue};
 ghost use Rattle.device_pdos.specs.Rpdos.{any_has_identifier, without_kept_frames, rpdos_of as rpdos_now};
-ghost use Rattle.device_pdos.specs.Rpdos.{rpdos_after_write, with_kept};
+ghost use Rattle.device_pdos.specs.Rpdos.{rpdo_after_write, rpdos_after_write, with_kept};
 
 use crate::numbers::{LAST_PDO, number_of_object};
 use crate::rpdo_state::RpdoState;
@@ -19,7 +19,7 @@ pub fn rpdos_of(alloc: Global, shape: &Shape, dict: &Dict) -> Result<Vec<RpdoSta
     let mut rpdos = Vec::new(alloc);
     for number in 1..=LAST_PDO {
         if is_pdo(shape, rpdo_object(number)) {
-            let configuration = Configuration::of(shape, dict, rpdo_object(number));
+            let configuration = Configuration::of(alloc, shape, dict, rpdo_object(number))?;
             rpdos.push(RpdoState {
                 number,
                 configuration,
@@ -30,23 +30,57 @@ pub fn rpdos_of(alloc: Global, shape: &Shape, dict: &Dict) -> Result<Vec<RpdoSta
     Ok(rpdos)
 }
 
-/// What the write of an entry of an object of RPDOs brings about: its RPDO is judged anew, and keeps no
-/// frame. Walks the RPDOs.
-#[tactic(auto, unfolding(crate::specs::Rpdos::rpdos_after_write))]
-pub fn write_rpdos(rpdos: &mut [RpdoState], shape: &Shape, dict: &Dict, index: u16)
-    ensures { rpdos.new ≡ rpdos_after_write shape.now dict.now index rpdos.old }
+/// Equal RPDOs, which share the mappings.
+pub fn copy_rpdos(alloc: Global, rpdos: &[RpdoState]) -> Result<Vec<RpdoState>, AllocError>
+    ensures { IfOk result (λ copies. copies.items ≡ rpdos.now) }
+{
+    let mut copies = Vec::with_capacity(alloc, rpdos.len())?;
+    for rpdo in rpdos {
+        let copy = rpdo.clone()?;
+        copies.push(copy)?;
+    }
+    Ok(copies)
+}
+
+/// An RPDO at the write of an entry of an object of RPDOs: it is judged anew if the object is its own, and
+/// keeps no frame.
+fn write_rpdo(
+    alloc: Global,
+    rpdo: &mut RpdoState,
+    shape: &Shape,
+    dict: &Dict,
+    index: u16,
+) -> Result<(), AllocError>
+    ensures { OnOk result (rpdo.new ≡ rpdo_after_write shape.now dict.now index rpdo.old) }
 {
     let number = number_of_object(index);
-    for rpdo in rpdos.iter_mut() {
-        if rpdo.number == number {
-            let configuration = Configuration::of(shape, dict, rpdo_object(number));
-            *rpdo = RpdoState {
-                number,
-                configuration,
-                kept: None,
-            };
-        }
+    if rpdo.number == number {
+        let configuration = Configuration::of(alloc, shape, dict, rpdo_object(number))?;
+        *rpdo = RpdoState {
+            number,
+            configuration,
+            kept: None,
+        };
     }
+    Ok(())
+}
+
+/// What the write of an entry of an object of RPDOs brings about: its RPDO is judged anew, and keeps no
+/// frame. Walks the RPDOs, and takes memory for the mapping.
+#[tactic(auto, unfolding(crate::specs::Rpdos::rpdos_after_write))]
+pub fn write_rpdos(
+    alloc: Global,
+    rpdos: &mut [RpdoState],
+    shape: &Shape,
+    dict: &Dict,
+    index: u16,
+) -> Result<(), AllocError>
+    ensures { OnOk result (rpdos.new ≡ rpdos_after_write shape.now dict.now index rpdos.old) }
+{
+    for rpdo in rpdos.iter_mut() {
+        write_rpdo(alloc, rpdo, shape, dict, index)?;
+    }
+    Ok(())
 }
 
 /// The frames that RPDOs keep are dropped.

@@ -11,8 +11,8 @@ use co_mapping::pack;
 use co_pdos::{Configuration, SyncSeen, Tpdo};
 use std::alloc::AllocError;
 
-/// A TPDO of a device at a moment (CiA 301).
-#[derive(Clone, Copy, Debug)]
+/// A TPDO of a device at a moment (CiA 301). Copies share its mapping.
+#[derive(Drop)]
 pub struct TpdoState {
     /// Its number, 1 to 512.
     pub number: u16,
@@ -96,7 +96,9 @@ impl TpdoState {
         ensures frame { result ≡ frame_of_turn t seen dict.now self.old }
     {
         self.remembered.end_inhibit(t);
-        let configuration = self.configuration?;
+        let Some(configuration) = &self.configuration else {
+            return None;
+        };
         let (frame, count) = pack(dict, configuration.mapping.entries());
         let bytes = &frame[..count];
         if self
@@ -127,5 +129,19 @@ impl TpdoState {
             Some(frame) => waiting.replace(Purpose::Tpdo(self.number), frame),
             None => Ok(()),
         }
+    }
+}
+
+impl Clone for TpdoState {
+    ghost is_clone = { λ a b. b ≡ a };
+
+    /// The same, of which it shares the mapping. Takes no memory.
+    fn clone(&self) -> Result<TpdoState, AllocError> {
+        let configuration = Configuration::copy_of(&self.configuration)?;
+        Ok(TpdoState {
+            number: self.number,
+            configuration,
+            remembered: self.remembered,
+        })
     }
 }

@@ -3,7 +3,7 @@
 ghost use Rattle.std.specs.Prelude.{◌≡◌, ◌<◌, ◌^◌, IfOk, OnOk, ◌↔◌, IsTrue};
 ghost use Rattle.co_base.specs.Moments.{earliest};
 ghost use Rattle.device_pdos.specs.Tpdos.{moments, without_memories, tpdos_after_inhibit, tpdos_after_turns};
-ghost use Rattle.device_pdos.specs.Tpdos.{tpdos_of as tpdos_now, tpdos_after_write, with_tpdos};
+ghost use Rattle.device_pdos.specs.Tpdos.{tpdo_after_write, tpdos_of as tpdos_now, tpdos_after_write, with_tpdos};
 
 use crate::numbers::{LAST_PDO, number_of_object};
 use crate::tpdo_state::TpdoState;
@@ -22,26 +22,60 @@ pub fn tpdos_of(alloc: Global, shape: &Shape, dict: &Dict) -> Result<Vec<TpdoSta
     let mut tpdos = Vec::new(alloc);
     for number in 1..=LAST_PDO {
         if is_pdo(shape, tpdo_object(number)) {
-            let configuration = Configuration::of(shape, dict, tpdo_object(number));
+            let configuration = Configuration::of(alloc, shape, dict, tpdo_object(number))?;
             tpdos.push(TpdoState::of(number, configuration))?;
         }
     }
     Ok(tpdos)
 }
 
-/// What the write of an entry of an object of TPDOs brings about: its TPDO is judged anew, and remembers
-/// nothing. Walks the TPDOs.
-#[tactic(auto, unfolding(crate::specs::Tpdos::tpdos_after_write))]
-pub fn write_tpdos(tpdos: &mut [TpdoState], shape: &Shape, dict: &Dict, index: u16)
-    ensures { tpdos.new ≡ tpdos_after_write shape.now dict.now index tpdos.old }
+/// Equal TPDOs, which share the mappings.
+pub fn copy_tpdos(alloc: Global, tpdos: &[TpdoState]) -> Result<Vec<TpdoState>, AllocError>
+    ensures { IfOk result (λ copies. copies.items ≡ tpdos.now) }
+{
+    let mut copies = Vec::with_capacity(alloc, tpdos.len())?;
+    for tpdo in tpdos {
+        let copy = tpdo.clone()?;
+        copies.push(copy)?;
+    }
+    Ok(copies)
+}
+
+/// A TPDO at the write of an entry of an object of TPDOs: it is judged anew if the object is its own, and
+/// remembers nothing.
+fn write_tpdo(
+    alloc: Global,
+    tpdo: &mut TpdoState,
+    shape: &Shape,
+    dict: &Dict,
+    index: u16,
+) -> Result<(), AllocError>
+    ensures { OnOk result (tpdo.new ≡ tpdo_after_write shape.now dict.now index tpdo.old) }
 {
     let number = number_of_object(index);
-    for tpdo in tpdos.iter_mut() {
-        if tpdo.number == number {
-            let configuration = Configuration::of(shape, dict, tpdo_object(number));
-            *tpdo = TpdoState::of(number, configuration);
-        }
+    if tpdo.number == number {
+        let configuration = Configuration::of(alloc, shape, dict, tpdo_object(number))?;
+        *tpdo = TpdoState::of(number, configuration);
     }
+    Ok(())
+}
+
+/// What the write of an entry of an object of TPDOs brings about: its TPDO is judged anew, and remembers
+/// nothing. Walks the TPDOs, and takes memory for the mapping.
+#[tactic(auto, unfolding(crate::specs::Tpdos::tpdos_after_write))]
+pub fn write_tpdos(
+    alloc: Global,
+    tpdos: &mut [TpdoState],
+    shape: &Shape,
+    dict: &Dict,
+    index: u16,
+) -> Result<(), AllocError>
+    ensures { OnOk result (tpdos.new ≡ tpdos_after_write shape.now dict.now index tpdos.old) }
+{
+    for tpdo in tpdos.iter_mut() {
+        write_tpdo(alloc, tpdo, shape, dict, index)?;
+    }
+    Ok(())
 }
 
 /// All TPDOs forget what they remember.

@@ -10,4 +10,4 @@ mod turns;
 
 pub use co_answers::{Work, Workbench};
 pub use co_streams::{Counted, Intake, Outlet, SessionFault};
-pub use serving::{LIMIT, session};
+pub use serving::{LIMIT, session, session_of_process};

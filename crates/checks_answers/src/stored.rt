@@ -3,7 +3,6 @@
 ghost use Rattle.co_depend.specs.Supply.{seen_of};
 ghost use Rattle.co_parts.specs.Images.{IsImage};
 
-use crate::marks::decimal;
 use anyhow::Result;
 use can_bus::{Line, Parts, text};
 use co_depend::ProjectParts;
@@ -20,6 +19,11 @@ pub struct Stored {
     alloc: Global,
     store: Store,
     meter: Meter,
+}
+
+/// The number that a text has, 0 where it has none.
+fn decimal(text: &str) -> u64 {
+    text.parse::<u64>().unwrap_or(0)
 }
 
 /// Shows a count: that it is at most a number, or how far it is above.
