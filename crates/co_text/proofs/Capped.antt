@@ -1,5 +1,5 @@
 -- Past the limit no digit brings a number back below it.
-use Rattle.std.proofs.Common.{◌≡◌, ℕ, ◌+◌, ◌*◌, ◌^◌, ◌<◌, ◌≤◌, min, Bool, true, false, List, [], ◌∷◌, length, drop}
+use Rattle.std.proofs.Common.{◌≡◌, ℕ, suc, ◌+◌, ◌*◌, ◌^◌, ◌<◌, ◌≤◌, min, Bool, true, false, List, [], ◌∷◌, length, drop}
 use Rattle.std.proofs.Common.{get_or, Option, Some, None, refl, sym, ap, ◌∙◌, arith, inl, inr, length-drop}
 use Rattle.std.specs.Prelude.{if◌then◌else◌, ◌&&◌, IfSome, unwrap_or}
 use Rattle.std.specs.List.{list_all}
@@ -8,7 +8,7 @@ use Rattle.std.specs.Str.Parse.{digits_value, digits_value_after, AllDigits}
 use Rattle.std.proofs.lemmas.Bool.{and_parts, cases_lt, lt-ltb, ltb-true}
 use Rattle.std.proofs.lemmas.Int.Digits.{digits_value-lt}
 use Rattle.std.proofs.lemmas.List.{at_drop_more}
-use Rattle.std.proofs.Math.Nat.{mul-le-mul_left, pow-le-pow_left, pow-le-pow_right}
+use Rattle.std.proofs.Math.Nat.{mul-le-mul_left, pow-le-pow_left, pow-le-pow_right, pow-suc}
 use Rattle.co_text.specs.Digits.{digits_number, capped}
 
 -- the number that digits write behind those of n
@@ -68,6 +68,22 @@ pub digits_all : (base n i : ℕ) (cs : List ℕ) (total : Option ℕ) → lengt
     → capped (digits_behind base n (drop i cs)) ≡ total → Some n ≡ total
 digits_all base n i cs total end low so_far =
     no_digit_left base n (drop i cs) total (omega (arith, length-drop i cs)) low so_far
+
+-- ---- a number of few digits
+
+-- one digit more behind i digits
+pub short_more : (base n i d : ℕ) → base ≤ 16 → d < base → n < 16 ^ i → n * base + d < 16 ^ (i + 1)
+short_more base n i d high low small =
+    let wide : n * base ≤ n * 16 = mul-le-mul_left n high in
+    let power : 16 ^ (i + 1) ≡ 16 ^ i * 16 = rw (one_more i) (pow-suc 16 i) in
+    rw power (omega (arith, wide, low, high, small))
+  where
+    one_more : (i : ℕ) → i + 1 ≡ suc i
+    one_more i = omega arith
+
+-- fifteen digits write no number from the limit on
+pub short_is_below : (i : ℕ) → i ≤ 15 → 16 ^ i ≤ 2 ^ 60
+short_is_below i few = pow-le-pow_right {n = 16} (omega arith) few
 
 -- ---- what the digits bound
 

@@ -1,17 +1,27 @@
 -- Digits that are written, each read again.
 use Rattle.std.proofs.Common.{◌≡◌, ℕ, suc, ◌+◌, ◌/◌, ◌%◌, ◌^◌, ◌<◌, ◌≤◌, Bool, true, List, [], ◌∷◌, Some, None, refl}
-use Rattle.std.proofs.Common.{ap, ◌∙◌, inl, inr, lit<, arith}
+use Rattle.std.proofs.Common.{map, get_or, ap, ◌∙◌, inl, inr, lit<, arith}
 use Rattle.std.specs.Prelude.{if◌then◌else◌, decimal}
 use Rattle.std.specs.Char.{digit_value, is_digit}
 use Rattle.std.specs.Fmt.{digit_glyph}
-use Rattle.std.specs.List.{list_all}
+use Rattle.std.specs.List.{list_all, range_with_len}
+use Rattle.std.proofs.lemmas.List.FromFn.{get_or-map-range_with_len}
 use Rattle.std.specs.Str.Parse.{digits_value, AllDigits, IsNumeral}
 use Rattle.std.proofs.lemmas.Bool.{cases_lt, lt-ltb, lt-leb}
 use Rattle.std.proofs.lemmas.Bool.Decides.{nat_tests}
 use Rattle.std.proofs.lemmas.Fmt.{decimal_is_IsNumeral_wide}
+use Rattle.co_text.specs.declared.digits.TheConstants.{DIGIT_VALUES}
 use Rattle.co_text.specs.Digits.{digits_number, byte_digits, index_digits, identifier_digits}
 
 -- ---- one digit
+
+-- the table of digits has the value of each byte
+digit_table_is_rule : DIGIT_VALUES ≡ map digit_value (range_with_len 0 256)
+digit_table_is_rule = refl
+
+pub digit_value_by_table : (byte : ℕ) → byte < 256 → get_or DIGIT_VALUES byte 0 ≡ digit_value byte
+digit_value_by_table byte h = ap (λ (values : List ℕ). get_or values byte 0) digit_table_is_rule
+    ∙ get_or-map-range_with_len digit_value 0 256 byte byte 0 h (omega arith)
 
 pub digit_value-glyph : (d : ℕ) → d < 16 → digit_value (digit_glyph true d) ≡ d
 digit_value-glyph d h = elim (cases_lt d 10) [
