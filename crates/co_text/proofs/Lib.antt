@@ -1,4 +1,5 @@
 pub mod Capped
+pub mod CountLemmas
 pub mod DigitLemmas
 pub mod FoundLemmas
 pub mod LineLemmas

@@ -1,10 +1,12 @@
 //! The lines of a text, and its parts before and after a byte.
-ghost use Rattle.std.specs.Prelude.{◌≡◌, ◌==◌, ◌<◌, ◌≤◌, ◌∷◌, length, option_map, IfSome};
+ghost use Rattle.std.specs.Prelude.{◌≡◌, ◌+◌, ◌==◌, ◌<◌, ◌≤◌, ◌∷◌, length, option_map, IfSome};
 ghost use Rattle.std.specs.List.{position, suffix_len};
+ghost use Rattle.std.specs.Simd.Lanes.{chunk};
 ghost use Rattle.co_text.specs.Blanks.{trim_end};
 ghost use Rattle.co_text.specs.Lines.{is_cr, split_once, lines_of, line_count};
 
 use memchr::memchr;
+use std::simd::prelude::*;
 
 /// The number of CRs that a line ends with.
 fn last_crs(line: &[u8]) -> usize
@@ -53,9 +55,36 @@ pub fn next_line(text: &[u8]) -> (&[u8], &[u8])
     }
 }
 
+/// How many bytes are looked at side by side.
+const LANES: usize = 32;
+
+/// How many of the 32 bytes from a place on are LFs.
+fn feeds_at(text: &[u8], at: usize) -> usize
+    requires { at + LANES ≤ length text.now }
+    ensures { result ≡ line_count (chunk at LANES text.now) }
+{
+    u8x32::from_slice(&text[at..])
+        .simd_eq(u8x32::splat(b'\n'))
+        .to_bitmask()
+        .count_ones() as usize
+}
+
+/// How many of the bytes are LFs, looked at one by one.
+fn feeds(text: &[u8]) -> usize
+    ensures { result ≡ line_count text.now }
+{
+    text.iter().filter(|byte| **byte == b'\n').count()
+}
+
 /// How many lines a text has, each ended by LF.
 pub fn line_count(text: &[u8]) -> usize
     ensures { result ≡ line_count text.now }
 {
-    text.iter().filter(|byte| **byte == b'\n').count()
+    let mut count = 0;
+    let mut at = 0;
+    while text.len() - at >= LANES {
+        count += feeds_at(text, at);
+        at += LANES;
+    }
+    count + feeds(&text[at..])
 }
