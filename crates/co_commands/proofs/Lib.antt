@@ -6,6 +6,7 @@ pub mod WordLemmas
 pub mod NumberLemmas
 pub mod LineLemmas
 pub mod CommandLemmas
+pub mod FrequentLemmas
 pub mod LinkLemmas
 pub mod PrintedLemmas
 pub mod ScriptLemmas

@@ -1,5 +1,6 @@
 //! What one line asks.
-ghost use Rattle.std.specs.Prelude.{◌≡◌};
+ghost use Rattle.std.specs.Prelude.{◌≡◌, false, codes};
+ghost use Rattle.std.specs.Str.{bytes_eq};
 ghost use Rattle.co_base.specs.Gives.{Gives};
 ghost use Rattle.co_edits.specs.Faults.{is_memory};
 ghost use Rattle.co_commands.specs.Requests.{block_of, command_of, edit_request, query_request, link_of, request};
@@ -93,8 +94,27 @@ fn query(query: Result<Query, EditFault>) -> Result<Request, EditFault>
     Ok(Request::Query(query?))
 }
 
-#[tactic(auto, unfolding(crate::specs::Requests::command_of))]
+/// What a command asks; those are tried first that scripts have most of.
+#[tactic(auto, using(crate::proofs::FrequentLemmas::frequent_commands))]
 fn command(alloc: Global, first: &[u8], rest: &[u8]) -> Result<Request, EditFault>
+    ensures { Gives is_memory (λ r. r) result (command_of first.now rest.now) }
+{
+    if first == b"param".as_slice() {
+        edit(param(alloc, rest))
+    } else if first == b"sink".as_slice() {
+        edit(sink(alloc, rest))
+    } else if first == b"event".as_slice() {
+        edit(event(alloc, rest))
+    } else {
+        rarer_command(alloc, first, rest)
+    }
+}
+
+#[tactic(auto, unfolding(crate::specs::Requests::command_of))]
+fn rarer_command(alloc: Global, first: &[u8], rest: &[u8]) -> Result<Request, EditFault>
+    requires param { bytes_eq first.now (codes "param") ≡ false }
+    requires event { bytes_eq first.now (codes "event") ≡ false }
+    requires sink { bytes_eq first.now (codes "sink") ≡ false }
     ensures { Gives is_memory (λ r. r) result (command_of first.now rest.now) }
 {
     if first == b"version".as_slice() {
@@ -115,12 +135,8 @@ fn command(alloc: Global, first: &[u8], rest: &[u8]) -> Result<Request, EditFaul
         edit(need(rest))
     } else if first == b"drop-node".as_slice() {
         edit(drop_node(rest))
-    } else if first == b"param".as_slice() {
-        edit(param(alloc, rest))
     } else if first == b"unparam".as_slice() {
         edit(unparam(rest))
-    } else if first == b"event".as_slice() {
-        edit(event(alloc, rest))
     } else if first == b"drop-event".as_slice() {
         edit(drop_event(rest))
     } else {
@@ -130,6 +146,7 @@ fn command(alloc: Global, first: &[u8], rest: &[u8]) -> Result<Request, EditFaul
 
 #[tactic(auto, unfolding(crate::specs::Requests::link_of))]
 fn link(alloc: Global, first: &[u8], rest: &[u8]) -> Result<Request, EditFault>
+    requires sink { bytes_eq first.now (codes "sink") ≡ false }
     ensures { Gives is_memory (λ r. r) result (link_of first.now rest.now) }
 {
     if first == b"message".as_slice() {
@@ -142,8 +159,6 @@ fn link(alloc: Global, first: &[u8], rest: &[u8]) -> Result<Request, EditFault>
         edit(source(alloc, rest))
     } else if first == b"unsource".as_slice() {
         edit(unsource(alloc, rest))
-    } else if first == b"sink".as_slice() {
-        edit(sink(alloc, rest))
     } else if first == b"unsink".as_slice() {
         edit(unsink(alloc, rest))
     } else {
