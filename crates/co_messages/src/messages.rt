@@ -1,5 +1,5 @@
 //! The messages of a project.
-ghost use Rattle.std.specs.Prelude.{◌≡◌, ◌==◌, true, All, IfOk, IfSome, None, OnOk, OnErr, false};
+ghost use Rattle.std.specs.Prelude.{◌≡◌, ◌==◌, true, All, IfOk, IfSome, None, Ok, OnOk, OnErr, false};
 ghost use Rattle.std.specs.FinMap as map;
 ghost use Rattle.std.specs.Option.{option_copied};
 ghost use Rattle.co_base.specs.Ranges.{is_between, AreIndices};
@@ -180,6 +180,32 @@ impl Messages {
     }
 
     /// Gives the message of a name, if it has one, an entry of its sender at a position, in place of
+    /// the one that stands there, and says whether the name has a message. Want of memory changes
+    /// nothing, and can come only where none stands.
+    pub fn link_source(
+        &mut self,
+        name: &[u8],
+        position: u8,
+        index: u16,
+        sub: u8,
+    ) -> Result<bool, AllocError>
+        requires place { is_position position ≡ true }
+        requires entry { AreIndices index sub }
+        ensures known { IfOk result (λ known. known ≡ map.contains_key self.old name.now) }
+        ensures unknown { result ≡ Ok false → self.new ≡ self.old }
+        ensures ok { OnOk result (self.new ≡ with_changed (with_source position (index, sub)) self.old name.now) }
+        ensures err { OnErr result (self.new ≡ self.old) }
+        ensures there { OnErr result (map.contains_key self.old name.now ≡ true) }
+        ensures absent { OnErr result (has_source self.old name.now position ≡ false) }
+    {
+        let Some(linked) = self.linked.get_mut(name) else {
+            return Ok(false);
+        };
+        linked.sources.put(position, index, sub)?;
+        Ok(true)
+    }
+
+    /// Gives the message of a name, if it has one, an entry of its sender at a position, in place of
     /// the one that stands there. Want of memory changes nothing, and can come only where none
     /// stands.
     pub fn put_source(
@@ -195,10 +221,7 @@ impl Messages {
         ensures err { OnErr result (self.new ≡ self.old) }
         ensures absent { OnErr result (has_source self.old name.now position ≡ false) }
     {
-        let Some(linked) = self.linked.get_mut(name) else {
-            return Ok(());
-        };
-        linked.sources.put(position, index, sub)?;
+        let _known = self.link_source(name, position, index, sub)?;
         Ok(())
     }
 
@@ -210,6 +233,34 @@ impl Messages {
             return;
         };
         linked.sources.remove(position);
+    }
+
+    /// Gives the message of a name, if it has one, an entry of a node that takes what stands at a
+    /// position, in place of the one that the node has there, and says whether the name has a message.
+    /// Want of memory changes nothing, and can come only where the node has none.
+    pub fn link_sink(
+        &mut self,
+        name: &[u8],
+        position: u8,
+        node: u8,
+        index: u16,
+        sub: u8,
+    ) -> Result<bool, AllocError>
+        requires place { is_position position ≡ true }
+        requires taker { is_between 1 127 node ≡ true }
+        requires entry { AreIndices index sub }
+        ensures known { IfOk result (λ known. known ≡ map.contains_key self.old name.now) }
+        ensures unknown { result ≡ Ok false → self.new ≡ self.old }
+        ensures ok { OnOk result (self.new ≡ with_changed (with_sink position node (index, sub)) self.old name.now) }
+        ensures err { OnErr result (self.new ≡ self.old) }
+        ensures there { OnErr result (map.contains_key self.old name.now ≡ true) }
+        ensures absent { OnErr result (has_sink self.old name.now position node ≡ false) }
+    {
+        let Some(linked) = self.linked.get_mut(name) else {
+            return Ok(false);
+        };
+        linked.sinks.put(position, node, index, sub)?;
+        Ok(true)
     }
 
     /// Gives the message of a name, if it has one, an entry of a node that takes what stands at a
@@ -230,10 +281,7 @@ impl Messages {
         ensures err { OnErr result (self.new ≡ self.old) }
         ensures absent { OnErr result (has_sink self.old name.now position node ≡ false) }
     {
-        let Some(linked) = self.linked.get_mut(name) else {
-            return Ok(());
-        };
-        linked.sinks.put(position, node, index, sub)?;
+        let _known = self.link_sink(name, position, node, index, sub)?;
         Ok(())
     }
 

@@ -69,11 +69,12 @@ impl Contents {
         ensures memory { IsErrOf result EditFault.Memory
             → IsTrue (adds self.old (edit.Source name.now position index sub)) }
     {
-        if !self.messages.contains(name) {
-            return Err(EditFault::Unknown);
+        let known = self.messages.link_source(name, position, index, sub)?;
+        if known {
+            Ok(())
+        } else {
+            Err(EditFault::Unknown)
         }
-        self.messages.put_source(name, position, index, sub)?;
-        Ok(())
     }
 
     /// Takes the source at a position of a message away.
@@ -106,11 +107,15 @@ impl Contents {
         ensures memory { IsErrOf result EditFault.Memory
             → IsTrue (adds self.old (edit.Sink name.now position node index sub)) }
     {
-        if !self.messages.contains(name) || !self.nodes.contains(node) {
+        if !self.nodes.contains(node) {
             return Err(EditFault::Unknown);
         }
-        self.messages.put_sink(name, position, node, index, sub)?;
-        Ok(())
+        let known = self.messages.link_sink(name, position, node, index, sub)?;
+        if known {
+            Ok(())
+        } else {
+            Err(EditFault::Unknown)
+        }
     }
 
     /// Takes the sink of a node at a position of a message away.
