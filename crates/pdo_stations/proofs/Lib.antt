@@ -1,4 +1,5 @@
 pub mod AlikeLemmas
 pub mod RoomLemmas
+pub mod SeatLemmas
 pub mod StationLemmas
 pub mod UnsignedLemmas

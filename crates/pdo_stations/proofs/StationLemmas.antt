@@ -3,12 +3,10 @@ use Rattle.std.proofs.Common.{◌≡◌, ℕ, zero, suc, ◌+◌, ◌-◌, ◌<�
 use Rattle.std.proofs.Common.{◌∷◌, length, drop, get_or, Option, Some, None, option_map, option_and_then, refl, sym, ap}
 use Rattle.std.proofs.Common.{◌∙◌, arith}
 use Rattle.std.specs.Prelude.{if◌then◌else◌}
-use Rattle.std.specs.BTreeMap.{is_at}
 use Rattle.std.specs.Borrow.{Bor}
 use Rattle.std.specs.FinMap.{get}
 use Rattle.std.specs.Map.{lookup}
 use Rattle.std.specs.Option.{option_map_or}
-use Rattle.std.specs.Ordering.{nat_cmp}
 use Rattle.std.proofs.lemmas.Bool.Decides.{nat_tests}
 use Rattle.std.proofs.lemmas.List.{drop_more}
 use Rattle.std.proofs.lemmas.Option.{slice_get-get_or, same_Some}
@@ -89,22 +87,6 @@ devices_alike stations nodes same =
 
 same_number : (a b : ℕ) → (a == b) ≡ true → a ≡ b
 same_number a b e = grind (arith, nat_tests)
-
-at_number : (a b : ℕ) → is_at (nat_cmp a) b ≡ (a == b)
-at_number a b = grind (arith, nat_tests)
-
--- a node's station is put into its place
-pub station_put : (before after : List (ℕ × Shaped)) (number : ℕ) (ss : List Section) (station : Shaped)
-    → ((node : ℕ) → shape_at after node ≡ cond (is_at (nat_cmp number) node) (Some station) (shape_at before node))
-    → station ≡ shape_of ss number → (node : ℕ)
-    → shape_at after node ≡ (if number == node then Some (shape_of ss number) else shape_at before node)
-station_put before after number ss station put is node =
-    put node ∙ ap (λ t. cond t (Some station) (shape_at before node)) (at_number number node) ∙ by (number == node)
-  where
-    by : (b : Bool) → cond b (Some station) (shape_at before node)
-        ≡ (if b then Some (shape_of ss number) else shape_at before node)
-    by true = ap Some is
-    by false = refl
 
 pub stations_more : (before after : List (ℕ × Shaped)) (number : ℕ) (ss : List Section)
     (nodes : List (ℕ × List Section))

@@ -1,5 +1,5 @@
 -- What is looked up once for each node.
-use Rattle.std.specs.Prelude.{ℕ, false, List, Option, option_and_then}
+use Rattle.std.specs.Prelude.{ℕ, ◌+◌, false, List, [], ◌∷◌, Option, Some, None, option_and_then}
 use Rattle.std.specs.BTreeMap.{is_at}
 use Rattle.std.specs.FinMap.{get}
 use Rattle.std.specs.Map.{lookup}
@@ -7,6 +7,12 @@ use Rattle.std.specs.Option.{option_map_or}
 use Rattle.std.specs.Ordering.{nat_cmp}
 use Rattle.co_dict.specs.Shapes.{Shaped, is_dummy_allowed}
 use Rattle.pdo_stations.specs.Devices.{Devices}
+
+-- what sits at numbers from a first one on, each with its number
+abbrev pub numbered : ℕ → List (Option Shaped) → List (ℕ × Shaped)
+numbered first [] = []
+numbered first (None ∷ seats) = numbered (first + 1) seats
+numbered first (Some shape ∷ seats) = (first, shape) ∷ numbered (first + 1) seats
 
 -- the entries of a node, and its dummies
 abbrev pub shape_at : List (ℕ × Shaped) → ℕ → Option Shaped

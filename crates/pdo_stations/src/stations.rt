@@ -1,11 +1,11 @@
 //! All nodes as the plan of messages sees them.
-ghost use Rattle.std.specs.Prelude.{◌≡◌, ◌==◌, ◌≤◌, ℕ, if◌then◌else◌, Some, IfOk, OnOk};
+ghost use Rattle.std.specs.Prelude.{◌≡◌, ◌==◌, ◌≤◌, ℕ, [], length, slice_index_or, if◌then◌else◌, None, Some, IfOk, OnOk};
 ghost use Rattle.std.specs.Option.{option_copied};
 ghost use Rattle.eds_device.specs.Entries.{shape_of};
 ghost use Rattle.pdo_stations.specs.Devices.{devices_of, can_map, has_pdo, has_start, has_times, tpdo_object, width_at};
 ghost use Rattle.pdo_stations.specs.Dummies.{dummy_for};
 ghost use Rattle.pdo_stations.specs.Shown.{nodes_of};
-ghost use Rattle.pdo_stations.specs.Stations.{shape_at, devices_in};
+ghost use Rattle.pdo_stations.specs.Stations.{shape_at, devices_in, numbered};
 
 use crate::dummy::dummy_type;
 use crate::mapped::Mapped;
@@ -14,17 +14,19 @@ use co_dict::{Direction, Entry};
 use co_values::width_bits;
 use eds_device::Device;
 use std::alloc::{AllocError, Global};
-use std::collections::BTreeMap;
 use std::marker::Model;
+
+/// How many numbers a node can have, with those that none has.
+const NUMBERS: usize = 256;
 
 /// All nodes as the plan of messages sees them. Contracts see the entries and dummies of each, by the
 /// nodes' numbers.
 ///
-/// A call takes time by the logarithms of the number of nodes and of entries, and by the mapping
-/// entries that it counts.
+/// A call takes time by the logarithm of the number of entries, and by the mapping entries that it
+/// counts.
 #[derive(Drop)]
 pub struct Stations {
-    by_number: BTreeMap<u8, Station>,
+    seats: Vec<Option<Station>>,
 }
 
 impl Model for Stations {
@@ -32,42 +34,66 @@ impl Model for Stations {
     ghost use Rattle.std.specs.Coded.{coded_ℕ, coded_list, coded×};
     ghost use Rattle.co_dict.specs.contracts.entry.Entry as described;
     ghost use Rattle.co_dict.specs.Shapes.{Shaped, shaped_code};
+    ghost use Rattle.pdo_stations.specs.Stations.{numbered};
 
     ghost Value = { List (ℕ × Shaped) };
 
     ghost coded = { coded_list (coded× coded_ℕ (shaped_code described.the_row.coded)) };
 
-    ghost view = { λ stations. stations.by_number.entries };
+    ghost view = { λ stations. numbered 0 stations.seats.items };
+}
+
+/// A seat for each number, each without a station.
+fn empty_seats(alloc: Global) -> Result<Vec<Option<Station>>, AllocError>
+    ensures count { IfOk result (λ seats. length seats.items ≡ 256) }
+    ensures empty { IfOk result (λ seats. numbered 0 seats.items ≡ []) }
+{
+    let mut seats = Vec::with_capacity(alloc, NUMBERS)?;
+    for _number in 0..NUMBERS {
+        seats.push(None)?;
+    }
+    Ok(seats)
 }
 
 /// Looks the device of a node up, and puts it in the place of one that has its number.
 fn add_station(
     alloc: Global,
-    stations: &mut BTreeMap<u8, Station>,
+    seats: &mut [Option<Station>],
     number: u8,
     device: &Device,
 ) -> Result<(), AllocError>
-    ensures { OnOk result ((node : ℕ) → shape_at stations.new.entries node
-        ≡ (if number == node then Some (shape_of device.now.sections number) else shape_at stations.old.entries node)) }
+    requires { length seats.now ≡ 256 }
+    ensures count { OnOk result (length seats.new ≡ 256) }
+    ensures station { OnOk result ((node : ℕ) → shape_at (numbered 0 seats.new) node
+        ≡ (if number == node then Some (shape_of device.now.sections number)
+            else shape_at (numbered 0 seats.old) node)) }
 {
     let shape = device.shape(number)?;
     let station = Station::new(alloc, shape)?;
-    stations.insert(number, station)?;
+    seats[usize::from(number)] = Some(station);
     Ok(())
 }
 
 /// Looks the devices of the nodes up. Of two nodes with one number the first counts.
-fn look_up(alloc: Global, nodes: &[(u8, &Device)]) -> Result<BTreeMap<u8, Station>, AllocError>
-    ensures { IfOk result (λ stations. devices_in stations.entries ≡ devices_of (nodes_of nodes.now)) }
+fn look_up(alloc: Global, nodes: &[(u8, &Device)]) -> Result<Vec<Option<Station>>, AllocError>
+    ensures { IfOk result (λ seats. devices_in (numbered 0 seats.items) ≡ devices_of (nodes_of nodes.now)) }
 {
-    let mut stations = BTreeMap::new(alloc);
+    let mut seats = empty_seats(alloc)?;
     let mut count = nodes.len();
     'nodes: while count > 0 {
         count -= 1;
         let (number, device) = nodes[count];
-        add_station(alloc, &mut stations, number, device)?;
+        add_station(alloc, seats.as_mut_slice(), number, device)?;
     }
-    Ok(stations)
+    Ok(seats)
+}
+
+/// The station at a number.
+fn seated(seats: &[Option<Station>], number: u8) -> Option<&Station>
+    ensures { option_copied result ≡ slice_index_or seats.now number None }
+{
+    let seat = seats.get(usize::from(number))?;
+    seat.as_ref()
 }
 
 impl Stations {
@@ -76,15 +102,15 @@ impl Stations {
     pub fn new(alloc: Global, nodes: &[(u8, &Device)]) -> Result<Stations, AllocError>
         ensures { IfOk result (λ stations. devices_in stations ≡ devices_of (nodes_of nodes.now)) }
     {
-        let by_number = look_up(alloc, nodes)?;
-        Ok(Stations { by_number })
+        let seats = look_up(alloc, nodes)?;
+        Ok(Stations { seats })
     }
 
-    /// The node of a number.
+    /// The node of a number. Takes constant time.
     pub fn get(&self, node: u8) -> Option<&Station>
         ensures { option_copied result ≡ shape_at self.now node }
     {
-        self.by_number.get(&node)
+        seated(&self.seats, node)
     }
 
     /// The entry of a node at an index and sub, if there is one.
