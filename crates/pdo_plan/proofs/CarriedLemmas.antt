@@ -1,5 +1,5 @@
 -- What is said of the sources by their widths is what is said of them by the sender's entries.
-use Rattle.std.proofs.Common.{◌≡◌, ℕ, ◌+◌, ◌==◌, ◌||◌, Bool, true, false, cond, List, [], ◌∷◌, map, Some, refl, ap}
+use Rattle.std.proofs.Common.{◌≡◌, ℕ, ◌+◌, ◌==◌, ◌||◌, Bool, true, false, not, cond, List, [], ◌∷◌, map, Some, refl, ap}
 use Rattle.std.proofs.Common.{arith}
 use Rattle.std.specs.Prelude.{fold}
 use Rattle.std.specs.List.{list_any, cons_option}
@@ -8,9 +8,10 @@ use Rattle.std.specs.BTreeMap.{is_at}
 use Rattle.std.specs.Option.{option_map_or}
 use Rattle.std.specs.Ordering.{nat_cmp}
 use Rattle.std.proofs.lemmas.Bool.Decides.{nat_tests}
+use Rattle.co_dict.specs.declared.direction.Direction.TheVariants.{Transmit}
 use Rattle.pdo_plan.specs.declared.carried.Carried.{Carried}
 use Rattle.pdo_stations.specs.declared.mapped.Mapped.{Mapped}
-use Rattle.pdo_stations.specs.Devices.{Devices, width_at}
+use Rattle.pdo_stations.specs.Devices.{Devices, can_map, width_at}
 use Rattle.pdo_plan.specs.Mapping.{Sources, Sinks, bits_of, sent_mapping, taken_mapping, lacks_dummy_at, is_mismatched}
 use Rattle.pdo_plan.specs.Mapping.{differ}
 use Rattle.pdo_plan.specs.Carried.{carried_by, carried_of, bits_in, total_bits, sent_by, taken_by, taken_of_all}
@@ -44,6 +45,11 @@ module _ (devices : Devices) (sender : ℕ) where
   lacks_same sinks node [] = refl
   lacks_same sinks node (s ∷ ss) = ap (λ b. lacks_dummy_for devices sinks node (carried_by devices sender s) || b)
       (lacks_same sinks node ss)
+
+  pub sendable_same : (ss : Sources) → list_any (λ c. not c.sendable) (carried_of devices sender ss)
+      ≡ list_any (λ s. not (can_map Transmit devices sender s.1)) ss
+  sendable_same [] = refl
+  sendable_same (s ∷ ss) = ap (λ b. not (can_map Transmit devices sender s.1) || b) (sendable_same ss)
 
   at_number : (a b : ℕ) → is_at (nat_cmp a) b ≡ (b == a)
   at_number a b = grind (arith, nat_tests)

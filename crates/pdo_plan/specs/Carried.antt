@@ -1,15 +1,16 @@
 -- The sources of a message with their widths, looked up once.
-use Rattle.std.specs.Prelude.{ℕ, ◌==◌, ◌&&◌, Bool, true, false, List, map, filter_map, Option, option_map}
+use Rattle.std.specs.Prelude.{ℕ, ◌==◌, ◌&&◌, ◌||◌, Bool, true, false, not, List, map, filter_map, Option, option_map}
 use Rattle.std.specs.Prelude.{option_and_then, is_none, sum_by, find, length}
 use Rattle.std.specs.List.{list_any}
 use Rattle.std.specs.Option.{option_map_or, unwrap_or, option_or}
+use Rattle.co_dict.specs.declared.direction.Direction.TheVariants.{Transmit, Receive}
 use Rattle.co_messages.specs.Messages.{sink_at}
 use Rattle.pdo_plan.specs.declared.carried.Carried.{Carried}
 use Rattle.co_messages.specs.declared.linked.Linked.{Linked}
 use Rattle.pdo_plan.specs.declared.clean.Clean.{Clean}
 use Rattle.pdo_plan.specs.declared.consumer.Consumer.{Consumer}
 use Rattle.pdo_stations.specs.declared.mapped.Mapped.{Mapped}
-use Rattle.pdo_stations.specs.Devices.{Devices, width_at}
+use Rattle.pdo_stations.specs.Devices.{Devices, can_map, width_at}
 use Rattle.pdo_stations.specs.Dummies.{mapped_to, dummy_for}
 use Rattle.pdo_plan.specs.Mapping.{Sources, Sinks, differ}
 use Rattle.pdo_plan.specs.Plan.{Had, rpdo_for}
@@ -19,6 +20,7 @@ carried_by devices sender source = record {
   position = source.0;
   place = source.1;
   bits = width_at devices sender source.1;
+  sendable = can_map Transmit devices sender source.1;
 }
 
 abbrev pub carried_of : Devices → ℕ → Sources → List Carried
@@ -57,6 +59,10 @@ lacks_some devices sinks node cs = list_any (lacks_dummy_for devices sinks node)
 -- the source at a position
 abbrev pub carried_at : List Carried → ℕ → Option Carried
 carried_at cs position = find (λ (c : Carried). c.position == position) cs
+
+-- a sink that isn't there or no RPDO can map, or that is on the sender
+abbrev pub is_untakable : Devices → ℕ → (ℕ × ℕ) × (ℕ × ℕ) → Bool
+is_untakable devices sender sink = not (can_map Receive devices sink.0.1 sink.1) || (sink.0.1 == sender)
 
 -- a sink without a source at its position, or of another width
 abbrev pub mismatches : Devices → List Carried → (ℕ × ℕ) × (ℕ × ℕ) → Bool

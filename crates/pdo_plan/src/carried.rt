@@ -5,6 +5,7 @@ ghost use Rattle.pdo_plan.specs.Carried.{carried_of, carried_at, bits_in, total_
 ghost use Rattle.pdo_stations.specs.Stations.{devices_in};
 
 use crate::listed::Listed;
+use co_dict::Direction;
 use co_messages::Sources;
 use pdo_stations::{Mapped, Stations};
 use std::alloc::{AllocError, Global};
@@ -18,6 +19,8 @@ pub(crate) struct Carried {
     pub place: (u16, u8),
     /// The bits of the entry in a PDO. An entry that isn't there, or no PDO can map, has none.
     pub bits: Option<u8>,
+    /// Whether the entry is there and a TPDO can map it.
+    pub sendable: bool,
 }
 
 /// The sources of a message of a sender, each looked up once.
@@ -31,10 +34,12 @@ pub(crate) fn carried_sources(
 {
     let mut carried = Vec::new(alloc);
     'sources: for (position, place) in sources.iter() {
+        let entry = stations.mappable(Direction::Transmit, sender, *place);
         carried.push(Carried {
             position: *position,
             place: *place,
-            bits: stations.width(sender, *place),
+            bits: entry.width,
+            sendable: entry.can_map,
         })?;
     }
     Ok(carried)

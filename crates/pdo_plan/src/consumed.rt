@@ -1,11 +1,10 @@
 //! What the nodes take of a message.
 ghost use Rattle.std.specs.Prelude.{◌≡◌, [], IfOk};
-ghost use Rattle.pdo_plan.specs.Carried.{taken_by, taken_of_all, lacks_dummy_for, lacks_some, mismatches};
-ghost use Rattle.pdo_plan.specs.Mapping.{differ};
+ghost use Rattle.pdo_plan.specs.Carried.{taken_by, taken_of_all, lacks_dummy_for, lacks_some};
 ghost use Rattle.pdo_plan.specs.Plan.{nodes_put, consumers_of};
 ghost use Rattle.pdo_stations.specs.Stations.{devices_in};
 
-use crate::carried::{Carried, bits_in, carried_at};
+use crate::carried::{Carried, bits_in};
 use crate::listed::Listed;
 use co_messages::Sinks;
 use pdo_stations::{Mapped, Stations};
@@ -87,29 +86,4 @@ pub(crate) fn lacks_dummy(stations: &Stations, sinks: &Sinks, node: u8, carried:
     carried
         .iter()
         .any(|source| lacks_dummy_for(stations, sinks, node, source))
-}
-
-/// Whether two widths differ; an entry without a width differs from none.
-fn differ(width: Option<u8>, other: Option<u8>) -> bool
-    ensures { result ≡ differ width other }
-{
-    match (width, other) {
-        (Some(bits), Some(others)) => bits != others,
-        _ => false,
-    }
-}
-
-/// Whether a sink has no source at its position, or one of another width.
-pub(crate) fn mismatches(
-    stations: &Stations,
-    carried: &[Carried],
-    seat: (u8, u8),
-    place: (u16, u8),
-) -> bool
-    ensures { result ≡ mismatches (devices_in stations.now) carried.now (seat, place) }
-{
-    match carried_at(carried, seat.0) {
-        Some(source) => differ(source.bits, stations.width(seat.1, place)),
-        None => true,
-    }
 }

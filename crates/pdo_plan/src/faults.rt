@@ -1,60 +1,23 @@
 //! The faults of a message.
-ghost use Rattle.std.specs.Prelude.{◌≡◌, ◌≤◌, ◌==◌, ◌&&◌, ◌||◌, not, length, is_none, is_some, IfOk};
+ghost use Rattle.std.specs.Prelude.{◌≡◌, ◌≤◌, ◌==◌, ◌&&◌, not, length, is_none, is_some, IfOk};
 ghost use Rattle.std.specs.List.{list_any};
-ghost use Rattle.co_dict.specs.declared.direction.Direction.TheVariants as direction;
-ghost use Rattle.pdo_plan.specs.Carried.{carried_of, lacks_some, mismatches};
-ghost use Rattle.pdo_stations.specs.Devices.{can_map};
-ghost use Rattle.pdo_plan.specs.Plan.{rpdo_for, identifier_for, has_unmappable, consumers_of, faults_that_hold, faults};
+ghost use Rattle.pdo_plan.specs.Carried.{carried_of, lacks_some};
+ghost use Rattle.pdo_plan.specs.Plan.{rpdo_for, identifier_for, consumers_of, faults_that_hold, faults};
 ghost use Rattle.pdo_stations.specs.Stations.{devices_in};
 ghost use Rattle.pdo_plan.specs.Taken.{had_in};
 
 use crate::carried::{Carried, total_bits};
-use crate::consumed::{lacks_dummy, mismatches};
+use crate::consumed::lacks_dummy;
+use crate::entry_faults::entry_faults;
 use crate::listed::Listed;
 use crate::message_fault::MessageFault;
 use crate::rpdos::rpdo_for;
 use crate::sender::has_tpdo;
 use crate::taken::Taken;
-use co_dict::Direction;
 use co_fields::TransmissionType;
-use co_messages::{Linked, Sinks, Sources};
+use co_messages::{Linked, Sinks};
 use pdo_stations::Stations;
 use std::alloc::{AllocError, Global};
-
-/// Whether a source isn't there or no TPDO can map it.
-fn has_unsendable(stations: &Stations, sender: u8, sources: &Sources) -> bool
-    ensures { result
-        ≡ list_any (λ s. not (can_map direction.Transmit (devices_in stations.now) sender s.1)) sources.now }
-{
-    sources.iter().any(|(_, place)| !stations.can_map(Direction::Transmit, sender, *place))
-}
-
-/// Whether a sink isn't there, no RPDO can map it, or it is on the sender.
-fn has_untakable(stations: &Stations, sender: u8, sinks: &Sinks) -> bool
-    ensures { result ≡ list_any (λ s. not (can_map direction.Receive (devices_in stations.now) s.0.1 s.1)
-        || (s.0.1 == sender)) sinks.now }
-{
-    sinks.iter().any(|(seat, place)| {
-        !stations.can_map(Direction::Receive, seat.1, *place) || seat.1 == sender
-    })
-}
-
-/// Whether a source or sink isn't there or can't be mapped in its direction, or a sink is on the
-/// sender.
-fn has_unmappable(stations: &Stations, linked: &Linked) -> bool
-    ensures { result ≡ has_unmappable (devices_in stations.now) linked.now }
-{
-    let sender = linked.message.node;
-    has_unsendable(stations, sender, &linked.sources)
-        || has_untakable(stations, sender, &linked.sinks)
-}
-
-/// Whether a sink has no source at its position, or one of another width.
-fn has_mismatch(stations: &Stations, carried: &[Carried], sinks: &Sinks) -> bool
-    ensures { result ≡ list_any (mismatches (devices_in stations.now) carried.now) sinks.now }
-{
-    sinks.iter().any(|(seat, place)| mismatches(stations, carried, *seat, *place))
-}
 
 /// Whether a consumer has no free RPDO for so many mapping entries.
 fn lacks_rpdo(stations: &Stations, taken: &Taken, consumers: &[u8], count: usize) -> bool
@@ -129,6 +92,7 @@ pub(crate) fn faults(
     let message = &linked.message;
     let sinks = &linked.sinks;
     let count = carried.len();
+    let entries = entry_faults(stations, linked, carried);
     let tests = [
         (!has_tpdo(stations, linked, count), MessageFault::NoObjects),
         (
@@ -136,11 +100,8 @@ pub(crate) fn faults(
             MessageFault::TpdoTaken,
         ),
         (total_bits(carried) > 64, MessageFault::TooManyBits),
-        (has_unmappable(stations, linked), MessageFault::NotMappable),
-        (
-            has_mismatch(stations, carried, sinks),
-            MessageFault::Mismatched,
-        ),
+        (entries.unmappable, MessageFault::NotMappable),
+        (entries.mismatched, MessageFault::Mismatched),
         (
             lacks_rpdo(stations, taken, consumers, count),
             MessageFault::NoRpdo,

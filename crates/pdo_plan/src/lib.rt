@@ -6,6 +6,7 @@ mod clean;
 mod comparing;
 mod consumed;
 mod consumer;
+mod entry_faults;
 mod faults;
 mod identifiers;
 mod judging;

@@ -3,11 +3,13 @@
 #![tactic(auto)]
 
 mod dummy;
+mod mappable;
 mod mapped;
 mod room;
 mod station;
 mod stations;
 
+pub use mappable::Mappable;
 pub use mapped::Mapped;
 pub use room::is_unsigned;
 pub use station::Station;

@@ -1,6 +1,7 @@
 //! All nodes as the plan of messages sees them.
 ghost use Rattle.std.specs.Prelude.{◌≡◌, ◌==◌, ◌≤◌, ℕ, [], length, slice_index_or, if◌then◌else◌, None, Some, IfOk, OnOk};
 ghost use Rattle.std.specs.Option.{option_copied};
+ghost use Rattle.co_values.specs.Types.{width_bits};
 ghost use Rattle.eds_device.specs.Entries.{shape_of};
 ghost use Rattle.pdo_stations.specs.Devices.{devices_of, can_map, has_pdo, has_start, has_times, tpdo_object, width_at};
 ghost use Rattle.pdo_stations.specs.Dummies.{dummy_for};
@@ -8,6 +9,7 @@ ghost use Rattle.pdo_stations.specs.Shown.{nodes_of};
 ghost use Rattle.pdo_stations.specs.Stations.{shape_at, devices_in, numbered};
 
 use crate::dummy::dummy_type;
+use crate::mappable::Mappable;
 use crate::mapped::Mapped;
 use crate::station::Station;
 use co_dict::{Direction, Entry};
@@ -96,6 +98,14 @@ fn seated(seats: &[Option<Station>], number: u8) -> Option<&Station>
     seat.as_ref()
 }
 
+/// The bits of an entry in a PDO, where it is BOOLEAN or an integer.
+fn entry_width(entry: &Entry) -> Option<u8>
+    ensures { result ≡ width_bits entry.now.kind }
+{
+    let bits = width_bits(entry.kind)?;
+    Some(bits as u8)
+}
+
 impl Stations {
     /// Looks the devices of nodes up. Of two nodes with one number the first counts. Takes time by
     /// the number of the devices' entries and its logarithm.
@@ -124,8 +134,7 @@ impl Stations {
     pub fn width(&self, node: u8, place: (u16, u8)) -> Option<u8>
         ensures { result ≡ width_at (devices_in self.now) node place }
     {
-        let bits = width_bits(self.entry(node, place)?.kind)?;
-        Some(bits as u8)
+        entry_width(self.entry(node, place)?)
     }
 
     /// Whether an entry of a node is there and can be mapped in a direction.
@@ -135,6 +144,24 @@ impl Stations {
         match self.entry(node, place) {
             Some(entry) => entry.is_mappable(direction),
             None => false,
+        }
+    }
+
+    /// What a PDO of a direction can carry of an entry of a node: `can_map` and `width` of it, by one
+    /// look-up.
+    pub fn mappable(&self, direction: Direction, node: u8, place: (u16, u8)) -> Mappable
+        ensures can_map { result.can_map ≡ can_map direction (devices_in self.now) node place }
+        ensures width { result.width ≡ width_at (devices_in self.now) node place }
+    {
+        match self.entry(node, place) {
+            Some(entry) => Mappable {
+                can_map: entry.is_mappable(direction),
+                width: entry_width(entry),
+            },
+            None => Mappable {
+                can_map: false,
+                width: None,
+            },
         }
     }
 

@@ -17,14 +17,14 @@ returns c =
     let reserved : c.is_reserved.result ≡ is_reserved (type_of_byte c.args.linked.now.message.transmission) =
     c.is_reserved.ensures ∙ ap is_reserved c.of.ensures in
     let tests : faults_that_hold ((not c.has_tpdo.result, NoObjects) ∷ (c.contains.result, TpdoTaken)
-    ∷ (nat_lt 64 c.total_bits.result, TooManyBits) ∷ (c.has_unmappable.result, NotMappable)
-    ∷ (c.has_mismatch.result, Mismatched) ∷ (c.lacks_rpdo.result, NoRpdo) ∷ (c.lacks_any_dummy.result, NoDummy)
+    ∷ (nat_lt 64 c.total_bits.result, TooManyBits) ∷ (c.entry_faults-entries.result.unmappable, NotMappable)
+    ∷ (c.entry_faults-entries.result.mismatched, Mismatched) ∷ (c.lacks_rpdo.result, NoRpdo) ∷ (c.lacks_any_dummy.result, NoDummy)
     ∷ (c.is_bad.result, BadIdentifier)
     ∷ (c.lacks_identifier.result, NoIdentifier) ∷ (c.is_reserved.result, ReservedType) ∷ [])
     ≡ tested had devices m c.args.carried.now c.args.consumers.now c.args.has_identifier =
     λ i. faults_that_hold ((not (c.has_tpdo.ensures i), NoObjects) ∷ (c.contains.ensures i, TpdoTaken)
-    ∷ (nat_lt 64 (c.total_bits.ensures i), TooManyBits) ∷ (c.has_unmappable.ensures i, NotMappable)
-    ∷ (c.has_mismatch.ensures i, Mismatched) ∷ (c.lacks_rpdo.ensures i, NoRpdo) ∷ (c.lacks_any_dummy.ensures i, NoDummy)
+    ∷ (nat_lt 64 (c.total_bits.ensures i), TooManyBits) ∷ (c.entry_faults-entries.ensures.unmappable i, NotMappable)
+    ∷ (c.entry_faults-entries.ensures.mismatched i, Mismatched) ∷ (c.lacks_rpdo.ensures i, NoRpdo) ∷ (c.lacks_any_dummy.ensures i, NoDummy)
     ∷ (c.is_bad.ensures i, BadIdentifier)
     ∷ (c.lacks_identifier.ensures i, NoIdentifier) ∷ (reserved i, ReservedType) ∷ []) in
     let all = tests
