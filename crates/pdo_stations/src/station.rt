@@ -73,6 +73,26 @@ impl Station {
         Ok(Station { shape, rooms })
     }
 
+    /// Looks the RPDOs of a device up, or copies what is known of them from another node that has the
+    /// same entries and dummies. Takes time by the number of the entries at most, beside that of `new`.
+    pub fn beside(alloc: Global, other: &Station, shape: Shape) -> Result<Station, AllocError>
+        ensures { IfOk result (λ station. station ≡ shape) }
+    {
+        let rooms = other.rooms_for(alloc, &shape)?;
+        Ok(Station { shape, rooms })
+    }
+
+    /// The room of each RPDO of a device: a copy, where this node has the same entries.
+    fn rooms_for(&self, alloc: Global, shape: &Shape) -> Result<Vec<Option<u8>>, AllocError>
+        ensures { IfOk result (λ rooms. AreRoomsOf shape.now rooms.items) }
+    {
+        if self.shape.same(shape) {
+            self.rooms.clone()
+        } else {
+            rooms(alloc, shape)
+        }
+    }
+
     /// The entry at an index and sub, if there is one.
     pub fn entry(&self, index: u16, sub: u8) -> Option<&Entry>
         ensures { option_copied result ≡ map.get self.now.entries (index, sub) }

@@ -12,7 +12,7 @@ use crate::dummy::dummy_type;
 use crate::mappable::Mappable;
 use crate::mapped::Mapped;
 use crate::station::Station;
-use co_dict::{Direction, Entry};
+use co_dict::{Direction, Entry, Shape};
 use co_values::width_bits;
 use eds_device::Device;
 use std::alloc::{AllocError, Global};
@@ -57,10 +57,35 @@ fn empty_seats(alloc: Global) -> Result<Vec<Option<Station>>, AllocError>
     Ok(seats)
 }
 
-/// Looks the device of a node up, and puts it in the place of one that has its number.
+/// The station at a number.
+fn seated(seats: &[Option<Station>], number: u8) -> Option<&Station>
+    ensures { option_copied result ≡ slice_index_or seats.now number None }
+{
+    let seat = seats.get(usize::from(number))?;
+    seat.as_ref()
+}
+
+/// The station of a shape. That at another number may have the same one.
+fn station_of(
+    alloc: Global,
+    seats: &[Option<Station>],
+    other: u8,
+    shape: Shape,
+) -> Result<Station, AllocError>
+    ensures { IfOk result (λ station. station ≡ shape) }
+{
+    match seated(seats, other) {
+        Some(known) => Station::beside(alloc, known, shape),
+        None => Station::new(alloc, shape),
+    }
+}
+
+/// Looks the device of a node up, and puts it in the place of one that has its number. The node of
+/// another number may have the same device.
 fn add_station(
     alloc: Global,
     seats: &mut [Option<Station>],
+    other: u8,
     number: u8,
     device: &Device,
 ) -> Result<(), AllocError>
@@ -68,10 +93,10 @@ fn add_station(
     ensures count { OnOk result (length seats.new ≡ 256) }
     ensures station { OnOk result ((node : ℕ) → shape_at (numbered 0 seats.new) node
         ≡ (if number == node then Some (shape_of device.now.sections number)
-            else shape_at (numbered 0 seats.old) node)) }
+        else shape_at (numbered 0 seats.old) node)) }
 {
     let shape = device.shape(number)?;
-    let station = Station::new(alloc, shape)?;
+    let station = station_of(alloc, seats, other, shape)?;
     seats[usize::from(number)] = Some(station);
     Ok(())
 }
@@ -81,21 +106,15 @@ fn look_up(alloc: Global, nodes: &[(u8, &Device)]) -> Result<Vec<Option<Station>
     ensures { IfOk result (λ seats. devices_in (numbered 0 seats.items) ≡ devices_of (nodes_of nodes.now)) }
 {
     let mut seats = empty_seats(alloc)?;
+    let mut last = 0;
     let mut count = nodes.len();
     'nodes: while count > 0 {
         count -= 1;
         let (number, device) = nodes[count];
-        add_station(alloc, seats.as_mut_slice(), number, device)?;
+        add_station(alloc, seats.as_mut_slice(), last, number, device)?;
+        last = number;
     }
     Ok(seats)
-}
-
-/// The station at a number.
-fn seated(seats: &[Option<Station>], number: u8) -> Option<&Station>
-    ensures { option_copied result ≡ slice_index_or seats.now number None }
-{
-    let seat = seats.get(usize::from(number))?;
-    seat.as_ref()
 }
 
 /// The bits of an entry in a PDO, where it is BOOLEAN or an integer.
