@@ -1,3 +1,4 @@
+pub mod AccessLemmas
 pub mod CheckLaws
 pub mod CheckLemmas
 pub mod IndexLemmas

@@ -65,6 +65,20 @@ pub(crate) fn writable_entry(shape: &Shape, index: u16, sub: u8) -> Result<&Entr
     }
 }
 
+/// Whether a device takes writes of an entry that is there, whatever the value; else the abort of `check_access`.
+pub(crate) fn check_writable(entry: &Entry) -> Result<(), Abort>
+    ensures { (shape : Shaped) (place : ℕ × ℕ) → map.get shape.entries place ≡ Some entry.now
+        → result ≡ access_check shape place }
+{
+    if !entry.kind.is_modelled() {
+        return Err(Abort::UNSUPPORTED_ACCESS);
+    }
+    if !entry.access.is_writable() {
+        return Err(Abort::READ_ONLY);
+    }
+    Ok(())
+}
+
 /// Whether a device takes writes of an entry, whatever the value (CiA 301). The abort is that of the
 /// first of these that applies: `NO_OBJECT`, `NO_SUB_INDEX`, `UNSUPPORTED_ACCESS` where its type is
 /// not modelled, `READ_ONLY` where it is read-only or constant.

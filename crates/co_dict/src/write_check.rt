@@ -1,14 +1,16 @@
 //! The write check.
 
-ghost use Rattle.std.specs.Prelude.{◌≡◌, ◌≤◌, ℕ, OnOk, Some, false, length};
+ghost use Rattle.std.specs.Prelude.{◌≡◌, ◌≤◌, ℕ, IsOk, OnOk, Some, false, length};
 ghost use Rattle.std.specs.FinMap as map;
 ghost use Rattle.co_values.specs.Values.{Fits, longest_value};
-ghost use Rattle.co_dict.specs.Checks.{is_no_flag, first_refusal, value_lines};
+ghost use Rattle.co_dict.specs.Checks.{access_check, is_no_flag, first_refusal, value_lines};
 ghost use Rattle.co_dict.specs.Shapes.{Shaped};
 ghost use Rattle.co_dict.specs.WriteCheck.{write_check};
 
 use crate::abort::Abort;
-use crate::checks::{check_length_of, is_above_limit, is_below_limit, is_no_flag, writable_entry};
+use crate::checks::{
+    check_length_of, check_writable, is_above_limit, is_below_limit, is_no_flag, writable_entry,
+};
 use crate::entry::Entry;
 use crate::pdo_checks::{check_cob_id, check_mapping_object, check_new_count};
 use crate::shape::Shape;
@@ -30,6 +32,27 @@ fn check_value(entry: &Entry, bytes: &[u8]) -> Result<(), Abort>
         return Err(Abort::VALUE_TOO_HIGH);
     }
     Ok(())
+}
+
+/// What `check_write` says of an entry that may be written.
+fn check_rest(
+    shape: &Shape,
+    entry: &Entry,
+    dict: &Dict,
+    index: u16,
+    sub: u8,
+    bytes: &[u8],
+) -> Result<(), Abort>
+    requires there { map.get shape.now.entries (index, sub) ≡ Some entry.now }
+    requires granted { IsOk (access_check shape.now (index, sub)) }
+    ensures answer { result ≡ write_check shape.now dict.now (index, sub) bytes.now }
+    ensures short { OnOk result (length bytes.now ≤ longest_value) }
+{
+    check_length_of(entry, bytes.len())?;
+    check_value(entry, bytes)?;
+    check_cob_id(shape, dict, index, sub, bytes)?;
+    check_mapping_object(shape, dict, index, sub)?;
+    check_new_count(shape, dict, index, sub, bytes)
 }
 
 /// Whether a device takes the bytes for an entry (CiA 301), by the values that it holds now. The
@@ -58,9 +81,22 @@ pub fn check_write(
     ensures short { OnOk result (length bytes.now ≤ longest_value) }
 {
     let entry = writable_entry(shape, index, sub)?;
-    check_length_of(entry, bytes.len())?;
-    check_value(entry, bytes)?;
-    check_cob_id(shape, dict, index, sub, bytes)?;
-    check_mapping_object(shape, dict, index, sub)?;
-    check_new_count(shape, dict, index, sub, bytes)
+    check_rest(shape, entry, dict, index, sub, bytes)
+}
+
+/// The same of the entry that the shape has there, which isn't looked up again.
+pub fn check_write_of(
+    shape: &Shape,
+    entry: &Entry,
+    dict: &Dict,
+    index: u16,
+    sub: u8,
+    bytes: &[u8],
+) -> Result<(), Abort>
+    requires { map.get shape.now.entries (index, sub) ≡ Some entry.now }
+    ensures answer { result ≡ write_check shape.now dict.now (index, sub) bytes.now }
+    ensures short { OnOk result (length bytes.now ≤ longest_value) }
+{
+    check_writable(entry)?;
+    check_rest(shape, entry, dict, index, sub, bytes)
 }

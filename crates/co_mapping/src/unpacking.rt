@@ -1,12 +1,13 @@
 //! Values out of a frame.
 
-ghost use Rattle.std.specs.Prelude.{◌≡◌, ◌≤◌, ◌+◌, OnOk, OnErr, IfOk, take};
-ghost use Rattle.co_dict.specs.Mappings.{mapped_length as length_mapped, mapping_bits};
+ghost use Rattle.std.specs.Prelude.{◌≡◌, ◌≤◌, ◌+◌, OnOk, OnErr, IfOk, IfSome, Some, is_some, take};
+ghost use Rattle.std.specs.FinMap as map;
+ghost use Rattle.co_dict.specs.Mappings.{mapped_length as length_mapped, mapped_place as place_mapped, mapping_bits};
 ghost use Rattle.co_mapping.specs.Packing.{bits_for, bytes_begun, frame_bits, names_entry as names_one, takes};
 ghost use Rattle.co_mapping.specs.Packing.{unpacked, value_of_bits, with_bits};
 
 use crate::bits::moved_down;
-use co_dict::{Dict, Direction, Shape, check_write, mapped_length, mapped_place};
+use co_dict::{Dict, Direction, Entry, Shape, check_write_of, mapped_length, mapped_place};
 use co_values::{number_64, to_le};
 use std::alloc::AllocError;
 
@@ -19,14 +20,17 @@ fn value_for(entry: u32, position: u32, bytes: &[u8]) -> [u8; 8]
     to_le(moved_down(number_64(bytes), mapped_length(entry), position))
 }
 
-/// Whether a mapping entry names an entry of the device that RPDOs can map; else it is a dummy.
-fn names_entry(shape: &Shape, entry: u32) -> bool
-    ensures { result ≡ names_one shape.now entry }
+/// The entry of the device that a mapping entry names, where RPDOs can map it; else it is a dummy.
+fn named_entry(shape: &Shape, entry: u32) -> Option<&Entry>
+    ensures named { is_some result ≡ names_one shape.now entry }
+    ensures there { IfSome result (λ named. map.get shape.now.entries (place_mapped entry) ≡ Some named.now) }
 {
     let (index, sub) = mapped_place(entry);
-    match shape.entry(index, sub) {
-        Some(entry) => entry.is_mappable(Direction::Receive),
-        None => false,
+    let named = shape.entry(index, sub)?;
+    if named.is_mappable(Direction::Receive) {
+        Some(named)
+    } else {
+        None
     }
 }
 
@@ -51,13 +55,13 @@ pub fn unpack_entry(
         ≡ with_bits shape.now entry (bits_for entry position (frame_bits bytes.now)) dict.old) }
     ensures err { OnErr result (dict.new ≡ dict.old) }
 {
-    if !names_entry(shape, entry) {
+    let Some(named) = named_entry(shape, entry) else {
         return Ok(false);
-    }
+    };
     let (index, sub) = mapped_place(entry);
     let value = value_for(entry, position, bytes);
     let value = &value[..(mapped_length(entry) as usize + 7) / 8];
-    if check_write(shape, dict, index, sub, value).is_err() {
+    if check_write_of(shape, named, dict, index, sub, value).is_err() {
         return Ok(false);
     }
     dict.write(index, sub, value)?;
