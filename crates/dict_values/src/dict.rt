@@ -9,7 +9,7 @@ ghost use Rattle.dict_values.specs.Restored.{is_kept, with_restored};
 ghost use Rattle.dict_values.specs.Values.{bytes_at, number_at};
 ghost use Rattle.co_values.specs.Values.{longest_value};
 
-use crate::held::Held;
+use crate::held::{Held, IN_PLACE};
 use crate::layer::Layer;
 use crate::places::{agree_on, has_each, may_agree_above, write_each};
 use co_values::{number_8, number_16, number_32, number_64};
@@ -68,21 +68,36 @@ impl Dict {
         }
     }
 
+    /// Whether a value is set with no look at the one that is there: no copy shares the values, and it takes no
+    /// memory of its own.
+    fn is_set_unseen(&self, bytes: &[u8]) -> bool {
+        bytes.len() <= IN_PLACE && self.own.is_empty() && !self.base.is_shared()
+    }
+
+    /// Sets the value at a place, and at that one alone. Takes memory for a place that had none, and where copies
+    /// share the values.
+    fn set(&mut self, place: (u16, u8), value: Held) -> Result<(), AllocError>
+        ensures ok { OnOk result (self.new ≡ map.insert self.old place value) }
+        ensures err { OnErr result (self.new ≡ self.old) }
+    {
+        if self.own.is_empty() && !self.base.is_shared() {
+            self.base.insert(self.alloc, place, value)
+        } else {
+            self.own.insert(self.alloc, place, value)
+        }
+    }
+
     /// Sets the value of an entry, and of that entry alone. Takes no memory where it has that value.
     pub fn write(&mut self, index: u16, sub: u8, bytes: &[u8]) -> Result<(), AllocError>
         requires { length bytes.now ≤ longest_value }
         ensures ok { OnOk result (self.new ≡ map.insert self.old (index, sub) bytes.now) }
         ensures err { OnErr result (self.new ≡ self.old) }
     {
-        if self.holds(index, sub, bytes) {
+        if !self.is_set_unseen(bytes) && self.holds(index, sub, bytes) {
             return Ok(());
         }
         let value = Held::of(self.alloc, bytes)?;
-        if self.own.is_empty() && !self.base.is_shared() {
-            self.base.insert(self.alloc, (index, sub), value)
-        } else {
-            self.own.insert(self.alloc, (index, sub), value)
-        }
+        self.set((index, sub), value)
     }
 
     /// The value of an entry, if it has one.

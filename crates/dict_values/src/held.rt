@@ -9,7 +9,7 @@ use std::marker::Model;
 use std::rc::Rc;
 
 /// The longest value that lies in place.
-const IN_PLACE: usize = 8;
+pub(crate) const IN_PLACE: usize = 8;
 
 /// How the bytes of a value lie: eight at most in place, more behind a handle that copies share.
 #[derive(Drop)]
