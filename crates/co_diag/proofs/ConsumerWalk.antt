@@ -10,7 +10,6 @@ use Rattle.co_fields.specs.ConsumerHeartbeatTimes.{consumed_node, consumer_time}
 use Rattle.co_values.specs.declared.form.Width.TheVariants.{Bits16, Bits32}
 use Rattle.eds_device.specs.Places.{pairs_of}
 use Rattle.pdo_plan.specs.declared.planned_message.PlannedMessage.{PlannedMessage}
-use Rattle.pdo_links.specs.Writes.{node_writes}
 use Rattle.co_project.specs.Project.{Content}
 use Rattle.project_plan.specs.Network.{Member, member_at, plan_of_project, writes_of}
 use Rattle.diag_lines.specs.declared.code.Code.TheVariants.{UnfitConsumer}
@@ -24,8 +23,8 @@ use Rattle.co_diag.specs.Found.{other_counter, unfit_consumers}
 use Rattle.co_diag.specs.Holds.{is_unfit, producer_time}
 use Rattle.configured_nodes.specs.Values.{members, number_after, values_after}
 use Rattle.diag_lines.proofs.ListLemmas.{Contains-nil, Contains-first, Contains-later, Contains-cases}
-use Rattle.co_diag.proofs.KeptLemmas.{consumer_asked, identifier_asked}
-use Rattle.configured_nodes.proofs.ConfiguredLemmas.{number_asked}
+use Rattle.co_diag.proofs.KeptLemmas.{consumer_wanted, identifier_wanted}
+use Rattle.configured_nodes.proofs.WantedLemmas.{number_wanted}
 use Rattle.co_diag.proofs.CounterFound.{all_counters}
 use Rattle.co_diag.proofs.MemberLemmas.{member_found, member_listed}
 
@@ -33,8 +32,8 @@ use Rattle.co_diag.proofs.MemberLemmas.{member_found, member_listed}
 
 pub all_identifiers : (p : Content) → flat_map (identifiers_by (plan_of_project p)) (members p) ≡ identifiers p
 unfolding identifiers identifier_of number_after values_after writes_of
-all_identifiers p = λ i. flat_map (λ (e : ℕ × Member). filter_map (λ place. identifier_asked e.1.sections e.0
-    (node_writes (plan_of_project p) e.1.node.params e.1.sections e.0) place i) (pairs_of e.1.sections)) (members p)
+all_identifiers p = λ i. flat_map (λ (e : ℕ × Member). filter_map (λ place. identifier_wanted
+    (plan_of_project p) e.1.node.params e.1.sections e.0 place i) (pairs_of e.1.sections)) (members p)
 
 -- ---- times
 
@@ -101,8 +100,7 @@ module _ (node : ℕ) where
     unfolding number_after values_after writes_of
     times_are es = λ i. flat_map (λ (e : ℕ × Member). (
       e.0,
-      unwrap_or (number_asked e.1.sections e.0
-          (node_writes (plan_of_project p) e.1.node.params e.1.sections e.0) Bits16 (0x1017, 0) refl i) 0,
+      unwrap_or (number_wanted (plan_of_project p) e.1.node.params e.1.sections e.0 Bits16 (0x1017, 0) refl i) 0,
     ) ∷ []) es
 
     time_among : (es : List (ℕ × Member)) → find (λ t. t.0 == node) (times_of es)
@@ -187,8 +185,8 @@ module _ (p : Content) where
       ≡ unfit_consumers p e
   unfolding unfit_consumers values_after writes_of
   of_member e =
-      (λ i. filter_map (unfit_diagnostic p.manager times) (filter_map (λ place. consumer_asked e.1.sections e.0
-      (node_writes (plan_of_project p) e.1.node.params e.1.sections e.0) place i) (pairs_of e.1.sections)))
+      (λ i. filter_map (unfit_diagnostic p.manager times) (filter_map (λ place. consumer_wanted (plan_of_project p)
+      e.1.node.params e.1.sections e.0 place i) (pairs_of e.1.sections)))
       ∙ picked (consumer_among e.0 e.1.sections (values_after p e.1 e.0)) (unfit_diagnostic p.manager times)
       (unfit_consumer p e) (said_is e) (pairs_of e.1.sections)
 

@@ -5,14 +5,13 @@ use Rattle.std.specs.Prelude.{if◌then◌else◌, option_map, option_and_then}
 use Rattle.std.specs.List.{cons_option, flat_map}
 use Rattle.co_values.specs.declared.form.Width.TheVariants.{Bits8}
 use Rattle.co_params.proofs.WrittenLemmas.{Contains-filter_map, from_filter_map}
-use Rattle.pdo_links.specs.Writes.{node_writes}
 use Rattle.co_project.specs.Project.{Content}
 use Rattle.project_plan.specs.Network.{Member, plan_of_project, writes_of}
 use Rattle.diag_lines.specs.declared.code.Code.TheVariants.{OtherCounter}
 use Rattle.diag_lines.specs.declared.diag.Diag.{Diag}
 use Rattle.diag_lines.specs.declared.subject.Subject.TheVariants as of
 use Rattle.configured_nodes.specs.Values.{members, number_after, number_among, values_after}
-use Rattle.configured_nodes.proofs.ConfiguredLemmas.{number_asked}
+use Rattle.configured_nodes.proofs.WantedLemmas.{number_wanted}
 use Rattle.co_diag.specs.Found.{diagnostic, other_counter}
 use Rattle.co_diag.specs.Holds.{HasOtherCounter, HoldsOf, Holds}
 use Rattle.co_diag.specs.Kept.{counter_diagnostic, counters_by}
@@ -80,8 +79,7 @@ module _ (p : Content) where
   counters_among (e ∷ es) =
       ap (λ (o : Option ℕ). filter_map (counter_diagnostic p.sync_counter) (cons_option (option_map (λ n. (e.0, n)) o) []
       ++ flat_map (counters_by (plan_of_project p)) es))
-      (number_asked e.1.sections e.0 (node_writes (plan_of_project p) e.1.node.params e.1.sections e.0) Bits8 (0x1019, 0)
-      refl)
+      (number_wanted (plan_of_project p) e.1.node.params e.1.sections e.0 Bits8 (0x1019, 0) refl)
       ∙ by (number_among Bits8 e.1.sections (values_after p e.1 e.0) (0x1019, 0)) (counters_among es)
     where
       by : (o : Option ℕ)

@@ -19,7 +19,7 @@ use Rattle.co_fields.specs.CobIds.{identifier_in}
 use Rattle.co_fields.specs.ConsumerHeartbeatTimes.{consumed_node, consumer_time}
 use Rattle.co_diag.specs.Holds.{is_on}
 use Rattle.co_diag.specs.Found.{diagnostic}
-use Rattle.configured_nodes.specs.Configured.{values_by}
+use Rattle.configured_nodes.specs.Wanted.{wanted_by}
 use Rattle.configured_nodes.specs.Values.{number_among}
 
 -- the identifier with which a TPDO is on
@@ -42,16 +42,16 @@ counter_among node ss values = cons_option (option_map (λ n. (node, n)) (number
 
 -- what is kept of a node
 abbrev pub identifiers_by : List PlannedMessage → ℕ × Member → List ℕ
-identifiers_by plan e = filter_map (identifier_among e.1.sections (values_by plan e)) (pairs_of e.1.sections)
+identifiers_by plan e = filter_map (identifier_among e.1.sections (wanted_by plan e)) (pairs_of e.1.sections)
 
 abbrev pub consumers_by : List PlannedMessage → ℕ × Member → List HeartbeatConsumer
-consumers_by plan e = filter_map (consumer_among e.0 e.1.sections (values_by plan e)) (pairs_of e.1.sections)
+consumers_by plan e = filter_map (consumer_among e.0 e.1.sections (wanted_by plan e)) (pairs_of e.1.sections)
 
 abbrev pub times_by : List PlannedMessage → ℕ × Member → List (ℕ × ℕ)
-times_by plan e = (e.0, unwrap_or (number_among Bits16 e.1.sections (values_by plan e) (0x1017, 0)) 0) ∷ []
+times_by plan e = (e.0, unwrap_or (number_among Bits16 e.1.sections (wanted_by plan e) (0x1017, 0)) 0) ∷ []
 
 abbrev pub counters_by : List PlannedMessage → ℕ × Member → List (ℕ × ℕ)
-counters_by plan e = counter_among e.0 e.1.sections (values_by plan e)
+counters_by plan e = counter_among e.0 e.1.sections (wanted_by plan e)
 
 -- the heartbeat time of the manager or a node, by the times of the nodes
 abbrev pub producer_among : ManagerSettings → List (ℕ × ℕ) → ℕ → Option ℕ

@@ -87,8 +87,8 @@ fn find_all(alloc: Global, library: &Library<'_>, plan: &Plan) -> Result<Vec<Dia
 /// The diagnostics of a library's project, by the plan of its messages: all that is wrong with it, each
 /// once, in order.
 ///
-/// Reads each text that the library hasn't read. Else takes time by the number of the texts' warnings, of the entries,
-/// parameters and writes of all nodes, of the messages and the events, and that of the diagnostics
+/// Reads each text that the library hasn't read. Else takes time by the number of the texts' warnings, of the entries
+/// and parameters of all nodes, of the messages for each node and the events, and that of the diagnostics
 /// with its logarithm; memory by the number of diagnostics, the devices of all texts, and the values
 /// of one node at a time. Want of memory is the only error.
 #[tactic(auto, unfolding(crate::specs::Found::diagnostics_of))]

@@ -12,7 +12,7 @@ use crate::devices::device_of;
 use co_dict::Dict;
 use co_fields::{CobId, Identifier};
 use co_project::Node;
-use configured_nodes::{configured_values, unsigned_8, unsigned_16, unsigned_32};
+use configured_nodes::{unsigned_8, unsigned_16, unsigned_32, wanted_values};
 use eds_device::Device;
 use pdo_plan::Plan;
 use project_plan::Library;
@@ -138,7 +138,7 @@ fn keep_device(
     ensures counters { OnOk result (kept.new.counters.items
         ≡ kept.old.counters.items ++ counters_by plan.now (member_of id node.now device.now)) }
 {
-    let values = configured_values(alloc, plan, id, node, device)?;
+    let values = wanted_values(alloc, plan, id, node, device)?;
     keep_identifiers(&mut kept.identifiers, device, &values)?;
     keep_consumers(&mut kept.consumers, id, device, &values)?;
     let time = unsigned_16(device, &values, 0x1017, 0).unwrap_or(0);

@@ -37,7 +37,7 @@ all_short writes all k d lt = (all k d lt).1
 -- ---- what is asked for is as among all defaults
 
 -- the same writes leave the same value where it was the same
-same_after : (m n : Values) (ws : List Write) (q : ℕ × ℕ) → get m q ≡ get n q
+pub same_after : (m n : Values) (ws : List Write) (q : ℕ × ℕ) → get m q ≡ get n q
     → get (after_writes m ws) q ≡ get (after_writes n ws) q
 same_after m n [] q h = h
 same_after m n (w ∷ ws) q h =

@@ -1,3 +1,4 @@
 pub mod Values
 pub mod Configured
 pub mod Doubtful
+pub mod Wanted

@@ -5,7 +5,9 @@
 mod configured;
 mod doubtful_defaults;
 mod doubts;
+mod wanted;
 
 pub use configured::{configured_values, unsigned_8, unsigned_16, unsigned_32};
 pub use doubtful_defaults::{doubtful_places, spells_none};
 pub use doubts::{Doubts, doubts_of};
+pub use wanted::wanted_values;
