@@ -5,7 +5,6 @@ use Rattle.std.specs.Prelude.{ℤ, if◌then◌else◌, is_none, option_map, opt
 use Rattle.std.specs.List.{cons_option}
 use Rattle.std.specs.Option.{option_map_or, option_or}
 use Rattle.byteorder.specs.Endian.{little_bytes}
-use Rattle.ini_text.specs.Content.{Content as Device}
 use Rattle.co_values.specs.declared.data_type.DataType.{DataType}
 use Rattle.co_values.specs.declared.data_type.DataType.TheVariants.{NotModelled}
 use Rattle.co_values.specs.declared.form.Form.{Form}
@@ -15,14 +14,10 @@ use Rattle.co_values.specs.Types.{form, is_modelled, octets}
 use Rattle.co_values.specs.Values.{flag_bits, signed_bits, unsigned_bits, value, value_in}
 use Rattle.eds_device.specs.Described.{Described, default_text, description_of, kind_at}
 use Rattle.eds_device.specs.Entries.{entry_at, entry_by}
-use Rattle.co_project.specs.declared.node.Node.{Node}
-use Rattle.co_project.specs.Project.{Content}
 use Rattle.project_plan.specs.Network.{Member}
 use Rattle.diag_lines.specs.declared.code.Code.TheVariants.{Unreadable}
 use Rattle.diag_lines.specs.declared.diag.Diag.{Diag}
 use Rattle.diag_lines.specs.declared.subject.Subject.TheVariants as of
-use Rattle.configured_nodes.specs.Values.{member_of}
-use Rattle.co_diag.specs.Devices.{device_at, of_node}
 use Rattle.configured_nodes.specs.Doubtful.{doubtful_places, is_doubtful, spells_none as spells_none_of}
 use Rattle.co_diag.specs.Found.{diagnostic, spells_none, unreadable_default, unreadable_defaults}
 use Rattle.eds_device.specs.Places.{pairs_of}
@@ -123,12 +118,3 @@ module _ (e : ℕ × Member) where
   pub doubts_suffice : filter_map (unreadable_default e) (doubtful_places e.1.sections) ≡ unreadable_defaults e
   unfolding unreadable_defaults
   doubts_suffice = found_among (pairs_of e.1.sections)
-
--- what is found of a node at the doubtful entries of its device
-pub of_member : (p : Content) (id : ℕ) (node : Node) (d : Device) (places : List (ℕ × ℕ))
-    → device_at p.texts node.eds ≡ Some d → places ≡ doubtful_places d.sections
-    → filter_map (unreadable_default (member_of id node d)) places ≡ of_node unreadable_defaults p (id, node)
-of_member p id node d places is all =
-    ap (λ ps. filter_map (unreadable_default (member_of id node d)) ps) all
-    ∙ doubts_suffice (member_of id node d)
-    ∙ sym (ap (λ o. option_map_or (λ (it : Device). unreadable_defaults (member_of id node it)) o []) is)

@@ -16,3 +16,5 @@ pub mod CountLemmas
 pub mod ConsumerWalk
 pub mod SetFound
 pub mod DoubtLemmas
+pub mod MetLemmas
+pub mod SheetLemmas

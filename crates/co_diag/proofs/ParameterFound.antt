@@ -31,14 +31,14 @@ use Rattle.co_diag.proofs.MemberLemmas.{entry_of, member_found, member_listed, v
 -- ---- what is found holds
 
 -- the text and the fault of what is found
-record Unfit (e : ℕ × Member) (place : ℕ × ℕ) (d : Diag) : Type 0 where
-  fault : ParameterFault
-  text : List ℕ
-  given : parameter_text e.1.sections e.1.node.params place ≡ Some text
-  fails : parameter_bytes (entry_at e.1.sections e.0 place.0 place.1) text e.0 ≡ Err fault
-  is : diagnostic (parameter_code fault) (of.Param e.0 place.0 place.1) ≡ d
+pub record Unfit (e : ℕ × Member) (place : ℕ × ℕ) (d : Diag) : Type 0 where
+  pub fault : ParameterFault
+  pub text : List ℕ
+  pub given : parameter_text e.1.sections e.1.node.params place ≡ Some text
+  pub fails : parameter_bytes (entry_at e.1.sections e.0 place.0 place.1) text e.0 ≡ Err fault
+  pub is : diagnostic (parameter_code fault) (of.Param e.0 place.0 place.1) ≡ d
 
-unfit_by : (e : ℕ × Member) (place : ℕ × ℕ) (d : Diag) → parameter_diagnostic e place ≡ Some d → Unfit e place d
+pub unfit_by : (e : ℕ × Member) (place : ℕ × ℕ) (d : Diag) → parameter_diagnostic e place ≡ Some d → Unfit e place d
 unfolding parameter_diagnostic
 unfit_by e place d h = with (parameter_text e.1.sections e.1.node.params place) refl h
   where

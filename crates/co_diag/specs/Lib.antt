@@ -4,3 +4,4 @@ pub mod Found
 pub mod Devices
 pub mod Kept
 pub mod Counts
+pub mod Sheets

@@ -1,17 +1,12 @@
-//! The unreadable defaults of the devices of nodes, put at the end of what was found.
-ghost use Rattle.std.specs.Prelude.{◌≡◌, ◌++◌, OnOk, IfOk, IfSome, filter_map};
-ghost use Rattle.std.specs.List.{flat_map};
-ghost use Rattle.co_diag.specs.Devices.{AreAllRead, of_node};
-ghost use Rattle.co_diag.specs.Found.{unreadable_default, unreadable_defaults};
-ghost use Rattle.configured_nodes.specs.Doubtful.{AreDoubts};
-ghost use Rattle.configured_nodes.specs.Values.{member_of, members};
+//! The unreadable defaults of a node's device, put at the end of what was found.
+ghost use Rattle.std.specs.Prelude.{◌≡◌, ◌++◌, OnOk, IfOk, filter_map};
+ghost use Rattle.co_diag.specs.Found.{unreadable_default};
+ghost use Rattle.configured_nodes.specs.Values.{member_of};
 
-use crate::devices::device_of;
 use co_project::Node;
-use configured_nodes::{Doubts, doubts_of, spells_none};
+use configured_nodes::spells_none;
 use diag_lines::{Code, Diag, Subject};
 use eds_device::Device;
-use project_plan::Library;
 use std::alloc::{AllocError, Global};
 
 /// What is said of the default of an entry.
@@ -39,8 +34,8 @@ fn unreadable_default(
     }))
 }
 
-/// Finds those at places of a node's device.
-fn find_at(
+/// Finds the unreadable defaults at places of a node's device.
+pub(crate) fn find_unreadable(
     found: &mut Vec<Diag>,
     alloc: Global,
     id: u8,
@@ -55,49 +50,6 @@ fn find_at(
         if let Some(diag) = unreadable_default(alloc, id, node, device, place.0, place.1)? {
             found.push(diag)?;
         }
-    }
-    Ok(())
-}
-
-/// Finds those of a node, by the doubtful places of the EDS that was looked at last. Returns those of its own.
-fn find_of_node(
-    found: &mut Vec<Diag>,
-    alloc: Global,
-    library: &Library<'_>,
-    last: Option<Doubts>,
-    id: u8,
-    node: &Node,
-) -> Result<Option<Doubts>, AllocError>
-    requires read { AreAllRead library.now }
-    requires last { IfSome last (AreDoubts library.now.project.texts) }
-    ensures found { OnOk result (found.new.items ≡ found.old.items
-        ++ of_node unreadable_defaults library.now.project (id, node.now)) }
-    ensures last { IfOk result (λ last. IfSome last (AreDoubts library.now.project.texts)) }
-{
-    match device_of(library, node.eds.as_slice()) {
-        Some(device) => {
-            let doubts = doubts_of(alloc, library.project(), node.eds.as_slice(), device, last)?;
-            find_at(found, alloc, id, node, device, &doubts.places)?;
-            Ok(Some(doubts))
-        }
-        None => Ok(last),
-    }
-}
-
-/// Finds the unreadable defaults of all nodes. Each default is looked at once for all nodes that follow one another
-/// with its EDS, and at each of them only where it may spell no value at some node.
-pub(crate) fn find_unreadable_defaults(
-    found: &mut Vec<Diag>,
-    alloc: Global,
-    library: &Library<'_>,
-) -> Result<(), AllocError>
-    requires { AreAllRead library.now }
-    ensures { OnOk result (found.new.items ≡ found.old.items
-        ++ flat_map unreadable_defaults (members library.now.project)) }
-{
-    let mut last = None;
-    for (id, node) in library.project().nodes() {
-        last = find_of_node(found, alloc, library, last, *id, node)?;
     }
     Ok(())
 }

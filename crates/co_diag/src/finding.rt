@@ -4,21 +4,21 @@ ghost use Rattle.std.specs.FinMap as table;
 ghost use Rattle.std.specs.List.{flat_map};
 ghost use Rattle.project_plan.specs.Network.{plan_of_project};
 ghost use Rattle.co_diag.specs.Devices.{AreAllRead};
-ghost use Rattle.co_diag.specs.Found.{unfit_parameters, unreadable_defaults, unfit_consumers, shared_identifiers};
+ghost use Rattle.co_diag.specs.Found.{unfit_consumers, shared_identifiers};
 ghost use Rattle.co_diag.specs.Found.{message_faults, remote_type, no_sync, unreached_start, other_counter};
-ghost use Rattle.co_diag.specs.Found.{diagnostics_found, diagnostics_of};
+ghost use Rattle.co_diag.specs.Found.{diagnostics_of};
+ghost use Rattle.co_diag.specs.Sheets.{diagnostics_met};
 ghost use Rattle.configured_nodes.specs.Values.{members};
 
 use crate::consumers::find_unfit_consumers;
 use crate::counters::find_other_counters;
-use crate::defaults::find_unreadable_defaults;
 use crate::devices::read_all;
 use crate::events::find_unfit_events;
 use crate::kept::keep_all;
 use crate::messages::{
     find_message_faults, find_no_syncs, find_remote_types, find_unreached_starts,
 };
-use crate::parameters::find_unfit_parameters;
+use crate::nodes::find_of_nodes;
 use crate::shared::find_shared;
 use crate::texts::find_skipped_lines;
 use co_project::Project;
@@ -68,15 +68,14 @@ fn find_of_messages(
 }
 
 /// Finds all that is wrong.
-#[tactic(auto, unfolding(crate::specs::Found::diagnostics_found))]
+#[tactic(auto, unfolding(crate::specs::Sheets::diagnostics_met))]
 fn find_all(alloc: Global, library: &Library<'_>, plan: &Plan) -> Result<Vec<Diag>, AllocError>
     requires read { AreAllRead library.now }
     requires plan { plan.now ≡ plan_of_project library.now.project }
-    ensures { IfOk result (λ list. list.items ≡ diagnostics_found library.now.project) }
+    ensures { IfOk result (λ list. list.items ≡ diagnostics_met library.now.project) }
 {
     let mut list = Vec::new(alloc);
-    find_unfit_parameters(&mut list, alloc, library)?;
-    find_unreadable_defaults(&mut list, alloc, library)?;
+    find_of_nodes(&mut list, alloc, library)?;
     find_of_configured(&mut list, alloc, library, plan)?;
     find_of_messages(&mut list, alloc, library.project(), plan)?;
     find_unfit_events(&mut list, alloc, library)?;
@@ -88,10 +87,9 @@ fn find_all(alloc: Global, library: &Library<'_>, plan: &Plan) -> Result<Vec<Dia
 /// once, in order.
 ///
 /// Reads each text that the library hasn't read. Else takes time by the number of the texts' warnings, of the entries
-/// and parameters of all nodes, of the messages for each node and the events, and that of the diagnostics
-/// with its logarithm; memory by the number of diagnostics, the devices of all texts, and the values
-/// of one node at a time. Want of memory is the only error.
-#[tactic(auto, unfolding(crate::specs::Found::diagnostics_of))]
+/// of all nodes' data sheets, the parameters and wanted values of all nodes, of the messages for each node and the events, and that of the diagnostics
+/// with its logarithm; memory by the number of diagnostics, the devices of all texts, the
+/// entries of each data sheet that give a parameter or a doubtful default, and the values of one node at a time. Want of memory is the only error.
 pub fn diagnostics_by(
     alloc: Global,
     library: &mut Library<'_>,

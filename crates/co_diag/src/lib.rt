@@ -11,8 +11,10 @@ mod finding;
 mod kept;
 pub mod laws;
 mod messages;
+mod nodes;
 mod parameters;
 mod shared;
+mod sheet;
 mod texts;
 
 pub use finding::{diagnostics, diagnostics_by};

@@ -1,19 +1,14 @@
 //! What is wrong with the parameters of nodes, put at the end of what was found.
 ghost use Rattle.std.specs.Prelude.{◌≡◌, ◌++◌, OnOk, IfOk, filter_map};
 ghost use Rattle.std.specs.FinMap as table;
-ghost use Rattle.std.specs.List.{flat_map};
-ghost use Rattle.eds_device.specs.Places.{pairs_of};
 ghost use Rattle.co_diag.specs.Faults.{parameter_code};
-ghost use Rattle.co_diag.specs.Devices.{AreAllRead, of_node};
-ghost use Rattle.co_diag.specs.Found.{parameter_diagnostic, unfit_parameters};
-ghost use Rattle.configured_nodes.specs.Values.{member_of, members};
+ghost use Rattle.co_diag.specs.Found.{parameter_diagnostic};
+ghost use Rattle.configured_nodes.specs.Values.{member_of};
 
-use crate::devices::device_of;
 use co_params::{ParameterFault, judge, parameter_text};
 use co_project::Node;
 use diag_lines::{Code, Diag, Subject};
 use eds_device::Device;
-use project_plan::Library;
 use std::alloc::{AllocError, Global};
 
 /// The code of a fault.
@@ -54,7 +49,7 @@ fn unfit_parameter(
 }
 
 /// Finds the faults of a node's own parameters.
-fn find_own(
+pub(crate) fn find_own(
     found: &mut Vec<Diag>,
     alloc: Global,
     id: u8,
@@ -73,58 +68,22 @@ fn find_own(
     Ok(())
 }
 
-/// Finds the faults of the parameters of a device's entries.
-fn find_given(
+/// Finds the faults of the parameters of entries of a device.
+pub(crate) fn find_given(
     found: &mut Vec<Diag>,
     alloc: Global,
     id: u8,
     node: &Node,
     device: &Device,
+    places: &[(u16, u8)],
 ) -> Result<(), AllocError>
     ensures { OnOk result (found.new.items ≡ found.old.items
-        ++ filter_map (parameter_diagnostic (member_of id node.now device.now)) (pairs_of device.now.sections)) }
+        ++ filter_map (parameter_diagnostic (member_of id node.now device.now)) places.now) }
 {
-    for (index, sub) in device.pairs() {
+    for (index, sub) in places {
         if let Some(diag) = unfit_parameter(alloc, id, node, device, *index, *sub)? {
             found.push(diag)?;
         }
-    }
-    Ok(())
-}
-
-/// Finds the faults of a node's parameters.
-#[tactic(auto, unfolding(crate::specs::Found::unfit_parameters))]
-fn find_of_node(
-    found: &mut Vec<Diag>,
-    alloc: Global,
-    library: &Library<'_>,
-    id: u8,
-    node: &Node,
-) -> Result<(), AllocError>
-    requires { AreAllRead library.now }
-    ensures { OnOk result (found.new.items ≡ found.old.items
-        ++ of_node unfit_parameters library.now.project (id, node.now)) }
-{
-    let Some(device) = device_of(library, node.eds.as_slice()) else {
-        return Ok(());
-    };
-    find_own(found, alloc, id, node, device)?;
-    find_given(found, alloc, id, node, device)?;
-    Ok(())
-}
-
-/// Finds the faults of the parameters of all nodes.
-pub(crate) fn find_unfit_parameters(
-    found: &mut Vec<Diag>,
-    alloc: Global,
-    library: &Library<'_>,
-) -> Result<(), AllocError>
-    requires { AreAllRead library.now }
-    ensures { OnOk result (found.new.items ≡ found.old.items
-        ++ flat_map unfit_parameters (members library.now.project)) }
-{
-    for (id, node) in library.project().nodes() {
-        find_of_node(found, alloc, library, *id, node)?;
     }
     Ok(())
 }

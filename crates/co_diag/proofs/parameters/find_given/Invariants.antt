@@ -5,4 +5,4 @@ use Rattle.co_diag.proofs.parameters.find_given.Given as goal
 
 abbrev pub invariant-loop-index : goal.invariant-loop-index
 invariant-loop-index l = l.found.items ≡ l.fn.found.items
-    ++ filter_map (parameter_diagnostic (member_of l.id l.node l.device)) (take l.index-index l.index-items)
+    ++ filter_map (parameter_diagnostic (member_of l.id l.node l.device)) (take l.index-index l.places)

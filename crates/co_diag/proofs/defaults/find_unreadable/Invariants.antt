@@ -1,7 +1,7 @@
 use Rattle.std.proofs.Common.{◌≡◌, ◌++◌, filter_map, take}
 use Rattle.configured_nodes.specs.Values.{member_of}
 use Rattle.co_diag.specs.Found.{unreadable_default}
-use Rattle.co_diag.proofs.defaults.find_at.Given as goal
+use Rattle.co_diag.proofs.defaults.find_unreadable.Given as goal
 
 abbrev pub invariant-loop-place : goal.invariant-loop-place
 invariant-loop-place l = l.found.items ≡ l.fn.found.items

@@ -1,0 +1,93 @@
+//! What is wrong with nodes by themselves, put at the end of what was found.
+ghost use Rattle.std.specs.Prelude.{◌≡◌, ◌++◌, All, Contains, IfSome, OnOk};
+ghost use Rattle.std.specs.List.{flat_map};
+ghost use Rattle.co_diag.specs.Devices.{AreAllRead, of_node};
+ghost use Rattle.co_diag.specs.Sheets.{IsSheet, IsSheetOf, said_of_node};
+ghost use Rattle.configured_nodes.specs.Values.{member_of, members};
+
+use crate::defaults::find_unreadable;
+use crate::devices::device_of;
+use crate::parameters::{find_given, find_own};
+use crate::sheet::{Sheet, sheet_of};
+use co_project::Node;
+use diag_lines::Diag;
+use eds_device::Device;
+use project_plan::Library;
+use std::alloc::{AllocError, Global};
+
+/// Finds the faults of a node's parameters, and its unreadable defaults.
+fn find_by_sheet(
+    found: &mut Vec<Diag>,
+    alloc: Global,
+    id: u8,
+    node: &Node,
+    device: &Device,
+    sheet: &Sheet,
+) -> Result<(), AllocError>
+    requires { IsSheetOf device.now sheet.now }
+    ensures { OnOk result (found.new.items
+        ≡ found.old.items ++ said_of_node (member_of id node.now device.now)) }
+{
+    find_own(found, alloc, id, node, device)?;
+    find_given(found, alloc, id, node, device, &sheet.given)?;
+    find_unreadable(found, alloc, id, node, device, &sheet.doubtful)?;
+    Ok(())
+}
+
+/// The data sheet of a name.
+fn find_sheet<'a>(sheets: &'a [Sheet], name: &[u8]) -> Option<&'a Sheet>
+    ensures there { IfSome result (λ sheet. Contains sheets.now sheet.now) }
+    ensures named { IfSome result (λ sheet. sheet.now.name ≡ name.now) }
+{
+    for sheet in sheets {
+        if sheet.name.as_slice() == name {
+            return Some(sheet);
+        }
+    }
+    None
+}
+
+/// Finds them of a node, by the data sheets that were looked at. Keeps its own among them.
+fn find_of_node(
+    found: &mut Vec<Diag>,
+    alloc: Global,
+    library: &Library<'_>,
+    sheets: &mut Vec<Sheet>,
+    id: u8,
+    node: &Node,
+) -> Result<(), AllocError>
+    requires read { AreAllRead library.now }
+    requires sheets { All (IsSheet library.now.project.texts) sheets.old.items }
+    ensures found { OnOk result (found.new.items
+        ≡ found.old.items ++ of_node said_of_node library.now.project (id, node.now)) }
+    ensures sheets { OnOk result (All (IsSheet library.now.project.texts) sheets.new.items) }
+{
+    let name = node.eds.as_slice();
+    let Some(device) = device_of(library, name) else {
+        return Ok(());
+    };
+    if let Some(sheet) = find_sheet(sheets, name) {
+        return find_by_sheet(found, alloc, id, node, device, sheet);
+    }
+    let sheet = sheet_of(alloc, library.project(), name, device)?;
+    find_by_sheet(found, alloc, id, node, device, &sheet)?;
+    sheets.push(sheet)?;
+    Ok(())
+}
+
+/// Finds them of all nodes. Each data sheet is looked at once for all nodes that have it.
+pub(crate) fn find_of_nodes(
+    found: &mut Vec<Diag>,
+    alloc: Global,
+    library: &Library<'_>,
+) -> Result<(), AllocError>
+    requires { AreAllRead library.now }
+    ensures { OnOk result (found.new.items ≡ found.old.items
+        ++ flat_map said_of_node (members library.now.project)) }
+{
+    let mut sheets = Vec::new(alloc);
+    for (id, node) in library.project().nodes() {
+        find_of_node(found, alloc, library, &mut sheets, *id, node)?;
+    }
+    Ok(())
+}
