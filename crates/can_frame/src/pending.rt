@@ -83,8 +83,8 @@ impl Pending {
     }
 
     /// Gives a frame the place of the first one of its purpose, and adds it at the end where none
-    /// of its purpose waits. Walks the list. Want of memory changes nothing, and can come only where
-    /// none of its purpose waits.
+    /// of its purpose waits. Walks the list, and once more where its identifier isn't the one before.
+    /// Want of memory changes nothing, and can come only where none of its purpose waits.
     pub fn replace(&mut self, purpose: Purpose, frame: Frame) -> Result<(), AllocError>
         ensures ok { OnOk result (self.new ≡ with_latest purpose frame self.old) }
         ensures err { OnErr result (self.new ≡ self.old) }
@@ -92,8 +92,11 @@ impl Pending {
     {
         match place_of(&self.frames, purpose) {
             Some(place) => {
+                let was = self.frames[place].frame.id();
                 self.frames[place] = Waiting { purpose, frame };
-                self.least = least_place(&self.frames);
+                if frame.id() != was {
+                    self.least = least_place(&self.frames);
+                }
                 Ok(())
             }
             None => self.add(purpose, frame),
