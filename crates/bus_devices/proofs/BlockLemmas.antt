@@ -1,5 +1,5 @@
 -- Devices by blocks of eight.
-use Rattle.std.proofs.Common.{◌≡◌, ℕ, suc, ◌+◌, ◌-◌, ◌<◌, List, [], ◌∷◌, ◌++◌, length, take, drop, get_or, refl}
+use Rattle.std.proofs.Common.{◌≡◌, ℕ, zero, suc, ◌+◌, ◌-◌, ◌<◌, ◌≤◌, List, [], ◌∷◌, ◌++◌, length, take, drop, get_or, refl}
 use Rattle.std.proofs.Common.{sym, ap, ◌∙◌, append_assoc, subst, arith}
 use Rattle.std.specs.Prelude.{min, OnOk, Result, Ok, Err}
 use Rattle.std.proofs.Math.ListN.{set}
@@ -8,7 +8,8 @@ use Rattle.std.proofs.lemmas.List.{take_all, take_at, take_min, take_more}
 use Rattle.asking.proofs.RecordLemmas.{asked_in_turn}
 use Rattle.asking.specs.Asking.{Asking, Seen, outcome, reads}
 use Rattle.asking.specs.Record.{IsAsked}
-use Rattle.bus_devices.specs.Blocks.{AreAgendasOf}
+use Rattle.bus_devices.specs.Blocks.{AreBlocksOf, IsBlockOf}
+use Rattle.bus_devices.specs.declared.block.Block.{Block}
 use Rattle.asking.specs.Each.{each}
 use Rattle.asking.proofs.EachLemmas.{outcome_each, reads_each}
 use Rattle.co_device.specs.Device.{Device}
@@ -35,27 +36,75 @@ front_is n ds block many e = e ∙ ap (λ (k : ℕ). take k ds) many ∙ take_mi
 pub back_is : (n : ℕ) (ds rest : List Device) → n ≡ min 8 (length ds) → rest ≡ drop n ds → rest ≡ drop 8 ds
 back_is n ds rest many e = e ∙ ap (λ (k : ℕ). drop k ds) many ∙ drop_min 8 ds
 
-pub block_more : (agendas : List Agenda) (a : Agenda) (all ds block rest : List Device) → block ≡ take 8 ds
-    → rest ≡ drop 8 ds → IsAgendaOf a block → ((others : List Agenda) → AreAgendasOf others ds
-    → AreAgendasOf (agendas ++ others) all)
-    → (others : List Agenda) → AreAgendasOf others rest → AreAgendasOf ((agendas ++ a ∷ []) ++ others) all
-block_more agendas a all ds block rest e f h before others left =
-    rw (append_assoc agendas (a ∷ []) others) (before (a ∷ others) (rw e at h, rw f at left))
+pub block_more : (blocks : List Block) (a : Block) (all ds block rest : List Device) → block ≡ take 8 ds
+    → rest ≡ drop 8 ds → IsBlockOf a block → ((others : List Block) → AreBlocksOf others ds
+    → AreBlocksOf (blocks ++ others) all)
+    → (others : List Block) → AreBlocksOf others rest → AreBlocksOf ((blocks ++ a ∷ []) ++ others) all
+block_more blocks a all ds block rest e f h before others left =
+    rw (append_assoc blocks (a ∷ []) others) (before (a ∷ others) (rw e at h, rw f at left))
 
 none_of : (ds : List Device) → length ds ≡ 0 → ds ≡ []
 none_of [] e = refl
 none_of (d ∷ ds) e = absurd (omega (arith, e))
 
-pub all_planned : (agendas : List Agenda) (all ds : List Device) → length ds ≡ 0
-    → ((others : List Agenda) → AreAgendasOf others ds → AreAgendasOf (agendas ++ others) all)
-    → AreAgendasOf agendas all
-all_planned agendas all ds none before = rw (append-nil {A = Agenda} agendas) at (before [] (none_of ds none))
+pub all_planned : (blocks : List Block) (all ds : List Device) → length ds ≡ 0
+    → ((others : List Block) → AreBlocksOf others ds → AreBlocksOf (blocks ++ others) all)
+    → AreBlocksOf blocks all
+all_planned blocks all ds none before = rw (append-nil {A = Block} blocks) at (before [] (none_of ds none))
 
-pub joined : (a others both : Agenda) (agendas : List Agenda) → GivesBoth a others both
-    → ((ds : List Device) → AreAgendasOf agendas ds → IsAgendaOf others ds) → (ds : List Device)
-    → AreAgendasOf (a ∷ agendas) ds → IsAgendaOf both ds
-joined a others both agendas gives rest ds h =
-    rw (take-append-drop {A = Device} 8 ds) at (gives (take 8 ds) (drop 8 ds) h.0 (rest (drop 8 ds) h.1))
+-- ---- what is known of all blocks
+
+-- what is known of devices and others is what `Block::and` gives
+abbrev GivesBlock : Block → Block → Block → Type 0
+GivesBlock a b both = (ds es : List Device) → IsBlockOf a ds → IsBlockOf b es → IsBlockOf both (ds ++ es)
+
+-- it is known of those before, and the blocks that are left are of those behind
+pub record IsKnownSoFar (all : Block) (left : List Block) (ds : List Device) : Type 0 where
+  pub before : List Device
+  pub behind : List Device
+  pub whole : before ++ behind ≡ ds
+  pub known : IsBlockOf all before
+  pub rest : AreBlocksOf left behind
+
+pub none_so_far : (all : Block) (blocks : List Block) (ds : List Device) → IsBlockOf all [] → AreBlocksOf blocks ds
+    → IsKnownSoFar all blocks ds
+none_so_far all blocks ds none h = record { before = []; behind = ds; whole = refl; known = none; rest = h }
+
+one_known : (all a both : Block) (left : List Block) (ds : List Device) → GivesBlock all a both
+    → IsKnownSoFar all (a ∷ left) ds → IsKnownSoFar both left ds
+one_known all a both left ds gives h = record {
+  before = h.before ++ take 8 h.behind;
+  behind = drop 8 h.behind;
+  whole = append_assoc h.before (take 8 h.behind) (drop 8 h.behind)
+      ∙ ap (λ (xs : List Device). h.before ++ xs) (take-append-drop {A = Device} 8 h.behind) ∙ h.whole;
+  known = gives h.before (take 8 h.behind) h.known h.rest.0;
+  rest = h.rest.1;
+}
+
+next_known : (all both d : Block) (blocks : List Block) (i : ℕ) (ds : List Device) → i < length blocks
+    → GivesBlock all (get_or blocks i d) both → IsKnownSoFar all (drop i blocks) ds
+    → IsKnownSoFar both (drop (suc i) blocks) ds
+next_known all both d [] i ds within gives h = absurd (omega (arith, within))
+next_known all both d (b ∷ blocks) zero ds within gives h = one_known all b both blocks ds gives h
+next_known all both d (b ∷ blocks) (suc i) ds within gives h =
+    next_known all both d blocks i ds (omega (arith, within)) gives h
+
+pub one_block_known : (all both d : Block) (blocks : List Block) (i : ℕ) (ds : List Device) → i < length blocks
+    → GivesBlock all (get_or blocks i d) both → IsKnownSoFar all (drop i blocks) ds
+    → IsKnownSoFar both (drop (i + 1) blocks) ds
+one_block_known all both d blocks i ds within gives h =
+    let after : suc i ≡ i + 1 = omega arith in
+    subst (λ (n : ℕ). IsKnownSoFar both (drop n blocks) ds) after (next_known all both d blocks i ds within gives h)
+
+all_known_by : (all : Block) (left : List Block) (ds : List Device) → left ≡ [] → IsKnownSoFar all left ds
+    → IsBlockOf all ds
+all_known_by all [] ds e h = subst (IsBlockOf all) (sym (append-nil {A = Device} h.before)
+    ∙ ap (λ (xs : List Device). h.before ++ xs) (sym h.rest) ∙ h.whole) h.known
+all_known_by all (b ∷ left) ds e h = absurd cc
+
+pub all_known : (all : Block) (blocks : List Block) (i : ℕ) (ds : List Device) → length blocks ≤ i
+    → IsKnownSoFar all (drop i blocks) ds → IsBlockOf all ds
+all_known all blocks i ds past h = all_known_by all (drop i blocks) ds (drop_all i blocks past) h
 
 -- ---- a block and what follows it
 
@@ -68,10 +117,10 @@ back_of : (block rest : List Device) → length block ≡ min 8 (length block + 
 back_of block [] many = ap (drop 8) (append-nil {A = Device} block) ∙ drop_all 8 block (omega (arith, many))
 back_of block (d ∷ rest) many = drop_at block (d ∷ rest) 8 (omega (arith, many))
 
-both_of : (a : Agenda) (agendas : List Agenda) (block rest : List Device)
-    → length block ≡ min 8 (length block + length rest) → IsAgendaOf a block → AreAgendasOf agendas rest
-    → AreAgendasOf (a ∷ agendas) (block ++ rest)
-both_of a agendas block rest many g h = (rw (front_of block rest many) g, rw (back_of block rest many) h)
+both_of : (a : Block) (blocks : List Block) (block rest : List Device)
+    → length block ≡ min 8 (length block + length rest) → IsBlockOf a block → AreBlocksOf blocks rest
+    → AreBlocksOf (a ∷ blocks) (block ++ rest)
+both_of a blocks block rest many g h = (rw (front_of block rest many) g, rw (back_of block rest many) h)
 
 -- ---- each of two lists in turn
 
@@ -117,25 +166,25 @@ module _ (step : Device → Asking Part Content Device) (ds : List Device) where
       (ap (λ (xs : List Device). reads (each step xs) a.image) (sym split)
       ∙ reads_append step (take 8 ds) (drop 8 ds) a.image)
 
-  pub both_agendas : (image : Image) (a : Agenda) (agendas : List Agenda) (block rest : List Device)
+  pub both_blocks : (image : Image) (a : Block) (blocks : List Block) (block rest : List Device)
       → block ≡ outcome (each step (take 8 ds)) image → rest ≡ outcome (each step (drop 8 ds)) image
-      → IsAgendaOf a block → AreAgendasOf agendas rest → AreAgendasOf (a ∷ agendas) (block ++ rest)
-  both_agendas image a agendas block rest e f g h =
+      → IsBlockOf a block → AreBlocksOf blocks rest → AreBlocksOf (a ∷ blocks) (block ++ rest)
+  both_blocks image a blocks block rest e f g h =
       let front : length block ≡ min 8 (length ds) = ap length e ∙ length_each step (take 8 ds) image ∙ length-take 8 ds
       in
       let back : length rest ≡ length ds - 8 = ap length f ∙ length_each step (drop 8 ds) image ∙ length-drop 8 ds in
-      both_of a agendas block rest (omega (arith, front, back)) g h
+      both_of a blocks block rest (omega (arith, front, back)) g h
 
--- ---- what a list of agendas begins with
+-- ---- what a list of blocks begins with
 
-pub opened : (agendas others : List Agenda) (a : Agenda) (ds : List Device) → agendas ≡ a ∷ others
-    → AreAgendasOf agendas ds → IsAgendaOf a (take 8 ds) × AreAgendasOf others (drop 8 ds)
-opened agendas others a ds e h = subst (λ (xs : List Agenda). AreAgendasOf xs ds) e h
+pub opened : (blocks others : List Block) (a : Block) (ds : List Device) → blocks ≡ a ∷ others
+    → AreBlocksOf blocks ds → IsBlockOf a (take 8 ds) × AreBlocksOf others (drop 8 ds)
+opened blocks others a ds e h = subst (λ (xs : List Block). AreBlocksOf xs ds) e h
 
-pub one_set : (agendas : List Agenda) (a : Agenda) → length agendas ≡ 1 → set agendas 0 a ≡ a ∷ []
+pub one_set : (blocks : List Block) (a : Block) → length blocks ≡ 1 → set blocks 0 a ≡ a ∷ []
 one_set [] a e = absurd (omega (arith, e))
 one_set (b ∷ []) a e = refl
-one_set (b ∷ c ∷ agendas) a e = absurd (omega (arith, e))
+one_set (b ∷ c ∷ blocks) a e = absurd (omega (arith, e))
 
 -- ---- where both went well
 

@@ -1,21 +1,21 @@
 -- The winner and who sends, block by block.
-use Rattle.std.proofs.Common.{◌≡◌, ℕ, zero, suc, append_assoc, ◌+◌, ◌<◌, Bool, true, false, List, [], ◌∷◌, ◌++◌, length}
+use Rattle.std.proofs.Common.{◌≡◌, ℕ, zero, suc, ◌+◌, ◌<◌, ◌==◌, ◌&&◌, Bool, true, false, List, [], ◌∷◌, ◌++◌, length}
 use Rattle.std.proofs.Common.{take, drop, get_or, Option, Some, None, refl, sym, ap, ◌∙◌, subst, arith, zero-add}
-use Rattle.std.specs.Prelude.{if◌then◌else◌, nat_lt, not}
-use Rattle.std.specs.List.{AllByRecursion, position, position_or_len}
+use Rattle.std.specs.Prelude.{Contains, if◌then◌else◌, nat_lt, not}
+use Rattle.std.specs.List.{position, position_or_len}
 use Rattle.std.proofs.lemmas.Bool.Decides.{nat_tests}
 use Rattle.std.proofs.lemmas.List.{map-append, take-append-drop}
 use Rattle.std.proofs.lemmas.List.Concat.{flat_map-append}
+use Rattle.std.proofs.lemmas.List.Elements.{All-contains, Contains-append_left, Contains-append_right}
 use Rattle.std.proofs.lemmas.List.Quantifiers.{position-Some}
-use Rattle.can_frame.specs.Winner.{contenders, contenders_of, lower, winner_of, IsWinner}
+use Rattle.can_frame.specs.Winner.{contenders, contenders_of, is_below, lower, winner_of, IsWinner}
 use Rattle.can_frame.specs.declared.contender.Contender.{Contender}
 use Rattle.can_frame.specs.declared.waiting.Waiting.{Waiting}
 use Rattle.can_frame.proofs.WinnerLemmas.{winner-append, winner-unique, winner_of-wins}
 use Rattle.co_device.specs.Device.{Device, without_power}
-use Rattle.device_agenda.specs.Agenda.{IsAgendaOf}
-use Rattle.device_agenda.specs.declared.agenda.Agenda.{Agenda}
-use Rattle.bus_devices.specs.Blocks.{AreAgendasOf}
-use Rattle.bus_devices.specs.Senders.{contends_with, device_lists, is_contender, sender_place}
+use Rattle.bus_devices.specs.Blocks.{AreBlocksOf}
+use Rattle.bus_devices.specs.Senders.{contends_with, device_lists, is_contender, may_wait_at, sender_place}
+use Rattle.bus_devices.specs.declared.block.Block.{Block}
 
 -- ---- who wins
 
@@ -27,70 +27,11 @@ pub lower_none : (o : Option Contender) → o ≡ lower o None
 lower_none None = refl
 lower_none (Some c) = refl
 
--- no frame waits
-abbrev AreSilent : List Device → Type 0
-AreSilent ds = AllByRecursion (λ d. d.waiting ≡ []) ds
-
-none_contends : (ds : List Device) → AreSilent ds → contenders (device_lists ds) ≡ []
-none_contends [] h = refl
-none_contends (d ∷ ds) h = ap (λ (frames : List Waiting). contenders_of (d.number, frames)
-    ++ contenders (device_lists ds)) h.0 ∙ none_contends ds h.1
-
--- ---- block after block
-
-next_from : (agendas : List Agenda) (i : ℕ) (rest : List Device) → i < length agendas
-    → AreAgendasOf (drop i agendas) rest → AreAgendasOf (drop (suc i) agendas) (drop 8 rest)
-next_from [] i rest within h = absurd (omega (arith, within))
-next_from (a ∷ agendas) zero rest within h = h.1
-next_from (a ∷ agendas) (suc i) rest within h = next_from agendas i rest (omega (arith, within)) h
-
-next_left : (agendas : List Agenda) (i : ℕ) (rest : List Device) → i < length agendas
-    → AreAgendasOf (drop i agendas) rest → AreAgendasOf (drop (i + 1) agendas) (drop 8 rest)
-next_left agendas i rest within h =
-    let after : suc i ≡ i + 1 = omega arith in
-    subst (λ (n : ℕ). AreAgendasOf (drop n agendas) (drop 8 rest)) after (next_from agendas i rest within h)
-
-of_both : (xs ys : List Device) → contenders (device_lists (xs ++ ys))
+pub of_both : (xs ys : List Device) → contenders (device_lists (xs ++ ys))
     ≡ contenders (device_lists xs) ++ contenders (device_lists ys)
 of_both xs ys =
     let list_of : Device → ℕ × List Waiting = λ d. (d.number, d.waiting) in
     ap contenders (map-append list_of xs ys) ∙ flat_map-append contenders_of (device_lists xs) (device_lists ys)
-
--- the agenda at the front of those that are left is of the next block
-agenda_here : (agendas : List Agenda) (i : ℕ) (a : Agenda) (rest : List Device) → i < length agendas
-    → AreAgendasOf (drop i agendas) rest → IsAgendaOf (get_or agendas i a) (take 8 rest)
-agenda_here [] i a rest within h = absurd (omega (arith, within))
-agenda_here (b ∷ agendas) zero a rest within h = h.0
-agenda_here (b ∷ agendas) (suc i) a rest within h = agenda_here agendas i a rest (omega (arith, within)) h
-
--- where it says so, no frame waits there
-pub none_here : (agendas : List Agenda) (i : ℕ) (a : Agenda) (rest block : List Device) → i < length agendas
-    → block ≡ take 8 rest → AreAgendasOf (drop i agendas) rest → (get_or agendas i a).waits ≡ false
-    → contenders (device_lists block) ≡ []
-none_here agendas i a rest block within e h off =
-    none_contends block (subst AreSilent (sym e) ((agenda_here agendas i a rest within h).silent off))
-
--- the agendas that are left are of the devices that are left, and the best so far wins among the others
-abbrev pub AreWonSoFar : List Agenda → List Device → List Device → Option Contender → Type 0
-AreWonSoFar agendas rest all best = AreAgendasOf agendas rest
-    × ((before : List Device) × ((before ++ rest ≡ all) × IsWinner (contenders (device_lists before)) best))
-
-pub block_won : (agendas : List Agenda) (i : ℕ) (all rest block others : List Device) (best one next : Option Contender)
-    → i < length agendas → block ≡ take 8 rest → others ≡ drop 8 rest
-    → IsWinner (contenders (device_lists block)) one → next ≡ lower best one
-    → AreWonSoFar (drop i agendas) rest all best → AreWonSoFar (drop (i + 1) agendas) others all next
-block_won agendas i all rest block others best one next within e f wins is h =
-    let before : List Device = h.1.0 in
-    let whole : block ++ others ≡ rest = ap (λ (xs : List Device). xs ++ others) e
-    ∙ ap (λ (xs : List Device). take 8 rest ++ xs) f ∙ take-append-drop {A = Device} 8 rest in
-    let split : (before ++ block) ++ others ≡ all = append_assoc before block others
-    ∙ ap (λ (xs : List Device). before ++ xs) whole ∙ h.1.1.0 in
-    let won : IsWinner (contenders (device_lists (before ++ block))) next =
-    rw (of_both before block, is) (winner-append (contenders (device_lists before))
-    (contenders (device_lists block)) best one h.1.1.1 wins) in (
-      subst (AreAgendasOf (drop (i + 1) agendas)) (sym f) (next_left agendas i rest within h.0),
-      (before ++ block, (split, won)),
-    )
 
 -- ---- the first place of two lists
 
@@ -175,28 +116,89 @@ module _ {X : Type 0} (p : X → Bool) where
       ∙ missed_by (p x) (position p xs) (position p (xs ++ ys)) (position p ys) (length xs) (found_later xs ys)
       (sym (position_more x xs) ∙ e)
 
+-- of devices and others the lower of the winners wins
+pub best_of_both : (xs ys : List Device) (a b best : Option Contender) → IsWinner (contenders (device_lists xs)) a
+    → IsWinner (contenders (device_lists ys)) b → best ≡ lower a b → IsWinner (contenders (device_lists (xs ++ ys))) best
+best_of_both xs ys a b best g h e =
+    rw (of_both xs ys, e) (winner-append (contenders (device_lists xs)) (contenders (device_lists ys)) a b g h)
+
 -- ---- who sends
 
-module _ (c : Contender) where
-  contends_not : (d : Device) → d.waiting ≡ [] → contends_with c d ≡ false
-  contends_not d e = ap (λ (frames : List Waiting). is_contender c (winner_of (contenders_of (d.number, frames)))) e
+all_three : (x y z : Bool) → x && (y && z) ≡ true → (x ≡ true) × ((y ≡ true) × (z ≡ true))
+all_three true true true e = (refl, (refl, refl))
+all_three true true false e = absurd cc
+all_three true false z e = absurd cc
+all_three false y z e = absurd cc
 
-  none_at : (ds : List Device) → AreSilent ds → position (contends_with c) ds ≡ None
+is_same : (m n : ℕ) → (m == n) ≡ true → m ≡ n
+is_same m n e = grind (arith, nat_tests)
+
+contender_is : (b c : Contender) → is_contender c (Some b) ≡ true → b ≡ c
+contender_is b c e =
+    let same = all_three (b.id == c.id) (b.node == c.node) (b.place == c.place) e in
+    let made : ℕ → ℕ → ℕ → Contender = λ id node place. record { id = id; node = node; place = place } in
+    ap (λ id. made id b.node b.place) (is_same b.id c.id same.0)
+    ∙ ap (λ node. made c.id node b.place) (is_same b.node c.node same.1.0)
+    ∙ ap (λ place. made c.id c.node place) (is_same b.place c.place same.1.1)
+
+not_true : (x : Bool) → (x ≡ true → ⊥) → x ≡ false
+not_true true h = absurd (h refl)
+not_true false h = refl
+
+module _ (c : Contender) where
+  winner_contains : (cs : List Contender) (o : Option Contender) → IsWinner cs o → is_contender c o ≡ true
+      → Contains cs c
+  winner_contains cs None h e = absurd cc
+  winner_contains cs (Some b) h e = subst (Contains cs) (contender_is b c e) h.0
+
+  contender_waits : (d : Device) → contends_with c d ≡ true → Contains (contenders_of (d.number, d.waiting)) c
+  contender_waits d e =
+      let cs : List Contender = contenders_of (d.number, d.waiting) in
+      winner_contains cs (winner_of cs) (winner_of-wins cs) e
+
+  none_at : (ds : List Device) → (Contains (contenders (device_lists ds)) c → ⊥)
+      → position (contends_with c) ds ≡ None
   none_at [] h = refl
   none_at (d ∷ ds) h =
+      let front : List Contender = contenders_of (d.number, d.waiting) in
+      let back : List Contender = contenders (device_lists ds) in
       position_more (contends_with c) d ds
-      ∙ ap (λ (b : Bool). if b then Some 0 else after_one (position (contends_with c) ds)) (contends_not d h.0)
-      ∙ ap after_one (none_at ds h.1)
+      ∙ ap (λ (b : Bool). if b then Some 0 else after_one (position (contends_with c) ds))
+      (not_true (contends_with c d) (λ e. h (Contains-append_left front back c (contender_waits d e))))
+      ∙ ap after_one (none_at ds (λ g. h (Contains-append_right front back c g)))
 
-  pub none_sends : (ds : List Device) → AreSilent ds → None ≡ sender_place c ds
+  nothing_contained : (cs : List Contender) → cs ≡ [] → Contains cs c → ⊥
+  nothing_contained cs e h = let empty : length cs ≡ 0 = ap length e in omega (arith, h.1)
+
+  is_true : (b : Bool) → not b ≡ false → b ≡ true
+  is_true true e = refl
+  is_true false e = absurd cc
+
+  both_ways : (b : Bool) → b ≡ true → b ≡ false → ⊥
+  both_ways true e f = cc
+  both_ways false e f = cc
+
+  not_contained : (cs : List Contender) (best : Option Contender) → IsWinner cs best → may_wait_at c best ≡ false
+      → Contains cs c → ⊥
+  not_contained cs None h e = nothing_contained cs h
+  not_contained cs (Some b) h e = λ g. both_ways (is_below c b) (is_true (is_below c b) e)
+      (All-contains (λ d. is_below d b ≡ false) cs c h.1 g)
+
+  -- where a lower frame waits than the contender, it doesn't
+  pub none_sends : (ds : List Device) (best : Option Contender) → IsWinner (contenders (device_lists ds)) best
+      → may_wait_at c best ≡ false → None ≡ sender_place c ds
   unfolding sender_place
-  none_sends ds h = sym (none_at ds h)
+  none_sends ds best h e = sym (none_at ds (not_contained (contenders (device_lists ds)) best h e))
 
-  -- without agendas there are no devices
-  pub nowhere_in : (agendas : List Agenda) (ds : List Device) → length agendas ≡ 0 → AreAgendasOf agendas ds
+  no_device : None ≡ sender_place c []
+  unfolding sender_place
+  no_device = refl
+
+  -- without blocks there are no devices
+  pub nowhere_in : (blocks : List Block) (ds : List Device) → length blocks ≡ 0 → AreBlocksOf blocks ds
       → None ≡ sender_place c ds
-  nowhere_in [] ds e h = subst (λ (xs : List Device). None ≡ sender_place c xs) (sym h) (none_sends [] tt)
-  nowhere_in (a ∷ agendas) ds e h = absurd (omega (arith, e))
+  nowhere_in [] ds e h = subst (λ (xs : List Device). None ≡ sender_place c xs) (sym h) no_device
+  nowhere_in (a ∷ blocks) ds e h = absurd (omega (arith, e))
 
   module _ (ds : List Device) where
     whole : position (contends_with c) (take 8 ds ++ drop 8 ds) ≡ position (contends_with c) ds

@@ -1,10 +1,29 @@
 -- Blocks of eight devices.
-use Rattle.std.specs.Prelude.{◌≡◌, List, [], ◌∷◌, take, drop}
+use Rattle.std.specs.Prelude.{◌≡◌, ℕ, List, [], ◌∷◌, slice_set, take, drop}
+use Rattle.bus_devices.specs.Senders.{device_lists}
+use Rattle.bus_devices.specs.declared.block.Block.{Block}
+use Rattle.can_frame.specs.Winner.{contenders, IsWinner}
 use Rattle.co_device.specs.Device.{Device}
 use Rattle.device_agenda.specs.Agenda.{IsAgendaOf}
-use Rattle.device_agenda.specs.declared.agenda.Agenda.{Agenda}
 
--- agendas of the devices, of eight at a time
-abbrev pub AreAgendasOf : List Agenda → List Device → Type 0
-AreAgendasOf [] ds = ds ≡ []
-AreAgendasOf (a ∷ agendas) ds = IsAgendaOf a (take 8 ds) × AreAgendasOf agendas (drop 8 ds)
+-- what is known of devices: their agenda, and which of the frames that wait at them wins
+pub record IsBlockOf (block : Block) (ds : List Device) : Type 0 where
+  pub agenda : IsAgendaOf block.agenda ds
+  pub best : IsWinner (contenders (device_lists ds)) block.best
+
+-- blocks of the devices, of eight at a time
+abbrev pub AreBlocksOf : List Block → List Device → Type 0
+AreBlocksOf [] ds = ds ≡ []
+AreBlocksOf (block ∷ blocks) ds = IsBlockOf block (take 8 ds) × AreBlocksOf blocks (drop 8 ds)
+
+-- blocks of the devices as they were, where since then the device at a place alone has changed
+pub record AreBlocksBut (i : ℕ) (blocks : List Block) (ds : List Device) : Type 0 where
+  pub before : List Device
+  pub now : Device
+  pub of : AreBlocksOf blocks before
+  pub changed : ds ≡ slice_set before i now
+
+-- what is known of the devices of a bus: of each eight of them, and of all
+pub record AreKnown (blocks : List Block) (whole : Block) (ds : List Device) : Type 0 where
+  pub each : AreBlocksOf blocks ds
+  pub all : IsBlockOf whole ds

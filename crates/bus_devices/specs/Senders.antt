@@ -1,8 +1,8 @@
 -- The devices that contend for a bus.
-use Rattle.std.specs.Prelude.{ℕ, ◌==◌, ◌&&◌, Bool, false, List, map, remove, slice_set, Option, Some, None}
+use Rattle.std.specs.Prelude.{ℕ, ◌==◌, ◌&&◌, not, Bool, false, List, map, remove, slice_set, Option, Some, None}
 use Rattle.std.specs.List.{position}
 use Rattle.bus_events.specs.Places.{device_at}
-use Rattle.can_frame.specs.Winner.{contenders_of, winner_of}
+use Rattle.can_frame.specs.Winner.{contenders_of, is_below, winner_of}
 use Rattle.can_frame.specs.declared.contender.Contender.{Contender}
 use Rattle.can_frame.specs.declared.waiting.Waiting.{Waiting}
 use Rattle.co_device.specs.Device.{Device}
@@ -18,6 +18,11 @@ is_contender c (Some b) = (b.id == c.id) && ((b.node == c.node) && (b.place == c
 -- it is this device that contends with the frame
 abbrev pub contends_with : Contender → Device → Bool
 contends_with c d = is_contender c (winner_of (contenders_of (d.number, d.waiting)))
+
+-- a frame can be one of those of which this is the least: it isn't below it
+abbrev pub may_wait_at : Contender → Option Contender → Bool
+may_wait_at c None = false
+may_wait_at c (Some best) = not (is_below c best)
 
 -- the place of the first device that contends with the frame
 unfoldable pub sender_place : Contender → List Device → Option ℕ

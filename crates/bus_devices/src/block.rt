@@ -1,14 +1,15 @@
-//! What a few devices of a bus do.
+//! What a few devices of a bus do, and what is known of them.
 
-ghost use Rattle.std.specs.Prelude.{◌≡◌, ◌<◌, option_copied, OnOk};
+ghost use Rattle.std.specs.Prelude.{◌≡◌, ◌<◌, ◌++◌, [], List, option_copied, OnOk};
 ghost use Rattle.asking.specs.Asking.{outcome};
 ghost use Rattle.asking.specs.Record.{IsAsked, Lasts};
+ghost use Rattle.bus_devices.specs.Blocks.{IsBlockOf};
 ghost use Rattle.bus_devices.specs.Numbers.{device_of as first_of, values_of as first_values_of};
 ghost use Rattle.bus_devices.specs.Senders.{contends_with as contends, device_lists, is_contender, sender_place};
 ghost use Rattle.asking.specs.Each.{each};
 ghost use Rattle.can_frame.specs.Winner.{contenders, IsWinner};
 ghost use Rattle.co_base.specs.Moments.{earliest};
-ghost use Rattle.co_device.specs.Device.{moments};
+ghost use Rattle.co_device.specs.Device.{Device, moments};
 ghost use Rattle.std.specs.List.{flat_map};
 ghost use Rattle.device_agenda.specs.Agenda.{at_instant, IsAgendaOf};
 
@@ -20,8 +21,49 @@ use device_agenda::{Agenda, Delivery, SharedDevice};
 use device_objects::Shapes;
 use std::alloc::AllocError;
 
+/// What is known of devices that follow one another: it follows from them.
+#[derive(Clone, Copy, Debug)]
+pub(crate) struct Block {
+    /// When they have to run.
+    pub agenda: Agenda,
+    /// The least frame that waits at one of them, if one waits.
+    pub best: Option<Contender>,
+}
+
+impl Block {
+    /// That of no device.
+    pub(crate) fn none() -> Block
+        ensures { IsBlockOf result [] }
+    {
+        Block {
+            agenda: Agenda::none(),
+            best: None,
+        }
+    }
+
+    /// That of devices. Walks them.
+    pub(crate) fn of(devices: &[SharedDevice]) -> Block
+        ensures { IsBlockOf result devices.now }
+    {
+        Block {
+            agenda: agenda_of(devices),
+            best: winner_of(devices),
+        }
+    }
+
+    /// That of these devices and others.
+    pub(crate) fn and(self, other: &Block) -> Block
+        ensures { (ds es : List Device) → IsBlockOf self ds → IsBlockOf other.now es → IsBlockOf result (ds ++ es) }
+    {
+        Block {
+            agenda: self.agenda.and(other.agenda),
+            best: Contender::lower(self.best, other.best),
+        }
+    }
+}
+
 /// The agenda of devices.
-pub(crate) fn agenda_of(devices: &[SharedDevice]) -> Agenda
+fn agenda_of(devices: &[SharedDevice]) -> Agenda
     ensures { IsAgendaOf result devices.now }
 {
     let mut agenda = Agenda::none();

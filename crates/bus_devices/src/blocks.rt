@@ -1,22 +1,18 @@
 //! Devices by blocks of eight.
 
-ghost use Rattle.std.specs.List.{flat_map, list_any};
-ghost use Rattle.std.specs.Prelude.{false, ◌≡◌, ◌<◌, List, min, OnOk};
+ghost use Rattle.std.specs.Prelude.{◌≡◌, ◌<◌, List, min, OnOk};
 ghost use Rattle.asking.specs.Asking.{outcome};
 ghost use Rattle.asking.specs.Record.{IsAsked, Lasts};
-ghost use Rattle.bus_devices.specs.Blocks.{AreAgendasOf};
-ghost use Rattle.bus_devices.specs.Senders.{device_lists, sender_place as place_of};
+ghost use Rattle.bus_devices.specs.Blocks.{AreBlocksBut, AreBlocksOf, IsBlockOf};
+ghost use Rattle.bus_devices.specs.Senders.{may_wait_at, sender_place as place_of};
 ghost use Rattle.asking.specs.Each.{each};
-ghost use Rattle.can_frame.specs.Winner.{contenders, IsWinner};
-ghost use Rattle.co_device.specs.Device.{Device, moments};
-ghost use Rattle.co_base.specs.Moments.{earliest};
-ghost use Rattle.device_agenda.specs.Agenda.{at_instant, IsAgendaOf};
+ghost use Rattle.co_device.specs.Device.{Device};
+ghost use Rattle.device_agenda.specs.Agenda.{at_instant};
 
-use crate::block::{agenda_of, place_of_sender, run_each, winner_of};
+use crate::block::{Block, place_of_sender, run_each};
 use can_frame::Contender;
-use co_base::earlier;
 use co_parts::END;
-use device_agenda::{Agenda, Delivery, SharedDevice};
+use device_agenda::{Delivery, SharedDevice};
 use device_objects::Shapes;
 use std::alloc::AllocError;
 
@@ -30,151 +26,135 @@ fn first_block(count: usize) -> usize
     BLOCK.min(count)
 }
 
-/// Works the agendas of all blocks out. Walks the devices.
-pub(crate) fn plan(agendas: &mut Vec<Agenda>, devices: &[SharedDevice]) -> Result<(), AllocError>
-    ensures { OnOk result (AreAgendasOf agendas.new.items devices.now) }
+/// Works out what is known of all blocks. Walks the devices.
+pub(crate) fn plan(blocks: &mut Vec<Block>, devices: &[SharedDevice]) -> Result<(), AllocError>
+    ensures { OnOk result (AreBlocksOf blocks.new.items devices.now) }
 {
-    agendas.clear();
+    blocks.clear();
     let mut rest = devices;
     'planning: while !rest.is_empty() {
-        let (block, others) = rest.split_at(first_block(rest.len()));
-        let agenda = agenda_of(block);
-        agendas.push(agenda)?;
+        let (devices, others) = rest.split_at(first_block(rest.len()));
+        let block = Block::of(devices);
+        blocks.push(block)?;
         rest = others;
     }
     Ok(())
 }
 
-/// Runs the devices of a block, where one has to run, and then works its agenda out anew.
+/// Runs the devices of a block, where one has to run, and then works out anew what is known of them.
 fn run_block<P: Shapes>(
-    agenda: &mut Agenda,
+    block: &mut Block,
     devices: &mut [SharedDevice],
     t: u64,
     delivery: &Option<Delivery>,
     shapes: &mut P,
 ) -> Result<(), AllocError>
     requires soon { t < END }
-    requires known { IsAgendaOf agenda.old devices.old }
-    ensures agenda { OnOk result (IsAgendaOf agenda.new devices.new) }
+    requires known { IsBlockOf block.old devices.old }
+    ensures block { OnOk result (IsBlockOf block.new devices.new) }
     ensures state { OnOk result (devices.new ≡ outcome (each (at_instant t delivery.now) devices.old)
         (P.seen shapes.old).image) }
     ensures asked { OnOk result (IsAsked (each (at_instant t delivery.now) devices.old)
         (P.seen shapes.old) (P.seen shapes.new) (P.asks shapes.old) (P.asks shapes.new)) }
     ensures lasts { Lasts (P.seen shapes.old) (P.seen shapes.new) }
 {
-    if agenda.sleeps_through(t, delivery) {
+    if block.agenda.sleeps_through(t, delivery) {
         return Ok(());
     }
     run_each(devices, t, delivery, shapes)?;
-    *agenda = agenda_of(devices);
+    *block = Block::of(devices);
     Ok(())
 }
 
 /// Runs the devices of each block that has to run, one block after another. Goes as deep as there are blocks.
 pub(crate) fn run_blocks<P: Shapes>(
-    agendas: &mut [Agenda],
+    blocks: &mut [Block],
     devices: &mut [SharedDevice],
     t: u64,
     delivery: &Option<Delivery>,
     shapes: &mut P,
 ) -> Result<(), AllocError>
     requires soon { t < END }
-    requires known { AreAgendasOf agendas.old devices.old }
-    ensures agendas { OnOk result (AreAgendasOf agendas.new devices.new) }
+    requires known { AreBlocksOf blocks.old devices.old }
+    ensures blocks { OnOk result (AreBlocksOf blocks.new devices.new) }
     ensures state { OnOk result (devices.new ≡ outcome (each (at_instant t delivery.now) devices.old)
         (P.seen shapes.old).image) }
     ensures asked { OnOk result (IsAsked (each (at_instant t delivery.now) devices.old)
         (P.seen shapes.old) (P.seen shapes.new) (P.asks shapes.old) (P.asks shapes.new)) }
     ensures lasts { Lasts (P.seen shapes.old) (P.seen shapes.new) }
 {
-    if agendas.is_empty() {
+    if blocks.is_empty() {
         return Ok(());
     }
-    let (firsts, others) = agendas.split_at_mut(1);
+    let (firsts, others) = blocks.split_at_mut(1);
     let (block, rest) = devices.split_at_mut(first_block(devices.len()));
     run_block(&mut firsts[0], block, t, delivery, shapes)?;
     run_blocks(others, rest, t, delivery, shapes)
 }
 
-/// Works the agenda of the block of a place out anew.
-pub(crate) fn plan_block(agendas: &mut [Agenda], devices: &[SharedDevice], i: usize)
-    requires { AreAgendasOf agendas.old devices.now }
-    ensures { AreAgendasOf agendas.new devices.now }
+/// Works out anew what is known of the block of a place, after the device there has changed.
+pub(crate) fn plan_block(blocks: &mut [Block], devices: &[SharedDevice], i: usize)
+    requires { AreBlocksBut i blocks.old devices.now }
+    ensures { AreBlocksOf blocks.new devices.now }
 {
-    if agendas.is_empty() {
+    if blocks.is_empty() {
         return;
     }
-    let (firsts, others) = agendas.split_at_mut(1);
+    let (firsts, others) = blocks.split_at_mut(1);
     let (block, rest) = devices.split_at(first_block(devices.len()));
     if i < BLOCK {
-        firsts[0] = agenda_of(block);
-    } else {
-        plan_block(others, rest, i - BLOCK);
+        firsts[0] = Block::of(block);
+        return;
     }
+    plan_block(others, rest, i - BLOCK);
 }
 
-/// Whether one of the agendas is of a device that is awake.
-pub(crate) fn is_awake(agendas: &[Agenda]) -> bool
-    ensures { result ≡ list_any (λ a. a.awake) agendas.now }
+/// What is known of the devices of all blocks. Walks the blocks.
+pub(crate) fn all_of(blocks: &[Block]) -> Block
+    ensures { (devices : List Device) → AreBlocksOf blocks.now devices → IsBlockOf result devices }
 {
-    agendas.iter().any(|agenda| agenda.awake)
+    let mut all = Block::none();
+    for block in blocks {
+        all = all.and(block);
+    }
+    all
 }
 
-/// The first moment at which a device of the blocks is due, if there is one, where none of them is awake. Walks
-/// the agendas.
-pub(crate) fn first_of(agendas: &[Agenda]) -> Option<u64>
-    ensures { (devices : List Device) → AreAgendasOf agendas.now devices → list_any (λ a. a.awake) agendas.now ≡ false
-        → result ≡ earliest (flat_map moments devices) }
+/// Whether a frame can be one of those waiting at devices, of which this is the least.
+fn may_wait_at(contender: &Contender, best: &Option<Contender>) -> bool
+    ensures { result ≡ may_wait_at contender.now best.now }
 {
-    let mut first = None;
-    for agenda in agendas {
-        first = earlier(first, agenda.due);
+    match best {
+        None => false,
+        Some(best) => !contender.is_below(best),
     }
-    first
-}
-
-/// The least frame that waits at one of the devices. Walks the agendas, and the blocks where frames may wait.
-pub(crate) fn winner(agendas: &[Agenda], devices: &[SharedDevice]) -> Option<Contender>
-    requires { AreAgendasOf agendas.now devices.now }
-    ensures { IsWinner (contenders (device_lists devices.now)) result }
-{
-    let mut best = None;
-    let mut rest = devices;
-    for agenda in agendas {
-        let (block, others) = rest.split_at(first_block(rest.len()));
-        if agenda.waits {
-            best = Contender::lower(best, winner_of(block));
-        }
-        rest = others;
-    }
-    best
 }
 
 /// The place of the first device of a block that contends with a frame.
-fn place_in(contender: &Contender, agenda: &Agenda, devices: &[SharedDevice]) -> Option<usize>
-    requires { IsAgendaOf agenda.now devices.now }
+fn place_in(contender: &Contender, block: &Block, devices: &[SharedDevice]) -> Option<usize>
+    requires { IsBlockOf block.now devices.now }
     ensures { result ≡ place_of contender.now devices.now }
 {
-    if agenda.waits {
+    if may_wait_at(contender, &block.best) {
         place_of_sender(contender, devices)
     } else {
         None
     }
 }
 
-/// The place of the first device that contends with a frame. Walks the agendas, and the blocks where frames
-/// may wait.
+/// The place of the first device that contends with a frame. Walks the blocks, and the devices of those where
+/// no lower frame waits.
 pub(crate) fn sender_place(
     contender: &Contender,
-    agendas: &[Agenda],
+    blocks: &[Block],
     devices: &[SharedDevice],
 ) -> Option<usize>
-    requires { AreAgendasOf agendas.now devices.now }
+    requires { AreBlocksOf blocks.now devices.now }
     ensures { result ≡ place_of contender.now devices.now }
 {
-    let (agenda, others) = agendas.split_first()?;
+    let (first, others) = blocks.split_first()?;
     let (block, rest) = devices.split_at(first_block(devices.len()));
-    if let Some(place) = place_in(contender, agenda, block) {
+    if let Some(place) = place_in(contender, first, block) {
         return Some(place);
     }
     let place = sender_place(contender, others, rest)?;

@@ -14,26 +14,27 @@ ghost use Rattle.co_device.specs.Device.{moments};
 ghost use Rattle.co_base.specs.Moments.{earliest};
 ghost use Rattle.device_agenda.specs.Agenda.{at_instant};
 
-use crate::block::{first_due, place_of_sender, values_of, winner_of};
-use crate::blocks::{first_of, is_awake, plan, plan_block, run_blocks, sender_place, winner};
+use crate::block::{Block, first_due, place_of_sender, values_of, winner_of};
+use crate::blocks::{all_of, plan, plan_block, run_blocks, sender_place};
 use crate::lists::{copy_all, same_all};
 use can_frame::{Contender, Waiting};
 use co_dict::Dict;
 use co_parts::END;
-use device_agenda::{Agenda, Delivery, SharedDevice};
+use device_agenda::{Delivery, SharedDevice};
 use device_objects::Shapes;
 use std::alloc::{AllocError, Global};
 use std::marker::Model;
 
 /// The devices of a bus at a moment.
 ///
-/// Those that have nothing to do are passed over: of each eight devices it is known when they have to run, and
-/// whether a frame may wait at one of them. This follows from the devices, and is no part of them.
+/// Those that have nothing to do are passed over: of each eight devices, and of all, it is known when they have
+/// to run, and which of their frames wins. This follows from the devices, and is no part of them.
 #[derive(Drop)]
 pub struct Devices {
     alloc: Global,
     devices: Vec<SharedDevice>,
-    agendas: Vec<Agenda>,
+    blocks: Vec<Block>,
+    all: Block,
     known: bool,
 }
 
@@ -43,7 +44,7 @@ impl Model for Devices {
     ghost use Rattle.std.specs.FinMap as map;
     ghost use Rattle.co_dict.specs.Places.{place_cmp};
     ghost use Rattle.co_device.specs.Device.{Device};
-    ghost use Rattle.bus_devices.specs.Blocks.{AreAgendasOf};
+    ghost use Rattle.bus_devices.specs.Blocks.{AreKnown};
 
     ghost Value = { List Device };
 
@@ -51,7 +52,7 @@ impl Model for Devices {
 
     ghost view = { λ d. d.devices.items };
 
-    ghost invariant = { λ d. d.known ≡ true → AreAgendasOf d.agendas.items d.devices.items };
+    ghost invariant = { λ d. d.known ≡ true → AreKnown d.blocks.items d.all d.devices.items };
 }
 
 impl Devices {
@@ -69,7 +70,8 @@ impl Devices {
         Devices {
             alloc,
             devices,
-            agendas: Vec::new(alloc),
+            blocks: Vec::new(alloc),
+            all: Block::none(),
             known: false,
         }
     }
@@ -86,11 +88,12 @@ impl Devices {
         ensures { IfOk result (λ devices. devices ≡ self.now) }
     {
         let devices = copy_all(self.alloc, &self.devices)?;
-        let agendas = Vec::from_slice(self.alloc, &self.agendas)?;
+        let blocks = Vec::from_slice(self.alloc, &self.blocks)?;
         Ok(Devices {
             alloc: self.alloc,
             devices,
-            agendas,
+            blocks,
+            all: self.all,
             known: self.known,
         })
     }
@@ -103,9 +106,9 @@ impl Devices {
     }
 
     /// An instant of each device, by number: it hears what is delivered, if another node sent it, and then
-    /// runs what is due. Takes time by the devices that have to run, and by an eighth of all. The first instant
-    /// of devices of which nothing is known walks all of them, and takes memory for agendas, an eighth as many as
-    /// devices. Want of
+    /// runs what is due. Takes constant time where none of them has to run; else time by the devices that have
+    /// to, and by an eighth of all. The first instant of devices of which nothing is known walks all of them, and
+    /// takes memory for what is known of each eight. Want of
     /// memory may come halfway: some of the devices have had their instant then, and others not.
     pub fn instant<P: Shapes>(
         &mut self,
@@ -120,23 +123,27 @@ impl Devices {
             (P.seen shapes.old) (P.seen shapes.new) (P.asks shapes.old) (P.asks shapes.new)) }
         ensures lasts { Lasts (P.seen shapes.old) (P.seen shapes.new) }
     {
+        if self.known && self.all.agenda.sleeps_through(t, delivery) {
+            return Ok(());
+        }
         if !self.known {
-            plan(&mut self.agendas, &self.devices)?;
+            plan(&mut self.blocks, &self.devices)?;
         }
         self.known = false;
-        let agendas = self.agendas.as_mut_slice();
-        run_blocks(agendas, self.devices.as_mut_slice(), t, delivery, shapes)?;
+        let blocks = self.blocks.as_mut_slice();
+        run_blocks(blocks, self.devices.as_mut_slice(), t, delivery, shapes)?;
+        self.all = all_of(&self.blocks);
         self.known = true;
         Ok(())
     }
 
-    /// The first moment at which one of them is due, in microseconds, if there is one. Takes time by an eighth
-    /// of the devices once an instant has run.
+    /// The first moment at which one of them is due, in microseconds, if there is one. Takes constant time once
+    /// an instant has run.
     pub fn next_due(&self) -> Option<u64>
         ensures { result ≡ earliest (flat_map moments self.now) }
     {
-        if self.known && !is_awake(&self.agendas) {
-            return first_of(&self.agendas);
+        if self.known && !self.all.agenda.awake {
+            return self.all.agenda.due;
         }
         first_due(&self.devices)
     }
@@ -148,12 +155,13 @@ impl Devices {
         values_of(node, &self.devices)
     }
 
-    /// The frame with which one of them contends for the bus: of all that wait at them the one that wins.
+    /// The frame with which one of them contends for the bus: of all that wait at them the one that wins. Takes
+    /// constant time once an instant has run.
     pub fn contender(&self) -> Option<Contender>
         ensures { IsWinner (contenders (device_lists self.now)) result }
     {
         if self.known {
-            winner(&self.agendas, &self.devices)
+            self.all.best
         } else {
             winner_of(&self.devices)
         }
@@ -164,7 +172,7 @@ impl Devices {
         ensures { result ≡ place_of contender.now self.now }
     {
         if self.known {
-            sender_place(contender, &self.agendas, &self.devices)
+            sender_place(contender, &self.blocks, &self.devices)
         } else {
             place_of_sender(contender, &self.devices)
         }
@@ -181,7 +189,8 @@ impl Devices {
         self.known = false;
         let sent = self.devices[i].send(place)?;
         if known {
-            plan_block(self.agendas.as_mut_slice(), &self.devices, i);
+            plan_block(self.blocks.as_mut_slice(), &self.devices, i);
+            self.all = all_of(&self.blocks);
             self.known = true;
         }
         Ok(sent)

@@ -1,14 +1,14 @@
 use Rattle.std.proofs.Common.{◌++◌, List, subst, sym}
 use Rattle.std.proofs.lemmas.Result.{on_ok_weaker}
-use Rattle.bus_devices.specs.Blocks.{AreAgendasOf}
-use Rattle.bus_devices.proofs.BlockLemmas.{back_is, both_agendas, both_asked, both_on_ok, both_state}
+use Rattle.bus_devices.specs.Blocks.{AreBlocksOf}
+use Rattle.bus_devices.proofs.BlockLemmas.{back_is, both_blocks, both_asked, both_on_ok, both_state}
 use Rattle.bus_devices.proofs.BlockLemmas.{front_is, one_set}
 use Rattle.device_agenda.specs.Agenda.{at_instant}
-use Rattle.device_agenda.specs.declared.agenda.Agenda.{Agenda}
+use Rattle.bus_devices.specs.declared.block.Block.{Block}
 use Rattle.bus_devices.proofs.blocks.+run_blocks.Goals as goal
 
-pub returns-clause-agendas : goal.returns-clause-agendas
-returns-clause-agendas g t c =
+pub returns-clause-blocks : goal.returns-clause-blocks
+returns-clause-blocks g t c =
     let ds = c.args.devices.now in
     let step = at_instant c.args.t c.args.delivery.now in
     let image = (g.P.Asked.seen c.args.shapes.now).image in
@@ -19,13 +19,13 @@ returns-clause-agendas g t c =
     let one = c.in_ok-run_block.ensures in
     let others = c.run_blocks.ensures in
     both_on_ok c.run_blocks.result _ _ _ (λ e h.
-    subst (λ (xs : List Agenda). AreAgendasOf (xs ++ c.run_blocks.new.agendas)
+    subst (λ (xs : List Block). AreBlocksOf (xs ++ c.run_blocks.new.blocks)
     (c.run_block.new.devices ++ c.run_blocks.new.devices))
-    (sym (one_set c.split_at_mut-firsts.result.0.now c.run_block.new.agenda
+    (sym (one_set c.split_at_mut-firsts.result.0.now c.run_block.new.block
     c.split_at_mut-firsts.ensures.front_len))
-    (both_agendas step ds image c.run_block.new.agenda c.run_blocks.new.agendas c.run_block.new.devices
-    c.run_blocks.new.devices (rw front at one.state) (rw (back, one.lasts.kept) at e) one.agenda h))
-    others.state others.agendas
+    (both_blocks step ds image c.run_block.new.block c.run_blocks.new.blocks c.run_block.new.devices
+    c.run_blocks.new.devices (rw front at one.state) (rw (back, one.lasts.kept) at e) one.block h))
+    others.state others.blocks
 
 pub returns-clause-state : goal.returns-clause-state
 returns-clause-state g t c =

@@ -3,20 +3,20 @@ use Rattle.bus_devices.specs.Senders.{sender_place}
 use Rattle.bus_devices.proofs.BlockLemmas.{back_is, front_is, opened}
 use Rattle.bus_devices.proofs.SenderLemmas.{nowhere_in, sends_at, sends_here, sends_nowhere, sends_within}
 use Rattle.co_device.specs.Device.{Device}
-use Rattle.device_agenda.specs.Agenda.{IsAgendaOf}
+use Rattle.bus_devices.specs.Blocks.{IsBlockOf}
 use Rattle.bus_devices.proofs.blocks.+sender_place.Goals as goal
 
-pub returns-in_err-agenda : goal.returns-in_err-agenda
-returns-in_err-agenda t c = c.from_residual.ensures
-    ∙ nowhere_in c.args.contender.now c.args.agendas.now c.args.devices.now c.in_err-agenda.ensures.cases c.requires
+pub returns-in_err-first : goal.returns-in_err-first
+returns-in_err-first t c = c.from_residual.ensures
+    ∙ nowhere_in c.args.contender.now c.args.blocks.now c.args.devices.now c.in_err-first.ensures.cases c.requires
 
 pub place_in-requires : goal.place_in-requires
 place_in-requires t c =
     let ds = c.args.devices.now in
     let front = front_is c.first_block.result ds c.split_at.result.0.now c.first_block.ensures c.split_at.ensures.front
     in
-    subst (IsAgendaOf c.in_ok-agenda.agenda.now) (sym front)
-    (opened c.args.agendas.now c.in_ok-agenda.others.now c.in_ok-agenda.agenda.now ds c.in_ok-agenda.ensures.cases.0
+    subst (IsBlockOf c.in_ok-first.first.now) (sym front)
+    (opened c.args.blocks.now c.in_ok-first.others.now c.in_ok-first.first.now ds c.in_ok-first.ensures.cases.0
     c.requires).0
 
 pub returns-in-Some : goal.returns-in-Some
