@@ -1,3 +1,4 @@
-pub mod Groups
-pub mod Delivered
 pub mod Agenda
+pub mod Delivered
+pub mod Groups
+pub mod Schedule

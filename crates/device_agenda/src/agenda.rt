@@ -1,6 +1,6 @@
 //! When devices have to run.
 
-ghost use Rattle.std.specs.Prelude.{◌≡◌, ◌<◌, ◌++◌, List, [], false, IfSome, IsTrue};
+ghost use Rattle.std.specs.Prelude.{◌≡◌, ◌<◌, ◌++◌, List, [], true, false, IfSome, IsTrue};
 ghost use Rattle.co_device.specs.Device.{Device};
 ghost use Rattle.device_agenda.specs.Agenda.{IsAgendaOf, sleeps_through};
 
@@ -37,7 +37,8 @@ impl Agenda {
 
     /// That of devices of which nothing is known.
     pub(crate) fn unknown() -> Agenda
-        ensures { (ds : List Device) → IsAgendaOf result ds }
+        ensures agenda { (ds : List Device) → IsAgendaOf result ds }
+        ensures awake { result.awake ≡ true }
     {
         Agenda {
             awake: true,

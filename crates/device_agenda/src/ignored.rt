@@ -2,17 +2,19 @@
 
 ghost use Rattle.std.specs.Prelude.{◌≡◌};
 ghost use Rattle.co_device.specs.Receiving.{is_ignored};
+ghost use Rattle.device_objects.specs.Profile.{sync_identifier};
 
 use can_frame::{Frame, identifiers};
 use co_device::DeviceState;
 use co_fields::NmtState;
-use device_objects::{any_expects, is_addressed, producer_of, sync_identifier};
+use device_objects::{any_expects, is_addressed, producer_of};
 use device_pdos::any_has_identifier;
 
-/// Whether a device takes nothing of a frame: none of its services expects it in its NMT state. Takes time by
-/// its consumers or its RPDOs, and by the logarithm of the number of entries.
+/// Whether a device with this identifier of SYNC takes nothing of a frame: none of its services expects it in
+/// its NMT state. Takes time by its consumers or its RPDOs.
 #[tactic(auto, unfolding(co_device::specs::Receiving::is_ignored))]
-pub(crate) fn ignores(device: &DeviceState, frame: &Frame) -> bool
+pub(crate) fn ignores(device: &DeviceState, sync: u16, frame: &Frame) -> bool
+    requires { sync ≡ sync_identifier device.now.learnt device.now.values }
     ensures { result ≡ is_ignored frame.now device.now }
 {
     if !device.has_power() {
@@ -22,7 +24,7 @@ pub(crate) fn ignores(device: &DeviceState, frame: &Frame) -> bool
     if frame.id() == identifiers::nmt() {
         return !is_addressed(device.number(), bytes);
     }
-    if frame.id() == sync_identifier(device.learnt(), device.values()) {
+    if frame.id() == sync {
         return !device.is_in(NmtState::Operational);
     }
     if frame.id() == identifiers::sdo_request(device.number()) && bytes.len() == 8 {

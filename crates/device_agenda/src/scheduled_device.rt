@@ -11,6 +11,7 @@ ghost use Rattle.co_device.specs.Device.{next_due, after_power, after_instant, a
 ghost use Rattle.co_device.specs.Receiving.{is_ignored};
 ghost use Rattle.device_agenda.specs.Agenda.{at_instant, hears, IsAgendaOf};
 ghost use Rattle.device_laws.specs.Rest.{Rests};
+ghost use Rattle.device_objects.specs.Profile.{sync_identifier as identifier_of_sync};
 
 use crate::agenda::Agenda;
 use crate::delivery::Delivery;
@@ -21,28 +22,29 @@ use co_base::has_come;
 use co_device::DeviceState;
 use co_dict::Dict;
 use co_parts::END;
-use device_objects::Shapes;
+use device_objects::{Shapes, sync_identifier};
 use std::alloc::{AllocError, Global};
 use std::marker::Model;
 
 /// A device at a moment (CiA 301) that runs only when it has to.
 ///
 /// It does what the device does. Its agenda is worked out when it ran, and until a moment or a frame that the
-/// agenda has, it sleeps, unless a write of its application or its switch wakes it. The agenda follows from the
-/// device, and is no part of it: two are the same where their devices are.
+/// agenda has, it sleeps, unless a write of its application or its switch wakes it. The agenda, and the identifier
+/// of SYNC that is kept with it, follow from the device, and are no part of it: two are the same where their
+/// devices are.
 #[derive(Drop)]
 pub struct ScheduledDevice {
     device: DeviceState,
     agenda: Agenda,
+    sync: u16,
 }
 
 impl Model for ScheduledDevice {
-    ghost use Rattle.std.specs.Prelude.{◌∷◌, []};
     ghost use Rattle.std.specs.Coded.{codes, coded_ℕ, coded_list, coded×};
     ghost use Rattle.std.specs.FinMap as map;
     ghost use Rattle.co_dict.specs.Places.{place_cmp};
     ghost use Rattle.co_device.specs.Device.{Device};
-    ghost use Rattle.device_agenda.specs.Agenda.{IsAgendaOf};
+    ghost use Rattle.device_agenda.specs.Schedule.{IsScheduled};
 
     ghost Value = { Device };
 
@@ -50,11 +52,12 @@ impl Model for ScheduledDevice {
 
     ghost view = { λ s. s.device };
 
-    ghost invariant = { λ s. IsAgendaOf s.agenda (s.device ∷ []) };
+    ghost invariant = { λ s. IsScheduled s.agenda s.sync s.device };
 }
 
-/// The agenda of a device that ran.
-fn agenda_of(device: &DeviceState) -> Agenda
+/// The agenda of a device that ran, with this identifier of SYNC.
+fn agenda_of(device: &DeviceState, sync: u16) -> Agenda
+    requires sync { sync ≡ identifier_of_sync device.now.learnt device.now.values }
     requires rests { Rests device.now }
     requires unspent { device.now.spent ≡ false }
     ensures { IsAgendaOf result (device.now ∷ []) }
@@ -62,18 +65,19 @@ fn agenda_of(device: &DeviceState) -> Agenda
     Agenda {
         awake: false,
         due: device.next_due(),
-        groups: stirring(device),
+        groups: stirring(device, sync),
         waits: device.contender().is_some(),
     }
 }
 
-/// Whether what is delivered is nothing that a device takes.
-fn takes_nothing(device: &DeviceState, delivery: &Option<Delivery>) -> bool
+/// Whether what is delivered is nothing that a device with this identifier of SYNC takes.
+fn takes_nothing(device: &DeviceState, sync: u16, delivery: &Option<Delivery>) -> bool
+    requires { sync ≡ identifier_of_sync device.now.learnt device.now.values }
     ensures { IsTrue result → IfSome delivery.now (λ d. is_ignored d.frame device.now ≡ true) }
 {
     match delivery {
         None => true,
-        Some(delivery) => ignores(device, &delivery.frame),
+        Some(delivery) => ignores(device, sync, &delivery.frame),
     }
 }
 
@@ -159,6 +163,7 @@ impl ScheduledDevice {
         ScheduledDevice {
             device: DeviceState::new(alloc, number),
             agenda: Agenda::unknown(),
+            sync: 0,
         }
     }
 
@@ -171,6 +176,7 @@ impl ScheduledDevice {
         Ok(ScheduledDevice {
             device,
             agenda: self.agenda,
+            sync: self.sync,
         })
     }
 
@@ -301,7 +307,8 @@ impl ScheduledDevice {
         }
         self.agenda = Agenda::unknown();
         run(&mut self.device, t, delivery, shapes)?;
-        self.agenda = agenda_of(&self.device);
+        self.sync = sync_identifier(self.device.learnt(), self.device.values());
+        self.agenda = agenda_of(&self.device, self.sync);
         Ok(())
     }
 
@@ -319,6 +326,6 @@ impl ScheduledDevice {
         if has_come(t, self.agenda.due) {
             return false;
         }
-        takes_nothing(&self.device, delivery)
+        takes_nothing(&self.device, self.sync, delivery)
     }
 }

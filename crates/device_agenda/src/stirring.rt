@@ -17,7 +17,7 @@ use can_frame::identifiers;
 use co_device::DeviceState;
 use co_fields::ConsumerHeartbeatTime;
 use co_pdos::Configuration;
-use device_objects::{Consumer, sync_identifier};
+use device_objects::Consumer;
 use device_pdos::{RpdoState, TpdoState};
 
 /// Whether one of the RPDOs keeps a frame.
@@ -42,13 +42,14 @@ fn awaits_sync(device: &DeviceState) -> bool
 }
 
 /// Adds the group of SYNC, where something of a device may wait for one.
-fn with_sync(groups: Groups, device: &DeviceState) -> Groups
+fn with_sync(groups: Groups, device: &DeviceState, sync: u16) -> Groups
+    requires { sync ≡ identifier_of_sync device.now.learnt device.now.values }
     ensures kept { Extends groups result }
     ensures sync { includes result (identifier_of_sync device.now.learnt device.now.values) ≡ false
         → AwaitsNoSync device.now }
 {
     if awaits_sync(device) {
-        groups.with(sync_identifier(device.learnt(), device.values()))
+        groups.with(sync)
     } else {
         groups
     }
@@ -111,9 +112,10 @@ fn with_rpdos(groups: Groups, rpdos: &[RpdoState]) -> Groups
     groups
 }
 
-/// The groups of the frames that are something to a device. Takes time by its consumers and PDOs, and by the
-/// logarithm of the number of entries.
-pub(crate) fn stirring(device: &DeviceState) -> Groups
+/// The groups of the frames that are something to a device with this identifier of SYNC. Takes time by its
+/// consumers and PDOs.
+pub(crate) fn stirring(device: &DeviceState, sync: u16) -> Groups
+    requires { sync ≡ identifier_of_sync device.now.learnt device.now.values }
     ensures { (frame : BaseFrame) → frame.id < 0x800 → includes result frame.id ≡ false → IsDeafTo frame device.now }
 {
     if !device.has_power() {
@@ -122,7 +124,7 @@ pub(crate) fn stirring(device: &DeviceState) -> Groups
     let groups = Groups::none()
         .with(identifiers::nmt())
         .with(identifiers::sdo_request(device.number()));
-    let groups = with_sync(groups, device);
+    let groups = with_sync(groups, device, sync);
     let groups = with_producers(groups, device.consumers());
     with_rpdos(groups, device.rpdos())
 }

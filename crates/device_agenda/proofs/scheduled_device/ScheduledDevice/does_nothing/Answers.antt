@@ -6,12 +6,12 @@ pub returns-then-sleeps_through-clause-nothing : goal.returns-then-sleeps_throug
 returns-then-sleeps_through-clause-nothing c h =
     let sleeps = sym c.sleeps_through.ensures.sleeps ∙ c.if-sleeps_through.true in
     rw (← c.self.view_is)
-    (one_sleeps c.self.inside.agenda c.self.inside.device c.args.t c.args.delivery.now c.self.invariant
+    (one_sleeps c.self.inside.agenda c.self.inside.device c.args.t c.args.delivery.now c.self.invariant.agenda
     (c.sleeps_through.ensures.bound c.if-sleeps_through.true) sleeps)
 
 pub returns-clause-nothing : goal.returns-clause-nothing
 returns-clause-nothing c h =
     let early = sym c.has_come.ensures ∙ c.if-has_come.false in
     rw (← c.self.view_is)
-    (one_takes_nothing c.self.inside.agenda c.self.inside.device c.args.t c.args.delivery.now c.self.invariant
+    (one_takes_nothing c.self.inside.agenda c.self.inside.device c.args.t c.args.delivery.now c.self.invariant.agenda
     c.if-self.false early (c.takes_nothing.ensures h))

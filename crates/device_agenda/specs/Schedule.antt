@@ -1,0 +1,11 @@
+-- What is kept beside a device that runs only when it has to.
+use Rattle.std.specs.Prelude.{◌≡◌, ℕ, false, [], ◌∷◌}
+use Rattle.co_device.specs.Device.{Device}
+use Rattle.device_agenda.specs.Agenda.{IsAgendaOf}
+use Rattle.device_agenda.specs.declared.agenda.Agenda.{Agenda}
+use Rattle.device_objects.specs.Profile.{sync_identifier}
+
+-- its agenda, and the identifier of SYNC where it isn't awake
+pub record IsScheduled (a : Agenda) (number : ℕ) (d : Device) : Type 0 where
+  pub agenda : IsAgendaOf a (d ∷ [])
+  pub sync : a.awake ≡ false → number ≡ sync_identifier d.learnt d.values
