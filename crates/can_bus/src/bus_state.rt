@@ -320,7 +320,7 @@ impl BusState {
 
     /// The least moment at which something is due: a timer of a device or of the manager, the end of the
     /// frame on the wire, an event, or the start of the next window. An instant before it changes nothing
-    /// once another has run. Takes time by an eighth of the devices once an instant has run, and no memory.
+    /// once another has run. Takes constant time once an instant has run, and no memory.
     #[tactic(auto, using(crate::proofs::LeastLemmas::next_due_is))]
     pub fn next_due(&self) -> u64
         ensures { result ≡ next_due self.now }
@@ -332,9 +332,10 @@ impl BusState {
     }
 
     /// The instant at the moment t, which is below `END`: adds what it tells to the lines. Takes time by the
-    /// devices that have to run, and by an eighth of all; by all of them where events run, and in the first
+    /// devices that have to run, and by an eighth of all where one has to or sends; by all of them where events
+    /// run, and in the first
     /// instant of a bus that was switched on, or whose events have run, or of a copy of such a bus. That one takes
-    /// memory for agendas, an eighth as many as devices; else one in which nothing is due and no window starts
+    /// memory for what is known of each eight devices; else one in which nothing is due and no window starts
     /// takes none.
     /// Want of memory may leave lines added, and reads noted: what stood there before comes first, unchanged.
     pub fn instant<P: Parts>(
