@@ -1,6 +1,6 @@
 -- The winner and who sends, block by block.
 use Rattle.std.proofs.Common.{◌≡◌, ℕ, zero, suc, ◌+◌, ◌<◌, ◌==◌, ◌&&◌, Bool, true, false, List, [], ◌∷◌, ◌++◌, length}
-use Rattle.std.proofs.Common.{take, drop, get_or, Option, Some, None, refl, sym, ap, ◌∙◌, subst, arith, zero-add}
+use Rattle.std.proofs.Common.{take, drop, Option, Some, None, refl, sym, ap, ◌∙◌, subst, arith, zero-add}
 use Rattle.std.specs.Prelude.{Contains, if◌then◌else◌, nat_lt, not}
 use Rattle.std.specs.List.{position, position_or_len}
 use Rattle.std.proofs.lemmas.Bool.Decides.{nat_tests}
@@ -184,7 +184,7 @@ module _ (c : Contender) where
   not_contained cs (Some b) h e = λ g. both_ways (is_below c b) (is_true (is_below c b) e)
       (All-contains (λ d. is_below d b ≡ false) cs c h.1 g)
 
-  -- where a lower frame waits than the contender, it doesn't
+  -- it waits at none of the devices where each frame that waits is above it
   pub none_sends : (ds : List Device) (best : Option Contender) → IsWinner (contenders (device_lists ds)) best
       → may_wait_at c best ≡ false → None ≡ sender_place c ds
   unfolding sender_place

@@ -143,7 +143,7 @@ fn place_in(contender: &Contender, block: &Block, devices: &[SharedDevice]) -> O
 }
 
 /// The place of the first device that contends with a frame. Walks the blocks, and the devices of those where
-/// no lower frame waits.
+/// it or a lower frame waits.
 pub(crate) fn sender_place(
     contender: &Contender,
     blocks: &[Block],

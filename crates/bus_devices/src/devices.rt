@@ -108,8 +108,8 @@ impl Devices {
     /// An instant of each device, by number: it hears what is delivered, if another node sent it, and then
     /// runs what is due. Takes constant time where none of them has to run; else time by the devices that have
     /// to, and by an eighth of all. The first instant of devices of which nothing is known walks all of them, and
-    /// takes memory for what is known of each eight. Want of
-    /// memory may come halfway: some of the devices have had their instant then, and others not.
+    /// takes memory for what is known of each eight. Want of memory may come halfway: some of the devices have had
+    /// their instant then, and others not.
     pub fn instant<P: Shapes>(
         &mut self,
         t: u64,

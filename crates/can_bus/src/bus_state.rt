@@ -333,10 +333,9 @@ impl BusState {
 
     /// The instant at the moment t, which is below `END`: adds what it tells to the lines. Takes time by the
     /// devices that have to run, and by an eighth of all where one has to or sends; by all of them where events
-    /// run, and in the first
-    /// instant of a bus that was switched on, or whose events have run, or of a copy of such a bus. That one takes
-    /// memory for what is known of each eight devices; else one in which nothing is due and no window starts
-    /// takes none.
+    /// run, and in the first instant of a bus that was switched on, or whose events have run, or of a copy of such
+    /// a bus. That one takes memory for what is known of each eight devices; else one in which nothing is due and
+    /// no window starts takes none.
     /// Want of memory may leave lines added, and reads noted: what stood there before comes first, unchanged.
     pub fn instant<P: Parts>(
         &mut self,

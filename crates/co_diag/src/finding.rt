@@ -86,10 +86,11 @@ fn find_all(alloc: Global, library: &Library<'_>, plan: &Plan) -> Result<Vec<Dia
 /// The diagnostics of a library's project, by the plan of its messages: all that is wrong with it, each
 /// once, in order.
 ///
-/// Reads each text that the library hasn't read. Else takes time by the number of the texts' warnings, of the entries
-/// of all nodes' data sheets, the parameters and wanted values of all nodes, of the messages for each node and the events, and that of the diagnostics
-/// with its logarithm; memory by the number of diagnostics, the devices of all texts, the
-/// entries of each data sheet that give a parameter or a doubtful default, and the values of one node at a time. Want of memory is the only error.
+/// Reads each text that the library hasn't read. Else takes time by the number of the texts' warnings, of the
+/// entries and parameters of each node, of the messages for each node, of the events, and of the diagnostics with
+/// its logarithm; memory by the number of diagnostics, the devices of all texts, the entries that each data sheet
+/// gives a parameter or a doubtful default, and the values of one node at a time. Want of memory is the only
+/// error.
 pub fn diagnostics_by(
     alloc: Global,
     library: &mut Library<'_>,

@@ -84,7 +84,7 @@ pub fn check_write(
     check_rest(shape, entry, dict, index, sub, bytes)
 }
 
-/// The same of the entry that the shape has there, which isn't looked up again.
+/// What `check_write` answers where this is the entry that the shape has there, which isn't looked up again.
 pub fn check_write_of(
     shape: &Shape,
     entry: &Entry,

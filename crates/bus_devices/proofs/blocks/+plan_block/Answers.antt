@@ -1,5 +1,5 @@
 use Rattle.std.proofs.Common.{rules, subst}
-use Rattle.bus_devices.specs.Blocks.{AreBlocksBut, AreBlocksOf, IsBlockOf}
+use Rattle.bus_devices.specs.Blocks.{IsBlockOf}
 use Rattle.bus_devices.proofs.BlockLemmas.{back_is, front_is}
 use Rattle.bus_devices.proofs.ChangedLemmas.{far_changed, far_rest, near_changed}
 use Rattle.bus_devices.proofs.blocks.+plan_block.Goals as goal

@@ -1,4 +1,3 @@
-use Rattle.std.proofs.Common.{◌≤◌, length, arith}
 use Rattle.bus_devices.proofs.BlockLemmas.{all_known, none_so_far, one_block_known}
 use Rattle.bus_devices.proofs.blocks.all_of.Goals as goal
 

@@ -1,4 +1,3 @@
-use Rattle.std.proofs.Common.{sym}
 use Rattle.device_objects.specs.Profile.{sync_identifier}
 use Rattle.device_agenda.proofs.GroupLemmas.{never}
 use Rattle.device_agenda.proofs.StirLemmas.{sync_below}
