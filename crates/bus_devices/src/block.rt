@@ -21,7 +21,7 @@ use device_agenda::{Agenda, Delivery, SharedDevice};
 use device_objects::Shapes;
 use std::alloc::AllocError;
 
-/// What is known of devices that follow one another: it follows from them.
+/// What is known of devices in a row: when they have to run, and which of their frames wins.
 #[derive(Clone, Copy, Debug)]
 pub(crate) struct Block {
     /// When they have to run.
