@@ -42,7 +42,7 @@ pub(crate) fn put_pairs(out: &mut Vec<u8>, pairs: &[Pair]) -> Result<(), AllocEr
     ensures { OnOk result (out.new.items ≡ out.old.items ++ flat_map pair_text pairs.now) }
 {
     for pair in pairs {
-        put_line(out, pair.key(), pair.value())?;
+        pair.print(out)?;
     }
     Ok(())
 }
@@ -57,7 +57,7 @@ pub(crate) fn put_pairs_without(
 {
     for pair in pairs {
         if !is_key(key, pair.key()) {
-            put_line(out, pair.key(), pair.value())?;
+            pair.print(out)?;
         }
     }
     Ok(())

@@ -60,7 +60,7 @@ impl Pair {
     }
 
     /// Writes `key=value` and an LF at the end.
-    pub(crate) fn print(&self, out: &mut Vec<u8>) -> Result<(), AllocError>
+    pub fn print(&self, out: &mut Vec<u8>) -> Result<(), AllocError>
         ensures { OnOk result (out.new.items ≡ out.old.items ++ pair_text self.now) }
     {
         out.extend_from_slice(self.line.as_slice())?;
