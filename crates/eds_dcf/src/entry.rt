@@ -5,11 +5,12 @@ ghost use Rattle.co_values.specs.Values.{Fits, text_of_value};
 ghost use Rattle.eds_device.specs.Shown.{origin_shown};
 ghost use Rattle.eds_dcf.specs.Entries.{is_in as is_in_section, own_place as place_owned, parameter_pairs};
 ghost use Rattle.eds_dcf.specs.Entries.{parameter_place};
+ghost use Rattle.eds_device.specs.Described.{kind_at};
 
 use crate::printing::{put_line, put_name, put_pairs_without};
 use co_base::Octets;
 use co_values::{DataType, Value, hex_text};
-use eds_device::{Device, Origin, Section, index_named, place_named};
+use eds_device::{Device, Origin, Placed, Section, index_named, place_named};
 use std::alloc::{AllocError, Global};
 
 const PARAMETER_VALUE: &[u8] = b"ParameterValue";
@@ -36,14 +37,35 @@ fn is_in(name: &[u8], origin: Option<Origin<'_>>) -> bool
     }
 }
 
-/// The index and the sub-index of the modelled entry that stands in the section of a name.
+/// A modelled entry that stands in a section of its own.
+#[derive(Clone, Copy)]
+pub(crate) struct Parameter {
+    /// Its position among the entries of the device.
+    pub position: usize,
+    pub index: u16,
+    pub sub: u8,
+    pub kind: DataType,
+}
+
+/// The modelled entry that stands in the section of a name, by one look-up, near a position first.
 #[tactic(auto, unfolding(crate::specs::Entries::parameter_place))]
-pub(crate) fn parameter_place(device: &Device, name: &[u8]) -> Option<(u16, u8)>
-    ensures { result ≡ parameter_place device.now.sections name.now }
+pub(crate) fn parameter_of(device: &Device, near: usize, name: &[u8]) -> Option<Parameter>
+    ensures place { option_map (λ p. (p.index, p.sub)) result ≡ parameter_place device.now.sections name.now }
+    ensures kind { IfSome result (λ p. p.kind ≡ kind_at device.now.sections (p.index, p.sub)) }
 {
     let (index, sub) = own_place(name)?;
-    if is_in(name, device.origin(index, sub)) && device.kind(index, sub).is_modelled() {
-        Some((index, sub))
+    let Placed {
+        position,
+        origin,
+        kind,
+    } = device.placed(near, index, sub)?;
+    if is_in(name, Some(origin)) && kind.is_modelled() {
+        Some(Parameter {
+            position,
+            index,
+            sub,
+            kind,
+        })
     } else {
         None
     }

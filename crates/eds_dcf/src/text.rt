@@ -9,7 +9,7 @@ ghost use Rattle.eds_device.specs.Described.{kind_at};
 
 use crate::commissioning::{is_commissioning, put_commissioning};
 use crate::compact::{put_made, put_values_section};
-use crate::entry::{parameter_place, put_entry};
+use crate::entry::{parameter_of, put_entry};
 use crate::last::last_values;
 use crate::printing::put_section;
 use co_dict::Dict;
@@ -17,34 +17,31 @@ use concise_dcf::Write;
 use eds_device::{Device, Section, values_named};
 use std::alloc::{AllocError, Global};
 
-/// Writes a section with the values.
+/// Writes a section with the values. Answers a position among the entries that the next one is likely
+/// near: that of the section's entry, or `near` where it is of none.
 fn put_with_values(
     out: &mut Vec<u8>,
     alloc: Global,
     device: &Device,
     values: &Dict,
+    near: usize,
     section: &Section,
-) -> Result<(), AllocError>
+) -> Result<usize, AllocError>
     requires { (place : ℕ × ℕ) → IfSome (get values.now place) (Fits (kind_at device.now.sections place)) }
     ensures { OnOk result (out.new.items ≡ out.old.items
         ++ section_text (with_values device.now.sections (get values.now) section.now)) }
 {
-    if let Some((index, sub)) = parameter_place(device, section.name()) {
-        put_entry(
-            out,
-            alloc,
-            section,
-            device.kind(index, sub),
-            values.read(index, sub),
-        )?;
-        return Ok(());
+    if let Some(parameter) = parameter_of(device, near, section.name()) {
+        let value = values.read(parameter.index, parameter.sub);
+        put_entry(out, alloc, section, parameter.kind, value)?;
+        return Ok(parameter.position);
     }
     if let Some(index) = values_named(section.name()) {
         put_values_section(out, alloc, device, values, section, index)?;
-        return Ok(());
+        return Ok(near);
     }
     put_section(out, section)?;
-    Ok(())
+    Ok(near)
 }
 
 /// Writes the sections of the text but the node's, with the values.
@@ -59,9 +56,10 @@ fn put_sections(
         ++ text_of (map (with_values device.now.sections (get values.now))
         (filter (λ s. not (is_commissioning_name s.name)) device.now.sections))) }
 {
+    let mut near = 0;
     for section in device.sections() {
         if !is_commissioning(section.name()) {
-            put_with_values(out, alloc, device, values, section)?;
+            near = put_with_values(out, alloc, device, values, near, section)?;
         }
     }
     Ok(())

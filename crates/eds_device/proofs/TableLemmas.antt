@@ -91,6 +91,31 @@ stand_found ss places stands position index sub h lt equal = by (slice_get stand
     by None e = cc
     by (Some s) e = cc
 
+-- where an entry stands whose place is known by its position
+pub stand_there : (ss : List Section) (places : List (ℕ × ℕ)) (stands : List (Option Stand)) (position index sub : ℕ)
+    → AreStands ss places stands → slice_get places position ≡ Some (index, sub)
+    → standing ss (option_and_then (λ s. s) (slice_get stands position)) ≡ origin_of ss index sub
+unfolding AreStands
+stand_there ss places stands position index sub h is = by (slice_get stands position) (
+    sym (slice_get-map (standing ss) stands position)
+    ∙ ap (λ (os : List (Option Origin)). slice_get os position) h
+    ∙ slice_get-map (λ (p : ℕ × ℕ). origin_of ss p.0 p.1) places position
+    ∙ ap (option_map (λ (p : ℕ × ℕ). origin_of ss p.0 p.1)) is
+    )
+  where
+    by : (o : Option (Option Stand)) → option_map (standing ss) o ≡ Some (origin_of ss index sub)
+        → standing ss (option_and_then (λ s. s) o) ≡ origin_of ss index sub
+    by None e = cc
+    by (Some s) e = cc
+
+-- a place that a search finds is there
+pub place_found : (places : List (ℕ × ℕ)) (position index sub : ℕ) → let place : ℕ × ℕ = (index, sub)
+    in position < length places → place_cmp (get_or places position place) place ≡ Equal
+    → slice_get places position ≡ Some (index, sub)
+place_found places position index sub lt equal =
+    slice_get-get_or places position (index, sub) lt
+    ∙ ap Some (places_exact (get_or places position (index, sub)) (index, sub) equal)
+
 below_at : (x : ℕ × ℕ) (ys : List (ℕ × ℕ)) (j : ℕ) (d : ℕ × ℕ) → AllByRecursion (λ y. place_cmp x y ≡ Less) ys
     → j < length ys → place_cmp x (get_or ys j d) ≡ Less
 below_at x [] j d h lt = absurd (omega arith)

@@ -21,7 +21,7 @@ use crate::fault::DeviceFault;
 use crate::index::{Listed, object_positions, sub_positions, values_positions};
 use crate::origin::Origin;
 use crate::places::places_of;
-use crate::table::{Stand, find_stand, stands};
+use crate::table::{Stand, find_stand, find_stand_near, stands};
 use eds_entries::Said;
 use ini_text::{Ini, Pair, Section};
 use std::alloc::Global;
@@ -170,6 +170,22 @@ impl Device {
         ensures { standing self.now.sections result ≡ origin_of self.now.sections index sub }
     {
         find_stand(self.ini.sections(), &self.places, &self.stands, index, sub)
+    }
+
+    /// Where an entry stands, with its position among the entries, which is looked for at `near` and
+    /// behind it first.
+    pub(crate) fn stand_near(&self, near: usize, index: u16, sub: u8) -> Option<(usize, Stand)>
+        ensures { standing self.now.sections (option_map (λ p. p.1) result)
+            ≡ origin_of self.now.sections index sub }
+    {
+        find_stand_near(
+            self.ini.sections(),
+            &self.places,
+            &self.stands,
+            near,
+            index,
+            sub,
+        )
     }
 
     /// The section at a position, with what it says.

@@ -10,6 +10,7 @@ mod identity;
 mod index;
 pub mod laws;
 mod origin;
+mod placed;
 mod places;
 mod table;
 mod values;
@@ -21,3 +22,4 @@ pub use eds_entries::{
 pub use fault::DeviceFault;
 pub use ini_text::{Pair, Section};
 pub use origin::Origin;
+pub use placed::Placed;

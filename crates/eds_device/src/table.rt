@@ -1,5 +1,5 @@
 //! Where the entries of a device stand, found once when it is read.
-ghost use Rattle.std.specs.Prelude.{◌≡◌, ℕ, IfOk, Some, option_and_then, option_map};
+ghost use Rattle.std.specs.Prelude.{◌≡◌, ℕ, IfOk, IfSome, IfNone, IsTrue, Some, None, option_and_then, option_map};
 ghost use Rattle.std.specs.List.{slice_get};
 ghost use Rattle.std.specs.Option.{option_or};
 ghost use Rattle.std.specs.Ordering.{nat_cmp};
@@ -157,4 +157,68 @@ pub(crate) fn find_stand(
         Ok(position) => stand_at(stands, position),
         Err(_) => None,
     }
+}
+
+/// Whether a place stands at a position.
+fn is_at(places: &[(u16, u8)], position: usize, index: u16, sub: u8) -> bool
+    ensures { IsTrue result → slice_get places.now position ≡ Some (index, sub) }
+{
+    match places.get(position) {
+        Some(place) => *place == (index, sub),
+        None => false,
+    }
+}
+
+/// The position of a place, by the logarithm of their number.
+fn position_of(sections: &[Section], places: &[(u16, u8)], index: u16, sub: u8) -> Option<usize>
+    requires { places.now ≡ pairs_of sections.now }
+    ensures found { IfSome result (λ i. slice_get places.now i ≡ Some (index, sub)) }
+    ensures none { IfNone result (origin_of sections.now index sub ≡ None) }
+{
+    let _ = sections;
+    match places.binary_search(&(index, sub)) {
+        Ok(position) => Some(position),
+        Err(_) => None,
+    }
+}
+
+/// The position of a place, which is looked for at `near` and behind it first.
+fn position_near(
+    sections: &[Section],
+    places: &[(u16, u8)],
+    near: usize,
+    index: u16,
+    sub: u8,
+) -> Option<usize>
+    requires { places.now ≡ pairs_of sections.now }
+    ensures found { IfSome result (λ i. slice_get places.now i ≡ Some (index, sub)) }
+    ensures none { IfNone result (origin_of sections.now index sub ≡ None) }
+{
+    if is_at(places, near, index, sub) {
+        return Some(near);
+    }
+    let next = near.saturating_add(1);
+    if is_at(places, next, index, sub) {
+        return Some(next);
+    }
+    position_of(sections, places, index, sub)
+}
+
+/// Where an entry stands, with the position of its place, which is looked for at `near` and behind it
+/// first: there it takes constant time, and else the logarithm of the entries.
+pub(crate) fn find_stand_near(
+    sections: &[Section],
+    places: &[(u16, u8)],
+    stands: &[Option<Stand>],
+    near: usize,
+    index: u16,
+    sub: u8,
+) -> Option<(usize, Stand)>
+    requires places { places.now ≡ pairs_of sections.now }
+    requires stands { AreStands sections.now places.now stands.now }
+    ensures { standing sections.now (option_map (λ p. p.1) result) ≡ origin_of sections.now index sub }
+{
+    let position = position_near(sections, places, near, index, sub)?;
+    let stand = stand_at(stands, position)?;
+    Some((position, stand))
 }

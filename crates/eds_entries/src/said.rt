@@ -4,6 +4,7 @@ ghost use Rattle.std.specs.Option.{option_copied};
 ghost use Rattle.ini_text.specs.Content.{value_at};
 ghost use Rattle.eds_entries.specs.Described.{description_in};
 ghost use Rattle.eds_entries.specs.Said.{said_in, value_from};
+ghost use Rattle.eds_entries.specs.Sections.{kind_of as kind_said};
 ghost use Rattle.eds_entries.specs.Shown.{description_shown};
 
 use crate::access::{access_of, is_set};
@@ -64,6 +65,16 @@ impl Said {
             said.push(Said::of(section))?;
         }
         Ok(said)
+    }
+
+    /// The type that the section says.
+    #[tactic(auto, unfolding(crate::specs::Said::said_in))]
+    pub fn kind(&self, section: &Section) -> DataType
+        requires { self.now ≡ said_in section.now }
+        ensures { result ≡ kind_said section.now }
+    {
+        let _ = section;
+        self.kind
     }
 
     /// What the section says of its entry, with its texts.

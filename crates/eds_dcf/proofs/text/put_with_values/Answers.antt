@@ -11,19 +11,21 @@ use Rattle.eds_dcf.proofs.text.put_with_values.Goals as goal
 
 pub put_entry-requires : goal.put_entry-requires
 put_entry-requires c =
-    let place : ℕ × ℕ = (c.in-Some.index, c.in-Some.sub) in
-    read_fits c.kind.result c.read.result _ c.read.ensures.value
-    (subst (λ (k : DataType). IfSome (get c.args.values.now place) (Fits k)) (sym c.kind.ensures) (c.requires place))
+    let place : ℕ × ℕ = (c.in-Some.parameter.index, c.in-Some.parameter.sub) in
+    read_fits c.in-Some.parameter.kind c.read-value.result _ c.read-value.ensures.value
+    (subst (λ (k : DataType). IfSome (get c.args.values.now place) (Fits k)) (sym c.in-Some.ensures.kind)
+    (c.requires place))
 
 pub returns-in-Some : goal.returns-in-Some
 returns-in-Some c =
-    let place : ℕ × ℕ = (c.in-Some.index, c.in-Some.sub) in
+    let place : ℕ × ℕ = (c.in-Some.parameter.index, c.in-Some.parameter.sub) in
     c.in_ok-put_entry.ensures
     ∙ ap (λ (pairs : List Pair). c.args.out.now.items
     ++ section_text (record { name = c.args.section.now.name; pairs = pairs }))
-    (with_parameter c.args.device.now.sections (get c.args.values.now) c.args.section.now place c.kind.result _
-    (sym (ap (parameter_place c.args.device.now.sections) c.name.ensures) ∙ sym c.parameter_place.ensures
-    ∙ c.in-Some.is) c.kind.ensures c.read.ensures.value)
+    (with_parameter c.args.device.now.sections (get c.args.values.now) c.args.section.now place
+    c.in-Some.parameter.kind _
+    (sym (ap (parameter_place c.args.device.now.sections) c.name.ensures) ∙ sym c.in-Some.ensures.place)
+    c.in-Some.ensures.kind c.read-value.ensures.value)
 
 pub returns-in-Some-values_named : goal.returns-in-Some-values_named
 returns-in-Some-values_named c =
@@ -31,8 +33,7 @@ returns-in-Some-values_named c =
     ∙ ap (λ (pairs : List Pair). c.args.out.now.items
     ++ section_text (record { name = c.args.section.now.name; pairs = pairs }))
     (with_compact c.args.device.now.sections (get c.args.values.now) c.args.section.now c.in-Some-values_named.index
-    (sym (ap (parameter_place c.args.device.now.sections) c.name.ensures) ∙ sym c.parameter_place.ensures
-    ∙ c.in_default.is)
+    (sym (ap (parameter_place c.args.device.now.sections) c.name.ensures) ∙ sym c.in_default.ensures.place)
     (sym (ap values_named c.name-2.ensures) ∙ sym c.values_named.ensures ∙ c.in-Some-values_named.is))
 
 pub returns : goal.returns
@@ -41,6 +42,5 @@ returns c =
     ∙ ap (λ (pairs : List Pair). c.args.out.now.items
     ++ section_text (record { name = c.args.section.now.name; pairs = pairs }))
     (with_none c.args.device.now.sections (get c.args.values.now) c.args.section.now
-    (sym (ap (parameter_place c.args.device.now.sections) c.name.ensures) ∙ sym c.parameter_place.ensures
-    ∙ c.in_default.is)
+    (sym (ap (parameter_place c.args.device.now.sections) c.name.ensures) ∙ sym c.in_default.ensures.place)
     (sym (ap values_named c.name-2.ensures) ∙ sym c.values_named.ensures ∙ c.in_default-values_named.is))
