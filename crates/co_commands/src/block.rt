@@ -74,6 +74,6 @@ pub(crate) fn has_bad_line(lines: &[Vec<u8>]) -> bool
 pub(crate) fn check(alloc: Global, text: &[u8]) -> Result<(), EditFault>
     ensures { Gives is_memory (λ u. u) result (device_verdict (device_of text.now)) }
 {
-    Device::read(alloc, text)?;
+    Device::check(alloc, text)?;
     Ok(())
 }

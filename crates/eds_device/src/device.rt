@@ -5,7 +5,7 @@ ghost use Rattle.std.specs.Option.{option_and_then, option_copied, option_map};
 ghost use Rattle.std.specs.List.{find, slice_get};
 ghost use Rattle.std.specs.Ordering.{nat_cmp};
 ghost use Rattle.eds_device.specs.Index.{FindsFirsts};
-ghost use Rattle.ini_text.specs.Content.{content_at};
+ghost use Rattle.ini_text.specs.Content.{content_at, content_of};
 ghost use Rattle.eds_entries.specs.Names.{sub_listed};
 ghost use Rattle.eds_entries.specs.Said.{said_in};
 ghost use Rattle.eds_device.specs.Described.{listed_value};
@@ -102,6 +102,20 @@ impl Device {
             places,
             stands,
         })
+    }
+
+    /// Whether an EDS text can be read: the faults of `read`, each where it comes there, with no table of
+    /// the entries made. Takes time by the length of the text and its logarithm, and no memory for the
+    /// entries past the limit.
+    pub fn check(alloc: Global, text: &[u8]) -> Result<(), DeviceFault>
+        ensures content { Gives is_memory (λ _. content_of text.now) result (device_of text.now) }
+        ensures range { IsErrOf result DeviceFault.Range ↔ IsTrue (is_out_of_range text.now) }
+        ensures bad_byte { IsErrOf result DeviceFault.BadByte
+            ↔ (IsFalse (is_out_of_range text.now) × IsTrue (has_bad_byte text.now)) }
+    {
+        let ini = Ini::read(alloc, text)?;
+        let _places = places_of(alloc, ini.sections())?;
+        Ok(())
     }
 
     /// Where this device takes its memory.
