@@ -1,5 +1,6 @@
 pub mod AddingLemmas
 pub mod ConverseLemmas
+pub mod FixedLemmas
 pub mod IdentityLemmas
 pub mod IndexLemmas
 pub mod LawLemmas

@@ -3,11 +3,12 @@ pub mod Described
 pub mod Entries
 pub mod FaultOf
 pub mod Faults
+pub mod Fixed
 pub mod Identity
 pub mod Index
 pub mod Names
+pub mod Origins
 pub mod Places
 pub mod Sections
 pub mod Shown
 pub mod Table
-pub mod Origins

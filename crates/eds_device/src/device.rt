@@ -1,5 +1,5 @@
 //! A device, and where its entries stand.
-ghost use Rattle.std.specs.Prelude.{◌≡◌, ◌≤◌, length, IfOk, IfSome, IsTrue, ◌↔◌, IsErrOf};
+ghost use Rattle.std.specs.Prelude.{◌≡◌, ◌≤◌, ℕ, length, IfOk, IfSome, Some, IsTrue, ◌↔◌, IsErrOf};
 ghost use Rattle.std.specs.Bool.{IsFalse};
 ghost use Rattle.std.specs.Option.{option_and_then, option_copied, option_map};
 ghost use Rattle.std.specs.List.{find, slice_get};
@@ -11,6 +11,7 @@ ghost use Rattle.eds_entries.specs.Said.{said_in};
 ghost use Rattle.eds_device.specs.Described.{listed_value};
 ghost use Rattle.ini_text.specs.Text.{is_out_of_range, has_bad_byte};
 ghost use Rattle.co_base.specs.Gives.{Gives};
+ghost use Rattle.eds_device.specs.Fixed.{IsFixedAt};
 ghost use Rattle.eds_device.specs.Faults.{is_memory, device_of, most_entries};
 ghost use Rattle.eds_device.specs.Places.{pairs_of};
 ghost use Rattle.eds_device.specs.Shown.{origin_shown};
@@ -18,6 +19,7 @@ ghost use Rattle.eds_device.specs.Table.{standing};
 ghost use Rattle.eds_device.specs.Origins.{is_index, object_section, values_section, origin_of};
 
 use crate::fault::DeviceFault;
+use crate::fixed::{Fixed, fixed_defaults};
 use crate::index::{Listed, object_positions, sub_positions, values_positions};
 use crate::origin::Origin;
 use crate::places::places_of;
@@ -39,10 +41,12 @@ pub struct Device {
     values: BTreeMap<u16, Listed>,
     places: Vec<(u16, u8)>,
     stands: Vec<Option<Stand>>,
+    fixed: Vec<Fixed>,
 }
 
 impl Model for Device {
     ghost use Rattle.ini_text.specs.Content.{Content};
+    ghost use Rattle.eds_device.specs.Fixed.{AreFixed};
     ghost use Rattle.eds_device.specs.Index.{IsIndexed};
 
     ghost Value = { Content };
@@ -50,7 +54,7 @@ impl Model for Device {
     ghost view = { λ a. a.ini };
 
     ghost invariant = { λ a. IsIndexed a.ini.sections a.said.items a.objects.entries a.values.entries a.places.items
-        a.stands.items };
+        a.stands.items × AreFixed a.ini.sections a.places.items a.fixed.items };
 }
 
 /// The section at a position that a table has.
@@ -94,6 +98,7 @@ impl Device {
         let values = values_positions(alloc, ini.sections())?;
         let stands = stands(alloc, ini.sections(), &subs, &objects, &places)?;
         let said = Said::of_all(alloc, ini.sections())?;
+        let fixed = fixed_defaults(alloc, ini.sections(), &said, &places, &stands)?;
         Ok(Device {
             ini,
             said,
@@ -101,6 +106,7 @@ impl Device {
             values,
             places,
             stands,
+            fixed,
         })
     }
 
@@ -210,6 +216,17 @@ impl Device {
         let section = self.ini.sections().get(position)?;
         let said = self.said.get(position)?;
         Some((section, said))
+    }
+
+    /// What is known of the default of the entry at a position among the entries.
+    pub(crate) fn fixed_at(&self, position: usize) -> Fixed
+        ensures { (place : ℕ × ℕ) → slice_get (pairs_of self.now.sections) position ≡ Some place
+            → IsFixedAt self.now.sections place result }
+    {
+        match self.fixed.get(position) {
+            Some(fixed) => *fixed,
+            None => Fixed::Varies,
+        }
     }
 
     /// Where an entry stands: in `[xxxxsubN]`; else, of sub 0, in `[xxxx]` of a VAR or DOMAIN; else in

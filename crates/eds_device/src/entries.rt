@@ -25,7 +25,7 @@ fn limit_at(kind: DataType, text: &[u8], node: u8) -> Option<i128>
 }
 
 /// The value of a default of a type at a node.
-fn default_bytes(
+pub(crate) fn default_bytes(
     alloc: Global,
     kind: DataType,
     default: DefaultText<'_>,

@@ -6,6 +6,7 @@ mod described;
 mod device;
 mod entries;
 mod fault;
+mod fixed;
 mod identity;
 mod index;
 pub mod laws;

@@ -134,7 +134,7 @@ pub(crate) fn stands(
 }
 
 /// What stands at a position of the table.
-fn stand_at(stands: &[Option<Stand>], position: usize) -> Option<Stand>
+pub(crate) fn stand_at(stands: &[Option<Stand>], position: usize) -> Option<Stand>
     ensures { result ≡ option_and_then (λ stand. stand) (slice_get stands.now position) }
 {
     *stands.get(position)?

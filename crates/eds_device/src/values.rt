@@ -1,11 +1,13 @@
 //! All entries of a device at a node, and the values that they begin with.
-ghost use Rattle.std.specs.Prelude.{◌≡◌, ◌∷◌, [], ℕ, IfOk, OnOk};
+ghost use Rattle.std.specs.Prelude.{◌≡◌, ◌∷◌, [], ℕ, IfOk, OnOk, Some, slice_get};
 ghost use Rattle.std.specs.Option.{option_map_or};
 ghost use Rattle.std.specs.FinMap as map;
 ghost use Rattle.co_dict.specs.Places.{place_cmp};
+ghost use Rattle.eds_device.specs.Places.{pairs_of};
 ghost use Rattle.eds_device.specs.Entries.{entry_at, default_at, dummies_of, shape_of, defaults_of};
 
 use crate::device::Device;
+use crate::fixed::Fixed;
 use co_dict::{Dict, Shape};
 use std::alloc::AllocError;
 
@@ -39,6 +41,29 @@ impl Device {
         match self.default(node, index, sub)? {
             Some(bytes) => dict.write(index, sub, bytes.as_slice()),
             None => Ok(()),
+        }
+    }
+
+    /// Sets the default of the entry at a position among the entries, as `add_default` does: mostly it is
+    /// known at every node, and no text is read.
+    fn put_default(
+        &self,
+        dict: &mut Dict,
+        node: u8,
+        position: usize,
+        index: u16,
+        sub: u8,
+    ) -> Result<(), AllocError>
+        requires { slice_get (pairs_of self.now.sections) position ≡ Some (index, sub) }
+        ensures { OnOk result (dict.new ≡ option_map_or (map.insert dict.old (index, sub))
+            (default_at self.now.sections node index sub) dict.old) }
+    {
+        match self.fixed_at(position) {
+            Fixed::Varies => self.add_default(dict, node, index, sub),
+            Fixed::Absent => Ok(()),
+            Fixed::Short { count, bytes } => {
+                dict.write(index, sub, &bytes[..usize::from(count)])
+            }
         }
     }
 
@@ -77,8 +102,10 @@ impl Device {
         ensures { IfOk result (λ dict. dict ≡ defaults_of self.now.sections node) }
     {
         let mut dict = Dict::new(self.allocator());
+        let mut position = 0;
         for place in self.pairs() {
-            self.add_default(&mut dict, node, place.0, place.1)?;
+            self.put_default(&mut dict, node, position, place.0, place.1)?;
+            position += 1;
         }
         Ok(dict)
     }

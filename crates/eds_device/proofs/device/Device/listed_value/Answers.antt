@@ -10,12 +10,12 @@ pub returns-in_err-listed : goal.returns-in_err-listed
 returns-in_err-listed c =
     rw (c.from_residual.ensures, ← c.self.view_is)
     (sym (nothing_listed c.self.inside.ini.sections c.args.index c.args.sub
-    (no_values_found _ c.self.inside.ini.sections c.args.index c.self.invariant.finds_values
+    (no_values_found _ c.self.inside.ini.sections c.args.index c.self.invariant.0.finds_values
     (sym c.in_err-listed.ensures.value))))
 
 pub returns-in_err-section : goal.returns-in_err-section
 returns-in_err-section c =
-    let found = values_found _ c.self.inside.ini.sections _ c.args.index c.self.invariant.finds_values
+    let found = values_found _ c.self.inside.ini.sections _ c.args.index c.self.invariant.0.finds_values
     (sym c.in_ok-listed.ensures.value) in
     let e : None ≡ Some found.section = c.in_err-section.ensures
     ∙ ap (λ (xs : List Section). slice_get xs c.in_ok-listed.listed.now.position) c.sections.ensures ∙ found.there
@@ -24,7 +24,7 @@ returns-in_err-section c =
 
 pub listed_pair-requires : goal.listed_pair-requires
 listed_pair-requires c =
-    let found = values_found _ c.self.inside.ini.sections _ c.args.index c.self.invariant.finds_values
+    let found = values_found _ c.self.inside.ini.sections _ c.args.index c.self.invariant.0.finds_values
     (sym c.in_ok-listed.ensures.value) in
     let same = some_is_one (c.in_ok-section.ensures
     ∙ ap (λ (xs : List Section). slice_get xs c.in_ok-listed.listed.now.position) c.sections.ensures ∙ found.there)
@@ -33,7 +33,7 @@ listed_pair-requires c =
 
 pub returns-in_err-pair : goal.returns-in_err-pair
 returns-in_err-pair c =
-    let found = values_found _ c.self.inside.ini.sections _ c.args.index c.self.invariant.finds_values
+    let found = values_found _ c.self.inside.ini.sections _ c.args.index c.self.invariant.0.finds_values
     (sym c.in_ok-listed.ensures.value) in
     let same = some_is_one (c.in_ok-section.ensures
     ∙ ap (λ (xs : List Section). slice_get xs c.in_ok-listed.listed.now.position) c.sections.ensures ∙ found.there)
@@ -45,7 +45,7 @@ returns-in_err-pair c =
 
 pub returns : goal.returns
 returns c =
-    let found = values_found _ c.self.inside.ini.sections _ c.args.index c.self.invariant.finds_values
+    let found = values_found _ c.self.inside.ini.sections _ c.args.index c.self.invariant.0.finds_values
     (sym c.in_ok-listed.ensures.value) in
     let same = some_is_one (c.in_ok-section.ensures
     ∙ ap (λ (xs : List Section). slice_get xs c.in_ok-listed.listed.now.position) c.sections.ensures ∙ found.there)

@@ -17,5 +17,5 @@ returns c =
     c.section_at.ensures
     ∙ ap (λ (xs : List Section). option_and_then (slice_get xs) (option_copied c.get.result)) c.sections.ensures
     ∙ ap (option_and_then (slice_get ss)) c.get.ensures.value
-    ∙ finds nat_cmp (λ key s. is_index key (index_named s.name)) _ ss c.self.invariant.finds_objects key
+    ∙ finds nat_cmp (λ key s. is_index key (index_named s.name)) _ ss c.self.invariant.0.finds_objects key
     )

@@ -7,12 +7,12 @@ use Rattle.eds_device.proofs.device.Device.values_section.Goals as goal
 pub returns-in_err-listed : goal.returns-in_err-listed
 returns-in_err-listed c =
     rw (c.from_residual.ensures, ← c.self.view_is)
-    (sym (no_values_found _ c.self.inside.ini.sections c.args.index c.self.invariant.finds_values
+    (sym (no_values_found _ c.self.inside.ini.sections c.args.index c.self.invariant.0.finds_values
     (sym c.in_err-listed.ensures.value)))
 
 pub returns : goal.returns
 returns c =
-    let found = values_found _ c.self.inside.ini.sections _ c.args.index c.self.invariant.finds_values
+    let found = values_found _ c.self.inside.ini.sections _ c.args.index c.self.invariant.0.finds_values
     (sym c.in_ok-listed.ensures.value) in
     rw (← c.self.view_is) (c.section_at.ensures
     ∙ ap (λ (xs : List Section). slice_get xs c.in_ok-listed.listed.now.position) c.sections.ensures ∙ found.there
