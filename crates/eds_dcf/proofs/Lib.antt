@@ -12,6 +12,7 @@ mod LawLemmas
 pub mod LineLemmas
 mod MadeLemmas
 mod NamedLemmas
+mod PlainLemmas
 mod PrintableLemmas
 pub mod PrintedLemmas
 mod SectionLemmas

@@ -1,5 +1,5 @@
 //! The compact objects of a device, and the values that are set of them.
-ghost use Rattle.std.specs.Prelude.{◌≡◌, ◌++◌, ℕ, IfOk, IfSome, OnOk, option_map};
+ghost use Rattle.std.specs.Prelude.{◌≡◌, ◌++◌, ℕ, IfOk, IfSome, IsTrue, None, OnOk, option_map};
 ghost use Rattle.std.specs.FinMap.{get};
 ghost use Rattle.std.specs.List.{flat_map};
 ghost use Rattle.std.specs.Option.{option_to_list};
@@ -17,7 +17,7 @@ use crate::setting::Setting;
 use crate::values::{NR_OF_ENTRIES, put_values};
 use co_dict::Dict;
 use co_text::index_digits;
-use eds_device::{Device, Origin, Section, compact_count, kind_of};
+use eds_device::{Device, Origin, Section, compact_count, kind_of, place_named};
 use std::alloc::{AllocError, Global};
 
 /// A compact object's section, and its highest sub-index.
@@ -28,6 +28,31 @@ fn compact_object(device: &Device, index: u16) -> Option<(&Section, u8)>
     let section = device.object_section(index)?;
     let highest = compact_count(section)?;
     Some((section, highest))
+}
+
+/// Whether sub 0 of an object stands in a section that is named for the object, as that of a VAR does:
+/// then the object isn't compact. Looked for near a position among the entries first.
+fn is_plain_object(device: &Device, near: usize, index: u16) -> bool
+    ensures { IsTrue result → object_of device.now.sections index ≡ None }
+{
+    let Some(placed) = device.placed(near, index, 0) else {
+        return false;
+    };
+    let Origin::Own(section) = placed.origin else {
+        return false;
+    };
+    place_named(section.name()).is_none()
+}
+
+/// The same as `compact_object`, which most objects aren't: these are told by their sub 0, looked for
+/// near a position among the entries first.
+fn compact_object_near(device: &Device, near: usize, index: u16) -> Option<(&Section, u8)>
+    ensures { option_map (λ object. (object.0.now, object.1)) result ≡ object_of device.now.sections index }
+{
+    if is_plain_object(device, near, index) {
+        return None;
+    }
+    compact_object(device, index)
 }
 
 /// Whether an entry stands in the section of a compact object.
@@ -115,12 +140,14 @@ fn put_new(out: &mut Vec<u8>, alloc: Global, index: u16, set: &[Setting]) -> Res
     Ok(())
 }
 
-/// Writes the section that is made for a compact object without one, if values of it are set.
+/// Writes the section that is made for a compact object without one, if values of it are set. The
+/// object's sub 0 is looked for near a position among the entries first.
 pub(crate) fn put_made(
     out: &mut Vec<u8>,
     alloc: Global,
     device: &Device,
     values: &Dict,
+    near: usize,
     index: u16,
 ) -> Result<(), AllocError>
     requires { (place : ℕ × ℕ) → IfSome (get values.now place) (Fits (kind_at device.now.sections place)) }
@@ -130,7 +157,7 @@ pub(crate) fn put_made(
     if device.values_section(index).is_some() {
         return Ok(());
     }
-    let Some((_, highest)) = compact_object(device, index) else {
+    let Some((_, highest)) = compact_object_near(device, near, index) else {
         return Ok(());
     };
     let set = values_set(alloc, device, values, index, highest)?;

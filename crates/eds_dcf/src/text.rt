@@ -77,10 +77,12 @@ fn put_all_made(
     ensures { OnOk result (out.new.items ≡ out.old.items
         ++ text_of (made_sections device.now.sections (get values.now))) }
 {
+    let mut position = 0usize;
     for (index, sub) in device.pairs() {
         if *sub == 0 {
-            put_made(out, alloc, device, values, *index)?;
+            put_made(out, alloc, device, values, position, *index)?;
         }
+        position = position.wrapping_add(1);
     }
     Ok(())
 }

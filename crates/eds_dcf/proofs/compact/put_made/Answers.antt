@@ -18,7 +18,7 @@ returns-in_default c =
     nothing_more _ _ (not_made_of_others c.args.device.now.sections (get c.args.values.now) c.args.index
     (sym (ap is_some c.values_section.ensures) ∙ is_some_copied c.values_section.result ∙ sym c.is_some.ensures
     ∙ c.if-is_some.false)
-    (sym c.compact_object.ensures ∙ ap (option_map (λ object. (object.0.now, object.1))) c.in_default.is))
+    (sym c.compact_object_near.ensures ∙ ap (option_map (λ object. (object.0.now, object.1))) c.in_default.is))
 
 pub returns : goal.returns
 returns c =
@@ -30,4 +30,4 @@ returns c =
     c.in-Some.highest
     (sym (ap is_some c.values_section.ensures) ∙ is_some_copied c.values_section.result ∙ sym c.is_some.ensures
     ∙ c.if-is_some.false)
-    (sym c.compact_object.ensures ∙ ap (option_map (λ object. (object.0.now, object.1))) c.in-Some.is))
+    (sym c.compact_object_near.ensures ∙ ap (option_map (λ object. (object.0.now, object.1))) c.in-Some.is))
