@@ -2,6 +2,7 @@
 use Rattle.std.proofs.Common.{◌≡◌, ℕ, ◌≤◌, Bool, true, false, cond, ◌==◌, ◌&&◌, List, [], ◌∷◌, ◌++◌, length, reverse}
 use Rattle.std.proofs.Common.{All, IfSome, Option, None, Some, is_some, option_copied, option_map, codes, decimal, refl}
 use Rattle.std.proofs.Common.{sym, ap, subst, ◌∙◌, append-nil, arith}
+use Rattle.std.specs.Prelude.{if◌then◌else◌}
 use Rattle.std.proofs.lemmas.Bool.Decides.{nat_tests}
 use Rattle.std.proofs.lemmas.List.{reverse-append}
 use Rattle.std.proofs.lemmas.List.Elements.{All-head, All-tail, All-weaker}
@@ -114,10 +115,13 @@ module _ (ss : List Section) (values : ℕ × ℕ → Option (List ℕ)) (place 
   unfolding value_pair
   no_compact_sub is = rw is refl
 
-  pub no_value : is_compact (origin_of ss place.0 place.1) ≡ true → values place ≡ None
-      → None ≡ value_pair ss values place
+  pub no_value : values place ≡ None → None ≡ value_pair ss values place
   unfolding value_pair
-  no_value is none = rw (is, none) refl
+  no_value none = rw none (by (is_compact (origin_of ss place.0 place.1)))
+    where
+      by : (t : Bool) → let nothing : Option Pair = None in nothing ≡ (if t then nothing else nothing)
+      by true = refl
+      by false = refl
 
   pub pair_of_value : (kind : DataType) (bytes key text : List ℕ) → is_compact (origin_of ss place.0 place.1) ≡ true
       → values place ≡ Some bytes → kind ≡ kind_at ss place → key ≡ decimal place.1 → text ≡ text_of_value kind bytes

@@ -73,12 +73,12 @@ fn value_setting(
     requires { (place : ℕ × ℕ) → IfSome (get values.now place) (Fits (kind_at device.now.sections place)) }
     ensures { IfOk result (λ setting. setting ≡ value_pair device.now.sections (get values.now) (index, sub)) }
 {
-    if !is_compact(device.origin(index, sub)) {
-        return Ok(None);
-    }
     let Some(bytes) = values.read(index, sub) else {
         return Ok(None);
     };
+    if !is_compact(device.origin(index, sub)) {
+        return Ok(None);
+    }
     let text = text_of(alloc, device.kind(index, sub), bytes)?;
     let key = sub.to_string(alloc)?.into_bytes();
     Ok(Some(Setting::new(key, text)))

@@ -13,8 +13,7 @@ returns-then-not-is_compact c =
 pub returns-in_default : goal.returns-in_default
 returns-in_default c =
     let place : ℕ × ℕ = (c.args.index, c.args.sub) in
-    no_value c.args.device.now.sections (get c.args.values.now) place (ap is_compact (sym c.origin.ensures)
-    ∙ sym c.is_compact.ensures ∙ c.if-not-is_compact.false) (sym c.in_default.ensures.value)
+    no_value c.args.device.now.sections (get c.args.values.now) place (sym c.in_default.ensures.value)
 
 pub text_of-requires : goal.text_of-requires
 text_of-requires c =
