@@ -86,10 +86,10 @@ impl Item for PlannedMessage {
 
 impl Plan {
     /// Whether the other plan says the same of the same messages. Takes time by the length of both up
-    /// to the first difference, and no memory.
+    /// to the first difference at most, and no memory.
     pub fn same(&self, other: &Plan) -> bool
         ensures { IsTrue result ↔ (self.now ≡ other.now) }
     {
-        are_same(self.messages(), other.messages())
+        self.fingerprint() == other.fingerprint() && are_same(self.messages(), other.messages())
     }
 }

@@ -8,6 +8,7 @@ mod consumed;
 mod consumer;
 mod entry_faults;
 mod faults;
+mod fingerprint;
 mod identifiers;
 mod judging;
 pub mod laws;

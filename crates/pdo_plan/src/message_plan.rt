@@ -1,7 +1,9 @@
 //! The plan of messages.
 ghost use Rattle.std.specs.Prelude.{◌≡◌, All};
+ghost use Rattle.pdo_plan.specs.Fingerprint.{fingerprint_of};
 ghost use Rattle.pdo_plan.specs.Plan.{IsWithin, clean};
 
+use crate::fingerprint::fingerprint_of;
 use crate::planned_message::PlannedMessage;
 use std::marker::Model;
 
@@ -9,26 +11,41 @@ use std::marker::Model;
 #[derive(Drop)]
 pub struct Plan {
     messages: Vec<PlannedMessage>,
+    fingerprint: u64,
 }
 
 impl Model for Plan {
-    ghost use Rattle.std.specs.Prelude.{List, All};
+    ghost use Rattle.std.specs.Prelude.{◌≡◌, List, All};
     ghost use Rattle.pdo_plan.specs.declared.planned_message.PlannedMessage.{PlannedMessage};
+    ghost use Rattle.pdo_plan.specs.Fingerprint.{fingerprint_of};
     ghost use Rattle.pdo_plan.specs.Plan.{IsWithin, clean};
 
     ghost Value = { List PlannedMessage };
 
     ghost view = { λ plan. plan.messages.items };
 
-    ghost invariant = { λ plan. All IsWithin (clean plan.messages.items) };
+    ghost invariant = { λ plan. All IsWithin (clean plan.messages.items)
+        × (plan.fingerprint ≡ fingerprint_of plan.messages.items) };
 }
 
 impl Plan {
+    /// The plan that says this. Takes time by its length, and no memory.
     pub(crate) fn new(messages: Vec<PlannedMessage>) -> Self
         requires { All IsWithin (clean messages.items) }
         ensures { result ≡ messages.items }
     {
-        Plan { messages }
+        let fingerprint = fingerprint_of(&messages);
+        Plan {
+            messages,
+            fingerprint,
+        }
+    }
+
+    /// A number by which plans are told apart. Takes constant time.
+    pub(crate) fn fingerprint(&self) -> u64
+        ensures { result ≡ fingerprint_of self.now }
+    {
+        self.fingerprint
     }
 
     /// What is said of each message, by name.

@@ -1,0 +1,42 @@
+-- Numbers that tell plans apart: plans with other fingerprints are other plans. They are this program's own, and no
+-- contract of a public call shows one.
+use Rattle.std.specs.Prelude.{ℕ, ◌+◌, ◌*◌, ◌^◌, ◌%◌, List, length}
+use Rattle.std.specs.List.{fold}
+use Rattle.co_messages.specs.declared.message.Message.{Message}
+use Rattle.pdo_plan.specs.declared.clean.Clean.{Clean}
+use Rattle.pdo_plan.specs.declared.consumer.Consumer.{Consumer}
+use Rattle.pdo_plan.specs.declared.outcome.Outcome.{Outcome}
+use Rattle.pdo_plan.specs.declared.outcome.Outcome.TheVariants.{Planned, Faulty}
+use Rattle.pdo_plan.specs.declared.planned_message.PlannedMessage.{PlannedMessage}
+use Rattle.pdo_stations.specs.declared.mapped.Mapped.{Mapped}
+
+-- a fingerprint with one more number
+unfoldable pub mixed : ℕ → ℕ → ℕ
+mixed fingerprint number = ((fingerprint * 0x5851F42D4C957F2D) % 2 ^ 64 + number) % 2 ^ 64
+
+-- with a mapping entry, a consumer, a message
+abbrev pub with_mapped : ℕ → Mapped → ℕ
+with_mapped fingerprint m = mixed (mixed (mixed fingerprint m.index) m.sub) m.bits
+
+abbrev pub with_consumer : ℕ → Consumer → ℕ
+with_consumer fingerprint k = fold with_mapped (mixed (mixed fingerprint k.node) k.rpdo) k.mapping
+
+abbrev pub with_message : ℕ → Message → ℕ
+with_message fingerprint m =
+    mixed (mixed (mixed (mixed (mixed (mixed fingerprint m.node) m.tpdo) m.transmission) m.inhibit) m.event) m.cob
+
+abbrev pub with_clean : ℕ → Clean → ℕ
+with_clean fingerprint c =
+    fold with_consumer
+    (fold with_mapped (mixed (mixed (with_message fingerprint c.message) c.start) c.identifier) c.mapping) c.consumers
+
+-- of faults their number
+abbrev pub with_outcome : ℕ → Outcome → ℕ
+with_outcome fingerprint (Planned c) = with_clean fingerprint c
+with_outcome fingerprint (Faulty fs) = mixed fingerprint (length fs)
+
+abbrev pub with_planned : ℕ → PlannedMessage → ℕ
+with_planned fingerprint p = with_outcome (fold mixed fingerprint p.name) p.outcome
+
+unfoldable pub fingerprint_of : List PlannedMessage → ℕ
+fingerprint_of plan = fold with_planned 0 plan
