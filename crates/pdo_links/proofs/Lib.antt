@@ -5,3 +5,4 @@ mod Sizes
 mod Tabled
 pub mod Values
 pub mod WhoseLemmas
+pub mod Rising

@@ -1,74 +1,23 @@
 -- The writes of PDOs by number.
-use Rattle.std.proofs.Common.{◌≡◌, ℕ, zero, suc, ◌+◌, ◌-◌, ◌≤◌, Bool, true, false, cond, List, [], ◌∷◌, ◌++◌, Contains}
-use Rattle.std.proofs.Common.{Option, Some, None, option_map, refl, sym, ap, subst, ◌∙◌, append_assoc, arith}
+use Rattle.std.proofs.Common.{◌≡◌, ℕ, zero, suc, Bool, true, false, cond, List, [], ◌∷◌, ◌++◌, Contains}
+use Rattle.std.proofs.Common.{Option, Some, None, option_map, refl, sym, ap, subst, ◌∙◌, arith}
 use Rattle.std.specs.Prelude.{◌==◌, filter_map, if◌then◌else◌}
 use Rattle.std.specs.BTreeMap.{is_at}
-use Rattle.std.specs.List.{find, flat_map, range_with_len}
+use Rattle.std.specs.List.{find}
 use Rattle.std.specs.Map.{lookup}
-use Rattle.std.specs.Option.{option_map_or}
 use Rattle.std.specs.Ordering.{nat_cmp, eq_by_cmp}
 use Rattle.std.proofs.lemmas.Map.Lookups.{exact_unsigned}
 use Rattle.std.proofs.lemmas.Map.Views.{Contains-from_lookup, tells_apart, exact_unsigned_eq}
-use Rattle.concise_dcf.specs.declared.write.Write.{Write}
-use Rattle.ini_text.specs.Content.{Section}
 use Rattle.co_params.proofs.WrittenLemmas.{from_filter_map}
 use Rattle.pdo_plan.specs.declared.clean.Clean.{Clean}
 use Rattle.pdo_plan.specs.declared.consumer.Consumer.{Consumer}
-use Rattle.pdo_links.specs.Tables.{AreValues, IsTableOf}
-use Rattle.pdo_links.specs.Writes.{at_number, by_number, tpdo_of, rpdo_of}
+use Rattle.pdo_links.specs.Tables.{IsTableOf}
+use Rattle.pdo_links.specs.Writes.{tpdo_of, rpdo_of}
 use Rattle.pdo_links.proofs.Tabled.{tabled}
-use Rattle.pdo_links.proofs.Values.{both_values}
-
--- ---- one number more
 
 pub append_none : {X : Type 0} (xs : List X) → xs ++ [] ≡ xs
 append_none [] = refl
 append_none (x ∷ xs) = ap (λ ys. x ∷ ys) (append_none xs)
-
-range_more : (g : ℕ → List Write) (a n : ℕ)
-    → flat_map g (range_with_len a (suc n)) ≡ flat_map g (range_with_len a n) ++ g (a + n)
-range_more g a zero = let e : a ≡ a + 0 = omega arith in append_none (g a) ∙ ap g e
-range_more g a (suc n) =
-    let e : a + 1 + n ≡ a + suc n = omega arith in
-    ap (λ (ws : List Write). g a ++ ws) (range_more g (a + 1) n
-    ∙ ap (λ (k : ℕ). flat_map g (range_with_len (a + 1) n) ++ g k) e)
-    ∙ sym (append_assoc (g a) (flat_map g (range_with_len (a + 1) n)) (g (a + suc n)))
-
-module _ (g : ℕ → List Write) where
-  abbrev pub so_far : ℕ → List Write
-  so_far number = flat_map g (range_with_len 1 (number - 1))
-
-  more : (number : ℕ) → 1 ≤ number → so_far (number + 1) ≡ so_far number ++ g number
-  more number low =
-      let n : number + 1 - 1 ≡ suc (number - 1) = omega arith in
-      let k : 1 + (number - 1) ≡ number = omega arith in
-      ap (λ (m : ℕ). flat_map g (range_with_len 1 m)) n ∙ range_more g 1 (number - 1)
-      ∙ ap (λ (m : ℕ). flat_map g (range_with_len 1 (number - 1)) ++ g m) k
-
-  pub written_more : (old now new : List Write) (number : ℕ) → 1 ≤ number → now ≡ old ++ so_far number
-      → new ≡ now ++ g number → new ≡ old ++ so_far (number + 1)
-  written_more old now new number low before added =
-      added ∙ ap (λ (ws : List Write). ws ++ g number) before ∙ append_assoc old (so_far number) (g number)
-      ∙ ap (λ (ws : List Write). old ++ ws) (sym (more number low))
-
-  -- a number without a PDO
-  pub unwritten_more : (old now : List Write) (number : ℕ) → 1 ≤ number → now ≡ old ++ so_far number → g number ≡ []
-      → now ≡ old ++ so_far (number + 1)
-  unwritten_more old now number low before nothing =
-      written_more old now now number low before (sym (append_none now)
-      ∙ ap (λ (ws : List Write). now ++ ws) (sym nothing))
-
-  pub values_more : (ss : List Section) (number : ℕ) → 1 ≤ number → AreValues ss (so_far number)
-      → AreValues ss (g number) → AreValues ss (so_far (number + 1))
-  values_more ss number low before here = subst (AreValues ss) (sym (more number low))
-      (both_values ss (so_far number) (g number) before here)
-
--- all numbers
-pub all_numbers : {Y : Type 0} (f : Y → List Write) (pdos : List (ℕ × Y)) (number : ℕ) → number ≡ 513
-    → so_far (at_number f pdos) number ≡ by_number f pdos
-unfolding by_number
-all_numbers f pdos number is = let n : number - 1 ≡ 512 = omega arith
-    in ap (λ (m : ℕ). flat_map (at_number f pdos) (range_with_len 1 m)) n
 
 -- ---- the PDO of a number
 
@@ -77,14 +26,6 @@ module _ {X Y : Type 0} (shows : X → Y) (entries : List (ℕ × X)) (pdos : Li
   pub there : (x : X) → Some x ≡ lookup (is_at (nat_cmp number)) entries
       → lookup (is_at (nat_cmp number)) pdos ≡ Some (shows x)
   there x is = sym (tabled shows entries pdos number table) ∙ ap (option_map shows) (sym is)
-
-  pub at_there : (f : Y → List Write) (x : X) → Some x ≡ lookup (is_at (nat_cmp number)) entries
-      → at_number f pdos number ≡ f (shows x)
-  at_there f x is = ap (λ o. option_map_or f o []) (there x is)
-
-  pub at_none : (f : Y → List Write) → None ≡ lookup (is_at (nat_cmp number)) entries → at_number f pdos number ≡ []
-  at_none f is = ap (λ o. option_map_or f o [])
-      (sym (tabled shows entries pdos number table) ∙ ap (option_map shows) (sym is))
 
 -- ---- the messages behind PDOs
 

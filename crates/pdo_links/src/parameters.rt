@@ -1,8 +1,5 @@
 //! The communication and mapping parameters of PDOs (CiA 301): where they stand.
 
-/// The highest number of a TPDO or RPDO of a node; the lowest is 1.
-pub(crate) const LAST_PDO: u16 = 512;
-
 /// The communication parameter of the first TPDO; that of each next one is the next object.
 pub(crate) const FIRST_TPDO: u16 = 0x1800;
 

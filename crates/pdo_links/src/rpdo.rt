@@ -12,7 +12,7 @@ ghost use Rattle.pdo_links.specs.Writes.{taken_type, rpdo_writes, rpdo_of, by_nu
 use crate::first::put_first;
 use crate::mapping::put_mapping;
 use crate::parameters::{
-    AT_ONCE, COB_ID, FIRST_RPDO, LAST_PDO, MAPPING_DISTANCE, TRANSMISSION_TYPE, WITH_SYNC,
+    AT_ONCE, COB_ID, FIRST_RPDO, MAPPING_DISTANCE, TRANSMISSION_TYPE, WITH_SYNC,
 };
 use crate::put::{put_u8, put_u32};
 use crate::taken::Taken;
@@ -123,10 +123,8 @@ pub(crate) fn put_rpdos(
         (filter_map (rpdo_of node) (clean plan.now)))) }
 {
     let rpdos = rpdos_of(alloc, plan.messages(), node)?;
-    for number in 1..=LAST_PDO {
-        if let Some(taken) = rpdos.get(&number) {
-            put_rpdo(writes, taken.clean, taken.consumer)?;
-        }
+    'pdos: for (_number, taken) in rpdos.iter() {
+        put_rpdo(writes, taken.clean, taken.consumer)?;
     }
     Ok(())
 }

@@ -11,8 +11,7 @@ ghost use Rattle.pdo_links.specs.Writes.{write_at, start_write, time_write, tpdo
 use crate::first::put_first;
 use crate::mapping::put_mapping;
 use crate::parameters::{
-    COB_ID, EVENT_TIMER, FIRST_TPDO, INHIBIT_TIME, LAST_PDO, MAPPING_DISTANCE, SYNC_START,
-    TRANSMISSION_TYPE,
+    COB_ID, EVENT_TIMER, FIRST_TPDO, INHIBIT_TIME, MAPPING_DISTANCE, SYNC_START, TRANSMISSION_TYPE,
 };
 use crate::put::{put_u8, put_u16, put_u32};
 use co_fields::CobId;
@@ -171,10 +170,8 @@ pub(crate) fn put_tpdos(
         (filter_map (tpdo_of node) (clean plan.now)))) }
 {
     let tpdos = tpdos_of(alloc, plan.messages(), node)?;
-    for number in 1..=LAST_PDO {
-        if let Some(clean) = tpdos.get(&number) {
-            put_tpdo(writes, device, node, clean)?;
-        }
+    'pdos: for (_number, clean) in tpdos.iter() {
+        put_tpdo(writes, device, node, clean)?;
     }
     Ok(())
 }

@@ -17,8 +17,8 @@ use std::alloc::{AllocError, Global};
 /// those of its TPDOs and then of its RPDOs, each by number. A PDO is switched off, its times and
 /// its mapping are written, and it is switched on.
 ///
-/// Takes time by the number of messages with their consumers, that of the writes, that of the
-/// device's entries, and the 512 numbers that a PDO can have. Want of memory is the only error.
+/// Takes time by the number of messages with their consumers, that of the writes, and that of the
+/// device's entries. Want of memory is the only error.
 pub fn writes(
     alloc: Global,
     plan: &Plan,

@@ -1,18 +1,26 @@
-use Rattle.std.proofs.Common.{◌≡◌, ◌++◌, List}
+use Rattle.std.proofs.Common.{◌≡◌, ℕ, ◌++◌, List, All}
 use Rattle.std.specs.Prelude.{filter_map}
+use Rattle.std.specs.List.{flat_map}
+use Rattle.concise_dcf.specs.declared.write.Write.{Write}
 use Rattle.ini_text.specs.Content.{Section}
 use Rattle.pdo_plan.specs.declared.clean.Clean.{Clean}
 use Rattle.pdo_plan.specs.declared.consumer.Consumer.{Consumer}
 use Rattle.pdo_plan.specs.Plan.{clean, IsMadeFor}
+use Rattle.pdo_links.specs.declared.taken.Taken.{Taken}
 use Rattle.pdo_links.specs.Tables.{AreValues}
-use Rattle.pdo_links.specs.Writes.{rpdo_of, rpdo_writes, at_number}
-use Rattle.pdo_links.proofs.Numbered.{so_far}
+use Rattle.pdo_links.specs.Writes.{rpdo_of, rpdo_writes, by_number}
+use Rattle.pdo_links.proofs.Numbered.{Takes}
 use Rattle.pdo_links.proofs.rpdo.put_rpdos.Given as goal
 
--- the RPDOs of the numbers so far are written
-abbrev pub invariant-loop-number : goal.invariant-loop-number
-invariant-loop-number l =
-    let written = so_far (at_number (λ (t : Clean × Consumer). rpdo_writes t.0 t.1)
-    (filter_map (rpdo_of l.node) (clean l.plan))) l.number-counter in
-    (l.writes.items ≡ l.initial.writes.items ++ written)
-    × ((ss : List Section) → IsMadeFor l.plan ss l.node → AreValues ss written)
+-- what is written so far, with the RPDOs that are left, is what is written of all numbers
+abbrev pub invariant-pdos : goal.invariant-pdos
+invariant-pdos l =
+    let f : Clean × Consumer → List Write = λ t. rpdo_writes t.0 t.1 in
+    let all : List Write = by_number f (filter_map (rpdo_of l.node) (clean l.plan)) in
+    let left : List Write = flat_map (λ (e : ℕ × Taken). f (e.1.clean.now, e.1.consumer.now)) l._number-iterator in
+    record {
+      written : l.writes.items ++ left ≡ l.initial.writes.items ++ all;
+      taken : All (λ (e : ℕ × Taken). Takes (clean l.plan) l.node e.0 (e.1.clean.now, e.1.consumer.now))
+          l._number-iterator;
+      fits : (ss : List Section) → IsMadeFor l.plan ss l.node → AreValues ss left → AreValues ss all;
+    }

@@ -1,15 +1,23 @@
-use Rattle.std.proofs.Common.{◌≡◌, ◌++◌}
+use Rattle.std.proofs.Common.{◌≡◌, ℕ, ◌++◌, Bor, List, All}
 use Rattle.std.specs.Prelude.{filter_map}
+use Rattle.std.specs.List.{flat_map}
+use Rattle.concise_dcf.specs.declared.write.Write.{Write}
+use Rattle.pdo_plan.specs.declared.clean.Clean.{Clean}
 use Rattle.pdo_plan.specs.Plan.{clean, IsMadeFor}
 use Rattle.pdo_links.specs.Tables.{AreValues}
-use Rattle.pdo_links.specs.Writes.{tpdo_of, tpdo_writes, at_number}
-use Rattle.pdo_links.proofs.Numbered.{so_far}
+use Rattle.pdo_links.specs.Writes.{tpdo_of, tpdo_writes, by_number}
+use Rattle.pdo_links.proofs.Numbered.{Sends}
 use Rattle.pdo_links.proofs.tpdo.put_tpdos.Given as goal
 
--- the TPDOs of the numbers so far are written
-abbrev pub invariant-loop-number : goal.invariant-loop-number
-invariant-loop-number l =
-    let written = so_far (at_number (tpdo_writes l.device.sections l.node)
-    (filter_map (tpdo_of l.node) (clean l.plan))) l.number-counter in
-    (l.writes.items ≡ l.initial.writes.items ++ written)
-    × (IsMadeFor l.plan l.device.sections l.node → AreValues l.device.sections written)
+-- what is written so far, with the TPDOs that are left, is what is written of all numbers
+abbrev pub invariant-pdos : goal.invariant-pdos
+invariant-pdos l =
+    let f : Clean → List Write = tpdo_writes l.device.sections l.node in
+    let all : List Write = by_number f (filter_map (tpdo_of l.node) (clean l.plan)) in
+    let left : List Write = flat_map (λ (e : ℕ × Bor Clean). f e.1.now) l._number-iterator in
+    record {
+      written : l.writes.items ++ left ≡ l.initial.writes.items ++ all;
+      sent : All (λ (e : ℕ × Bor Clean). Sends (clean l.plan) l.node e.0 e.1.now) l._number-iterator;
+      fits : IsMadeFor l.plan l.device.sections l.node → AreValues l.device.sections left
+          → AreValues l.device.sections all;
+    }
