@@ -1,15 +1,17 @@
 -- The first line of bytes in hexadecimal digits, the others, and their number.
 use Rattle.std.proofs.Common.{◌≡◌, ◌≢◌, ℕ, zero, suc, ◌+◌, ◌-◌, ◌/◌, ◌%◌, ◌<◌, ◌≤◌, true, false, cond, eqb, ltb, List}
 use Rattle.std.proofs.Common.{[], ◌∷◌, ◌++◌, length, take, drop, refl, sym, ap, ◌∙◌, append_assoc, append-nil, zero-add}
-use Rattle.std.proofs.Common.{arith, length-drop, length-append}
+use Rattle.std.proofs.Common.{arith, length-drop, length-append, get_or, subst}
 use Rattle.std.proofs.lemmas.List.{take_min, drop_min, take_all, drop_all, take_at, drop_at}
 use Rattle.std.proofs.lemmas.List.Sums.{sum_by-cons, sum_by-append}
 use Rattle.std.proofs.lemmas.Bool.{ne_eqb}
-use Rattle.std.specs.Prelude.{min}
+use Rattle.std.specs.Prelude.{min, ◌==◌}
+use Rattle.std.specs.Str.{byte}
 use Rattle.std.specs.Fmt.{digit_glyph}
 use Rattle.std.specs.List.{flat_map}
 use Rattle.co_text.specs.Lines.{line_feed, line_count}
-use Rattle.listed_text.specs.Hex.{hex_line, rows, row_count, hex_text}
+use Rattle.co_text.specs.Digits.{byte_digits}
+use Rattle.listed_text.specs.Hex.{hex_line, rows, row_count, hex_text, spaced}
 
 one_more : (n k : ℕ) → 0 < n → k ≡ n - 16 → (n + 15) / 16 ≡ suc ((k + 15) / 16)
 one_more n k some e = omega arith
@@ -38,6 +40,39 @@ hex_step out new row rest after all e r a some inv =
     ∙ ap (λ t. out ++ (hex_line t ++ hex_text after)) (r ∙ take_min 16 rest)
     ∙ ap (λ t. out ++ (hex_line (take 16 rest) ++ hex_text t)) (a ∙ drop_min 16 rest)
     ∙ ap (λ t. out ++ t) (sym (hex_text-more rest some))
+    ∙ inv
+
+-- ---- four bytes of a line at once
+
+-- what is added for them
+abbrev four : ℕ → ℕ → ℕ → ℕ → ℕ → List ℕ
+four a b c d end = spaced a (spaced b (spaced c (byte_digits d ++ end ∷ [])))
+
+four_is : (a b c d end : ℕ) (after : List ℕ) → end ≡ cond (length after == 0) line_feed (byte " ")
+    → four a b c d end ++ hex_line after ≡ hex_line (a ∷ b ∷ c ∷ d ∷ after)
+four_is a b c d end [] e = ap (λ t. four a b c d t) e
+four_is a b c d end (x ∷ xs) e =
+    let some : (suc (length xs) == 0) ≡ false = grind arith in
+    ap (λ t. four a b c d t ++ hex_line (x ∷ xs)) (e ∙ ap (λ t. cond t line_feed (byte " ")) some)
+
+-- the line's step
+pub four_step : (out new all rest : List ℕ) (n end : ℕ) → 4 ≤ length rest → n ≡ length rest
+    → end ≡ cond (length (take (n - 4) (drop 4 rest)) == 0) line_feed (byte " ")
+    → new ≡ out ++ four (get_or rest 0 0) (get_or rest 1 0) (get_or rest 2 0) (get_or rest 3 0) end
+    → out ++ hex_line rest ≡ all → new ++ hex_line (take (n - 4) (drop 4 rest)) ≡ all
+four_step out new all [] n end le len e added inv = absurd (omega arith)
+four_step out new all (a ∷ []) n end le len e added inv = absurd (omega arith)
+four_step out new all (a ∷ b ∷ []) n end le len e added inv = absurd (omega arith)
+four_step out new all (a ∷ b ∷ c ∷ []) n end le len e added inv = absurd (omega arith)
+four_step out new all (a ∷ b ∷ c ∷ d ∷ after) n end le len e added inv =
+    let left : length after ≤ n - 4 = omega arith in
+    let whole : take (n - 4) after ≡ after = take_all (n - 4) after left in
+    let ended : end ≡ cond (length after == 0) line_feed (byte " ") =
+    subst (λ (t : List ℕ). end ≡ cond (length t == 0) line_feed (byte " ")) whole e in
+    ap (λ (t : List ℕ). new ++ hex_line t) whole
+    ∙ ap (λ (t : List ℕ). t ++ hex_line after) added
+    ∙ append_assoc out (four a b c d end) (hex_line after)
+    ∙ ap (λ (t : List ℕ). out ++ t) (four_is a b c d end after ended)
     ∙ inv
 
 -- ---- a row, and the rows counted
