@@ -10,5 +10,6 @@ pub mod ListedLemmas
 pub mod MapLemmas
 pub mod OnceLemmas
 pub mod PlaceLemmas
+pub mod PositionLemmas
 pub mod ReadLemmas
 pub mod TableLemmas

@@ -23,7 +23,7 @@ use crate::fixed::{Fixed, fixed_defaults};
 use crate::index::{Listed, object_positions, sub_positions, values_positions};
 use crate::origin::Origin;
 use crate::places::places_of;
-use crate::table::{Stand, find_stand, find_stand_near, stands};
+use crate::table::{Stand, find_stand, find_stand_near, stand_there, stands};
 use eds_entries::Said;
 use ini_text::{Ini, Pair, Section};
 use std::alloc::Global;
@@ -203,6 +203,21 @@ impl Device {
             &self.places,
             &self.stands,
             near,
+            index,
+            sub,
+        )
+    }
+
+    /// Where the entry at a position stands. Takes constant time.
+    pub(crate) fn stand_at(&self, position: usize, index: u16, sub: u8) -> Option<Stand>
+        requires { slice_get (pairs_of self.now.sections) position ≡ Some (index, sub) }
+        ensures { standing self.now.sections result ≡ origin_of self.now.sections index sub }
+    {
+        stand_there(
+            self.ini.sections(),
+            &self.places,
+            &self.stands,
+            position,
             index,
             sub,
         )

@@ -7,6 +7,7 @@ mod device;
 mod entries;
 mod fault;
 mod fixed;
+mod given;
 mod identity;
 mod index;
 pub mod laws;

@@ -140,6 +140,26 @@ pub(crate) fn stand_at(stands: &[Option<Stand>], position: usize) -> Option<Stan
     *stands.get(position)?
 }
 
+/// Where the entry at a position stands, as it was found. Takes constant time.
+pub(crate) fn stand_there(
+    sections: &[Section],
+    places: &[(u16, u8)],
+    stands: &[Option<Stand>],
+    position: usize,
+    index: u16,
+    sub: u8,
+) -> Option<Stand>
+    requires places { places.now ≡ pairs_of sections.now }
+    requires stands { AreStands sections.now places.now stands.now }
+    requires there { slice_get (pairs_of sections.now) position ≡ Some (index, sub) }
+    ensures { standing sections.now result ≡ origin_of sections.now index sub }
+{
+    let _ = sections;
+    let _ = places;
+    let _ = (index, sub);
+    stand_at(stands, position)
+}
+
 /// Where an entry stands, as it was found. Takes time by the logarithm of the entries.
 pub(crate) fn find_stand(
     sections: &[Section],
