@@ -1,8 +1,10 @@
 //! The writes of a node's parameters.
-ghost use Rattle.std.specs.Prelude.{◌≡◌, ◌≤◌, length, All, IfOk, IfSome, option_copied};
+ghost use Rattle.std.specs.Prelude.{◌≡◌, ◌≤◌, length, All, IfOk, IfSome, Some, option_copied};
+ghost use Rattle.std.specs.List.{slice_get};
 ghost use Rattle.co_values.specs.Values.{Fits};
 ghost use Rattle.eds_device.specs.Described.{kind_at};
 ghost use Rattle.eds_device.specs.Faults.{most_entries};
+ghost use Rattle.eds_device.specs.Places.{pairs_of};
 ghost use Rattle.co_params.specs.Parameters.{parameter_text, parameter_write, parameter_writes};
 
 use crate::judgement::judge;
@@ -31,20 +33,43 @@ pub fn parameter_text<'a>(
     if text.is_empty() { None } else { Some(text) }
 }
 
-/// The write of the parameter of an entry, where it has a text and no fault.
+/// The text of the parameter of the entry at a position of the device's entries, as `parameter_text` gives
+/// it.
+#[tactic(auto, unfolding(crate::specs::Parameters::parameter_text))]
+fn parameter_text_at<'a>(
+    params: &'a Params,
+    device: &'a Device,
+    position: usize,
+    index: u16,
+    sub: u8,
+) -> Option<&'a [u8]>
+    requires { slice_get (pairs_of device.now.sections) position ≡ Some (index, sub) }
+    ensures { option_copied result ≡ parameter_text device.now.sections params.now (index, sub) }
+{
+    let text = match params.get(index, sub) {
+        Some(text) => text,
+        None if is_of_pdos(index) => return None,
+        None => device.value_text_at(position, index, sub)?,
+    };
+    if text.is_empty() { None } else { Some(text) }
+}
+
+/// The write of the parameter of the entry at a position, where it has a text and no fault.
 fn parameter_write(
     alloc: Global,
     params: &Params,
     device: &Device,
     node: u8,
+    position: usize,
     index: u16,
     sub: u8,
 ) -> Result<Option<Write>, AllocError>
+    requires { slice_get (pairs_of device.now.sections) position ≡ Some (index, sub) }
     ensures write { IfOk result (λ write. write ≡ parameter_write device.now.sections params.now node (index, sub)) }
     ensures fits { IfOk result (λ write. IfSome write
         (λ w. Fits (kind_at device.now.sections (w.index, w.sub)) w.bytes)) }
 {
-    let Some(text) = parameter_text(params, device, index, sub) else {
+    let Some(text) = parameter_text_at(params, device, position, index, sub) else {
         return Ok(None);
     };
     match judge(alloc, device, node, index, sub, text)? {
@@ -72,8 +97,11 @@ pub fn writes(
     ensures count { IfOk result (λ writes. length writes.items ≤ most_entries) }
 {
     let mut writes = Vec::new(alloc);
-    for (index, sub) in device.pairs() {
-        if let Some(write) = parameter_write(alloc, params, device, node, *index, *sub)? {
+    let places = device.pairs();
+    for position in 0..places.len() {
+        let (index, sub) = places[position];
+        let write = parameter_write(alloc, params, device, node, position, index, sub)?;
+        if let Some(write) = write {
             writes.push(write)?;
         }
     }

@@ -6,7 +6,7 @@ use Rattle.co_params.specs.Parameters.{parameter_write}
 use Rattle.co_params.proofs.parameters.writes.Given as goal
 
 -- the writes of the entries so far, each a value of its entry
-abbrev pub invariant-loop-index : goal.invariant-loop-index
-invariant-loop-index l =
-    (l.writes.items ≡ filter_map (parameter_write l.device.sections l.params l.node) (take l.index-index l.index-items))
+abbrev pub invariant-loop-position : goal.invariant-loop-position
+invariant-loop-position l =
+    (l.writes.items ≡ filter_map (parameter_write l.device.sections l.params l.node) (take l.position l.places))
     × All (λ w. Fits (kind_at l.device.sections (w.index, w.sub)) w.bytes) l.writes.items
