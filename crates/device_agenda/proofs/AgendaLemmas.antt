@@ -91,7 +91,7 @@ module _ (frames : List Waiting) (d : Device) where
   sent_deaf frame (inl e) = inl (sent_ignored frame ∙ e)
   sent_deaf frame (inr h) = inr (sent_idle frame h)
 
-  sent_sleeps : (groups : Groups) → Sleeps groups d → Sleeps groups (record d { waiting = frames })
+  pub sent_sleeps : (groups : Groups) → Sleeps groups d → Sleeps groups (record d { waiting = frames })
   sent_sleeps groups h = record {
     rests = sent_rests frames d h.rests;
     unspent = h.unspent;

@@ -305,6 +305,25 @@ impl ScheduledDevice {
         if self.does_nothing(t, delivery) {
             return Ok(());
         }
+        self.run_instant(t, delivery, shapes)
+    }
+
+    /// What `instant` does, whether it has to run or not.
+    pub(crate) fn run_instant<P: Shapes>(
+        &mut self,
+        t: u64,
+        delivery: &Option<Delivery>,
+        shapes: &mut P,
+    ) -> Result<(), AllocError>
+        requires { t < END }
+        ensures state { OnOk result (self.new ≡ outcome (at_instant t delivery.now self.old)
+            (P.seen shapes.old).image) }
+        ensures asked { OnOk result (IsAsked (at_instant t delivery.now self.old)
+            (P.seen shapes.old) (P.seen shapes.new) (P.asks shapes.old) (P.asks shapes.new)) }
+        ensures lasts { Lasts (P.seen shapes.old) (P.seen shapes.new) }
+        ensures refused { IsTrue self.old.spent → IsErr result }
+        ensures spent { OnErr result (IsTrue self.new.spent) }
+    {
         self.agenda = Agenda::unknown();
         run(&mut self.device, t, delivery, shapes)?;
         self.sync = sync_identifier(self.device.learnt(), self.device.values());
@@ -313,13 +332,21 @@ impl ScheduledDevice {
     }
 
     /// Whether nothing happens to it at the moment t.
-    pub(crate) fn does_nothing(&self, t: u64, delivery: &Option<Delivery>) -> bool
+    fn does_nothing(&self, t: u64, delivery: &Option<Delivery>) -> bool
         ensures nothing { IsTrue result → at_instant t delivery.now self.now ≡ Answer self.now }
         ensures unspent { IsTrue result → self.now.spent ≡ false }
     {
         if self.agenda.sleeps_through(t, delivery) {
             return true;
         }
+        self.is_left_alone(t, delivery)
+    }
+
+    /// Whether it isn't due at the moment t, and takes nothing of what is delivered.
+    pub(crate) fn is_left_alone(&self, t: u64, delivery: &Option<Delivery>) -> bool
+        ensures nothing { IsTrue result → at_instant t delivery.now self.now ≡ Answer self.now }
+        ensures unspent { IsTrue result → self.now.spent ≡ false }
+    {
         if self.agenda.awake {
             return false;
         }

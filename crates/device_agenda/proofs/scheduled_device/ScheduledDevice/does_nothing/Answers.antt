@@ -1,5 +1,5 @@
 use Rattle.std.proofs.Common.{sym, ◌∙◌}
-use Rattle.device_agenda.proofs.SleepLemmas.{one_sleeps, one_takes_nothing}
+use Rattle.device_agenda.proofs.SleepLemmas.{one_sleeps}
 use Rattle.device_agenda.proofs.scheduled_device.ScheduledDevice.does_nothing.Goals as goal
 
 pub returns-then-sleeps_through-clause-nothing : goal.returns-then-sleeps_through-clause-nothing
@@ -8,10 +8,3 @@ returns-then-sleeps_through-clause-nothing c h =
     rw (← c.self.view_is)
     (one_sleeps c.self.inside.agenda c.self.inside.device c.args.t c.args.delivery.now c.self.invariant.agenda
     (c.sleeps_through.ensures.bound c.if-sleeps_through.true) sleeps)
-
-pub returns-clause-nothing : goal.returns-clause-nothing
-returns-clause-nothing c h =
-    let early = sym c.has_come.ensures ∙ c.if-has_come.false in
-    rw (← c.self.view_is)
-    (one_takes_nothing c.self.inside.agenda c.self.inside.device c.args.t c.args.delivery.now c.self.invariant.agenda
-    c.if-self.false early (c.takes_nothing.ensures h))
