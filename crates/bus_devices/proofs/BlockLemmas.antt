@@ -54,25 +54,25 @@ all_planned blocks all ds none before = rw (append-nil {A = Block} blocks) at (b
 
 -- ---- what is known of all blocks
 
--- what is known of devices and others is what `Block::and` gives
-abbrev GivesBlock : Block → Block → Block → Type 0
-GivesBlock a b both = (ds es : List Device) → IsBlockOf a ds → IsBlockOf b es → IsBlockOf both (ds ++ es)
+-- what is known of devices, and a block of others, give what is known then of all
+abbrev Gives : (List Device → Type 0) → Block → (List Device → Type 0) → Type 0
+Gives Known b Then = (ds es : List Device) → Known ds → IsBlockOf b es → Then (ds ++ es)
 
 -- it is known of those before, and the blocks that are left are of those behind
-pub record IsKnownSoFar (all : Block) (left : List Block) (ds : List Device) : Type 0 where
+pub record IsKnownSoFar (Known : List Device → Type 0) (left : List Block) (ds : List Device) : Type 0 where
   pub before : List Device
   pub behind : List Device
   pub whole : before ++ behind ≡ ds
-  pub known : IsBlockOf all before
+  pub known : Known before
   pub rest : AreBlocksOf left behind
 
-pub none_so_far : (all : Block) (blocks : List Block) (ds : List Device) → IsBlockOf all [] → AreBlocksOf blocks ds
-    → IsKnownSoFar all blocks ds
-none_so_far all blocks ds none h = record { before = []; behind = ds; whole = refl; known = none; rest = h }
+pub none_so_far : (Known : List Device → Type 0) (blocks : List Block) (ds : List Device) → Known []
+    → AreBlocksOf blocks ds → IsKnownSoFar Known blocks ds
+none_so_far Known blocks ds none h = record { before = []; behind = ds; whole = refl; known = none; rest = h }
 
-one_known : (all a both : Block) (left : List Block) (ds : List Device) → GivesBlock all a both
-    → IsKnownSoFar all (a ∷ left) ds → IsKnownSoFar both left ds
-one_known all a both left ds gives h = record {
+one_known : (Known Then : List Device → Type 0) (a : Block) (left : List Block) (ds : List Device)
+    → Gives Known a Then → IsKnownSoFar Known (a ∷ left) ds → IsKnownSoFar Then left ds
+one_known Known Then a left ds gives h = record {
   before = h.before ++ take 8 h.behind;
   behind = drop 8 h.behind;
   whole = append_assoc h.before (take 8 h.behind) (drop 8 h.behind)
@@ -81,30 +81,30 @@ one_known all a both left ds gives h = record {
   rest = h.rest.1;
 }
 
-next_known : (all both d : Block) (blocks : List Block) (i : ℕ) (ds : List Device) → i < length blocks
-    → GivesBlock all (get_or blocks i d) both → IsKnownSoFar all (drop i blocks) ds
-    → IsKnownSoFar both (drop (suc i) blocks) ds
-next_known all both d [] i ds within gives h = absurd (omega (arith, within))
-next_known all both d (b ∷ blocks) zero ds within gives h = one_known all b both blocks ds gives h
-next_known all both d (b ∷ blocks) (suc i) ds within gives h =
-    next_known all both d blocks i ds (omega (arith, within)) gives h
+next_known : (Known Then : List Device → Type 0) (d : Block) (blocks : List Block) (i : ℕ) (ds : List Device)
+    → i < length blocks → Gives Known (get_or blocks i d) Then → IsKnownSoFar Known (drop i blocks) ds
+    → IsKnownSoFar Then (drop (suc i) blocks) ds
+next_known Known Then d [] i ds within gives h = absurd (omega (arith, within))
+next_known Known Then d (b ∷ blocks) zero ds within gives h = one_known Known Then b blocks ds gives h
+next_known Known Then d (b ∷ blocks) (suc i) ds within gives h =
+    next_known Known Then d blocks i ds (omega (arith, within)) gives h
 
-pub one_block_known : (all both d : Block) (blocks : List Block) (i : ℕ) (ds : List Device) → i < length blocks
-    → GivesBlock all (get_or blocks i d) both → IsKnownSoFar all (drop i blocks) ds
-    → IsKnownSoFar both (drop (i + 1) blocks) ds
-one_block_known all both d blocks i ds within gives h =
+pub one_block_known : (Known Then : List Device → Type 0) (d : Block) (blocks : List Block) (i : ℕ) (ds : List Device)
+    → i < length blocks → Gives Known (get_or blocks i d) Then → IsKnownSoFar Known (drop i blocks) ds
+    → IsKnownSoFar Then (drop (i + 1) blocks) ds
+one_block_known Known Then d blocks i ds within gives h =
     let after : suc i ≡ i + 1 = omega arith in
-    subst (λ (n : ℕ). IsKnownSoFar both (drop n blocks) ds) after (next_known all both d blocks i ds within gives h)
+    subst (λ (n : ℕ). IsKnownSoFar Then (drop n blocks) ds) after (next_known Known Then d blocks i ds within gives h)
 
-all_known_by : (all : Block) (left : List Block) (ds : List Device) → left ≡ [] → IsKnownSoFar all left ds
-    → IsBlockOf all ds
-all_known_by all [] ds e h = subst (IsBlockOf all) (sym (append-nil {A = Device} h.before)
+all_known_by : (Known : List Device → Type 0) (left : List Block) (ds : List Device) → left ≡ []
+    → IsKnownSoFar Known left ds → Known ds
+all_known_by Known [] ds e h = subst Known (sym (append-nil {A = Device} h.before)
     ∙ ap (λ (xs : List Device). h.before ++ xs) (sym h.rest) ∙ h.whole) h.known
-all_known_by all (b ∷ left) ds e h = absurd cc
+all_known_by Known (b ∷ left) ds e h = absurd cc
 
-pub all_known : (all : Block) (blocks : List Block) (i : ℕ) (ds : List Device) → length blocks ≤ i
-    → IsKnownSoFar all (drop i blocks) ds → IsBlockOf all ds
-all_known all blocks i ds past h = all_known_by all (drop i blocks) ds (drop_all i blocks past) h
+pub all_known : (Known : List Device → Type 0) (blocks : List Block) (i : ℕ) (ds : List Device) → length blocks ≤ i
+    → IsKnownSoFar Known (drop i blocks) ds → Known ds
+all_known Known blocks i ds past h = all_known_by Known (drop i blocks) ds (drop_all i blocks past) h
 
 -- ---- a block and what follows it
 

@@ -1,5 +1,6 @@
 pub mod BlockLemmas
-pub mod ChangedLemmas
 pub mod DueLemmas
 pub mod IdleLemmas
 pub mod SenderLemmas
+pub mod SentLemmas
+pub mod StillLemmas

@@ -1,5 +1,5 @@
 -- The winner and who sends, block by block.
-use Rattle.std.proofs.Common.{◌≡◌, ℕ, zero, suc, ◌+◌, ◌<◌, ◌==◌, ◌&&◌, Bool, true, false, List, [], ◌∷◌, ◌++◌, length}
+use Rattle.std.proofs.Common.{◌≡◌, ℕ, suc, ◌+◌, ◌<◌, ◌==◌, ◌&&◌, Bool, true, false, List, [], ◌∷◌, ◌++◌, length}
 use Rattle.std.proofs.Common.{take, drop, Option, Some, None, refl, sym, ap, ◌∙◌, subst, arith, zero-add}
 use Rattle.std.specs.Prelude.{Contains, if◌then◌else◌, nat_lt, not}
 use Rattle.std.specs.List.{position, position_or_len}
@@ -115,6 +115,10 @@ module _ {X : Type 0} (p : X → Bool) where
       position_more x (xs ++ ys)
       ∙ missed_by (p x) (position p xs) (position p (xs ++ ys)) (position p ys) (length xs) (found_later xs ys)
       (sym (position_more x xs) ∙ e)
+
+-- of the frames that wait at the devices it wins
+abbrev pub IsBest : Option Contender → List Device → Type 0
+IsBest best ds = IsWinner (contenders (device_lists ds)) best
 
 -- of devices and others the lower of the winners wins
 pub best_of_both : (xs ys : List Device) (a b best : Option Contender) → IsWinner (contenders (device_lists xs)) a

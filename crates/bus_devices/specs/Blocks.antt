@@ -1,10 +1,12 @@
 -- Blocks of eight devices.
-use Rattle.std.specs.Prelude.{◌≡◌, ℕ, List, [], ◌∷◌, slice_set, take, drop}
+use Rattle.std.specs.Prelude.{◌≡◌, ◌<◌, ℕ, List, [], ◌∷◌, length, slice_set, take, drop}
 use Rattle.bus_devices.specs.Senders.{device_lists}
 use Rattle.bus_devices.specs.declared.block.Block.{Block}
+use Rattle.bus_events.specs.Places.{device_at}
 use Rattle.can_frame.specs.Winner.{contenders, IsWinner}
-use Rattle.co_device.specs.Device.{Device}
-use Rattle.device_agenda.specs.Agenda.{IsAgendaOf}
+use Rattle.co_device.specs.Device.{Device, moments}
+use Rattle.device_agenda.specs.Agenda.{IsAgendaOf, Sleeps}
+use Rattle.device_agenda.specs.declared.groups.Groups.{Groups}
 
 -- what is known of devices: their agenda, and which of the frames that wait at them wins
 pub record IsBlockOf (block : Block) (ds : List Device) : Type 0 where
@@ -16,11 +18,19 @@ abbrev pub AreBlocksOf : List Block → List Device → Type 0
 AreBlocksOf [] ds = ds ≡ []
 AreBlocksOf (block ∷ blocks) ds = IsBlockOf block (take 8 ds) × AreBlocksOf blocks (drop 8 ds)
 
--- blocks of the devices as they were, where since then the device at a place alone has changed
-pub record AreBlocksBut (i : ℕ) (blocks : List Block) (ds : List Device) : Type 0 where
+-- a device is due and sleeps as before, and where no frame waited at it, none does
+pub record IsDueAsBefore (was now : Device) : Type 0 where
+  pub due : moments now ≡ moments was
+  pub asleep : (groups : Groups) → Sleeps groups was → Sleeps groups now
+  pub silent : was.waiting ≡ [] → now.waiting ≡ []
+
+-- blocks of the devices as they were, where since then the frames have changed that wait at the device at a place
+pub record WereBlocksOf (i : ℕ) (blocks : List Block) (ds : List Device) : Type 0 where
   pub before : List Device
   pub now : Device
   pub of : AreBlocksOf blocks before
+  pub within : i < length before
+  pub still : IsDueAsBefore (device_at before i) now
   pub changed : ds ≡ slice_set before i now
 
 -- what is known of the devices of a bus: of each eight of them, and of all

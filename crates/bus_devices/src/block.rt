@@ -1,6 +1,6 @@
 //! What a few devices of a bus do, and what is known of them.
 
-ghost use Rattle.std.specs.Prelude.{◌≡◌, ◌<◌, ◌++◌, [], List, option_copied, OnOk};
+ghost use Rattle.std.specs.Prelude.{◌≡◌, ◌<◌, ◌++◌, [], false, List, option_copied, IfOk, OnOk};
 ghost use Rattle.asking.specs.Asking.{outcome};
 ghost use Rattle.asking.specs.Record.{IsAsked, Lasts};
 ghost use Rattle.bus_devices.specs.Blocks.{IsBlockOf};
@@ -73,24 +73,27 @@ fn agenda_of(devices: &[SharedDevice]) -> Agenda
     agenda
 }
 
-/// Runs each device that has to run at the moment t, at which this is delivered.
+/// Runs each device that has to run at the moment t, at which this is delivered, and says whether one had to.
 pub(crate) fn run_each<P: Shapes>(
     devices: &mut [SharedDevice],
     t: u64,
     delivery: &Option<Delivery>,
     shapes: &mut P,
-) -> Result<(), AllocError>
+) -> Result<bool, AllocError>
     requires { t < END }
     ensures state { OnOk result (devices.new ≡ outcome (each (at_instant t delivery.now) devices.old)
         (P.seen shapes.old).image) }
     ensures asked { OnOk result (IsAsked (each (at_instant t delivery.now) devices.old)
         (P.seen shapes.old) (P.seen shapes.new) (P.asks shapes.old) (P.asks shapes.new)) }
     ensures lasts { Lasts (P.seen shapes.old) (P.seen shapes.new) }
+    ensures still { IfOk result (λ ran. ran ≡ false → devices.new ≡ devices.old) }
 {
+    let mut ran = false;
     for device in devices.iter_mut() {
-        device.instant(t, delivery, shapes)?;
+        let had_to = device.run_instant(t, delivery, shapes)?;
+        ran |= had_to;
     }
-    Ok(())
+    Ok(ran)
 }
 
 /// The first moment at which one of the devices is due, if there is one. Walks them.

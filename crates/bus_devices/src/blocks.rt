@@ -1,15 +1,16 @@
 //! Devices by blocks of eight.
 
-ghost use Rattle.std.specs.Prelude.{◌≡◌, ◌<◌, List, min, OnOk};
+ghost use Rattle.std.specs.Prelude.{◌≡◌, ◌<◌, false, List, min, IfOk, OnOk};
 ghost use Rattle.asking.specs.Asking.{outcome};
 ghost use Rattle.asking.specs.Record.{IsAsked, Lasts};
-ghost use Rattle.bus_devices.specs.Blocks.{AreBlocksBut, AreBlocksOf, IsBlockOf};
-ghost use Rattle.bus_devices.specs.Senders.{may_wait_at, sender_place as place_of};
+ghost use Rattle.bus_devices.specs.Blocks.{AreBlocksOf, IsBlockOf, WereBlocksOf};
+ghost use Rattle.bus_devices.specs.Senders.{device_lists, may_wait_at, sender_place as place_of};
 ghost use Rattle.asking.specs.Each.{each};
+ghost use Rattle.can_frame.specs.Winner.{contenders, IsWinner};
 ghost use Rattle.co_device.specs.Device.{Device};
 ghost use Rattle.device_agenda.specs.Agenda.{at_instant};
 
-use crate::block::{Block, place_of_sender, run_each};
+use crate::block::{Block, place_of_sender, run_each, winner_of};
 use can_frame::Contender;
 use co_parts::END;
 use device_agenda::{Delivery, SharedDevice};
@@ -41,14 +42,15 @@ pub(crate) fn plan(blocks: &mut Vec<Block>, devices: &[SharedDevice]) -> Result<
     Ok(())
 }
 
-/// Runs the devices of a block, where one has to run, and then works out anew what is known of them.
+/// Runs the devices of a block that have to run, and where one had to, works out anew what is known of them.
+/// Says whether one had to.
 fn run_block<P: Shapes>(
     block: &mut Block,
     devices: &mut [SharedDevice],
     t: u64,
     delivery: &Option<Delivery>,
     shapes: &mut P,
-) -> Result<(), AllocError>
+) -> Result<bool, AllocError>
     requires soon { t < END }
     requires known { IsBlockOf block.old devices.old }
     ensures block { OnOk result (IsBlockOf block.new devices.new) }
@@ -57,23 +59,28 @@ fn run_block<P: Shapes>(
     ensures asked { OnOk result (IsAsked (each (at_instant t delivery.now) devices.old)
         (P.seen shapes.old) (P.seen shapes.new) (P.asks shapes.old) (P.asks shapes.new)) }
     ensures lasts { Lasts (P.seen shapes.old) (P.seen shapes.new) }
+    ensures still { IfOk result (λ ran. ran ≡ false → devices.new ≡ devices.old) }
 {
     if block.agenda.sleeps_through(t, delivery) {
-        return Ok(());
+        return Ok(false);
     }
-    run_each(devices, t, delivery, shapes)?;
-    *block = Block::of(devices);
-    Ok(())
+    let ran = run_each(devices, t, delivery, shapes)?;
+    if ran {
+        *block = Block::of(devices);
+    }
+    Ok(ran)
 }
 
-/// Runs the devices of each block that has to run, one block after another. Goes as deep as there are blocks.
+/// Runs the devices of each block that has to run, one block after another, and says whether one had to, or one
+/// did before them. Goes as deep as there are blocks.
 pub(crate) fn run_blocks<P: Shapes>(
     blocks: &mut [Block],
     devices: &mut [SharedDevice],
     t: u64,
     delivery: &Option<Delivery>,
     shapes: &mut P,
-) -> Result<(), AllocError>
+    before: bool,
+) -> Result<bool, AllocError>
     requires soon { t < END }
     requires known { AreBlocksOf blocks.old devices.old }
     ensures blocks { OnOk result (AreBlocksOf blocks.new devices.new) }
@@ -82,31 +89,39 @@ pub(crate) fn run_blocks<P: Shapes>(
     ensures asked { OnOk result (IsAsked (each (at_instant t delivery.now) devices.old)
         (P.seen shapes.old) (P.seen shapes.new) (P.asks shapes.old) (P.asks shapes.new)) }
     ensures lasts { Lasts (P.seen shapes.old) (P.seen shapes.new) }
+    ensures still { IfOk result (λ ran. ran ≡ false → (before ≡ false) × (devices.new ≡ devices.old)) }
 {
     if blocks.is_empty() {
-        return Ok(());
+        return Ok(before);
     }
     let (firsts, others) = blocks.split_at_mut(1);
     let (block, rest) = devices.split_at_mut(first_block(devices.len()));
-    run_block(&mut firsts[0], block, t, delivery, shapes)?;
-    run_blocks(others, rest, t, delivery, shapes)
+    let ran = run_block(&mut firsts[0], block, t, delivery, shapes)?;
+    run_blocks(others, rest, t, delivery, shapes, before | ran)
 }
 
-/// Works out anew what is known of the block of a place, after the device there has changed.
-pub(crate) fn plan_block(blocks: &mut [Block], devices: &[SharedDevice], i: usize)
-    requires { AreBlocksBut i blocks.old devices.now }
+/// Works out anew which frame wins in the block of a place, after the frames have changed that wait at the device
+/// there. Walks the devices of the block.
+pub(crate) fn plan_best(blocks: &mut [Block], devices: &[SharedDevice], i: usize)
+    requires { WereBlocksOf i blocks.old devices.now }
     ensures { AreBlocksOf blocks.new devices.now }
 {
-    if blocks.is_empty() {
-        return;
+    let place = i / BLOCK;
+    let (_before, rest) = devices.split_at(place * BLOCK);
+    let (block, _behind) = rest.split_at(first_block(rest.len()));
+    blocks[place].best = winner_of(block);
+}
+
+/// The least frame that waits at the devices of all blocks. Walks the blocks.
+pub(crate) fn best_of(blocks: &[Block]) -> Option<Contender>
+    ensures { (devices : List Device) → AreBlocksOf blocks.now devices
+        → IsWinner (contenders (device_lists devices)) result }
+{
+    let mut best = None;
+    for block in blocks {
+        best = Contender::lower(best, block.best);
     }
-    let (firsts, others) = blocks.split_at_mut(1);
-    let (block, rest) = devices.split_at(first_block(devices.len()));
-    if i < BLOCK {
-        firsts[0] = Block::of(block);
-        return;
-    }
-    plan_block(others, rest, i - BLOCK);
+    best
 }
 
 /// What is known of the devices of all blocks. Walks the blocks.

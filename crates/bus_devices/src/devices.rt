@@ -15,7 +15,7 @@ ghost use Rattle.co_base.specs.Moments.{earliest};
 ghost use Rattle.device_agenda.specs.Agenda.{at_instant};
 
 use crate::block::{Block, first_due, place_of_sender, values_of, winner_of};
-use crate::blocks::{all_of, plan, plan_block, run_blocks, sender_place};
+use crate::blocks::{all_of, best_of, plan, plan_best, run_blocks, sender_place};
 use crate::lists::{copy_all, same_all};
 use can_frame::{Contender, Waiting};
 use co_dict::Dict;
@@ -126,13 +126,17 @@ impl Devices {
         if self.known && self.all.agenda.sleeps_through(t, delivery) {
             return Ok(());
         }
-        if !self.known {
+        let unknown = !self.known;
+        if unknown {
             plan(&mut self.blocks, &self.devices)?;
         }
         self.known = false;
         let blocks = self.blocks.as_mut_slice();
-        run_blocks(blocks, self.devices.as_mut_slice(), t, delivery, shapes)?;
-        self.all = all_of(&self.blocks);
+        let devices = self.devices.as_mut_slice();
+        let changed = run_blocks(blocks, devices, t, delivery, shapes, unknown)?;
+        if changed {
+            self.all = all_of(&self.blocks);
+        }
         self.known = true;
         Ok(())
     }
@@ -189,8 +193,8 @@ impl Devices {
         self.known = false;
         let sent = self.devices[i].send(place)?;
         if known {
-            plan_block(self.blocks.as_mut_slice(), &self.devices, i);
-            self.all = all_of(&self.blocks);
+            plan_best(self.blocks.as_mut_slice(), &self.devices, i);
+            self.all.best = best_of(&self.blocks);
             self.known = true;
         }
         Ok(sent)

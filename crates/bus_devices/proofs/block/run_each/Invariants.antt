@@ -1,11 +1,11 @@
-use Rattle.std.proofs.Common.{◌≡◌, ◌++◌, ◌≤◌, ◌+◌, length, take, drop}
+use Rattle.std.proofs.Common.{◌≡◌, ◌++◌, ◌≤◌, ◌+◌, false, length, take, drop}
 use Rattle.device_agenda.specs.Agenda.{at_instant}
 use Rattle.asking.specs.Asking.{outcome, after_reads, reads}
 use Rattle.asking.specs.Record.{Lasts}
 use Rattle.asking.specs.Each.{each}
 use Rattle.bus_devices.proofs.block.run_each.Given as goal
 
--- what is done and what is left give what all give
+-- what is done and what is left give what all give; where none had to run so far, they are as they were
 abbrev pub invariant-loop-device : goal.invariant-loop-device
 invariant-loop-device g l =
     let seen = g.P.Asked.seen l.fn.shapes in
@@ -18,4 +18,5 @@ invariant-loop-device g l =
       counted : g.P.Asked.asks l.shapes + length (reads rest seen.image)
           ≤ g.P.Asked.asks l.fn.shapes + length (reads all seen.image);
       lasts : Lasts seen (g.P.Asked.seen l.shapes);
+      still : l.ran ≡ false → l.devices ≡ l.fn.devices;
     }
