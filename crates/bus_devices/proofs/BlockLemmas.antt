@@ -117,7 +117,7 @@ back_of : (block rest : List Device) → length block ≡ min 8 (length block + 
 back_of block [] many = ap (drop 8) (append-nil {A = Device} block) ∙ drop_all 8 block (omega (arith, many))
 back_of block (d ∷ rest) many = drop_at block (d ∷ rest) 8 (omega (arith, many))
 
-both_of : (a : Block) (blocks : List Block) (block rest : List Device)
+pub both_of : (a : Block) (blocks : List Block) (block rest : List Device)
     → length block ≡ min 8 (length block + length rest) → IsBlockOf a block → AreBlocksOf blocks rest
     → AreBlocksOf (a ∷ blocks) (block ++ rest)
 both_of a blocks block rest many g h = (rw (front_of block rest many) g, rw (back_of block rest many) h)

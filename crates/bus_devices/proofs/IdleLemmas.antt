@@ -13,7 +13,7 @@ use Rattle.device_agenda.specs.Agenda.{IsAgendaOf, at_instant, sleeps_through}
 use Rattle.device_agenda.specs.Delivered.{Delivered}
 use Rattle.device_agenda.specs.declared.agenda.Agenda.{Agenda}
 
-idle : {N V A : Type 0} (step : A → Asking N V A) (xs : List A) → AllByRecursion (λ x. step x ≡ Answer x) xs
+pub idle : {N V A : Type 0} (step : A → Asking N V A) (xs : List A) → AllByRecursion (λ x. step x ≡ Answer x) xs
     → each step xs ≡ Answer xs
 idle step [] still = refl
 idle {N} {V} {A} step (x ∷ xs) still =

@@ -82,7 +82,7 @@ get_taken (suc n) [] r d near = refl
 get_taken (suc n) (x ∷ ds) zero d near = refl
 get_taken (suc n) (x ∷ ds) (suc r) d near = get_taken n ds r d (omega (arith, near))
 
-drop_later : (n m k : ℕ) (ds : List Device) → k ≡ n + m → drop k ds ≡ drop m (drop n ds)
+pub drop_later : (n m k : ℕ) (ds : List Device) → k ≡ n + m → drop k ds ≡ drop m (drop n ds)
 drop_later zero m k ds e = ap (λ (i : ℕ). drop i ds) (omega (arith, e))
 drop_later (suc n) m zero ds e = absurd (omega (arith, e))
 drop_later (suc n) m (suc k) [] e = sym (drop-nil {A = Device} m)

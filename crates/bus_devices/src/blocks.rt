@@ -1,6 +1,7 @@
 //! Devices by blocks of eight.
 
-ghost use Rattle.std.specs.Prelude.{◌≡◌, ◌<◌, false, List, min, IfOk, OnOk};
+ghost use Rattle.std.specs.Prelude.{◌≡◌, ◌<◌, ◌≤◌, ◌*◌, false, true, List, length, min, take, IfOk, IfSome, OnOk};
+ghost use Rattle.std.specs.List.{AllByRecursion};
 ghost use Rattle.asking.specs.Asking.{outcome};
 ghost use Rattle.asking.specs.Record.{IsAsked, Lasts};
 ghost use Rattle.bus_devices.specs.Blocks.{AreBlocksOf, IsBlockOf, WereBlocksOf};
@@ -8,7 +9,7 @@ ghost use Rattle.bus_devices.specs.Senders.{device_lists, may_wait_at, sender_pl
 ghost use Rattle.asking.specs.Each.{each};
 ghost use Rattle.can_frame.specs.Winner.{contenders, IsWinner};
 ghost use Rattle.co_device.specs.Device.{Device};
-ghost use Rattle.device_agenda.specs.Agenda.{at_instant};
+ghost use Rattle.device_agenda.specs.Agenda.{at_instant, sleeps_through};
 
 use crate::block::{Block, place_of_sender, run_each, winner_of};
 use can_frame::Contender;
@@ -71,6 +72,31 @@ fn run_block<P: Shapes>(
     Ok(ran)
 }
 
+/// How many of the first blocks sleep through the moment t, at which this is delivered.
+fn asleep(blocks: &[Block], t: u64, delivery: &Option<Delivery>) -> usize
+    ensures within { result ≤ length blocks.now }
+    ensures asleep { AllByRecursion (λ b. sleeps_through t delivery.now b.agenda ≡ true) (take result blocks.now) }
+    ensures bound { 0 < result → IfSome delivery.now (λ d. d.frame.id < 0x800) }
+{
+    for i in 0..blocks.len() {
+        if !blocks[i].agenda.sleeps_through(t, delivery) {
+            return i;
+        }
+    }
+    blocks.len()
+}
+
+/// The number of devices of so many blocks, of so many devices in all.
+fn devices_of(blocks: usize, count: usize) -> usize
+    ensures { result ≡ min (8 * blocks) count }
+{
+    if blocks > count / BLOCK {
+        count
+    } else {
+        blocks * BLOCK
+    }
+}
+
 /// Runs the devices of each block that has to run, one block after another, and says whether one had to, or one
 /// did before them. Goes as deep as there are blocks.
 pub(crate) fn run_blocks<P: Shapes>(
@@ -91,6 +117,12 @@ pub(crate) fn run_blocks<P: Shapes>(
     ensures lasts { Lasts (P.seen shapes.old) (P.seen shapes.new) }
     ensures still { IfOk result (λ ran. ran ≡ false → (before ≡ false) × (devices.new ≡ devices.old)) }
 {
+    let asleep = asleep(blocks, t, delivery);
+    if asleep > 0 {
+        let (_asleep, others) = blocks.split_at_mut(asleep);
+        let (_still, rest) = devices.split_at_mut(devices_of(asleep, devices.len()));
+        return run_blocks(others, rest, t, delivery, shapes, before);
+    }
     if blocks.is_empty() {
         return Ok(before);
     }
