@@ -16,7 +16,7 @@ ghost use Rattle.device_agenda.specs.Agenda.{at_instant};
 
 use crate::block::{Block, first_due, place_of_sender, values_of, winner_of};
 use crate::blocks::{all_of, best_of, plan, plan_best, run_blocks, sender_place};
-use crate::lists::{copy_all, same_all};
+use crate::lists::{copy_all, differ_at, place_apart, same_all};
 use can_frame::{Contender, Waiting};
 use co_dict::Dict;
 use co_parts::END;
@@ -103,6 +103,19 @@ impl Devices {
         ensures { IsTrue result ↔ (self.now ≡ other.now) }
     {
         same_all(&self.devices, &other.devices)
+    }
+
+    /// Whether a quick look at the device of a place tells them from others. Takes the time of one such look.
+    pub fn differ_at(&self, other: &Devices, place: usize) -> bool
+        ensures { IsTrue result → self.now ≡ other.now → ⊥ }
+    {
+        differ_at(&self.devices, &other.devices, place)
+    }
+
+    /// The first place at which `differ_at` tells them from others, if there is one. Looks at each of them up to
+    /// that place, as `same` does.
+    pub fn place_apart(&self, other: &Devices) -> Option<usize> {
+        place_apart(&self.devices, &other.devices)
     }
 
     /// An instant of each device, by number: it hears what is delivered, if another node sent it, and then

@@ -50,6 +50,22 @@ fn may_be_all(devices: &[SharedDevice], others: &[SharedDevice]) -> bool
     true
 }
 
+/// Whether a quick look at the devices of a place tells two lists apart. Takes the time of one such look.
+pub(crate) fn differ_at(devices: &[SharedDevice], others: &[SharedDevice], place: usize) -> bool
+    ensures { IsTrue result → devices.now ≡ others.now → ⊥ }
+{
+    match (devices.get(place), others.get(place)) {
+        (Some(device), Some(other)) => !device.may_be(other),
+        _ => false,
+    }
+}
+
+/// The first place at which a quick look tells the devices of two lists apart, if there is one. Looks at each of
+/// them up to that place.
+pub(crate) fn place_apart(devices: &[SharedDevice], others: &[SharedDevice]) -> Option<usize> {
+    (0..devices.len()).find(|place| differ_at(devices, others, *place))
+}
+
 /// Whether the devices of two lists are the same. Looks at each of them quickly before it compares one by
 /// value.
 pub(crate) fn same_all(devices: &[SharedDevice], others: &[SharedDevice]) -> bool

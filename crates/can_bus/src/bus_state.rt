@@ -278,9 +278,9 @@ impl BusState {
         })
     }
 
-    /// Whether the other bus is the same.
-    pub fn same(&self, other: &BusState) -> bool
-        ensures { IsTrue result ↔ (self.now ≡ other.now) }
+    /// Whether the other bus is the same but for its devices.
+    fn is_like(&self, other: &BusState) -> bool
+        ensures { IsTrue result ↔ (record self.now { devices = other.now.devices } ≡ other.now) }
     {
         if self.spent != other.spent {
             return false;
@@ -297,10 +297,31 @@ impl BusState {
         if !self.steps.same(&other.steps) {
             return false;
         }
-        if !self.manager.same(&other.manager) {
-            return false;
+        self.manager.same(&other.manager)
+    }
+
+    /// Whether the other bus is the same.
+    pub fn same(&self, other: &BusState) -> bool
+        ensures { IsTrue result ↔ (self.now ≡ other.now) }
+    {
+        self.is_like(other) && self.devices.same(&other.devices)
+    }
+
+    /// Whether a quick look at the device of a place tells it from another bus. Takes the time of one such look.
+    pub fn differs_at(&self, other: &BusState, place: usize) -> bool
+        ensures { IsTrue result → self.now ≡ other.now → ⊥ }
+    {
+        self.devices.differ_at(&other.devices, place)
+    }
+
+    /// The first place at which `differs_at` tells it from a bus that is the same but for its devices, if there is
+    /// one; none of another bus. Takes at most the time of `same`.
+    pub fn place_apart(&self, other: &BusState) -> Option<usize> {
+        if self.is_like(other) {
+            self.devices.place_apart(&other.devices)
+        } else {
+            None
         }
-        self.devices.same(&other.devices)
     }
 
     /// Whether a call before found no memory.
