@@ -9,4 +9,6 @@ pub(crate) struct Reached {
     pub state: NumberedBus,
     /// Whether it is known that no held segment of the next number starts from it.
     pub is_new: bool,
+    /// The place of the device by which a bus of this trace was last told from another one.
+    pub apart: Option<usize>,
 }

@@ -14,33 +14,35 @@ use kept_shelf::Shelf;
 use recorded_spans::Place;
 use std::alloc::{AllocError, Global};
 
-/// The first node whose device tells a bus from the one that a segment starts from, if one does by a quick look.
-fn node_that_differs(segment: &Segment, bus: &BusState) -> Option<u8> {
-    (1..=127).find(|node| segment.differs_at(*node, bus))
-}
-
-/// Whether a segment starts from another bus: as far as what is seen of both tells, or by a quick look at a node, if
-/// there is one to look at.
-fn differs_there(segment: &Segment, node: Option<u8>, bus: &BusState, sight: &Option<Sight>) -> bool
+/// Whether a segment starts from another bus: as far as what is seen of both tells, or by a quick look at the device
+/// of a place, if there is one to look at.
+fn differs_there(
+    segment: &Segment,
+    apart: Option<usize>,
+    bus: &BusState,
+    sight: &Option<Sight>,
+) -> bool
     requires { AreSightsOf bus.now sight.now }
     ensures { IsTrue result → segment.now.kept.start ≡ bus.now → ⊥ }
 {
     if segment.is_other(bus, sight) {
         return true;
     }
-    match node {
-        Some(node) => segment.differs_at(node, bus),
+    match apart {
+        Some(place) => segment.differs_at(place, bus),
         None => false,
     }
 }
 
-/// The equal bus that a held segment of a number starts from, if there is one. Buses that were reached by edits
-/// of one value mostly differ at one node: where it told one from the bus, it is looked at first in the others.
+/// The equal bus that a held segment of a number starts from, if there is one. Buses that an edit led to mostly
+/// differ at one device for long: where it told one from the bus, it is looked at first in the others, and at the
+/// end of the next segment.
 fn held_start(
     shelf: &Shelf<Segment>,
     number: u64,
     bus: &BusState,
     sight: &Option<Sight>,
+    apart: &mut Option<usize>,
 ) -> Result<Option<NumberedBus>, AllocError>
     requires settled { shelf.now.ahead ≡ [] }
     requires later { shelf.now.turn ≤ number }
@@ -49,18 +51,15 @@ fn held_start(
         (λ n. (e : ℕ × Placed) × (Contains shelf.now.entries e × IsStart e.1 n bus.now))) }
 {
     let count = shelf.count(number);
-    let mut node = None;
     for place in 0..count {
         if let Some((_key, segment)) = shelf.at(number, place) {
-            if differs_there(segment, node, bus, sight) {
+            if differs_there(segment, *apart, bus, sight) {
                 continue;
             }
             if let Some(found) = segment.start_at(number, bus)? {
                 return Ok(Some(found));
             }
-            if place + 1 < count {
-                node = node_that_differs(segment, bus);
-            }
+            *apart = segment.place_apart(bus).or(*apart);
         }
     }
     Ok(None)
@@ -77,7 +76,8 @@ fn seen_at(place: Option<Place>, bus: &BusState) -> Option<Sight>
 }
 
 /// A bus with the number that it has as the start of a held segment, and else with a new one. Each held segment
-/// of the number is compared once: where none starts from the bus, none has to be looked for again.
+/// of the number is compared once: where none starts from the bus, none has to be looked for again. The device of
+/// the place by which a bus was last told from another one is looked at first.
 pub(crate) fn reach(
     alloc: Global,
     shelf: &Shelf<Segment>,
@@ -85,6 +85,7 @@ pub(crate) fn reach(
     number: u64,
     bus: BusState,
     place: Option<Place>,
+    apart: Option<usize>,
 ) -> Result<Reached, AllocError>
     requires settled { shelf.now.ahead ≡ [] }
     requires later { shelf.now.turn ≤ number }
@@ -93,17 +94,20 @@ pub(crate) fn reach(
     ensures more { given.old ≤ given.new }
 {
     let sight = seen_at(place, &bus);
-    let start = held_start(shelf, number, &bus, &sight)?;
+    let mut apart = apart;
+    let start = held_start(shelf, number, &bus, &sight, &mut apart)?;
     match start {
         Some(state) => Ok(Reached {
             state,
             is_new: false,
+            apart,
         }),
         None => {
             let state = give(alloc, given, bus, sight)?;
             Ok(Reached {
                 state,
                 is_new: true,
+                apart,
             })
         }
     }

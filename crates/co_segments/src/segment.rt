@@ -137,15 +137,19 @@ impl Segment {
         self.start.is_other(bus, sight)
     }
 
-    /// Whether its bus at its start is another one, by a quick look at the values of one node's device.
-    pub fn differs_at(&self, node: u8, bus: &BusState) -> bool
+    /// Whether its bus at its start is another one, by a quick look at the device of a place.
+    pub fn differs_at(&self, place: usize, bus: &BusState) -> bool
         ensures { IsTrue result → self.now.kept.start ≡ bus.now → ⊥ }
     {
         let own = self.start.bus();
-        match (own.values(node), bus.values(node)) {
-            (Some(values), Some(others)) => !values.may_be(others),
-            _ => false,
-        }
+        own.differs_at(bus, place)
+    }
+
+    /// The place of the device by which its bus at its start is told from another one, if a quick look at each
+    /// tells it.
+    pub fn place_apart(&self, bus: &BusState) -> Option<usize> {
+        let own = self.start.bus();
+        own.place_apart(bus)
     }
 
     /// Whether it serves.

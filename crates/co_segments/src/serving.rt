@@ -115,6 +115,7 @@ fn run_new<P: Parts>(
     given: &mut Given,
     number: u64,
     state: NumberedBus,
+    apart: Option<usize>,
     parts: &mut P,
     told: &mut TraceText,
 ) -> Result<Reached, AllocError>
@@ -159,6 +160,7 @@ fn run_new<P: Parts>(
         number + 1,
         ran.end,
         now.place,
+        apart,
     )?;
     let copy = end.state.share()?;
     shelf.add(Segment::new(number, state, ran.reads, lines, copy))?;
@@ -246,11 +248,14 @@ fn search<P: Parts>(
             Ok(Reached {
                 state,
                 is_new: false,
+                apart: here.apart,
             })
         }
         None => {
             meter.ran();
-            let reached = run_new(alloc, shelf, now, given, number, here.state, parts, told)?;
+            let reached = run_new(
+                alloc, shelf, now, given, number, here.state, here.apart, parts, told,
+            )?;
             Ok(reached)
         }
     }
@@ -339,6 +344,7 @@ pub(crate) fn advance<P: Parts>(
             Ok(Reached {
                 state,
                 is_new: false,
+                apart: here.apart,
             })
         }
         Some(false) => {

@@ -95,6 +95,7 @@ fn trace_spans<P: Parts>(
     let mut here = Reached {
         state,
         is_new: false,
+        apart: None,
     };
     for number in 0..count {
         let end = advance(

@@ -3,7 +3,7 @@ use Rattle.std.proofs.lemmas.List.{drop_all}
 use Rattle.co_segments.proofs.NumberedLemmas.{all_stale, none_there, one_passed}
 use Rattle.co_segments.specs.Placed.{numbered}
 use Rattle.co_segments.proofs.PlacedLemmas.{in_lookup, none_stale}
-use Rattle.co_segments.proofs.rejoining.held_start.Goals.{in-Some+else-differs_there+in_ok-found+in_default-2+then-place-count, in-Some+else-differs_there+in_ok-found+in_default-2+else-place-count, in_default}
+use Rattle.co_segments.proofs.rejoining.held_start.Goals.{in-Some+else-differs_there+in_ok-found+in_default-2, in_default}
 use Rattle.co_segments.proofs.rejoining.held_start.Goals as goal
 
 pub loop-place-init : goal.loop-place-init
@@ -26,10 +26,7 @@ pub loop-place-preserved : goal.loop-place-preserved
 loop-place-preserved c image =
     let es = c.args.shelf.now.entries in
     elim c.match-at.branch [
-      | in-Some+else-differs_there+in_ok-found+in_default-2+then-place-count w ↦
-          one_passed image c.args.number c.args.bus.now es c.loop-place.place w.in-Some._key w.in-Some.segment.now
-          (sym w.in-Some.ensures.is) ((rw w.in_default-2.is at w.in_ok-found.ensures) image) (c.loop-place.invariant image)
-      | in-Some+else-differs_there+in_ok-found+in_default-2+else-place-count w ↦
+      | in-Some+else-differs_there+in_ok-found+in_default-2 w ↦
           one_passed image c.args.number c.args.bus.now es c.loop-place.place w.in-Some._key w.in-Some.segment.now
           (sym w.in-Some.ensures.is) ((rw w.in_default-2.is at w.in_ok-found.ensures) image) (c.loop-place.invariant image)
       | in_default w ↦ absurd (none_there (numbered c.args.number es) c.loop-place.place (omega (arith, c.loop-place-test.true, c.count-count.ensures)) (sym w.in_default.ensures.is))
