@@ -20,7 +20,7 @@ pub(crate) fn same_entries(a: &BTreeMap<(u16, u8), Held>, b: &BTreeMap<(u16, u8)
         match others.next() {
             None => return false,
             Some((other_place, other)) => {
-                if *place != *other_place || value.as_slice() != other.as_slice() {
+                if *place != *other_place || !value.same(other) {
                     return false;
                 }
             }

@@ -1,6 +1,6 @@
 //! The bytes of one value.
 
-ghost use Rattle.std.specs.Prelude.{◌≡◌, ◌≤◌, ℕ, List, length, IfOk};
+ghost use Rattle.std.specs.Prelude.{◌≡◌, ◌≤◌, ◌↔◌, ℕ, List, length, IfOk, IsTrue};
 ghost use Rattle.co_values.specs.Values.{longest_value};
 
 use co_base::Octets;
@@ -62,6 +62,13 @@ fn long(alloc: Global, bytes: &[u8]) -> Result<Held, AllocError>
     })
 }
 
+/// Whether eight bytes are the same eight.
+fn same_eight(bytes: &[u8; 8], others: &[u8; 8]) -> bool
+    ensures { IsTrue result → bytes.now ≡ others.now }
+{
+    u64::from_le_bytes(*bytes) == u64::from_le_bytes(*others)
+}
+
 impl Held {
     /// A copy of a slice's bytes. Takes no memory for at most eight.
     pub(crate) fn of(alloc: Global, bytes: &[u8]) -> Result<Held, AllocError>
@@ -84,6 +91,28 @@ impl Held {
             Kept::Short { count, bytes } => &bytes[..usize::from(*count)],
             Kept::Long(octets) => octets.as_slice(),
         }
+    }
+    /// Whether both lie in place, with the same in all of it.
+    fn is_like(&self, other: &Held) -> bool
+        ensures { IsTrue result → self.now ≡ other.now }
+    {
+        match (&self.kept, &other.kept) {
+            (
+                Kept::Short { count, bytes },
+                Kept::Short {
+                    count: other_count,
+                    bytes: others,
+                },
+            ) => *count == *other_count && same_eight(bytes, others),
+            _ => false,
+        }
+    }
+
+    /// Whether the bytes are the same. Takes time by their number, and next to none where both lie in place.
+    pub(crate) fn same(&self, other: &Held) -> bool
+        ensures { IsTrue result ↔ (self.now ≡ other.now) }
+    {
+        self.is_like(other) || self.as_slice() == other.as_slice()
     }
 }
 

@@ -47,7 +47,7 @@ pub(crate) fn agree_on(a: &Dict, b: &Dict, places: &Table) -> bool
 fn may_agree_at(a: &Dict, b: &Dict, one: (&(u16, u8), &Held), other: (&(u16, u8), &Held)) -> bool
     ensures { a.now ≡ b.now → IsTrue result }
 {
-    (one.0 == other.0 && one.1.as_slice() == other.1.as_slice()) || agree_at(a, b, *one.0)
+    (one.0 == other.0 && one.1.same(other.1)) || agree_at(a, b, *one.0)
 }
 
 /// Whether two dictionaries may have the same where the index is `first` or above, by the entries of a table of
