@@ -315,7 +315,7 @@ impl BusState {
     }
 
     /// The first place at which `differs_at` tells it from a bus that is the same but for its devices, if there is
-    /// one; none of another bus. Takes at most the time of `same`.
+    /// one; none of another bus. Takes time as `same` does.
     pub fn place_apart(&self, other: &BusState) -> Option<usize> {
         if self.is_like(other) {
             self.devices.place_apart(&other.devices)
