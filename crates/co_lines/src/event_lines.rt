@@ -9,14 +9,13 @@ ghost use Rattle.co_lines.specs.Lines.{event_words, spaced, text_of};
 ghost use Rattle.co_edits.specs.declared.edit.Edit.TheVariants as edit;
 ghost use Rattle.std.specs.Str.{byte};
 
-use crate::written::{write_index, write_number, write_sub, write_word};
+use crate::written::{write_number, write_target, write_word};
 use co_scenario::{Event, NmtCommand, TimedEvent};
 use std::alloc::{AllocError, Global};
 
 /// Writes ` set ID INDEX SUB TEXT`.
 fn write_set(
     out: &mut Vec<u8>,
-    alloc: Global,
     node: u8,
     index: u16,
     sub: u8,
@@ -27,44 +26,37 @@ fn write_set(
     ensures kept { OnErr result (StartsWith out.new.items out.old.items) }
 {
     write_word(out, b"set")?;
-    write_number(out, alloc, u64::from(node))?;
-    write_index(out, index)?;
-    write_sub(out, sub)?;
+    write_target(out, node, index, sub)?;
     write_word(out, text)?;
     Ok(())
 }
 
 /// Writes ` power ID on` or ` power ID off`.
-fn write_power(out: &mut Vec<u8>, alloc: Global, node: u8, on: bool) -> Result<(), AllocError>
+fn write_power(out: &mut Vec<u8>, node: u8, on: bool) -> Result<(), AllocError>
     ensures written { OnOk result (out.new.items
         ≡ out.old.items ++ byte " " ∷ spaced (event_words (event.Power node on))) }
     ensures kept { OnErr result (StartsWith out.new.items out.old.items) }
 {
     write_word(out, b"power")?;
-    write_number(out, alloc, u64::from(node))?;
+    write_number(out, u64::from(node))?;
     write_word(out, if on { b"on" } else { b"off" })?;
     Ok(())
 }
 
 /// Writes ` nmt CMD ID`.
-fn write_command(
-    out: &mut Vec<u8>,
-    alloc: Global,
-    node: u8,
-    command: NmtCommand,
-) -> Result<(), AllocError>
+fn write_command(out: &mut Vec<u8>, node: u8, command: NmtCommand) -> Result<(), AllocError>
     ensures written { OnOk result (out.new.items
         ≡ out.old.items ++ byte " " ∷ spaced (event_words (event.Nmt node command))) }
     ensures kept { OnErr result (StartsWith out.new.items out.old.items) }
 {
     write_word(out, b"nmt")?;
-    write_number(out, alloc, u64::from(command.number()))?;
-    write_number(out, alloc, u64::from(node))?;
+    write_number(out, u64::from(command.number()))?;
+    write_number(out, u64::from(node))?;
     Ok(())
 }
 
 /// Writes a space and what happens to a node.
-fn write_words(out: &mut Vec<u8>, alloc: Global, event: &Event) -> Result<(), AllocError>
+fn write_words(out: &mut Vec<u8>, event: &Event) -> Result<(), AllocError>
     ensures written { OnOk result (out.new.items ≡ out.old.items ++ byte " " ∷ spaced (event_words event.now)) }
     ensures kept { OnErr result (StartsWith out.new.items out.old.items) }
 {
@@ -74,21 +66,21 @@ fn write_words(out: &mut Vec<u8>, alloc: Global, event: &Event) -> Result<(), Al
             index,
             sub,
             text,
-        } => write_set(out, alloc, *node, *index, *sub, text.as_slice()),
-        Event::Power { node, on } => write_power(out, alloc, *node, *on),
-        Event::Nmt { node, command } => write_command(out, alloc, *node, *command),
+        } => write_set(out, *node, *index, *sub, text.as_slice()),
+        Event::Power { node, on } => write_power(out, *node, *on),
+        Event::Nmt { node, command } => write_command(out, *node, *command),
     }
 }
 
 /// Writes `event K TIME`.
-fn write_moment(out: &mut Vec<u8>, alloc: Global, number: u16, time: u32) -> Result<(), AllocError>
+fn write_moment(out: &mut Vec<u8>, number: u16, time: u32) -> Result<(), AllocError>
     ensures written { OnOk result (out.new.items ≡ out.old.items ++ codes "event" ++ byte " " ∷ decimal number
         ++ byte " " ∷ decimal time) }
     ensures kept { OnErr result (StartsWith out.new.items out.old.items) }
 {
     out.extend_from_slice(b"event")?;
-    write_number(out, alloc, u64::from(number))?;
-    write_number(out, alloc, u64::from(time))?;
+    write_number(out, u64::from(number))?;
+    write_number(out, u64::from(time))?;
     Ok(())
 }
 
@@ -102,8 +94,8 @@ pub fn write_event(
     ensures written { OnOk result (out.new.items ≡ out.old.items ++ text_of (edit.Event number event.now)) }
     ensures kept { OnErr result (StartsWith out.new.items out.old.items) }
 {
-    write_moment(out, alloc, number, event.time)?;
-    write_words(out, alloc, &event.event)?;
+    write_moment(out, number, event.time)?;
+    write_words(out, &event.event)?;
     out.push(b'\n')?;
     Ok(())
 }

@@ -5,16 +5,16 @@
 ghost use Rattle.std.specs.Prelude.{◌≡◌, ◌++◌, ◌∷◌, ◌<◌, OnOk, OnErr, decimal};
 ghost use Rattle.std.specs.Io.{StartsWith};
 ghost use Rattle.std.specs.Str.{byte};
-ghost use Rattle.co_text.specs.Digits.{byte_digits, identifier_digits, index_digits};
+ghost use Rattle.co_text.specs.Digits.{identifier_digits};
 ghost use Rattle.co_lines.specs.Lines.{text_of};
 ghost use Rattle.co_edits.specs.declared.edit.Edit.TheVariants as edit;
 
-use crate::written::{write_identifier, write_index, write_number, write_sub, write_word};
+use crate::written::{write_identifier, write_number, write_place, write_target, write_word};
 use co_messages::Message;
 use std::alloc::{AllocError, Global};
 
 /// Writes ` ID TPDO TYPE INHIBIT EVENT COB`.
-fn write_numbers(out: &mut Vec<u8>, alloc: Global, message: &Message) -> Result<(), AllocError>
+fn write_numbers(out: &mut Vec<u8>, message: &Message) -> Result<(), AllocError>
     requires { message.now.cob < 4096 }
     ensures written { OnOk result (out.new.items ≡ out.old.items ++ byte " " ∷ decimal message.now.node
         ++ byte " " ∷ decimal message.now.tpdo ++ byte " " ∷ decimal message.now.transmission
@@ -22,11 +22,11 @@ fn write_numbers(out: &mut Vec<u8>, alloc: Global, message: &Message) -> Result<
         ++ byte " " ∷ identifier_digits message.now.cob) }
     ensures kept { OnErr result (StartsWith out.new.items out.old.items) }
 {
-    write_number(out, alloc, u64::from(message.node))?;
-    write_number(out, alloc, u64::from(message.tpdo))?;
-    write_number(out, alloc, u64::from(message.transmission))?;
-    write_number(out, alloc, u64::from(message.inhibit))?;
-    write_number(out, alloc, u64::from(message.event))?;
+    write_number(out, u64::from(message.node))?;
+    write_number(out, u64::from(message.tpdo))?;
+    write_number(out, u64::from(message.transmission))?;
+    write_number(out, u64::from(message.inhibit))?;
+    write_number(out, u64::from(message.event))?;
     write_identifier(out, message.cob)?;
     Ok(())
 }
@@ -44,7 +44,7 @@ pub fn write_message(
 {
     out.extend_from_slice(b"message")?;
     write_word(out, name)?;
-    write_numbers(out, alloc, message)?;
+    write_numbers(out, message)?;
     out.push(b'\n')?;
     Ok(())
 }
@@ -61,7 +61,7 @@ pub fn write_start(
 {
     out.extend_from_slice(b"start")?;
     write_word(out, message)?;
-    write_number(out, alloc, u64::from(start))?;
+    write_number(out, u64::from(start))?;
     out.push(b'\n')?;
     Ok(())
 }
@@ -81,28 +81,9 @@ pub fn write_source(
 {
     out.extend_from_slice(b"source")?;
     write_word(out, message)?;
-    write_number(out, alloc, u64::from(position))?;
-    write_index(out, index)?;
-    write_sub(out, sub)?;
+    write_number(out, u64::from(position))?;
+    write_place(out, index, sub)?;
     out.push(b'\n')?;
-    Ok(())
-}
-
-/// Writes ` ID INDEX SUB`.
-fn write_target(
-    out: &mut Vec<u8>,
-    alloc: Global,
-    node: u8,
-    index: u16,
-    sub: u8,
-) -> Result<(), AllocError>
-    ensures written { OnOk result (out.new.items ≡ out.old.items ++ byte " " ∷ decimal node
-        ++ byte " " ∷ index_digits index ++ byte " " ∷ byte_digits sub) }
-    ensures kept { OnErr result (StartsWith out.new.items out.old.items) }
-{
-    write_number(out, alloc, u64::from(node))?;
-    write_index(out, index)?;
-    write_sub(out, sub)?;
     Ok(())
 }
 
@@ -122,8 +103,8 @@ pub fn write_sink(
 {
     out.extend_from_slice(b"sink")?;
     write_word(out, message)?;
-    write_number(out, alloc, u64::from(position))?;
-    write_target(out, alloc, node, index, sub)?;
+    write_number(out, u64::from(position))?;
+    write_target(out, node, index, sub)?;
     out.push(b'\n')?;
     Ok(())
 }

@@ -8,7 +8,7 @@ ghost use Rattle.std.specs.Str.{byte};
 ghost use Rattle.co_lines.specs.Lines.{text_of};
 ghost use Rattle.co_edits.specs.declared.edit.Edit.TheVariants as edit;
 
-use crate::written::{write_index, write_number, write_sub, write_word};
+use crate::written::{write_number, write_target, write_word};
 use co_edits::{ManagerSettings, ScriptVersion};
 use co_text::line_count;
 use std::alloc::{AllocError, Global};
@@ -23,7 +23,7 @@ pub fn write_version(
     ensures kept { OnErr result (StartsWith out.new.items out.old.items) }
 {
     out.extend_from_slice(b"version")?;
-    write_number(out, alloc, u64::from(version.number()))?;
+    write_number(out, u64::from(version.number()))?;
     out.push(b'\n')?;
     Ok(())
 }
@@ -34,7 +34,7 @@ pub fn write_bitrate(out: &mut Vec<u8>, alloc: Global, rate: u16) -> Result<(), 
     ensures kept { OnErr result (StartsWith out.new.items out.old.items) }
 {
     out.extend_from_slice(b"bitrate")?;
-    write_number(out, alloc, u64::from(rate))?;
+    write_number(out, u64::from(rate))?;
     out.push(b'\n')?;
     Ok(())
 }
@@ -45,24 +45,20 @@ pub fn write_horizon(out: &mut Vec<u8>, alloc: Global, time: u32) -> Result<(), 
     ensures kept { OnErr result (StartsWith out.new.items out.old.items) }
 {
     out.extend_from_slice(b"horizon")?;
-    write_number(out, alloc, u64::from(time))?;
+    write_number(out, u64::from(time))?;
     out.push(b'\n')?;
     Ok(())
 }
 
 /// Writes ` SYNC_US HB_MS TIMEOUT_MS`.
-fn write_periods(
-    out: &mut Vec<u8>,
-    alloc: Global,
-    manager: ManagerSettings,
-) -> Result<(), AllocError>
+fn write_periods(out: &mut Vec<u8>, manager: ManagerSettings) -> Result<(), AllocError>
     ensures written { OnOk result (out.new.items ≡ out.old.items ++ byte " " ∷ decimal manager.sync_us
         ++ byte " " ∷ decimal manager.heartbeat_ms ++ byte " " ∷ decimal manager.timeout_ms) }
     ensures kept { OnErr result (StartsWith out.new.items out.old.items) }
 {
-    write_number(out, alloc, u64::from(manager.sync_us))?;
-    write_number(out, alloc, u64::from(manager.heartbeat_ms))?;
-    write_number(out, alloc, u64::from(manager.timeout_ms))?;
+    write_number(out, u64::from(manager.sync_us))?;
+    write_number(out, u64::from(manager.heartbeat_ms))?;
+    write_number(out, u64::from(manager.timeout_ms))?;
     Ok(())
 }
 
@@ -76,8 +72,8 @@ pub fn write_manager(
     ensures kept { OnErr result (StartsWith out.new.items out.old.items) }
 {
     out.extend_from_slice(b"manager")?;
-    write_number(out, alloc, u64::from(manager.id))?;
-    write_periods(out, alloc, manager)?;
+    write_number(out, u64::from(manager.id))?;
+    write_periods(out, manager)?;
     out.push(b'\n')?;
     Ok(())
 }
@@ -88,7 +84,7 @@ pub fn write_sync_counter(out: &mut Vec<u8>, alloc: Global, last: u8) -> Result<
     ensures kept { OnErr result (StartsWith out.new.items out.old.items) }
 {
     out.extend_from_slice(b"sync-counter")?;
-    write_number(out, alloc, u64::from(last))?;
+    write_number(out, u64::from(last))?;
     out.push(b'\n')?;
     Ok(())
 }
@@ -105,7 +101,7 @@ pub fn write_eds(
 {
     out.extend_from_slice(b"eds")?;
     write_word(out, name)?;
-    write_number(out, alloc, line_count(text) as u64)?;
+    write_number(out, line_count(text) as u64)?;
     out.push(b'\n')?;
     out.extend_from_slice(text)?;
     Ok(())
@@ -123,7 +119,7 @@ pub fn write_node(
     ensures kept { OnErr result (StartsWith out.new.items out.old.items) }
 {
     out.extend_from_slice(b"node")?;
-    write_number(out, alloc, u64::from(id))?;
+    write_number(out, u64::from(id))?;
     write_word(out, name)?;
     write_word(out, eds)?;
     out.push(b'\n')?;
@@ -141,7 +137,7 @@ pub fn write_need(
     ensures kept { OnErr result (StartsWith out.new.items out.old.items) }
 {
     out.extend_from_slice(b"need")?;
-    write_number(out, alloc, u64::from(id))?;
+    write_number(out, u64::from(id))?;
     write_word(out, if mandatory { b"mandatory" } else { b"optional" })?;
     out.push(b'\n')?;
     Ok(())
@@ -160,9 +156,7 @@ pub fn write_param(
     ensures kept { OnErr result (StartsWith out.new.items out.old.items) }
 {
     out.extend_from_slice(b"param")?;
-    write_number(out, alloc, u64::from(id))?;
-    write_index(out, index)?;
-    write_sub(out, sub)?;
+    write_target(out, id, index, sub)?;
     write_word(out, text)?;
     out.push(b'\n')?;
     Ok(())
