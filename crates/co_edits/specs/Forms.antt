@@ -24,6 +24,10 @@ is_name word = is_between 1 32 (length word) && list_all is_name_byte word
 abbrev pub is_control : ℕ → Bool
 is_control b = nat_lt b (byte " ") && not (b == tab)
 
+-- a byte below a space: a control byte or a tab
+abbrev pub is_low : ℕ → Bool
+is_low b = nat_lt b (byte " ")
+
 -- what a text may be but for blanks at its ends: 1 to 4,000 bytes, none of them a control byte
 abbrev pub is_plain : List ℕ → Bool
 is_plain text = is_between 1 4000 (length text) && not (list_any is_control text)
