@@ -5,4 +5,4 @@ pub mod IndexLemmas
 pub mod MappingLemmas
 pub mod PlaceLemmas
 pub mod RestoredLemmas
-pub mod ShapeLemmas
+pub mod TableLemmas

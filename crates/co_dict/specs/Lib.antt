@@ -1,11 +1,13 @@
 pub mod Aborts
 pub mod Accesses
 pub mod Checks
+pub mod Held
 pub mod Mappings
 pub mod PdoChecks
 pub mod Pdos
 pub mod Places
 pub mod Restored
 pub mod Shapes
+pub mod Tables
 pub mod Values
 pub mod WriteCheck
