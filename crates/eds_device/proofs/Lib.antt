@@ -1,4 +1,5 @@
 pub mod AddingLemmas
+pub mod CommonLemmas
 pub mod ConverseLemmas
 pub mod FixedLemmas
 pub mod IdentityLemmas

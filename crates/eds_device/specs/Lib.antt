@@ -1,4 +1,5 @@
 pub mod Adding
+pub mod Common
 pub mod Described
 pub mod Entries
 pub mod FaultOf

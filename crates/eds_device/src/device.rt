@@ -24,6 +24,7 @@ use crate::index::{Listed, object_positions, sub_positions, values_positions};
 use crate::origin::Origin;
 use crate::places::places_of;
 use crate::table::{Stand, find_stand, find_stand_near, stand_there, stands};
+use co_dict::Shape;
 use eds_entries::Said;
 use ini_text::{Ini, Pair, Section};
 use std::alloc::Global;
@@ -42,6 +43,7 @@ pub struct Device {
     places: Vec<(u16, u8)>,
     stands: Vec<Option<Stand>>,
     fixed: Vec<Fixed>,
+    pub(crate) common: Option<Shape>,
 }
 
 impl Model for Device {
@@ -54,7 +56,7 @@ impl Model for Device {
     ghost view = { λ a. a.ini };
 
     ghost invariant = { λ a. IsIndexed a.ini.sections a.said.items a.objects.entries a.values.entries a.places.items
-        a.stands.items × AreFixed a.ini.sections a.places.items a.fixed.items };
+        a.stands.items a.common × AreFixed a.ini.sections a.places.items a.fixed.items };
 }
 
 /// The section at a position that a table has.
@@ -107,6 +109,7 @@ impl Device {
             places,
             stands,
             fixed,
+            common: None,
         })
     }
 

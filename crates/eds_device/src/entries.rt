@@ -2,14 +2,14 @@
 ghost use Rattle.std.specs.Prelude.{◌≡◌, ◌≤◌, IfOk, IfSome, length};
 ghost use Rattle.co_values.specs.Values.{longest_value};
 ghost use Rattle.std.specs.Option.{option_copied, option_map, option_map_or};
-ghost use Rattle.eds_device.specs.Entries.{limit_at, entry_at, default_bytes, default_at, dummy_allowed};
-ghost use Rattle.eds_entries.specs.Shown.{default_shown};
+ghost use Rattle.eds_device.specs.Entries.{limit_at, entry_by, entry_at, default_bytes, default_at, dummy_allowed};
+ghost use Rattle.eds_entries.specs.Shown.{default_shown, description_shown};
 
 use crate::device::Device;
 use co_base::Octets;
 use co_dict::Entry;
 use co_values::{DataType, default_value, integer_of, read_number, value_of};
-use eds_entries::{DefaultText, is_not_zero};
+use eds_entries::{DefaultText, Described, is_not_zero};
 use std::alloc::{AllocError, Global};
 
 /// The limit that a text is for integers of a type at a node.
@@ -21,6 +21,19 @@ fn limit_at(kind: DataType, text: &[u8], node: u8) -> Option<i128>
         integer_of(kind, text, node)
     } else {
         None
+    }
+}
+
+/// The entry that is described, at a node.
+pub(crate) fn entry_of(described: Described<'_>, node: u8) -> Entry
+    ensures { result ≡ entry_by node (description_shown described.entry) }
+{
+    Entry {
+        kind: described.kind,
+        access: described.access,
+        low: limit_at(described.kind, described.low, node),
+        high: limit_at(described.kind, described.high, node),
+        mappable: described.mappable,
     }
 }
 
@@ -53,13 +66,7 @@ impl Device {
         ensures { result ≡ entry_at self.now.sections node index sub }
     {
         let described = self.described(index, sub)?;
-        Some(Entry {
-            kind: described.kind,
-            access: described.access,
-            low: limit_at(described.kind, described.low, node),
-            high: limit_at(described.kind, described.high, node),
-            mappable: described.mappable,
-        })
+        Some(entry_of(described, node))
     }
 
     /// The default of an entry at a node: what its text spells there as a value of its type, else 0

@@ -1,6 +1,7 @@
 //! The device that an EDS text describes (CiA 306).
 #![tactic(auto)]
 
+mod common;
 mod comparing;
 mod described;
 mod device;

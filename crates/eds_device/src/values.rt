@@ -68,7 +68,7 @@ impl Device {
     }
 
     /// For each of the types 0001h to 0007h whether its dummy is allowed.
-    fn dummies(&self) -> [bool; 7]
+    pub(crate) fn dummies(&self) -> [bool; 7]
         ensures { result ≡ dummies_of self.now.sections }
     {
         [
