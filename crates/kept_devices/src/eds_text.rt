@@ -64,13 +64,14 @@ fn read_device(alloc: Global, text: &[u8]) -> Result<Device, AllocError>
     }
 }
 
-/// The device of a text, with the text.
+/// The device of a text, with its shape where that is the same at every node, and with the text.
 pub fn keep_device(alloc: Global, text: &[u8]) -> Result<Kept<EdsText, Shared<Device>>, AllocError>
     requires { device_of text.now ≡ Ok (content_of text.now) }
     ensures { IfOk result (λ kept. kept ≡ text.now) }
 {
     let inputs = EdsText::of(alloc, text)?;
-    let device = read_device(alloc, text)?;
+    let mut device = read_device(alloc, text)?;
+    device.keep_shape()?;
     let device = Shared::new(alloc, device)?;
     Ok(Kept::new(inputs, device))
 }

@@ -95,7 +95,7 @@ fn add_station(
         ≡ (if number == node then Some (shape_of device.now.sections number)
         else shape_at (numbered 0 seats.old) node)) }
 {
-    let shape = device.shape(number)?;
+    let shape = device.shared_shape(number)?;
     let station = station_of(alloc, seats, other, shape)?;
     seats[usize::from(number)] = Some(station);
     Ok(())
