@@ -23,11 +23,12 @@ pub fn make_defaults(alloc: Global, device: &Device, node: u8) -> Result<Rc<Dict
     Ok(values)
 }
 
-/// The entries of a node, at most 4,096. Takes time by the number of entries and its logarithm.
+/// The entries of a node, at most 4,096. Takes constant time where the device keeps them for all nodes,
+/// else time by the number of entries and its logarithm.
 pub fn make_shape(alloc: Global, device: &Device, node: u8) -> Result<Rc<Shape>, AllocError>
     ensures { IfOk result (λ shape. shape.value ≡ shape_of device.now.sections node) }
 {
-    let shape = device.shape(node)?;
+    let shape = device.shared_shape(node)?;
     let shape = Rc::new(alloc, shape)?;
     Ok(shape)
 }
