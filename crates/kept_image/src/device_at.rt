@@ -86,7 +86,7 @@ impl Offers<DeviceAt, Shared<Shape>> for DeviceAt {
 
     #[tactic(auto, unfolding(crate::specs::Made::shape_made))]
     fn make(&self, alloc: Global) -> Result<Shared<Shape>, AllocError> {
-        let shape = self.device.get().shape(self.node)?;
+        let shape = self.device.get().shared_shape(self.node)?;
         Shared::new(alloc, shape)
     }
 }
