@@ -11,6 +11,8 @@ impl Device {
     pub fn same(&self, other: &Device) -> bool
         ensures { IsTrue result ↔ (self.now ≡ other.now) }
     {
-        self.warnings() == other.warnings() && same_sections(self.sections(), other.sections())
+        self.has_text_of(other)
+            || self.warnings() == other.warnings()
+                && same_sections(self.sections(), other.sections())
     }
 }

@@ -24,6 +24,7 @@ use crate::index::{Listed, object_positions, sub_positions, values_positions};
 use crate::origin::Origin;
 use crate::places::places_of;
 use crate::table::{Stand, find_stand, find_stand_near, stand_there, stands};
+use co_base::Octets;
 use co_dict::Shape;
 use eds_entries::Said;
 use ini_text::{Ini, Pair, Section};
@@ -36,6 +37,7 @@ use std::marker::Model;
 /// It has at most 4,096 entries. A look-up takes time by the logarithm of the sections.
 #[derive(Drop)]
 pub struct Device {
+    text: Octets,
     ini: Ini,
     said: Vec<Said>,
     objects: BTreeMap<u16, usize>,
@@ -47,7 +49,8 @@ pub struct Device {
 }
 
 impl Model for Device {
-    ghost use Rattle.ini_text.specs.Content.{Content};
+    ghost use Rattle.std.specs.Prelude.{◌≡◌};
+    ghost use Rattle.ini_text.specs.Content.{Content, content_of};
     ghost use Rattle.eds_device.specs.Fixed.{AreFixed};
     ghost use Rattle.eds_device.specs.Index.{IsIndexed};
 
@@ -56,7 +59,7 @@ impl Model for Device {
     ghost view = { λ a. a.ini };
 
     ghost invariant = { λ a. IsIndexed a.ini.sections a.said.items a.objects.entries a.values.entries a.places.items
-        a.stands.items a.common × AreFixed a.ini.sections a.places.items a.fixed.items };
+        a.stands.items a.common × (AreFixed a.ini.sections a.places.items a.fixed.items × (a.ini ≡ content_of a.text)) };
 }
 
 /// The section at a position that a table has.
@@ -101,7 +104,9 @@ impl Device {
         let stands = stands(alloc, ini.sections(), &subs, &objects, &places)?;
         let said = Said::of_all(alloc, ini.sections())?;
         let fixed = fixed_defaults(alloc, ini.sections(), &said, &places, &stands)?;
+        let text = Octets::from_slice(alloc, text)?;
         Ok(Device {
+            text,
             ini,
             said,
             objects,
@@ -125,6 +130,14 @@ impl Device {
         let ini = Ini::read(alloc, text)?;
         let _places = places_of(alloc, ini.sections())?;
         Ok(())
+    }
+
+    /// Whether the other device has the same text, letter by letter: then it is the same. Takes time by the
+    /// length of the texts up to the first difference.
+    pub(crate) fn has_text_of(&self, other: &Device) -> bool
+        ensures { IsTrue result → self.now ≡ other.now }
+    {
+        self.text.as_slice() == other.text.as_slice()
     }
 
     /// Where this device takes its memory.

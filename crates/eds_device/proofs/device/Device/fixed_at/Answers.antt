@@ -12,5 +12,5 @@ returns-in-Some c =
     (ltb-true _ _ (sym c.in-Some.ensures.lookup.0)) ∙ ap Some (sym c.in-Some.ensures.lookup.1) in
     rw (← c.self.view_is)
     (λ place is. fixed_there c.self.inside.ini.sections c.self.inside.places.items c.self.inside.fixed.items
-    c.args.position place c.in-Some.fixed.now c.self.invariant.1
+    c.args.position place c.in-Some.fixed.now c.self.invariant.1.0
     (ap (λ (ps : List (ℕ × ℕ)). slice_get ps c.args.position) c.self.invariant.0.all_places ∙ is) found)

@@ -7,6 +7,6 @@ use Rattle.eds_device.proofs.device.Device.shared_shape.Goals as goal
 pub returns-in-Some : goal.returns-in-Some
 returns-in-Some c =
     let common : IsCommon c.self.inside.ini.sections (Some c.in-Some.shape) =
-    subst (IsCommon c.self.inside.ini.sections) c.in-Some.is c.self.invariant.is_common in
+    subst (IsCommon c.self.inside.ini.sections) c.in-Some.is c.self.invariant.0.is_common in
     let is = common c.args.node ∙ ap (λ (content : Content). shape_of content.sections c.args.node) c.self.view_is in
     rw is at c.share.ensures
