@@ -64,8 +64,7 @@ fn put_lines<W: Outlet>(
 {
     let mut rest = piece;
     'lines: while let Some((line, after)) = split_once(rest, b'\n') {
-        cursor.line.extend_from_slice(line)?;
-        let reply = cursor.end_line()?;
+        let reply = cursor.take_rest(line)?;
         put_reply(outbox, writer, reply)?;
         rest = after;
     }

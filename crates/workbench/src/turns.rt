@@ -36,13 +36,11 @@ pub fn take_line(
     ensures { IfOk result (λ r. taken_at workbench.new.project r.1 r.0
         ≡ after_line (record { project = workbench.old.project; block = block_of block }) line.now) }
 {
-    let line = without_crs(line);
     match block {
         None => {
-            if is_skipped(line) {
-                return Ok((Reply::Nothing, None));
-            }
-            ask(alloc, workbench, line)
+            let mut opened = None;
+            let reply = take_command(alloc, workbench, &mut opened, line)?;
+            Ok((reply, opened))
         }
         Some(
             OpenBlock {
@@ -51,27 +49,50 @@ pub fn take_line(
                 mut lines,
             },
         ) => {
-            lines.push(Vec::from_slice(alloc, line)?)?;
+            lines.push(Vec::from_slice(alloc, without_crs(line))?)?;
             go_on(alloc, workbench, name, left.saturating_sub(1), lines)
         }
     }
 }
 
+/// Takes one more line where no block is open, with the CRs at its end, and opens the block that it asks for.
+#[tactic(auto, unfolding(crate::specs::Replies::after_line))]
+pub fn take_command(
+    alloc: Global,
+    workbench: &mut Workbench,
+    block: &mut Option<OpenBlock>,
+    line: &[u8],
+) -> Result<Reply, AllocError>
+    requires { block.old ≡ None }
+    ensures { IfOk result (λ reply. taken_at workbench.new.project block.new reply
+        ≡ after_line (record { project = workbench.old.project; block = None }) line.now) }
+{
+    let line = without_crs(line);
+    if is_skipped(line) {
+        return Ok(Reply::Nothing);
+    }
+    ask(alloc, workbench, block, line)
+}
+
 fn ask(
     alloc: Global,
     workbench: &mut Workbench,
+    block: &mut Option<OpenBlock>,
     line: &[u8],
-) -> Result<(Reply, Option<OpenBlock>), AllocError>
-    ensures { IfOk result (λ r. taken_at workbench.new.project r.1 r.0
+) -> Result<Reply, AllocError>
+    requires { block.old ≡ None }
+    ensures { IfOk result (λ reply. taken_at workbench.new.project block.new reply
         ≡ after_request workbench.old.project (request line.now)) }
 {
     match Request::read(alloc, line) {
-        Ok(Request::Edit(command)) => Ok((edit(workbench, command)?, None)),
-        Ok(Request::Query(query)) => Ok((reply_to(alloc, workbench, query)?, None)),
+        Ok(Request::Edit(command)) => edit(workbench, command),
+        Ok(Request::Query(query)) => reply_to(alloc, workbench, query),
         Ok(Request::Block { name, lines }) => {
-            go_on(alloc, workbench, name, lines, Vec::new(alloc))
+            let (reply, opened) = go_on(alloc, workbench, name, lines, Vec::new(alloc))?;
+            *block = opened;
+            Ok(reply)
         }
-        Err(fault) => Ok((refuse(fault)?, None)),
+        Err(fault) => refuse(fault),
     }
 }
 

@@ -16,10 +16,10 @@ pub lines-preserved : goal.lines-preserved
 lines-preserved g c =
     let inv = c.lines.invariant in
     let s = cursor_of c.lines.cursor in
-    let r = ended_at c.end_line.new.self c.in_ok-reply.reply in (
+    let r = ended_at c.take_rest.new.self c.in_ok-reply.reply in (
       inv.0 ++ r.replies,
       goes_on _ _ s.state s.line c.lines.rest.now inv.0 inv.1 _ _ c.in-Some.ensures.parts _
-          c.in_ok-extend_from_slice.ensures.items r c.in_ok-reply.ensures,
+          refl r c.in_ok-reply.ensures,
       posts_replies _ _ _ _ _ _ inv.0 r.replies inv.2 c.in_ok-put_reply.ensures.ok,
       c.in_ok-put_reply.ensures.quiet (λ h. cc) ∙ inv.3,
       λ h. c.in_ok-put_reply.ensures.flushed (λ e. cc) (inv.4 h),
@@ -42,9 +42,9 @@ pub returns-in_err-put_reply-clause-write : goal.returns-in_err-put_reply-clause
 returns-in_err-put_reply-clause-write g c =
     let inv = c.lines.invariant in
     let s = cursor_of c.lines.cursor in
-    let r = ended_at c.end_line.new.self c.in_ok-reply.reply in
+    let r = ended_at c.take_rest.new.self c.in_ok-reply.reply in
     let on = goes_on (cursor_of c.args.cursor.now) c.args.piece.now s.state s.line c.lines.rest.now inv.0 inv.1 _ _
-    c.in-Some.ensures.parts _ c.in_ok-extend_from_slice.ensures.items r c.in_ok-reply.ensures in
+    c.in-Some.ensures.parts _ refl r c.in_ok-reply.ensures in
     let all = goes_replies (cursor_of c.args.cursor.now) c.args.piece.now r.state c.in-Some.after.now (inv.0
     ++ r.replies) on in
     let u = g.W.Outlet.contents c.args.writer.now in
@@ -65,7 +65,7 @@ returns-clause-cursor g c =
     let inv = c.lines.invariant in
     let s = cursor_of c.lines.cursor in
     let all = goes_to_end (cursor_of c.args.cursor.now) c.args.piece.now s.state s.line c.lines.rest.now inv.0 inv.1
-    c.in_default.ensures.parts _ c.in_ok-extend_from_slice-2.ensures.items in
+    c.in_default.ensures.parts _ c.in_ok-extend_from_slice.ensures.items in
     sym (ap (λ (r : After Cursor). r.state) all)
 
 pub returns-clause-ok : goal.returns-clause-ok
@@ -73,7 +73,7 @@ returns-clause-ok g c =
     let inv = c.lines.invariant in
     let s = cursor_of c.lines.cursor in
     let all = goes_to_end (cursor_of c.args.cursor.now) c.args.piece.now s.state s.line c.lines.rest.now inv.0 inv.1
-    c.in_default.ensures.parts _ c.in_ok-extend_from_slice-2.ensures.items in
+    c.in_default.ensures.parts _ c.in_ok-extend_from_slice.ensures.items in
     let u = g.W.Outlet.contents c.args.writer.now in
     let v = g.W.Outlet.contents c.lines.writer in
     subst (λ (r : After Cursor). Posts u c.args.outbox.now v c.lines.outbox (concat r.replies)) (sym all) inv.2
