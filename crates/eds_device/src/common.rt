@@ -9,6 +9,7 @@ ghost use Rattle.eds_entries.specs.Shown.{description_shown};
 
 use crate::device::Device;
 use crate::entries::entry_of;
+use crate::fixed::LONGEST_TEXT;
 use co_dict::Shape;
 use co_values::DataType;
 use eds_entries::Described;
@@ -21,12 +22,13 @@ fn has_dollar(text: &[u8]) -> bool
     text.iter().any(|byte| *byte == b'$')
 }
 
-/// Whether the limit that a text is for values of a type is known to be the same at every node.
+/// Whether the limit that a text is for values of a type is known to be the same at every node. Takes constant
+/// time.
 #[tactic(auto, using(crate::proofs::CommonLemmas::limit_of_no_integer, crate::proofs::CommonLemmas::limit_without_dollar))]
 fn is_fixed_limit(kind: DataType, text: &[u8]) -> bool
     ensures { IsTrue result → (node other : ℕ) → limit_at kind text.now node ≡ limit_at kind text.now other }
 {
-    !kind.is_integer() || !has_dollar(text)
+    !kind.is_integer() || text.len() <= LONGEST_TEXT && !has_dollar(text)
 }
 
 /// Whether the entry that is described is known to be the same at every node.
@@ -74,8 +76,8 @@ impl Device {
     }
 
     /// Keeps the shape beside the text, for all nodes, where it is the same at each: where no limit of
-    /// an integer has a `$`, as `$NODEID` has. Takes the time and the memory of `shape`. Where memory is
-    /// wanting, the device stays as it was.
+    /// an integer has a `$`, as `$NODEID` has, or is longer than 32 bytes. Takes time and memory by the number
+    /// of entries, and time by its logarithm. Where memory is wanting, the device stays as it was.
     pub fn keep_shape(&mut self) -> Result<(), AllocError>
         ensures { self.new ≡ self.old }
     {

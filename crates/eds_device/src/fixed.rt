@@ -16,6 +16,9 @@ use eds_entries::{DefaultText, Described, Said, highest_sub};
 use ini_text::Section;
 use std::alloc::{AllocError, Global};
 
+/// The longest text that is read ahead: one text can be that of many entries.
+pub(crate) const LONGEST_TEXT: usize = 32;
+
 /// What is known of the default of an entry at every node.
 #[derive(Clone, Copy)]
 pub(crate) enum Fixed {
@@ -51,12 +54,15 @@ fn fixed_bytes(bytes: &[u8]) -> Fixed
     }
 }
 
-/// Whether a text is a number or nothing, and so spells the same value at every node.
+/// Whether a text is a short number or nothing, and so spells the same value at every node. Takes constant time.
 fn is_same_everywhere(text: &[u8]) -> bool
     ensures { IsTrue result → (kind : Kind) (node : ℕ) → value kind text.now node ≡ value kind text.now 0 }
 {
     if text.is_empty() {
         return true;
+    }
+    if text.len() > LONGEST_TEXT {
+        return false;
     }
     match read_number(text) {
         Some(_number) => true,
@@ -116,7 +122,7 @@ fn described_by<'a>(
 }
 
 /// What is known of the defaults of the entries at places, one after the other. Takes time by their
-/// number and their texts.
+/// number.
 pub(crate) fn fixed_defaults(
     alloc: Global,
     sections: &[Section],
