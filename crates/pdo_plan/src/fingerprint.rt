@@ -11,7 +11,8 @@ use crate::planned_message::PlannedMessage;
 use co_messages::Message;
 use pdo_stations::Mapped;
 
-/// What a fingerprint goes up by from number to number: odd, so that each number tells.
+/// What a fingerprint is multiplied by ahead of each number (the factor of Knuth's MMIX generator): odd, so that no
+/// two become one by it.
 const FACTOR: u64 = 0x5851_F42D_4C95_7F2D;
 
 /// A fingerprint with one more number.
