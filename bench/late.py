@@ -20,7 +20,7 @@ FIRSTS = 20
 
 def network():
     """The script of the servo axes, to ten seconds and without queries."""
-    text = subprocess.run([sys.executable, "tools/expand", "examples/servo_axes.txt"], stdout=subprocess.PIPE, check=True).stdout
+    text = subprocess.run([sys.executable, "tools/cobtool", "expand", "examples/servo_axes.txt"], stdout=subprocess.PIPE, check=True).stdout
     queries = (b"dcf", b"cdcf", b"diag", b"trace", b"project")
     return [line for line in text.splitlines() if line.split(b" ")[0] not in queries] + [b"horizon 10000000"]
 

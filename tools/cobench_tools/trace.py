@@ -81,6 +81,6 @@ def pick(path, traces, wanted):
     return traces[(wanted or 1) - 1]
 
 
-def add_words(words):
+def add_arguments(parser):
     """The word that chooses a trace."""
-    words.add_argument("--trace", metavar="N", type=int, help="take the Nth trace of the session, not the first")
+    parser.add_argument("--trace", metavar="N", type=int, help="take the Nth trace of the session, not the first")

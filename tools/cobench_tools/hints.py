@@ -51,13 +51,13 @@ def begins_comment(word):
 def unknown_word(first, line):
     """Hints on a first word that no command has."""
     if first.startswith("#"):
-        return "cobench has no comments: give it the script through tools/expand, which takes them out"
+        return "cobench has no comments: give it the script through `cobtool expand`, which takes them out"
     if begins_comment(first):
-        return "a comment begins with #, and tools/expand takes it out"
+        return "a comment begins with #, and `cobtool expand` takes it out"
     if line.startswith(b"\xef\xbb\xbf"):
         return "the script begins with a byte order mark: save it without"
     if re.match(r"\[.*\]|[^ \t=]+=", first):
-        return "a line of an EDS: the number of lines at its eds command is too small (tools/eds counts them)"
+        return "a line of an EDS: the number of lines at its eds command is too small (`cobtool eds` counts them)"
     if first.lower() in FORMS:
         return f"commands are in lower case: {first.lower()}"
     near = difflib.get_close_matches(first.lower(), FORMS, 1)
@@ -105,7 +105,7 @@ def bad_syntax(command):
     if command.file is not None and command.block is not None:
         return wrong_word("NAME", rest[0])
     if command.file is not None:
-        return "cobench reads no files: give it the script through tools/expand, which takes the file in"
+        return "cobench reads no files: give it the script through `cobtool expand`, which takes the file in"
     form = form_of(first, rest)
     if first == "event" and len(rest) > 2 and rest[2] not in EVENTS:
         return f"an event is one of set, power and nmt, not {rest[2]}"

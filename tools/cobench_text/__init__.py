@@ -1,1 +1,0 @@
-"""What the tools share: the texts that cobench reads and writes, as records."""

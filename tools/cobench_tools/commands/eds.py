@@ -1,0 +1,22 @@
+"""Prints the `eds` command of a file."""
+from .. import script, tool
+
+SUMMARY = "print `eds NAME LINES` and the lines of an EDS, counted"
+
+AFTER = """The lines are counted as cobench counts them: the last one may have no end, and
+CRs at a line's end are taken away. FILE can be - for the standard input.
+Status: 0, or 2 where cobench would refuse the block.
+
+  cobtool eds servo servo_drive.eds > network.txt"""
+
+
+def arguments(parser):
+    parser.epilog = AFTER
+    parser.add_argument("name", metavar="NAME")
+    parser.add_argument("file", metavar="FILE")
+
+
+def run(options):
+    name = options.name.encode("utf-8", "surrogateescape")
+    tool.put(script.block_of(name, script.eds_lines(name, options.file)))
+    return tool.DONE

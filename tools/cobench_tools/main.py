@@ -1,0 +1,75 @@
+"""The program `cobtool`: it finds the command that its first word names, and has it do its work."""
+import difflib
+import importlib
+import sys
+
+from . import tool
+
+# The commands, in the order of a day's work. Each is the module of that name in commands/.
+COMMANDS = ("export", "expand", "eds", "refusals", "explain", "timeline", "candump")
+
+ABOUT = """Checks, exports and explains a CANopen network that is written as a script for cobench.
+
+commands:
+{commands}
+
+`cobtool COMMAND --help` tells the words of each, with an example.
+Status: 0 where all is well, 1 where something in the project is wrong,
+2 where the command can't do its work, with one line on why."""
+
+
+def module_of(command):
+    """The module of a command; `import` is a word of Python, so that its module has another name."""
+    name = command if command != "import" else "import_"
+    return importlib.import_module(f"{__package__}.commands.{name}")
+
+
+def overview():
+    """The parser for the words before a command, whose help lists the commands."""
+    width = max(map(len, COMMANDS))
+    lines = [f"  {command:{width}}  {module_of(command).SUMMARY}" for command in COMMANDS]
+    parser = tool.Parser("cobtool", ABOUT.format(commands="\n".join(lines)))
+    parser.usage = "cobtool COMMAND ..."
+    return parser
+
+
+def parser_of(command):
+    """The parser for the words of a command."""
+    module = module_of(command)
+    parser = tool.Parser(f"cobtool {command}", module.SUMMARY)
+    module.arguments(parser)
+    return parser
+
+
+def no_command(word):
+    """The fault of a first word that is no command."""
+    near = difflib.get_close_matches(word, COMMANDS, 1)
+    hint = f"is it {near[0]}" if near else "there are: " + ", ".join(COMMANDS)
+    return tool.Fault(f"no command {word}; {hint}; cobtool --help tells more")
+
+
+def run(words):
+    """Runs the command that these words name, and gives its status."""
+    if not words or words[0].startswith("-"):
+        overview().parse_args(words[:1])
+        raise tool.Fault("a command is missing: " + ", ".join(COMMANDS) + "; cobtool --help tells more")
+    if words[0] not in COMMANDS:
+        raise no_command(words[0])
+    if sys.stdout is None:
+        raise tool.Fault("the standard output is closed")
+    return module_of(words[0]).run(parser_of(words[0]).parse_args(words[1:]))
+
+
+def main(words=None):
+    """Runs `cobtool` with these words, or with those of the command line, and gives its status."""
+    try:
+        return run(sys.argv[1:] if words is None else words)
+    except tool.Fault as fault:
+        tool.say(fault)
+    except KeyboardInterrupt:
+        return 130
+    except MemoryError:
+        tool.say("there isn't enough memory")
+    except OSError as error:
+        tool.say(f"{error.filename}: {error.strerror}" if error.filename else error.strerror)
+    return tool.CANNOT

@@ -1,0 +1,56 @@
+"""`eds` and `expand`."""
+import os
+
+from helper import BINARY, EXAMPLES, example, file, is_fine, is_refused, put, run, session
+
+
+def test_eds_counts_the_lines_of_a_data_sheet():
+    lines = session(b"two servo drives and their").split(b"\n")
+    is_fine(run("eds", "servo", example("servo_drive.eds")), b"\n".join(lines[:1604]) + b"\n")
+
+
+def test_eds_counts_as_the_program_does():
+    for text, block in ((b"", b"eds x 0\n"), (b"\n", b"eds x 1\n\n"), (b"[1017]", b"eds x 1\n[1017]\n"),
+                        (b"[1017]\nDataType=6", b"eds x 2\n[1017]\nDataType=6\n"),
+                        (b"[1017]\r\nDataType=6\r\n", b"eds x 2\n[1017]\nDataType=6\n"),
+                        (b"[1017]\r\r\n\n\r", b"eds x 3\n[1017]\n\n\n"), (b"a\rb\n", b"eds x 1\na\rb\n"),
+                        (b"\xef\xbb\xbf; K\xe4lte\n", b"eds x 1\n\xef\xbb\xbf; K\xe4lte\n")):
+        is_fine(run("eds", "x", "-", given=text), block)
+
+
+def test_eds_refuses_what_the_program_would_refuse():
+    for text, why in ((b"\n" * 65537, "65,537 lines"), (b"a" * 4097, "line 1 has 4,097 bytes"),
+                      (b"\n" + b"a\n" * 100 + b"\x07", "line 102 has a byte 07h"),
+                      ((b"a" * 4000 + b"\n") * 270, "over 1,048,576 bytes"),
+                      ("[1017]\r\nDataType=6\r\n".encode("utf-16-le"), "UTF-16"),
+                      ("[1017]\r\n".encode("utf-16"), "UTF-16")):
+        is_refused(run("eds", "x", "-", given=text), why)
+    is_refused(run("eds", "x-axis", "-"), "x-axis: a name has 1 to 32")
+    assert run("eds", "x" * 32, "-", given=b"a" * 4096 + b"\r\n" + b"\n" * 65535)[0] == 0
+
+
+def test_expand_gives_a_script_without_files_and_comments_as_it_is():
+    is_fine(run("expand", example("first_network.txt")), file(EXAMPLES, "first_network.txt"))
+
+
+def test_expand_takes_comments_out_and_files_in():
+    os.makedirs("sub")
+    put("sub/x.eds", b"# kept\r\n[1017]")
+    put("sub/net.txt", b"# one\n  # two\neds x <x.eds\neds y < x.eds \r\neds z 2\n# block\n\nnode 5 p x\r\n \n#end\ndiag")
+    block = b"%d\n# kept\n[1017]\n" % 2
+    is_fine(run("expand", "sub/net.txt"),
+            b"eds x " + block + b"eds y " + block + b"eds z 2\n# block\n\nnode 5 p x\r\n \ndiag\n")
+    is_fine(run("expand", "-", given=b"eds x <sub/x.eds"), b"eds x " + block)
+    is_fine(run("expand", "-"), b"")
+
+
+def test_expand_says_where_something_is_missing():
+    put("net.txt", b"#\neds x <no.eds\n")
+    is_refused(run("expand", "net.txt"), "net.txt:2: ", "no.eds: No such file")
+    put("net.txt", b"bitrate 500\neds x 3\n[1017]\n")
+    is_refused(run("expand", "net.txt"), "net.txt:2: eds x 3: the script ends after 1 of the 3 lines")
+    put("net.txt", b"eds x <\n")
+    is_refused(run("expand", "net.txt"), "net.txt:1: a file's name is missing")
+    put("x.eds", BINARY)
+    put("net.txt", b"\n\neds x <x.eds\n")
+    is_refused(run("expand", "net.txt"), "net.txt:3: x.eds: this is no text")
