@@ -1,10 +1,14 @@
-"""What an EDS says of a device's entries: their names, types and defaults."""
+"""What a data sheet says of a device's entries: names, types, access, defaults, limits, values (docs/rules/entries.md)."""
 import re
+
+from . import ini
 
 BITS = {1: 1, 2: 8, 3: 16, 4: 32, 0x15: 64, 5: 8, 6: 16, 7: 32, 0x1B: 64}
 SIGNED = {2, 3, 4, 0x15}
 BOOLEAN, VISIBLE_STRING = 1, 9
 VAR, DOMAIN, ARRAY, RECORD = 7, 2, 8, 9
+UNSIGNED8 = 5
+ACCESSES = ("ro", "wo", "rw", "rwr", "rww", "const")
 
 
 def read_number(text):
@@ -31,70 +35,102 @@ def read_formula(text, node):
 
 
 class Entry:
-    """One entry: its name and data type (0 for none that is modelled), and its default as text."""
+    """One entry of a data sheet.
 
-    def __init__(self, name, kind, default):
-        self.name, self.kind, self.default = name, kind, default
+    name, kind   its name, and the number of its data type, 0 for none
+    default      its default as text
+    access       ro, wo, rw, rwr, rww or const
+    low, high    its limits as texts, "" for none
+    mappable     whether PDOs can carry it, by its PDOMapping
+    value, line  its ParameterValue as text, "" for none, and the line that has it
+    """
+
+    def __init__(self, name, keys):
+        access = keys.get("accesstype", "").lower()
+        self.name, self.kind, self.default = name, kind_of(keys), keys.get("defaultvalue", "")
+        self.access = access if access in ACCESSES else "rw"
+        self.low, self.high = keys.get("lowlimit", ""), keys.get("highlimit", "")
+        self.mappable = bool(read_number(keys.get("pdomapping", "0")))
+        self.value, self.line = keys.get("parametervalue", ""), keys.lines.get("parametervalue", keys.line)
+
+    def is_writable(self):
+        return self.access not in ("ro", "const")
+
+    def is_sent(self):
+        """Whether a TPDO can carry it."""
+        return self.mappable and self.kind in BITS and self.access in ("ro", "rw", "rwr", "const")
+
+    def is_taken(self):
+        """Whether an RPDO can carry it."""
+        return self.mappable and self.kind in BITS and self.access in ("wo", "rw", "rww")
+
+
+def kind_of(keys):
+    """The data type that a section gives, 0 for none."""
+    missing = "15" if read_number(keys.get("objecttype", "7")) == DOMAIN else "0"
+    return read_number(keys.get("datatype", missing)) or 0
 
 
 class Device:
-    """The entries of an EDS by index and sub-index."""
+    """The entries of a data sheet by index and sub-index, and its sections."""
 
     def __init__(self, lines):
-        self.sections = sections_of(lines)
+        self.sections = ini.sections_of(lines)
         self.entries = {}
-        for name in self.sections:
-            found = re.fullmatch(r"([0-9a-f]{4})sub([0-9a-f]{1,2})", name)
+        for section in self.sections:
+            found = re.fullmatch(r"([0-9a-f]{4})sub([0-9a-f]{1,2})", section)
             if found:
                 key = int(found.group(1), 16), int(found.group(2), 16)
-                self.entries.setdefault(key, self._entry(name, self._name(found.group(1))))
-        for name in self.sections:
-            if re.fullmatch(r"[0-9a-f]{4}", name):
-                self._take_object(name)
+                self.entries.setdefault(key, self._entry(section, self._name(found.group(1))))
+        for section in self.sections:
+            if re.fullmatch(r"[0-9a-f]{4}", section):
+                self._take_object(section)
 
-    def _take_object(self, name):
-        keys, index = self.sections[name], int(name, 16)
+    def _take_object(self, section):
+        keys, index = self.sections[section], int(section, 16)
         kind = read_number(keys.get("objecttype", "7"))
         count = read_number(keys.get("compactsubobj", "0"))
         if kind in (VAR, DOMAIN):
-            self.entries.setdefault((index, 0), self._entry(name, None))
+            self.entries.setdefault((index, 0), self._entry(section, None))
         elif kind in (ARRAY, RECORD) and count and 1 <= count <= 254:
-            self.entries.setdefault((index, 0), Entry(self._name(name), 5, str(count)))
-            names = self.sections.get(name + "name", {})
-            for sub in range(1, count + 1):
-                entry = self._entry(name, None)
-                entry.name = names.get(str(sub), entry.name)
-                self.entries.setdefault((index, sub), entry)
+            self._take_compact(section, count)
+
+    def _take_compact(self, section, count):
+        """The compact subs of an object: sub 0 is their number."""
+        index, values = int(section, 16), self._compact_values(section)
+        for sub in range(count + 1):
+            if (index, sub) not in self.entries:
+                entry = self._entry(section, None)
+                entry.value, entry.line = values.get(sub, ("", self.sections[section].line))
+                self.entries[index, sub] = entry
+                if sub == 0:
+                    entry.kind, entry.default, entry.access = UNSIGNED8, str(count), "ro"
+                    entry.low, entry.high, entry.mappable = "", "", False
+                else:
+                    entry.name = self.sections.get(section + "name", {}).get(str(sub), entry.name)
+
+    def _compact_values(self, section):
+        """The values that [xxxxValue] gives to compact subs, with their lines; the first key of a sub counts."""
+        keys, values = self.sections.get(section + "value", {}), {}
+        for key, value in keys.items():
+            if re.fullmatch("[0-9]+", key):
+                values.setdefault(int(key), (value, keys.lines[key]))
+        return values
 
     def _name(self, section):
         return self.sections.get(section, {}).get("parametername", "")
 
     def _entry(self, section, record):
-        keys = self.sections[section]
-        name = keys.get("parametername", "")
-        missing = "15" if read_number(keys.get("objecttype", "7")) == DOMAIN else "0"
-        kind = read_number(keys.get("datatype", missing)) or 0
-        return Entry(": ".join(each for each in (record, name) if each), kind, keys.get("defaultvalue", ""))
+        return Entry(": ".join(each for each in (record, self._name(section)) if each), self.sections[section])
 
     def default(self, index, sub, node):
         """The number that an entry has at a node from power-on on, else None."""
         entry = self.entries.get((index, sub))
         return read_formula(entry.default, node) or 0 if entry and entry.kind in BITS else None
 
-
-def sections_of(lines):
-    """The keys of each section, names in lower case; the first of two equal keys counts."""
-    sections, keys = {}, None
-    for line in lines:
-        text = line.decode("utf-8", "replace").lstrip("\ufeff").strip(" \t\r")
-        header = re.match(r"\[([^\]]*[^\] \t][^\]]*)\]", text)
-        if header:
-            keys = sections.setdefault(header.group(1).strip(" \t").lower(), {})
-        elif "=" in text and not text.startswith(";") and keys is not None:
-            key, value = text.split("=", 1)
-            if key.strip(" \t"):
-                keys.setdefault(key.strip(" \t").lower(), value.strip(" \t"))
-    return sections
+    def allows_dummy(self, kind):
+        """Whether RPDOs can skip bits by a dummy of that data type."""
+        return 1 <= kind <= 7 and bool(read_number(self.sections.get("dummyusage", {}).get(f"dummy000{kind}", "")))
 
 
 def text_of(data, kind):

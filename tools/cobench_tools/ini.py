@@ -1,0 +1,52 @@
+"""INI text, the form of data sheets and DCFs: sections of keys, each with its line (docs/rules/ini_text.md).
+
+Names and keys are kept in lower case. All texts are such that `tool.put` gives the same bytes again.
+"""
+from . import tool
+
+BLANKS = b" \t\r"
+BYTE_ORDER_MARK = b"\xef\xbb\xbf"
+
+
+class Section(dict):
+    """The values of a section by their keys; `lines` has the line of each key, `line` that of the first header."""
+
+    def __init__(self, line):
+        super().__init__()
+        self.line, self.lines = line, {}
+
+    def add(self, key, value, line):
+        """A pair of the section; the first of two with equal keys counts."""
+        if key not in self:
+            self[key], self.lines[key] = value, line
+
+
+def header_of(line):
+    """The name in a header, in lower case, else None."""
+    end = line.find(b"]")
+    name = line[1:end].strip(BLANKS) if line.startswith(b"[") and end > 0 else b""
+    return tool.shown(name.lower()) if name else None
+
+
+def pair_of(line):
+    """The key, in lower case, and the value of a line, else None."""
+    key, equals, value = line.partition(b"=")
+    key = key.strip(BLANKS)
+    return (tool.shown(key.lower()), tool.shown(value.strip(BLANKS))) if equals and key else None
+
+
+def sections_of(lines):
+    """The sections of a text by their names."""
+    sections, section = {}, None
+    for number, line in enumerate(lines, 1):
+        if number == 1 and line.startswith(BYTE_ORDER_MARK):
+            line = line[len(BYTE_ORDER_MARK):]
+        line = line.strip(BLANKS)
+        if not line or line.startswith(b";"):
+            continue
+        name, pair = header_of(line), pair_of(line)
+        if name is not None:
+            section = sections.setdefault(name, Section(number))
+        elif pair and section is not None:
+            section.add(*pair, number)
+    return sections

@@ -1,0 +1,33 @@
+"""Values that a data sheet gives to PDO objects. cobench doesn't use them: messages make them (docs/rules/commands.md)."""
+import re
+
+from .device import Device
+
+FIRST, LAST = 0x1400, 0x1BFF
+MAY_GIVE_VALUES = re.compile(rb"(?i)parametervalue|value *\]")
+
+
+def is_of_pdos(index):
+    """Whether an object is one of PDOs."""
+    return FIRST <= index <= LAST
+
+
+def lines_with_values(lines):
+    """The lines of a data sheet that give values to entries of PDO objects, by number from 1."""
+    if not any(map(MAY_GIVE_VALUES.search, lines)):
+        return []
+    entries = Device(lines).entries
+    return sorted(entry.line for key, entry in entries.items() if entry.value and is_of_pdos(key[0]))
+
+
+def warning(path, lines, before=0):
+    """The warning that values of PDO objects aren't used, as FILE:LINE, or None.
+
+    path    the file that has the lines of the data sheet
+    before  how many lines stand before them in that file
+    """
+    found = lines_with_values(lines)
+    if not found:
+        return None
+    what = "1 value of a PDO object is" if len(found) == 1 else f"{len(found)} values of PDO objects are"
+    return f"{path}:{before + found[0]}: warning: {what} not used, as messages make them; `cobtool import` makes messages of them"

@@ -1,0 +1,147 @@
+"""The PDOs of a network as its nodes have them once they are configured: who sends what to whom.
+
+A node's values are the defaults of its data sheet, and over them the writes of its concise DCF. Which PDOs
+work with these values is said in docs/rules/pdos.md; TPDOs and RPDOs with one identifier belong together.
+"""
+from . import values
+from .device import BITS
+
+TPDO, RPDO = "TPDO", "RPDO"
+COMMUNICATION = {TPDO: 0x17FF, RPDO: 0x13FF}
+MOST_PDOS, MOST_BITS = 512, 64
+OFF, EXTENDED = 1 << 31, 1 << 29
+RESTRICTED = (0x000, 0x07F), (0x101, 0x180), (0x581, 0x5FF), (0x601, 0x67F), (0x6E0, 0x6FF), (0x701, 0x7FF)
+
+
+def is_restricted(identifier):
+    """Whether no PDO may have an identifier."""
+    return any(low <= identifier <= high for low, high in RESTRICTED)
+
+
+class Part:
+    """What a PDO carries at some of its bits: an entry, or a dummy's index."""
+
+    def __init__(self, start, bits, key, entry):
+        self.start, self.bits, self.key, self.entry = start, bits, key, entry
+
+    @property
+    def end(self):
+        return self.start + self.bits
+
+    def is_dummy(self):
+        return self.entry is None
+
+
+class Pdo:
+    """A PDO that works.
+
+    node, direction, number  whose it is, TPDO or RPDO, and its number from 1 on
+    identifier               its COB-ID without the upper bits
+    kind                     its transmission type, None for none
+    inhibit, event, start    inhibit time in units of 100 us, event time in ms, SYNC start value; 0 for none
+    parts                    what it carries, by bits
+    is_set                   whether the concise DCF writes it; else the device has it by its defaults
+    """
+
+    def __init__(self, node, direction, number):
+        self.node, self.direction, self.number = node, direction, number
+        self.identifier, self.kind, self.parts, self.is_set = 0, None, [], False
+        self.inhibit = self.event = self.start = 0
+
+    @property
+    def bits(self):
+        return self.parts[-1].end if self.parts else 0
+
+    @property
+    def size(self):
+        """Its bytes."""
+        return (self.bits + 7) // 8
+
+
+class Node:
+    """A node with the values of its entries.
+
+    device   its data sheet
+    written  the bytes of each entry that its concise DCF writes
+    """
+
+    def __init__(self, number, device, written):
+        self.number, self.device, self.written = number, device, written
+        self._numbers = {}
+
+    def number_at(self, index, sub, kind):
+        """The number of an entry that is there with exactly that type, else None."""
+        entry = self.device.entries.get((index, sub))
+        if not entry or entry.kind != kind:
+            return None
+        data = self.written.get((index, sub))
+        return int.from_bytes(values.default_of(entry, self.number) if data is None else data, "little")
+
+    def pdos(self, direction):
+        """The PDOs of a direction that work, by number."""
+        first = COMMUNICATION[direction]
+        numbers = sorted({index - first for index, sub in self.device.entries
+                          if sub == 1 and 1 <= index - first <= MOST_PDOS})
+        found = [self._pdo(direction, number) for number in numbers]
+        return [pdo for pdo in found if pdo]
+
+    def _pdo(self, direction, number):
+        """The PDO of a number, or None where it doesn't work."""
+        index, pdo = COMMUNICATION[direction] + number, Pdo(self.number, direction, number)
+        cob = self.number_at(index, 1, 0x07)
+        if cob is None or cob & (OFF | EXTENDED) or is_restricted(cob & 0x7FF):
+            return None
+        pdo.identifier, pdo.kind = cob & 0x7FF, self.number_at(index, 2, 0x05)
+        pdo.inhibit, pdo.event = self.number_at(index, 3, 0x06) or 0, self.number_at(index, 5, 0x06) or 0
+        pdo.start = self.number_at(index, 6, 0x05) or 0
+        pdo.is_set = (index, 1) in self.written
+        pdo.parts = self._parts(direction, index + 0x200)
+        return pdo if pdo.parts and pdo.bits <= MOST_BITS else None
+
+    def _parts(self, direction, index):
+        """What a mapping object maps; nothing where its count passes no check."""
+        parts, start = [], 0
+        for sub in range(1, min(self.number_at(index, 0, 0x05) or 0, MOST_BITS + 1) + 1):
+            item = self.number_at(index, sub, 0x07)
+            part = None if item is None else self._part(direction, start, item)
+            if part is None:
+                return []
+            parts.append(part)
+            start = part.end
+        return parts
+
+    def _part(self, direction, start, item):
+        """What a mapping entry names, None where a PDO of the direction can't carry it."""
+        key, bits = (item >> 16, item >> 8 & 0xFF), item & 0xFF
+        entry = self.device.entries.get(key)
+        if entry and (entry.is_sent() if direction == TPDO else entry.is_taken()):
+            return Part(start, bits, key, entry) if bits == BITS[entry.kind] else None
+        if direction == RPDO and key[1] == 0 and self.device.allows_dummy(key[0]) and bits == BITS[key[0]]:
+            return Part(start, bits, key, None)
+        return None
+
+
+class Wiring:
+    """The TPDOs of a network by identifier, with the RPDOs that take each.
+
+    nodes  the nodes by number
+    tpdos  all TPDOs that work, by identifier, node and number
+    """
+
+    def __init__(self, nodes):
+        self.nodes = nodes
+        self.tpdos = sorted((pdo for node in nodes.values() for pdo in node.pdos(TPDO)),
+                            key=lambda pdo: (pdo.identifier, pdo.node, pdo.number))
+        self._rpdos = {}
+        for number in sorted(nodes):
+            for pdo in nodes[number].pdos(RPDO):
+                self._rpdos.setdefault(pdo.identifier, []).append(pdo)
+
+    def receivers(self, tpdo):
+        """The RPDOs that take a TPDO, by node and number."""
+        return [pdo for pdo in self._rpdos.get(tpdo.identifier, []) if pdo.node != tpdo.node]
+
+    def targets(self, tpdo, part):
+        """What takes bits of a part of a TPDO: the RPDOs, and for each its part."""
+        return [(pdo, other) for pdo in self.receivers(tpdo) for other in pdo.parts
+                if not other.is_dummy() and other.start < part.end and part.start < other.end]
