@@ -134,7 +134,7 @@ class Device:
 
 
 def text_of(data, kind):
-    """Bytes as a value of a data type: signed decimal, hexadecimal of the type's width, or a text."""
+    """Bytes as a value of a data type: signed decimal, hexadecimal of the type's width with an h, or a text."""
     if kind == VISIBLE_STRING:
         return '"' + data.decode("utf-8", "replace") + '"'
     number = int.from_bytes(data, "little")
@@ -142,7 +142,7 @@ def text_of(data, kind):
         return str(number & 1)
     if kind in SIGNED:
         return str(int.from_bytes(data, "little", signed=True))
-    return f"{number:0{2 * len(data)}X}" if 0 < len(data) <= 8 else data.hex(" ").upper()
+    return f"{number:0{2 * len(data)}X}h" if 0 < len(data) <= 8 else data.hex(" ").upper()
 
 
 def value_at(data, start, bits, kind):

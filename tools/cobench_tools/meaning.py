@@ -31,10 +31,12 @@ class Meaning:
     node     the number of the node that it is of, None where it is of none
     subject  the message, PDO or object that it is of
     text     all of it but time and identifier
+    parts    of a PDO whose mapping is known, the label, bits and data type of each value, else None
     """
 
-    def __init__(self, kind, sender, node, subject, text):
+    def __init__(self, kind, sender, node, subject, text, parts=None):
         self.kind, self.sender, self.node, self.subject, self.text = kind, sender, node, subject, text
+        self.parts = parts
 
 
 class Transfer:
@@ -51,6 +53,15 @@ def key_of(data):
 def segment_of(data):
     """The bytes of a segment, and whether it is the last one."""
     return data[1:8 - (data[0] >> 1 & 7)], bool(data[0] & 1)
+
+
+def values_text(parts, data):
+    """The values that a PDO has at its parts, each behind its label."""
+    texts, start = [], 0
+    for label, bits, kind in parts:
+        texts.append(f"{label}={device.value_at(data, start, bits, kind)}" if bits else label)
+        start += bits
+    return " ".join(texts)
 
 
 class Network:
@@ -71,9 +82,12 @@ class Network:
         return self.names.get(node, f"node {node}")
 
     def object_text(self, node, key):
-        index, sub = key
+        return f"{key[0]:04X}h:{key[1]:02X}" + self.name_text(node, key)
+
+    def name_text(self, node, key):
+        """The name of an entry behind a blank, where names are wanted and it has one."""
         entry = self.devices[node].entries.get(key) if self.with_names and node in self.devices else None
-        return f"{index:04X}h:{sub:02X}" + (f" {entry.name}" if entry and entry.name else "")
+        return f" {entry.name}" if entry and entry.name else ""
 
     def kind_of(self, node, key):
         entry = self.devices[node].entries.get(key) if node in self.devices else None
@@ -163,16 +177,14 @@ class Network:
         subject = " or ".join(self.messages.get(owner, f"{self.name(owner[0])} TPDO {owner[1]}") for owner in owners)
         node, tpdo = owners[0]
         mapping = self.mapping(node, tpdo) if len(owners) == 1 else None
-        values = data.hex(" ").upper() if mapping is None else self.pdo_values(node, mapping, data)
-        return Meaning(PDO, node, node, subject, f"{subject}: {values}".rstrip())
+        parts = None if mapping is None else [self.part(node, key, bits) for key, bits in mapping]
+        values = data.hex(" ").upper() if parts is None else values_text(parts, data)
+        return Meaning(PDO, node, node, subject, f"{subject}: {values}".rstrip(), parts)
 
-    def pdo_values(self, node, mapping, data):
-        texts, start = [], 0
-        for key, bits in mapping:
-            where = f"{key[0]:04X}h" + (f":{key[1]:02X}" if key[1] else "")
-            texts.append(f"{where}={device.value_at(data, start, bits, self.kind_of(node, key))}" if bits else where)
-            start += bits
-        return " ".join(texts)
+    def part(self, node, key, bits):
+        """The label, bits and data type of what a PDO has of an entry."""
+        where = f"{key[0]:04X}h" + (f":{key[1]:02X}" if key[1] else "")
+        return where + self.name_text(node, key), bits, self.kind_of(node, key)
 
     # SDO: the manager's requests, and a node's answers.
 

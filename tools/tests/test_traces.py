@@ -9,8 +9,8 @@ from helper import EXAMPLES, example, file, is_fine, is_refused, kept, kept_at, 
 def test_explain_has_the_words_of_the_project():
     explained = run("explain", example("servo_axes.txt"), example("servo_axes.replies.txt"))
     is_fine(explained, kept("servo_axes.explained.txt"))
-    for line in (b"0000000166 601 x_axis 1000h:00 read\n", b"0000000277 581 x_axis 1000h:00 = 00020192\n",
-                 b"0000008491 note x_axis configured\n", b"0000070142 181 x_actual: 6041h=0637 6064h=25000\n",
+    for line in (b"0000000166 601 x_axis 1000h:00 read\n", b"0000000277 581 x_axis 1000h:00 = 00020192h\n",
+                 b"0000008491 note x_axis configured\n", b"0000070142 181 x_actual: 6041h=0637h 6064h=25000\n",
                  b"0000280197 702 y_axis boot-up\n"):
         assert line in explained[1], line
 

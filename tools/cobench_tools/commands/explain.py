@@ -10,9 +10,9 @@ AFTER = """SCRIPT may have comments and `eds NAME <FILE`, as `cobtool expand` ta
 TRACE is the replies to it (the project is then as it was at that trace), or the
 lines of a trace alone, as `cobtool export` writes them (the project is then that
 of the whole script). One of both can be - for the standard input. Values of
-unsigned types are hexadecimal, those of signed types decimal. Status: 0, or 2
-where there is no trace or the two aren't of one session; nothing is printed
-then.
+unsigned types are hexadecimal with an h (10h is 16), those of signed types
+decimal. Status: 0, or 2 where there is no trace or the two aren't of one
+session; nothing is printed then.
 
   cobtool explain network.txt replies.txt | grep EMCY"""
 
@@ -46,7 +46,7 @@ def arguments(parser):
     parser.add_argument("script", metavar="SCRIPT")
     parser.add_argument("replies", metavar="TRACE")
     parser.add_argument("--csv", action="store_true", help="print a table for spreadsheets")
-    parser.add_argument("--names", action="store_true", help="give the names of objects in the EDS too")
+    parser.add_argument("--names", action="store_true", help="give the names of entries in the EDS too, also of those in PDOs")
     trace.add_arguments(parser)
 
 
