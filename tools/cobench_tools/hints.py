@@ -48,6 +48,11 @@ def begins_comment(word):
     return word.startswith(("#", ";", "//"))
 
 
+def counted(number, what):
+    """A number of things: `1 word`, `3 words`, `no words`."""
+    return f"{number or 'no'} {what}{'' if number == 1 else 's'}"
+
+
 def unknown_word(first, line):
     """Hints on a first word that no command has."""
     if first.startswith("#"):
@@ -58,8 +63,14 @@ def unknown_word(first, line):
         return "the script begins with a byte order mark: save it without"
     if re.match(r"\[.*\]|[^ \t=]+=", first):
         return "a line of an EDS: the number of lines at its eds command is too small (`cobtool eds` counts them)"
+    if first.startswith("<"):
+        return "cobench reads no files: give it the script through `cobtool expand`, which takes the script in"
     if first.lower() in FORMS:
         return f"commands are in lower case: {first.lower()}"
+    if first.lower() in ("help", "?", "man"):
+        return "no such command; `cobench --help` lists them"
+    if first.lower() in ("quit", "exit", "bye", "end"):
+        return "no such command; the end of the input ends a session (Ctrl-D where it is typed)"
     near = difflib.get_close_matches(first.lower(), FORMS, 1)
     return f"no such command; is it {near[0]}?" if near else "no such command"
 
@@ -106,6 +117,8 @@ def bad_syntax(command):
         return wrong_word("NAME", rest[0])
     if command.file is not None:
         return "cobench reads no files: give it the script through `cobtool expand`, which takes the file in"
+    if first == "eds" and len(rest) == 2 and re.search(r"[^0-9-]", rest[1]) and not begins_comment(rest[1]):
+        return f"LINES is a number; a file is taken in by `eds {rest[0]} <{rest[1]}` and `cobtool expand`"
     form = form_of(first, rest)
     if first == "event" and len(rest) > 2 and rest[2] not in EVENTS:
         return f"an event is one of set, power and nmt, not {rest[2]}"
@@ -117,7 +130,8 @@ def bad_syntax(command):
         if wrong:
             return wrong
     if len(rest) < len(form) or len(rest) > len(form) and not has_text:
-        return f"{len(rest)} words behind {first}, where it has {len(form)}: {usage(first, form)}"
+        wanted = len(form) or "none"
+        return f"{counted(len(rest), 'word')} behind {first}, where it has {wanted}: {usage(first, form)}"
     if has_text and len(command.text_from(len(form))) > 4000:
         return "TEXT has at most 4,000 bytes"
     if first == "eds" and command.block is None:
@@ -164,41 +178,62 @@ def list_of(names):
     return ", ".join(str(name) for name in list(names)[:8]) + (" .." if len(names) > 8 else "") if names else "none"
 
 
+def limit(command, project):
+    """Hints on `7 Limit`."""
+    if command.name == b"eds":
+        return "64 data sheets are there" if len(project.texts) >= 64 else "an EDS has at most 4,096 entries"
+    return {b"param": "a node has at most 4,096 parameters",
+            b"message": "a network has at most 1,024 messages"}.get(command.name)
+
+
 class Hints:
-    """Gives hints, over the project before each command and the lines at which names were refused."""
+    """Gives hints, over the project before each command and what became of the names that aren't there.
+
+    gone  for each kind of thing and its name the command by which it isn't there: refused, or dropped
+    """
+
+    MADE = ("node", "eds", "message", "event")
 
     def __init__(self):
-        self.refused = {}
+        self.gone = {}
 
-    def note(self, command):
-        """A command was refused: what it would have made isn't there."""
-        words = [tool.shown(word) for word in command.words]
-        place = {"node": 1, "eds": 1, "message": 1, "event": 1}.get(words[0] if words else "")
-        if place and len(words) > place:
-            self.refused[words[0], words[place].lstrip("0")] = command.number
+    def note(self, command, is_accepted):
+        """A command was accepted or refused: what it makes is there, or isn't."""
+        words = [tool.shown(word) for word in command.words[:2]]
+        what = words[0][5:] if words[0].startswith("drop-") else words[0]
+        if what not in self.MADE or len(words) < 2:
+            return
+        key = what, words[1].lstrip("0")
+        if is_accepted and what == words[0]:
+            self.gone.pop(key, None)
+        elif is_accepted or what == words[0]:
+            self.gone[key] = command
 
-    def missing(self, what, word, known):
-        """That something isn't there, and where it was refused or what is there."""
-        line = self.refused.get((what, word.lstrip("0")))
-        where = f" was refused in line {line}" if line else f" isn't there; there are: {list_of(known)}"
-        return f"{what} {word}{where}"
+    def missing(self, what, word, known, command):
+        """That something isn't there, and where it was refused or dropped, or what is there."""
+        before = self.gone.get((what, word.lstrip("0")))
+        if not before:
+            return f"{what} {word} isn't there; there are: {list_of(known)}"
+        happened = "dropped" if before.name.startswith(b"drop-") else "refused"
+        where = f"line {before.number}" if before.path == command.path else before.place
+        return f"{what} {word} was {happened} in {where}"
 
     def unknown(self, command, project):
         first, *rest = [tool.shown(word) for word in command.words]
         for kind, word in zip(form_of(first, rest), rest):
             if kind == "EDS" or kind == "NAME" and first == "drop-eds":
                 if word not in project.texts:
-                    return self.missing("eds", word, sorted(project.texts))
+                    return self.missing("eds", word, sorted(project.texts), command)
             if kind == "MESSAGE" or kind == "NAME" and first == "drop-message":
                 if word not in project.messages:
-                    return self.missing("message", word, sorted(project.messages))
+                    return self.missing("message", word, sorted(project.messages), command)
             if kind == "ID" and first not in ("node", "manager") or kind == "TO" and int(word):
                 if int(word) == project.manager[0]:
                     return f"{int(word)} is the manager's number, and it is no node"
                 if int(word) not in project.nodes:
-                    return self.missing("node", word, sorted(project.nodes))
+                    return self.missing("node", word, sorted(project.nodes), command)
             if first == "drop-event" and int(word) not in project.events:
-                return self.missing("event", word, sorted(project.events))
+                return self.missing("event", word, sorted(project.events), command)
         return self.no_part(first, rest, project)
 
     def no_part(self, first, rest, project):
@@ -251,19 +286,34 @@ class Hints:
             return self.taken(command, project)
         if number == 6:
             return self.in_use(command, project)
+        if number == 7:
+            return limit(command, project)
         return truncated(command) if number == 9 else None
 
 
-def told(path, pairs):
-    """The project of the accepted edits, and the lines that tell of the refused commands, with hints."""
-    project, hints, lines = Project(), Hints(), []
+class Refusal:
+    """A refused command, the reply, as `4 Unknown`, and a hint on why, or None."""
+
+    def __init__(self, command, reply, hint):
+        self.command, self.reply, self.hint = command, reply, hint
+
+    @property
+    def shown(self):
+        return tool.shown(self.command.line.strip(b" \t"))
+
+    def lines(self):
+        """What tells of it: FILE:LINE with the reply and the command, and the hint."""
+        first = f"{self.command.place}: refused {self.reply}: {self.shown}"
+        return [first, f"    {self.hint}"] if self.hint else [first]
+
+
+def refusals(pairs):
+    """The refused ones of commands that have their replies."""
+    project, hints, found = Project(), Hints(), []
     for command, reply in pairs:
         if reply.is_accepted():
             project.take(command)
-            continue
-        shown = tool.shown(command.line.strip(b" \t"))
-        lines.append(f"{path}:{command.number}: refused {reply.refused}: {shown}")
-        hint = hints.of(command, reply, project)
-        lines += [f"    {hint}"] if hint else []
-        hints.note(command)
-    return project, lines
+        else:
+            found.append(Refusal(command, reply.refused, hints.of(command, reply, project)))
+        hints.note(command, reply.is_accepted())
+    return found

@@ -1,6 +1,7 @@
 """Values that a data sheet gives to PDO objects. cobench doesn't use them: messages make them (docs/rules/commands.md)."""
 import re
 
+from . import tool
 from .device import Device
 
 FIRST, LAST = 0x1400, 0x1BFF
@@ -20,14 +21,20 @@ def lines_with_values(lines):
     return sorted(entry.line for key, entry in entries.items() if entry.value and is_of_pdos(key[0]))
 
 
-def warning(path, lines, before=0):
-    """The warning that values of PDO objects aren't used, as FILE:LINE, or None.
+def warning(place, lines):
+    """The warning that values of PDO objects aren't used, or None.
 
-    path    the file that has the lines of the data sheet
-    before  how many lines stand before them in that file
+    place  gives FILE:LINE of a line of the data sheet, by its number
     """
     found = lines_with_values(lines)
     if not found:
         return None
     what = "1 value of a PDO object is" if len(found) == 1 else f"{len(found)} values of PDO objects are"
-    return f"{path}:{before + found[0]}: warning: {what} not used, as messages make them; `cobtool import` makes messages of them"
+    return f"{place(found[0])}: warning: {what} not used, as messages make them; `cobtool import` makes messages of them"
+
+
+def warn(place, lines):
+    """Prints that warning on the standard error."""
+    text = warning(place, lines)
+    if text:
+        tool.warn(text)

@@ -72,7 +72,9 @@ def answers(command, reply):
     """Whether a reply can be that to a command: lines to a query alone, and `ok` to an edit alone."""
     if reply.refused is not None:
         return True
-    return (reply.lines is not None) == (command.name in QUERIES) and not command.is_comment()
+    if command.is_comment() or command.takes_script():
+        return False
+    return (reply.lines is not None) == (command.name in QUERIES)
 
 
 def agreement(commands, session):
@@ -81,22 +83,28 @@ def agreement(commands, session):
     return sum(is_refused == (bad_syntax(command) is not None) for command, is_refused in zip(commands, refused))
 
 
-def pairs(path, commands, session):
+def pairs(path, commands, raw, session):
     """The commands of a script that have a reply, each with it, and those that have none.
 
-    Comments have no reply where the script went through `expand`; where it didn't, each has one.
+    commands  those of the script after `expand`, which takes comments out and other scripts in
+    raw       those of the script as it stands, each of which has a reply where it didn't go through `expand`
     """
-    without = [command for command in commands if not command.is_comment()]
-    given = len(session.replies)
-    readings = [each for each in (without, commands) if len(each) >= given and all(map(answers, each, session.replies))]
-    if readings:
-        asked = max(readings, key=lambda each: (len(each) == given, agreement(each, session)))
-        return list(zip(asked, session.replies)), asked[given:]
-    for command, reply in zip(without, session.replies):
+    given, readings = len(session.replies), [commands]
+    if len(raw) != len(commands) or any(command.takes_script() for command in raw):
+        readings.append(raw)
+    readings = [each for each in readings if len(each) >= given and all(map(answers, each, session.replies))]
+    if len(readings) > 1:
+        readings.sort(key=lambda each: (len(each) == given, agreement(each, session)), reverse=True)
+    if not readings:
+        raise of_different_sessions(path, commands, session)
+    return list(zip(readings[0], session.replies)), readings[0][given:]
+
+
+def of_different_sessions(path, commands, session):
+    """The fault of replies that can't be those to a script."""
+    for command, reply in zip(commands, session.replies):
         if not answers(command, reply):
-            raise tool.Fault(
-                f"line {reply.number} of the replies can't be that to line {command.number} of "
-                f"{tool.name_of(path)}: they are of different sessions")
-    raise tool.Fault(
-        f"{tool.name_of(path)} has {len(without)} commands, and there are {given} replies: "
-        "they are of different sessions")
+            return tool.Fault(f"line {reply.number} of the replies can't be that to {command.place}: they are of "
+                              "different sessions")
+    return tool.Fault(f"{tool.name_of(path)} has {len(commands)} commands, and there are {len(session.replies)} replies: "
+                      "they are of different sessions")

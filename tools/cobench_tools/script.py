@@ -1,7 +1,8 @@
-"""Scripts: commands with their blocks, as cobench reads them; and what `expand` adds to them.
+"""Scripts: commands with their blocks, as cobench reads them, and what `cobtool expand` adds to them.
 
-A script that is to be expanded may also have comments (lines whose first word begins with `#`) and
-`eds NAME <FILE`. Both stand outside blocks alone.
+A script that is to be expanded may also have comments (lines whose first word begins with `#`), `eds NAME <FILE`,
+which takes in a data sheet, and `<FILE`, which takes in the commands of another script. All of these stand outside
+blocks alone. FILE is looked for from the folder of the script that names it, and ends at a blank with a `#` behind.
 """
 import os
 import re
@@ -12,29 +13,54 @@ LONGEST_LINE = 4096
 MOST_LINES = 65536
 LONGEST_TEXT = 1 << 20
 
+WORD = re.compile(rb"[^ \t]+")
+SPECIAL = re.compile(rb"^[ \t]*(?:#|<|eds[ \t])", re.MULTILINE)
+DOS_END = b"\x1a"
+
 
 class Command:
     """A line that isn't blank, with the lines of its block.
 
-    number   its line in the script, from 1
+    path     the script in which it stands
+    number   its line there, from 1
     line     its bytes, without the end
-    words    its words
     block    the lines of its block without their ends, or None where it takes no block
     lacks    how many lines of the block come after the end of the script
-    file     FILE in `eds NAME <FILE`, else None
+    file     FILE in `eds NAME <FILE` and in `<FILE`, else None
     """
 
-    def __init__(self, number, line):
-        self.number, self.line = number, line
-        self.words = re.findall(rb"[^ \t]+", line)
+    __slots__ = ("path", "number", "line", "block", "lacks", "file")
+
+    def __init__(self, path, number, line):
+        self.path, self.number, self.line = path, number, line
         self.block, self.lacks, self.file = None, 0, None
 
     @property
+    def words(self):
+        return WORD.findall(self.line)
+
+    @property
     def name(self):
-        return self.words[0] if self.words else b""
+        """Its first word."""
+        return WORD.search(self.line).group()
+
+    @property
+    def place(self):
+        """FILE:LINE."""
+        return tool.place(self.path, self.number)
+
+    def block_place(self, number):
+        """FILE:LINE of a line of its block, counted from 1."""
+        if self.file is not None:
+            return tool.place(beside(self.path, self.file), number)
+        return tool.place(self.path, self.number + number)
 
     def is_comment(self):
-        return self.name.startswith(b"#")
+        return self.line.lstrip(b" \t").startswith(b"#")
+
+    def takes_script(self):
+        """Whether it takes in the commands of another script."""
+        return self.line.lstrip(b" \t").startswith(b"<")
 
     def text(self):
         """The command and its block as the program takes them."""
@@ -48,6 +74,12 @@ class Command:
         return rest.group(1).rstrip(b" \t") if rest else b""
 
 
+def beside(path, file):
+    """A file that a script names, looked for from the script's folder; never the standard input."""
+    folder = "" if path == "-" else os.path.dirname(path)
+    return os.path.join(folder or ("." if file == "-" else ""), file)
+
+
 def lines_of(text):
     """The lines of a text with the CRs at their ends, as the program counts them: the last may have no LF."""
     lines = text.split(b"\n")
@@ -58,7 +90,7 @@ def lines_of(text):
 
 def is_blank(line):
     """Whether the program skips a line."""
-    return len(line) <= LONGEST_LINE and not line.strip(b" \t")
+    return not line.strip(b" \t") and len(line) <= LONGEST_LINE
 
 
 def number_of(word):
@@ -66,38 +98,70 @@ def number_of(word):
     return int(word) if re.fullmatch(rb"[0-9]{1,10}", word) else None
 
 
-def lines_wanted(command):
-    """How many lines the block of an `eds NAME LINES` has, else None."""
-    if command.name != b"eds" or len(command.words) != 3:
-        return None
-    number = number_of(command.words[2])
+def lines_wanted(words):
+    """How many lines the block of an `eds NAME LINES` with these words has, else None."""
+    number = number_of(words[2]) if len(words) == 3 else None
     return number if number is not None and number <= MOST_LINES else None
 
 
-def file_wanted(command):
-    """FILE in `eds NAME <FILE`, else None."""
-    if command.name == b"eds" and len(command.words) >= 3 and command.words[2].startswith(b"<"):
-        return tool.shown(command.text_from(2)[1:].strip(b" \t"))
-    return None
+def file_behind(text):
+    """FILE in `<FILE`, without a comment behind it."""
+    return tool.shown(re.split(rb"[ \t]#", text[1:], 1)[0].strip(b" \t"))
 
 
-def commands_of(text):
-    """The commands of a script, comments among them."""
-    lines = [line.rstrip(b"\r") for line in lines_of(text)]
-    commands, place = [], 0
-    while place < len(lines):
-        command = Command(place + 1, lines[place])
-        place += 1
-        if is_blank(command.line):
-            continue
-        wanted = lines_wanted(command)
-        if wanted is not None:
-            command.block = lines[place:place + wanted]
-            command.lacks = wanted - len(command.block)
-            place += len(command.block)
-        command.file = file_wanted(command)
+def block_from(text, start, wanted):
+    """The lines of a block that begins there, at most as many as are wanted, and where they end."""
+    end = start
+    for _ in range(wanted):
+        if end == len(text):
+            break
+        end = text.find(b"\n", end) + 1 or len(text)
+    return [line.rstrip(b"\r") for line in lines_of(text[start:end])], end
+
+
+def special_from(text, start, path, number):
+    """The command in the line that begins there, with its block or FILE, and where its lines end."""
+    end = text.find(b"\n", start) + 1 or len(text)
+    command = Command(path, number, text[start:end].rstrip(b"\n").rstrip(b"\r"))
+    words = command.words
+    if command.takes_script():
+        command.file = file_behind(command.text_from(0))
+    elif words[0] == b"eds" and len(words) > 2 and words[2].startswith(b"<"):
+        command.file = file_behind(command.text_from(2))
+    elif words[0] == b"eds" and lines_wanted(words) is not None:
+        wanted = lines_wanted(words)
+        command.block, end = block_from(text, end, wanted)
+        command.lacks = wanted - len(command.block)
+    return command, end
+
+
+def specials(text, path):
+    """The commands that are comments, take a file in or have a block: each with where its lines start and end."""
+    place, number = 0, 1
+    found = SPECIAL.search(text)
+    while found:
+        start = found.start()
+        number += text.count(b"\n", place, start)
+        command, place = special_from(text, start, path, number)
+        yield command, start, place
+        number += text.count(b"\n", start, place)
+        found = SPECIAL.search(text, place)
+
+
+def plain_commands(text, path, number):
+    """The commands of lines without anything special, the first of which has this number."""
+    lines = enumerate(lines_of(text), number)
+    return [Command(path, each, line.rstrip(b"\r")) for each, line in lines if not is_blank(line.rstrip(b"\r"))]
+
+
+def commands_of(text, path="-"):
+    """The commands of a script as it stands, comments among them."""
+    commands, place, number = [], 0, 1
+    for command, start, end in specials(text, path):
+        commands += plain_commands(text[place:start], path, number)
         commands.append(command)
-    return commands
+        place, number = end, command.number + text.count(b"\n", start, end)
+    return commands + plain_commands(text[place:], path, number)
 
 
 def why_no_eds(text):
@@ -117,12 +181,21 @@ def why_no_eds(text):
     return None
 
 
+def why_no_lines(text):
+    """Why a text has no lines, or None: they end by CR alone."""
+    ends = text.rstrip(b"\r")
+    return "its lines end by CR alone; save it with LF or CR LF" if b"\r" in ends and b"\n" not in ends else None
+
+
 def eds_lines(name, path):
-    """The lines of a file that an `eds` block can have, without the CRs at their ends."""
+    """The lines of a file that an `eds` block can have, without the CRs at their ends.
+
+    The byte 1Ah by which DOS ended texts is left out where it stands last.
+    """
     if not re.fullmatch(rb"[A-Za-z0-9_]{1,32}", name):
         raise tool.Fault(f"{tool.shown(name)}: a name has 1 to 32 of A-Z a-z 0-9 _")
-    text = tool.read_text(path)
-    fault = why_no_eds(text)
+    text = tool.read_text(path).rstrip(DOS_END)
+    fault = why_no_lines(text) or why_no_eds(text)
     if fault:
         raise tool.Fault(f"{tool.name_of(path)}: {fault}")
     return [line.rstrip(b"\r") for line in lines_of(text)]
@@ -131,40 +204,3 @@ def eds_lines(name, path):
 def block_of(name, lines):
     """The `eds` command of these lines."""
     return b"".join([b"eds %s %d\n" % (name, len(lines))] + [line + b"\n" for line in lines])
-
-
-def fill_files(path, commands):
-    """Reads the FILE of each `eds NAME <FILE`, looked for from the script's folder, into its block."""
-    folder = "" if path == "-" else os.path.dirname(path)
-    for command in commands:
-        place = f"{tool.name_of(path)}:{command.number}"
-        if command.lacks:
-            there = len(command.block)
-            raise tool.Fault(
-                f"{place}: {tool.shown(command.line)}: the script ends after {there} of the {there + command.lacks} lines")
-        if command.file is not None:
-            if not command.file:
-                raise tool.Fault(f"{place}: a file's name is missing behind <")
-            try:
-                command.block = eds_lines(command.words[1], os.path.join(folder, command.file))
-            except tool.Fault as fault:
-                raise tool.Fault(f"{place}: {fault}") from None
-
-
-def expanded(path):
-    """A script as the program takes it: without comments, and each `eds NAME <FILE` as its block."""
-    text = tool.read_text(path)
-    commands = commands_of(text)
-    fill_files(path, commands)
-    lines = text.split(b"\n")
-    out, place = [], 0
-    for command in commands:
-        out += [line + b"\n" for line in lines[place:command.number - 1]]
-        place = command.number
-        if command.file is not None:
-            out.append(block_of(command.words[1], command.block))
-        elif not command.is_comment():
-            place += len(command.block or ())
-            out += [line + b"\n" for line in lines[command.number - 1:place]]
-    rest = b"\n".join(lines[place:])
-    return b"".join(out) + rest

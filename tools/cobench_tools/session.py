@@ -4,7 +4,7 @@ import shlex
 import shutil
 import subprocess
 
-from . import project, replies, script, tool
+from . import project, reader, replies, script, tool
 
 BUILT = os.path.join(os.path.dirname(os.path.dirname(os.path.dirname(os.path.abspath(__file__)))),
                      "crates", "cobench", "out", "cobench")
@@ -78,9 +78,7 @@ def queries_of(names, commands):
 
 def run(path, given=None, names=()):
     """The session of a script, by the program that `--cobench` gave; `names` are those of queries to ask behind it."""
-    commands = script.commands_of(tool.read_text(path))
-    script.fill_files(path, commands)
-    commands = [command for command in commands if not command.is_comment()]
+    commands = reader.read(path)
     queries = queries_of(names, commands)
     text = b"".join([command.text() for command in commands] + [f"{query}\n".encode() for query in queries])
     answers = replies_to(program(given), text)

@@ -37,6 +37,11 @@ def name_of(path):
     return "the standard input" if path == "-" else path
 
 
+def place(path, line):
+    """FILE:LINE, as editors read it."""
+    return f"{'<stdin>' if path == '-' else path}:{line}"
+
+
 def read(path):
     """The bytes of a file, or of the standard input for `-`."""
     if path == "-" and sys.stdin is None:
@@ -50,6 +55,12 @@ def read(path):
         raise Fault(f"{name_of(path)}: {error.strerror}") from None
     except ValueError:
         raise Fault(f"{name_of(path)}: no file has such a name") from None
+
+
+def check_one_input(*paths):
+    """Whether at most one of these files is the standard input."""
+    if paths.count("-") > 1:
+        raise Fault("the standard input can be one file alone")
 
 
 def is_utf_16(front):
@@ -72,6 +83,17 @@ def read_text(path):
 def shown(line):
     """Bytes as text, such that `put` gives the same bytes again."""
     return line.decode("utf-8", "surrogateescape")
+
+
+def readable(text):
+    """A text of `shown` for reading: bytes that are no UTF-8 are those of Windows' Western code page, or of Latin-1."""
+    data = text.encode("utf-8", "surrogateescape")
+    for encoding in ("utf-8", "cp1252"):
+        try:
+            return data.decode(encoding)
+        except UnicodeDecodeError:
+            pass
+    return data.decode("latin-1")
 
 
 def put(text):

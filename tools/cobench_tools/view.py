@@ -1,28 +1,24 @@
 """A trace together with the project that it is of."""
-from . import replies, script, tool, trace
+from . import replies, tool, trace
 from .hints import Hints
 from .project import Project
-
-
-def commands_of(path):
-    """The commands of a script, with its files taken in."""
-    commands = script.commands_of(tool.read_text(path))
-    script.fill_files(path, commands)
-    return commands
+from .reader import Reader
 
 
 def whole(commands):
     """The project of a whole script, without the edits that can be seen to be refused."""
     project, hints = Project(), Hints()
     for command in commands:
-        if not command.is_comment() and not hints.why(command, project):
+        if not hints.why(command, project):
             project.take(command)
     return project
 
 
 def trace_and_project(script_path, replies_path, wanted):
     """The trace among the replies to a script, or the trace alone, and its project."""
-    commands, text = commands_of(script_path), tool.read_text(replies_path)
+    tool.check_one_input(script_path, replies_path)
+    reader = Reader()
+    commands, text = reader.commands(script_path), tool.read_text(replies_path)
     if not trace.is_session(text):
         lines = trace.pick(replies_path, trace.traces_of(replies_path, text), wanted)
         return lines, whole(commands)
@@ -30,7 +26,7 @@ def trace_and_project(script_path, replies_path, wanted):
     if session.cut:
         raise tool.Fault(f"{session.cut}: the replies are cut")
     project, found = Project(), []
-    for command, reply in replies.pairs(script_path, commands, session)[0]:
+    for command, reply in replies.pairs(script_path, commands, reader.raw, session)[0]:
         if not reply.is_accepted():
             continue
         project.take(command)

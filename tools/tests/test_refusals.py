@@ -51,3 +51,47 @@ def test_refusals_refuses_other_sessions():
     put("replies.txt", b"ok\nlines 0\n")
     is_refused(run("refusals", "net.txt", "replies.txt"), "line 2 of the replies")
     is_refused(run("refusals", "net.txt", "net.txt"), "net.txt:1: this is no reply")
+
+
+def hints(script, replies):
+    """The hints of `refusals` on these commands, with the lines of the commands."""
+    put("net.txt", script)
+    put("replies.txt", replies)
+    output = run("refusals", "net.txt", "replies.txt")[1].decode()
+    return re.findall(r"(?m)^net.txt:(\d+): refused .*\n    (.*)", output)
+
+
+def test_a_hint_knows_what_was_dropped_and_made_again():
+    script = b"eds d 0\nnode 5 pump d\nnode 5 pump servo\nnode 5 fan d\ndrop-node 5\nunparam 5 2000 0\n"
+    script += b"message m 5 1 0 0 0 0\ndrop-event 07\nevent 7 0 nmt 1 0\ndrop-event 7\ndrop-event 7\n"
+    replies = b"ok\nok\nrefused 4 Unknown\nok\nok\nrefused 4 Unknown\nrefused 4 Unknown\nrefused 4 Unknown\nok\nok\n"
+    assert hints(script, replies + b"refused 4 Unknown\n") == [
+        ("3", "eds servo isn't there; there are: d"), ("6", "node 5 was dropped in line 5"),
+        ("7", "node 5 was dropped in line 5"), ("8", "event 07 isn't there; there are: none"),
+        ("11", "event 7 was dropped in line 10")]
+
+
+def test_hints_on_likely_slips():
+    script = b"eds servo servo_drive.eds\nhelp\nexit\n<base.txt\ntrace now\ndiag a b\nbitrate\n"
+    put("base.txt", b"")
+    assert [hint for _, hint in hints(script, b"refused 2 Syntax\n" * 7)] == [
+        "LINES is a number; a file is taken in by `eds servo <servo_drive.eds` and `cobtool expand`",
+        "no such command; `cobench --help` lists them",
+        "no such command; the end of the input ends a session (Ctrl-D where it is typed)",
+        "cobench reads no files: give it the script through `cobtool expand`, which takes the script in",
+        "1 word behind trace, where it has none: trace", "2 words behind diag, where it has none: diag",
+        "no words behind bitrate, where it has 1: bitrate RATE"]
+
+
+def test_refusals_names_the_script_that_is_taken_in():
+    put("base.txt", b"# base\nnode 5 pump drive\n")
+    put("net.txt", b"<base.txt\nparam 5 1017 0 100\n")
+    put("replies.txt", b"refused 4 Unknown\n" * 2)
+    output = run("refusals", "net.txt", "replies.txt")[1].decode()
+    assert "base.txt:2: refused 4 Unknown: node 5 pump drive\n" in output, output
+    assert "net.txt:2: refused 4 Unknown: param 5 1017 0 100\n    node 5 was refused in base.txt:2\n" in output, output
+
+
+def test_one_file_alone_can_be_the_standard_input():
+    for tool in ("refusals", "explain"):
+        is_refused(run(tool, "-", "-", given=b"diag\n"), "the standard input can be one file alone")

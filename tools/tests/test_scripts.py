@@ -1,4 +1,4 @@
-"""`eds` and `expand`."""
+"""`eds` and `expand`: data sheets, scripts that take in others, comments."""
 import os
 
 from helper import BINARY, EXAMPLES, example, file, is_fine, is_refused, put, run, session
@@ -54,3 +54,68 @@ def test_expand_says_where_something_is_missing():
     put("x.eds", BINARY)
     put("net.txt", b"\n\neds x <x.eds\n")
     is_refused(run("expand", "net.txt"), "net.txt:3: x.eds: this is no text")
+
+
+def test_a_comment_can_stand_behind_a_file():
+    put("x.eds", b"[1017]\n")
+    for behind in (b"", b" ", b" # the drive", b"\t#", b"   # <y.eds"):
+        is_fine(run("expand", "-", given=b"eds x <x.eds" + behind + b"\n"), b"eds x 1\n[1017]\n")
+    put("x#1.eds", b"[1018]\n")
+    is_fine(run("expand", "-", given=b"eds x <x#1.eds\n"), b"eds x 1\n[1018]\n")
+
+
+def test_expand_takes_scripts_in():
+    os.makedirs("stations/sheets")
+    put("stations/sheets/x.eds", b"[1017]\n")
+    put("stations/base.txt", b"# of all machines\r\nbitrate 500\r\neds x <sheets/x.eds\n<end.txt")
+    put("stations/end.txt", b"horizon 5")
+    put("net.txt", b"version 2\n  < stations/base.txt  # the base\n<stations/end.txt\neds y 1\n<not.taken\ndiag")
+    is_fine(run("expand", "net.txt"),
+            b"version 2\nbitrate 500\r\neds x 1\n[1017]\nhorizon 5\nhorizon 5\neds y 1\n<not.taken\ndiag\n")
+
+
+def test_expand_says_which_script_cannot_be_taken_in():
+    put("net.txt", b"\n<base.txt\n")
+    is_refused(run("expand", "net.txt"), "net.txt:2: base.txt: No such file")
+    put("base.txt", b"#\n#\neds x <no.eds\n")
+    is_refused(run("expand", "net.txt"), "net.txt:2: base.txt:3: no.eds: No such file")
+    put("base.txt", b"<net.txt\n")
+    is_refused(run("expand", "net.txt"), "net.txt:2: base.txt:1: net.txt takes itself in")
+    put("net.txt", b"< \n")
+    is_refused(run("expand", "net.txt"), "net.txt:1: a file's name is missing behind <")
+    put("-", b"horizon 1\n")
+    is_fine(run("expand", "-", given=b"<-\n"), b"horizon 1\n")
+
+
+def test_expand_takes_in_no_more_than_cobench_would_read():
+    for number in range(22):
+        put(f"{number}.txt", f"<{number + 1}.txt\n".encode() * 2)
+    is_refused(run("expand", "0.txt"), "over 20 scripts are taken in, one in the other")
+    put("14.txt", b"")
+    is_refused(run("expand", "0.txt"), "over 10,000 scripts are taken in")
+    put("7.txt", b"bitrate 500\n" * 50_000)
+    is_refused(run("expand", "0.txt"), "over 64 MiB, and cobench takes no more")
+
+
+def test_lines_that_end_by_cr_alone_are_told():
+    put("net.txt", b"# one\rnode 5 p x\r")
+    is_refused(run("expand", "net.txt"), "net.txt: its lines end by CR alone")
+    is_refused(run("eds", "x", "net.txt"), "net.txt: its lines end by CR alone")
+    put("net.txt", b"bitrate 500\n# one\rnode 5 p x\n")
+    is_refused(run("expand", "net.txt"), "net.txt:2: a CR stands inside this comment")
+
+
+def test_the_end_that_dos_wrote_is_left_out():
+    put("x.eds", b"[1017]\r\nDataType=6\r\n\x1a")
+    is_fine(run("eds", "x", "x.eds"), b"eds x 2\n[1017]\nDataType=6\n")
+    is_fine(run("expand", "-", given=b"eds x <x.eds"), b"eds x 2\n[1017]\nDataType=6\n")
+
+
+def test_values_of_pdo_objects_are_told():
+    sheet = b"[1017]\nDataType=6\nParameterValue=5\n[1400sub1]\nDataType=7\nParameterValue=0x201\n[1A00]\nObjectType=8\n"
+    sheet += b"DataType=7\nCompactSubObj=2\n[1A00Value]\nNrOfEntries=1\n1=0x20000008\n"
+    put("x.dcf", sheet)
+    told = "x.dcf:6: warning: 2 values of PDO objects are not used, as messages make them"
+    block = b"eds x 13\n" + sheet
+    for done in (run("eds", "x", "x.dcf"), run("expand", "-", given=b"eds x <x.dcf\n")):
+        assert done[:2] == (0, block) and done[2].startswith(told) and len(done[2].splitlines()) == 1, done

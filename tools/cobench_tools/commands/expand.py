@@ -1,12 +1,15 @@
 """Makes a script with comments and file names into one that cobench takes."""
-from .. import script, tool
+from .. import pdo_values, tool
+from ..reader import Reader
 
 SUMMARY = "print a script as cobench takes it, with its files taken in"
 
-AFTER = """Outside of blocks, lines that begin with # are taken out, and `eds NAME <FILE`
-becomes the block of that file, looked for from the folder of SCRIPT. All other
-lines stay as they are. SCRIPT can be - for the standard input.
-Status: 0, or 2 where something is missing; nothing is printed then.
+AFTER = """Outside of blocks, lines that begin with # are taken out, `eds NAME <FILE` becomes
+the block of that data sheet, and `<FILE` the commands of that script, expanded
+likewise. FILE is looked for from the folder of the script that names it; a blank
+and # behind it begin a comment. All other lines stay as they are. SCRIPT can be -
+for the standard input. Status: 0, or 2 where something is missing; nothing is
+printed then.
 
   cobtool expand network.txt | cobench"""
 
@@ -17,5 +20,9 @@ def arguments(parser):
 
 
 def run(options):
-    tool.put(script.expanded(options.script))
+    reader = Reader()
+    text = reader.expanded(options.script)
+    for sheet in reader.sheets:
+        pdo_values.warn(sheet.block_place, sheet.block)
+    tool.put(text)
     return tool.DONE

@@ -3,7 +3,7 @@ import os
 import re
 
 from .. import session, tool, trace
-from ..hints import told
+from ..hints import refusals
 
 SUMMARY = "write the files of a network: DCF, concise DCF, diagnostics, trace"
 
@@ -71,7 +71,7 @@ def arguments(parser):
 
 def run(options):
     answered = session.run(options.script, options.cobench, ("diag", "trace", "dcf", "cdcf"))
-    faults = told(options.script, answered.pairs)[1]
+    faults = [line for refusal in refusals(answered.pairs) for line in refusal.lines()]
     faults += [f"diag: {tool.shown(line)}" for line in answered.lines("diag") if line.startswith(b"E")]
     for line in faults:
         tool.warn(line)

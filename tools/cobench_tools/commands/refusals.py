@@ -1,6 +1,7 @@
 """Prints the commands of a script that were refused, with their lines."""
-from .. import replies, script, tool
-from ..hints import told
+from .. import replies, tool
+from ..hints import refusals
+from ..reader import Reader
 
 SUMMARY = "print the commands that were refused, with their lines and causes"
 
@@ -13,14 +14,16 @@ the files can't be read or aren't of one session.
   cobtool refusals network.txt replies.txt"""
 
 
-def lines_of(path, commands, session):
+def lines_of(path, commands, raw, session):
     """The lines to print, of each refused command and of the first without a reply."""
-    answered, rest = replies.pairs(path, commands, session)
-    lines = told(path, answered)[1]
+    answered, rest = replies.pairs(path, commands, raw, session)
+    if session.cut and not rest:
+        raise tool.Fault(session.cut)
+    lines = [line for refusal in refusals(answered) for line in refusal.lines()]
     if rest:
         why = session.cut or (f"the session ended with {session.fault}" if session.fault else "the replies end before it")
         shown = tool.shown(rest[0].line.strip(b" \t"))
-        lines.append(f"{path}:{rest[0].number}: no reply: {shown}")
+        lines.append(f"{rest[0].place}: no reply: {shown}")
         lines.append(f"    {why}; {len(rest)} of {len(rest) + len(answered)} commands have none")
     return lines
 
@@ -32,10 +35,9 @@ def arguments(parser):
 
 
 def run(options):
-    text, session = tool.read_text(options.script), replies.read_session(options.replies)
-    commands = script.commands_of(text)
-    if session.cut and len(session.replies) == len(commands):
-        raise tool.Fault(session.cut)
-    lines = lines_of(options.script, commands, session)
+    tool.check_one_input(options.script, options.replies)
+    reader = Reader(with_sheets=False)
+    commands, session = reader.commands(options.script), replies.read_session(options.replies)
+    lines = lines_of(options.script, commands, reader.raw, session)
     tool.put("".join(line + "\n" for line in lines))
     return tool.FOUND if lines else tool.DONE
