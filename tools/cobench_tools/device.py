@@ -107,7 +107,7 @@ class Device:
                     entry.kind, entry.default, entry.access = UNSIGNED8, str(count), "ro"
                     entry.low, entry.high, entry.mappable = "", "", False
                 else:
-                    entry.name = self.sections.get(section + "name", {}).get(str(sub), entry.name)
+                    entry.name = self.sections.get(section + "name", {}).get(str(sub)) or f"{entry.name} {sub}".strip()
 
     def _compact_values(self, section):
         """The values that [xxxxValue] gives to compact subs, with their lines; the first key of a sub counts."""

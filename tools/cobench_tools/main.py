@@ -6,7 +6,7 @@ import sys
 from . import tool
 
 # The commands, in the order of a day's work. Each is the module of that name in commands/.
-COMMANDS = ("export", "expand", "eds", "refusals", "explain", "timeline", "candump")
+COMMANDS = ("export", "matrix", "dbc", "expand", "eds", "refusals", "explain", "timeline", "candump")
 
 ABOUT = """Checks, exports and explains a CANopen network that is written as a script for cobench.
 

@@ -90,4 +90,5 @@ def html_table(table):
 
 def html_section(table):
     """A table as HTML under its title."""
-    return f"<section>\n<h2>{html_text(table.title)}</h2>\n{html_table(table) if table.rows else '<p>None.</p>'}</section>\n"
+    wide = f'<div class="wide">{html_table(table)}</div>\n' if table.rows else "<p>None.</p>\n"
+    return f"<section>\n<h2>{html_text(table.title)}</h2>\n{wide}</section>\n"

@@ -3,8 +3,8 @@
 A node's values are the defaults of its data sheet, and over them the writes of its concise DCF. Which PDOs
 work with these values is said in docs/rules/pdos.md; TPDOs and RPDOs with one identifier belong together.
 """
-from . import values
-from .device import BITS
+from . import concise, tool, values
+from .device import BITS, Device
 
 TPDO, RPDO = "TPDO", "RPDO"
 COMMUNICATION = {TPDO: 0x17FF, RPDO: 0x13FF}
@@ -122,20 +122,35 @@ class Node:
 
 
 class Wiring:
-    """The TPDOs of a network by identifier, with the RPDOs that take each.
+    """The network of a session that was asked `diag` and `cdcf`: its nodes, and its TPDOs with the RPDOs that take each.
 
-    nodes  the nodes by number
-    tpdos  all TPDOs that work, by identifier, node and number
+    project  what the script makes
+    nodes    the nodes by number
+    tpdos    all TPDOs that work, by identifier, node and number
+    faults   the codes of the errors of each message that has some: it is in no PDO
     """
 
-    def __init__(self, nodes):
-        self.nodes = nodes
-        self.tpdos = sorted((pdo for node in nodes.values() for pdo in node.pdos(TPDO)),
+    QUERIES = "diag", "cdcf"
+
+    def __init__(self, answered):
+        self.project, self.nodes = answered.project, nodes_of(answered)
+        self.faults = faults_of_messages(answered.lines("diag"))
+        self.tpdos = sorted((pdo for node in self.nodes.values() for pdo in node.pdos(TPDO)),
                             key=lambda pdo: (pdo.identifier, pdo.node, pdo.number))
+        self._messages = {(message.node, message.tpdo): name for name, message in self.project.messages.items()
+                          if name not in self.faults}
         self._rpdos = {}
-        for number in sorted(nodes):
-            for pdo in nodes[number].pdos(RPDO):
+        for number in sorted(self.nodes):
+            for pdo in self.nodes[number].pdos(RPDO):
                 self._rpdos.setdefault(pdo.identifier, []).append(pdo)
+
+    def name(self, node):
+        """The name of a node or the manager."""
+        return "manager" if node == self.project.manager[0] else self.project.nodes[node][0]
+
+    def message_of(self, tpdo):
+        """The name of the message that a TPDO sends, None where the device has it by its defaults."""
+        return self._messages.get((tpdo.node, tpdo.number))
 
     def receivers(self, tpdo):
         """The RPDOs that take a TPDO, by node and number."""
@@ -145,3 +160,20 @@ class Wiring:
         """What takes bits of a part of a TPDO: the RPDOs, and for each its part."""
         return [(pdo, other) for pdo in self.receivers(tpdo) for other in pdo.parts
                 if not other.is_dummy() and other.start < part.end and part.start < other.end]
+
+
+def nodes_of(answered):
+    """The nodes at the end of a session, by number."""
+    devices = {name: Device(lines) for name, lines in answered.project.texts.items()}
+    return {number: Node(number, devices[eds], concise.values_of(answered.lines("cdcf", number)))
+            for number, (_, eds) in answered.project.nodes.items()}
+
+
+def faults_of_messages(diagnostics):
+    """The codes E05 to E14 of each message that has some, of the lines of `diag`."""
+    faults = {}
+    for line in diagnostics:
+        code, subject, *words = tool.shown(line).split(" ")
+        if subject == "message" and "E05" <= code <= "E14":
+            faults.setdefault(words[0], []).append(code)
+    return faults

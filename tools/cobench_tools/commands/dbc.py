@@ -1,0 +1,36 @@
+"""Prints the PDOs of a network as a DBC."""
+from .. import hints, session, tool
+from ..dbc import Dbc
+from ..wiring import Wiring
+
+SUMMARY = "print the PDOs as a DBC, for tools that name and plot signals"
+
+AFTER = f"""Runs cobench on SCRIPT, and prints each TPDO that works as a message of a DBC, with
+a signal for each entry that it carries: its name in the data sheet, its type and
+limits, and the nodes that take it. A TPDO that no message sets, and that a device
+has switched on by its defaults, stands with them. Names are cut to 32 letters, and
+the comments have them whole. The text is in Windows-1252, as DBCs are.
+
+{session.PROGRAM} Status: 0, 1 where a command was refused or a diagnostic is an
+error, 2 where the script can't be read or cobench can't be run.
+
+  cobtool dbc network.txt > network.dbc"""
+
+
+def arguments(parser):
+    parser.epilog = AFTER
+    parser.add_argument("script", metavar="SCRIPT")
+    session.add_arguments(parser)
+
+
+def run(options):
+    answered = session.run(options.script, options.cobench, Wiring.QUERIES)
+    faults = hints.told(options.script, answered.pairs)[1]
+    faults += [f"diag: {tool.shown(line)}" for line in answered.lines("diag") if line.startswith(b"E")]
+    dbc = Dbc(Wiring(answered))
+    tool.put(dbc.text().encode("cp1252", "replace"))
+    for tpdo in dbc.left_out:
+        faults.append(f"TPDO {tpdo.number} of node {tpdo.node} is left out: {tpdo.identifier:03X}h is the identifier of another")
+    for line in faults:
+        tool.warn(line)
+    return tool.FOUND if faults else tool.DONE

@@ -1,0 +1,50 @@
+"""Prints who sends what to whom: the network's page for the papers of the machine."""
+import os
+
+from .. import hints, matrix, matrix_page, session, tables, tool
+from ..wiring import Wiring
+
+SUMMARY = "print who sends what to whom, with nodes, parameters and heartbeats"
+
+AFTER = f"""Runs cobench on SCRIPT, and prints the network as its nodes are once they are
+configured: nodes, messages with their COB-IDs, the signals in each with those who
+take them, parameters and heartbeats. A TPDO that no message sets, and that a
+device has switched on by its defaults, stands with them. HTML is one page that
+needs nothing beside it, and prints on A4; CSV is one table, that of the signals
+where --table doesn't say which.
+
+{session.PROGRAM} Status: 0, 1 where a command was refused or a diagnostic is an
+error, 2 where the script can't be read or cobench can't be run.
+
+  cobtool matrix --format html network.txt > network.html"""
+
+
+def arguments(parser):
+    parser.epilog = AFTER
+    parser.add_argument("script", metavar="SCRIPT")
+    parser.add_argument("--format", choices=["text", "markdown", "csv", "html"], default="text", help="text without it")
+    parser.add_argument("--table", choices=list(matrix.TABLES), help="print this table alone")
+    parser.add_argument("--title", metavar="TEXT", help="what stands above, not the name of SCRIPT")
+    session.add_arguments(parser)
+
+
+def printed(options, network):
+    """What is printed of a network."""
+    title = options.title or os.path.basename(tool.name_of(options.script))
+    heading = matrix.heading(title, network)
+    if options.format == "csv":
+        return tables.as_csv(matrix.tables_of(network, options.table or "signals")[0])
+    if options.format == "html":
+        return matrix_page.network_page(heading, network, options.table)
+    shown = matrix.tables_of(network, options.table)
+    return (tables.as_text if options.format == "text" else tables.as_markdown)(heading, shown)
+
+
+def run(options):
+    answered = session.run(options.script, options.cobench, Wiring.QUERIES)
+    faults = hints.told(options.script, answered.pairs)[1]
+    faults += [f"diag: {tool.shown(line)}" for line in answered.lines("diag") if line.startswith(b"E")]
+    tool.put(printed(options, Wiring(answered)))
+    for line in faults:
+        tool.warn(line)
+    return tool.FOUND if faults else tool.DONE

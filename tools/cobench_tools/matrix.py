@@ -1,0 +1,182 @@
+"""The tables of a network for the papers of its machine: nodes, messages, signals, parameters, heartbeats."""
+from . import pdo_values, values, wiring
+from .device import BITS, SIGNED, VISIBLE_STRING
+from .tables import Table
+
+NONE = "-"
+
+
+def object_name(key):
+    return f"{key[0]:04X}h:{key[1]:02X}"
+
+
+def value_text(kind, data):
+    """Bytes as a value of a data type: numbers decimal, unsigned ones hexadecimal too."""
+    if kind == VISIBLE_STRING:
+        return data.decode("utf-8", "surrogateescape")
+    if kind not in BITS:
+        return data.hex(" ").upper()
+    number = int.from_bytes(data, "little", signed=kind in SIGNED)
+    return str(number) if kind in SIGNED or number < 10 else f"{number} ({number:X}h)"
+
+
+def ordinal(number):
+    ending = "th" if 11 <= number % 100 <= 13 else {1: "st", 2: "nd", 3: "rd"}.get(number % 10, "th")
+    return f"{number}{ending}"
+
+
+def milliseconds(hundreds):
+    """A time in multiples of 100 us as milliseconds."""
+    return f"{hundreds / 10:.1f}".replace(".0", "") if hundreds else NONE
+
+
+def when(tpdo):
+    """When a TPDO is sent, in words."""
+    kind = tpdo.kind
+    if kind is None or 241 <= kind <= 251:
+        return "never"
+    if kind == 0:
+        return "at SYNC, when changed"
+    if kind <= 240:
+        return "at each SYNC" if kind == 1 else f"at each {ordinal(kind)} SYNC"
+    if kind < 254:
+        return "when asked for"
+    return "when changed" + (f", and after {tpdo.event} ms" if tpdo.event else "")
+
+
+def heading(title, network):
+    """The title, and the settings of the network in a line."""
+    project = network.project
+    manager, sync, heartbeat, timeout = project.manager
+    counted = f", counted 1 to {project.sync_counter}" if project.sync_counter else ""
+    words = [f"{len(project.nodes)} nodes", f"{len(project.messages)} messages", f"{project.bitrate} kbit/s",
+             f"manager {manager}", f"SYNC each {sync:,} us{counted}" if sync else "no SYNC",
+             f"SDO timeout {timeout} ms"]
+    words += [f"heartbeat of the manager each {heartbeat} ms"] if heartbeat else []
+    return [title, "; ".join(words)]
+
+
+def nodes_table(network):
+    def row(number):
+        node, (name, eds) = network.nodes[number], network.project.nodes[number]
+        info = node.device.sections.get("deviceinfo", {})
+        need = "mandatory" if number in network.project.mandatory else "optional"
+        params = sum(not pdo_values.is_of_pdos(key[0]) for key in node.written)
+        return [number, name, eds, info.get("vendorname", NONE), info.get("productname", NONE), device_type(node), need, params]
+
+    columns = ["Node", "Name", "Data sheet", "Vendor", "Product", "Device type", "Need", "Parameters"]
+    return Table("nodes", "Nodes", columns, [row(number) for number in sorted(network.nodes)])
+
+
+def device_type(node):
+    kind = node.number_at(0x1000, 0, 0x07)
+    return NONE if kind is None else f"{kind:08X}h"
+
+
+def message_name(network, tpdo):
+    return network.message_of(tpdo) or "(by default)"
+
+
+def receivers_text(network, tpdo):
+    return ", ".join(f"{network.name(pdo.node)} (RPDO {pdo.number})" for pdo in network.receivers(tpdo)) or NONE
+
+
+def messages_table(network):
+    def row(tpdo):
+        return [f"{tpdo.identifier:03X}h", message_name(network, tpdo), network.name(tpdo.node), tpdo.number,
+                NONE if tpdo.kind is None else tpdo.kind, when(tpdo), milliseconds(tpdo.inhibit), tpdo.event or NONE,
+                tpdo.start or NONE, tpdo.size, receivers_text(network, tpdo)]
+
+    columns = ["COB-ID", "Message", "Sender", "TPDO", "Type", "Sent", "Inhibit [ms]", "Event [ms]", "SYNC start", "Bytes",
+               "Receivers"]
+    return Table("messages", "Messages", columns, [row(tpdo) for tpdo in network.tpdos])
+
+
+def bits_text(part):
+    last = part.end - 1
+    return f"{part.start}-{last}" if last > part.start else str(part.start)
+
+
+def signal_rows(network, tpdo):
+    """For each part of a TPDO and each RPDO that takes of it: bits, entry, name and type, and those of the receiver."""
+    rows = []
+    for part in tpdo.parts:
+        sent = [bits_text(part), object_name(part.key), part.entry.name, values.type_name(part.entry.kind)]
+        taken = [target_cells(network, part, *target) for target in network.targets(tpdo, part)]
+        rows += [sent + cells for cells in taken or [[NONE] * 4]]
+    return rows
+
+
+def target_cells(network, part, pdo, other):
+    """Who takes a part: the node, its RPDO, its entry, and the name of that."""
+    is_same = (part.start, part.bits) == (other.start, other.bits)
+    where = object_name(other.key) + ("" if is_same else f" takes bits {bits_text(other)}")
+    return [network.name(pdo.node), pdo.number, where, other.entry.name]
+
+
+SIGNAL_COLUMNS = ["Bits", "Entry", "Signal", "Data type", "Receiver", "RPDO", "Its entry", "Its name"]
+
+
+def signals_table(network):
+    rows = [[f"{tpdo.identifier:03X}h", message_name(network, tpdo), network.name(tpdo.node)] + cells
+            for tpdo in network.tpdos for cells in signal_rows(network, tpdo)]
+    return Table("signals", "Signals", ["COB-ID", "Message", "Sender"] + SIGNAL_COLUMNS, rows)
+
+
+def parameters_table(network):
+    """What the concise DCFs write but for PDOs."""
+    rows = []
+    for number, node in sorted(network.nodes.items()):
+        for key, data in node.written.items():
+            if not pdo_values.is_of_pdos(key[0]):
+                entry = node.device.entries[key]
+                default = value_text(entry.kind, values.default_of(entry, number))
+                rows.append([number, network.name(number), object_name(key), entry.name, value_text(entry.kind, data), default])
+    return Table("parameters", "Parameters", ["Node", "Name", "Entry", "Parameter", "Value", "Default"], rows)
+
+
+def producers(network):
+    """The heartbeat times in milliseconds of the manager and the nodes that send one."""
+    times = {network.project.manager[0]: network.project.manager[2]}
+    times.update((number, node.number_at(0x1017, 0, 0x06)) for number, node in network.nodes.items())
+    return {number: time for number, time in times.items() if time}
+
+
+def consumers(network):
+    """Who watches whom, and for how many milliseconds: watched, watching and time of each."""
+    found = []
+    for number, node in network.nodes.items():
+        for sub in range(1, 255):
+            value = node.number_at(0x1016, sub, 0x07) or 0
+            if value & 0xFFFF and value >> 16 & 0xFF:
+                found.append((value >> 16 & 0xFF, number, value & 0xFFFF))
+    return sorted(found)
+
+
+def heartbeats_table(network):
+    times, rows = producers(network), []
+    known = set(network.nodes) | {network.project.manager[0]}
+    watched = consumers(network)
+    for number in sorted(set(times) | {each[0] for each in watched}):
+        name = network.name(number) if number in known else "(not in the project)"
+        sent = [number, name, times.get(number, NONE)]
+        rows += [sent + [network.name(by), time] for each, by, time in watched if each == number] or [sent + [NONE, NONE]]
+    return Table("heartbeats", "Heartbeats", ["Node", "Name", "Each [ms]", "Watched by", "Missed after [ms]"], rows)
+
+
+def left_out_table(network):
+    """The messages that have errors."""
+    rows = [[name, network.name(network.project.messages[name].node), " ".join(codes)]
+            for name, codes in sorted(network.faults.items())]
+    return Table("left-out", "Messages that are in no PDO, as they have errors", ["Message", "Sender", "Errors"], rows)
+
+
+TABLES = {"nodes": nodes_table, "messages": messages_table, "signals": signals_table, "parameters": parameters_table,
+          "heartbeats": heartbeats_table, "left-out": left_out_table}
+
+
+def tables_of(network, wanted=None):
+    """All tables of a network, or the wanted one; messages that are left out have one where there are some."""
+    if wanted:
+        return [TABLES[wanted](network)]
+    return [make(network) for key, make in TABLES.items() if key != "left-out" or network.faults]
