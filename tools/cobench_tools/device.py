@@ -1,7 +1,7 @@
 """What a data sheet says of a device's entries: names, types, access, defaults, limits, values (docs/rules/entries.md)."""
 import re
 
-from . import ini
+from . import ini, tool
 
 BITS = {1: 1, 2: 8, 3: 16, 4: 32, 0x15: 64, 5: 8, 6: 16, 7: 32, 0x1B: 64}
 SIGNED = {2, 3, 4, 0x15}
@@ -107,7 +107,8 @@ class Device:
                     entry.kind, entry.default, entry.access = UNSIGNED8, str(count), "ro"
                     entry.low, entry.high, entry.mappable = "", "", False
                 else:
-                    entry.name = self.sections.get(section + "name", {}).get(str(sub)) or f"{entry.name} {sub}".strip()
+                    name = self.sections.get(section + "name", {}).get(str(sub))
+                    entry.name = tool.readable(name) if name else f"{entry.name} {sub}".strip()
 
     def _compact_values(self, section):
         """The values that [xxxxValue] gives to compact subs, with their lines; the first key of a sub counts."""
@@ -118,7 +119,7 @@ class Device:
         return values
 
     def _name(self, section):
-        return self.sections.get(section, {}).get("parametername", "")
+        return tool.readable(self.sections.get(section, {}).get("parametername", ""))
 
     def _entry(self, section, record):
         return Entry(": ".join(each for each in (record, self._name(section)) if each), self.sections[section])

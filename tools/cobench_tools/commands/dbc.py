@@ -1,7 +1,6 @@
 """Prints the PDOs of a network as a DBC."""
-from .. import hints, session, tool
+from .. import session, tool, wiring
 from ..dbc import Dbc
-from ..wiring import Wiring
 
 SUMMARY = "print the PDOs as a DBC, for tools that name and plot signals"
 
@@ -24,13 +23,9 @@ def arguments(parser):
 
 
 def run(options):
-    answered = session.run(options.script, options.cobench, Wiring.QUERIES)
-    faults = hints.told(options.script, answered.pairs)[1]
-    faults += [f"diag: {tool.shown(line)}" for line in answered.lines("diag") if line.startswith(b"E")]
-    dbc = Dbc(Wiring(answered))
-    tool.put(dbc.text().encode("cp1252", "replace"))
+    network, status = wiring.asked(options)
+    dbc = Dbc(network)
     for tpdo in dbc.left_out:
-        faults.append(f"TPDO {tpdo.number} of node {tpdo.node} is left out: {tpdo.identifier:03X}h is the identifier of another")
-    for line in faults:
-        tool.warn(line)
-    return tool.FOUND if faults else tool.DONE
+        tool.warn(f"TPDO {tpdo.number} of node {tpdo.node} is left out: {tpdo.identifier:03X}h is the identifier of another")
+    tool.put(dbc.text().encode("cp1252", "replace"))
+    return tool.FOUND if dbc.left_out else status

@@ -1,8 +1,7 @@
 """Prints who sends what to whom: the network's page for the papers of the machine."""
 import os
 
-from .. import hints, matrix, matrix_page, session, tables, tool
-from ..wiring import Wiring
+from .. import matrix, matrix_page, session, tables, tool, wiring
 
 SUMMARY = "print who sends what to whom, with nodes, parameters and heartbeats"
 
@@ -41,10 +40,6 @@ def printed(options, network):
 
 
 def run(options):
-    answered = session.run(options.script, options.cobench, Wiring.QUERIES)
-    faults = hints.told(options.script, answered.pairs)[1]
-    faults += [f"diag: {tool.shown(line)}" for line in answered.lines("diag") if line.startswith(b"E")]
-    tool.put(printed(options, Wiring(answered)))
-    for line in faults:
-        tool.warn(line)
-    return tool.FOUND if faults else tool.DONE
+    network, status = wiring.asked(options)
+    tool.put(printed(options, network))
+    return status
