@@ -137,7 +137,7 @@ class Device:
 def text_of(data, kind):
     """Bytes as a value of a data type: signed decimal, hexadecimal of the type's width with an h, or a text."""
     if kind == VISIBLE_STRING:
-        return '"' + data.decode("utf-8", "replace") + '"'
+        return '"' + tool.readable(tool.shown(data)) + '"'
     number = int.from_bytes(data, "little")
     if kind == BOOLEAN:
         return str(number & 1)
@@ -146,10 +146,13 @@ def text_of(data, kind):
     return f"{number:0{2 * len(data)}X}h" if 0 < len(data) <= 8 else data.hex(" ").upper()
 
 
-def value_at(data, start, bits, kind):
-    """The bits of a frame from a position on, as a value of a data type."""
+def number_at(data, start, bits, kind):
+    """The bits of a frame from a position on, as a number of a data type."""
     number = int.from_bytes(data, "little") >> start & (1 << bits) - 1
+    return number - (1 << bits) if kind in SIGNED and number >> bits - 1 else number
+
+
+def value_at(data, start, bits, kind):
+    """The bits of a frame from a position on, as the text of a value of a data type."""
     count = (bits + 7) // 8
-    if kind in SIGNED and number >> bits - 1:
-        number -= 1 << bits
-    return text_of((number & (1 << 8 * count) - 1).to_bytes(count, "little"), kind)
+    return text_of((number_at(data, start, bits, kind) & (1 << 8 * count) - 1).to_bytes(count, "little"), kind)

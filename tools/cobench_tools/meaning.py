@@ -6,8 +6,8 @@ node's EDS, and from the writes by which the manager configures it in the trace.
 from . import device
 from .trace import Note
 
-NMT, SYNC, EMCY, PDO, SDO, CONTROL, NOTE = "NMT", "SYNC", "EMCY", "PDO", "SDO", "error control", "note"
-KINDS = (NMT, SYNC, EMCY, PDO, SDO, CONTROL)
+NMT, SYNC, EMCY, PDO, SDO, HEARTBEAT, NOTE = "NMT", "SYNC", "EMCY", "PDO", "SDO", "heartbeat", "note"
+KINDS = (NMT, SYNC, EMCY, PDO, SDO, HEARTBEAT)
 
 SERVICES = {1: "start", 2: "stop", 128: "enter pre-operational", 129: "reset node", 130: "reset communication"}
 STATES = {0: "boot-up", 4: "stopped", 5: "operational", 127: "pre-operational"}
@@ -26,7 +26,7 @@ PREDEFINED = {0x180: "TPDO 1", 0x280: "TPDO 2", 0x380: "TPDO 3", 0x480: "TPDO 4"
 class Meaning:
     """What a line of a trace says.
 
-    kind     NMT, SYNC, EMCY, PDO, SDO, error control or note
+    kind     NMT, SYNC, EMCY, PDO, SDO, heartbeat (boot-ups too) or note
     sender   the number of the node that sends it, None where that isn't known
     node     the number of the node that it is of, None where it is of none
     subject  the message, PDO or object that it is of
@@ -141,7 +141,7 @@ class Network:
         if identifier == 0x80:
             return Meaning(SYNC, self.manager, None, "", f"SYNC {data[0]}" if data else "SYNC")
         if 0x701 <= identifier <= 0x77F and len(data) == 1:
-            return self.control(node, data[0])
+            return self.heartbeat(node, data[0])
         if 0x581 <= identifier <= 0x67F and node and len(data) == 8:
             return self.answer(node, data) if identifier < 0x600 else self.request(node, data)
         if 0x81 <= identifier <= 0xFF and len(data) == 8 and not self.owners.get(identifier):
@@ -153,12 +153,12 @@ class Network:
         what = SERVICES.get(service, f"command {service}")
         return Meaning(NMT, self.manager, node or None, what, f"{what} {to}")
 
-    def control(self, node, byte):
+    def heartbeat(self, node, byte):
         state = STATES.get(byte, f"state {byte}")
         if byte == 0:
             self.power(node)
-            return Meaning(CONTROL, node, node, state, f"{self.name(node)} boot-up")
-        return Meaning(CONTROL, node, node, state, f"{self.name(node)} heartbeat: {state}")
+            return Meaning(HEARTBEAT, node, node, state, f"{self.name(node)} boot-up")
+        return Meaning(HEARTBEAT, node, node, state, f"{self.name(node)} heartbeat: {state}")
 
     def emergency(self, node, data):
         code = int.from_bytes(data[:2], "little")

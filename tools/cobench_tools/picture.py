@@ -1,5 +1,5 @@
 """What `timeline` draws: lanes, marks, flags and states of a trace."""
-from . import meaning
+from . import meaning, tool
 from .trace import Note
 
 OTHERS = -1
@@ -7,10 +7,6 @@ STATES = ("off", "stopped", "operational", "pre-operational")
 BY_BYTE = {4: "stopped", 5: "operational", 127: "pre-operational"}
 BY_SERVICE = {1: "operational", 2: "stopped", 128: "pre-operational", 129: "pre-operational", 130: "pre-operational"}
 BIT_TIMES = (1, 2, 4, 8, 20, 50, 100)
-
-
-def readable(text):
-    return text.encode("utf-8", "surrogateescape").decode("utf-8", "replace")
 
 
 class Picture:
@@ -49,7 +45,7 @@ class Picture:
         rows, places = [], {}
         for line, said in zip(self.lines, self.said):
             if not isinstance(line, Note):
-                place = places.setdefault(readable(said.text), len(places))
+                place = places.setdefault(tool.readable(said.text), len(places))
                 kind = meaning.KINDS.index(said.kind)
                 rows.append((line.time, line.identifier, line.data.hex().upper(), kind, self.lane_of(said.sender), place))
         columns = list(map(list, zip(*rows))) or [[]] * 6
@@ -68,7 +64,7 @@ class Picture:
                 flags.append([event.time, 0, f"event {key}: {service} {to}"])
             elif event.node in self.lanes:
                 what = f"power {event.what}" if event.kind == "power" else f"{self.entry(event.entry)} := {event.what}"
-                flags.append([event.time, self.lane_of(event.node), readable(f"event {key}: {what}")])
+                flags.append([event.time, self.lane_of(event.node), tool.readable(f"event {key}: {what}")])
         return flags
 
     def entry(self, entry):
@@ -95,7 +91,7 @@ class Picture:
         if said.kind == meaning.NMT and line.data[0] in BY_SERVICE:
             nodes = [said.node] if said.node else self.nodes
             return [(node, BY_SERVICE[line.data[0]]) for node in nodes]
-        if said.kind == meaning.CONTROL:
+        if said.kind == meaning.HEARTBEAT:
             return [(said.node, BY_BYTE.get(line.data[0], "pre-operational"))]
         if said.kind == meaning.EMCY and line.data[:2] == b"\x30\x81":
             return [(said.node, "pre-operational")]
@@ -104,7 +100,7 @@ class Picture:
     def content(self, title):
         frames, texts = self.frames()
         return {
-            "title": readable(title), "end": max(self.end, self.lines[-1].time), "bit": self.bit_time(),
+            "title": tool.readable(title), "end": max(self.end, self.lines[-1].time), "bit": self.bit_time(),
             "kinds": meaning.KINDS, "states": STATES,
             "lanes": [[self.lane_name(node), self.lane_title(node)] for node in self.nodes],
             "frames": frames, "texts": texts, "notes": self.notes(), "events": self.event_flags(),

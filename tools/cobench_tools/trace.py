@@ -6,6 +6,9 @@ from . import replies, tool
 FRAME = re.compile(rb"([0-9]{10}) ([0-7][0-9A-F]{2}) \[([0-8])\]((?: [0-9A-F]{2})*)")
 NOTE = re.compile(rb"([0-9]{10}) note ([0-9]{1,3}) (configured|lost|failed (?:[0-9A-F]{8}|timeout|difference))")
 
+# The second of power-on in a log: readers as log2asc take second 0 for a log that has not begun.
+LOG_START = 1
+
 
 class Frame:
     """A frame on the bus: the time in microseconds at which it was there whole, its identifier and bytes."""
@@ -17,11 +20,10 @@ class Frame:
         data = "".join(f" {byte:02X}" for byte in self.data)
         return f"{self.time:010} {self.identifier:03X} [{len(self.data)}]{data}"
 
-
-    def log_line(self):
-        """The frame as a line of a log of candump."""
+    def log_line(self, start):
+        """The frame as a line of a log of candump, with power-on at this second."""
         seconds, micros = divmod(self.time, 1_000_000)
-        return f"({seconds:010}.{micros:06}) can0 {self.identifier:03X}#{self.data.hex().upper()}\n"
+        return f"({start + seconds:010}.{micros:06}) can0 {self.identifier:03X}#{self.data.hex().upper()}\n"
 
 
 class Note:
@@ -46,6 +48,11 @@ def trace_of(lines):
     """The frames and notes of these lines, or None where they are no trace, as the files that `dcf` prints."""
     found = [line_of(line) for line in lines]
     return None if None in found else found
+
+
+def log_of(lines, start=LOG_START):
+    """The frames of a trace as a log of candump."""
+    return "".join(line.log_line(start) for line in lines if isinstance(line, Frame))
 
 
 def is_session(text):

@@ -32,8 +32,7 @@ def text_of(lines):
 def files_of(answered):
     """The name and the bytes of each file of a network."""
     files = {"diagnostics.txt": text_of(answered.lines("diag")), "trace.txt": text_of(answered.lines("trace"))}
-    frames = [each for each in trace.trace_of(answered.lines("trace")) if isinstance(each, trace.Frame)]
-    files["trace.log"] = "".join(frame.log_line() for frame in frames).encode()
+    files["trace.log"] = trace.log_of(trace.trace_of(answered.lines("trace"))).encode()
     for node, (name, _) in answered.project.nodes.items():
         files[f"{node}_{name}.dcf"] = text_of(answered.lines("dcf", node))
         files[f"{node}_{name}.bin"] = bytes.fromhex(b" ".join(answered.lines("cdcf", node)).decode())
