@@ -6,7 +6,7 @@ little-endian signal are counted as those of a CANopen frame.
 import re
 
 from . import matrix, values
-from .device import SIGNED
+from .device import SIGNED, object_name
 
 LONGEST_NAME = 32
 NOBODY = "Vector__XXX"
@@ -88,7 +88,7 @@ class Dbc:
         self.messages.append("")
 
     def _add_signal(self, names, tpdo, part):
-        name = names.of(part.entry.name or f"entry {matrix.object_name(part.key)}")
+        name = names.of(part.entry.name or f"entry {object_name(part.key)}")
         targets = self.network.targets(tpdo, part)
         receivers = ",".join(sorted({self.nodes[pdo.node] for pdo, _ in targets})) or NOBODY
         low, high = limits(part.entry, tpdo.node)
@@ -104,7 +104,7 @@ class Dbc:
 
 
 def described(part):
-    return f"{matrix.object_name(part.key)} {part.entry.name}".rstrip()
+    return f"{object_name(part.key)} {part.entry.name}".rstrip()
 
 
 def limits(entry, node):

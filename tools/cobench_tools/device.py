@@ -34,6 +34,11 @@ def read_formula(text, node):
     return None if number is None else number + node
 
 
+def object_name(key):
+    """How an entry is named by its index and sub-index."""
+    return f"{key[0]:04X}h:{key[1]:02X}"
+
+
 class Entry:
     """One entry of a data sheet.
 

@@ -1,13 +1,9 @@
 """The tables of a network for the papers of its machine: nodes, messages, signals, parameters, heartbeats."""
-from . import pdo_values, values, wiring
-from .device import BITS, SIGNED, VISIBLE_STRING
+from . import pdo_values, values
+from .device import BITS, SIGNED, VISIBLE_STRING, object_name
 from .tables import Table
 
 NONE = "-"
-
-
-def object_name(key):
-    return f"{key[0]:04X}h:{key[1]:02X}"
 
 
 def value_text(kind, data):

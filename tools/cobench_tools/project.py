@@ -24,6 +24,12 @@ class Message:
         self.node, self.tpdo, self.words = node, tpdo, words
         self.start, self.sources, self.sinks = 0, {}, {}
 
+    @property
+    def numbers(self):
+        """Transmission type, inhibit time in units of 100 us, event time in ms, and COB-ID or 0."""
+        kind, inhibit, event, identifier = self.words[:4]
+        return number(kind), number(inhibit), number(event), hexadecimal(identifier)
+
 
 class Event:
     """What happens at a time: `set` (entry and text), `power` (on or off) or `nmt` (service) at a node."""

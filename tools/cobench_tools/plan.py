@@ -1,0 +1,273 @@
+"""What the plan of cobench makes of messages, and why it can't make PDOs of some (docs/rules/messages.md).
+
+It is for telling causes and for laying out scripts; what counts is what cobench itself answers.
+"""
+from . import values
+from .device import BITS, object_name
+from .wiring import COMMUNICATION, MOST_PDOS, RPDO, TPDO, is_restricted
+
+UNSIGNED8, UNSIGNED16, UNSIGNED32 = 0x05, 0x06, 0x07
+DUMMIES = {1: 0x01, 8: 0x05, 16: 0x06, 32: 0x07}
+LEAST_IDENTIFIER = 0x181
+POOL = range(0x681, 0x6E0)
+OFF, NO_RTR = 1 << 31, 1 << 30
+
+
+def item(key, bits):
+    """The mapping entry of an entry with that many bits."""
+    return key[0] << 16 | key[1] << 8 | bits
+
+
+class Planned:
+    """What the plan makes of a message.
+
+    faults      its faults, each a code and a cause in words, in the order of the codes; without one it is clean
+    identifier  the COB-ID of its frames
+    mapping     the mapping entries of its TPDO
+    rpdos       the RPDO of each consumer, and the mapping entries of that
+    """
+
+    def __init__(self, name, message):
+        self.name, self.message = name, message
+        self.faults, self.identifier, self.mapping, self.rpdos = [], None, [], {}
+
+    @property
+    def sources(self):
+        """Its sources by position."""
+        return sorted(self.message.sources.items())
+
+    @property
+    def consumers(self):
+        return sorted({node for _, node in self.message.sinks})
+
+
+class Plan:
+    """The plan of a project, with the data sheet of each node; `messages` has each message planned, by name."""
+
+    def __init__(self, project, devices):
+        self.project, self.devices = project, devices
+        self._tpdos, self._rpdos, self._identifiers, self.messages = {}, {}, {}, {}
+        for name, message in sorted(project.messages.items()):
+            planned = self.messages[name] = Planned(name, message)
+            self._judge(planned)
+            if not planned.faults:
+                self._take(planned)
+
+    def _judge(self, planned):
+        """Finds the faults of a message, in the order of their codes."""
+        wanted = planned.message.numbers[3]
+        planned.identifier = wanted or self._automatic(planned.message)
+        planned.mapping = [item(key, self._width(planned.message.node, key) or 0) for _, key in planned.sources]
+        for code, causes in (("E05", self._no_objects), ("E06", self._tpdo_taken), ("E07", self._too_many_bits),
+                             ("E08", self._not_mappable), ("E09", self._mismatched), ("E10", self._no_rpdo),
+                             ("E11", self._no_dummy), ("E12", self._bad_identifier), ("E13", self._no_identifier),
+                             ("E14", self._reserved_type)):
+            planned.faults += [(code, cause) for cause in causes(planned)]
+
+    def _take(self, planned):
+        """A clean message has its TPDO, its RPDOs and its identifier from now on."""
+        message = planned.message
+        self._tpdos[message.node, message.tpdo] = planned.name
+        self._identifiers[planned.identifier] = planned.name
+        for node, (rpdo, _) in planned.rpdos.items():
+            self._rpdos[node, rpdo] = planned.name
+
+    def _name(self, node):
+        return self.project.nodes[node][0]
+
+    def _entry(self, node, key):
+        return self.devices[node].entries.get(key)
+
+    def _width(self, node, key):
+        """The bits of an entry of BOOLEAN or an integer type, else None."""
+        entry = self._entry(node, key)
+        return BITS.get(entry.kind) if entry else None
+
+    def _described(self, node, key):
+        entry = self._entry(node, key)
+        return f"{object_name(key)} {entry.name if entry else ''}".rstrip()
+
+    # E05: the objects of the TPDO.
+
+    def _no_objects(self, planned):
+        message = planned.message
+        _, inhibit, event, _ = message.numbers
+        index = COMMUNICATION[TPDO] + message.tpdo
+        wanted = [((index, 1), UNSIGNED32), ((index, 2), UNSIGNED8)]
+        wanted += [((index, 3), UNSIGNED16)] if inhibit else []
+        wanted += [((index, 5), UNSIGNED16)] if event else []
+        wanted += [((index, 6), UNSIGNED8)] if message.start else []
+        wanted += mapping_entries(index + 0x200, len(planned.sources))
+        causes = [self._not_written(message.node, key, kind) for key, kind in wanted]
+        return [cause for cause in causes if cause][:1]
+
+    def _not_written(self, node, key, kind):
+        """Why an entry can't be written as one of a data type, or None."""
+        entry = self._entry(node, key)
+        if not entry:
+            return f"{self._name(node)} has no {object_name(key)}"
+        if entry.kind != kind:
+            return (f"{self._described(node, key)} of {self._name(node)} is {values.type_name(entry.kind)}, "
+                    f"and not {values.type_name(kind)}")
+        if not entry.is_writable():
+            return f"{self._described(node, key)} of {self._name(node)} is {entry.access}, and can't be written"
+        return None
+
+    # E06, E07.
+
+    def _tpdo_taken(self, planned):
+        message = planned.message
+        other = self._tpdos.get((message.node, message.tpdo))
+        return [f"TPDO {message.tpdo} of {self._name(message.node)} sends the message {other}"] if other else []
+
+    def _too_many_bits(self, planned):
+        bits = sum(self._width(planned.message.node, key) or 0 for _, key in planned.sources)
+        return [f"its sources have {bits} bits, and a frame has 64"] if bits > 64 else []
+
+    # E08: what PDOs can't carry.
+
+    def _not_mappable(self, planned):
+        node = planned.message.node
+        causes = [self._not_carried(node, key, f"source {position}", TPDO) for position, key in planned.sources]
+        for (position, taker), key in sorted(planned.message.sinks.items()):
+            if taker == node:
+                causes.append(f"sink {position} is of {self._name(node)}, which sends the message")
+            causes.append(self._not_carried(taker, key, f"sink {position}", RPDO))
+        return [cause for cause in causes if cause]
+
+    def _not_carried(self, node, key, what, direction):
+        """Why no PDO of a direction can carry an entry, or None."""
+        entry = self._entry(node, key)
+        if not entry:
+            return f"{what}: {self._name(node)} has no {object_name(key)}"
+        if entry.is_sent() if direction == TPDO else entry.is_taken():
+            return None
+        why = (f"its data type is {values.type_name(entry.kind)}" if entry.kind not in BITS
+               else "its PDOMapping is 0" if not entry.mappable else f"its access is {entry.access}")
+        return f"{what}: {self._described(node, key)} of {self._name(node)} can't be in {'a' if direction == TPDO else 'an'} {direction}, as {why}"
+
+    # E09: widths.
+
+    def _mismatched(self, planned):
+        sources, causes = dict(planned.sources), []
+        for (position, node), key in sorted(planned.message.sinks.items()):
+            if position not in sources:
+                causes.append(f"sink {position} of {self._name(node)} has no source at its position")
+                continue
+            sent, taken = self._width(planned.message.node, sources[position]), self._width(node, key)
+            if sent and taken and sent != taken:
+                causes.append(f"sink {position} of {self._name(node)}, {self._described(node, key)}, has {taken} bits, and "
+                              f"source {position}, {self._described(planned.message.node, sources[position])}, has {sent}")
+        return causes
+
+    # E10, E11: the RPDOs of the consumers and what they map.
+
+    def rpdos_that_fit(self, node, count):
+        """The RPDOs of a node that can be written with that many mapping entries, by number."""
+        first = COMMUNICATION[RPDO]
+        numbers = sorted(index - first for index, sub in self.devices[node].entries if sub == 1 and 1 <= index - first <= MOST_PDOS)
+        return [number for number in numbers if not any(
+            self._not_written(node, key, kind) for key, kind in [((first + number, 1), UNSIGNED32), ((first + number, 2), UNSIGNED8)]
+            + mapping_entries(first + number + 0x200, count))]
+
+    def _no_rpdo(self, planned):
+        causes = []
+        for node in planned.consumers:
+            fitting = self.rpdos_that_fit(node, len(planned.sources))
+            free = [number for number in fitting if (node, number) not in self._rpdos]
+            planned.rpdos[node] = free[0] if free else None, self._items(planned, node)
+            causes += [] if free else [self._why_no_rpdo(node, fitting, len(planned.sources))]
+        return causes
+
+    def _why_no_rpdo(self, node, fitting, count):
+        entries = "1 mapping entry" if count == 1 else f"{count} mapping entries"
+        if not fitting:
+            return f"{self._name(node)} has no RPDO with {entries} that can be written"
+        others = ", ".join(f"{number} by {self._rpdos[node, number]}" for number in fitting[:8])
+        return f"each RPDO of {self._name(node)} with {entries} is taken: {others}"
+
+    def _items(self, planned, node):
+        """The mapping entries of a consumer: for each source its sink, else a dummy as wide."""
+        items = []
+        for position, key in planned.sources:
+            bits = self._width(planned.message.node, key)
+            sink = planned.message.sinks.get((position, node))
+            if sink or bits in DUMMIES:
+                items.append(item(sink or (DUMMIES[bits], 0), bits or 0))
+        return items
+
+    def _no_dummy(self, planned):
+        causes = []
+        for node in planned.consumers:
+            for position, key in planned.sources:
+                bits = self._width(planned.message.node, key)
+                if (position, node) not in planned.message.sinks and bits:
+                    causes += [] if self._skips(node, bits) else [
+                        f"{self._name(node)} takes nothing of source {position}, and allows no dummy of {bits} bits to skip it"]
+        return causes
+
+    def _skips(self, node, bits):
+        return bits in DUMMIES and self.devices[node].allows_dummy(DUMMIES[bits])
+
+    # E12 to E14: its identifier and its type.
+
+    def _bad_identifier(self, planned):
+        wanted = planned.message.numbers[3]
+        other = self._identifiers.get(wanted)
+        if other:
+            return [f"{wanted:03X}h is the identifier of the message {other}"]
+        if wanted and wanted < LEAST_IDENTIFIER:
+            return [f"{wanted:03X}h is below 181h, where PDOs begin"]
+        return [f"{wanted:03X}h belongs to another service"] if wanted and is_restricted(wanted) else []
+
+    def _no_identifier(self, planned):
+        return ["no identifier from 681h to 6DFh is free"] if planned.identifier is None else []
+
+    def _reserved_type(self, planned):
+        kind = planned.message.numbers[0]
+        return [f"the transmission types 241 to 251 are reserved, and this is {kind}"] if 241 <= kind <= 251 else []
+
+    def _automatic(self, message):
+        """The predefined identifier of a TPDO where it is free, else the least that is, else None."""
+        predefined = 0x80 + 0x100 * message.tpdo + message.node
+        if message.tpdo <= 4 and predefined not in self._identifiers:
+            return predefined
+        return next((each for each in POOL if each not in self._identifiers), None)
+
+    # What it writes.
+
+    def values(self, node):
+        """The number that each entry of a node's PDO objects has once all clean messages are written."""
+        written = {}
+        for planned in self.messages.values():
+            if not planned.faults and planned.message.node == node:
+                self._write_tpdo(written, planned)
+            if not planned.faults and node in planned.rpdos:
+                number, items = planned.rpdos[node]
+                index = COMMUNICATION[RPDO] + number
+                written.update(communication(index, planned.identifier, 0 if planned.message.numbers[0] <= 240 else 255))
+                written.update(mapping(index + 0x200, items))
+        return written
+
+    def _write_tpdo(self, written, planned):
+        message = planned.message
+        kind, inhibit, event, _ = message.numbers
+        index = COMMUNICATION[TPDO] + message.tpdo
+        written.update(communication(index, NO_RTR | planned.identifier, kind))
+        for sub, kind, number in ((3, UNSIGNED16, inhibit), (5, UNSIGNED16, event), (6, UNSIGNED8, message.start)):
+            if not self._not_written(message.node, (index, sub), kind):
+                written[index, sub] = number
+        written.update(mapping(index + 0x200, planned.mapping))
+
+
+def mapping_entries(index, count):
+    """The entries of a mapping object that are written with that many mapped, each with its data type."""
+    return [((index, 0), UNSIGNED8)] + [((index, sub), UNSIGNED32) for sub in range(1, count + 1)]
+
+
+def communication(index, identifier, kind):
+    return {(index, 1): identifier, (index, 2): kind}
+
+
+def mapping(index, items):
+    return {(index, 0): len(items), **{(index, sub): each for sub, each in enumerate(items, 1)}}
