@@ -15,6 +15,13 @@ def test_explain_has_the_words_of_the_project():
         assert line in explained[1], line
 
 
+def test_explain_names_entries_also_in_pdos():
+    explained = run("explain", "--names", example("servo_axes.txt"), example("servo_axes.replies.txt"))[1].decode()
+    for line in ("0000000277 581 x_axis 1000h:00 Device type = 00020192h",
+                 "0000070142 181 x_actual: 6041h Statusword=0637h 6064h Position actual value [inc]=25000"):
+        assert line + "\n" in explained, line
+
+
 def test_explain_gives_a_table():
     status, output, _ = run("explain", "--csv", example("servo_axes.txt"), example("servo_axes.replies.txt"))
     rows = list(csv.DictReader(io.StringIO(output.decode())))

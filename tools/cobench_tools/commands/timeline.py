@@ -1,9 +1,7 @@
 """Draws a trace: one HTML file that any browser shows."""
-import json
-import json
 import os
 
-from .. import tool, trace, view
+from .. import bundle, tool, trace, view
 from ..picture import Picture
 
 SUMMARY = "draw a trace as an HTML page that any browser shows"
@@ -11,14 +9,16 @@ SUMMARY = "draw a trace as an HTML page that any browser shows"
 AFTER = """TRACE is the replies of a session with `trace` in it, or the lines of a trace
 alone; - is the standard input. With --script, the script of that session (which
 may have comments and `eds NAME <FILE`), nodes, messages and values have their
-names, and the events of the scenario are drawn. The file needs nothing beside it
-and no network: wheel or + and - zoom, drag or the arrows move, 0 shows all, and
-pointing at something tells what it is. Status: 0, or 2 where there is no trace;
-nothing is printed then.
+names, and the events of the scenario and power are drawn; without it a node
+without power looks as it was last heard.
+
+The file needs nothing beside it and no network. The wheel scrolls, and zooms with
+Ctrl; dragging moves; two fingers zoom; pointing or tapping tells what is there;
+the button ? lists the keys. The page's address ends with the part of the run that
+is shown, in microseconds: trace.html#120000-280000 opens that part. Status: 0, or
+2 where there is no trace; nothing is printed then.
 
   cobtool timeline --script network.txt replies.txt > trace.html"""
-
-PAGE = os.path.join(os.path.dirname(tool.__file__), "timeline.html")
 
 
 def arguments(parser):
@@ -36,7 +36,5 @@ def run(options):
         traces = trace.traces_of(options.replies, tool.read_text(options.replies))
         lines, project = trace.pick(options.replies, traces, options.trace), None
     title = options.title or os.path.basename(options.script or options.replies)
-    data = json.dumps(Picture(lines, project).content(title), separators=(",", ":"), ensure_ascii=True)
-    page = tool.read(PAGE).decode()
-    tool.put(page.replace("/*CONTENT*/", data.replace("<", "\\u003c"), 1))
+    tool.put(bundle.timeline_page(Picture(lines, project).content(title)))
     return tool.DONE

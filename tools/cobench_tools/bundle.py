@@ -1,0 +1,32 @@
+"""Puts the parts of a page, which stand in pages/, into one file that needs nothing beside it."""
+import json
+import os
+
+from . import tool
+
+FOLDER = os.path.join(os.path.dirname(os.path.abspath(__file__)), "pages")
+TIMELINE_SCRIPTS = ("elements.js", "timeline_trace.js", "timeline_scale.js", "timeline_lanes.js", "timeline_marks.js",
+                    "timeline_flags.js", "timeline_paint.js", "timeline_tips.js", "timeline_gestures.js",
+                    "timeline_toolbar.js", "timeline.js")
+TIMELINE_STYLES = ("design.css", "timeline.css")
+
+
+def part(name):
+    return tool.read(os.path.join(FOLDER, name)).decode()
+
+
+def content_text(content):
+    """Content as JSON that can stand in a script element."""
+    return json.dumps(content, separators=(",", ":"), ensure_ascii=True).replace("<", "\\u003c")
+
+
+def page(name, styles, scripts, content):
+    """The page of a template, with its parts and its content in their places."""
+    text = part(name).replace("/*STYLE*/", "".join(map(part, styles)), 1)
+    text = text.replace("/*SCRIPT*/", "".join(map(part, scripts)), 1)
+    return text.replace("/*CONTENT*/", content_text(content), 1)
+
+
+def timeline_page(content):
+    """The page of a timeline alone."""
+    return page("timeline.html", TIMELINE_STYLES, TIMELINE_SCRIPTS + ("timeline_page.js",), content)

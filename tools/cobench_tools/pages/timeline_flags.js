@@ -1,0 +1,85 @@
+/* Flags: what the manager notes, emergencies, and events of the scenario. */
+
+const FLAG_COLOURS = { configured: "well", lost: "warning", failed: "wrong", emergency: "wrong", recovered: "well", event: "event" };
+const FLAG_SAYS = { configured: "noted by the manager", lost: "noted by the manager", failed: "noted by the manager",
+  emergency: "emergency message", recovered: "emergency message", event: "event of the scenario" };
+
+/** Draws the flags of a lane that are in view: plain ones first, so that trouble stands above them. */
+function drawFlags(pen, view, lane) {
+  const drawn = flagsInView(view.scale, lane), labels = placeLabels(pen, view.scale, drawn);
+  for (const [flag, at] of drawn) drawPole(pen, view, lane, flag, at);
+  for (const trouble of [false, true])
+    for (const [flag, at] of drawn) if (isTrouble(flag) === trouble) drawHead(pen, view, lane, flag, at, labels.get(flag));
+}
+
+/** The flags of a lane that can be told apart, each with its pixel. */
+function flagsInView(scale, lane) {
+  const x = scale.x, seen = { true: -Infinity, false: -Infinity }, found = [];
+  for (let i = firstAt(lane.flagTimes, scale.time(-Scale.LEFT)); i < lane.flags.length; i++) {
+    const flag = lane.flags[i], at = x(flag.time), trouble = isTrouble(flag);
+    if (at > scale.right + 1) break;
+    if (at - seen[trouble] < 1) continue;
+    found.push([flag, at]);
+    seen[trouble] = at;
+  }
+  return found;
+}
+
+function drawPole(pen, view, lane, flag, at) {
+  pen.globalAlpha = isTrouble(flag) ? .9 : .55;
+  pen.fillStyle = view.colours[FLAG_COLOURS[flag.kind]];
+  pen.fillRect(at - .5, lane.top + 2, isTrouble(flag) ? 2 : 1, lane.height - 5);
+  pen.globalAlpha = 1;
+}
+
+/**
+ * Where the words of flags go: behind their heads, those of trouble also before them, where nothing else stands.
+ * Trouble has the first choice. Gives the left and the width of each that has a place.
+ */
+function placeLabels(pen, scale, drawn) {
+  const taken = new Uint8Array(Math.ceil(scale.width) + 1), labels = new Map();
+  const reserve = (from, to) => taken.fill(1, Math.max(0, Math.round(from)), Math.max(0, Math.round(to)));
+  const isFree = (from, to) => from >= 0 && to < taken.length && taken.indexOf(1, Math.round(from)) >>> 0 >= Math.round(to);
+  for (const [flag, at] of drawn) reserve(at - 6, at + (flag.kind === "event" ? 6 : 10));
+  for (const [flag, at] of drawn.filter(([flag]) => isTrouble(flag)).concat(drawn.filter(([flag]) => !isTrouble(flag)))) {
+    const wide = widthOf(pen, flag.label, FLAG_SIZE), behind = at + (flag.kind === "event" ? 8 : 11), before = at - 8 - wide;
+    const left = isFree(behind, behind + wide + 4) ? behind : isTrouble(flag) && isFree(before - 4, at - 6) ? before : null;
+    if (left === null) continue;
+    reserve(left - 4, left + wide + 4);
+    labels.set(flag, { left, wide });
+  }
+  return labels;
+}
+
+/** The head of a flag, and its words where they have a place. */
+function drawHead(pen, view, lane, flag, at, label) {
+  const middle = lane.top + 1 + view.lanes.flags / 2, colour = view.colours[FLAG_COLOURS[flag.kind]];
+  pen.fillStyle = colour;
+  if (isTrouble(flag)) { drawTrouble(pen, view, flag, at, middle, label); return; }
+  pen.beginPath();
+  for (const [right, down] of flag.kind === "event" ? DIAMOND : PENNANT) pen.lineTo(at + right, middle + down);
+  pen.fill();
+  if (label) write(pen, flag.label, label.left, middle + .5, colour, FLAG_SIZE);
+}
+const DIAMOND = [[0, -5], [5, 0], [0, 5], [-5, 0]], PENNANT = [[0, -4], [9, 0], [0, 4]], FLAG_SIZE = 10.5;
+
+/** An emergency or a failed boot: a shield with its words, or a mark of exclamation where there is no room. */
+function drawTrouble(pen, view, flag, at, middle, label) {
+  const ink = view.colours["wrong-ink"];
+  const left = label ? Math.min(at, label.left - 5) : at - 6, right = label ? Math.max(at + 1, label.left + label.wide + 5) : at + 6;
+  pen.beginPath();
+  pen.roundRect(left, middle - 7, right - left, 14, label ? 4 : 6);
+  pen.fill();
+  if (label) write(pen, flag.label, label.left, middle + .5, ink, FLAG_SIZE);
+  else write(pen, "!", at - widthOf(pen, "!", 11) / 2, middle + .5, ink, 11);
+}
+
+/** The flag of a lane that is nearest to a pixel, if one is near. */
+function nearestFlag(view, lane, x) {
+  let best = null, least = 11;
+  for (const [flag, at] of flagsInView(view.scale, lane)) {
+    const far = Math.abs(at + 3 - x) - (isTrouble(flag) ? 1 : 0);
+    if (far < least) { least = far; best = flag; }
+  }
+  return best;
+}

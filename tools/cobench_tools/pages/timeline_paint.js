@@ -1,0 +1,117 @@
+/* The picture: axis, lanes with their states, and bars, drawn on one sheet by one scale. */
+
+const BARS = 118, LOW_BARS = 72;      // height of the bars, and where there is little room
+
+/** The drawing of a canvas whose size in pixels of the page is given, cleared. */
+function penOf(canvas, wide, high) {
+  const ratio = window.devicePixelRatio || 1;
+  canvas.style.width = wide + "px";
+  canvas.style.height = high + "px";
+  canvas.width = Math.round(wide * ratio);
+  canvas.height = Math.round(high * ratio);
+  const pen = canvas.getContext("2d");
+  pen.setTransform(ratio, 0, 0, ratio, 0, 0);
+  pen.textBaseline = "middle";
+  return pen;
+}
+
+function drawAxis(pen, view, ticks) {
+  const { colours, scale } = view;
+  pen.fillStyle = colours.paper;
+  pen.fillRect(0, 0, scale.width, AXIS);
+  for (const at of ticks.at) {
+    const x = scale.x(at), label = axisLabel(at, ticks.step);
+    pen.fillStyle = colours.edge;
+    pen.fillRect(Math.round(x), AXIS - 6, 1, 6);
+    const half = widthOf(pen, label, 11) / 2;
+    write(pen, label, Math.min(Math.max(x, half + 1), scale.width - half - 1) - half, AXIS / 2 - 2, colours.ink, 11);
+  }
+  pen.fillStyle = colours.line;
+  pen.fillRect(0, AXIS - 1, scale.width, 1);
+}
+
+function drawLanes(pen, view, ticks) {
+  const { scale, lanes, colours } = view, room = view.room();
+  pen.save();
+  pen.beginPath();
+  pen.rect(0, AXIS, scale.width, room);
+  pen.clip();
+  pen.translate(0, AXIS - view.scrolled());
+  for (const lane of lanes.between(view.scrolled(), view.scrolled() + room)) {
+    drawStates(pen, view, lane);
+    pen.fillStyle = colours.grid;
+    for (const at of ticks.at) pen.fillRect(Math.round(scale.x(at)), lane.top, 1, lane.height);
+    if (lanes.compact) drawCompactRow(pen, view, lane); else drawRows(pen, view, lane);
+    drawFlags(pen, view, lane);
+    pen.fillStyle = colours.line;
+    pen.fillRect(0, lane.top + lane.height - 1, scale.width, 1);
+  }
+  pen.restore();
+}
+
+/** The states of a node as bands behind its marks. */
+function drawStates(pen, view, lane) {
+  const { scale, colours, trace } = view;
+  lane.states.forEach(([time, state], n) => {
+    const next = n + 1 < lane.states.length ? lane.states[n + 1][0] : trace.end;
+    const from = Math.max(scale.x(time), 0), to = Math.min(scale.x(next), scale.width);
+    if (to <= from) return;
+    pen.fillStyle = colours[trace.content.stateNames[state]];
+    pen.fillRect(from, lane.top, to - from, lane.height - 1);
+    if (state === 0) hatch(pen, colours.hatch, from, lane.top, to - from, lane.height - 1);
+  });
+}
+
+function hatch(pen, colour, left, top, wide, high) {
+  pen.save();
+  pen.beginPath();
+  pen.rect(left, top, wide, high);
+  pen.clip();
+  pen.strokeStyle = colour;
+  pen.lineWidth = 1;
+  pen.beginPath();
+  for (let at = left - high; at < left + wide; at += 7) { pen.moveTo(at, top + high); pen.lineTo(at + high, top); }
+  pen.stroke();
+  pen.restore();
+}
+
+/** The steps in view as bars: where several share a pixel, the highest of them. */
+function barsInView(view) {
+  const { trace, scale } = view, x = scale.x, bars = [];
+  const from = Math.max(0, Math.floor(scale.from / trace.step)), to = Math.min(trace.steps - 1, Math.floor(scale.to / trace.step));
+  for (let step = from; step <= to; step++) {
+    const left = Math.max(x(step * trace.step), 0), right = Math.min(x((step + 1) * trace.step), scale.right), total = view.total(step);
+    const last = bars[bars.length - 1];
+    if (last && Math.floor(left) === Math.floor(last.left) && right - left < 1) { if (total > last.total) Object.assign(last, { step, total }); }
+    else bars.push({ step, left, right, total });
+  }
+  return bars;
+}
+
+function drawBars(pen, view, top) {
+  const { scale, colours } = view, bars = barsInView(view), floor = view.bars() - 14, high = floor - 12;
+  const most = Math.max(1, ...bars.map(bar => bar.total));
+  pen.save();
+  pen.translate(0, top);
+  pen.fillStyle = colours.back;
+  pen.fillRect(0, 0, scale.width, view.bars());
+  pen.fillStyle = colours.line;
+  pen.fillRect(0, 0, scale.width, 1);
+  for (const share of [0, .5, 1]) pen.fillRect(0, floor - share * high, scale.right, 1);
+  for (const bar of bars) drawBar(pen, view, bar, floor, high / most);
+  pen.restore();
+  view.showMost(most, floor, high);
+}
+
+/** A bar, with its kinds one above the other. */
+function drawBar(pen, view, bar, floor, unit) {
+  const { trace } = view, gap = bar.right - bar.left > 4 ? 1 : 0;
+  let y = floor;
+  trace.kinds.forEach((kind, n) => {
+    if (!view.shows(n) || !trace.counts[n][bar.step]) return;
+    const high = trace.counts[n][bar.step] * unit;
+    pen.fillStyle = view.colours[colourOf(kind)];
+    pen.fillRect(bar.left, y - high, Math.max(bar.right - bar.left - gap, 1), high);
+    y -= high;
+  });
+}

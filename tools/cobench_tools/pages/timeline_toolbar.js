@@ -1,0 +1,116 @@
+/* What stands above the picture: buttons, the search, the kinds of frames, and the list of events and errors. */
+
+class Toolbar {
+  constructor(view) {
+    this.view = view;
+    this.search = element("input", { type: "search", placeholder: "node", "aria-label": "search for a node by name or number", size: "12" });
+    this.count = element("span", { class: "soft", role: "status" });
+    this.legend = element("div", { class: "legend", role: "group", "aria-label": "kinds of frames" });
+    this.list = new FlagList(view);
+    this.element = element("div", { class: "tools" }, this.buttons(), this.legend);
+    this.search.addEventListener("input", () => view.search(this.search.value));
+    this.search.addEventListener("keydown", event => this.leaveSearch(event));
+  }
+
+  buttons() {
+    const { view } = this;
+    this.out = button("−", "zoom out, key −", () => view.zoom(2));
+    this.in = button("+", "zoom in, key +", () => view.zoom(.5));
+    this.all = button("all", "show the whole run, key 0", () => view.showAll());
+    return element("div", { class: "buttons", role: "toolbar", "aria-label": "timeline" },
+      this.search, this.count, this.list.element, this.out, this.in, this.all, helpBox());
+  }
+
+  /** Enter and Escape give the keys back to the picture; Escape shows all lanes again. */
+  leaveSearch(event) {
+    if (event.key === "Escape") { this.search.value = ""; this.view.search(""); }
+    if (event.key === "Escape" || event.key === "Enter") { this.view.view.focus(); event.preventDefault(); }
+  }
+
+  take(trace) {
+    const counts = trace.kinds.map((_, kind) => trace.lanes.reduce((sum, _, lane) => sum + trace.row(lane, kind).frame.length, 0));
+    const kinds = trace.kinds.map((name, kind) => ({ name, kind, count: counts[kind] })).filter(each => each.count);
+    const states = new Set(trace.lanes.flatMap(lane => lane.states.map(([, state]) => state)));
+    this.legend.replaceChildren(...kinds.map(each => this.chip(each)),
+      ...trace.content.stateNames.map((name, state) => [name, state]).filter(([, state]) => states.has(state)).map(([name]) => stateChip(name)));
+    this.list.take(trace);
+  }
+
+  /** A kind of frames, by which it is hidden and shown. */
+  chip({ name, kind, count }) {
+    const made = element("button", { class: "chip", "aria-pressed": String(this.view.shows(kind)) },
+      element("i", { style: `background: var(--${colourOf(name)})` }), element("b", {}, name), counted(count));
+    made.addEventListener("click", () => {
+      const shown = !this.view.shows(kind);
+      made.setAttribute("aria-pressed", String(shown));
+      this.view.toggle(kind, shown);
+    });
+    return made;
+  }
+
+  found(shown, all) { this.count.textContent = shown < all ? `${shown} of ${all}` : ""; }
+  follow() { this.all.disabled = this.out.disabled = this.view.scale.isWhole(); }
+}
+
+const stateChip = name => element("span", { class: "chip state" }, element("i", { class: name, style: `background: var(--${name})` }), name);
+
+function button(words, title, action) {
+  const made = element("button", { type: "button", title, "aria-label": title.replace(/,.*/, "") }, words);
+  made.addEventListener("click", action);
+  return made;
+}
+
+const KEYS = [["+ −", "zoom"], ["0", "whole run"], ["← →", "move in time"], ["↑ ↓", "scroll"], ["Page ↑ ↓", "a page of lanes"],
+  ["n p", "next and last event or error"], [". ,", "next and last frame of the lane"], ["/", "search for a node"], ["Esc", "close"]];
+const MOUSE = [["wheel", "scrolls the lanes"], ["Ctrl + wheel", "zooms"], ["Shift + wheel", "moves in time"], ["drag", "moves"], ["double click", "zooms in"]];
+const FINGERS = [["swipe", "moves"], ["pinch", "zooms"], ["tap", "tells what is there"]];
+
+/** What keys, wheel and fingers do. */
+function helpBox() {
+  const rows = pairs => pairs.map(([key, what]) => element("tr", {}, element("td", {}, element("kbd", {}, key)), element("td", {}, what)));
+  const link = element("p", { class: "soft" }, "The address ends with the part that is shown, in microseconds: #120000-280000.");
+  return popUp("?", "keys, mouse and fingers", element("table", {}, ...rows([...MOUSE, ...FINGERS, ...KEYS])), link);
+}
+
+/** A button with a box below it. */
+function popUp(words, title, ...children) {
+  const summary = element("summary", { class: "button", title, "aria-label": title }, words);
+  const made = element("details", { class: "pop" }, summary, element("div", { class: "box" }, ...children));
+  document.addEventListener("pointerdown", event => { if (!made.contains(event.target)) made.open = false; });
+  made.addEventListener("keydown", event => { if (event.key === "Escape" && made.open) { made.open = false; summary.focus(); event.preventDefault(); } });
+  return made;
+}
+
+/** The list of events and errors, made when it is opened. */
+class FlagList {
+  static MOST = 1000;
+
+  constructor(view) {
+    this.view = view;
+    this.items = element("ol", { class: "flags" });
+    this.element = popUp("", "events and errors", this.items);
+    this.element.addEventListener("toggle", () => { if (this.element.open) this.fill(); });
+  }
+
+  take(trace) {
+    const trouble = trace.flags.filter(isTrouble).length, summary = this.element.firstChild;
+    this.trace = trace;
+    this.element.hidden = !trace.flags.length;
+    summary.textContent = trouble ? several(trouble, "error") : several(trace.flags.length, "event");
+    summary.className = trouble ? "button wrong" : "button";
+    if (this.element.open) this.fill();
+  }
+
+  fill() {
+    const flags = this.trace.flags, shown = flags.length > FlagList.MOST ? flags.filter(isTrouble).slice(0, FlagList.MOST) : flags;
+    this.items.replaceChildren(...shown.map(flag => this.item(flag)));
+    if (shown.length < flags.length) this.items.append(element("li", { class: "soft" }, `${several(flags.length - shown.length, "more flag")} on the picture`));
+  }
+
+  item(flag) {
+    const made = element("button", { type: "button", class: isTrouble(flag) ? "wrong" : "" },
+      element("span", { class: "at" }, shownTime(flag.time)), element("b", {}, this.trace.lanes[flag.lane].name), " ", flag.words);
+    made.addEventListener("click", () => { this.element.open = false; this.view.view.focus(); this.view.goTo(tellFlag(this.view, flag)); });
+    return element("li", {}, made);
+  }
+}

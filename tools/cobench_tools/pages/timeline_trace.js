@@ -1,0 +1,139 @@
+/* A trace as it is drawn: its frames in columns, in the order of time and by rows, its flags, its states. */
+
+/** The first place in sorted times, from `low` on, whose time isn't before `time`. */
+function firstAt(times, time, low = 0) {
+  let step = 1;
+  while (low + step <= times.length && times[low + step - 1] < time) { low += step; step *= 2; }
+  let high = Math.min(times.length, low + step - 1);
+  while (low < high) {
+    const middle = low + high >> 1;
+    if (times[middle] < time) low = middle + 1; else high = middle;
+  }
+  return low;
+}
+
+const hexadecimal = (number, digits) => number.toString(16).toUpperCase().padStart(digits, "0");
+
+/** The number that a text of bytes in hexadecimal digits has, the lowest byte first. */
+const littleEndian = bytes => BigInt("0x0" + (bytes.match(/../g) || []).reverse().join(""));
+
+/** The bits of a frame from `start` on as a value: an unsigned number, a signed one, or one bit. */
+function valueAt(number, start, bits, form) {
+  const value = number >> BigInt(start) & (1n << BigInt(bits)) - 1n;
+  if (form === "signed") return BigInt.asIntN(bits, value).toString();
+  if (form === "bit") return (value & 1n).toString();
+  return hexadecimal(value, 2 * Math.ceil(bits / 8)) + "h";
+}
+
+/** What a PDO carries: each value with its label. */
+function valuesOf(parts, bytes) {
+  const number = littleEndian(bytes);
+  let start = 0;
+  return parts.map(([label, bits, form]) => {
+    const text = bits ? label + "=" + valueAt(number, start, bits, form) : label;
+    start += bits;
+    return text;
+  });
+}
+
+class Trace {
+  /** `content` is what picture.py makes. */
+  constructor(content) {
+    this.content = content;
+    this.end = content.end;
+    this.bit = content.bit;
+    this.kinds = content.kinds;
+    this.lanes = content.lanes.map(([key, name, title]) => ({ key, name, title, flags: [], states: content.states[key] || [] }));
+    this.laneOf = new Map(this.lanes.map((lane, number) => [lane.key, number]));
+    this.sorts = content.sorts.map(([identifier, kind, lane, size, text]) =>
+      ({ identifier, kind, lane: this.laneOf.get(lane), size, text, slot: (47 + 8 * size) * content.bit }));
+    this.takeFrames(content.windows);
+    this.sortIntoRows();
+    this.takeFlags(content);
+    this.countBy(10000);
+  }
+
+  takeFrames(windows) {
+    this.count = windows.reduce((sum, each) => sum + each.sort.length, 0);
+    this.time = new Float64Array(this.count);
+    this.sort = new Uint32Array(this.count);
+    this.place = new Uint32Array(this.count);
+    this.data = windows.map(each => each.data).join("");
+    let frame = 0, place = 0;
+    for (const each of windows) {
+      let time = each.at;
+      for (let i = 0; i < each.sort.length; i++, frame++) {
+        this.time[frame] = time += each.time[i];
+        this.sort[frame] = each.sort[i];
+        this.place[frame] = place;
+        place += 2 * this.sorts[each.sort[i]].size;
+      }
+    }
+  }
+
+  /** A row has the frames of one kind in one lane, with their times beside them. */
+  sortIntoRows() {
+    const kinds = this.kinds.length, rowOf = this.sorts.map(sort => sort.lane * kinds + sort.kind);
+    const sizes = new Uint32Array(this.lanes.length * kinds);
+    for (let i = 0; i < this.count; i++) sizes[rowOf[this.sort[i]]]++;
+    this.rows = Array.from(sizes, size => ({ time: new Float64Array(size), frame: new Uint32Array(size) }));
+    sizes.fill(0);
+    for (let i = 0; i < this.count; i++) {
+      const number = rowOf[this.sort[i]], row = this.rows[number], at = sizes[number]++;
+      row.time[at] = this.time[i];
+      row.frame[at] = i;
+    }
+    this.lanes.forEach((lane, n) => { lane.kinds = this.kinds.map((_, kind) => kind).filter(kind => sizes[n * kinds + kind]); });
+  }
+
+  /** Flags by lane: notes, emergencies and events of the scenario. */
+  takeFlags(content) {
+    this.flags = content.windows.flatMap(each => each.flags).concat(content.events)
+      .map(([time, lane, kind, label, words]) => ({ time, lane: this.laneOf.get(lane), kind, label, words }))
+      .sort((a, b) => a.time - b.time);
+    for (const flag of this.flags) this.lanes[flag.lane].flags.push(flag);
+    for (const lane of this.lanes) {
+      lane.flagTimes = lane.flags.map(flag => flag.time);
+      lane.trouble = lane.flags.filter(isTrouble).length;
+    }
+  }
+
+  /** How many frames of each kind there are in each step of time. */
+  countBy(step) {
+    this.step = step;
+    this.steps = Math.floor(Math.max(this.end, 0) / step) + 1;
+    this.counts = this.kinds.map(() => new Uint32Array(this.steps));
+    for (let i = 0; i < this.count; i++)
+      this.counts[this.sorts[this.sort[i]].kind][Math.min(this.steps - 1, Math.floor(this.time[i] / step))]++;
+  }
+
+  row(lane, kind) { return this.rows[lane * this.kinds.length + kind]; }
+  sortOf(frame) { return this.sorts[this.sort[frame]]; }
+  slot(frame) { return this.sorts[this.sort[frame]].slot; }
+  identifier(frame) { return hexadecimal(this.sortOf(frame).identifier, 3); }
+
+  bytes(frame) {
+    const place = this.place[frame];
+    return this.data.slice(place, place + 2 * this.sortOf(frame).size);
+  }
+
+  /** What a frame says: its subject, and its values one by one where it is a PDO that is known. */
+  said(frame) {
+    const text = this.sortOf(frame).text;
+    if (typeof text === "string") return { subject: text, values: [] };
+    return { subject: text[0], values: valuesOf(text[1], this.bytes(frame)) };
+  }
+
+  text(frame) {
+    const { subject, values } = this.said(frame);
+    return values.length ? subject + ": " + values.join(" ") : subject;
+  }
+
+  /** The state of a lane's node at a time, or "". */
+  stateAt(lane, time) {
+    const found = this.lanes[lane].states.filter(([at]) => at <= time).pop();
+    return found ? this.content.stateNames[found[1]] : "";
+  }
+}
+
+const isTrouble = flag => flag.kind === "emergency" || flag.kind === "failed";
