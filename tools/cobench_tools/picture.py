@@ -61,8 +61,7 @@ class Sorts:
     def _text(self, said):
         if said.parts is None:
             return tool.readable(said.text)
-        parts = tuple((tool.readable(label), bits, form_of(kind)) for label, bits, kind in said.parts)
-        return tool.readable(said.subject), parts
+        return said.subject, tuple((label, bits, form_of(kind)) for label, bits, kind in said.parts)
 
 
 def flag_of(line, said):
@@ -104,7 +103,7 @@ def event_flag(network, key, event):
     elif event.kind == "set":
         entry, value = entry_text(event.entry), tool.readable(event.what)
         label = f"{entry} := {value}"
-        words = f"{entry}{tool.readable(network.name_text(node, event.entry))} := {value}"
+        words = f"{entry}{network.name_text(node, event.entry)} := {value}"
     return [event.time, node, "event", label, f"event {key}: {words}"]
 
 
