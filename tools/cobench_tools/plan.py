@@ -2,6 +2,8 @@
 
 It is for telling causes and for laying out scripts; what counts is what cobench itself answers.
 """
+from collections import namedtuple
+
 from . import values
 from .device import BITS, object_name
 from .wiring import COMMUNICATION, MOST_PDOS, RPDO, TPDO, is_restricted
@@ -18,10 +20,14 @@ def item(key, bits):
     return key[0] << 16 | key[1] << 8 | bits
 
 
+# A fault of a message: its code, its cause in words, and the number of the receiver at fault, None where it is the sender.
+Cause = namedtuple("Cause", "code words node")
+
+
 class Planned:
     """What the plan makes of a message.
 
-    faults      its faults, each a code and a cause in words, in the order of the codes; without one it is clean
+    faults      its faults in the order of their codes, each a Cause; without one it is clean
     identifier  the COB-ID of its frames
     mapping     the mapping entries of its TPDO
     rpdos       the RPDO of each consumer, and the mapping entries of that
@@ -54,7 +60,7 @@ class Plan:
                 self._take(planned)
 
     def _judge(self, planned):
-        """Finds the faults of a message, in the order of their codes."""
+        """Finds the faults of a message, in the order of their codes; those who look for causes give words and receiver."""
         wanted = planned.message.numbers[3]
         planned.identifier = wanted or self._automatic(planned.message)
         planned.mapping = [item(key, self._width(planned.message.node, key) or 0) for _, key in planned.sources]
@@ -62,7 +68,7 @@ class Plan:
                              ("E08", self._not_mappable), ("E09", self._mismatched), ("E10", self._no_rpdo),
                              ("E11", self._no_dummy), ("E12", self._bad_identifier), ("E13", self._no_identifier),
                              ("E14", self._reserved_type)):
-            planned.faults += [(code, cause) for cause in causes(planned)]
+            planned.faults += [Cause(code, words, node) for words, node in causes(planned)]
 
     def _take(self, planned):
         """A clean message has its TPDO, its RPDOs and its identifier from now on."""
@@ -99,7 +105,7 @@ class Plan:
         wanted += [((index, 6), UNSIGNED8)] if message.start else []
         wanted += mapping_entries(index + 0x200, len(planned.sources))
         causes = [self._not_written(message.node, key, kind) for key, kind in wanted]
-        return [cause for cause in causes if cause][:1]
+        return [(cause, None) for cause in causes if cause][:1]
 
     def _not_written(self, node, key, kind):
         """Why an entry can't be written as one of a data type, or None."""
@@ -118,22 +124,22 @@ class Plan:
     def _tpdo_taken(self, planned):
         message = planned.message
         other = self._tpdos.get((message.node, message.tpdo))
-        return [f"TPDO {message.tpdo} of {self._name(message.node)} sends the message {other}"] if other else []
+        return [(f"TPDO {message.tpdo} of {self._name(message.node)} sends the message {other}", None)] if other else []
 
     def _too_many_bits(self, planned):
         bits = sum(self._width(planned.message.node, key) or 0 for _, key in planned.sources)
-        return [f"its sources have {bits} bits, and a frame has 64"] if bits > 64 else []
+        return [(f"its sources have {bits} bits, and a frame has 64", None)] if bits > 64 else []
 
     # E08: what PDOs can't carry.
 
     def _not_mappable(self, planned):
         node = planned.message.node
-        causes = [self._not_carried(node, key, f"source {position}", TPDO) for position, key in planned.sources]
+        causes = [(self._not_carried(node, key, f"source {position}", TPDO), None) for position, key in planned.sources]
         for (position, taker), key in sorted(planned.message.sinks.items()):
             if taker == node:
-                causes.append(f"sink {position} is of {self._name(node)}, which sends the message")
-            causes.append(self._not_carried(taker, key, f"sink {position}", RPDO))
-        return [cause for cause in causes if cause]
+                causes.append((f"sink {position} is of {self._name(node)}, which sends the message", taker))
+            causes.append((self._not_carried(taker, key, f"sink {position}", RPDO), taker))
+        return [(words, node) for words, node in causes if words]
 
     def _not_carried(self, node, key, what, direction):
         """Why no PDO of a direction can carry an entry, or None."""
@@ -152,12 +158,13 @@ class Plan:
         sources, causes = dict(planned.sources), []
         for (position, node), key in sorted(planned.message.sinks.items()):
             if position not in sources:
-                causes.append(f"sink {position} of {self._name(node)} has no source at its position")
+                causes.append((f"sink {position} of {self._name(node)} has no source at its position", node))
                 continue
             sent, taken = self._width(planned.message.node, sources[position]), self._width(node, key)
             if sent and taken and sent != taken:
-                causes.append(f"sink {position} of {self._name(node)}, {self._described(node, key)}, has {taken} bits, and "
-                              f"source {position}, {self._described(planned.message.node, sources[position])}, has {sent}")
+                source = self._described(planned.message.node, sources[position])
+                causes.append((f"sink {position} of {self._name(node)}, {self._described(node, key)}, has {taken} bits, and "
+                               f"source {position}, {source}, has {sent}", node))
         return causes
 
     # E10, E11: the RPDOs of the consumers and what they map.
@@ -176,7 +183,7 @@ class Plan:
             fitting = self.rpdos_that_fit(node, len(planned.sources))
             free = [number for number in fitting if (node, number) not in self._rpdos]
             planned.rpdos[node] = free[0] if free else None, self._items(planned, node)
-            causes += [] if free else [self._why_no_rpdo(node, fitting, len(planned.sources))]
+            causes += [] if free else [(self._why_no_rpdo(node, fitting, len(planned.sources)), node)]
         return causes
 
     def _why_no_rpdo(self, node, fitting, count):
@@ -202,8 +209,8 @@ class Plan:
             for position, key in planned.sources:
                 bits = self._width(planned.message.node, key)
                 if (position, node) not in planned.message.sinks and bits:
-                    causes += [] if self._skips(node, bits) else [
-                        f"{self._name(node)} takes nothing of source {position}, and allows no dummy of {bits} bits to skip it"]
+                    words = f"{self._name(node)} takes nothing of source {position}, and allows no dummy of {bits} bits to skip it"
+                    causes += [] if self._skips(node, bits) else [(words, node)]
         return causes
 
     def _skips(self, node, bits):
@@ -215,17 +222,18 @@ class Plan:
         wanted = planned.message.numbers[3]
         other = self._identifiers.get(wanted)
         if other:
-            return [f"{wanted:03X}h is the identifier of the message {other}"]
+            return [(f"{wanted:03X}h is the identifier of the message {other}", None)]
         if wanted and wanted < LEAST_IDENTIFIER:
-            return [f"{wanted:03X}h is below 181h, where PDOs begin"]
-        return [f"{wanted:03X}h belongs to another service"] if wanted and is_restricted(wanted) else []
+            return [(f"{wanted:03X}h is below 181h, where PDOs begin", None)]
+        return [(f"{wanted:03X}h belongs to another service", None)] if wanted and is_restricted(wanted) else []
 
     def _no_identifier(self, planned):
-        return ["no identifier from 681h to 6DFh is free"] if planned.identifier is None else []
+        return [("no identifier from 681h to 6DFh is free", None)] if planned.identifier is None else []
 
     def _reserved_type(self, planned):
         kind = planned.message.numbers[0]
-        return [f"the transmission types 241 to 251 are reserved, and this is {kind}"] if 241 <= kind <= 251 else []
+        words = f"the transmission types 241 to 251 are reserved, and this is {kind}"
+        return [(words, None)] if 241 <= kind <= 251 else []
 
     def _automatic(self, message):
         """The predefined identifier of a TPDO where it is free, else the least that is, else None."""
