@@ -119,6 +119,8 @@ def test_axis_and_lanes_agree_beside_a_scrollbar():
         assert not beats, "lane 60 is out of view"
         page.value("timeline.scrollTo(timeline.lanes.shown[60].top)")
         page.settle()
+        tops = page.value("[timeline.view, timeline.corner, timeline.canvas].map(each => each.getBoundingClientRect().top)")
+        assert tops[1] == tops[2] == tops[0] + 1, tops
         beats = columns(page, page.value("AXIS + timeline.lanes.shown[60].top - timeline.scrolled() + 20"), "heartbeat")
         assert is_near(moment_at(ticks, times, beats[-1]), 1900000 + 150 * 60, page), beats
 

@@ -35,6 +35,7 @@ def run(options):
     else:
         traces = trace.traces_of(options.replies, tool.read_text(options.replies))
         lines, project = trace.pick(options.replies, traces, options.trace), None
-    title = options.title or os.path.basename(options.script or options.replies)
+    path = options.script or options.replies
+    title = options.title or (tool.name_of(path) if path == "-" else os.path.basename(path))
     tool.put(bundle.timeline_page(Picture(lines, project).content(title)))
     return tool.DONE

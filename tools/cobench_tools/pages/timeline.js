@@ -24,7 +24,7 @@ class Timeline {
     this.cursor = element("div", { class: "cursor", hidden: "" });
     this.sheet = element("div", { class: "sheet" }, this.canvas, this.cursor);
     this.view = element("div", { class: "view", tabindex: "0", role: "group" },
-      element("div", { class: "names" }, this.corner, this.names, this.foot), this.sheet);
+      element("div", { class: "all" }, element("div", { class: "names" }, this.corner, this.names, this.foot), this.sheet));
     this.voice = element("div", { class: "unseen", role: "status", "aria-live": "polite" });
     this.root.append(this.bar.element, this.view, this.voice);
     this.tip = new Tip(this.root);

@@ -8,7 +8,7 @@ function findAt(view, x, y) {
   if (!lane) return null;
   const within = y - AXIS + view.scrolled();
   const flag = within < lane.top + view.lanes.flags ? nearestFlag(view, lane, x) : null;
-  if (flag) return tellFlag(view, flag);
+  if (flag) return tellFlag(view, flag.flag, flag.others);
   const frame = nearestFrame(view, lane, x, within);
   return frame === null ? tellState(view, lane, scale.time(x)) : tellFrame(view, frame);
 }
@@ -40,8 +40,11 @@ function tellFrame(view, frame) {
   };
 }
 
-function tellFlag(view, flag) {
-  return { time: flag.time, lane: flag.lane, flag, colour: FLAG_COLOURS[flag.kind], values: [], code: "",
+/** A flag, and up to eight others that stand at its pixel. */
+function tellFlag(view, flag, others = []) {
+  const more = others.length > 8 ? [`and ${others.length - 8} more`] : [];
+  const values = others.slice(0, 8).map(each => `${shownTime(each.time)} ${each.words}`).concat(more);
+  return { time: flag.time, lane: flag.lane, flag, colour: FLAG_COLOURS[flag.kind], values, code: "",
     head: `${shownTime(flag.time)} · ${FLAG_SAYS[flag.kind]} · ${view.trace.lanes[flag.lane].name}`, words: flag.words };
 }
 

@@ -61,7 +61,7 @@ function button(words, title, action) {
 }
 
 const KEYS = [["+ −", "zoom"], ["0", "whole run"], ["← →", "move in time"], ["↑ ↓", "scroll"], ["Page ↑ ↓", "a page of lanes"],
-  ["n p", "next and last event or error"], [". ,", "next and last frame of the lane"], ["/", "search for a node"], ["Esc", "close"]];
+  ["n p", "next and previous event or error"], [". ,", "next and previous frame of the lane"], ["/", "search for a node"], ["Esc", "close"]];
 const MOUSE = [["wheel", "scrolls the lanes"], ["Ctrl + wheel", "zooms"], ["Shift + wheel", "moves in time"], ["drag", "moves"], ["double click", "zooms in"]];
 const FINGERS = [["swipe", "moves"], ["pinch", "zooms"], ["tap", "tells what is there"]];
 
@@ -109,7 +109,8 @@ class FlagList {
 
   item(flag) {
     const made = element("button", { type: "button", class: isTrouble(flag) ? "wrong" : "" },
-      element("span", { class: "at" }, shownTime(flag.time)), element("b", {}, this.trace.lanes[flag.lane].name), " ", flag.words);
+      element("span", { class: "at" }, shownTime(flag.time)),
+      element("span", {}, element("b", {}, this.trace.lanes[flag.lane].name), " ", flag.words));
     made.addEventListener("click", () => { this.element.open = false; this.view.view.focus(); this.view.goTo(tellFlag(this.view, flag)); });
     return element("li", {}, made);
   }
