@@ -3,6 +3,8 @@
 Which PDO a frame is, and what it carries, is read as the network itself has it: from the defaults of a
 node's EDS, and from the writes by which the manager configures it in the trace.
 """
+from collections import namedtuple
+
 from . import device
 from .trace import Note
 
@@ -39,11 +41,20 @@ class Meaning:
         self.parts = parts
 
 
-class Transfer:
-    """An SDO transfer: its object, the bytes so far, and how many segments came."""
+class Pdo:
+    """What is told of all frames of a PDO: whose it is, its subject and its parts, as in Meaning."""
 
-    def __init__(self, key, data=b""):
-        self.key, self.data, self.segments = key, data, 0
+    def __init__(self, sender, subject, parts):
+        self.sender, self.subject, self.parts = sender, subject, parts
+
+    def of(self, data):
+        """The meaning of a frame."""
+        values = data.hex(" ").upper() if self.parts is None else values_text(self.parts, data)
+        return Meaning(PDO, self.sender, self.sender, self.subject, f"{self.subject}: {values}".rstrip(), self.parts)
+
+
+# An SDO transfer: its object, the bytes so far, and how many segments came.
+Transfer = namedtuple("Transfer", "key data segments")
 
 
 def key_of(data):
@@ -65,16 +76,46 @@ def values_text(parts, data):
 
 
 class Network:
-    """The nodes of a project, or of none, with what the trace so far tells of their PDOs."""
+    """The nodes of a project, or of none, with what the trace so far tells of their PDOs.
 
-    def __init__(self, project=None, with_names=False):
+    values     the numbers of each node's PDO objects; a node's are never changed, but replaced
+    owners     the TPDOs that have each identifier, as node and number
+    transfers  the SDO transfer of each node
+    changes    how often what PDOs are has changed
+    """
+
+    def __init__(self, project=None, with_names=False, devices=None):
+        if project and devices is None:
+            devices = {name: device.Device(lines) for name, lines in project.texts.items()}
         self.manager = project.manager[0] if project else 127
         self.names = {node: name for node, (name, _) in project.nodes.items()} if project else {}
-        devices = {name: device.Device(lines) for name, lines in project.texts.items()} if project else {}
         self.devices = {node: devices[eds] for node, (_, eds) in project.nodes.items()} if project else {}
         self.messages = {(each.node, each.tpdo): name for name, each in project.messages.items()} if project else {}
         self.with_names = with_names
-        self.values, self.owners, self.transfers = {}, {}, {}
+        self.values, self.owners, self.transfers, self.changes = {}, {}, {}, 0
+        self._pdos = {}
+
+    # What the trace has told so far, to be kept and to go on from.
+
+    def state(self):
+        """What the trace has told so far; what isn't the same is told by ==."""
+        return dict(self.values), dict(self.transfers)
+
+    def restore(self, state):
+        """Goes on from what the trace had told there."""
+        if state[0] != self.values:
+            self.values, self.owners = {}, {}
+            for node, values in state[0].items():
+                self.values[node] = values
+                for key, value in values.items():
+                    self.own(node, key, value)
+            self.changed()
+        self.transfers = dict(state[1])
+
+    def changed(self):
+        """What PDOs are has changed."""
+        self.changes += 1
+        self._pdos.clear()
 
     def name(self, node):
         if node == self.manager:
@@ -99,26 +140,35 @@ class Network:
         """A node boots up: its PDO objects have their defaults."""
         for key in self.values.get(node, {}):
             self.disown(node, key)
-        self.values[node] = {}
-        if node in self.devices:
-            for key in self.devices[node].entries:
-                if 0x1800 <= key[0] <= 0x1BFF:
-                    self.write(node, key, self.devices[node].default(*key, node))
+        self.values[node] = self.defaults(node)
+        for key, value in self.values[node].items():
+            self.own(node, key, value)
+        self.changed()
+
+    def defaults(self, node):
+        """The numbers that the PDO objects of a node have from power-on on."""
+        if node not in self.devices:
+            return {}
+        known = self.devices[node]
+        values = {key: known.default(*key, node) for key in known.entries if 0x1800 <= key[0] <= 0x1BFF}
+        return {key: value for key, value in values.items() if value is not None}
 
     def disown(self, node, key):
         value = self.values[node].get(key)
         if key[1] == 1 and 0x1800 <= key[0] <= 0x19FF and value is not None:
             self.owners.get(value & 0x7FF, set()).discard((node, key[0] - 0x17FF))
 
-    def write(self, node, key, value):
-        """A PDO object of a node has a new value."""
-        if value is None:
-            return
-        values = self.values.setdefault(node, {})
-        self.disown(node, key)
-        values[key] = value
+    def own(self, node, key, value):
         if key[1] == 1 and 0x1800 <= key[0] <= 0x19FF and not value & 0xA0000000:
             self.owners.setdefault(value & 0x7FF, set()).add((node, key[0] - 0x17FF))
+
+    def write(self, node, key, value):
+        """A PDO object of a node has a new value."""
+        values = self.values.setdefault(node, {})
+        self.disown(node, key)
+        self.values[node] = {**values, key: value}
+        self.own(node, key, value)
+        self.changed()
 
     def mapping(self, node, tpdo):
         """The entries and bits that a TPDO maps, None where that isn't known."""
@@ -146,7 +196,7 @@ class Network:
             return self.answer(node, data) if identifier < 0x600 else self.request(node, data)
         if 0x81 <= identifier <= 0xFF and len(data) == 8 and not self.owners.get(identifier):
             return self.emergency(node, data)
-        return self.pdo(identifier, data)
+        return self.pdo(identifier).of(data)
 
     def command(self, service, node):
         to = self.name(node) if node else "all nodes"
@@ -166,20 +216,27 @@ class Network:
         text = f"{self.name(node)} EMCY {code:04X}h {what}, error register {data[2]:02X}h"
         return Meaning(EMCY, node, node, f"{code:04X}h", text)
 
-    def pdo(self, identifier, data):
-        owners = sorted(self.owners.get(identifier, ()))
-        if not owners:
-            node, what = identifier & 0x7F, PREDEFINED.get(identifier & 0x780)
-            known = node in self.names or node in self.values
-            sender = node if what and known and what[0] == "T" else None
-            subject = f"{self.name(node)} {what}" if what and known else "PDO"
-            return Meaning(PDO, sender, sender, subject, f"{subject}: {data.hex(' ').upper()}".rstrip())
+    def pdo(self, identifier):
+        """The PDO that frames of an identifier are of, as it is now."""
+        found = self._pdos.get(identifier)
+        if found is None:
+            owners = sorted(self.owners.get(identifier, ()))
+            found = self._pdos[identifier] = self.owned(owners) if owners else self.predefined(identifier)
+        return found
+
+    def owned(self, owners):
+        """The PDO of these TPDOs; what it carries is known where it is one alone."""
         subject = " or ".join(self.messages.get(owner, f"{self.name(owner[0])} TPDO {owner[1]}") for owner in owners)
         node, tpdo = owners[0]
         mapping = self.mapping(node, tpdo) if len(owners) == 1 else None
-        parts = None if mapping is None else [self.part(node, key, bits) for key, bits in mapping]
-        values = data.hex(" ").upper() if parts is None else values_text(parts, data)
-        return Meaning(PDO, node, node, subject, f"{subject}: {values}".rstrip(), parts)
+        return Pdo(node, subject, None if mapping is None else tuple(self.part(node, key, bits) for key, bits in mapping))
+
+    def predefined(self, identifier):
+        """The PDO of an identifier that no TPDO is known to have."""
+        node, what = identifier & 0x7F, PREDEFINED.get(identifier & 0x780)
+        if not what or node not in self.names and node not in self.values:
+            return Pdo(None, "PDO", None)
+        return Pdo(node if what[0] == "T" else None, f"{self.name(node)} {what}", None)
 
     def part(self, node, key, bits):
         """The label, bits and data type of what a PDO has of an entry."""
@@ -199,22 +256,26 @@ class Network:
 
         byte, transfer = data[0], self.transfers.get(node)
         if byte in (0x2F, 0x2B, 0x27, 0x23, 0x21, 0x40):
-            transfer = self.transfers[node] = Transfer(key_of(data))
+            is_short = byte not in (0x21, 0x40)
+            transfer = self.transfers[node] = Transfer(key_of(data), data[4:8 - (byte >> 2 & 3)] if is_short else b"", 0)
             if byte == 0x40:
                 return said("read")
             if byte == 0x21:
                 return said(f":= {int.from_bytes(data[4:], 'little')} bytes in segments")
-            transfer.data = data[4:8 - (byte >> 2 & 3)]
             return said(f":= {self.value(node, transfer)}")
         if byte == 0x80:
             return self.abort(self.manager, node, data)
         if byte in (0x60, 0x70):
             return said(f"read segment {transfer.segments + 1}" if transfer else "read segment")
         if byte < 0x20 and transfer:
-            transfer.data += segment_of(data)[0]
-            transfer.segments += 1
+            transfer = self.take_segment(node, transfer, segment_of(data)[0])
             return said(f"segment {transfer.segments}: {segment_of(data)[0].hex(' ').upper()}".strip())
         return said(f"command {byte:02X}h")
+
+    def take_segment(self, node, transfer, piece):
+        """A segment came: the transfer is longer."""
+        self.transfers[node] = Transfer(transfer.key, transfer.data + piece, transfer.segments + 1)
+        return self.transfers[node]
 
     def answer(self, node, data):
         def said(what):
@@ -224,21 +285,20 @@ class Network:
         if byte == 0x80:
             return self.abort(node, node, data)
         if byte in (0x60, 0x4F, 0x4B, 0x47, 0x43, 0x41):
-            transfer = transfer or Transfer(key_of(data))
+            transfer = transfer or Transfer(key_of(data), b"", 0)
             if byte == 0x60 and not transfer.data:
                 return said("ready for segments")
             if byte == 0x60:
                 return self.written(node, transfer, "written")
             if byte == 0x41:
                 return said(f"= {int.from_bytes(data[4:], 'little')} bytes in segments")
-            transfer.data = data[4:8 - (byte >> 2 & 3)]
+            transfer = transfer._replace(data=data[4:8 - (byte >> 2 & 3)])
             return said(f"= {self.value(node, transfer)}")
         if byte in (0x20, 0x30) and transfer:
             return said(f"segment {transfer.segments} taken")
         if byte < 0x20 and transfer:
             piece, last = segment_of(data)
-            transfer.data += piece
-            transfer.segments += 1
+            transfer = self.take_segment(node, transfer, piece)
             shown = f"segment {transfer.segments}: {piece.hex(' ').upper()}".strip()
             return said(f"= {self.value(node, transfer)}" if last else shown)
         return said(f"answer {byte:02X}h")

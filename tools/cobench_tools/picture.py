@@ -7,8 +7,8 @@ Content of the page (JSON):
   lanes           [key, name, title] of each, the manager's first
   stateNames      the names of the states
   states          by the key of a lane: [time, state] at each change
-  sorts           what frames are: [identifier, kind, key of the lane, bytes, text]; a PDO whose mapping is
-                  known has as text [subject, [label, bits, form] of each value]
+  sorts           what frames are: [identifier, kind, key of the lane, bytes, text]; the text of a PDO is
+                  [subject, [label, bits, form] of each value], or null for these where they aren't known
   windows         spans of the run: at (its start), and of its frames time (since the one before, or the
                   start), sort and data (hexadecimal digits, one frame behind the other); and its flags
   events          the flags of the scenario; a flag is [time, key of the lane, kind, label, all of its words]
@@ -50,18 +50,19 @@ class Sorts:
 
     def place_of(self, line, said):
         """The place of a frame's row."""
-        text = self._text(said)
-        key = line.identifier, said.kind, said.sender, len(line.data), text
+        key = line.identifier, said.kind, OTHERS if said.sender is None else said.sender, len(line.data), text_of(said)
         place = self._places.setdefault(key, len(self.rows))
         if place == len(self.rows):
-            self.rows.append([line.identifier, meaning.KINDS.index(said.kind), OTHERS if said.sender is None else said.sender,
-                              len(line.data), text])
+            self.rows.append([key[0], meaning.KINDS.index(said.kind)] + list(key[2:]))
         return place
 
-    def _text(self, said):
-        if said.parts is None:
-            return tool.readable(said.text)
-        return said.subject, tuple((label, bits, form_of(kind)) for label, bits, kind in said.parts)
+
+def text_of(said):
+    """What all frames of a sort say: of a PDO its subject, and the parts of its values, None where they aren't known."""
+    if said.kind != meaning.PDO:
+        return tool.readable(said.text)
+    parts = said.parts and tuple((label, bits, form_of(kind)) for label, bits, kind in said.parts)
+    return said.subject, parts
 
 
 def flag_of(line, said):
@@ -75,21 +76,85 @@ def flag_of(line, said):
     return None
 
 
-def window_of(at, lines, said, sorts):
-    """A span of the run from a time on, with its frames and flags."""
-    made, now = {"at": at, "time": [], "sort": [], "data": "", "flags": []}, at
-    data = []
-    for line, each in zip(lines, said):
-        if not isinstance(line, Note):
-            made["time"].append(line.time - now)
-            made["sort"].append(sorts.place_of(line, each))
-            data.append(line.data.hex().upper())
+def state_change(line, said):
+    """The node that has another state after a line, as far as it tells, and the state: node 0 stands for all."""
+    if said.kind == meaning.NMT and line.data[0] in BY_SERVICE:
+        return said.node or 0, BY_SERVICE[line.data[0]]
+    if said.kind == meaning.HEARTBEAT:
+        return said.node, BY_BYTE.get(line.data[0], "pre-operational")
+    if said.kind == meaning.EMCY and line.data[:2] == b"\x30\x81":
+        return said.node, "pre-operational"
+    return None
+
+
+class Window:
+    """A span of a run.
+
+    at       its start in microseconds
+    frames   as its part of the page has them: times, sorts and bytes
+    flags    its flags
+    changes  what changes the states of nodes: time, node (0 for all) and state
+    """
+
+    def __init__(self, at):
+        self.at, self.times, self.sorts, self.data, self.flags, self.changes = at, [], [], [], [], []
+
+    def content(self):
+        return {"at": self.at, "time": self.times, "sort": self.sorts, "data": "".join(self.data), "flags": self.flags}
+
+
+class Drawing:
+    """Draws a trace, window by window.
+
+    nodes   the nodes that were told of so far
+    others  whether a frame came of which the sender isn't known
+    """
+
+    def __init__(self, network, sorts):
+        self.network, self.sorts = network, sorts
+        self.nodes, self.others = set(), False
+        self._known, self._changes = {}, network.changes
+
+    def window(self, at, lines):
+        """The window of the next lines."""
+        window, now = Window(at), at
+        for line in lines:
+            if isinstance(line, Note):
+                self.take(window, line, self.network.of(line))
+                continue
+            place, change = self.place_of(window, line)
+            window.times.append(line.time - now)
+            window.sorts.append(place)
+            window.data.append(line.data.hex().upper())
+            if change:
+                window.changes.append((line.time,) + change)
             now = line.time
-        flag = flag_of(line, each)
-        if flag:
-            made["flags"].append(flag)
-    made["data"] = "".join(data)
-    return made
+        return window
+
+    def place_of(self, window, line):
+        """The sort of a frame, and what it changes. One that was there already says the same again until PDOs change."""
+        if self.network.changes != self._changes:
+            self._known, self._changes = {}, self.network.changes
+        known = self._known.get((line.identifier, len(line.data))) or self._known.get((line.identifier, line.data))
+        return known or self.recognise(window, line)
+
+    def recognise(self, window, line):
+        """What a frame is that wasn't there before; it is remembered where another of its kind says the same."""
+        said = self.network.of(line)
+        found = self.sorts.place_of(line, said), state_change(line, said)
+        self.take(window, line, said)
+        if said.kind == meaning.PDO:
+            self._known[line.identifier, len(line.data)] = found
+        elif said.kind in (meaning.SYNC, meaning.HEARTBEAT, meaning.NMT) and self.network.changes == self._changes:
+            self._known[line.identifier, line.data] = found
+        return found
+
+    def take(self, window, line, said):
+        """What a line tells besides its frame."""
+        flag = flag_of(line, said)
+        window.flags += [flag] if flag else []
+        self.nodes |= {said.node, said.sender} - {None}
+        self.others = self.others or said.sender is None
 
 
 def event_flag(network, key, event):
@@ -107,73 +172,59 @@ def event_flag(network, key, event):
     return [event.time, node, "event", label, f"event {key}: {words}"]
 
 
-def state_changes(line, said, nodes):
-    """The nodes that have another state after a line, as far as it tells."""
-    if said.kind == meaning.NMT and line.data[0] in BY_SERVICE:
-        return [(node, BY_SERVICE[line.data[0]]) for node in ([said.node] if said.node else nodes)]
-    if said.kind == meaning.HEARTBEAT:
-        return [(said.node, BY_BYTE.get(line.data[0], "pre-operational"))]
-    if said.kind == meaning.EMCY and line.data[:2] == b"\x30\x81":
-        return [(said.node, "pre-operational")]
-    return []
+def moments_of(events, windows):
+    """What may change the states of nodes, in its order: time, node (0 for all) and state; on and off are those of power."""
+    powers = [(event.time, 0, event.node, event.what) for _, event in events if event.kind == "power"]
+    told = [(time, 1, node, state) for window in windows for time, node, state in window.changes]
+    return [(time, node, state) for time, _, node, state in sorted(powers + told, key=lambda moment: moment[:2])]
 
 
 def states_of(nodes, moments):
-    """For each node the times at which its state changes, and the states.
-
-    moments  the times and orders of what may change them, with the nodes and their new states; `on` and `off`
-             are those of power, and a node without power has no other
-    """
+    """For each node the times at which its state changes, and the states; one without power has no other."""
     changes = {node: [[0, "pre-operational"]] for node in nodes}
-    for time, _, several in sorted(moments, key=lambda moment: moment[:2]):
-        for node, state in several:
-            now = changes[node][-1][1] if node in changes else state
-            if state == "on":
-                state = "pre-operational" if now == "off" else now
-            elif now == "off":
-                state = now
-            if state != now:
-                changes[node].append([time, state])
+    for time, node, state in moments:
+        for each in nodes if node == 0 else (node,):
+            now = changes[each][-1][1] if each in changes else state
+            new = now if (now == "off") != (state == "on") else "pre-operational" if state == "on" else state
+            if new != now:
+                changes[each].append([time, new])
     return {node: [[time, STATES.index(state)] for time, state in each] for node, each in changes.items()}
+
+
+def events_of(project, end):
+    """The events of a scenario that come until then, by time and number."""
+    events = sorted(project.events.items(), key=lambda each: (each[1].time, each[0])) if project else []
+    return [(key, event) for key, event in events if event.time <= end]
 
 
 class Picture:
     """The content of the page, of the lines of a trace and the project that it is of, if that is known."""
 
     def __init__(self, lines, project):
-        self.lines, self.project = lines, project
-        self.network = meaning.Network(project, with_names=True)
-        self.said = [self.network.of(line) for line in lines]
+        self.project, self.bit = project, bit_time(lines, project)
+        self.network, self.sorts = meaning.Network(project, with_names=True), Sorts()
+        self.drawing = Drawing(self.network, self.sorts)
+        self.window = self.drawing.window(0, lines)
         self.end = max(project.horizon if project else 0, lines[-1].time)
-        events = sorted(project.events.items(), key=lambda each: (each[1].time, each[0])) if project else []
-        self.events = [(key, event) for key, event in events if event.time <= self.end]
+        self.events = events_of(project, self.end)
 
     def nodes(self):
-        """The nodes in the order of their lanes, the manager first."""
-        known = set(self.network.names) | {each.node for each in self.said if each.node is not None}
-        return [self.network.manager] + sorted(known - {self.network.manager})
+        """The nodes but the manager, by number."""
+        return sorted((set(self.network.names) | self.drawing.nodes) - {self.network.manager})
 
     def lanes(self):
-        lanes = [[node, self.network.name(node), self.title(node)] for node in self.nodes()]
-        others = any(each.sender is None and each.kind != meaning.NOTE for each in self.said)
-        return lanes + ([[OTHERS, "others", "sender not known"]] if others else [])
+        """The lanes, the manager's first."""
+        lanes = [[node, self.network.name(node), self.title(node)] for node in [self.network.manager] + self.nodes()]
+        return lanes + ([[OTHERS, "others", "sender not known"]] if self.drawing.others else [])
 
     def title(self, node):
         return f"node {node}" if node in self.network.names or node == self.network.manager else ""
 
-    def states(self):
-        nodes = [node for node in self.nodes() if node != self.network.manager]
-        moments = [(event.time, 0, [(event.node, event.what)]) for _, event in self.events if event.kind == "power"]
-        moments += [(line.time, 1, changed) for line, said in zip(self.lines, self.said)
-                    for changed in [state_changes(line, said, nodes)] if changed]
-        return states_of(nodes, moments)
-
     def content(self, title):
-        sorts = Sorts()
-        window = window_of(0, self.lines, self.said, sorts)
         return {
-            "title": tool.readable(title), "script": self.project is not None,
-            "end": self.end, "bit": bit_time(self.lines, self.project),
-            "kinds": meaning.KINDS, "stateNames": STATES, "lanes": self.lanes(), "states": self.states(),
-            "windows": [window], "sorts": sorts.rows, "events": [event_flag(self.network, *each) for each in self.events],
+            "title": tool.readable(title), "script": self.project is not None, "end": self.end, "bit": self.bit,
+            "kinds": meaning.KINDS, "stateNames": STATES, "lanes": self.lanes(),
+            "states": states_of(self.nodes(), moments_of(self.events, [self.window])),
+            "windows": [self.window.content()], "sorts": self.sorts.rows,
+            "events": [event_flag(self.network, *each) for each in self.events],
         }

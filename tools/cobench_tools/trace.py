@@ -1,9 +1,11 @@
 """The lines of a trace, and the traces among the replies of a session."""
+import functools
 import re
 
 from . import replies, tool
 
-FRAME = re.compile(rb"([0-9]{10}) ([0-7][0-9A-F]{2}) \[([0-8])\]((?: [0-9A-F]{2})*)")
+TIME = re.compile(rb"[0-9]{10} ")
+FRAME = re.compile(rb"([0-7][0-9A-F]{2}) \[([0-8])\]((?: [0-9A-F]{2})*)")
 NOTE = re.compile(rb"([0-9]{10}) note ([0-9]{1,3}) (configured|lost|failed (?:[0-9A-F]{8}|timeout|difference))")
 
 # The second of power-on in a log: readers as log2asc take second 0 for a log that has not begun.
@@ -33,13 +35,19 @@ class Note:
         self.time, self.node, self.what = time, node, what
 
 
+@functools.lru_cache(maxsize=1 << 16)
+def frame_behind(text):
+    """Identifier and bytes of a frame whose line has this text behind its time, else None."""
+    frame = FRAME.fullmatch(text)
+    data = bytes.fromhex(frame.group(3).decode()) if frame else b""
+    return (int(frame.group(1), 16), data) if frame and len(data) == int(frame.group(2)) else None
+
+
 def line_of(line):
     """The frame or note of a line, else None."""
-    frame = FRAME.fullmatch(line)
+    frame = frame_behind(line[11:]) if TIME.match(line) else None
     if frame:
-        data = bytes.fromhex(frame.group(4).decode())
-        if len(data) == int(frame.group(3)):
-            return Frame(int(frame.group(1)), int(frame.group(2), 16), data)
+        return Frame(int(line[:10]), *frame)
     note = NOTE.fullmatch(line)
     return Note(int(note.group(1)), int(note.group(2)), note.group(3).decode()) if note else None
 

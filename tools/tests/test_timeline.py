@@ -60,6 +60,17 @@ def test_timeline_names_what_pdos_carry():
                                                     ["6064h Position actual value [inc]", 32, "signed"]]]]], sorts
 
 
+def test_timeline_tells_frames_apart_that_look_alike():
+    given = (b"0000000055 705 [1] 00\n0000000155 080 [1] 01\n0000000255 080 [1] 02\n0000000355 185 [1] 07\n"
+             b"0000000455 185 [2] 07 08\n0000000555 705 [1] 05\n0000000655 080 [1] 01\n")
+    picture = drawn("-", given=given)
+    texts = [sort[4] for _, sort, _ in frames_of(picture)]
+    assert texts == ["node 5 boot-up", "SYNC 1", "SYNC 2", ["node 5 TPDO 1", None], ["node 5 TPDO 1", None],
+                     "node 5 heartbeat: operational", "SYNC 1"], texts
+    assert [sort[3] for _, sort, _ in frames_of(picture)] == [1, 1, 1, 1, 2, 1, 1]
+    assert picture["states"]["5"] == [[0, 3], [555, 2]], picture["states"]
+
+
 def test_timeline_flags_notes_emergencies_and_events():
     picture = servo()
     flags = picture["windows"][0]["flags"]

@@ -36,7 +36,7 @@ function tellFrame(view, frame) {
     time: trace.time[frame], lane: sort.lane, frame, colour: colourOf(kind),
     head: `${shownTime(trace.time[frame])} · ${kind} · ${trace.lanes[sort.lane].name}`,
     words: said.subject, values: said.values,
-    code: `${trace.identifier(frame)} [${sort.size}] ${(trace.bytes(frame).match(/../g) || []).join(" ")}`,
+    code: `${trace.identifier(frame)} [${sort.size}] ${spaced(trace.bytes(frame))}`,
   };
 }
 

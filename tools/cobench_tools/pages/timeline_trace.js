@@ -12,6 +12,9 @@ function firstAt(times, time, low = 0) {
   return low;
 }
 
+/** Bytes in hexadecimal digits, set apart. */
+const spaced = bytes => (bytes.match(/../g) || []).join(" ");
+
 const hexadecimal = (number, digits) => number.toString(16).toUpperCase().padStart(digits, "0");
 
 /** The number that a text of bytes in hexadecimal digits has, the lowest byte first. */
@@ -117,16 +120,17 @@ class Trace {
     return this.data.slice(place, place + 2 * this.sortOf(frame).size);
   }
 
-  /** What a frame says: its subject, and its values one by one where it is a PDO that is known. */
+  /** What a frame says: its subject, and of a PDO its values one by one where they are known. */
   said(frame) {
     const text = this.sortOf(frame).text;
     if (typeof text === "string") return { subject: text, values: [] };
-    return { subject: text[0], values: valuesOf(text[1], this.bytes(frame)) };
+    return { subject: text[0], values: text[1] ? valuesOf(text[1], this.bytes(frame)) : [] };
   }
 
   text(frame) {
-    const { subject, values } = this.said(frame);
-    return values.length ? subject + ": " + values.join(" ") : subject;
+    const { subject, values } = this.said(frame), text = this.sortOf(frame).text;
+    if (typeof text === "string") return text;
+    return (subject + ": " + (text[1] ? values.join(" ") : spaced(this.bytes(frame)))).trim();
   }
 
   /** The state of a lane's node at a time, or "". */

@@ -1,0 +1,195 @@
+"""The edits that lead from one project to another, both as cobench's `project` prints them.
+
+A project is kept as its commands by what they set: ("node", b"5") has the line `node 5 pump drive`. What is
+dropped goes first, and what hangs on it before it; then settings, data sheets and nodes; then what needs those.
+No edit of the order is refused (docs/rules/commands.md).
+"""
+from .. import script
+
+# How many words behind the first one say what a command sets.
+KEY_WORDS = {b"version": 0, b"bitrate": 0, b"horizon": 0, b"manager": 0, b"sync-counter": 0, b"eds": 1, b"node": 1,
+             b"need": 1, b"param": 3, b"message": 1, b"start": 1, b"source": 2, b"sink": 3, b"event": 1}
+OF_A_MESSAGE = (b"start", b"source", b"sink")
+MOST_SHEETS = 64
+
+
+def items_of(lines):
+    """The commands of a project, whole, by what they set."""
+    commands = script.commands_of(b"".join(line + b"\n" for line in lines))
+    return {tuple(command.words[:1 + KEY_WORDS[command.name]]): command.text() for command in commands}
+
+
+def first_project():
+    """The project of a session that has no command yet."""
+    return {(b"bitrate",): b"bitrate 1000\n", (b"horizon",): b"horizon 1000000\n", (b"manager",): b"manager 127 0 0 500\n"}
+
+
+def words_of(text):
+    return text.split(b"\n", 1)[0].split(b" ")
+
+
+def node_of_event(text):
+    """The node that an event is of, as cobench counts it: one to all nodes is of none."""
+    words = words_of(text)
+    return words[5] if words[3] == b"nmt" else words[4]
+
+
+class Way:
+    """The way from one project to another.
+
+    now   the project as the edits so far have made it
+    new   the project that is to be made
+    made  the edits so far
+    """
+
+    def __init__(self, old, new):
+        self.now, self.new, self.made = dict(old), new, []
+
+    # Edits.
+
+    def set(self, key, text=None):
+        """Sets what the new project has, or another text."""
+        text = self.new[key] if text is None else text
+        if self.now.get(key) != text:
+            self.now[key] = text
+            self.made.append(text)
+
+    def drop(self, key, text, *with_it):
+        """Takes something away by an edit; what is gone with it needs no edit of its own."""
+        for each in (key,) + with_it:
+            self.now.pop(each, None)
+        self.made.append(text)
+
+    def keys(self, *kinds):
+        """What the project has now of some kinds."""
+        return [key for key in self.now if key[0] in kinds]
+
+    def parts(self, *kinds):
+        """What the project has now of some kinds, by the message or node that it is of."""
+        found = {}
+        for key in self.keys(*kinds):
+            found.setdefault(key[1], []).append(key)
+        return found
+
+    def gone(self, *kinds):
+        """What of some kinds the new project hasn't."""
+        return [key for key in self.keys(*kinds) if key not in self.new]
+
+    def wanted(self, *kinds):
+        """What the new project has of some kinds, and isn't so now."""
+        return [key for key in self.new if key[0] in kinds and self.now.get(key) != self.new[key]]
+
+    # What goes.
+
+    def lost_nodes(self):
+        return {key[1] for key in self.gone(b"node")}
+
+    def drop_events(self):
+        lost = self.lost_nodes()
+        for key in self.keys(b"event"):
+            if key not in self.new or node_of_event(self.now[key]) in lost:
+                self.drop(key, b"drop-event %s\n" % key[1])
+
+    def drop_messages(self):
+        lost, parts = self.lost_nodes(), self.parts(*OF_A_MESSAGE)
+        for key in self.keys(b"message"):
+            if key not in self.new or words_of(self.now[key])[2] in lost:
+                self.drop(key, b"drop-message %s\n" % key[1], *parts.get(key[1], ()))
+
+    def drop_parts(self):
+        for key in self.gone(b"sink"):
+            self.drop(key, b"unsink %s %s %s\n" % key[1:])
+        for key in self.gone(b"source"):
+            self.drop(key, b"unsource %s %s\n" % key[1:])
+        for key in self.gone(b"start"):
+            self.drop(key, b"start %s 0\n" % key[1])
+
+    def drop_nodes(self):
+        lost, parts = self.lost_nodes(), self.parts(b"param", b"need")
+        for key in self.gone(b"param"):
+            if key[1] not in lost:
+                self.drop(key, b"unparam %s %s %s\n" % key[1:])
+        for key in self.gone(b"need"):
+            if key[1] not in lost:
+                self.drop(key, b"need %s optional\n" % key[1])
+        for node in sorted(lost):
+            self.drop((b"node", node), b"drop-node %s\n" % node, *parts.get(node, ()))
+
+    # Settings, data sheets and nodes.
+
+    def settings(self):
+        for name, first in ((b"version", b"version 1\n"), (b"sync-counter", b"sync-counter 0\n")):
+            if (name,) in self.gone(name):
+                self.drop((name,), first)
+        for key in self.wanted(b"version", b"bitrate", b"horizon", b"sync-counter", b"manager"):
+            self.set(key)
+
+    def used_sheets(self):
+        return {words_of(self.now[key])[3] for key in self.keys(b"node")}
+
+    def drop_sheets(self):
+        """Takes away the data sheets that the new project hasn't, and that no node uses now."""
+        used = self.used_sheets()
+        for key in self.gone(b"eds"):
+            if key[1] not in used:
+                self.drop(key, b"drop-eds %s\n" % key[1])
+
+    def point(self, key, sheet, name=None):
+        """Has a node use a data sheet, under its name of now or another."""
+        words = words_of(self.now[key])
+        self.set(key, b"node %s %s %s\n" % (key[1], words[2] if name is None else name, sheet))
+
+    def make_room(self):
+        """Where all data sheets are there that can be, has the nodes of one that goes use another, and drops it."""
+        if len(self.keys(b"eds")) < MOST_SHEETS:
+            return
+        going = self.gone(b"eds")[0]
+        other = next(key for key in self.keys(b"eds") if key != going)
+        for key in self.keys(b"node"):
+            if words_of(self.now[key])[3] == going[1]:
+                self.point(key, other[1])
+        self.drop(going, b"drop-eds %s\n" % going[1])
+
+    def sheets(self):
+        self.drop_sheets()
+        for key in self.wanted(b"eds"):
+            if key not in self.now:
+                self.make_room()
+            self.set(key)
+            for node in self.keys(b"node"):
+                if words_of(self.new[node])[3] == key[1]:
+                    self.point(node, key[1])
+            self.drop_sheets()
+        for node in self.keys(b"node"):
+            self.point(node, words_of(self.new[node])[3])
+        self.drop_sheets()
+
+    def names(self):
+        """The names of the nodes that are there: each as soon as no other has it, by a name of no node where they go round."""
+        while True:
+            waiting = [key for key in self.keys(b"node") if self.now[key] != self.new[key]]
+            if not waiting:
+                return
+            held = {words_of(self.now[key])[2] for key in self.keys(b"node")}
+            free = [key for key in waiting if words_of(self.new[key])[2] not in held]
+            for key in free[:1] or waiting[:1]:
+                name = words_of(self.new[key])[2] if free else self.unused_name(held)
+                self.point(key, words_of(self.new[key])[3], name)
+
+    def unused_name(self, held):
+        wanted = {words_of(text)[2] for key, text in self.new.items() if key[0] == b"node"}
+        return next(name for name in (b"node_%d" % number for number in range(1000)) if name not in held | wanted)
+
+    def rest(self):
+        """New nodes, and all that needs nodes and data sheets."""
+        for kinds in ((b"node",), (b"need",), (b"param",), (b"message",), OF_A_MESSAGE, (b"event",)):
+            for key in self.wanted(*kinds):
+                self.set(key)
+
+
+def edits(old, new):
+    """The edits that make the project `new` of the project `old`, each whole."""
+    way = Way(old, new)
+    for step in (way.drop_events, way.drop_messages, way.drop_parts, way.drop_nodes, way.settings, way.sheets, way.names, way.rest):
+        step()
+    return way.made

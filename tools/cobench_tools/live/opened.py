@@ -1,0 +1,123 @@
+"""A cobench that stays open: commands go in, and each has its reply before more is needed."""
+import os
+import re
+import subprocess
+import tempfile
+import threading
+
+from .. import replies, tool
+
+PIECE = 1 << 20
+WAIT = 5.0      # seconds that a cobench has to end once nothing more comes
+
+
+class Ended(Exception):
+    """The program ended, or wrote what is no reply; in words."""
+
+
+class Opened:
+    """A cobench over pipes.
+
+    work  what it says at its end on what it made anew (`--work`), in words, "" where it doesn't say
+    """
+
+    def __init__(self, words):
+        self.words, self.work = words, ""
+        self._faults = tempfile.TemporaryFile()
+        try:
+            self._process = subprocess.Popen(words + ["--work"], stdin=subprocess.PIPE, stdout=subprocess.PIPE, stderr=self._faults)
+        except OSError as error:
+            self._faults.close()
+            raise tool.Fault(f"{words[0]}: {error.strerror}") from None
+        self._lines, self._at, self._tail = [], 0, b""
+
+    def ask(self, text, count):
+        """The replies to that many commands, which are this text."""
+        writer = threading.Thread(target=self._write, args=(text,), daemon=True)
+        writer.start()
+        answers = [self._reply() for _ in range(count)]
+        writer.join()
+        return answers
+
+    def lines(self, query):
+        """The lines that a query answers, which can't be refused."""
+        reply = self.ask(query + b"\n", 1)[0]
+        if reply.lines is None:
+            raise Ended(f"{self.words[0]}: {tool.shown(query)} was refused")
+        return reply.lines
+
+    def is_running(self):
+        return self._process.poll() is None
+
+    def close(self):
+        """Ends the program."""
+        for stream in (self._process.stdin, self._process.stdout):
+            try:
+                stream.close()
+            except OSError:
+                pass
+        try:
+            self._process.wait(WAIT)
+        except subprocess.TimeoutExpired:
+            self._process.kill()
+            self._process.wait()
+        self.work = self._last_words() if self._process.returncode == 0 else ""
+        self._faults.close()
+
+    def _write(self, text):
+        """Writes in a thread of its own, so that neither side waits for the other for ever."""
+        try:
+            self._process.stdin.write(text)
+            self._process.stdin.flush()
+        except (OSError, ValueError):
+            pass        # it ended: who reads the replies learns of it
+
+    def _reply(self):
+        line = self._take(1)[0]
+        query = replies.LINES.fullmatch(line)
+        if query:
+            return replies.Reply(0, lines=self._take(int(query.group(1))))
+        refused = replies.REFUSED.fullmatch(line)
+        if refused:
+            return replies.Reply(0, refused=tool.shown(b" ".join(refused.groups())))
+        if line != b"ok":
+            raise Ended(f"{self.words[0]}: this is no reply: {tool.shown(line[:60])}")
+        return replies.Reply(0)
+
+    def _take(self, count):
+        """The next lines of its output."""
+        while len(self._lines) - self._at < count:
+            self._more()
+        found = self._lines[self._at:self._at + count]
+        self._at += count
+        return found
+
+    def _more(self):
+        """Reads on."""
+        piece = os.read(self._process.stdout.fileno(), PIECE)
+        if not piece:
+            raise Ended(self._why_ended())
+        lines = (self._tail + piece).split(b"\n")
+        self._tail = lines.pop()
+        self._lines, self._at = self._lines[self._at:] + lines, 0
+
+    def _why_ended(self):
+        try:
+            status = self._process.wait(WAIT)
+        except subprocess.TimeoutExpired:
+            return f"{self.words[0]} closed its output"
+        by = f"was killed by signal {-status}" if status < 0 else f"ended with status {status}"
+        last = self._last_words()
+        return f"{self.words[0]} {by}" + (f": {last}" if last and status else "")
+
+    def _last_words(self):
+        """The last line that it wrote on its standard error."""
+        self._faults.seek(0)
+        lines = tool.readable(tool.shown(self._faults.read())).strip().splitlines()
+        return lines[-1] if lines else ""
+
+
+def work_in_words(line):
+    """What `--work` says, in words."""
+    found = re.fullmatch(r"work ([0-9]+) ([0-9]+)", line)
+    return f"{int(found.group(1)):,} windows simulated and {int(found.group(2)):,} parts made anew" if found else ""
