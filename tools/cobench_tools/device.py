@@ -48,15 +48,21 @@ class Entry:
     low, high    its limits as texts, "" for none
     mappable     whether PDOs can carry it, by its PDOMapping
     value, line  its ParameterValue as text, "" for none, and the line that has it
+    keys         the section that describes it
     """
 
     def __init__(self, name, keys):
         access = keys.get("accesstype", "").lower()
+        self.keys = keys
         self.name, self.kind, self.default = name, kind_of(keys), keys.get("defaultvalue", "")
         self.access = access if access in ACCESSES else "rw"
         self.low, self.high = keys.get("lowlimit", ""), keys.get("highlimit", "")
         self.mappable = bool(read_number(keys.get("pdomapping", "0")))
         self.value, self.line = keys.get("parametervalue", ""), keys.lines.get("parametervalue", keys.line)
+
+    def line_of(self, key):
+        """The line of the data sheet that has a key of its section, or the section."""
+        return self.keys.lines.get(key, self.keys.line)
 
     def is_writable(self):
         return self.access not in ("ro", "const")

@@ -2,8 +2,11 @@
 
 Names and keys are kept in lower case. All texts are such that `tool.put` gives the same bytes again.
 """
+import re
+
 from . import tool
 
+ZERO = re.compile("-?(0[xX]0+|0+)")
 BLANKS = b" \t\r"
 BYTE_ORDER_MARK = b"\xef\xbb\xbf"
 
@@ -19,6 +22,11 @@ class Section(dict):
         """A pair of the section; the first of two with equal keys counts."""
         if key not in self:
             self[key], self.lines[key] = value, line
+
+
+def without_mark(line):
+    """A first line without a byte order mark."""
+    return line[len(BYTE_ORDER_MARK):] if line.startswith(BYTE_ORDER_MARK) else line
 
 
 def header_of(line):
@@ -39,8 +47,7 @@ def sections_of(lines):
     """The sections of a text by their names."""
     sections, section = {}, None
     for number, line in enumerate(lines, 1):
-        if number == 1 and line.startswith(BYTE_ORDER_MARK):
-            line = line[len(BYTE_ORDER_MARK):]
+        line = without_mark(line) if number == 1 else line
         line = line.strip(BLANKS)
         if not line or line.startswith(b";"):
             continue
@@ -50,3 +57,32 @@ def sections_of(lines):
         elif pair and section is not None:
             section.add(*pair, number)
     return sections
+
+
+def unused_lines(lines):
+    """Why each line that isn't used is none that is, by number: the lines of which `diag` warns."""
+    sections, section, unused = {}, None, {}
+    for number, line in enumerate(lines, 1):
+        line = without_mark(line) if number == 1 else line
+        line = line.strip(BLANKS)
+        if not line or line.startswith(b";"):
+            continue
+        name, pair = header_of(line), pair_of(line)
+        if name is not None:
+            section = sections.setdefault(name, Section(number))
+            continue
+        why = why_unused(section, *pair) if pair else "it is no [section], key=value or ;comment"
+        if why:
+            unused[number] = why
+        if pair and section is not None:
+            section.add(*pair, number)
+    return unused
+
+
+def why_unused(section, key, value):
+    """Why a pair isn't used, or None."""
+    if section is None:
+        return "it stands before the first [section]"
+    if key in section:
+        return f"line {section.lines[key]} gives the key first"
+    return "CompactPDO isn't modelled" if key == "compactpdo" and not ZERO.fullmatch(value) else None

@@ -1,12 +1,14 @@
 """The program `cobtool`: it finds the command that its first word names, and has it do its work."""
 import difflib
 import importlib
+import os
 import sys
+import traceback
 
 from . import tool
 
 # The commands, in the order of a day's work. Each is the module of that name in commands/.
-COMMANDS = ("export", "matrix", "dbc", "expand", "eds", "refusals", "explain", "timeline", "candump")
+COMMANDS = ("check", "export", "matrix", "dbc", "expand", "eds", "refusals", "explain", "timeline", "candump")
 
 ABOUT = """Checks, exports and explains a CANopen network that is written as a script for cobench.
 
@@ -72,4 +74,15 @@ def main(words=None):
         tool.say("there isn't enough memory")
     except OSError as error:
         tool.say(f"{error.filename}: {error.strerror}" if error.filename else error.strerror)
+    except Exception as error:
+        tool.say(own_fault(error))
     return tool.CANNOT
+
+
+def own_fault(error):
+    """What is told where cobtool itself is wrong; with COBTOOL_DEBUG it shows where."""
+    if os.environ.get("COBTOOL_DEBUG"):
+        raise error
+    name, line, _, _ = traceback.extract_tb(error.__traceback__)[-1]
+    where = f"{os.path.basename(name)}:{line}"
+    return f"a fault of cobtool itself, please tell its makers: {type(error).__name__} in {where}: {error}".splitlines()[0]

@@ -21,20 +21,17 @@ def lines_with_values(lines):
     return sorted(entry.line for key, entry in entries.items() if entry.value and is_of_pdos(key[0]))
 
 
-def warning(place, lines):
-    """The warning that values of PDO objects aren't used, or None.
+def not_used(count):
+    """That so many values aren't used, in words."""
+    values = "1 value of a PDO object is" if count == 1 else f"{count} values of PDO objects are"
+    return f"{values} not used, as messages make them; `cobtool import` makes messages of them"
+
+
+def warn(place, lines):
+    """Warns of values that aren't used.
 
     place  gives FILE:LINE of a line of the data sheet, by its number
     """
     found = lines_with_values(lines)
-    if not found:
-        return None
-    what = "1 value of a PDO object is" if len(found) == 1 else f"{len(found)} values of PDO objects are"
-    return f"{place(found[0])}: warning: {what} not used, as messages make them; `cobtool import` makes messages of them"
-
-
-def warn(place, lines):
-    """Prints that warning on the standard error."""
-    text = warning(place, lines)
-    if text:
-        tool.warn(text)
+    if found:
+        tool.warn(f"{place(found[0])}: warning: {not_used(len(found))}")

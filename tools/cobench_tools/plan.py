@@ -20,8 +20,25 @@ def item(key, bits):
     return key[0] << 16 | key[1] << 8 | bits
 
 
-# A fault of a message: its code, its cause in words, and the number of the receiver at fault, None where it is the sender.
-Cause = namedtuple("Cause", "code words node")
+# What no PDO may have as its identifier.
+SERVICES = ((0x000, 0x07F, "NMT"), (0x080, 0x0FF, "SYNC or EMCY"), (0x101, 0x180, "safety objects"), (0x581, 0x5FF, "SDO"),
+            (0x601, 0x67F, "SDO"), (0x6E0, 0x6FF, "CiA 301"), (0x701, 0x7FF, "heartbeats"))
+
+
+class Cause(namedtuple("Cause", "words node part other code")):
+    """Why a message has a fault.
+
+    words  the cause
+    node   the number of the receiver at fault, None where it is the sender
+    part   which part of the message it is about: `("source", 1)`, `("sink", 1, 5)`, `("start",)`, or () for all of it
+    other  the name of the message that has what this one would need, None where it isn't that
+    code   the code of the diagnostic
+    """
+
+    __slots__ = ()
+
+    def __new__(cls, words, node=None, part=(), other=None, code=""):
+        return super().__new__(cls, words, node, part, other, code)
 
 
 class Planned:
@@ -60,7 +77,7 @@ class Plan:
                 self._take(planned)
 
     def _judge(self, planned):
-        """Finds the faults of a message, in the order of their codes; those who look for causes give words and receiver."""
+        """Finds the faults of a message, in the order of their codes."""
         wanted = planned.message.numbers[3]
         planned.identifier = wanted or self._automatic(planned.message)
         planned.mapping = [item(key, self._width(planned.message.node, key) or 0) for _, key in planned.sources]
@@ -68,7 +85,7 @@ class Plan:
                              ("E08", self._not_mappable), ("E09", self._mismatched), ("E10", self._no_rpdo),
                              ("E11", self._no_dummy), ("E12", self._bad_identifier), ("E13", self._no_identifier),
                              ("E14", self._reserved_type)):
-            planned.faults += [Cause(code, words, node) for words, node in causes(planned)]
+            planned.faults += [cause._replace(code=code) for cause in causes(planned)]
 
     def _take(self, planned):
         """A clean message has its TPDO, its RPDOs and its identifier from now on."""
@@ -79,7 +96,8 @@ class Plan:
             self._rpdos[node, rpdo] = planned.name
 
     def _name(self, node):
-        return self.project.nodes[node][0]
+        """A node in words: `node 5 pump`."""
+        return f"node {node} {self.project.nodes[node][0]}"
 
     def _entry(self, node, key):
         return self.devices[node].entries.get(key)
@@ -95,51 +113,55 @@ class Plan:
 
     # E05: the objects of the TPDO.
 
+    def pdo_numbers(self, node, direction):
+        """The numbers of the PDOs of which a node has a communication object."""
+        first = COMMUNICATION[direction]
+        return sorted(index - first for index, sub in self.devices[node].entries if sub == 1 and 1 <= index - first <= MOST_PDOS)
+
     def _no_objects(self, planned):
         message = planned.message
-        _, inhibit, event, _ = message.numbers
-        index = COMMUNICATION[TPDO] + message.tpdo
-        wanted = [((index, 1), UNSIGNED32), ((index, 2), UNSIGNED8)]
-        wanted += [((index, 3), UNSIGNED16)] if inhibit else []
-        wanted += [((index, 5), UNSIGNED16)] if event else []
-        wanted += [((index, 6), UNSIGNED8)] if message.start else []
-        wanted += mapping_entries(index + 0x200, len(planned.sources))
-        causes = [self._not_written(message.node, key, kind) for key, kind in wanted]
-        return [(cause, None) for cause in causes if cause][:1]
+        numbers = self.pdo_numbers(message.node, TPDO)
+        if message.tpdo not in numbers:
+            return [Cause(f"{self._name(message.node)} has no TPDO {message.tpdo}; it has {numbers_text(numbers)}")]
+        for key, kind, need in tpdo_entries(message):
+            why = self._not_written(message.node, key, kind)
+            if why:
+                words = f"TPDO {message.tpdo} of {self._name(message.node)} can't be set: {why}{need}"
+                return [Cause(words, part=("start",) if key[1] == 6 and key[0] < 0x1A00 else ())]
+        return []
 
     def _not_written(self, node, key, kind):
         """Why an entry can't be written as one of a data type, or None."""
         entry = self._entry(node, key)
         if not entry:
-            return f"{self._name(node)} has no {object_name(key)}"
+            return f"{object_name(key)} isn't there"
         if entry.kind != kind:
-            return (f"{self._described(node, key)} of {self._name(node)} is {values.type_name(entry.kind)}, "
-                    f"and not {values.type_name(kind)}")
-        if not entry.is_writable():
-            return f"{self._described(node, key)} of {self._name(node)} is {entry.access}, and can't be written"
-        return None
+            return f"{self._described(node, key)} is {values.type_name(entry.kind)}, and not {values.type_name(kind)}"
+        return None if entry.is_writable() else f"{self._described(node, key)} is {entry.access}, and can't be written"
 
     # E06, E07.
 
     def _tpdo_taken(self, planned):
         message = planned.message
         other = self._tpdos.get((message.node, message.tpdo))
-        return [(f"TPDO {message.tpdo} of {self._name(message.node)} sends the message {other}", None)] if other else []
+        return [Cause(f"TPDO {message.tpdo} of {self._name(message.node)} sends message {other}", other=other)] if other else []
 
     def _too_many_bits(self, planned):
         bits = sum(self._width(planned.message.node, key) or 0 for _, key in planned.sources)
-        return [(f"its sources have {bits} bits, and a frame has 64", None)] if bits > 64 else []
+        return [Cause(f"its {len(planned.sources)} sources have {bits} bits, and a frame has 64")] if bits > 64 else []
 
     # E08: what PDOs can't carry.
 
     def _not_mappable(self, planned):
-        node = planned.message.node
-        causes = [(self._not_carried(node, key, f"source {position}", TPDO), None) for position, key in planned.sources]
+        node, causes = planned.message.node, []
+        for position, key in planned.sources:
+            causes.append(Cause(self._not_carried(node, key, f"source {position}", TPDO), part=("source", position)))
         for (position, taker), key in sorted(planned.message.sinks.items()):
+            part = "sink", position, taker
             if taker == node:
-                causes.append((f"sink {position} is of {self._name(node)}, which sends the message", taker))
-            causes.append((self._not_carried(taker, key, f"sink {position}", RPDO), taker))
-        return [(words, node) for words, node in causes if words]
+                causes.append(Cause(f"sink {position} is of {self._name(node)}, which sends the message", taker, part))
+            causes.append(Cause(self._not_carried(taker, key, f"sink {position}", RPDO), taker, part))
+        return [cause for cause in causes if cause.words]
 
     def _not_carried(self, node, key, what, direction):
         """Why no PDO of a direction can carry an entry, or None."""
@@ -150,32 +172,36 @@ class Plan:
             return None
         why = (f"its data type is {values.type_name(entry.kind)}" if entry.kind not in BITS
                else "its PDOMapping is 0" if not entry.mappable else f"its access is {entry.access}")
-        return f"{what}: {self._described(node, key)} of {self._name(node)} can't be in {'a' if direction == TPDO else 'an'} {direction}, as {why}"
+        pdo = "a TPDO" if direction == TPDO else "an RPDO"
+        return f"{what}: {self._described(node, key)} of {self._name(node)} can't be in {pdo}, as {why}"
 
     # E09: widths.
 
     def _mismatched(self, planned):
         sources, causes = dict(planned.sources), []
         for (position, node), key in sorted(planned.message.sinks.items()):
+            part = "sink", position, node
             if position not in sources:
-                causes.append((f"sink {position} of {self._name(node)} has no source at its position", node))
+                there = numbers_text(sorted(sources))
+                causes.append(Cause(f"sink {position} of {self._name(node)} has no source; there are {there}", node, part))
                 continue
             sent, taken = self._width(planned.message.node, sources[position]), self._width(node, key)
             if sent and taken and sent != taken:
                 source = self._described(planned.message.node, sources[position])
-                causes.append((f"sink {position} of {self._name(node)}, {self._described(node, key)}, has {taken} bits, and "
-                               f"source {position}, {source}, has {sent}", node))
+                causes.append(Cause(f"sink {position} of {self._name(node)}, {self._described(node, key)}, has {taken} bits, "
+                                    f"and source {position}, {source}, has {sent}", node, part))
         return causes
 
     # E10, E11: the RPDOs of the consumers and what they map.
 
+    def _not_fitting(self, node, number, count):
+        """Why an RPDO can't be written with that many mapping entries, or None."""
+        reasons = (self._not_written(node, key, kind) for key, kind in rpdo_entries(number, count))
+        return next(filter(None, reasons), None)
+
     def rpdos_that_fit(self, node, count):
         """The RPDOs of a node that can be written with that many mapping entries, by number."""
-        first = COMMUNICATION[RPDO]
-        numbers = sorted(index - first for index, sub in self.devices[node].entries if sub == 1 and 1 <= index - first <= MOST_PDOS)
-        return [number for number in numbers if not any(
-            self._not_written(node, key, kind) for key, kind in [((first + number, 1), UNSIGNED32), ((first + number, 2), UNSIGNED8)]
-            + mapping_entries(first + number + 0x200, count))]
+        return [number for number in self.pdo_numbers(node, RPDO) if not self._not_fitting(node, number, count)]
 
     def _no_rpdo(self, planned):
         causes = []
@@ -183,15 +209,17 @@ class Plan:
             fitting = self.rpdos_that_fit(node, len(planned.sources))
             free = [number for number in fitting if (node, number) not in self._rpdos]
             planned.rpdos[node] = free[0] if free else None, self._items(planned, node)
-            causes += [] if free else [(self._why_no_rpdo(node, fitting, len(planned.sources)), node)]
+            if not free:
+                causes.append(Cause(self._why_no_rpdo(node, len(planned.sources)), node, first_sink(planned, node)))
         return causes
 
-    def _why_no_rpdo(self, node, fitting, count):
-        entries = "1 mapping entry" if count == 1 else f"{count} mapping entries"
-        if not fitting:
-            return f"{self._name(node)} has no RPDO with {entries} that can be written"
-        others = ", ".join(f"{number} by {self._rpdos[node, number]}" for number in fitting[:8])
-        return f"each RPDO of {self._name(node)} with {entries} is taken: {others}"
+    def _why_no_rpdo(self, node, count):
+        """Why a node has no RPDO left for a message of that many values."""
+        reasons = [f"RPDO {number} takes {self._rpdos[node, number]}" if (node, number) in self._rpdos
+                   else f"RPDO {number}: {self._not_fitting(node, number, count)}" for number in self.pdo_numbers(node, RPDO)]
+        more = [f"{len(reasons) - 6} more likewise"] if len(reasons) > 6 else []
+        has = "; ".join(reasons[:6] + more) or "it has none"
+        return f"{self._name(node)} has no RPDO left for {count} value{'' if count == 1 else 's'}: {has}"
 
     def _items(self, planned, node):
         """The mapping entries of a consumer: for each source its sink, else a dummy as wide."""
@@ -208,9 +236,9 @@ class Plan:
         for node in planned.consumers:
             for position, key in planned.sources:
                 bits = self._width(planned.message.node, key)
-                if (position, node) not in planned.message.sinks and bits:
-                    words = f"{self._name(node)} takes nothing of source {position}, and allows no dummy of {bits} bits to skip it"
-                    causes += [] if self._skips(node, bits) else [(words, node)]
+                if (position, node) not in planned.message.sinks and bits and not self._skips(node, bits):
+                    words = f"{self._name(node)} takes nothing of source {position}, and {why_no_dummy(bits)}"
+                    causes.append(Cause(words, node, first_sink(planned, node)))
         return causes
 
     def _skips(self, node, bits):
@@ -222,18 +250,19 @@ class Plan:
         wanted = planned.message.numbers[3]
         other = self._identifiers.get(wanted)
         if other:
-            return [(f"{wanted:03X}h is the identifier of the message {other}", None)]
-        if wanted and wanted < LEAST_IDENTIFIER:
-            return [(f"{wanted:03X}h is below 181h, where PDOs begin", None)]
-        return [(f"{wanted:03X}h belongs to another service", None)] if wanted and is_restricted(wanted) else []
+            return [Cause(f"{wanted:03X}h is the identifier of message {other}", other=other)]
+        if not wanted or wanted >= LEAST_IDENTIFIER and not is_restricted(wanted):
+            return []
+        service = next((f"belongs to {service}" for low, high, service in SERVICES if low <= wanted <= high), None)
+        return [Cause(f"{wanted:03X}h {service or 'is below 181h, where PDOs begin'}")]
 
     def _no_identifier(self, planned):
-        return [("no identifier from 681h to 6DFh is free", None)] if planned.identifier is None else []
+        return [Cause("no identifier from 681h to 6DFh is free")] if planned.identifier is None else []
 
     def _reserved_type(self, planned):
         kind = planned.message.numbers[0]
         words = f"the transmission types 241 to 251 are reserved, and this is {kind}"
-        return [(words, None)] if 241 <= kind <= 251 else []
+        return [Cause(words)] if 241 <= kind <= 251 else []
 
     def _automatic(self, message):
         """The predefined identifier of a TPDO where it is free, else the least that is, else None."""
@@ -243,6 +272,10 @@ class Plan:
         return next((each for each in POOL if each not in self._identifiers), None)
 
     # What it writes.
+
+    def sender_of(self, node, tpdo):
+        """The message that a TPDO sends, None where none does."""
+        return self._tpdos.get((node, tpdo))
 
     def values(self, node):
         """The number that each entry of a node's PDO objects has once all clean messages are written."""
@@ -266,6 +299,43 @@ class Plan:
             if not self._not_written(message.node, (index, sub), kind):
                 written[index, sub] = number
         written.update(mapping(index + 0x200, planned.mapping))
+
+
+def numbers_text(numbers):
+    """Numbers in words: `1, 2, 5`, `1 to 4`, `none`."""
+    if len(numbers) > 2 and numbers[-1] - numbers[0] == len(numbers) - 1:
+        return f"{numbers[0]} to {numbers[-1]}"
+    return ", ".join(map(str, numbers)) or "none"
+
+
+def first_sink(planned, node):
+    """The part of a message that is the first sink of a consumer."""
+    return "sink", min(position for position, each in planned.message.sinks if each == node), node
+
+
+def why_no_dummy(bits):
+    """Why a consumer can't skip that many bits."""
+    if bits not in DUMMIES:
+        return f"there is no dummy of {bits} bits to skip it"
+    return f"allows no dummy of {bits} bits to skip it ([DummyUsage] Dummy000{DUMMIES[bits]})"
+
+
+def tpdo_entries(message):
+    """The entries that are written for the TPDO of a message: each with its data type, and what needs it."""
+    index, room = COMMUNICATION[TPDO] + message.tpdo, len(message.sources)
+    _, inhibit, event, _ = message.numbers
+    entries = [((index, 1), UNSIGNED32, ""), ((index, 2), UNSIGNED8, "")]
+    entries += [((index, 3), UNSIGNED16, f"; INHIBIT {inhibit} needs it")] if inhibit else []
+    entries += [((index, 5), UNSIGNED16, f"; EVENT {event} needs it")] if event else []
+    entries += [((index, 6), UNSIGNED8, f"; start value {message.start} needs it")] if message.start else []
+    needs = {0: "", **{sub: f"; source {sub} of {room} needs it" for sub in range(1, room + 1)}}
+    return entries + [(key, kind, needs[key[1]]) for key, kind in mapping_entries(index + 0x200, room)]
+
+
+def rpdo_entries(number, count):
+    """The entries that are written for an RPDO with that many mapping entries, each with its data type."""
+    index = COMMUNICATION[RPDO] + number
+    return [((index, 1), UNSIGNED32), ((index, 2), UNSIGNED8)] + mapping_entries(index + 0x200, count)
 
 
 def mapping_entries(index, count):

@@ -47,13 +47,13 @@ class Command:
     @property
     def place(self):
         """FILE:LINE."""
-        return tool.place(self.path, self.number)
+        return tool.Place(self.path, self.number)
 
     def block_place(self, number):
         """FILE:LINE of a line of its block, counted from 1."""
         if self.file is not None:
-            return tool.place(beside(self.path, self.file), number)
-        return tool.place(self.path, self.number + number)
+            return tool.Place(beside(self.path, self.file), number)
+        return tool.Place(self.path, self.number + number)
 
     def is_comment(self):
         return self.line.lstrip(b" \t").startswith(b"#")

@@ -1,5 +1,6 @@
 """What every command stands on: its words, the files that it reads, what it prints, and that it can't go on."""
 import argparse
+import collections
 import os
 import re
 import sys
@@ -15,6 +16,15 @@ CONTROL = re.compile(rb"[\x00-\x08\x0e-\x1f]")
 
 class Fault(Exception):
     """Why a command can't do its work, in one line for the user."""
+
+
+class Place(collections.namedtuple("Place", "path line")):
+    """A line of a file; as text FILE:LINE, as editors read it."""
+
+    __slots__ = ()
+
+    def __str__(self):
+        return f"{'<stdin>' if self.path == '-' else self.path}:{self.line}"
 
 
 class Parser(argparse.ArgumentParser):
@@ -35,11 +45,6 @@ class Parser(argparse.ArgumentParser):
 
 def name_of(path):
     return "the standard input" if path == "-" else path
-
-
-def place(path, line):
-    """FILE:LINE, as editors read it."""
-    return f"{'<stdin>' if path == '-' else path}:{line}"
 
 
 def read(path):

@@ -54,7 +54,7 @@ def is_fine(done, output):
 def is_refused(done, *says):
     """The tool couldn't do its work, says why in one line, and printed nothing."""
     assert done[0] == 2 and done[1] == b"", done
-    assert "Traceback" not in done[2] and len(done[2].splitlines()) == 1, done[2]
+    assert "Traceback" not in done[2] and "cobtool itself" not in done[2] and len(done[2].splitlines()) == 1, done[2]
     for each in says:
         assert each in done[2], done[2]
 
@@ -62,6 +62,11 @@ def is_refused(done, *says):
 def recorded():
     """The words of a program that answers as cobench does where the replies are kept in tests/recorded."""
     return f"{sys.executable} {kept_at('stand_in')}"
+
+
+def recorded_replies(text):
+    """The replies that are kept to an input."""
+    return subprocess.run([sys.executable, kept_at("stand_in")], input=text, stdout=subprocess.PIPE, check=True).stdout
 
 
 def stand_in(text, replies):

@@ -85,7 +85,7 @@ def test_candump_warns_of_a_second_trace():
 
 def test_cut_and_missing_traces_are_told():
     text = file(EXAMPLES, "servo_axes.replies.txt")
-    frames = kept("export.replies.txt").split(b"lines 209\n")[1].split(b"lines ")[0]
+    frames = file(EXAMPLES, "io_modules.replies.txt").split(b"lines 209\n")[1]
     for tool in ("candump", "timeline"):
         is_refused(run(tool, "-", given=b""), "no trace")
         is_refused(run(tool, "-", given=b"ok\nlines 0\n"), "no trace")

@@ -20,6 +20,6 @@ def arguments(parser):
 def run(options):
     name = options.name.encode("utf-8", "surrogateescape")
     lines = script.eds_lines(name, options.file)
-    pdo_values.warn(lambda line: tool.place(options.file, line), lines)
+    pdo_values.warn(lambda line: tool.Place(options.file, line), lines)
     tool.put(script.block_of(name, lines))
     return tool.DONE

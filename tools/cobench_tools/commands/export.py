@@ -2,25 +2,23 @@
 import os
 import re
 
-from .. import session, tool, trace
-from ..hints import refusals
+from .. import acceptance, concise, output, session, tool, trace
+from . import check
 
-SUMMARY = "write the files of a network: DCF, concise DCF, diagnostics, trace"
+SUMMARY = "check a script, and write the files of its network: DCF, concise DCF, trace"
 
-AFTER = f"""Into DIR, which is made where it isn't there, go for each node ID_NAME.dcf (its
-DCF) and ID_NAME.bin (the bytes of its concise DCF, as object 1F22h takes them),
-and diagnostics.txt, trace.txt, trace.log (candump). SCRIPT may have comments and
-`eds NAME <FILE`, as `cobtool expand` takes them, or be - for the standard input.
+AFTER = f"""Tells what `cobtool check` tells. Without an error it writes into DIR, which is made
+where it isn't there, for each node ID_NAME.dcf (its DCF) and ID_NAME.bin (the bytes
+of its concise DCF, as object 1F22h takes them), and diagnostics.txt, trace.txt,
+trace.log (candump). With --force it writes in spite of errors what the accepted
+commands make. Files that are there are replaced: all of them, or none.
 
-Nothing is written where a command was refused or a diagnostic is an error. With
---force all of the project that the accepted edits make is written. Files that
-are there are replaced, each at once.
+{acceptance.HELP}
 
-{session.PROGRAM} Status: 0, 1 where a command was refused or a diagnostic is an
-error, 2 where the script can't be read, cobench can't be run, or DIR can't be
-written.
+{session.PROGRAM} Status: 0, 1 where there are errors, 2 where the script can't be
+read, cobench can't be run, or DIR can't be written.
 
-  cobtool export files network.txt"""
+  cobtool export --allow-from accepted.txt files network.txt"""
 
 NODE_FILE = re.compile(r"[0-9]{1,3}_[A-Za-z0-9_]{1,32}\.(dcf|bin)")
 
@@ -31,51 +29,51 @@ def text_of(lines):
 
 def files_of(answered):
     """The name and the bytes of each file of a network."""
-    files = {"diagnostics.txt": text_of(answered.lines("diag")), "trace.txt": text_of(answered.lines("trace"))}
-    files["trace.log"] = trace.log_of(trace.trace_of(answered.lines("trace"))).encode()
-    for node, (name, _) in answered.project.nodes.items():
+    files = {}
+    for node, (name, _) in sorted(answered.project.nodes.items()):
         files[f"{node}_{name}.dcf"] = text_of(answered.lines("dcf", node))
-        files[f"{node}_{name}.bin"] = bytes.fromhex(b" ".join(answered.lines("cdcf", node)).decode())
+        files[f"{node}_{name}.bin"] = concise.bytes_of(answered.lines("cdcf", node))
+    files["diagnostics.txt"], files["trace.txt"] = text_of(answered.lines("diag")), text_of(answered.lines("trace"))
+    files["trace.log"] = trace.log_of(trace.trace_of(answered.lines("trace"))).encode()
     return files
 
 
 def write(folder, files):
-    """Writes all files: first beside their places, and then each into its own."""
-    made = []
+    """Writes all files, and tells of those of nodes that aren't there any more."""
     try:
         os.makedirs(folder, exist_ok=True)
-        for name, data in files.items():
-            made.append(os.path.join(folder, f".{name}.new"))
-            with open(made[-1], "wb") as file:
-                file.write(data)
-        for name in files:
-            os.replace(os.path.join(folder, f".{name}.new"), os.path.join(folder, name))
     except OSError as error:
-        for path in made:
-            if os.path.exists(path):
-                os.remove(path)
         raise tool.Fault(f"{folder}: {error.strerror}") from None
+    output.write_files(folder, files)
     for name in sorted(os.listdir(folder)):
         if NODE_FILE.fullmatch(name) and name not in files:
             tool.say(f"{os.path.join(folder, name)} is none of these nodes: of an earlier export?")
+
+
+def written_text(folder, report, files):
+    """What was written, in one line."""
+    if not files:
+        return "nothing was written\n"
+    nodes = len(report.answered.project.nodes)
+    of_nodes = f"DCF and concise DCF of {nodes} node{'' if nodes == 1 else 's'}, " if nodes else ""
+    return f"{len(files)} files in {folder}: {of_nodes}diagnostics.txt, trace.txt, trace.log\n"
 
 
 def arguments(parser):
     parser.epilog = AFTER
     parser.add_argument("folder", metavar="DIR")
     parser.add_argument("script", metavar="SCRIPT")
-    parser.add_argument("--force", action="store_true", help="write in spite of refused commands and errors")
-    session.add_arguments(parser)
+    parser.add_argument("--force", action="store_true", help="write in spite of errors")
+    check.add_arguments(parser)
 
 
 def run(options):
-    answered = session.run(options.script, options.cobench, ("diag", "trace", "dcf", "cdcf"))
-    faults = [line for refusal in refusals(answered.pairs) for line in refusal.lines()]
-    faults += [f"diag: {tool.shown(line)}" for line in answered.lines("diag") if line.startswith(b"E")]
-    for line in faults:
-        tool.warn(line)
-    if faults and not options.force:
-        tool.say("nothing was written")
-        return tool.FOUND
-    write(options.folder, files_of(answered))
-    return tool.FOUND if faults else tool.DONE
+    report = check.report_of(options, ("dcf",))
+    files = files_of(report.answered) if options.force or report.status == tool.DONE else {}
+    if files:
+        write(options.folder, files)
+    if options.json:
+        tool.put(report.as_json(folder=options.folder, files=sorted(files)))
+    else:
+        tool.put(report.as_text() + written_text(options.folder, report, files))
+    return report.status

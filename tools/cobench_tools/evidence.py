@@ -1,0 +1,73 @@
+"""What a session shows of its network: what the causes of findings are told from."""
+import functools
+
+from . import concise, tool
+from .device import Device
+from .origins import Origins
+from .plan import Plan
+from .wiring import Node
+
+
+class Evidence:
+    """The network at the end of a session that was asked these queries.
+
+    project      what the script makes
+    origins      which command made each part of it
+    diagnostics  the lines of `diag`
+    """
+
+    QUERIES = ("diag", "trace", "cdcf")
+
+    def __init__(self, answered):
+        self.answered, self.project, self.origins = answered, answered.project, Origins(answered.pairs)
+        self.diagnostics = [tool.shown(line) for line in answered.lines("diag")]
+        self._devices, self._nodes = {}, {}
+
+    @functools.cached_property
+    def plan(self):
+        """What the messages get, or why they don't."""
+        return Plan(self.project, {node: self.device(node) for node in self.project.nodes})
+
+    def device(self, node):
+        """The data sheet of a node."""
+        return self.sheet(self.project.nodes[node][1])
+
+    def sheet(self, eds):
+        """The data sheet of a name."""
+        if eds not in self._devices:
+            self._devices[eds] = Device(self.project.texts[eds])
+        return self._devices[eds]
+
+    def node(self, node):
+        """A node with the values that its entries have once it is configured."""
+        if node not in self._nodes:
+            written = concise.values_of(self.answered.lines("cdcf", node))
+            self._nodes[node] = Node(node, self.device(node), written)
+        return self._nodes[node]
+
+    # Names.
+
+    def node_name(self, node):
+        """A node in words: `node 2 y_axis`."""
+        return f"node {node} {self.project.nodes[node][0]}"
+
+    def entry_name(self, node, key):
+        """An entry in words: `6080h:00 Max motor speed`."""
+        entry = self.device(node).entries.get(key)
+        name = f" {entry.name}" if entry and entry.name else ""
+        return f"{key[0]:04X}h:{key[1]:02X}{name}"
+
+    # Places.
+
+    def sheet_place(self, node, line):
+        """FILE:LINE of a line of a node's data sheet."""
+        return self.origins.sheet_place(self.project.nodes[node][1], line)
+
+    def value_place(self, node, key):
+        """FILE:LINE of what gives an entry its value: a parameter, or a line of the data sheet."""
+        entry = self.device(node).entries.get(key)
+        if (node, *key) in self.project.params:
+            return self.origins.place("param", node, *key)
+        if entry is None:
+            return self.origins.place("node", node)
+        return self.sheet_place(node, entry.line if entry.value else entry.line_of("defaultvalue"))
