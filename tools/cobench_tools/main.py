@@ -26,13 +26,18 @@ def module_of(command):
     return importlib.import_module(f"{__package__}.commands.{name}")
 
 
-def overview():
+class Overview(tool.Parser):
     """The parser for the words before a command, whose help lists the commands."""
-    width = max(map(len, COMMANDS))
-    lines = [f"  {command:{width}}  {module_of(command).SUMMARY}" for command in COMMANDS]
-    parser = tool.Parser("cobtool", ABOUT.format(commands="\n".join(lines)))
-    parser.usage = "cobtool COMMAND ..."
-    return parser
+
+    def __init__(self):
+        super().__init__("cobtool", "")
+        self.usage = "cobtool COMMAND ..."
+
+    def format_help(self):
+        width = max(map(len, COMMANDS))
+        lines = [f"  {command:{width}}  {module_of(command).SUMMARY}" for command in COMMANDS]
+        self.description = ABOUT.format(commands="\n".join(lines))
+        return super().format_help()
 
 
 def parser_of(command):
@@ -53,7 +58,7 @@ def no_command(word):
 def run(words):
     """Runs the command that these words name, and gives its status."""
     if not words or words[0].startswith("-"):
-        overview().parse_args(words[:1])
+        Overview().parse_args(words[:1])
         raise tool.Fault("a command is missing: " + ", ".join(COMMANDS) + "; cobtool --help tells more")
     if words[0] not in COMMANDS:
         raise no_command(words[0])

@@ -1,6 +1,6 @@
 """What `check` and `export` tell of the findings of a script: as text, as JSON and as JUnit XML."""
+import html
 import json
-from xml.sax.saxutils import escape, quoteattr
 
 from . import boots, tool, trace
 from .findings import ERROR, WARNING, lines_of, milliseconds
@@ -71,7 +71,7 @@ class Report:
         """The report for servers of continuous integration."""
         cases = [self.case(part) for part in self.parts()]
         failed = sum("<failure" in case for case in cases)
-        suite = f"name={quoteattr(self.answered.path)} tests=\"{len(cases)}\" failures=\"{failed}\" errors=\"0\""
+        suite = f"name={xml_attribute(self.answered.path)} tests=\"{len(cases)}\" failures=\"{failed}\" errors=\"0\""
         return f"<?xml version=\"1.0\" encoding=\"UTF-8\"?>\n<testsuites>\n<testsuite {suite}>\n{''.join(cases)}</testsuite>\n</testsuites>\n"
 
     def case(self, part):
@@ -98,8 +98,8 @@ def without_controls(text):
 
 
 def xml_text(lines):
-    return "\n".join(escape(without_controls(line)) for line in lines)
+    return "\n".join(html.escape(without_controls(line), quote=False) for line in lines)
 
 
 def xml_attribute(text):
-    return quoteattr(without_controls(text))
+    return f'"{html.escape(without_controls(text))}"'
