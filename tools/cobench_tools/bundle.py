@@ -9,6 +9,9 @@ TIMELINE_SCRIPTS = ("elements.js", "timeline_trace.js", "timeline_scale.js", "ti
                     "timeline_flags.js", "timeline_paint.js", "timeline_tips.js", "timeline_gestures.js",
                     "timeline_toolbar.js", "timeline.js")
 TIMELINE_STYLES = ("design.css", "timeline.css")
+LIVE_SCRIPTS = TIMELINE_SCRIPTS + ("live_items.js", "live_tabs.js", "live_tables.js", "live_wrong.js", "live_nodes.js",
+                                   "live_run.js", "live_ledger.js", "live.js")
+LIVE_STYLES = TIMELINE_STYLES + ("live.css",)
 
 
 def part(name):
@@ -25,6 +28,11 @@ def page(name, styles, scripts, content):
     text = part(name).replace("/*STYLE*/", "".join(map(part, styles)), 1)
     text = text.replace("/*SCRIPT*/", "".join(map(part, scripts)), 1)
     return text.replace("/*CONTENT*/", content_text(content), 1)
+
+
+def live_page(content):
+    """The page that follows a script."""
+    return page("live.html", LIVE_STYLES, LIVE_SCRIPTS, content)
 
 
 def timeline_page(content):

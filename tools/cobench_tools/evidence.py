@@ -14,14 +14,16 @@ class Evidence:
     project      what the script makes
     origins      which command made each part of it
     diagnostics  the lines of `diag`
+
+    `sheets` are data sheets that were read before, by name.
     """
 
     QUERIES = ("diag", "trace", "cdcf")
 
-    def __init__(self, answered):
+    def __init__(self, answered, sheets=None):
         self.answered, self.project, self.origins = answered, answered.project, Origins(answered.pairs)
         self.diagnostics = [tool.shown(line) for line in answered.lines("diag")]
-        self._devices, self._nodes = {}, {}
+        self._devices, self._nodes = dict(sheets or {}), {}
 
     @functools.cached_property
     def plan(self):

@@ -13,6 +13,8 @@ Content of the page (JSON):
                   start), sort and data (hexadecimal digits, one frame behind the other); and its flags
   events          the flags of the scenario; a flag is [time, key of the lane, kind, label, all of its words]
 """
+from operator import itemgetter
+
 from . import meaning, tool
 from .device import BOOLEAN, SIGNED
 from .trace import Note
@@ -21,6 +23,7 @@ OTHERS = -1
 STATES = ("off", "stopped", "operational", "pre-operational")
 BY_BYTE = {4: "stopped", 5: "operational", 127: "pre-operational"}
 BY_SERVICE = {1: "operational", 2: "stopped", 128: "pre-operational", 129: "pre-operational", 130: "pre-operational"}
+TIME_AND_ORDER = itemgetter(0, 1)
 BIT_TIMES = (1, 2, 4, 8, 20, 50, 100)
 
 
@@ -176,7 +179,7 @@ def moments_of(events, windows):
     """What may change the states of nodes, in its order: time, node (0 for all) and state; on and off are those of power."""
     powers = [(event.time, 0, event.node, event.what) for _, event in events if event.kind == "power"]
     told = [(time, 1, node, state) for window in windows for time, node, state in window.changes]
-    return [(time, node, state) for time, _, node, state in sorted(powers + told, key=lambda moment: moment[:2])]
+    return [(time, node, state) for time, _, node, state in sorted(powers + told, key=TIME_AND_ORDER)]
 
 
 def states_of(nodes, moments):

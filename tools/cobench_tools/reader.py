@@ -34,15 +34,17 @@ class Reader:
     with_sheets  whether the data sheets are read too
     sheets       the commands that took in a data sheet, in their order
     raw          the commands of the script as it stands, comments among them
+    files        all files that it takes in, the script first, also one that can't be read
     open         the scripts that are being read, each taken in by the one before it
     """
 
     def __init__(self, with_sheets=True):
-        self.with_sheets, self.sheets, self.raw, self.open = with_sheets, [], None, []
+        self.with_sheets, self.sheets, self.raw, self.open, self.files = with_sheets, [], None, [], []
         self.size = self.taken = 0
 
     def text_of(self, path):
         """The text of a script."""
+        self.files.append(path)
         text = tool.read_text(path)
         fault = script.why_no_lines(text)
         if fault:
@@ -91,6 +93,7 @@ class Reader:
     def fill(self, command):
         """Gives a command its block, if it has one."""
         if self.with_sheets:
+            self.files += [script.beside(command.path, command.file)] if command.file else []
             fill_block(command)
             if command.file is not None:
                 self.count(sum(map(len, command.block)), script.beside(command.path, command.file))

@@ -133,8 +133,8 @@ class Wiring:
 
     QUERIES = "diag", "cdcf"
 
-    def __init__(self, answered):
-        self.project, self.nodes = answered.project, nodes_of(answered)
+    def __init__(self, answered, sheets=None):
+        self.project, self.nodes = answered.project, nodes_of(answered, sheets)
         self.faults = faults_of_messages(answered.lines("diag"))
         self.tpdos = sorted((pdo for node in self.nodes.values() for pdo in node.pdos(TPDO)),
                             key=lambda pdo: (pdo.identifier, pdo.node, pdo.number))
@@ -163,9 +163,9 @@ class Wiring:
                 if not other.is_dummy() and other.start < part.end and part.start < other.end]
 
 
-def nodes_of(answered):
-    """The nodes at the end of a session, by number."""
-    devices = {name: Device(lines) for name, lines in answered.project.texts.items()}
+def nodes_of(answered, sheets=None):
+    """The nodes at the end of a session, by number; `sheets` are its data sheets, where they were read before."""
+    devices = sheets or {name: Device(lines) for name, lines in answered.project.texts.items()}
     return {number: Node(number, devices[eds], concise.values_of(answered.lines("cdcf", number)))
             for number, (_, eds) in answered.project.nodes.items()}
 

@@ -64,6 +64,13 @@ function drawCompactRow(pen, view, lane) {
   for (const [left, right, frame, kind] of wide) drawLabel(pen, view, left, right, top, frame, colourOf(view.trace.kinds[kind]));
 }
 
+/** Under the frames of a lane that are new a line. */
+function drawFresh(pen, view, lane) {
+  pen.fillStyle = view.colours.fresh;
+  eachRun(view.trace, view.trace.freshRows[lane.number], view.scale, (left, right) =>
+    pen.fillRect(left - 1, lane.top + lane.height - 4, right - left + 2, 3));
+}
+
 function drawBands(pen, view, mask, left, wide, top) {
   const kinds = view.trace.kinds.map((_, kind) => kind).filter(kind => mask >> kind & 1);
   const high = (view.lanes.row - 2) / kinds.length;

@@ -42,6 +42,7 @@ function drawLanes(pen, view, ticks) {
     pen.fillStyle = colours.grid;
     for (const at of ticks.at) pen.fillRect(Math.round(scale.x(at)), lane.top, 1, lane.height);
     if (lanes.compact) drawCompactRow(pen, view, lane); else drawRows(pen, view, lane);
+    drawFresh(pen, view, lane);
     drawFlags(pen, view, lane);
     pen.fillStyle = colours.line;
     pen.fillRect(0, lane.top + lane.height - 1, scale.width, 1);

@@ -60,11 +60,13 @@ class Trace {
     this.count = windows.reduce((sum, each) => sum + each.sort.length, 0);
     this.time = new Float64Array(this.count);
     this.sort = new Uint32Array(this.count);
+    this.fresh = new Set();
     this.place = new Uint32Array(this.count);
     this.data = windows.map(each => each.data).join("");
     let frame = 0, place = 0;
     for (const each of windows) {
       let time = each.at;
+      for (const n of this.content.fresh && this.content.fresh.get(each) || []) this.fresh.add(frame + n);
       for (let i = 0; i < each.sort.length; i++, frame++) {
         this.time[frame] = time += each.time[i];
         this.sort[frame] = each.sort[i];
@@ -85,6 +87,12 @@ class Trace {
       const number = rowOf[this.sort[i]], row = this.rows[number], at = sizes[number]++;
       row.time[at] = this.time[i];
       row.frame[at] = i;
+    }
+    this.freshRows = this.lanes.map(() => ({ time: [], frame: [] }));
+    for (const i of this.fresh) {
+      const row = this.freshRows[this.sorts[this.sort[i]].lane];
+      row.time.push(this.time[i]);
+      row.frame.push(i);
     }
     this.lanes.forEach((lane, n) => { lane.kinds = this.kinds.map((_, kind) => kind).filter(kind => sizes[n * kinds + kind]); });
   }

@@ -1,0 +1,114 @@
+"""The page over HTTP: on this machine alone, for browsers that ask by its own name, with fixed paths and nothing of the disk."""
+import base64
+import hashlib
+import http.server
+import re
+
+from .. import bundle
+
+ADDRESS = "127.0.0.1"
+READ_METHODS = ("GET", "HEAD")
+STILL_HERE = 10.0       # seconds after which a browser is told that nothing is new
+LONGEST_WRITE = 30.0    # seconds for which a browser may take nothing of what it is sent
+
+HEADERS = {"Cache-Control": "no-store", "X-Content-Type-Options": "nosniff", "Referrer-Policy": "no-referrer",
+           "Cross-Origin-Resource-Policy": "same-origin"}
+
+
+def policy(page):
+    """What the page may do: run its own script, and ask this server."""
+    script = re.search(r"<script>(.*?)</script>", page, re.DOTALL).group(1)
+    digest = base64.b64encode(hashlib.sha256(script.encode()).digest()).decode()
+    return (f"default-src 'none'; script-src 'sha256-{digest}'; style-src 'unsafe-inline'; img-src data:; connect-src 'self'; "
+            "base-uri 'none'; form-action 'none'; frame-ancestors 'none'")
+
+
+class Server(http.server.ThreadingHTTPServer):
+    """Serves the page of a title, the items of a feed, and the files that `saved` gives by their names."""
+
+    daemon_threads = True
+
+    def __init__(self, port, title, feed, saved):
+        super().__init__((ADDRESS, port), Handler)
+        self.feed, self.saved, self.is_closing = feed, saved, False
+        self.page = bundle.live_page({"title": title})
+        self.policy = policy(self.page)
+        self.hosts = {f"{name}:{self.server_port}" for name in (ADDRESS, "localhost")}
+
+    @property
+    def address(self):
+        return f"http://{ADDRESS}:{self.server_port}/"
+
+    def handle_error(self, request, client_address):
+        """A browser that goes away is no error."""
+
+    def close(self):
+        self.is_closing = True
+        self.feed.wake()
+        self.shutdown()
+        self.server_close()
+
+
+class Handler(http.server.BaseHTTPRequestHandler):
+    timeout = LONGEST_WRITE
+    server_version, sys_version = "cobtool", ""
+
+    def log_message(self, *words):
+        """Nothing is printed."""
+
+    def __getattr__(self, name):
+        """All methods are answered in one place."""
+        if name.startswith("do_"):
+            return self.answer
+        raise AttributeError(name)
+
+    def answer(self):
+        """Answers a request."""
+        path = self.path.split("?", 1)[0]
+        file = re.fullmatch(r"/files/([0-9]+\.[a-z]+)", path)
+        if self.headers.get("Host", "").lower() not in self.server.hosts:
+            self.put(403, "this page has another name")
+        elif self.command not in READ_METHODS:
+            self.put(405, "the page is only read", Allow=", ".join(READ_METHODS))
+        elif path == "/":
+            self.put(200, self.server.page, "text/html; charset=utf-8", **{"Content-Security-Policy": self.server.policy})
+        elif path == "/feed":
+            self.put_events()
+        elif file and self.server.saved(file.group(1)):
+            self.put(200, *self.server.saved(file.group(1)))
+        else:
+            self.put(404, "there is no such page")
+
+    def put(self, status, content, kind="text/plain; charset=utf-8", **more):
+        """Puts an answer that is whole."""
+        data = content.encode() if isinstance(content, str) else content
+        self.send_response(status)
+        for name, value in {**HEADERS, "Content-Type": kind, "Content-Length": str(len(data)), **more}.items():
+            self.send_header(name, value)
+        self.end_headers()
+        if self.command != "HEAD":
+            self.wfile.write(data)
+
+    def put_events(self):
+        """Puts the items of the feed, and then each time what is new, until the browser goes away."""
+        self.send_response(200)
+        for name, value in {**HEADERS, "Content-Type": "text/event-stream"}.items():
+            self.send_header(name, value)
+        self.end_headers()
+        feed, seen = self.server.feed, self.last_seen()
+        while self.command != "HEAD" and not self.server.is_closing:
+            number, items = feed.since(seen, STILL_HERE)
+            self.wfile.write(event_of(feed, number, items, seen == 0) if items else b": nothing new\n\n")
+            self.wfile.flush()
+            seen = number
+
+    def last_seen(self):
+        """The number of the last change that the browser has seen of this feed."""
+        found = re.fullmatch(r"([0-9a-f]+)-([0-9]{1,15})", self.headers.get("Last-Event-ID", ""))
+        return int(found.group(2)) if found and found.group(1) == self.server.feed.name else 0
+
+
+def event_of(feed, number, items, is_whole):
+    """The event that has these items; one with all of them takes the place of what the browser has."""
+    texts = ",".join(f'"{name}":{text}' for name, text in items.items())
+    return f'id: {feed.name}-{number}\ndata: {{"whole":{str(is_whole).lower()},"items":{{{texts}}}}}\n\n'.encode()

@@ -1,0 +1,144 @@
+/* The nodes, with the values that their files set and the files themselves; what the last save changed is marked. */
+
+class NodesPart {
+  constructor() {
+    this.name = "nodes";
+    this.title = "Nodes";
+    this.search = element("input", { type: "search", placeholder: "node", "aria-label": "search for a node by name or number" });
+    this.list = element("div", { class: "nodes" });
+    this.none = element("p", { class: "soft", hidden: "" }, "There are no nodes.");
+    this.bar = element("div", { class: "bar" }, this.search);
+    this.element = element("section", { class: "part" }, this.bar, this.none, this.list);
+    this.cards = new Map();
+    this.search.addEventListener("input", () => this.filter());
+  }
+
+  take(items, changed) {
+    const nodes = items.all("node/"), run = items.get("run"), boots = items.get("boots");
+    for (const [number, card] of this.cards) if (!items.get("node/" + number)) { card.element.remove(); this.cards.delete(number); }
+    nodes.forEach((node, place) => this.put(node, place, changed.has("node/" + node.node)));
+    if (run) for (const node of nodes) this.cards.get(node.node).about(run, boots);
+    const marked = nodes.filter(isMarked).length;
+    this.none.hidden = nodes.length > 0;
+    this.bar.hidden = nodes.length < 8;
+    this.badge(marked ? `${marked} changed` : "", "changed");
+    this.filter();
+  }
+
+  /** A node at its place of the list. */
+  put(node, place, isOther) {
+    const known = this.cards.get(node.node), card = known || new NodeCard();
+    if (!known) this.cards.set(node.node, card);
+    if (this.list.children[place] !== card.element) this.list.insertBefore(card.element, this.list.children[place] || null);
+    if (isOther || !known) card.take(node);
+  }
+
+  filter() {
+    const wanted = this.search.value.trim().toLowerCase();
+    for (const card of this.cards.values()) card.element.hidden = !card.fits(wanted);
+  }
+}
+
+const isMarked = node => node.isNew || node.marks.length > 0 || node.values.some(isChanged);
+
+/** A node: a line on it, and below that, where it is open, its values and files. */
+class NodeCard {
+  constructor() {
+    this.state = element("span", { class: "state chip" });
+    this.name = element("b", {});
+    this.number = element("span", { class: "number" });
+    this.booted = element("span", { class: "soft booted" });
+    this.sheet = element("span", { class: "soft sheet" });
+    this.tag = element("span", { class: "tag" });
+    this.body = element("div", { class: "body" });
+    this.element = element("details", { class: "node" },
+      element("summary", {}, this.number, this.name, this.tag, this.state, this.booted, this.sheet), this.body);
+    this.element.addEventListener("toggle", () => this.fill());
+  }
+
+  fits(wanted) { return !wanted || this.node.name.toLowerCase().includes(wanted) || String(this.node.node) === wanted; }
+
+  take(node) {
+    this.node = node;
+    this.number.textContent = node.node;
+    this.name.textContent = node.name;
+    this.sheet.textContent = node.sheet + (node.need === "mandatory" ? ", mandatory" : "");
+    badge(this.tag, node.isNew ? "new" : changesText(node), "tag");
+    this.fill();
+  }
+
+  /** What the run shows of it. */
+  about(run, boots) {
+    const states = run.states[this.node.node] || [], last = states.length ? run.stateNames[states[states.length - 1][1]] : "";
+    const time = boots ? boots.times[this.node.node] : undefined;
+    this.state.replaceChildren(element("i", { class: last, style: `background: var(--${last})` }), last);
+    this.state.title = "state at the end of the run";
+    this.booted.textContent = time === undefined ? "not configured" : `configured at ${shownTime(time)}`;
+    this.element.classList.toggle("unconfigured", time === undefined);
+  }
+
+  fill() {
+    if (!this.element.open) { this.body.replaceChildren(); return; }
+    const { node } = this, folded = [...this.body.querySelectorAll("details")].map(each => each.open);
+    const scrolled = this.body.querySelector("pre"), top = scrolled ? scrolled.scrollTop : 0;
+    this.body.replaceChildren(valuesTable(node.values.filter(value => !isOfPdos(value))), pdoPart(node.values.filter(isOfPdos)), filePart("DCF", `${node.node}.dcf`, `${node.file}.dcf`, dcfText(node)),
+      filePart("Concise DCF", `${node.node}.bin`, `${node.file}.bin`, bytesText(node.bytes)));
+    this.body.querySelectorAll("details").forEach((each, n) => { each.open = folded[n] === undefined ? each.classList.contains("marked") : folded[n]; });
+    const mark = this.body.querySelector("mark"), text = this.body.querySelector("pre");
+    text.scrollTop = mark ? mark.offsetTop - 60 : top;
+  }
+}
+
+function changesText(node) {
+  const changed = node.values.filter(isChanged).length;
+  return changed ? several(changed, "value") + " changed" : node.marks.length ? "changed" : "";
+}
+
+const isChanged = ([, , , was]) => was !== null;
+const isOfPdos = ([entry]) => /^1[4-9AB]/.test(entry);
+
+/** Values that the files set; those that the last save changed stand first, beside what they were. */
+function valuesTable(values) {
+  const rows = values.filter(isChanged).concat(values.filter(value => !isChanged(value)));
+  if (!rows.length) return element("p", { class: "soft" }, "Its files set no value but those of PDOs.");
+  const hasOld = rows.some(isChanged);
+  const columns = ["Entry", "Name", "Value"].concat(hasOld ? ["Before"] : []);
+  const marks = rows.map(([, , , was], n) => was === null ? -1 : n);
+  return tableOf(columns, rows.map(([entry, name, value, was]) => [entry, name, value].concat(hasOld ? [was === null ? "" : was] : [])),
+    [false, false, true, true], marks);
+}
+
+/** The values of PDO objects, which messages make. */
+function pdoPart(values) {
+  const marked = values.some(isChanged);
+  return element("div", { class: "file", ...(values.length ? {} : { hidden: "" }) },
+    element("details", marked ? { class: "marked" } : {}, element("summary", {}, `PDO objects, which messages make: ${several(values.length, "value")}`),
+      valuesTable(values)));
+}
+
+/** A file of a node: a button that saves it, and its text. */
+function filePart(title, path, name, text) {
+  const link = element("a", { class: "button", href: `files/${path}`, download: name }, "Save " + name);
+  const marked = text.querySelector("mark") ? { class: "marked" } : {};
+  return element("div", { class: "file" }, element("details", marked, element("summary", {}, title), text), link);
+}
+
+/** The lines of a DCF; those that are new are marked, with what they were. */
+function dcfText(node) {
+  const made = element("pre", { tabindex: "0" }), marks = new Map(node.marks);
+  let plain = [];
+  const flush = () => { if (plain.length) made.append(plain.join("\n") + "\n"); plain = []; };
+  node.dcf.forEach((line, place) => {
+    if (!marks.has(place)) { plain.push(line); return; }
+    flush();
+    const was = marks.get(place);
+    made.append(element("mark", {}, line), element("span", { class: "was" }, was === null ? "  new" : `  was ${was}`), "\n");
+  });
+  flush();
+  return made;
+}
+
+function bytesText(bytes) {
+  const lines = (bytes.match(/.{1,32}/g) || []).map(spaced);
+  return element("pre", { tabindex: "0" }, lines.join("\n"));
+}

@@ -1,0 +1,166 @@
+/* The run: its timeline, which stays where it is over a save, and its frames as a table. */
+
+class RunPart {
+  constructor() {
+    this.name = "run";
+    this.title = "Run";
+    this.drawing = element("div", { class: "timeline" });
+    this.frames = new FrameTable(frame => this.point(frame));
+    this.views = [["Timeline", this.drawing], ["Frames", this.frames.element]];
+    this.switch = element("div", { class: "switch", role: "group", "aria-label": "the run as" }, ...this.views.map(([title], n) => button(title, title, () => this.view(n))));
+    this.waits = element("div", { class: "waits", role: "status", hidden: "" });
+    this.element = element("section", { class: "part run" }, this.waits, this.drawing, this.frames.element);
+    this.timeline = new Timeline(this.drawing, { addEventListener: (name, action) => document.addEventListener(name, event => this.pass(event, action)) });
+    this.known = this.seen = null;
+    this.view(0);
+  }
+
+  /** The keys of the page are the timeline's while it is shown. */
+  pass(event, action) {
+    if (!this.element.hidden && !this.drawing.hidden && !event.target.closest("[role=tablist], .nodes")) action(event);
+  }
+
+  view(number) {
+    (number ? this.frames.bar : this.timeline.bar.element).prepend(this.switch);
+    this.views.forEach(([, view], n) => {
+      view.hidden = n !== number;
+      this.switch.children[n].setAttribute("aria-pressed", String(n === number));
+    });
+    if (number === 1) this.frames.shown();
+  }
+
+  shown() { if (!this.frames.element.hidden) this.frames.shown(); }
+
+  wait(words) {
+    this.waits.textContent = words;
+    this.waits.hidden = !words;
+  }
+
+  take(items, changed) {
+    if (!items.get("run") || !(touches(changed, "window/") || touches(changed, "sorts/") || changed.has("run") || changed.has("ledger"))) return;
+    const sorts = [];
+    for (const { at, rows } of items.all("sorts/")) rows.forEach((row, n) => { sorts[at + n] = row; });
+    const windows = items.all("window/");
+    this.mark(windows, sorts);
+    this.timeline.show({ ...items.get("run"), sorts, windows, fresh: this.fresh });
+    this.frames.take(this.timeline.trace);
+    const count = this.timeline.trace.fresh.size;
+    this.badge(count ? `${several(count, "frame")} new` : "", "changed");
+  }
+
+  /** A save is over: what is there now isn't new at the next one. */
+  end(items) { this.seen = items && this.now; }
+  begin() { this.known = this.seen; }
+
+  /** Which frames weren't there before the last save: by windows, their places. */
+  mark(windows, sorts) {
+    this.now = new Map(windows.map(content => [content.at, { content, sorts }]));
+    this.fresh = new Map();
+    for (const [at, { content }] of this.known ? this.now : []) {
+      const known = this.known.get(at);
+      if (!known || known.content !== content) this.fresh.set(content, freshOf(known, content, sorts));
+    }
+  }
+
+  /** Shows a frame of the table in the timeline. */
+  point(frame) {
+    this.view(0);
+    this.timeline.view.focus();
+    this.timeline.goTo(tellFrame(this.timeline, frame));
+  }
+}
+
+/** The frames of a window, each as its time, identifier and bytes. */
+function frameKeys(content, sorts) {
+  let time = content.at, place = 0;
+  return content.sort.map((number, n) => {
+    const size = 2 * sorts[number][3], data = content.data.slice(place, place + size);
+    time += content.time[n];
+    place += size;
+    return `${time} ${sorts[number][0]} ${data}`;
+  });
+}
+
+/** The places of the frames that a window didn't have before. */
+function freshOf(before, content, sorts) {
+  const old = new Set(before ? frameKeys(before.content, before.sorts) : []);
+  const fresh = new Set();
+  frameKeys(content, sorts).forEach((key, n) => { if (!old.has(key)) fresh.add(n); });
+  return fresh;
+}
+
+/** The frames as a table, of which the rows in view alone are made. */
+class FrameTable {
+  static ROW = 24;
+
+  constructor(chosen) {
+    this.chosen = chosen;
+    this.node = element("select", { "aria-label": "node" });
+    this.kind = element("select", { "aria-label": "kind" });
+    this.text = element("input", { type: "search", placeholder: "message or object", "aria-label": "search in messages and objects" });
+    this.isNew = element("input", { type: "checkbox" });
+    this.count = element("span", { class: "soft", role: "status" });
+    this.body = element("tbody", {});
+    this.above = element("div", {});
+    this.below = element("div", {});
+    this.scroller = element("div", { class: "rows", tabindex: "0", role: "region", "aria-label": "frames" }, this.above, frameTable(this.body), this.below);
+    this.bar = element("div", { class: "bar" }, this.node, this.kind, this.text, element("label", {}, this.isNew, " new"), this.count);
+    this.element = element("div", { class: "frames" }, this.bar, this.scroller);
+    for (const field of [this.node, this.kind, this.text, this.isNew]) field.addEventListener("input", () => this.filter());
+    this.draw = onceAFrame(() => this.drawNow());
+    this.scroller.addEventListener("scroll", this.draw, { passive: true });
+    new ResizeObserver(() => this.draw()).observe(this.scroller);
+  }
+
+  take(trace) {
+    this.trace = trace;
+    fillSelect(this.node, "all nodes", trace.lanes.map(lane => [lane.key, lane.name]));
+    fillSelect(this.kind, "all kinds", trace.kinds.map((kind, n) => [n, kind]));
+    this.filter();
+  }
+
+  shown() { this.draw(); }
+
+  /** Which frames are listed: by sort, as all frames of a sort have the same node, kind and subject. */
+  filter() {
+    const { trace } = this, wanted = this.text.value.trim().toLowerCase();
+    const fits = trace.sorts.map(sort => (!this.node.value || String(trace.lanes[sort.lane].key) === this.node.value) &&
+      (!this.kind.value || String(sort.kind) === this.kind.value) && (!wanted || subjectOf(sort).toLowerCase().includes(wanted)));
+    const found = new Uint32Array(trace.count);
+    let count = 0;
+    for (let i = 0; i < trace.count; i++) if (fits[trace.sort[i]] && (!this.isNew.checked || trace.fresh.has(i))) found[count++] = i;
+    this.found = found.subarray(0, count);
+    this.count.textContent = `${counted(count)} of ${several(trace.count, "frame")}`;
+    this.draw();
+  }
+
+  drawNow() {
+    if (!this.trace || !this.scroller.clientHeight) return;
+    const first = Math.max(0, Math.floor(this.scroller.scrollTop / FrameTable.ROW) - 4);
+    const last = Math.min(this.found.length, first + Math.ceil(this.scroller.clientHeight / FrameTable.ROW) + 8);
+    this.above.style.height = first * FrameTable.ROW + "px";
+    this.below.style.height = Math.max(0, this.found.length - last) * FrameTable.ROW + "px";
+    this.body.replaceChildren(...Array.from(this.found.subarray(first, last), frame => this.row(frame)));
+  }
+
+  row(frame) {
+    const { trace } = this, sort = trace.sortOf(frame), kind = trace.kinds[sort.kind];
+    const cells = [shownTime(trace.time[frame]), trace.identifier(frame), kind, trace.lanes[sort.lane].name, trace.text(frame), spaced(trace.bytes(frame))];
+    const made = element("tr", trace.fresh.has(frame) ? { class: "new" } : {}, ...cells.map(cell => element("td", {}, cell)));
+    made.children[2].prepend(element("i", { style: `background: var(--${colourOf(kind)})` }));
+    made.addEventListener("click", () => this.chosen(frame));
+    return made;
+  }
+}
+
+const frameTable = body => element("table", {}, element("thead", { class: "unseen" }, element("tr", {},
+  ...["Time", "Identifier", "Kind", "Sender", "What", "Bytes"].map(each => element("th", { scope: "col" }, each)))), body);
+
+const subjectOf = sort => typeof sort.text === "string" ? sort.text : sort.text[0] + " " + (sort.text[1] || []).map(([label]) => label).join(" ");
+
+/** The choices of a field; what was chosen stays so, where it is still there. */
+function fillSelect(field, all, choices) {
+  const chosen = field.value;
+  field.replaceChildren(element("option", { value: "" }, all), ...choices.map(([value, words]) => element("option", { value }, words)));
+  field.value = choices.some(([value]) => String(value) === chosen) ? chosen : "";
+}
