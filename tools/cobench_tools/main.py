@@ -8,7 +8,13 @@ import traceback
 from . import tool
 
 # The commands, in the order of a day's work. Each is the module of that name in commands/.
-COMMANDS = ("check", "export", "matrix", "dbc", "expand", "eds", "refusals", "explain", "timeline", "live", "candump")
+COMMANDS = (
+    "check", "export",
+    "matrix", "dbc",
+    "expand", "eds",
+    "refusals", "explain", "stats", "timeline", "candump",
+    "live",
+)
 
 ABOUT = """Checks, exports and explains a CANopen network that is written as a script for cobench.
 

@@ -17,14 +17,13 @@ from operator import itemgetter
 
 from . import meaning, tool
 from .device import BOOLEAN, SIGNED
-from .trace import Note
+from .trace import Note, bit_time
 
 OTHERS = -1
 STATES = ("off", "stopped", "operational", "pre-operational")
 BY_BYTE = {4: "stopped", 5: "operational", 127: "pre-operational"}
 BY_SERVICE = {1: "operational", 2: "stopped", 128: "pre-operational", 129: "pre-operational", 130: "pre-operational"}
 TIME_AND_ORDER = itemgetter(0, 1)
-BIT_TIMES = (1, 2, 4, 8, 20, 50, 100)
 
 
 def form_of(kind):
@@ -34,15 +33,6 @@ def form_of(kind):
 
 def entry_text(entry):
     return f"{entry[0]:04X}h" + (f":{entry[1]:02X}" if entry[1] else "")
-
-
-def bit_time(lines, project):
-    """Microseconds a bit: by the bit rate, or by the first frame, which starts at 0."""
-    if project:
-        return 1000 // project.bitrate
-    first = next((line for line in lines if not isinstance(line, Note)), None)
-    time = first.time / (47 + 8 * len(first.data)) if first else 1
-    return int(time) if time in BIT_TIMES else 1
 
 
 class Sorts:

@@ -8,6 +8,10 @@ TIME = re.compile(rb"[0-9]{10} ")
 FRAME = re.compile(rb"([0-7][0-9A-F]{2}) \[([0-8])\]((?: [0-9A-F]{2})*)")
 NOTE = re.compile(rb"([0-9]{10}) note ([0-9]{1,3}) (configured|lost|failed (?:[0-9A-F]{8}|timeout|difference))")
 
+# Microseconds a bit, by the bit rates that there are; the bits of a frame without its bytes.
+BIT_TIMES = (1, 2, 4, 8, 20, 50, 100)
+FRAME_BITS = 47
+
 # The second of power-on in a log: readers as log2asc take second 0 for a log that has not begun.
 LOG_START = 1
 
@@ -17,6 +21,11 @@ class Frame:
 
     def __init__(self, time, identifier, data):
         self.time, self.identifier, self.data = time, identifier, data
+
+    @property
+    def bits(self):
+        """For how many bits it has the bus."""
+        return FRAME_BITS + 8 * len(self.data)
 
     def line(self):
         data = "".join(f" {byte:02X}" for byte in self.data)
@@ -56,6 +65,15 @@ def trace_of(lines):
     """The frames and notes of these lines, or None where they are no trace, as the files that `dcf` prints."""
     found = [line_of(line) for line in lines]
     return None if None in found else found
+
+
+def bit_time(lines, project):
+    """Microseconds a bit: by the bit rate, or by the first frame, which starts at 0."""
+    if project:
+        return 1000 // project.bitrate
+    first = next((line for line in lines if isinstance(line, Frame)), None)
+    time = first.time / first.bits if first else 1
+    return int(time) if time in BIT_TIMES else 1
 
 
 def log_of(lines, start=LOG_START):

@@ -37,3 +37,11 @@ def trace_and_project(script_path, replies_path, wanted):
                 kept = project.copy()
     lines = trace.pick(replies_path, found, wanted)
     return lines, kept
+
+
+def trace_of(options):
+    """The trace of a command's TRACE, and its project where `--script` gives one, else None."""
+    if options.script:
+        return trace_and_project(options.script, options.replies, options.trace)
+    traces = trace.traces_of(options.replies, tool.read_text(options.replies))
+    return trace.pick(options.replies, traces, options.trace), None

@@ -30,11 +30,7 @@ def arguments(parser):
 
 
 def run(options):
-    if options.script:
-        lines, project = view.trace_and_project(options.script, options.replies, options.trace)
-    else:
-        traces = trace.traces_of(options.replies, tool.read_text(options.replies))
-        lines, project = trace.pick(options.replies, traces, options.trace), None
+    lines, project = view.trace_of(options)
     path = options.script or options.replies
     title = options.title or (tool.name_of(path) if path == "-" else os.path.basename(path))
     tool.put(bundle.timeline_page(Picture(lines, project).content(title)))
