@@ -10,7 +10,7 @@ from . import tool
 # The commands, in the order of a day's work. Each is the module of that name in commands/.
 COMMANDS = (
     "check", "export",
-    "matrix", "dbc",
+    "import", "matrix", "dbc",
     "expand", "eds",
     "refusals", "explain", "stats", "timeline", "candump",
     "live",

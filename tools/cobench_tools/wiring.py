@@ -19,8 +19,20 @@ def is_restricted(identifier):
     return any(low <= identifier <= high for low, high in RESTRICTED)
 
 
+def pdo_numbers(device, direction):
+    """The numbers of the PDOs of a direction that a data sheet has."""
+    first = COMMUNICATION[direction]
+    return sorted({index - first for index, sub in device.entries if sub == 1 and 1 <= index - first <= MOST_PDOS})
+
+
+def pdo_of(index):
+    """The direction and number of the PDO whose communication or mapping object that is."""
+    direction = TPDO if index > COMMUNICATION[TPDO] else RPDO
+    return direction, (index - COMMUNICATION[direction] - 1) % MOST_PDOS + 1
+
+
 class Part:
-    """What a PDO carries at some of its bits: an entry, or a dummy's index."""
+    """What a PDO carries at some of its bits: an entry, or a dummy's index, for which there is no entry."""
 
     def __init__(self, start, bits, key, entry):
         self.start, self.bits, self.key, self.entry = start, bits, key, entry
@@ -34,19 +46,19 @@ class Part:
 
 
 class Pdo:
-    """A PDO that works.
+    """A PDO that is on.
 
     node, direction, number  whose it is, TPDO or RPDO, and its number from 1 on
     identifier               its COB-ID without the upper bits
     kind                     its transmission type, None for none
     inhibit, event, start    inhibit time in units of 100 us, event time in ms, SYNC start value; 0 for none
-    parts                    what it carries, by bits
-    is_set                   whether the concise DCF writes it; else the device has it by its defaults
+    items                    its mapping entries as they stand
+    parts                    what it carries, by bits; nothing where it can't carry what it maps
     """
 
-    def __init__(self, node, direction, number):
-        self.node, self.direction, self.number = node, direction, number
-        self.identifier, self.kind, self.parts, self.is_set = 0, None, [], False
+    def __init__(self, node, direction, number, identifier):
+        self.node, self.direction, self.number, self.identifier = node, direction, number, identifier
+        self.kind, self.items, self.parts = None, [], []
         self.inhibit = self.event = self.start = 0
 
     @property
@@ -58,17 +70,20 @@ class Pdo:
         """Its bytes."""
         return (self.bits + 7) // 8
 
+    def works(self):
+        """Whether it is sent or taken at all."""
+        return 0 < self.bits <= MOST_BITS and not is_restricted(self.identifier)
+
 
 class Node:
     """A node with the values of its entries.
 
     device   its data sheet
-    written  the bytes of each entry that its concise DCF writes
+    written  the bytes of each entry that has another value than its default
     """
 
     def __init__(self, number, device, written):
         self.number, self.device, self.written = number, device, written
-        self._numbers = {}
 
     def number_at(self, index, sub, kind):
         """The number of an entry that is there with exactly that type, else None."""
@@ -80,31 +95,29 @@ class Node:
 
     def pdos(self, direction):
         """The PDOs of a direction that work, by number."""
-        first = COMMUNICATION[direction]
-        numbers = sorted({index - first for index, sub in self.device.entries
-                          if sub == 1 and 1 <= index - first <= MOST_PDOS})
-        found = [self._pdo(direction, number) for number in numbers]
-        return [pdo for pdo in found if pdo]
+        found = [self.pdo(direction, number) for number in pdo_numbers(self.device, direction)]
+        return [pdo for pdo in found if pdo and pdo.works()]
 
-    def _pdo(self, direction, number):
-        """The PDO of a number, or None where it doesn't work."""
-        index, pdo = COMMUNICATION[direction] + number, Pdo(self.number, direction, number)
+    def pdo(self, direction, number):
+        """The PDO of a number, or None where it is off."""
+        index = COMMUNICATION[direction] + number
         cob = self.number_at(index, 1, 0x07)
-        if cob is None or cob & (OFF | EXTENDED) or is_restricted(cob & 0x7FF):
+        if cob is None or cob & (OFF | EXTENDED):
             return None
-        pdo.identifier, pdo.kind = cob & 0x7FF, self.number_at(index, 2, 0x05)
-        pdo.inhibit, pdo.event = self.number_at(index, 3, 0x06) or 0, self.number_at(index, 5, 0x06) or 0
-        pdo.start = self.number_at(index, 6, 0x05) or 0
-        pdo.is_set = (index, 1) in self.written
-        pdo.parts = self._parts(direction, index + 0x200)
-        return pdo if pdo.parts and pdo.bits <= MOST_BITS else None
+        pdo = Pdo(self.number, direction, number, cob & 0x7FF)
+        pdo.kind, pdo.inhibit = self.number_at(index, 2, 0x05), self.number_at(index, 3, 0x06) or 0
+        pdo.event, pdo.start = self.number_at(index, 5, 0x06) or 0, self.number_at(index, 6, 0x05) or 0
+        count = self.number_at(index + 0x200, 0, 0x05) or 0
+        if count <= MOST_BITS:
+            pdo.items = [self.number_at(index + 0x200, sub, 0x07) or 0 for sub in range(1, count + 1)]
+        pdo.parts = self._parts(direction, pdo.items)
+        return pdo
 
-    def _parts(self, direction, index):
-        """What a mapping object maps; nothing where its count passes no check."""
+    def _parts(self, direction, items):
+        """What mapping entries name; nothing where one names what the direction can't carry."""
         parts, start = [], 0
-        for sub in range(1, min(self.number_at(index, 0, 0x05) or 0, MOST_BITS + 1) + 1):
-            item = self.number_at(index, sub, 0x07)
-            part = None if item is None else self._part(direction, start, item)
+        for each in items:
+            part = self._part(direction, start, each)
             if part is None:
                 return []
             parts.append(part)
@@ -113,13 +126,18 @@ class Node:
 
     def _part(self, direction, start, item):
         """What a mapping entry names, None where a PDO of the direction can't carry it."""
-        key, bits = (item >> 16, item >> 8 & 0xFF), item & 0xFF
+        key, bits = key_and_bits(item)
         entry = self.device.entries.get(key)
         if entry and (entry.is_sent() if direction == TPDO else entry.is_taken()):
             return Part(start, bits, key, entry) if bits == BITS[entry.kind] else None
         if direction == RPDO and key[1] == 0 and self.device.allows_dummy(key[0]) and bits == BITS[key[0]]:
             return Part(start, bits, key, None)
         return None
+
+
+def key_and_bits(item):
+    """The entry that a mapping entry names, and how many bits."""
+    return (item >> 16, item >> 8 & 0xFF), item & 0xFF
 
 
 class Wiring:

@@ -1,4 +1,5 @@
 """What the tests of the tools share: to run cobtool, to put files down, and to judge what it did."""
+import concurrent.futures
 import os
 import re
 import subprocess
@@ -6,7 +7,9 @@ import sys
 import tempfile
 import traceback
 
+from cobench_tools import session as session_module
 from cobench_tools.main import main
+from cobench_tools.tool import Fault
 
 TOOLS = os.path.dirname(os.path.dirname(os.path.abspath(__file__)))
 ROOT = os.path.dirname(TOOLS)
@@ -103,6 +106,41 @@ def recorded():
 def recorded_replies(text):
     """The replies that are kept to an input."""
     return subprocess.run([sys.executable, kept_at("stand_in")], input=text, stdout=subprocess.PIPE, check=True).stdout
+
+
+def real():
+    """The words of the cobench over which the long lists run."""
+    try:
+        return os.environ.get("COBTOOL_COMPARE") or " ".join(session_module.program(None))
+    except Fault as fault:
+        raise Skipped(fault) from None
+
+
+def in_parallel(work, numbers):
+    """What work gives for each number, by as many processes as there are processors; each has a folder of its own."""
+    with concurrent.futures.ProcessPoolExecutor() as pool:
+        return list(pool.map(in_folder, [work] * len(numbers), numbers))
+
+
+def in_folder(work, number):
+    start = os.getcwd()
+    with tempfile.TemporaryDirectory() as folder:
+        os.chdir(folder)
+        try:
+            return work(number)
+        finally:
+            os.chdir(start)
+
+
+def answers(program, text, queries):
+    """The lines of the replies of a program to these queries behind a script, which has none."""
+    done = subprocess.run(program.split(" "), input=text + queries, stdout=subprocess.PIPE, check=True)
+    lines, found, place = done.stdout.split(b"\n"), [], 0
+    while place < len(lines):
+        count = int(lines[place][6:]) if lines[place].startswith(b"lines ") else 0
+        found += [lines[place + 1:place + 1 + count]] if lines[place].startswith(b"lines ") else []
+        place += 1 + count
+    return found[-queries.count(b"\n"):]
 
 
 def stand_in(text, replies):

@@ -2,11 +2,10 @@
 import csv
 import html.parser
 import io
-import subprocess
 
 import networks
 from dcf_reader import Dcf, links
-from helper import BINARY, example, is_refused, put, recorded, run
+from helper import BINARY, answers, example, is_refused, put, recorded, run
 
 # The messages of io_modules.txt, by hand: COB-IDs are 180h + the node, as TPDO 1 has them by the predefined connection set.
 IO_MESSAGES = b"""\
@@ -38,18 +37,6 @@ def matrix(*words, given=None):
     return run("matrix", "--cobench", recorded(), *words, given or example("io_modules.txt"))
 
 
-def answers(script, queries):
-    """The lines of the replies to these queries behind a script."""
-    done = subprocess.run(recorded().split(" "), input=script + queries, stdout=subprocess.PIPE, check=True)
-    lines, found = done.stdout.decode("latin-1").split("\n"), []
-    place = 0
-    while place < len(lines):
-        count = int(lines[place][6:]) if lines[place].startswith("lines ") else None
-        found += [] if count is None else [lines[place + 1:place + 1 + count]]
-        place += 1 + (count or 0)
-    return found[-queries.count(b"\n"):]
-
-
 def test_matrix_has_the_tables_of_the_examples():
     for table, lines in (("messages", IO_MESSAGES), ("heartbeats", IO_HEARTBEATS)):
         assert matrix("--format", "csv", "--table", table) == (0, lines, "")
@@ -65,8 +52,8 @@ def test_matrix_says_the_same_as_the_dcfs():
         put("network.txt", network.script())
         output = matrix("--format", "csv", "--table", "signals", given="network.txt")[1].decode()
         rows = {tuple(row.values()) for row in csv.DictReader(io.StringIO(output))}
-        texts = answers(network.script(), b"".join(b"dcf %d\n" % node for node in network.nodes))
-        expected = links([Dcf("\n".join(lines)) for lines in texts])
+        texts = answers(recorded(), network.script(), b"".join(b"dcf %d\n" % node for node in network.nodes))
+        expected = links([Dcf(b"\n".join(lines).decode("latin-1")) for lines in texts])
         found = {tuple(row[place] for place in (0, 2, 3, 4, 7, 8, 9)) for row in rows}
         assert found == set(map(signal_cells, expected)) and len(found) > 5, seed
 

@@ -1,0 +1,51 @@
+"""Makes a script of the DCFs of an existing machine."""
+import os
+
+from .. import output, tool
+from ..machine import Machine
+
+SUMMARY = "make a script of the DCFs of an existing machine"
+
+AFTER = """Each DCF is the configuration file of one node (CiA 306): a data sheet with the
+values that are set, and the node's number. Printed is a script with the data
+sheets without these values, the nodes, a `param` for each value that can be
+written and isn't the default's, and the messages: TPDOs and RPDOs with one COB-ID
+belong together. Of a file as cobench prints them each value becomes a `param`.
+
+What a script can't say is told as FILE:LINE: warning: a value of an entry that is
+read only, an RPDO whose sender is in none of the files, a mapping that fits to no
+value of the sender. Status: 0, or 2 where a file is no DCF, or cobench would
+refuse it; nothing is printed then.
+
+  cobtool import --sheets sheets files/*.dcf > machine.txt"""
+
+
+def arguments(parser):
+    parser.epilog = AFTER
+    parser.add_argument("files", metavar="DCF", nargs="+")
+    parser.add_argument("--all", action="store_true", help="make a param of values that are the default's too")
+    parser.add_argument("--sheets", metavar="DIR", help="write the data sheets into DIR, and take them in by <DIR/NAME.eds")
+
+
+def write_sheets(folder, files):
+    """Writes the data sheets; where one is there already and says something else, none."""
+    for name, data in files.items():
+        path = os.path.join(folder, name)
+        if os.path.exists(path) and tool.read(path) != data:
+            raise tool.Fault(f"{path}: it is there already, and says something else")
+    try:
+        os.makedirs(folder, exist_ok=True)
+    except OSError as error:
+        raise tool.Fault(f"{folder}: {error.strerror}") from None
+    output.write_files(folder, files)
+
+
+def run(options):
+    machine = Machine(options.files, options.all)
+    text = machine.script(options.sheets)
+    if options.sheets:
+        write_sheets(options.sheets, machine.sheet_files())
+    for path, line, severity, words in machine.told:
+        tool.warn(f"{tool.place(path, line)}: {severity}: {tool.readable(words)}")
+    tool.put(text)
+    return tool.DONE

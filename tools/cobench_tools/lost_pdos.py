@@ -1,0 +1,99 @@
+"""What becomes of a node's PDOs that messages can't make as its file has them: a warning for each that is another."""
+from . import values
+from .device import object_name
+from .pdo_values import is_of_pdos
+from .wiring import COMMUNICATION, OFF, RPDO, TPDO, pdo_of
+
+NO_RTR = 1 << 30
+
+# What messages never say of a PDO, and what it comes to, for all PDOs of a node together.
+REMOTE_FRAMES = "its COB-ID allows remote frames, and by the script it doesn't"
+RPDO_TYPE = "its transmission type is another, and by the script 0 at SYNC and 255 else"
+
+
+class Lost:
+    """A value of a PDO object that the script makes another: its line, entry, number in the file, and by the script."""
+
+    def __init__(self, line, key, wanted, made):
+        self.line, self.key, self.wanted, self.made = line, key, wanted, made
+
+    def small(self):
+        """What this comes to where messages never say it, else None."""
+        direction, _ = pdo_of(self.key[0])
+        if self.key[0] >= COMMUNICATION[direction] + 0x201:
+            return None
+        if direction == TPDO and self.key[1] == 1 and self.wanted ^ self.made == NO_RTR:
+            return REMOTE_FRAMES
+        is_same_kind = (self.wanted <= 240) == (self.made <= 240)
+        return RPDO_TYPE if direction == RPDO and self.key[1] == 2 and is_same_kind else None
+
+
+def lost_values(node, made):
+    """The values of PDO objects that the script makes others, by PDO."""
+    found = {}
+    for key in sorted(node.written):
+        entry = node.device.entries[key]
+        if is_of_pdos(key[0]) and matters(node, made, key):
+            number = made_number(node, made, key)
+            wanted = int.from_bytes(node.written[key], "little")
+            if number != wanted:
+                found.setdefault(pdo_of(key[0]), []).append(Lost(entry.line, key, wanted, number))
+    return found
+
+
+def made_number(node, made, key):
+    """The number that an entry has by the script: what messages write, else its default."""
+    if key in made or key not in node.device.entries:
+        return made.get(key, OFF)
+    return int.from_bytes(values.default_of(node.device.entries[key], node.number), "little")
+
+
+def matters(node, made, key):
+    """Whether an entry says anything: the PDO is on here or by the script, and a mapping entry is one of those that count."""
+    direction, number = pdo_of(key[0])
+    communication = COMMUNICATION[direction] + number
+    cob = node.number_at(communication, 1, 0x07)
+    if (cob is None or cob & OFF) and made_number(node, made, (communication, 1)) & OFF:
+        return False
+    count = node.number_at(communication + 0x200, 0, 0x05) or 0
+    return key[0] == communication or key[1] <= count
+
+
+def warnings(node, made, causes):
+    """The warnings, each a line and words.
+
+    made    the number of each entry of PDO objects that the messages write
+    causes  why a PDO is in no message, by direction and number
+    """
+    found, together = [], {}
+    for pdo, several in lost_values(node, made).items():
+        small = {lost.small() for lost in several}
+        if None in small:
+            found.append(warning(pdo, several, causes.get(pdo)))
+        else:
+            for what in small:
+                together.setdefault(what, []).append((min(lost.line for lost in several), pdo))
+    return found + [together_warning(what, several) for what, several in together.items()]
+
+
+def warning(pdo, several, why):
+    """The warning of a PDO: whether it is on, or its first value that is another; and why, where that is known."""
+    first = min(several, key=lambda lost: lost.line)
+    cob = next((lost for lost in several if lost.key == (COMMUNICATION[pdo[0]] + pdo[1], 1)), None)
+    if cob and (cob.wanted ^ cob.made) & OFF:
+        if cob.made & OFF:
+            return cob.line, f"{pdo[0]} {pdo[1]} is on here, and off by the script (COB-ID {cob.wanted & 0x7FF:03X}h){because(why)}"
+        return cob.line, f"{pdo[0]} {pdo[1]} is off here, and on by the script, as in the data sheet (COB-ID {cob.made & 0x7FF:03X}h)"
+    rest = f", and {len(several) - 1} more of its values" if len(several) > 1 else ""
+    return first.line, (f"{pdo[0]} {pdo[1]}: {object_name(first.key)} is {first.wanted:X}h here, and {first.made:X}h by the "
+                        f"script{rest}{because(why)}")
+
+
+def because(why):
+    return f": {why}" if why else ""
+
+
+def together_warning(what, several):
+    """The warning of what messages never say, for all PDOs of the node."""
+    names = ", ".join(f"{direction} {number}" for _, (direction, number) in sorted(several, key=lambda each: each[1]))
+    return min(line for line, _ in several), f"{names}: {what}"

@@ -1,0 +1,149 @@
+"""The script of an existing machine, of the DCFs of its nodes."""
+import os
+import re
+
+from . import lost_pdos, tool
+from .hints import RATES
+from .joined import MOST_MESSAGES, Joined, free_name
+from .node_file import WARNING, NodeFile
+from .wiring import RPDO
+
+MOST_SHEETS, MOST_ENTRIES = 64, 4096
+SYNC_PRODUCER = 1 << 30
+LEAST_SYNC, LONGEST_SYNC = 1_000, 10_000_000
+
+
+def read_files(paths):
+    """The DCFs of a machine, by node."""
+    files = sorted(map(NodeFile, paths), key=lambda file: file.number)
+    for one, other in zip(files, files[1:]):
+        if one.number == other.number:
+            raise tool.Fault(f"{one.path} and {other.path} are both of node {one.number}")
+    names = set()
+    for file in files:
+        file.name = free_name(file.name, names)
+        if len(file.device.entries) > MOST_ENTRIES:
+            raise tool.Fault(f"{file.path}: it has {len(file.device.entries):,} entries, and cobench takes {MOST_ENTRIES:,}")
+    return files
+
+
+def comment(text):
+    """A comment line; what can't stand in a line becomes a blank."""
+    return "# " + re.sub("[\x00-\x1f\x7f]", " ", tool.readable(text))
+
+
+class Machine:
+    """The nodes of several DCFs, with the messages between them.
+
+    sheets    the data sheets by their names, each the lines of the first file that has it
+    plan      what the plan makes of its messages
+    told      what a script can't say, or needn't: FILE, line, `warning` or `note`, and words each
+    """
+
+    def __init__(self, paths, with_defaults):
+        self.files = read_files(paths)
+        self.with_defaults = with_defaults
+        self.sheets, self.sheet_of = {}, {}
+        self._share_sheets()
+        self.joined = Joined(self.files)
+        if len(self.joined.drafts) > MOST_MESSAGES:
+            raise tool.Fault(f"they have {len(self.joined.drafts):,} messages, and cobench takes {MOST_MESSAGES:,}")
+        self.parameters = {file.number: file.parameters(with_defaults) for file in self.files}
+        self.bitrate = self._bitrate()
+        self.plan = self.joined.plan()
+        self.told = [(file.path, *each) for file in self.files for each in sorted(file.told + self._lost_pdos(file))]
+
+    def _lost_pdos(self, file):
+        causes = {(direction, number): why for (node, direction, number), why in self.joined.causes.items() if node == file.number}
+        lost = lost_pdos.warnings(file.node, self.plan.values(file.number), causes)
+        return [(line, WARNING, words) for line, words in lost]
+
+    def _share_sheets(self):
+        """Nodes with equal data sheets have one name for it."""
+        names, known = set(), {}
+        for file in self.files:
+            content = file.content()
+            if content not in known:
+                known[content] = free_name(file.sheet_name(), names)
+                self.sheets[known[content]] = file.sheet
+            self.sheet_of[file.number] = known[content]
+        if len(self.sheets) > MOST_SHEETS:
+            raise tool.Fault(f"they have {len(self.sheets)} data sheets, and cobench takes {MOST_SHEETS}")
+
+    def _bitrate(self):
+        """The bit rate of the first file that has one; others that differ are told."""
+        rates = [file for file in self.files if file.bitrate in RATES]
+        for file in self.files:
+            if file.bitrate is not None and (not rates or file.bitrate != rates[0].bitrate):
+                taken = f"the network has {rates[0].bitrate}, by {rates[0].path}" if rates else "cobench has no such bit rate"
+                file.told.append((file.line, WARNING, f"Baudrate is {file.bitrate} kbit/s; {taken}"))
+        return rates[0].bitrate if rates else None
+
+    # The script.
+
+    def lines(self, folder):
+        """The lines of the script, as bytes; with a folder the data sheets are taken from the files there."""
+        lines = [comment("made of " + ", ".join(os.path.basename(file.path) for file in self.files) + " by cobtool import")]
+        lines += self._settings()
+        for name, sheet in self.sheets.items():
+            lines.append("#")
+            lines += [f"eds {name} <{os.path.join(folder, name)}.eds"] if folder else [f"eds {name} {len(sheet)}", *map(tool.shown, sheet)]
+        for file in self.files:
+            lines += self._node(file)
+        for draft in self.joined.drafts:
+            lines += self._message(draft)
+        return [line.encode("utf-8", "surrogateescape") for line in lines]
+
+    def _settings(self):
+        lines = [f"bitrate {self.bitrate}"] if self.bitrate else []
+        taken = {file.number for file in self.files}
+        manager = max(number for number in range(1, 128) if number not in taken)
+        sync = self._sync()
+        if not sync:
+            lines.append(comment("no file says how often SYNC comes: the second number below, in microseconds"))
+        lines.append(f"manager {manager} {sync} 0 500")
+        counters = {file.node.number_at(0x1019, 0, 0x05) for file in self.files} - {None, 0}
+        if len(counters) == 1 and 2 <= min(counters) <= 240:
+            lines.append(f"sync-counter {min(counters)}")
+        return lines
+
+    def _sync(self):
+        """The microseconds from SYNC to SYNC by the file of the node that sends it, 0 where none says it."""
+        for file in self.files:
+            period = file.node.number_at(0x1006, 0, 0x07) or 0
+            if (file.node.number_at(0x1005, 0, 0x07) or 0) & SYNC_PRODUCER and LEAST_SYNC <= period <= LONGEST_SYNC:
+                return period
+        return 0
+
+    def _node(self, file):
+        lines = ["#", comment(file.path)]
+        if file.is_manager:
+            lines.append(comment("it is the CANopen manager of its network; here the manager is a node of its own"))
+        lines.append(f"node {file.number} {file.name} {self.sheet_of[file.number]}")
+        return lines + [f"param {file.number} {key[0]:04X} {key[1]:X} {text}" for key, text in self.parameters[file.number]]
+
+    def _message(self, draft):
+        tpdo, message = draft.tpdo, draft.message()
+        lines = ["#", f"message {draft.name} {tpdo.node} {tpdo.number} {' '.join(message.words)}"]
+        lines += [f"start {draft.name} {message.start}"] if message.start else []
+        lines += [f"source {draft.name} {position} {key[0]:04X} {key[1]:X}" for position, key in message.sources.items()]
+        lines += [f"sink {draft.name} {position} {node} {key[0]:04X} {key[1]:X}"
+                  for (position, node), key in sorted(message.sinks.items())]
+        return lines + self._by_default(draft)
+
+    def _by_default(self, draft):
+        """Comments on the RPDOs that take a message as the device has them, without a value in a file."""
+        lines = []
+        for file in self.files:
+            set_ones = {pdo.number for pdo in file.set_pdos(RPDO)}
+            lines += [comment(f"RPDO {pdo.number} of {file.name} takes it too, by the defaults of the data sheet")
+                      for pdo in file.on_pdos(RPDO) if pdo.identifier == draft.tpdo.identifier
+                      and pdo.number not in set_ones and file.number != draft.tpdo.node]
+        return lines
+
+    def script(self, folder=None):
+        return b"".join(line + b"\n" for line in self.lines(folder))
+
+    def sheet_files(self):
+        """The files of the data sheets: their names and contents."""
+        return {f"{name}.eds": b"".join(line + b"\n" for line in lines) for name, lines in self.sheets.items()}
