@@ -58,7 +58,7 @@ class NodeFile:
         self.line = keys.lines.get("nodeid", keys.line)
         self.number = read_number(keys.get("nodeid", ""))
         if self.number is None or not 1 <= self.number <= 127:
-            raise tool.Fault(f"{tool.place(self.path, self.line)}: NodeID is 1 to 127, not {keys.get('nodeid', 'missing')}")
+            raise tool.Fault(f"{tool.Place(self.path, self.line)}: NodeID is 1 to 127, not {keys.get('nodeid', 'missing')}")
         stem = os.path.splitext(os.path.basename(self.path))[0]
         self.name = name_of(keys.get("nodename", "")) or name_of(stem) or f"node_{self.number}"
         self.is_manager = bool(read_number(keys.get("canopenmanager", "0")))

@@ -46,6 +46,6 @@ def run(options):
     if options.sheets:
         write_sheets(options.sheets, machine.sheet_files())
     for path, line, severity, words in machine.told:
-        tool.warn(f"{tool.place(path, line)}: {severity}: {tool.readable(words)}")
+        tool.warn(f"{tool.Place(path, line)}: {severity}: {tool.readable(words)}")
     tool.put(text)
     return tool.DONE
