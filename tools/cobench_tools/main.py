@@ -14,6 +14,7 @@ COMMANDS = (
     "expand", "eds",
     "refusals", "explain", "stats", "timeline", "candump",
     "live",
+    "man", "completion",
 )
 
 ABOUT = """Checks, exports and explains a CANopen network that is written as a script for cobench.

@@ -6,8 +6,8 @@ import subprocess
 
 from . import project, reader, replies, script, tool
 
-BUILT = os.path.join(os.path.dirname(os.path.dirname(os.path.dirname(os.path.abspath(__file__)))),
-                     "crates", "cobench", "out", "cobench")
+ROOT = os.path.dirname(os.path.dirname(os.path.dirname(os.path.abspath(__file__))))
+BUILT = os.path.join(ROOT, "crates", "cobench", "out", "cobench")
 
 # What the help of a command says on `--cobench`.
 PROGRAM = """PROGRAM is, where --cobench doesn't say it, that of the variable COBENCH, else
@@ -24,16 +24,25 @@ def add_arguments(parser):
 
 def program(given):
     """The words that start cobench."""
-    chosen = given or os.environ.get("COBENCH")
+    chosen = os.environ.get("COBENCH") if given is None else given
     if chosen:
-        try:
-            return shlex.split(chosen)
-        except ValueError as error:
-            raise tool.Fault(f"the program {chosen}: {error}") from None
+        return words_of(chosen)
     found = shutil.which("cobench") or (BUILT if os.access(BUILT, os.X_OK) else None)
     if not found:
-        raise tool.Fault("no cobench on the path or at " + BUILT + "; name one by --cobench PROGRAM")
+        built = f" or at {BUILT}" if os.path.isdir(os.path.join(ROOT, "crates")) else ""
+        raise tool.Fault(f"no cobench on the path{built}; --cobench PROGRAM or the variable COBENCH names one")
     return [found]
+
+
+def words_of(chosen):
+    """The words of a program that the user chose."""
+    try:
+        words = shlex.split(chosen)
+    except ValueError as error:
+        raise tool.Fault(f"the program {chosen}: {error}") from None
+    if not words:
+        raise tool.Fault("the program that --cobench or COBENCH names has no name")
+    return words
 
 
 def replies_to(words, text):
