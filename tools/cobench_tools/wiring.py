@@ -3,9 +3,8 @@
 A node's values are the defaults of its data sheet, and over them the writes of its concise DCF. Which PDOs
 work with these values is said in docs/rules/pdos.md; TPDOs and RPDOs with one identifier belong together.
 """
-from . import concise, session, tool, values
+from . import concise, tool, values
 from .device import BITS, Device
-from .hints import refusals
 
 TPDO, RPDO = "TPDO", "RPDO"
 COMMUNICATION = {TPDO: 0x17FF, RPDO: 0x13FF}
@@ -196,13 +195,3 @@ def faults_of_messages(diagnostics):
         if subject == "message" and "E05" <= code <= "E14":
             faults.setdefault(words[0], []).append(code)
     return faults
-
-
-def asked(options):
-    """The network of a command's SCRIPT, and the status: what is wrong with the script is told on the standard error."""
-    answered = session.run(options.script, options.cobench, Wiring.QUERIES)
-    faults = [line for refusal in refusals(answered.pairs) for line in refusal.lines()]
-    faults += [f"diag: {tool.shown(line)}" for line in answered.lines("diag") if line.startswith(b"E")]
-    for line in faults:
-        tool.warn(line)
-    return Wiring(answered), tool.FOUND if faults else tool.DONE

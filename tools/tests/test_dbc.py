@@ -66,7 +66,7 @@ def test_dbc_gives_each_name_once():
     lines += ["PDOMapping=1", "LowLimit=-5", "HighLimit=$NODEID", "ParameterName=K\xe4lte (an)", "node 5 5p d", "node 6 Vector__XXX d"]
     put("network.txt", "\n".join(lines).encode("latin-1") + b"\n")
     status, output, faults = dbc("network.txt")
-    assert status == 1 and "E15 cob 185" in faults and "TPDO 1 of node 6 is left out: 185h is the identifier of another" in faults
+    assert status == 1 and "[E15]" in faults and "TPDO 1 of node 6 is left out: 185h is the identifier of another" in faults
     assert read_dbc(output.decode("cp1252")) == [
         [0x185, "_5p_TPDO1", 2, ["_5p"], [["K_lte_an", 0, 1, True, False, 0, 1, []], ["K_lte_an_2", 1, 8, True, True, -5, 5, []]]]]
     assert "BU_: _5p Vector__XXX_2\n".encode() in output

@@ -41,7 +41,7 @@ def test_matrix_has_the_tables_of_the_examples():
     for table, lines in (("messages", IO_MESSAGES), ("heartbeats", IO_HEARTBEATS)):
         assert matrix("--format", "csv", "--table", table) == (0, lines, "")
     status, output, faults = matrix(given=example("servo_axes.txt"))
-    assert status == 1 and faults.count(": refused ") == 3 and output.startswith(b"servo_axes.txt\n3 nodes; 4 messages; ")
+    assert status == 1 and faults.count(": error: ") == faults.count("[refused]") == 3 and output.startswith(b"servo_axes.txt\n3 nodes; 4 messages; ")
     for line in SERVO_LINES.splitlines():
         assert line in output.decode(), line
 
@@ -112,7 +112,7 @@ def test_matrix_of_a_network_that_is_wrong_or_empty():
     assert matrix("--format", "html", given="empty.txt")[0] == 0
     put("wrong.txt", b"eds d 4\n[2000]\nDataType=5\nPDOMapping=1\n[1017]\nnode 5 p d\nmessage m|1 5 1 1 0 0 0\nmessage m 5 1 1 0 0 0\n")
     status, output, faults = matrix(given="wrong.txt")
-    assert status == 1 and "wrong.txt:7: refused 2 Syntax" in faults and "E05 message m" in faults
+    assert status == 1 and "wrong.txt:7: error: message m|1" in faults and "[E05]" in faults
     assert b"Messages that are in no PDO, as they have errors\n" in output and b"m        p       E05\n" in output, output
 
 

@@ -1,5 +1,5 @@
 """Prints the PDOs of a network as a DBC."""
-from .. import session, tool, wiring
+from .. import network, tool
 from ..dbc import Dbc
 
 SUMMARY = "print the PDOs as a DBC, for tools that name and plot signals"
@@ -10,21 +10,19 @@ limits, and the nodes that take it. A TPDO that no message sets, and that a devi
 has switched on by its defaults, stands with them. Names are cut to 32 letters, and
 the comments have them whole. The text is in Windows-1252, as DBCs are.
 
-{session.PROGRAM} Status: 0, 1 where a command was refused or a diagnostic is an
-error, 2 where the script can't be read or cobench can't be run.
+{network.HELP}
 
   cobtool dbc network.txt > network.dbc"""
 
 
 def arguments(parser):
     parser.epilog = AFTER
-    parser.add_argument("script", metavar="SCRIPT")
-    session.add_arguments(parser)
+    network.add_arguments(parser)
 
 
 def run(options):
-    network, status = wiring.asked(options)
-    dbc = Dbc(network)
+    _, wired, status = network.asked(options)
+    dbc = Dbc(wired)
     for tpdo in dbc.left_out:
         tool.warn(f"TPDO {tpdo.number} of node {tpdo.node} is left out: {tpdo.identifier:03X}h is the identifier of another")
     tool.put(dbc.text().encode("cp1252", "replace"))

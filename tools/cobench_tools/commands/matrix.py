@@ -1,7 +1,7 @@
 """Prints who sends what to whom: the network's page for the papers of the machine."""
 import os
 
-from .. import matrix, matrix_page, session, tables, tool, wiring
+from .. import matrix, matrix_page, network, tables, tool
 
 SUMMARY = "print who sends what to whom, with nodes, parameters and heartbeats"
 
@@ -12,34 +12,32 @@ device has switched on by its defaults, stands with them. HTML is one page that
 needs nothing beside it, and prints on A4; CSV is one table, that of the signals
 where --table doesn't say which.
 
-{session.PROGRAM} Status: 0, 1 where a command was refused or a diagnostic is an
-error, 2 where the script can't be read or cobench can't be run.
+{network.HELP}
 
   cobtool matrix --format html network.txt > network.html"""
 
 
 def arguments(parser):
     parser.epilog = AFTER
-    parser.add_argument("script", metavar="SCRIPT")
     parser.add_argument("--format", choices=["text", "markdown", "csv", "html"], default="text", help="text without it")
     parser.add_argument("--table", choices=list(matrix.TABLES), help="print this table alone")
     parser.add_argument("--title", metavar="TEXT", help="what stands above, not the name of SCRIPT")
-    session.add_arguments(parser)
+    network.add_arguments(parser)
 
 
-def printed(options, network):
+def printed(options, wired):
     """What is printed of a network."""
     title = options.title or os.path.basename(tool.name_of(options.script))
-    heading = matrix.heading(title, network)
+    heading = matrix.heading(title, wired)
     if options.format == "csv":
-        return tables.as_csv(matrix.tables_of(network, options.table or "signals")[0])
+        return tables.as_csv(matrix.tables_of(wired, options.table or "signals")[0])
     if options.format == "html":
-        return matrix_page.network_page(heading, network, options.table)
-    shown = matrix.tables_of(network, options.table)
+        return matrix_page.network_page(heading, wired, options.table)
+    shown = matrix.tables_of(wired, options.table)
     return (tables.as_text if options.format == "text" else tables.as_markdown)(heading, shown)
 
 
 def run(options):
-    network, status = wiring.asked(options)
-    tool.put(printed(options, network))
+    _, wired, status = network.asked(options)
+    tool.put(printed(options, wired))
     return status

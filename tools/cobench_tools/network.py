@@ -1,0 +1,32 @@
+"""The network of a command's SCRIPT, as cobench answers it."""
+from . import acceptance, findings, session, tool
+from .evidence import Evidence
+from .report import Report
+from .wiring import Wiring
+
+# What the help of such a command says of its words and its status.
+HELP = f"""Errors, as `cobtool check` finds them, are told on the standard error, and what is
+printed is of the project that the accepted commands make.
+
+{acceptance.HELP}
+
+{session.PROGRAM} Status: 0, 1 where there are errors, 2 where the script can't be
+read or cobench can't be run."""
+
+
+def add_arguments(parser):
+    """The words that name SCRIPT and the program, and accept findings."""
+    parser.add_argument("script", metavar="SCRIPT")
+    acceptance.add_arguments(parser)
+    session.add_arguments(parser)
+
+
+def asked(options):
+    """The session of SCRIPT, its network, and the status, once its errors were told."""
+    answered = session.run(options.script, options.cobench, Evidence.QUERIES)
+    found = findings.of(answered)
+    acceptance.judge(found, options)
+    report = Report(answered, found)
+    for line in findings.lines_of([each for each in report.open if each.severity == findings.ERROR]):
+        tool.warn(line)
+    return answered, Wiring(answered), report.status
