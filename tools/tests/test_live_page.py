@@ -1,0 +1,214 @@
+"""`live` in a browser: the page follows the saves of a script. Skipped without Chromium."""
+import contextlib
+import re
+import subprocess
+import sys
+
+from browser import Browser
+from helper import COBTOOL, put
+from live_scene import Scene, words
+
+NEW = b"param 5 1017 0 50"
+
+
+class Opened:
+    """A program `cobtool live` over the script of a scene, and a page of it in a browser."""
+
+    def __init__(self, browser, **more):
+        self.scene, self.browser = Scene(), browser
+        self.program = subprocess.Popen([sys.executable, COBTOOL, "live", "--port", "0", "--cobench", " ".join(words()), self.scene.script],
+                                        stdout=subprocess.PIPE)
+        self.address = re.match(rb"(http://127.0.0.1:[0-9]+/)", self.program.stdout.readline()).group(1).decode()
+        self.page = self.another(**more)
+
+    def another(self, wide=1280, high=800, **more):
+        """A page, once it shows the first look."""
+        page = self.browser.page(wide, high, **more)
+        page.open(self.address)
+        page.wait("live.items.get('ledger') && live.items.get('status').state === 'well'")
+        page.settle()
+        return page
+
+    def save(self, old, new):
+        """Saves the script with a change, and waits until the page has what comes of it."""
+        saves = self.page.value("live.items.get('ledger').length")
+        text = self.scene.text()
+        assert old in text, old
+        put(self.scene.script, text.replace(old, new))
+        self.page.wait(f"live.items.get('ledger').length > {saves} && live.items.get('status').state === 'well'")
+        self.page.settle()
+
+    def close(self):
+        self.program.terminate()
+        self.program.communicate(timeout=10)
+
+
+@contextlib.contextmanager
+def opened(**more):
+    """The program and its page; whatever goes wrong in the page fails the test."""
+    with Browser() as browser:
+        live = Opened(browser, **more)
+        try:
+            yield live
+            assert not live.page.faults(), live.page.faults()
+        finally:
+            live.close()
+
+
+def text(page, selector):
+    return page.value(f"document.querySelector('{selector}').innerText")
+
+
+def test_a_save_shows_the_new_value_and_marks_it():
+    with opened() as live:
+        page = live.page
+        assert text(page, ".summary").startswith("Nothing is wrong. 2 of 2 nodes booted by ")
+        page.value("live.tabs.choose(1), document.querySelector('.node').open = true")
+        page.settle()
+        live.save(b"param 5 1017 0 100", NEW)
+        rows = page.value("[...document.querySelectorAll('.node[open] tr.new')].map(row => row.innerText.split('\\t'))")
+        assert rows == [["1017h:00", "Producer heartbeat time", "50 (32h)", "100 (64h)"]], rows
+        marks = page.value("[...document.querySelectorAll('mark')].map(each => each.textContent + each.nextSibling.textContent)")
+        assert marks == ["ParameterValue=0x0032  was 0x0064"], marks
+        assert text(page, "#tab-nodes .badge") == "1 changed" and text(page, ".node .tag") == "1 value changed"
+        assert re.match(r"Up to date \d\d:\d\d:\d\d, \d+ ms from save to page", text(page, "#status")), text(page, "#status")
+        live.save(b"set 5 6041 0 7", b"set 5 6041 0 9")
+        assert page.value("document.querySelectorAll('mark').length") == 0, "marks are of the last save"
+
+
+def test_the_timeline_stays_where_it_is_and_marks_what_is_new():
+    with opened() as live:
+        page = live.page
+        page.value("live.tabs.choose(3), live.run.timeline.move(30000, 55000)")
+        page.settle()
+        assert page.value("live.run.timeline.trace.fresh.size") == 0
+        live.save(b"set 5 6041 0 7", b"set 5 6041 0 9")
+        assert page.value("[live.run.timeline.scale.from, live.run.timeline.scale.to]") == [30000, 55000]
+        fresh = page.value("[...live.run.timeline.trace.fresh].map(frame => live.run.timeline.trace.text(frame))")
+        assert fresh == ["flow: 6041h Statusword=0009h"] * 2, fresh
+        assert text(page, "#tab-run .badge") == "2 frames new"
+        pink = page.value("""(() => { const view = live.run.timeline, lane = view.lanes.shown[1], y = AXIS + lane.top + lane.height - 3;
+            const x = Math.round(view.scale.x(40110)), data = view.canvas.getContext('2d').getImageData(x - 3, y, 6, 1).data;
+            return [...data].filter((each, n) => n % 4 === 0 && each > 200 && data[n + 1] < 90).length; })()""")
+        assert pink > 0, "a line stands under the new frame"
+
+
+def test_frames_are_listed_and_filtered():
+    with opened() as live:
+        page = live.page
+        page.value("live.tabs.choose(3), live.run.view(1)")
+        page.settle()
+        total = page.value("live.run.timeline.trace.count")
+        assert text(page, ".frames .bar [role=status]") == f"{total} of {total} frames"
+        page.value("live.run.frames.text.value = 'flow', live.run.frames.filter()")
+        page.settle()
+        rows = page.value("[...document.querySelectorAll('.frames tbody tr')].map(row => row.innerText.split('\\t').map(each => each.trim()))")
+        assert len(rows) == 5 and rows[0][1:] == ["185", "PDO", "pump", "flow: 6041h Statusword=0000h", "00 00"], rows
+        live.save(b"set 5 6041 0 7", b"set 5 6041 0 9")
+        assert page.value("document.querySelectorAll('.frames tbody tr').length") == 5, "the filter stays"
+        assert page.value("document.querySelectorAll('.frames tbody tr.new').length") == 2
+        page.value("live.run.frames.isNew.click()")
+        page.settle()
+        assert page.value("document.querySelectorAll('.frames tbody tr').length") == 2
+        page.value("document.querySelector('.frames tbody tr').click()")
+        page.settle()
+        page.settle()
+        assert text(page, ".tip").startswith("40.110 ms · PDO · pump"), text(page, ".tip")
+
+
+def test_what_is_wrong_is_told_with_its_line():
+    with opened() as live:
+        page = live.page
+        live.save(b"param 5 6080 0 4000", b"param 5 6080 0 7000\nparam 9 1017 0 1")
+        found = page.value("[...document.querySelectorAll('.findings li.error.new')].map(each => each.innerText)")
+        assert len(found) == 2 and "network.txt:8" in found[0] and "node 9 isn't there" in found[0], found
+        assert "network.txt:7" in found[1] and "7000 is above the HighLimit 6000" in found[1] and "E03" in found[1]
+        assert text(page, ".summary").startswith("2 errors, no warnings.") and text(page, "#tab-wrong .badge") == "2"
+        live.save(b"param 5 6080 0 7000\nparam 9 1017 0 1", b"param 5 6080 0 4000")
+        assert text(page, ".summary").startswith("Nothing is wrong.")
+
+
+def test_texts_of_a_script_cannot_script_the_page():
+    with opened() as live:
+        page = live.page
+        live.save(b"horizon", b"param 5 2010 0 <img src=x onerror=document.title='hit'></script><script>document.title='hit'</script>\nhorizon")
+        page.value("live.tabs.choose(1), [...document.querySelectorAll('details')].forEach(each => { each.open = true; })")
+        page.settle()
+        page.value("live.tabs.choose(3), live.run.view(1)")
+        page.settle()
+        assert page.value("document.title") == "network.txt · cobench live"
+        assert page.value("document.querySelectorAll('img, script:not(:last-of-type):not([type])').length") == 0
+        assert "<img src=x" in page.value("document.querySelector('.nodes').textContent")
+
+
+def test_nothing_jumps_on_a_save():
+    places = "JSON.stringify(['header', '#tabs', '#parts', '#tab-run', '.timeline .view', '.timeline .corner'].map(each => (({ x, y }) => [x, y])(document.querySelector(each).getBoundingClientRect())))"
+    with opened() as live:
+        page = live.page
+        page.value("live.tabs.choose(3)")
+        page.settle()
+        live.save(b"set 5 6041 0 7", b"set 5 6041 0 9")
+        before = page.value(places)
+        live.save(b"set 5 6041 0 9", b"set 5 6041 0 7")
+        assert page.value(places) == before
+        assert page.value("Math.abs(live.run.timeline.view.scrollTop)") == 0
+
+
+def test_the_page_fits_from_390_to_2560_pixels():
+    with opened() as live:
+        for wide, high in ((390, 844), (768, 1024), (1280, 800), (2560, 1400)):
+            live.page.resize(wide, high)
+            live.page.settle()
+            for number in range(5):
+                live.page.value(f"live.tabs.choose({number})")
+                live.page.settle()
+                assert live.page.value("document.documentElement.scrollWidth") <= wide, (wide, number)
+            beside = live.page.value("!document.getElementById('part-run').hidden && !document.getElementById('part-wrong').hidden")
+            live.page.value("live.tabs.choose(0)")
+            assert live.page.value("!document.getElementById('part-run').hidden") == (wide >= 1500), beside
+
+
+def test_parts_are_chosen_by_keys_and_have_roles():
+    with opened() as live:
+        page = live.page
+        page.value("document.getElementById('tab-wrong').focus()")
+        page.key("ArrowRight", 39)
+        assert page.value("document.activeElement.id") == "tab-nodes" and page.value("document.getElementById('part-wrong').hidden")
+        page.value("document.activeElement.blur()")
+        page.key("5")
+        assert page.value("document.getElementById('tab-ledger').getAttribute('aria-selected')") == "true"
+        nodes = page.ask("Accessibility.getFullAXTree")["nodes"]
+        named = {(each["role"]["value"], each.get("name", {}).get("value", "")) for each in nodes if not each["ignored"]}
+        assert ("heading", "network.txt") in named and ("tablist", "parts of the page") in named, sorted(named)
+        assert len([role for role, _ in named if role == "tab"]) == 5 and any(role == "tabpanel" for role, _ in named)
+
+
+def test_files_can_be_saved():
+    with opened() as live:
+        page = live.page
+        page.value("live.tabs.choose(1), document.querySelector('.node').open = true")
+        page.settle()
+        links = page.value("[...document.querySelectorAll('.node[open] a')].map(each => [each.getAttribute('href'), each.download])")
+        assert links == [["files/5.dcf", "5_pump.dcf"], ["files/5.bin", "5_pump.bin"]], links
+        dcf = page.value("fetch('files/5.dcf').then(answer => answer.text())")
+        assert dcf.startswith("[1000]\n") and "ParameterValue=0x0064\n" in dcf and dcf.endswith("Baudrate=1000\n")
+        bytes_ = page.value("fetch('files/5.bin').then(answer => answer.arrayBuffer()).then(data => [...new Uint8Array(data)])")
+        assert bytes_[:4] == [10, 0, 0, 0] or bytes_[1:4] == [0, 0, 0], bytes_[:8]
+
+
+def test_a_page_that_comes_later_has_all_of_it():
+    with opened() as live:
+        live.save(b"param 5 1017 0 100", NEW)
+        later = live.another(390, 844, touch=True, dark=True)
+        for name in ("'wrong'", "'node/5'", "'node/6'", "'table/messages'", "'run'", "'window/3'"):
+            assert later.value(f"JSON.stringify(live.items.get({name}))") == live.page.value(f"JSON.stringify(live.items.get({name}))"), name
+        assert not later.faults()
+
+
+def test_the_page_says_that_the_program_is_gone():
+    with opened() as live:
+        live.close()
+        live.page.wait("document.getElementById('status').className === 'fault'")
+        assert "has ended, or can't be reached" in text(live.page, "#status")
+        assert text(live.page, ".summary").startswith("Nothing is wrong."), "what it said last stays"
+        live.browser.events.clear()
