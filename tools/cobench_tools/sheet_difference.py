@@ -1,0 +1,48 @@
+"""What is other in the data sheets of two networks."""
+from . import values
+from .device import Device, object_name
+
+MOST_LINES = 20
+
+
+def sheets(old, new):
+    """What is other in the data sheets."""
+    one, two, lines = old.project.texts, new.project.texts, []
+    for name in sorted(set(one) | set(two)):
+        if name not in one or name not in two:
+            lines.append(f"{'+' if name in two else '-'} {name}, of {len(one.get(name) or two.get(name) or [])} lines")
+        elif one[name] != two[name]:
+            found = sheet(Device(one[name]), Device(two[name])) or ["other lines, which give no entry"]
+            more = len(found) - MOST_LINES
+            found = found[:MOST_LINES] + ([f"and {more} more"] if more > 0 else [])
+            lines += [name] + [f"  {line}" for line in found]
+    return lines
+
+
+def sheet(old, new):
+    """What is other in the entries of a data sheet."""
+    lines = []
+    for key in sorted(set(old.entries) | set(new.entries)):
+        before, after = old.entries.get(key), new.entries.get(key)
+        if before is None or after is None:
+            lines.append(f"{'+' if before is None else '-'} entry {object_name(key)} {(before or after).name}".rstrip())
+        else:
+            lines += entry(key, before, after)
+    return lines
+
+
+def entry(key, old, new):
+    """What a data sheet says otherwise of an entry that both have."""
+    lines = []
+    for what, before, after in (("name", old.name, new.name), ("data type", values.type_name(old.kind), values.type_name(new.kind)),
+                                ("access", old.access, new.access), ("default", old.default, new.default),
+                                ("low limit", old.low, new.low), ("high limit", old.high, new.high),
+                                ("PDO mapping", old.mappable, new.mappable), ("value", old.value, new.value)):
+        if before != after:
+            lines.append(f"{object_name(key)} {new.name}".rstrip() + f": {what} {shown(before)} -> {shown(after)}")
+    return lines
+
+
+def shown(value):
+    """A word of a data sheet in a line."""
+    return {True: "1", False: "0", "": "none"}.get(value, value)
