@@ -90,8 +90,11 @@ class Machine:
             lines += [f"eds {name} <{os.path.join(folder, name)}.eds"] if folder else [f"eds {name} {len(sheet)}", *map(tool.shown, sheet)]
         for file in self.files:
             lines += self._node(file)
+        takers = self._takers_by_default()
         for draft in self.joined.drafts:
-            lines += self._message(draft)
+            lines += message_lines(draft)
+            lines += [comment(f"RPDO {number} of {file.name} takes it too, by the defaults of the data sheet")
+                      for file, number in takers.get(draft.tpdo.identifier, []) if file.number != draft.tpdo.node]
         return [line.encode("utf-8", "surrogateescape") for line in lines]
 
     def _settings(self):
@@ -122,24 +125,15 @@ class Machine:
         lines.append(f"node {file.number} {file.name} {self.sheet_of[file.number]}")
         return lines + [f"param {file.number} {key[0]:04X} {key[1]:X} {text}" for key, text in self.parameters[file.number]]
 
-    def _message(self, draft):
-        tpdo, message = draft.tpdo, draft.message()
-        lines = ["#", f"message {draft.name} {tpdo.node} {tpdo.number} {' '.join(message.words)}"]
-        lines += [f"start {draft.name} {message.start}"] if message.start else []
-        lines += [f"source {draft.name} {position} {key[0]:04X} {key[1]:X}" for position, key in message.sources.items()]
-        lines += [f"sink {draft.name} {position} {node} {key[0]:04X} {key[1]:X}"
-                  for (position, node), key in sorted(message.sinks.items())]
-        return lines + self._by_default(draft)
-
-    def _by_default(self, draft):
-        """Comments on the RPDOs that take a message as the device has them, without a value in a file."""
-        lines = []
+    def _takers_by_default(self):
+        """The RPDOs that are on without a value in a file: their nodes' files and their numbers, by identifier."""
+        found = {}
         for file in self.files:
             set_ones = {pdo.number for pdo in file.set_pdos(RPDO)}
-            lines += [comment(f"RPDO {pdo.number} of {file.name} takes it too, by the defaults of the data sheet")
-                      for pdo in file.on_pdos(RPDO) if pdo.identifier == draft.tpdo.identifier
-                      and pdo.number not in set_ones and file.number != draft.tpdo.node]
-        return lines
+            for pdo in file.on_pdos(RPDO):
+                if pdo.number not in set_ones:
+                    found.setdefault(pdo.identifier, []).append((file, pdo.number))
+        return found
 
     def script(self, folder=None):
         return b"".join(line + b"\n" for line in self.lines(folder))
@@ -147,3 +141,13 @@ class Machine:
     def sheet_files(self):
         """The files of the data sheets: their names and contents."""
         return {f"{name}.eds": b"".join(line + b"\n" for line in lines) for name, lines in self.sheets.items()}
+
+
+def message_lines(draft):
+    """The commands of a message."""
+    tpdo, message = draft.tpdo, draft.message()
+    lines = ["#", f"message {draft.name} {tpdo.node} {tpdo.number} {' '.join(message.words)}"]
+    lines += [f"start {draft.name} {message.start}"] if message.start else []
+    lines += [f"source {draft.name} {position} {key[0]:04X} {key[1]:X}" for position, key in message.sources.items()]
+    return lines + [f"sink {draft.name} {position} {node} {key[0]:04X} {key[1]:X}"
+                    for (position, node), key in sorted(message.sinks.items())]
