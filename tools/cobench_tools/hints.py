@@ -273,11 +273,9 @@ class Hints:
 
     def of(self, command, reply, project):
         """A hint on a refused command, or None."""
-        number = int(reply.refused[0])
-        if number != 2 and tool.shown(command.name) not in FORMS:
-            return None
-        if number == 2:
-            return bad_syntax(command)
+        number, syntax = int(reply.refused[0]), bad_syntax(command)
+        if number == 2 or syntax:
+            return syntax if number == 2 else None
         if number in (3, 8):
             return out_of_range(command, project)
         if number == 4:

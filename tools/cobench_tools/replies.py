@@ -1,11 +1,13 @@
 """Replies of a session, paired with the commands of its script."""
+import io
+import itertools
 import re
 
 from . import tool
 from .hints import bad_syntax
 
 REFUSED = re.compile(rb"refused ([1-9]) (Memory|Syntax|Range|Unknown|Taken|InUse|Limit|BadByte|Truncated)")
-LINES = re.compile(rb"lines ([0-9]+)")
+LINES = re.compile(rb"lines ([0-9]{1,9})")
 FAULT = re.compile(rb"cobench: ([1-9] [A-Za-z]+)")
 
 
@@ -16,6 +18,8 @@ class Reply:
     refused  `N NAME`, or None
     lines    the lines of a query, or None
     """
+
+    __slots__ = ("number", "refused", "lines")
 
     def __init__(self, number, refused=None, lines=None):
         self.number, self.refused, self.lines = number, refused, lines
@@ -33,32 +37,42 @@ class Session:
 
 def session_of(path, text):
     """The replies that a text holds."""
-    where = tool.name_of(path)
-    lines = text.split(b"\n")
-    last = lines.pop()
-    replies, place = [], 0
-    while place < len(lines):
-        line = lines[place].rstrip(b"\r")
-        place += 1
-        refused, query, fault = REFUSED.fullmatch(line), LINES.fullmatch(line), FAULT.fullmatch(line)
-        if line == b"ok":
-            replies.append(Reply(place))
-        elif refused:
-            replies.append(Reply(place, refused=tool.shown(b" ".join(refused.groups()))))
-        elif query:
-            count = int(query.group(1))
-            answer = [each.rstrip(b"\r") for each in lines[place:place + count]]
-            if len(answer) < count:
-                return Session(replies, f"{where}:{place}: {len(answer)} of {count} lines are there", None)
-            replies.append(Reply(place, lines=answer))
-            place += count
-        elif fault and place == len(lines) and not last:
+    where, replies, number = tool.name_of(path), [], 0
+    lines = io.BytesIO(text)
+    for line in lines:
+        number += 1
+        if not line.endswith(b"\n"):
+            return Session(replies, f"{where}:{number}: the last line is cut", None)
+        line = line.rstrip(b"\n").rstrip(b"\r")
+        query, fault = LINES.fullmatch(line), FAULT.fullmatch(line)
+        if query:
+            answer, count = answer_of(lines, int(query.group(1)))
+            if answer is None:
+                return Session(replies, f"{where}:{number}: {count} of {int(query.group(1))} lines are there", None)
+            replies.append(Reply(number, lines=answer))
+            number += count
+        elif fault and lines.tell() == len(text):
             return Session(replies, None, tool.shown(fault.group(1)))
         else:
-            start = tool.shown(line[:60])
-            raise tool.Fault(f"{where}:{place}: this is no reply: {start}")
-    cut = f"{where}:{place + 1}: the last line is cut" if last else None
-    return Session(replies, cut, None)
+            replies.append(edit_reply(where, number, line))
+    return Session(replies, None, None)
+
+
+def answer_of(lines, count):
+    """The lines of an answer, None where it is cut; and how many of them are there."""
+    answer = list(itertools.islice(lines, count))
+    there = len(answer) - bool(answer and not answer[-1].endswith(b"\n"))
+    return ([line.rstrip(b"\n").rstrip(b"\r") for line in answer] if there == count else None), there
+
+
+def edit_reply(where, number, line):
+    """The reply of a line that is `ok` or `refused N NAME`."""
+    if line == b"ok":
+        return Reply(number)
+    refused = REFUSED.fullmatch(line)
+    if not refused:
+        raise tool.Fault(f"{where}:{number}: this is no reply: {tool.shown(line[:60])}")
+    return Reply(number, refused=tool.shown(b" ".join(refused.groups())))
 
 
 def read_session(path):

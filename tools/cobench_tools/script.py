@@ -13,6 +13,9 @@ LONGEST_LINE = 4096
 MOST_LINES = 65536
 LONGEST_TEXT = 1 << 20
 
+# More commands than a network of all that cobench takes has; each takes memory here.
+MOST_COMMANDS = 4_000_000
+
 WORD = re.compile(rb"[^ \t]+")
 SPECIAL = re.compile(rb"^[ \t]*(?:#|<|eds[ \t])", re.MULTILINE)
 DOS_END = b"\x1a"
@@ -150,8 +153,10 @@ def specials(text, path):
 
 def plain_commands(text, path, number):
     """The commands of lines without anything special, the first of which has this number."""
-    lines = enumerate(lines_of(text), number)
-    return [Command(path, each, line.rstrip(b"\r")) for each, line in lines if not is_blank(line.rstrip(b"\r"))]
+    if text.count(b"\n") > MOST_COMMANDS:
+        raise tool.Fault(f"{tool.name_of(path)}: it has over {MOST_COMMANDS:,} commands, and cobtool takes no more")
+    lines = ((each, line.rstrip(b"\r")) for each, line in enumerate(lines_of(text), number))
+    return [Command(path, each, line) for each, line in lines if not is_blank(line)]
 
 
 def commands_of(text, path="-"):
@@ -166,9 +171,10 @@ def commands_of(text, path="-"):
 
 def why_no_eds(text):
     """Why the program would refuse an `eds` block of this text, or None."""
+    count = text.count(b"\n") + (not text.endswith(b"\n") and text != b"")
+    if count > MOST_LINES:
+        return f"it has {count:,} lines, and a block has at most {MOST_LINES:,}"
     lines = [line.rstrip(b"\r") for line in lines_of(text)]
-    if len(lines) > MOST_LINES:
-        return f"it has {len(lines):,} lines, and a block has at most {MOST_LINES:,}"
     for number, line in enumerate(lines, 1):
         if len(line) > LONGEST_LINE:
             return f"line {number} has {len(line):,} bytes, and a line has at most {LONGEST_LINE:,}"

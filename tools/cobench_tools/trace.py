@@ -1,5 +1,6 @@
 """The lines of a trace, and the traces among the replies of a session."""
 import functools
+import io
 import re
 
 from . import replies, tool
@@ -94,13 +95,14 @@ def traces_of(path, text):
             raise tool.Fault(f"{session.cut}: the replies are cut")
         answers = [trace_of(reply.lines) for reply in session.replies if reply.lines]
         return [answer for answer in answers if answer]
-    lines = text.split(b"\n")
-    if lines.pop():
-        raise tool.Fault(f"{where}:{len(lines) + 1}: the last line is cut")
-    for number, line in enumerate(lines, 1):
-        if line_of(line.rstrip(b"\r")) is None:
-            raise tool.Fault(f"{where}:{number}: this is no line of a trace: {tool.shown(line[:60])}")
-    return [trace_of([line.rstrip(b"\r") for line in lines])] if lines else []
+    found = []
+    for number, line in enumerate(io.BytesIO(text), 1):
+        if not line.endswith(b"\n"):
+            raise tool.Fault(f"{where}:{number}: the last line is cut")
+        found.append(line_of(line.rstrip(b"\n").rstrip(b"\r")))
+        if found[-1] is None:
+            raise tool.Fault(f"{where}:{number}: this is no line of a trace: {tool.shown(line[:60].rstrip())}")
+    return [found] if found else []
 
 
 def pick(path, traces, wanted):

@@ -1,8 +1,8 @@
-"""The words of every command, and files that aren't there or are no text."""
+"""The words of every command, and the lists of them."""
 import os
 import re
 
-from helper import BINARY, TOOLS, example, file, is_fine, is_refused, put, run
+from helper import TOOLS, file, is_fine, is_refused, run
 
 from cobench_tools.main import COMMANDS
 
@@ -37,19 +37,3 @@ def test_wrong_words_have_status_2():
     is_refused(run("expnad"), "no command expnad; is it expand")
     for tool in COMMANDS:
         is_refused(run(tool, "--nosuch"), f"cobtool {tool} --help")
-
-
-def test_files_that_are_not_there_are_told():
-    for words in (["eds", "x"], ["expand"], ["refusals", example("first_network.txt")], ["candump"], ["timeline"],
-                  ["explain", example("first_network.txt")], ["export", "files"]):
-        is_refused(run(*words, "nosuch.txt"), "nosuch.txt: No such file or directory")
-
-
-def test_binary_files_are_told():
-    put("binary", BINARY)
-    script = example("first_network.txt")
-    for words in (["eds", "x", "binary"], ["expand", "binary"], ["refusals", script, "binary"],
-                  ["refusals", "binary", script], ["candump", "binary"], ["timeline", "binary"],
-                  ["explain", script, "binary"], ["explain", "binary", script], ["export", "files", "binary"]):
-        is_refused(run(*words), "binary: this is no text")
-    assert not os.path.exists("files")
