@@ -16,6 +16,7 @@ CALLS = {
     "import": ("import", "DCF"),
     "matrix": ("matrix", "--cobench", recorded(), "SCRIPT"),
     "dbc": ("dbc", "--cobench", recorded(), "SCRIPT"),
+    "diff": ("diff", "--cobench", recorded(), "SCRIPT", "SCRIPT"),
     "expand": ("expand", "SCRIPT"),
     "eds": ("eds", "x", "EDS"),
     "refusals": ("refusals", "SCRIPT", "REPLIES"),
@@ -27,6 +28,7 @@ CALLS = {
     "completion": ("completion",),
 }
 WITHOUT_A_TEST_HERE = {"live"}
+SILENT = {"refusals", "diff"}   # where there is nothing to tell
 
 
 def good_files():
@@ -54,7 +56,7 @@ def test_each_command_is_called_here():
     assert set(CALLS) | WITHOUT_A_TEST_HERE >= set(COMMANDS), set(COMMANDS) - set(CALLS)
     for name, words in good_calls().items():
         status, output, faults = run(*words)
-        assert status == 0 and bool(output) == (name != "refusals") and not faults, (name, faults)
+        assert status == 0 and bool(output) == (name not in SILENT) and not faults, (name, faults)
 
 
 def test_files_that_are_not_there_are_told():
