@@ -169,6 +169,16 @@ def test_a_file_that_is_no_script_is_told():
         assert scene.status() == ("well", "") and scene.items["node/5"]["name"] == "pump"
 
 
+def test_a_fault_of_live_itself_is_told_and_forgotten():
+    with Scene() as scene:
+        scene.follower.answers.take = None
+        scene.change(b"param 5 1017 0 100", b"param 5 1017 0 50")
+        assert scene.status()[0] == "fault" and scene.status()[1].startswith("cobtool itself: TypeError"), scene.status()
+        assert set(scene.items) == {"status"}
+        scene.change(b"param 5 1017 0 50", b"param 5 1017 0 100")
+        assert scene.status() == ("well", "") and scene.ledger()["edits"] is None and scene.trace()[0] == "0000000055 705 [1] 00"
+
+
 def test_an_editor_that_writes_in_two_steps_is_waited_for():
     with Scene() as scene:
         text = scene.text().replace(b"0 100", b"0 50")

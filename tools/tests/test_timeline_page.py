@@ -135,7 +135,7 @@ def test_emergencies_and_failed_boots_stand_out_among_many_lanes():
             red = columns(page, y, "wrong")
             assert len(red) > 60 and red[0] - 8 <= page.value(f"timeline.scale.x({time})") <= red[-1] + 8, red
         assert page.value("[...document.querySelectorAll('.alarm')].map(each => each.parentNode.title)") == ["node 7 ", "node 90 "]
-        assert page.value("document.querySelector('.pop summary').textContent") == "2 errors"
+        assert page.value("document.querySelector('.pop summary').textContent") == "2 alarms"
 
 
 def test_kinds_in_one_pixel_share_the_row():
@@ -281,7 +281,7 @@ def test_the_page_is_dark_where_the_system_is():
 
 def test_the_page_can_be_read_aloud():
     with opened(servo()) as page:
-        assert page.value("timeline.canvas.getAttribute('aria-label')").startswith("4 lanes, 428 frames, 1 emergency or failed boot")
+        assert page.value("timeline.canvas.getAttribute('aria-label')").startswith("4 lanes, 428 frames, 1 alarm in ")
         nodes = page.ask("Accessibility.getFullAXTree")["nodes"]
         named = {(each["role"]["value"], each.get("name", {}).get("value", "")) for each in nodes if not each["ignored"]}
         for role, name in (("heading", "servo_axes.txt"), ("button", "zoom in"), ("button", "zoom out"), ("button", "show the whole run"),

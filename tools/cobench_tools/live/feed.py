@@ -28,6 +28,10 @@ class Feed:
                 self._items[name] = self.number, text
             self._changed.notify_all()
 
+    def clear(self):
+        """Takes all items away."""
+        self.put(dict.fromkeys(list(self._items)))
+
     def since(self, number, longest):
         """The number of the last change and the items since another, by name; waits for one so many seconds at most."""
         with self._changed:

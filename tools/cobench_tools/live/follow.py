@@ -100,6 +100,15 @@ class Follower:
         except Ended as ended:
             self.close()
             self.say("fault", tool.readable(str(ended)))
+        except Exception as error:      # a slip of cobtool may not end what a person sits before
+            self.forget()
+            self.say("fault", f"cobtool itself: {type(error).__name__}: {error}; the next save begins afresh")
+
+    def forget(self):
+        """Forgets all that was kept, on the page too."""
+        self.close()
+        self.answers, self.run, self.is_first = Answers(), Run(), True
+        self.feed.clear()
 
     def say(self, state, words, waits=""):
         """What is the matter, on the page."""

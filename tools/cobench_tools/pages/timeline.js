@@ -55,8 +55,8 @@ class Timeline {
   describe() {
     const { trace } = this, trouble = trace.flags.filter(isTrouble).length;
     this.canvas.setAttribute("aria-label", `${several(trace.lanes.length, "lane")}, ${several(trace.count, "frame")}, ` +
-      `${several(trouble, "emergency or failed boot").replace("boots", "boot")} in ${shownTime(trace.end)}`);
-    this.view.setAttribute("aria-label", "timeline; n and p go through events and errors, period and comma through frames");
+      `${several(trouble, "alarm")} in ${shownTime(trace.end)}`);
+    this.view.setAttribute("aria-label", "timeline; n and p go through events and alarms, period and comma through frames");
   }
 
   /** Shows the lanes whose name or number has a text. */
@@ -194,7 +194,7 @@ function laneLabel(view, lane) {
   const { lanes, trace } = view, title = lanes.compact ? lane.title.replace(/^node /, "") : lane.title;
   const label = element("li", { style: `top: ${lane.top}px; height: ${lane.height}px`, title: `${lane.name} ${lane.title}` },
     element("b", {}, lane.name), element("span", { class: "number" }, title));
-  if (lane.trouble) label.prepend(element("i", { class: "alarm", role: "img", "aria-label": several(lane.trouble, "error") }, "!"));
+  if (lane.trouble) label.prepend(element("i", { class: "alarm", role: "img", "aria-label": several(lane.trouble, "alarm") }, "!"));
   if (lanes.compact) label.className = "compact";
   else for (const kind of lane.kinds) label.append(kindLabel(view, lane, kind));
   return label;

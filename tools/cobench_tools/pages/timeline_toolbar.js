@@ -1,4 +1,4 @@
-/* What stands above the picture: buttons, the search, the kinds of frames, and the list of events and errors. */
+/* What stands above the picture: buttons, the search, the kinds of frames, and the list of events and alarms: emergencies, failed boots. */
 
 class Toolbar {
   constructor(view) {
@@ -61,7 +61,7 @@ function button(words, title, action) {
 }
 
 const KEYS = [["+ −", "zoom"], ["0", "whole run"], ["← →", "move in time"], ["↑ ↓", "scroll"], ["Page ↑ ↓", "a page of lanes"],
-  ["n p", "next and previous event or error"], [". ,", "next and previous frame of the lane"], ["/", "search for a node"], ["Esc", "close"]];
+  ["n p", "next and previous event or alarm"], [". ,", "next and previous frame of the lane"], ["/", "search for a node"], ["Esc", "close"]];
 const MOUSE = [["wheel", "scrolls the lanes"], ["Ctrl + wheel", "zooms"], ["Shift + wheel", "moves in time"], ["drag", "moves"], ["double click", "zooms in"]];
 const FINGERS = [["swipe", "moves"], ["pinch", "zooms"], ["tap", "tells what is there"]];
 
@@ -81,14 +81,14 @@ function popUp(words, title, ...children) {
   return made;
 }
 
-/** The list of events and errors, made when it is opened. */
+/** The list of events and alarms, made when it is opened. */
 class FlagList {
   static MOST = 1000;
 
   constructor(view) {
     this.view = view;
     this.items = element("ol", { class: "flags" });
-    this.element = popUp("", "events and errors", this.items);
+    this.element = popUp("", "events and alarms", this.items);
     this.element.addEventListener("toggle", () => { if (this.element.open) this.fill(); });
   }
 
@@ -96,7 +96,7 @@ class FlagList {
     const trouble = trace.flags.filter(isTrouble).length, summary = this.element.firstChild;
     this.trace = trace;
     this.element.hidden = !trace.flags.length;
-    summary.textContent = trouble ? several(trouble, "error") : several(trace.flags.length, "event");
+    summary.textContent = trouble ? several(trouble, "alarm") : several(trace.flags.length, "event");
     summary.className = trouble ? "button wrong" : "button";
     if (this.element.open) this.fill();
   }
