@@ -1,15 +1,25 @@
 """A script that is edited while `live` follows it: for tests over a cobench that stays open, or what stands in for it."""
 import json
 import os
+import re
 import shutil
 import sys
 import time
 
 from cobench_tools.live.feed import Feed
 from cobench_tools.live.follow import Follower
-from helper import kept_at, put
+from helper import example, kept_at, put
 
 FOLDER = kept_at("live")
+
+
+def day_script():
+    """The script of docs/a_day_with_cobench.md: servo_axes as it is before its run, without its slips and queries."""
+    with open(example("servo_axes.txt")) as file:
+        text = file.read()
+    text = text[:text.index("trace\n")].replace("param 2 6080 0 7000\n", "param 2 6080 0 4500\n")
+    text = re.sub(r"# A slip.*?(?=#\n# The controller watches)", "", text, flags=re.DOTALL)
+    return re.sub(r"(?m)^(diag|dcf \d+|cdcf \d+|param 2 6080 0 4500(?=\ndiag))\n", "", text)
 
 
 def words():
