@@ -307,6 +307,8 @@ class Refusal:
 
 def refusals(pairs):
     """The refused ones of commands that have their replies."""
+    if all(reply.is_accepted() for _, reply in pairs):
+        return []
     project, hints, found = Project(), Hints(), []
     for command, reply in pairs:
         if reply.is_accepted():

@@ -142,7 +142,7 @@ def consumers(network):
     """Who watches whom, and for how many milliseconds: watched, watching and time of each."""
     found = []
     for number, node in network.nodes.items():
-        for sub in range(1, 255):
+        for sub in sorted(sub for index, sub in node.device.entries if index == 0x1016 and sub):
             value = node.number_at(0x1016, sub, 0x07) or 0
             if value & 0xFFFF and value >> 16 & 0xFF:
                 found.append((value >> 16 & 0xFF, number, value & 0xFFFF))

@@ -8,18 +8,17 @@ from .. import concise, device, findings, ini, matrix, pdo_values, tool
 from ..evidence import Evidence
 from ..report import Report, json_of
 from ..wiring import Wiring
+from .run import words_of
 
 TABLES = ("messages", "signals", "heartbeats", "left-out")
 FILE_TYPES = {"dcf": "text/plain; charset=utf-8", "bin": "application/octet-stream"}
 
 
-def wrong(answered, evidence, booted):
-    """What is wrong, as `check` says it; `booted` are the records of what is wrong with boots, as far as it is known."""
-    found = findings.refused(answered) + findings.diagnosed(evidence) + findings.unused_values(evidence)
-    records = [json_of(finding) for finding in found] + booted
+def wrong_item(records, diagnostics):
+    """What is wrong, by the records of `check`, and the lines of `diag`."""
     counts = {severity: sum(each["severity"] == severity for each in records) for severity in ("error", "warning")}
     return {"errors": counts["error"], "warnings": counts["warning"], "findings": records,
-            "diagnostics": [tool.readable(tool.shown(line)) for line in answered.lines("diag")]}
+            "diagnostics": [tool.readable(tool.shown(line)) for line in diagnostics]}
 
 
 class File:
@@ -101,7 +100,8 @@ class Answers:
 
     def __init__(self):
         self.sheets, self.files = {}, {}
-        self._texts, self._shown, self._marked, self._tables, self._booted = {}, {}, set(), {}, []
+        self._texts, self._shown, self._marked = {}, {}, set()
+        self._tables, self._wired, self._found, self._booted = {}, None, [], []
 
     def evidence(self, answered):
         """The evidence of a session, over data sheets that were read before."""
@@ -113,7 +113,9 @@ class Answers:
 
     def take(self, answered, evidence, is_first):
         """The items that are other than before a save; of the first one nothing is marked as new."""
-        items = {"wrong": wrong(answered, evidence, self._booted)}
+        found = findings.refused(answered) + findings.diagnosed(evidence) + findings.unused_values(evidence)
+        self._found = [json_of(finding) for finding in found]
+        items = {"wrong": wrong_item(self._found + self._booted, answered.lines("diag"))}
         items.update(self._take_nodes(answered, evidence, is_first))
         items.update(self._take_tables(answered))
         return items
@@ -122,7 +124,7 @@ class Answers:
         """The items that the trace decides too: what is wrong with all of it, and when each node was configured."""
         self._booted = [json_of(finding) for finding in findings.booted(evidence)]
         report = Report(answered, [])
-        return {"wrong": wrong(answered, evidence, self._booted),
+        return {"wrong": wrong_item(self._found + self._booted, answered.lines("diag")),
                 "boots": {"text": report.boots_text(), "times": {str(node): time for node, time in report.booted.items()}}}
 
     def _take_nodes(self, answered, evidence, is_first):
@@ -141,9 +143,15 @@ class Answers:
         return items
 
     def _take_tables(self, answered):
-        """The tables, with the rows that are new."""
-        tables = {table.key: table for table in matrix.tables_of(Wiring(answered, self.sheets)) if table.key in TABLES}
-        self._tables = {key: table_item(table, self._tables.get(key)) for key, table in tables.items()}
+        """The tables, with the rows that are new; where all that they are made of is as before, no row is."""
+        project, writes = answered.project, {node: file.writes for node, file in self.files.items()}
+        wired = words_of(project), project.manager, project.mandatory, answered.lines("diag"), writes
+        if wired == self._wired:
+            self._tables = {key: {**table, "marks": []} for key, table in self._tables.items()}
+        else:
+            tables = {table.key: table for table in matrix.tables_of(Wiring(answered, self.sheets)) if table.key in TABLES}
+            self._tables = {key: table_item(table, self._tables.get(key)) for key, table in tables.items()}
+        self._wired = wired
         return {f"table/{key}": self._tables.get(key) for key in TABLES}
 
     def saved(self, name):

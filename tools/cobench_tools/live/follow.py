@@ -133,6 +133,8 @@ class Follower:
 
     def lead(self, save, new, why):
         """Has the open cobench make a project: by edits, or afresh where that isn't possible."""
+        if self.opened and self.opened.due:
+            why = why or "the answer to a query was left"
         if self.opened and not why:
             try:
                 if self.send_edits(save, new):
@@ -167,13 +169,14 @@ class Follower:
         """Asks the open cobench, and puts what it answers into the feed: first all but the run."""
         with save.step("diagnostics and files"):
             answers = self.ask()
+            self.opened.send(b"trace\n", 1)
             answered = session.Session(self.path, pairs, answers)
         with save.step("lists"):
             evidence = self.answers.evidence(answered)
             self.feed.put(self.answers.take(answered, evidence, self.is_first))
         self.say("working", "the script was saved", "trace")
         with save.step("trace"):
-            lines = self.opened.lines(b"trace")
+            lines = self.opened.take(1)[0].lines
         with save.step("picture"):
             items = self.draw(save, lines, answered.project)
             answers["trace"] = self.run.boot_lines()

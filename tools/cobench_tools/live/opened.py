@@ -19,10 +19,11 @@ class Opened:
     """A cobench over pipes.
 
     work  what it says at its end on what it made anew (`--work`), in words, "" where it doesn't say
+    due   how many replies to what was sent haven't been taken yet
     """
 
     def __init__(self, words):
-        self.words, self.work = words, ""
+        self.words, self.work, self.due = words, "", 0
         self._faults = tempfile.TemporaryFile()
         try:
             self._process = subprocess.Popen(words + ["--work"], stdin=subprocess.PIPE, stdout=subprocess.PIPE, stderr=self._faults)
@@ -31,13 +32,21 @@ class Opened:
             raise tool.Fault(f"{words[0]}: {error.strerror}") from None
         self._lines, self._at, self._tail = [], 0, b""
 
+    def send(self, text, count):
+        """Sends that many commands, which are this text; their replies are taken later."""
+        self.due += count
+        threading.Thread(target=self._write, args=(text,), daemon=True).start()
+
+    def take(self, count):
+        """The next replies to what was sent."""
+        answers = [self._reply() for _ in range(count)]
+        self.due -= count
+        return answers
+
     def ask(self, text, count):
         """The replies to that many commands, which are this text."""
-        writer = threading.Thread(target=self._write, args=(text,), daemon=True)
-        writer.start()
-        answers = [self._reply() for _ in range(count)]
-        writer.join()
-        return answers
+        self.send(text, count)
+        return self.take(count)
 
     def lines(self, query):
         """The lines that a query answers, which can't be refused."""
@@ -73,10 +82,10 @@ class Opened:
             pass        # it ended: who reads the replies learns of it
 
     def _reply(self):
-        line = self._take(1)[0]
+        line = self._next_lines(1)[0]
         query = replies.LINES.fullmatch(line)
         if query:
-            return replies.Reply(0, lines=self._take(int(query.group(1))))
+            return replies.Reply(0, lines=self._next_lines(int(query.group(1))))
         refused = replies.REFUSED.fullmatch(line)
         if refused:
             return replies.Reply(0, refused=tool.shown(b" ".join(refused.groups())))
@@ -84,7 +93,7 @@ class Opened:
             raise Ended(f"{self.words[0]}: this is no reply: {tool.shown(line[:60])}")
         return replies.Reply(0)
 
-    def _take(self, count):
+    def _next_lines(self, count):
         """The next lines of its output."""
         while len(self._lines) - self._at < count:
             self._more()
