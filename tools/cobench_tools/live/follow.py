@@ -112,7 +112,7 @@ class Follower:
 
     def say(self, state, words, waits=""):
         """What is the matter, on the page."""
-        self.feed.put({"status": {"state": state, "words": words, "waits": waits, "clock": time.strftime("%H:%M:%S")}})
+        self.feed.put({"status": status_item(state, words, waits, time.strftime("%H:%M:%S"))})
 
     def read(self, save):
         """The commands of the script with their replies, and the project that they make."""
@@ -204,7 +204,12 @@ class Follower:
         """The save is over: what it cost goes into the ledger."""
         self.records = self.records[1 - MOST_SAVES:] + [save.record()]
         count = sum(not reply.is_accepted() for _, reply in answered.pairs)
-        self.feed.put({"ledger": self.records, "status": {"state": "well", "words": refusals_text(count), "waits": "", "clock": save.clock}})
+        self.feed.put({"ledger": self.records, "status": status_item("well", refusals_text(count), "", save.clock)})
+
+
+def status_item(state, words, waits, clock):
+    """What is the matter: well, working or fault; in words; what is waited for; and since when."""
+    return {"state": state, "words": words, "waits": waits, "clock": clock}
 
 
 def refusals_text(count):

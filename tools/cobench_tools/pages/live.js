@@ -35,22 +35,25 @@ class Live {
     this.isOver = true;
     for (const part of this.all) if (part.end) part.end(this.items);
     requestAnimationFrame(() => {
-      this.cost = !last || whole || !last.saved ? "" : `, ${Math.max(0, Date.now() - last.saved)} ms from save to page, ${Math.round(performance.now() - began)} of them here`;
+      const here = Math.round(performance.now() - began), all = last ? Math.max(0, Date.now() - last.saved) : 0;
+      this.cost = !last || whole || !last.saved ? "" : `, ${all} ms from save to page, ${here} of them here`;
       this.say(this.items.get("status"));
     });
-    if (!whole) this.voice.textContent = this.all.map(part => part.spoken ? part.spoken() : "").filter(Boolean).join(", ");
+    if (!whole) this.voice.textContent = this.all[0].spoken();
   }
 
   say({ state, words, waits, clock }) {
-    const texts = { well: `Up to date ${clock}${this.cost}. ${words}`, working: waits ? `Waits for the ${waits} ..` : "Works ..", fault: words };
+    const works = waits ? `Waits for the ${waits} ..` : "Works ..";
+    const texts = { well: `Up to date ${clock}${this.cost}. ${words}`, working: works, fault: words };
     this.status.className = state;
-    this.status.textContent = texts[state] || words;
+    this.status.textContent = texts[state];
     this.run.wait(waits && state === "working" ? "the run is of the save before; this one is being simulated" : "");
   }
 
   lost() {
     const seen = this.items && this.items.get("status");
-    this.say({ state: "fault", words: `cobtool live has ended, or can't be reached${seen ? "; this is what it said last, at " + seen.clock : ""}`, waits: "", clock: "" });
+    const last = seen ? `; this is what it said last, at ${seen.clock}` : "";
+    this.say({ state: "fault", words: `cobtool live has ended, or can't be reached${last}`, waits: "", clock: "" });
   }
 
   /** 1 to 5 choose a part. */

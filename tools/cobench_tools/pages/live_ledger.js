@@ -32,12 +32,15 @@ function saveEntry(save) {
 /** The steps of a save, each as wide as it took long. */
 function stepBar(save) {
   const whole = Math.max(save.all, 1);
-  const parts = save.steps.map(([what, time], n) => element("span", { style: `flex-grow: ${Math.max(time / whole, .001)}`, class: `step step-${n % 4}`, title: `${what}: ${time} ms` }));
+  const parts = save.steps.map(([what, time], n) =>
+    element("span", { style: `flex-grow: ${Math.max(time / whole, .001)}`, class: `step step-${n % 4}`, title: `${what}: ${time} ms` }));
   const words = save.steps.map(([what, time]) => `${what} ${time}`).join(", ") + " ms";
-  return element("div", { class: "steps" }, element("div", { class: "bars", "aria-hidden": "true" }, ...parts), element("div", { class: "soft" }, words));
+  return element("div", { class: "steps" },
+    element("div", { class: "bars", "aria-hidden": "true" }, ...parts), element("div", { class: "soft" }, words));
 }
 
 function editList(save) {
   const more = save.count > save.edits.length ? [`and ${counted(save.count - save.edits.length)} more`] : [];
-  return element("details", {}, element("summary", {}, several(save.count, "edit")), element("pre", {}, save.edits.concat(more).join("\n")));
+  const lines = save.edits.concat(more).join("\n");
+  return element("details", {}, element("summary", {}, several(save.count, "edit")), element("pre", {}, lines));
 }

@@ -81,9 +81,12 @@ class NodeCard {
     if (!this.element.open) { this.body.replaceChildren(); return; }
     const { node } = this, folded = [...this.body.querySelectorAll("details")].map(each => each.open);
     const scrolled = this.body.querySelector("pre"), top = scrolled ? scrolled.scrollTop : 0;
-    this.body.replaceChildren(valuesTable(node.values.filter(value => !isOfPdos(value))), pdoPart(node.values.filter(isOfPdos)), filePart("DCF", `${node.node}.dcf`, `${node.file}.dcf`, dcfText(node)),
+    this.body.replaceChildren(valuesTable(node.values.filter(value => !isOfPdos(value))), pdoPart(node.values.filter(isOfPdos)),
+      filePart("DCF", `${node.node}.dcf`, `${node.file}.dcf`, dcfText(node)),
       filePart("Concise DCF", `${node.node}.bin`, `${node.file}.bin`, bytesText(node.bytes)));
-    this.body.querySelectorAll("details").forEach((each, n) => { each.open = folded[n] === undefined ? each.classList.contains("marked") : folded[n]; });
+    this.body.querySelectorAll("details").forEach((each, n) => {
+      each.open = folded[n] === undefined ? each.classList.contains("marked") : folded[n];
+    });
     const mark = this.body.querySelector("mark"), text = this.body.querySelector("pre");
     text.scrollTop = mark ? mark.offsetTop - 60 : top;
   }
@@ -112,8 +115,8 @@ function valuesTable(values) {
 function pdoPart(values) {
   const marked = values.some(isChanged);
   return element("div", { class: "file", ...(values.length ? {} : { hidden: "" }) },
-    element("details", marked ? { class: "marked" } : {}, element("summary", {}, `PDO objects, which messages make: ${several(values.length, "value")}`),
-      valuesTable(values)));
+    element("details", marked ? { class: "marked" } : {},
+      element("summary", {}, `PDO objects, which messages make: ${several(values.length, "value")}`), valuesTable(values)));
 }
 
 /** A file of a node: a button that saves it, and its text. */

@@ -7,10 +7,12 @@ class RunPart {
     this.drawing = element("div", { class: "timeline" });
     this.frames = new FrameTable(frame => this.point(frame));
     this.views = [["Timeline", this.drawing], ["Frames", this.frames.element]];
-    this.switch = element("div", { class: "switch", role: "group", "aria-label": "the run as" }, ...this.views.map(([title], n) => button(title, title, () => this.view(n))));
+    this.switch = element("div", { class: "switch", role: "group", "aria-label": "the run as" },
+      ...this.views.map(([title], n) => button(title, title, () => this.view(n))));
     this.waits = element("div", { class: "waits", role: "status", hidden: "" });
     this.element = element("section", { class: "part run" }, this.waits, this.drawing, this.frames.element);
-    this.timeline = new Timeline(this.drawing, { addEventListener: (name, action) => document.addEventListener(name, event => this.pass(event, action)) });
+    const keys = { addEventListener: (name, action) => document.addEventListener(name, event => this.pass(event, action)) };
+    this.timeline = new Timeline(this.drawing, keys);
     this.known = this.seen = null;
     this.view(0);
   }
@@ -37,7 +39,8 @@ class RunPart {
   }
 
   take(items, changed) {
-    if (!items.get("run") || !(touches(changed, "window/") || touches(changed, "sorts/") || changed.has("run") || changed.has("ledger"))) return;
+    const isOther = ["window/", "sorts/", "run", "ledger"].some(start => touches(changed, start));
+    if (!isOther || !items.get("run")) return;
     const sorts = [];
     for (const { at, rows } of items.all("sorts/")) rows.forEach((row, n) => { sorts[at + n] = row; });
     const windows = items.all("window/");
@@ -103,7 +106,8 @@ class FrameTable {
     this.body = element("tbody", {});
     this.above = element("div", {});
     this.below = element("div", {});
-    this.scroller = element("div", { class: "rows", tabindex: "0", role: "region", "aria-label": "frames" }, this.above, frameTable(this.body), this.below);
+    this.scroller = element("div", { class: "rows", tabindex: "0", role: "region", "aria-label": "frames" },
+      this.above, frameTable(this.body), this.below);
     this.bar = element("div", { class: "bar" }, this.node, this.kind, this.text, element("label", {}, this.isNew, " new"), this.count);
     this.element = element("div", { class: "frames" }, this.bar, this.scroller);
     for (const field of [this.node, this.kind, this.text, this.isNew]) field.addEventListener("input", () => this.filter());
@@ -145,7 +149,8 @@ class FrameTable {
 
   row(frame) {
     const { trace } = this, sort = trace.sortOf(frame), kind = trace.kinds[sort.kind];
-    const cells = [shownTime(trace.time[frame]), trace.identifier(frame), kind, trace.lanes[sort.lane].name, trace.text(frame), spaced(trace.bytes(frame))];
+    const cells = [shownTime(trace.time[frame]), trace.identifier(frame), kind, trace.lanes[sort.lane].name, trace.text(frame),
+      spaced(trace.bytes(frame))];
     const made = element("tr", trace.fresh.has(frame) ? { class: "new" } : {}, ...cells.map(cell => element("td", {}, cell)));
     made.children[2].prepend(element("i", { style: `background: var(--${colourOf(kind)})` }));
     made.addEventListener("click", () => this.chosen(frame));
@@ -156,7 +161,10 @@ class FrameTable {
 const frameTable = body => element("table", {}, element("thead", { class: "unseen" }, element("tr", {},
   ...["Time", "Identifier", "Kind", "Sender", "What", "Bytes"].map(each => element("th", { scope: "col" }, each)))), body);
 
-const subjectOf = sort => typeof sort.text === "string" ? sort.text : sort.text[0] + " " + (sort.text[1] || []).map(([label]) => label).join(" ");
+/** What is searched of all frames of a sort: what they say, or of a PDO its subject and the labels of its values. */
+function subjectOf({ text }) {
+  return typeof text === "string" ? text : [text[0], ...(text[1] || []).map(([label]) => label)].join(" ");
+}
 
 /** The choices of a field; what was chosen stays so, where it is still there. */
 function fillSelect(field, all, choices) {

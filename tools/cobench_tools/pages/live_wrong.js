@@ -36,7 +36,8 @@ class WrongPart {
       element("div", { class: "where" }, element("b", {}, each.severity), element("code", {}, place),
         isNew ? element("span", { class: "tag" }, "new") : "", element("span", { class: "code" }, each.code)),
       element("div", { class: "text" }, who + each.text));
-    made.append(...each.notes.map(note => element("div", { class: "note" }, element("code", {}, `${note.file}:${note.line}`), " " + note.text)));
+    made.append(...each.notes.map(note =>
+      element("div", { class: "note" }, element("code", {}, `${note.file}:${note.line}`), " " + note.text)));
     return made;
   }
 }

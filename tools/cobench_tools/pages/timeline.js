@@ -202,5 +202,6 @@ function laneLabel(view, lane) {
 
 function kindLabel(view, lane, kind) {
   const name = view.trace.kinds[kind], top = view.lanes.rowTop(lane, kind) + view.lanes.row / 2;
-  return element("span", { class: view.shows(kind) ? "kind" : "kind off", style: `top: ${top}px; color: var(--${colourOf(name)}-ink)` }, name);
+  const style = `top: ${top}px; color: var(--${colourOf(name)}-ink)`;
+  return element("span", { class: view.shows(kind) ? "kind" : "kind off", style }, name);
 }

@@ -2,9 +2,10 @@
 
 /** Wheel: scrolls the lanes as the page does; with Ctrl it zooms, sideways or with Shift it moves in time. */
 function onWheel(view, event) {
-  const lines = event.deltaMode === 1 ? 16 : 1, down = event.deltaY * lines, aside = event.shiftKey ? event.deltaX + event.deltaY : event.deltaX;
+  const lines = event.deltaMode === 1 ? 16 : 1, down = event.deltaY * lines;
+  const aside = (event.shiftKey ? event.deltaX + event.deltaY : event.deltaX) * lines;
   if (event.ctrlKey || event.metaKey) view.zoom(Math.exp(Math.max(-30, Math.min(30, down)) * .01), view.placeOf(event).x);
-  else if (Math.abs(aside) > (event.shiftKey ? 0 : Math.abs(down))) view.moveBy(aside * lines * view.scale.span / view.scale.plot);
+  else if (Math.abs(aside) > (event.shiftKey ? 0 : Math.abs(down))) view.moveBy(aside * view.scale.span / view.scale.plot);
   else return;
   event.preventDefault();
 }
@@ -86,7 +87,7 @@ class Pointers {
 /** What each key does; `ask` is the field for a search. */
 function keyActions(view, ask) {
   const part = share => () => view.moveBy(share * view.scale.span);
-  const lanes = count => () => view.scrollBy(count * (view.lanes.compact ? 31 : 60));
+  const lanes = count => () => view.scrollBy(count * (view.lanes.shown.length ? view.lanes.shown[0].height : 0));
   const pages = count => () => view.scrollBy(count * view.room() * .9);
   return {
     "+": () => view.zoom(.5), "=": () => view.zoom(.5), "-": () => view.zoom(2), "0": () => view.showAll(),

@@ -38,7 +38,8 @@ function drawRows(pen, view, lane) {
     pen.fillStyle = view.colours[name];
     const wide = [];
     eachRun(view.trace, view.trace.row(lane.number, kind), view.scale, (left, right, frame) => {
-      pen.fillRect(left, top + 1, frame < 0 ? right - left : Math.max(NARROW, right - left - (right - left > 6 ? 1 : 0)), view.lanes.row - 2);
+      const gap = frame >= 0 && right - left > 6 ? 1 : 0;
+      pen.fillRect(left, top + 1, Math.max(NARROW, right - left - gap), view.lanes.row - 2);
       if (right - left > LABELLED && frame >= 0) wide.push([left, right, frame]);
     });
     for (const [left, right, frame] of wide) drawLabel(pen, view, left, right, top, frame, name);

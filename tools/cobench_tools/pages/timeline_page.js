@@ -2,8 +2,8 @@
 
 function summaryOf(content, trace) {
   const notes = trace.flags.filter(flag => FLAG_SAYS[flag.kind] === "noted by the manager").length;
-  return `${several(trace.count, "frame")} and ${several(notes, "note")} in ${(trace.end / 1e6).toLocaleString("en", { maximumFractionDigits: 6 })} s, ` +
-    `${1000 / content.bit} kbit/s`;
+  const seconds = (trace.end / 1e6).toLocaleString("en", { maximumFractionDigits: 6 });
+  return `${several(trace.count, "frame")} and ${several(notes, "note")} in ${seconds} s, ${1000 / content.bit} kbit/s`;
 }
 
 /** The part of the run that the address asks for: #FROM-TO in microseconds. */

@@ -81,10 +81,11 @@ function barsInView(view) {
   const { trace, scale } = view, x = scale.x, bars = [];
   const from = Math.max(0, Math.floor(scale.from / trace.step)), to = Math.min(trace.steps - 1, Math.floor(scale.to / trace.step));
   for (let step = from; step <= to; step++) {
-    const left = Math.max(x(step * trace.step), 0), right = Math.min(x((step + 1) * trace.step), scale.right), total = view.total(step);
-    const last = bars[bars.length - 1];
-    if (last && Math.floor(left) === Math.floor(last.left) && right - left < 1) { if (total > last.total) Object.assign(last, { step, total }); }
-    else bars.push({ step, left, right, total });
+    const left = Math.max(x(step * trace.step), 0), right = Math.min(x((step + 1) * trace.step), scale.right);
+    const total = view.total(step), last = bars[bars.length - 1];
+    const shares = last && right - left < 1 && Math.floor(left) === Math.floor(last.left);
+    if (!shares) bars.push({ step, left, right, total });
+    else if (total > last.total) Object.assign(last, { step, total });
   }
   return bars;
 }

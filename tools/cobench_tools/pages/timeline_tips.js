@@ -51,7 +51,7 @@ function tellFlag(view, flag, others = []) {
 function tellState(view, lane, time) {
   const state = view.trace.stateAt(lane.number, time);
   if (!state || time < 0 || time > view.trace.end) return null;
-  return { time, lane: lane.number, colour: state, head: shownTime(Math.round(time)), words: `${lane.name} ${state}`, values: [], code: "" };
+  return { time, lane: lane.number, colour: state, values: [], code: "", head: shownTime(Math.round(time)), words: `${lane.name} ${state}` };
 }
 
 function tellStep(view, time) {

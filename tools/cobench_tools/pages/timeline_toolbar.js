@@ -3,7 +3,7 @@
 class Toolbar {
   constructor(view) {
     this.view = view;
-    this.search = element("input", { type: "search", placeholder: "node", "aria-label": "search for a node by name or number", size: "12" });
+    this.search = element("input", { type: "search", placeholder: "node", size: "12", "aria-label": "search for a node by name or number" });
     this.count = element("span", { class: "soft", role: "status" });
     this.legend = element("div", { class: "legend", role: "group", "aria-label": "kinds of frames" });
     this.list = new FlagList(view);
@@ -28,11 +28,11 @@ class Toolbar {
   }
 
   take(trace) {
-    const counts = trace.kinds.map((_, kind) => trace.lanes.reduce((sum, _, lane) => sum + trace.row(lane, kind).frame.length, 0));
-    const kinds = trace.kinds.map((name, kind) => ({ name, kind, count: counts[kind] })).filter(each => each.count);
+    const countOf = kind => trace.lanes.reduce((sum, _, lane) => sum + trace.row(lane, kind).frame.length, 0);
+    const kinds = trace.kinds.map((name, kind) => ({ name, kind, count: countOf(kind) })).filter(each => each.count);
     const states = new Set(trace.lanes.flatMap(lane => lane.states.map(([, state]) => state)));
-    this.legend.replaceChildren(...kinds.map(each => this.chip(each)),
-      ...trace.content.stateNames.map((name, state) => [name, state]).filter(([, state]) => states.has(state)).map(([name]) => stateChip(name)));
+    const names = trace.content.stateNames.filter((_, state) => states.has(state));
+    this.legend.replaceChildren(...kinds.map(each => this.chip(each)), ...names.map(stateChip));
     this.list.take(trace);
   }
 
@@ -52,7 +52,8 @@ class Toolbar {
   follow() { this.all.disabled = this.out.disabled = this.view.scale.isWhole(); }
 }
 
-const stateChip = name => element("span", { class: "chip state" }, element("i", { class: name, style: `background: var(--${name})` }), name);
+const stateChip = name =>
+  element("span", { class: "chip state" }, element("i", { class: name, style: `background: var(--${name})` }), name);
 
 function button(words, title, action) {
   const made = element("button", { type: "button", title, "aria-label": title.replace(/,.*/, "") }, words);
@@ -61,8 +62,10 @@ function button(words, title, action) {
 }
 
 const KEYS = [["+ −", "zoom"], ["0", "whole run"], ["← →", "move in time"], ["↑ ↓", "scroll"], ["Page ↑ ↓", "a page of lanes"],
-  ["n p", "next and previous event or alarm"], [". ,", "next and previous frame of the lane"], ["/", "search for a node"], ["Esc", "close"]];
-const MOUSE = [["wheel", "scrolls the lanes"], ["Ctrl + wheel", "zooms"], ["Shift + wheel", "moves in time"], ["drag", "moves"], ["double click", "zooms in"]];
+  ["n p", "next and previous event or alarm"], [". ,", "next and previous frame of the lane"], ["/", "search for a node"],
+  ["Esc", "close"]];
+const MOUSE = [["wheel", "scrolls the lanes"], ["Ctrl + wheel", "zooms"], ["Shift + wheel", "moves in time"], ["drag", "moves"],
+  ["double click", "zooms in"]];
 const FINGERS = [["swipe", "moves"], ["pinch", "zooms"], ["tap", "tells what is there"]];
 
 /** What keys, wheel and fingers do. */
@@ -77,7 +80,12 @@ function popUp(words, title, ...children) {
   const summary = element("summary", { class: "button", title, "aria-label": title }, words);
   const made = element("details", { class: "pop" }, summary, element("div", { class: "box" }, ...children));
   document.addEventListener("pointerdown", event => { if (!made.contains(event.target)) made.open = false; });
-  made.addEventListener("keydown", event => { if (event.key === "Escape" && made.open) { made.open = false; summary.focus(); event.preventDefault(); } });
+  made.addEventListener("keydown", event => {
+    if (event.key !== "Escape" || !made.open) return;
+    made.open = false;
+    summary.focus();
+    event.preventDefault();
+  });
   return made;
 }
 
@@ -103,8 +111,9 @@ class FlagList {
 
   fill() {
     const flags = this.trace.flags, shown = flags.length > FlagList.MOST ? flags.filter(isTrouble).slice(0, FlagList.MOST) : flags;
+    const more = flags.length - shown.length;
     this.items.replaceChildren(...shown.map(flag => this.item(flag)));
-    if (shown.length < flags.length) this.items.append(element("li", { class: "soft" }, `${several(flags.length - shown.length, "more flag")} on the picture`));
+    if (more) this.items.append(element("li", { class: "soft" }, `${counted(more)} more on the picture`));
   }
 
   item(flag) {
