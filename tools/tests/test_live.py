@@ -13,7 +13,7 @@ from cobench_tools.live import watch
 from cobench_tools.live.feed import Feed
 from cobench_tools.live.server import Server
 from cobench_tools.commands.live import PORT
-from helper import COBTOOL, EXAMPLES, ROOT, file, is_refused, put, recorded, recorded_replies, run
+from helper import BINARY, COBTOOL, EXAMPLES, ROOT, file, is_refused, put, recorded, recorded_replies, run, run_alone
 from live_scene import FOLDER, Scene, day_script, wait_until, words
 
 
@@ -180,6 +180,23 @@ def test_a_fault_of_live_itself_is_told_and_forgotten():
         assert scene.status() == ("well", "") and scene.ledger()["edits"] is None and scene.trace()[0] == "0000000055 705 [1] 00"
 
 
+def test_odd_files_are_told_and_gone_on_from():
+    with Scene() as scene:
+        text, before = scene.text(), scene.trace()
+        for odd, why in ((text.decode().encode("utf-16"), "this is UTF-16; save it as UTF-8 or as plain ASCII"),
+                         (text.replace(b"\n", b"\r"), "its lines end by CR alone; save it with LF or CR LF"),
+                         (b"#" * (64 << 20) + b"\n", "64 MiB, and cobench takes no more"), (text + b"eds x 3\n", "the script ends after 0 of the 3 lines")):
+            scene.save(odd)
+            assert scene.status()[0] == "fault" and why in scene.status()[1], scene.status()
+            assert scene.trace() == before
+        scene.save(text.replace(b"\n", b"\r\n"))
+        assert scene.status() == ("well", "") and scene.ledger()["edits"] == [] and scene.trace() == before
+        os.remove("network.txt")
+        os.mkdir("network.txt")
+        scene.look()
+        assert scene.status() == ("fault", "network.txt: Is a directory")
+
+
 def test_an_editor_that_writes_in_two_steps_is_waited_for():
     with Scene() as scene:
         text = scene.text().replace(b"0 100", b"0 50")
@@ -320,6 +337,8 @@ def test_live_says_why_it_cannot():
     put("net.txt", b"bitrate 500\n")
     is_refused(run("live", "nosuch.txt"), "nosuch.txt: No such file or directory")
     is_refused(run("live", "-"), "SCRIPT is a file")
+    is_refused(run("live", put("binary", BINARY)), "binary: this is no text")
+    is_refused(run("live", "."), ".: Is a directory")
     is_refused(run("live", "--cobench", "/nosuch", "net.txt"), "/nosuch: No such file or directory")
     is_refused(run("live", "--cobench", "false", "net.txt"), "false ended with status 1")
     is_refused(run("live", "--cobench", "echo hello", "net.txt"), "this is no reply: hello")
@@ -328,6 +347,14 @@ def test_live_says_why_it_cannot():
     with socket.create_server(("127.0.0.1", 0)) as taken:
         port = str(taken.getsockname()[1])
         is_refused(run("live", "--port", port, "--cobench", program, "net.txt"), f"port {port}: Address already in use")
+
+
+def test_live_needs_a_place_for_its_first_line():
+    scene = Scene()
+    words_of_live = ("live", "--port", "0", "--cobench", " ".join(words()), scene.script)
+    with open("/dev/full", "w") as full:
+        done = run_alone(*words_of_live, stdout=full, stderr=subprocess.PIPE, timeout=30)
+    assert done.returncode == 2 and done.stderr == b"cobtool: the standard output: No space left on device\n", done
 
 
 def test_live_serves_until_it_is_ended():

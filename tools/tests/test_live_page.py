@@ -168,6 +168,22 @@ def test_the_page_fits_from_390_to_2560_pixels():
             assert live.page.value("!document.getElementById('part-run').hidden") == (wide >= 1500), beside
 
 
+def test_an_empty_script_and_an_empty_run_are_shown():
+    with opened() as live:
+        page = live.page
+        page.value("live.tabs.choose(3)")
+        live.save(b"horizon 60000", b"horizon 0")
+        assert page.value("live.run.timeline.trace.count") == 0
+        saves = page.value("live.items.get('ledger').length")
+        put(live.scene.script, b"")
+        page.wait(f"live.items.get('ledger').length > {saves}")
+        page.settle()
+        assert page.value("live.run.timeline.trace.lanes.map(lane => lane.name)") == ["manager"]
+        page.value("live.tabs.choose(1)")
+        page.settle()
+        assert "There are no nodes." in text(page, "#part-nodes")
+
+
 def test_parts_are_chosen_by_keys_and_have_roles():
     with opened() as live:
         page = live.page
