@@ -1,5 +1,5 @@
 """The manual page and the completion for bash, made of the words that the commands have."""
-from . import VERSION, main
+from . import VERSION, main, tool
 
 MANUAL = r""".TH COBTOOL 1 "" "cobtool {version}" "User Commands"
 .SH NAME
@@ -85,7 +85,16 @@ def manual_of(command, parser):
     for action in actions_of(parser):
         if action.help and "--help" not in action.option_strings and "--version" not in action.option_strings:
             lines += [".TP", word_of(action), roff(action.help)]
-    return "\n".join(lines + [".PP", ".nf", roff(parser.epilog), ".fi"]) + "\n"
+    return "\n".join(lines + roff_paragraphs(parser.epilog)) + "\n"
+
+
+def roff_paragraphs(text):
+    """A text with its paragraphs, and its indented lines as they stand."""
+    lines = []
+    for is_fixed, line in tool.paragraphs(text):
+        if line:
+            lines += [".PP"] + ([".nf", roff(line), ".fi"] if is_fixed else [roff(line)])
+    return lines
 
 
 def manual():

@@ -4,6 +4,7 @@ import collections
 import os
 import re
 import sys
+import textwrap
 
 from . import VERSION
 
@@ -27,12 +28,32 @@ class Place(collections.namedtuple("Place", "path line")):
         return f"{'<stdin>' if self.path == '-' else self.path}:{self.line}"
 
 
+def paragraphs(text):
+    """The parts of a text: paragraphs, whose lines can be broken anew, and lines that stand as they are, the indented ones."""
+    parts = []
+    for line in text.strip("\n").split("\n"):
+        is_fixed = line.startswith("  ") or not line
+        if parts and not is_fixed and not parts[-1][0]:
+            parts[-1][1] += f" {line}"
+        else:
+            parts.append([is_fixed, line])
+    return parts
+
+
+class Formatter(argparse.HelpFormatter):
+    """Help as wide as the terminal."""
+
+    def _fill_text(self, text, width, indent):
+        return "\n".join(line if is_fixed else textwrap.fill(line, width, break_long_words=False, break_on_hyphens=False)
+                         for is_fixed, line in paragraphs(text))
+
+
 class Parser(argparse.ArgumentParser):
     """A reader of words whose faults are one line, and whose help is printed whole or not at all."""
 
     def __init__(self, prog, description):
         super().__init__(prog=prog, description=description, allow_abbrev=False,
-                         formatter_class=argparse.RawDescriptionHelpFormatter)
+                         formatter_class=Formatter)
         self.add_argument("--version", action="version", version=f"cobtool {VERSION}",
                           help="show the version and exit")
 
