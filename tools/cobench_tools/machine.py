@@ -3,7 +3,7 @@ import os
 import re
 
 from . import lost_pdos, tool
-from .hints import RATES
+from .limits import RATES
 from .joined import MOST_MESSAGES, Joined, free_name
 from .node_file import WARNING, NodeFile
 from .wiring import RPDO

@@ -4,7 +4,7 @@ import itertools
 import re
 
 from . import tool
-from .hints import bad_syntax
+from .forms import bad_syntax
 
 REFUSED = re.compile(rb"refused ([1-9]) (Memory|Syntax|Range|Unknown|Taken|InUse|Limit|BadByte|Truncated)")
 LINES = re.compile(rb"lines ([0-9]{1,9})")

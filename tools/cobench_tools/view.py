@@ -25,18 +25,22 @@ def trace_and_project(script_path, replies_path, wanted):
     session = replies.session_of(replies_path, text)
     if session.cut:
         raise tool.Fault(f"{session.cut}: the replies are cut")
-    project, found = Project(), []
-    for command, reply in replies.pairs(script_path, commands, reader.raw, session)[0]:
+    found, kept = traces(replies.pairs(script_path, commands, reader.raw, session)[0], wanted or 1)
+    return trace.pick(replies_path, found, wanted), kept
+
+
+def traces(pairs, wanted):
+    """The traces with lines in them that a script's commands gave, and the project as it was at the wanted one."""
+    project, found, kept = Project(), [], None
+    for command, reply in pairs:
         if not reply.is_accepted():
             continue
         project.take(command)
         lines = trace.trace_of(reply.lines) if command.name == b"trace" else None
         if lines:
             found.append(lines)
-            if len(found) == (wanted or 1):
-                kept = project.copy()
-    lines = trace.pick(replies_path, found, wanted)
-    return lines, kept
+            kept = project.copy() if len(found) == wanted else kept
+    return found, kept
 
 
 def trace_of(options):
