@@ -72,6 +72,9 @@ def test_a_save_shows_the_new_value_and_marks_it():
         assert marks == ["ParameterValue=0x0032  was 0x0064"], marks
         assert text(page, "#tab-nodes .badge") == "1 changed" and text(page, ".node .tag") == "1 value changed"
         assert re.match(r"Up to date \d\d:\d\d:\d\d, \d+ ms from save to page", text(page, "#status")), text(page, "#status")
+        page.value("live.all[1].isChanged.checked = true, live.all[1].filter()")
+        assert page.value("[...document.querySelectorAll('.node')].map(each => each.hidden)") == [False, True]
+        page.value("live.all[1].isChanged.checked = false")
         live.save(b"set 5 6041 0 7", b"set 5 6041 0 9")
         assert page.value("document.querySelectorAll('mark').length") == 0, "marks are of the last save"
 

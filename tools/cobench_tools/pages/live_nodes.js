@@ -7,10 +7,11 @@ class NodesPart {
     this.search = element("input", { type: "search", placeholder: "node", "aria-label": "search for a node by name or number" });
     this.list = element("div", { class: "nodes" });
     this.none = element("p", { class: "soft", hidden: "" }, "There are no nodes.");
-    this.bar = element("div", { class: "bar" }, this.search);
+    this.isChanged = element("input", { type: "checkbox" });
+    this.bar = element("div", { class: "bar" }, this.search, element("label", {}, this.isChanged, " changed"));
     this.element = element("section", { class: "part" }, this.bar, this.none, this.list);
     this.cards = new Map();
-    this.search.addEventListener("input", () => this.filter());
+    for (const field of [this.search, this.isChanged]) field.addEventListener("input", () => this.filter());
   }
 
   take(items, changed) {
@@ -35,7 +36,8 @@ class NodesPart {
 
   filter() {
     const wanted = this.search.value.trim().toLowerCase();
-    for (const card of this.cards.values()) card.element.hidden = !card.fits(wanted);
+    for (const card of this.cards.values())
+      card.element.hidden = !card.fits(wanted) || this.isChanged.checked && !isMarked(card.node);
   }
 }
 
