@@ -99,12 +99,11 @@ def unused_values(evidence):
 def booted(evidence):
     """The nodes that failed to boot, and those that aren't configured at the horizon."""
     lines = trace.trace_of(evidence.answered.lines("trace"))
-    all_boots, found = boots.boots_of(lines), []
-    for node in sorted(evidence.project.nodes):
-        mine = all_boots.get(node, [])
-        if any(boot.has_failed() for boot in mine) or not mine or not mine[-1].is_configured():
-            found += troubles(evidence, node, mine, last_said(evidence, lines, node))
-    return found
+    all_boots = boots.boots_of(lines)
+    mine = {node: all_boots.get(node, []) for node in sorted(evidence.project.nodes)}
+    troubled = [node for node, each in mine.items() if not each or not all(boot.is_configured() for boot in each)]
+    said = last_said(evidence, lines, troubled) if troubled else {}
+    return [finding for node in troubled for finding in troubles(evidence, node, mine[node], said[node])]
 
 
 def troubles(evidence, node, mine, said):
@@ -115,7 +114,8 @@ def troubles(evidence, node, mine, said):
     found = []
     for what in dict.fromkeys(boot.what for boot in mine if boot.has_failed()):
         ends = [boot.end for boot in mine if boot.what == what]
-        found.append(finding(f"failed {node} {what[7:]}", failure(evidence, what, ends, said)))
+        since = f"; configured since {milliseconds(mine[-1].end)}" if mine[-1].is_configured() else ""
+        found.append(finding(f"failed {node} {what[7:]}", failure(evidence, what, ends, said) + since))
     if not mine or mine[-1].what is None:
         end = f"isn't configured at the end, {milliseconds(evidence.project.horizon)}"
         since = f"its boot began at {milliseconds(mine[-1].start)}; last: {said[None]}" if mine else "it sent no boot-up message"
@@ -132,14 +132,13 @@ def failure(evidence, what, ends, said):
     return f"failed to boot at {milliseconds(ends[0])}{again}: {why}; last: {said[ends[0]]}"
 
 
-def last_said(evidence, lines, node):
-    """What was last said by SDO to or by a node: by the time of each of its notes, and under None that at the end."""
-    network, last, said = meaning.Network(evidence.project, True), "no SDO frame", {}
+def last_said(evidence, lines, nodes):
+    """What was last said by SDO to or by each of some nodes: by the time of each of its notes, and under None at the end."""
+    network, said = meaning.Network(evidence.project, True), {node: {None: "no SDO frame"} for node in nodes}
     for line in lines:
         told = network.of(line)
-        if told.node == node and told.kind == meaning.SDO:
-            last = told.text.replace(f"{network.name(node)} ", "", 1)
-        elif isinstance(line, trace.Note) and line.node == node:
-            said.setdefault(line.time, last)
-    said[None] = last
+        if told.node in said and told.kind == meaning.SDO:
+            said[told.node][None] = told.text.replace(f"{network.name(told.node)} ", "", 1)
+        elif isinstance(line, trace.Note) and line.node in said:
+            said[line.node].setdefault(line.time, said[line.node][None])
     return said

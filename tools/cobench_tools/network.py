@@ -16,7 +16,7 @@ read or cobench can't be run."""
 
 def add_arguments(parser):
     """The words that name SCRIPT and the program, and accept findings."""
-    parser.add_argument("script", metavar="SCRIPT")
+    parser.add_argument("script", metavar="SCRIPT", help="the script, with comments and files; - is the standard input")
     acceptance.add_arguments(parser)
     session.add_arguments(parser)
 

@@ -17,7 +17,8 @@ nothing is printed then.
 
 def arguments(parser):
     parser.epilog = AFTER
-    parser.add_argument("replies", metavar="REPLIES", nargs="?", default="-")
+    parser.add_argument("replies", metavar="REPLIES", nargs="?", default="-",
+                        help="the replies of a session, or the lines of a trace; the standard input without it")
     parser.add_argument("--start", metavar="SECOND", type=int, default=trace.LOG_START,
                         help="the second of power-on, as 1700000000 for a day of 2023")
     trace.add_arguments(parser)

@@ -32,7 +32,7 @@ def add_arguments(parser):
 
 def arguments(parser):
     parser.epilog = AFTER
-    parser.add_argument("script", metavar="SCRIPT")
+    parser.add_argument("script", metavar="SCRIPT", help="the script, with comments and files; - is the standard input")
     add_arguments(parser)
 
 

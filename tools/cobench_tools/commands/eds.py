@@ -13,8 +13,8 @@ Status: 0, or 2 where cobench would refuse the block.
 
 def arguments(parser):
     parser.epilog = AFTER
-    parser.add_argument("name", metavar="NAME")
-    parser.add_argument("file", metavar="FILE")
+    parser.add_argument("name", metavar="NAME", help="the name of the data sheet in the script")
+    parser.add_argument("file", metavar="FILE", help="the data sheet; - is the standard input")
 
 
 def run(options):

@@ -16,7 +16,7 @@ printed then.
 
 def arguments(parser):
     parser.epilog = AFTER
-    parser.add_argument("script", metavar="SCRIPT")
+    parser.add_argument("script", metavar="SCRIPT", help="the script, with comments and files; - is the standard input")
 
 
 def run(options):

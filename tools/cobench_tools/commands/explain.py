@@ -64,8 +64,8 @@ def printed(lines, network, options):
 
 def arguments(parser):
     parser.epilog = AFTER
-    parser.add_argument("script", metavar="SCRIPT")
-    parser.add_argument("replies", metavar="TRACE")
+    parser.add_argument("script", metavar="SCRIPT", help="the script, with comments and files; - is the standard input")
+    parser.add_argument("replies", metavar="TRACE", help="the replies to it, or the lines of a trace")
     parser.add_argument("--csv", action="store_true", help="print a table for spreadsheets, a row for each line")
     parser.add_argument("--signals", action="store_true",
                         help="print a table of the values in PDOs, a row for each, as decimal numbers")

@@ -61,8 +61,8 @@ def written_text(folder, report, files):
 
 def arguments(parser):
     parser.epilog = AFTER
-    parser.add_argument("folder", metavar="DIR")
-    parser.add_argument("script", metavar="SCRIPT")
+    parser.add_argument("folder", metavar="DIR", help="the folder for the files")
+    parser.add_argument("script", metavar="SCRIPT", help="the script, with comments and files; - is the standard input")
     parser.add_argument("--force", action="store_true", help="write in spite of errors")
     check.add_arguments(parser)
 

@@ -30,8 +30,8 @@ def lines_of(path, commands, raw, session):
 
 def arguments(parser):
     parser.epilog = AFTER
-    parser.add_argument("script", metavar="SCRIPT")
-    parser.add_argument("replies", metavar="REPLIES")
+    parser.add_argument("script", metavar="SCRIPT", help="the script, with comments and files; - is the standard input")
+    parser.add_argument("replies", metavar="REPLIES", help="what cobench answered to it")
 
 
 def run(options):

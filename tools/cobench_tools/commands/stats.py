@@ -23,7 +23,7 @@ TABLES = ("identifiers", "boots", "sync")
 
 def arguments(parser):
     parser.epilog = AFTER
-    parser.add_argument("replies", metavar="TRACE")
+    parser.add_argument("replies", metavar="TRACE", help="the replies of a session, or the lines of a trace")
     parser.add_argument("--script", metavar="SCRIPT", help="the script that the trace is of")
     parser.add_argument("--format", choices=["text", "markdown", "csv"], default="text", help="text without it")
     parser.add_argument("--table", choices=TABLES, help="print this table alone")

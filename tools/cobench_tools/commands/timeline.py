@@ -23,7 +23,7 @@ is shown, in microseconds: trace.html#120000-280000 opens that part. Status: 0, 
 
 def arguments(parser):
     parser.epilog = AFTER
-    parser.add_argument("replies", metavar="TRACE")
+    parser.add_argument("replies", metavar="TRACE", help="the replies of a session, or the lines of a trace")
     parser.add_argument("--script", metavar="SCRIPT", help="the script that the trace is of")
     parser.add_argument("--title", metavar="TEXT", help="what stands above, not the name of SCRIPT or TRACE")
     trace.add_arguments(parser)
