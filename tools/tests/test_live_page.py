@@ -154,7 +154,7 @@ def test_nothing_jumps_on_a_save():
         before = page.value(places)
         live.save(b"set 5 6041 0 9", b"set 5 6041 0 7")
         assert page.value(places) == before
-        assert page.value("Math.abs(live.run.timeline.view.scrollTop)") == 0
+        assert page.value("Math.abs(live.run.timeline.scroller.scrollTop)") == 0
 
 
 def test_the_page_fits_from_390_to_2560_pixels():

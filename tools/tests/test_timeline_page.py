@@ -62,7 +62,7 @@ def span(page):
 
 
 def scroll(page):
-    return page.value("timeline.view.scrollTop")
+    return page.value("timeline.scroller.scrollTop")
 
 
 def moment_at(ticks, times, x):
@@ -80,7 +80,7 @@ def agrees(page):
     sizes = page.value("[timeline.canvas.width, timeline.canvas.clientWidth, timeline.canvas.height, timeline.canvas.clientHeight]")
     ratio = page.value("devicePixelRatio")
     assert sizes[0] == sizes[1] * ratio and sizes[2] == sizes[3] * ratio, sizes
-    room = page.value("[timeline.view.clientWidth - timeline.corner.offsetWidth, timeline.view.clientHeight]")
+    room = page.value("[timeline.scroller.clientWidth - timeline.corner.offsetWidth, timeline.scroller.clientHeight]")
     assert room == [sizes[1], sizes[3]], (room, sizes)
     ticks, times = columns(page, 25, "edge"), page.value("timeline.scale.ticks().at")
     assert len(ticks) == len(times) > 1, (ticks, times)
@@ -112,14 +112,14 @@ def test_axis_lanes_and_bars_agree_on_a_phone():
 
 def test_axis_and_lanes_agree_beside_a_scrollbar():
     with opened(network()) as page:
-        assert page.value("timeline.view.scrollHeight > timeline.view.clientHeight")
-        assert page.value("timeline.canvas.width + timeline.corner.offsetWidth === timeline.view.clientWidth")
+        assert page.value("timeline.scroller.scrollHeight > timeline.scroller.clientHeight")
+        assert page.value("timeline.canvas.width + timeline.corner.offsetWidth === timeline.scroller.clientWidth")
         ticks, times = columns(page, 25, "edge"), page.value("timeline.scale.ticks().at")
         beats = columns(page, page.value("AXIS + timeline.lanes.shown[60].top - timeline.scrolled() + 20"), "heartbeat")
         assert not beats, "lane 60 is out of view"
         page.value("timeline.scrollTo(timeline.lanes.shown[60].top)")
         page.settle()
-        tops = page.value("[timeline.view, timeline.corner, timeline.canvas].map(each => each.getBoundingClientRect().top)")
+        tops = page.value("[timeline.scroller, timeline.corner, timeline.canvas].map(each => each.getBoundingClientRect().top)")
         assert tops[1] == tops[2] == tops[0] + 1, tops
         beats = columns(page, page.value("AXIS + timeline.lanes.shown[60].top - timeline.scrolled() + 20"), "heartbeat")
         assert is_near(moment_at(ticks, times, beats[-1]), 1900000 + 150 * 60, page), beats
@@ -136,6 +136,11 @@ def test_emergencies_and_failed_boots_stand_out_among_many_lanes():
             assert len(red) > 60 and red[0] - 8 <= page.value(f"timeline.scale.x({time})") <= red[-1] + 8, red
         assert page.value("[...document.querySelectorAll('.alarm')].map(each => each.parentNode.title)") == ["node 7 ", "node 90 "]
         assert page.value("document.querySelector('.pop summary').textContent") == "2 alarms"
+        page.value("timeline.scrollTo(0)")
+        for words in ("node 90\nfailed timeout", "node 7\nEMCY 8130h heartbeat error, error register 11h"):
+            page.key("n")
+            page.settle()
+            assert words in page.value("document.querySelector('.tip:not([hidden])').innerText"), words
 
 
 def test_kinds_in_one_pixel_share_the_row():
@@ -157,7 +162,7 @@ def test_the_wheel_scrolls_and_zooms_with_ctrl():
     with opened(network()) as page:
         whole = span(page)
         page.wheel(700, 400, 200)
-        page.wait("timeline.view.scrollTop > 0")
+        page.wait("timeline.scroller.scrollTop > 0")
         assert span(page) == whole
         down = scroll(page)
         at = page.value("timeline.scale.time(700 - timeline.corner.offsetWidth)")
@@ -177,7 +182,7 @@ def test_keys_page_and_search():
         page.key("PageDown", 34)
         assert room * .8 < scroll(page) <= room, (room, scroll(page))
         page.key("End", 35)
-        assert scroll(page) == page.value("timeline.view.scrollHeight - timeline.view.clientHeight")
+        assert scroll(page) == page.value("timeline.scroller.scrollHeight - timeline.scroller.clientHeight")
         page.key("Home", 36)
         assert scroll(page) == 0
         page.key("ArrowDown", 40)
@@ -254,7 +259,7 @@ def test_a_finger_scrolls_many_lanes():
     with opened(network(), 390, 844, touch=True) as page:
         whole = span(page)
         page.fingers([(250, 600), (250, 300)], steps=12)
-        page.wait("timeline.view.scrollTop > 100")
+        page.wait("timeline.scroller.scrollTop > 100")
         assert span(page) == whole
 
 

@@ -68,7 +68,7 @@ class RunPart {
   /** Shows a frame of the table in the timeline. */
   point(frame) {
     this.view(0);
-    this.timeline.view.focus();
+    this.timeline.scroller.focus();
     this.timeline.goTo(tellFrame(this.timeline, frame));
   }
 }

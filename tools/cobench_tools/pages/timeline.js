@@ -23,18 +23,18 @@ class Timeline {
     this.canvas = element("canvas", { role: "img" });
     this.cursor = element("div", { class: "cursor", hidden: "" });
     this.sheet = element("div", { class: "sheet" }, this.canvas, this.cursor);
-    this.view = element("div", { class: "view", tabindex: "0", role: "group" },
+    this.scroller = element("div", { class: "view", tabindex: "0", role: "group" },
       element("div", { class: "all" }, element("div", { class: "names" }, this.corner, this.names, this.foot), this.sheet));
     this.voice = element("div", { class: "unseen", role: "status", "aria-live": "polite" });
-    this.root.append(this.bar.element, this.view, this.voice);
+    this.root.append(this.bar.element, this.scroller, this.voice);
     this.tip = new Tip(this.root);
   }
 
   listen(keys) {
-    new ResizeObserver(() => this.layOut()).observe(this.view);
+    new ResizeObserver(() => this.layOut()).observe(this.scroller);
     matchMedia("(prefers-color-scheme: dark)").addEventListener("change", () => { this.colours = colours(); this.draw(); });
-    this.view.addEventListener("scroll", () => { this.tip.hide(); this.draw(); }, { passive: true });
-    this.view.addEventListener("wheel", event => onWheel(this, event), { passive: false });
+    this.scroller.addEventListener("scroll", () => { this.tip.hide(); this.draw(); }, { passive: true });
+    this.scroller.addEventListener("wheel", event => onWheel(this, event), { passive: false });
     const actions = keyActions(this, () => this.bar.search.focus());
     keys.addEventListener("keydown", event => onKey(actions, event));
     new Pointers(this, this.canvas);
@@ -56,7 +56,7 @@ class Timeline {
     const { trace } = this, trouble = trace.flags.filter(isTrouble).length;
     this.canvas.setAttribute("aria-label", `${several(trace.lanes.length, "lane")}, ${several(trace.count, "frame")}, ` +
       `${several(trouble, "alarm")} in ${shownTime(trace.end)}`);
-    this.view.setAttribute("aria-label", "timeline; n and p go through events and alarms, period and comma through frames");
+    this.scroller.setAttribute("aria-label", "timeline; n and p go through events and alarms, period and comma through frames");
   }
 
   /** Shows the lanes whose name or number has a text. */
@@ -69,7 +69,7 @@ class Timeline {
   /** Places all by the size that the page gives. */
   layOut() {
     if (!this.trace) return;
-    this.height = this.view.clientHeight;
+    this.height = this.scroller.clientHeight;
     this.root.style.setProperty("--bars", this.bars() + "px");
     this.lanes.layOut(this.room());
     this.names.style.height = this.lanes.height + "px";
@@ -79,13 +79,13 @@ class Timeline {
 
   bars() { return this.height < 480 ? LOW_BARS : BARS; }
   room() { return Math.max(0, this.height - AXIS - this.bars()); }
-  scrolled() { return Math.max(0, this.view.scrollTop); }
+  scrolled() { return Math.max(0, this.scroller.scrollTop); }
   shows(kind) { return !this.hidden.has(kind); }
   total(step) { return this.trace.counts.reduce((sum, each, kind) => sum + (this.shows(kind) ? each[step] : 0), 0); }
 
   drawNow() {
     if (!this.trace || !this.height) return;
-    this.scale.setWidth(this.view.clientWidth - this.corner.offsetWidth);
+    this.scale.setWidth(this.scroller.clientWidth - this.corner.offsetWidth);
     const pen = penOf(this.canvas, this.scale.width, this.height), ticks = this.scale.ticks();
     pen.fillStyle = this.colours.paper;
     pen.fillRect(0, 0, this.scale.width, this.height);
@@ -107,8 +107,8 @@ class Timeline {
   moveBy(micros) { this.scale.moveBy(micros); this.draw(); this.onMove(); }
   zoom(factor, x) { this.scale.zoom(factor, x); this.tip.hide(); this.draw(); this.onMove(); }
   showAll() { this.scale.showAll(); this.draw(); this.onMove(); }
-  scrollTo(y) { this.view.scrollTop = y; }
-  scrollBy(y) { this.view.scrollTop += y; }
+  scrollTo(y) { this.scroller.scrollTop = y; }
+  scrollBy(y) { this.scroller.scrollTop += y; }
   toggle(kind, shown) { if (shown) this.hidden.delete(kind); else this.hidden.add(kind); this.layOut(); }
 
   // Telling.

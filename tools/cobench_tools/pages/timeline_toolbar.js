@@ -24,7 +24,7 @@ class Toolbar {
   /** Enter and Escape give the keys back to the picture; Escape shows all lanes again. */
   leaveSearch(event) {
     if (event.key === "Escape") { this.search.value = ""; this.view.search(""); }
-    if (event.key === "Escape" || event.key === "Enter") { this.view.view.focus(); event.preventDefault(); }
+    if (event.key === "Escape" || event.key === "Enter") { this.view.scroller.focus(); event.preventDefault(); }
   }
 
   take(trace) {
@@ -120,7 +120,7 @@ class FlagList {
     const made = element("button", { type: "button", class: isTrouble(flag) ? "wrong" : "" },
       element("span", { class: "at" }, shownTime(flag.time)),
       element("span", {}, element("b", {}, this.trace.lanes[flag.lane].name), " ", flag.words));
-    made.addEventListener("click", () => { this.element.open = false; this.view.view.focus(); this.view.goTo(tellFlag(this.view, flag)); });
+    made.addEventListener("click", () => { this.element.open = false; this.view.scroller.focus(); this.view.goTo(tellFlag(this.view, flag)); });
     return element("li", {}, made);
   }
 }
