@@ -2,7 +2,14 @@
 import os
 import re
 
-from helper import EXAMPLES, ROOT, example, file, is_fine, kept, run, session
+from helper import EXAMPLES, ROOT, example, file, is_fine, kept, recorded, run, session
+
+from cobench_tools import concise
+from cobench_tools.main import COMMANDS
+
+FOLDERS = "", "docs", "docs/rules", "examples", "tools", "bench"
+PAGES = [os.path.join(folder, name) for folder in FOLDERS for name in os.listdir(os.path.join(ROOT, folder))
+         if name.endswith(".md")]
 
 
 def test_the_stored_sessions_have_the_examples_with_the_kept_replies():
@@ -19,8 +26,12 @@ def test_the_readme_begins_with_the_first_network():
     assert texts[0] == file(EXAMPLES, "first_network.txt") and texts[1] == file(EXAMPLES, "first_network.replies.txt")
 
 
-def test_the_trace_in_the_readme_is_that_of_the_example():
-    found = re.findall(r"(?m)^    (\d{10} .*?) {2,}(\d{10} .*)$", file(ROOT, "README.md").decode())
+def page(*parts):
+    return file(ROOT, *parts).decode()
+
+
+def test_the_trace_on_the_page_is_that_of_the_example():
+    found = re.findall(r"(?m)^    (\d{10} .*?) {2,}(\d{10} .*)$", page("docs", "first_network.md"))
     replies = file(EXAMPLES, "servo_axes.replies.txt").decode().splitlines()
     explained = kept("servo_axes.explained.txt").decode().splitlines()
     assert len(found) > 10
@@ -28,16 +39,55 @@ def test_the_trace_in_the_readme_is_that_of_the_example():
         assert line in replies and said in explained, line
 
 
-def test_the_readme_has_the_refusals_of_the_example():
+def test_the_page_has_the_refusals_of_the_example():
     os.chdir(ROOT)
     output = run("refusals", "examples/servo_axes.txt", "examples/servo_axes.replies.txt")[1].decode()
-    assert re.sub(r"(?m)^", "       ", output).rstrip(" ") in file(ROOT, "README.md").decode()
+    assert re.sub(r"(?m)^", "       ", output).rstrip(" ") in page("docs", "first_network.md")
+
+
+def test_the_readme_tells_the_slip_as_check_does():
+    os.chdir(ROOT)
+    status, output, _ = run("check", "--cobench", recorded(), "examples/slip.txt")
+    assert status == 1 and re.sub("(?m)^", "    ", output.decode()).rstrip(" ") in page("README.md"), output
+
+
+def test_the_readme_is_short_and_has_each_tool_that_it_names():
+    text = page("README.md")
+    assert len(text.splitlines()) <= 150
+    for name in set(re.findall(r"cobtool ([a-z]+)", text)):
+        assert name in COMMANDS or name in ("draws", "is"), name
+
+
+def test_pages_name_no_tool_by_an_old_name():
+    for name in PAGES:
+        found = re.findall(r"tools/(?:eds|expand|explain|export|refusals|timeline|candump)\b", page(*name.split("/")))
+        assert not found, (name, found)
+
+
+def test_the_index_leads_to_each_page():
+    index = page("docs", "README.md")
+    for name in os.listdir(os.path.join(ROOT, "docs")):
+        assert not name.endswith(".md") or name == "README.md" or f"({name})" in index, name
+
+
+def test_the_program_on_the_page_reads_a_concise_dcf():
+    code = re.search(r"(?s)\n(      import struct\n.*?)\n\n  With", page("docs", "masters.md")).group(1)
+    names = {}
+    exec(re.sub("(?m)^      ", "", code), names)
+    lines = re.findall(rb"(?m)^lines 11\n((?:.*\n){11})", file(EXAMPLES, "io_modules.replies.txt"))[0]
+    data = concise.bytes_of(lines.splitlines())
+    assert list(names["writes"](data)) == concise.writes_of(data) and len(concise.writes_of(data)) == 17
 
 
 def test_documents_name_files_that_are_there():
-    for folder in ("", "docs", "docs/rules", "examples", "tools", "bench"):
-        for name in os.listdir(os.path.join(ROOT, folder)):
-            if name.endswith(".md"):
-                text = file(ROOT, folder, name).decode()
-                for link in re.findall(r"\]\(([^)#:]+)\)", text):
-                    assert os.path.exists(os.path.join(ROOT, folder, link)), f"{folder}/{name}: {link}"
+    for name in PAGES:
+        for link, part in re.findall(r"\]\(([^)#:]*)(#[^)]*)?\)", page(*name.split("/"))):
+            path = os.path.join(ROOT, os.path.dirname(name), link) if link else os.path.join(ROOT, name)
+            assert os.path.exists(path), f"{name}: {link}"
+            assert not part or part[1:] in anchors(file(path).decode()), f"{name}: {link}{part}"
+
+
+def anchors(text):
+    """The anchors of the headings of a page."""
+    titles = re.findall("(?m)^#+ (.*)$", text)
+    return {re.sub("[^a-z0-9 _-]", "", title.lower()).replace(" ", "-") for title in titles}
