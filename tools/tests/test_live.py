@@ -2,15 +2,18 @@
 import http.client
 import json
 import os
+import random
 import re
 import signal
 import socket
 import subprocess
 import sys
 import threading
+from types import SimpleNamespace
 
 from cobench_tools.live import watch
 from cobench_tools.live.feed import Feed
+from cobench_tools.live.run import spans_of
 from cobench_tools.live.server import Server
 from cobench_tools.commands.live import PORT
 from helper import BINARY, COBTOOL, EXAMPLES, ROOT, file, is_refused, put, recorded, recorded_replies, run, run_alone
@@ -65,6 +68,19 @@ def test_only_windows_that_changed_are_sent_again():
         assert [line[-5:] for line in scene.trace() if " 185 " in line and line > "0000040000"] == ["09 00", "09 00"]
         scene.change(b"event 1 40000", b"# event 1 40000")
         assert scene.ledger()["edits"] == ["drop-event 1"] and scene.windows() == [4, 5]
+
+
+def test_windows_are_found_in_the_text_of_a_trace():
+    chance = random.Random(64)
+    for _ in range(300):
+        numbers = sorted(chance.choices(range(12), k=chance.randint(0, 60)))
+        text = b"".join(b"%06d%04d 181 [%d]%s\n" % (number, place, size, b" 00" * size) for place, number in enumerate(numbers)
+                        for size in [chance.randint(0, 8)])
+        spans = list(spans_of(text, {}))
+        assert b"".join(span for _, span in spans) == text and [number for number, _ in spans] == sorted(set(numbers))
+        assert all(line.startswith(b"%06d" % number) for number, span in spans for line in span.splitlines())
+        kept = {number: SimpleNamespace(text=chance.choice((span, span[:span.index(b"\n") + 1]))) for number, span in spans}
+        assert list(spans_of(text, kept)) == spans, "what was kept changes nothing"
 
 
 def test_another_name_is_shown_in_all_places():

@@ -127,6 +127,10 @@ class Answers:
         return {"wrong": wrong_item(self._found + self._booted, answered.lines("diag")),
                 "boots": {"text": report.boots_text(), "times": {str(node): time for node, time in report.booted.items()}}}
 
+    def has_trouble(self):
+        """Whether a node didn't boot; what was said by SDO then has to be known too."""
+        return bool(self._booted)
+
     def _take_nodes(self, answered, evidence, is_first):
         """The nodes that are other than they were, that were marked by the save before, or are gone."""
         before, shown, project = self.files, self._shown, answered.project

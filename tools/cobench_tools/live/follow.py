@@ -176,12 +176,15 @@ class Follower:
             self.feed.put(self.answers.take(answered, evidence, self.is_first))
         self.say("working", "the script was saved", "trace")
         with save.step("trace"):
-            lines = self.opened.take(1)[0].lines
+            text = self.opened.take_text()
         with save.step("picture"):
-            items = self.draw(save, lines, answered.project)
-            answers["trace"] = self.run.boot_lines()
-            items.update(self.answers.booted(answered, evidence))
-            self.feed.put(items)
+            items = self.draw(save, text, answered.project)
+            answers["trace"] = self.run.boot_lines(False)
+            booted = self.answers.booted(answered, evidence)
+            if self.answers.has_trouble():
+                answers["trace"] = self.run.boot_lines(True)
+                booted = self.answers.booted(answered, evidence)
+            self.feed.put({**items, **booted})
         self.is_first = False
         self.end(save, answered)
 
@@ -191,10 +194,10 @@ class Follower:
         replies = self.opened.ask(b"".join(query + b"\n" for query in queries), len(queries))
         return {"trace": [], **{tool.shown(query): reply.lines for query, reply in zip(queries, replies)}}
 
-    def draw(self, save, lines, project):
+    def draw(self, save, text, project):
         """The items of the run: what is other than before."""
-        changed = self.run.take(lines, project, self.answers.sheets)
-        save.windows, save.of_windows, save.lines = len(changed), len(self.run.windows), len(lines)
+        changed = self.run.take(text, project, self.answers.sheets)
+        save.windows, save.of_windows, save.lines = len(changed), len(self.run.windows), text.count(b"\n")
         items = {f"window/{number}": self.run.content(number) for number in changed}
         items.update(self.run.new_sorts())
         items["run"] = self.run.about()

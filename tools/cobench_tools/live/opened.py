@@ -1,4 +1,5 @@
 """A cobench that stays open: commands go in, and each has its reply before more is needed."""
+import contextlib
 import os
 import re
 import subprocess
@@ -8,11 +9,19 @@ import threading
 from .. import replies, tool
 
 PIECE = 1 << 20
+SET_PIPE_SIZE = 1031    # of Linux: a long answer then takes few reads
 WAIT = 5.0      # seconds that a cobench has to end once nothing more comes
 
 
 class Ended(Exception):
     """The program ended, or wrote what is no reply; in words."""
+
+
+def widen(stream):
+    """Has a pipe hold a long answer, where the system can do that."""
+    with contextlib.suppress(ImportError, OSError):
+        import fcntl
+        fcntl.fcntl(stream.fileno(), SET_PIPE_SIZE, PIECE)
 
 
 class Opened:
@@ -30,7 +39,8 @@ class Opened:
         except OSError as error:
             self._faults.close()
             raise tool.Fault(f"{words[0]}: {error.strerror}") from None
-        self._lines, self._at, self._tail = [], 0, b""
+        self._read, self._at = b"", 0
+        widen(self._process.stdout)
 
     def send(self, text, count):
         """Sends that many commands, which are this text; their replies are taken later."""
@@ -47,6 +57,14 @@ class Opened:
         """The replies to that many commands, which are this text."""
         self.send(text, count)
         return self.take(count)
+
+    def take_text(self):
+        """The next reply, which is that to a query, as a text of whole lines."""
+        query = replies.LINES.fullmatch(self._next_line())
+        if not query:
+            raise Ended(f"{self.words[0]}: a query was refused")
+        self.due -= 1
+        return self._next_text(int(query.group(1)))
 
     def lines(self, query):
         """The lines that a query answers, which can't be refused."""
@@ -82,10 +100,10 @@ class Opened:
             pass        # it ended: who reads the replies learns of it
 
     def _reply(self):
-        line = self._next_lines(1)[0]
+        line = self._next_line()
         query = replies.LINES.fullmatch(line)
         if query:
-            return replies.Reply(0, lines=self._next_lines(int(query.group(1))))
+            return replies.Reply(0, lines=self._next_text(int(query.group(1))).split(b"\n")[:-1])
         refused = replies.REFUSED.fullmatch(line)
         if refused:
             return replies.Reply(0, refused=tool.shown(b" ".join(refused.groups())))
@@ -93,22 +111,44 @@ class Opened:
             raise Ended(f"{self.words[0]}: this is no reply: {tool.shown(line[:60])}")
         return replies.Reply(0)
 
-    def _next_lines(self, count):
-        """The next lines of its output."""
-        while len(self._lines) - self._at < count:
-            self._more()
-        found = self._lines[self._at:self._at + count]
-        self._at += count
-        return found
+    def _next_line(self):
+        """The next line of its output."""
+        end = self._read.find(b"\n", self._at)
+        while end < 0:
+            self._read, self._at = self._read[self._at:] + self._piece(), 0
+            end = self._read.find(b"\n")
+        line, self._at = self._read[self._at:end], end + 1
+        return line
 
-    def _more(self):
+    def _next_text(self, count):
+        """The next lines of its output, as one text."""
+        start = end = self._at
+        for _ in range(count):
+            end = self._read.find(b"\n", end) + 1
+            if not end:
+                return self._long_text(start, count)
+        self._at = end
+        return self._read[start:end]
+
+    def _long_text(self, start, count):
+        """The next lines of its output, of which some haven't been read yet."""
+        parts, there = [self._read[start:]], self._read.count(b"\n", start)
+        while there < count:
+            parts.append(self._piece())
+            there += parts[-1].count(b"\n")
+        self._read, end = parts[-1], len(parts[-1])
+        for _ in range(there - count + 1):
+            end = self._read.rfind(b"\n", 0, end)
+        self._at = end + 1
+        parts[-1] = self._read[:self._at]
+        return b"".join(parts)
+
+    def _piece(self):
         """Reads on."""
         piece = os.read(self._process.stdout.fileno(), PIECE)
         if not piece:
             raise Ended(self._why_ended())
-        lines = (self._tail + piece).split(b"\n")
-        self._tail = lines.pop()
-        self._lines, self._at = self._lines[self._at:] + lines, 0
+        return piece
 
     def _why_ended(self):
         try:

@@ -55,7 +55,10 @@ class Watch:
         return found
 
     def _settle(self):
-        """Waits until the files stand still, as long as they don't change for ever."""
+        """Waits until the files stand still, as long as they don't change for ever; those that were written a while ago do."""
+        stamps = [stamp_of(path) for path in self._files]
+        if all(stamp and stamp[0] / 1e9 + SETTLED < time.time() for stamp in stamps):
+            return
         before = None
         for _ in range(MOST_LOOKS):
             now = [stamp_of(path) for path in self._files]
