@@ -10,7 +10,7 @@ from . import tool
 # The commands, in the order of a day's work. Each is the module of that name in commands/.
 COMMANDS = (
     "check", "export",
-    "import", "matrix", "diff", "dbc",
+    "import", "matrix", "diff", "dbc", "load",
     "expand", "eds",
     "refusals", "explain", "stats", "timeline", "candump",
     "live",

@@ -17,6 +17,7 @@ CALLS = {
     "matrix": ("matrix", "--cobench", recorded(), "SCRIPT"),
     "dbc": ("dbc", "--cobench", recorded(), "SCRIPT"),
     "diff": ("diff", "--cobench", recorded(), "SCRIPT", "SCRIPT"),
+    "load": ("load", "--allow", "unbounded", "--cobench", recorded(), "SCRIPT"),
     "expand": ("expand", "SCRIPT"),
     "eds": ("eds", "x", "EDS"),
     "refusals": ("refusals", "SCRIPT", "REPLIES"),

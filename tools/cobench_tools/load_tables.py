@@ -1,0 +1,76 @@
+"""The tables of a network's load: each identifier's share of the bus and its worst case, and what a boot takes."""
+from . import boots, matrix
+from .findings import milliseconds
+from .tables import Table
+from .trace import Note
+from .traffic import most_bits, plain_bits, time_text
+
+NONE = "-"
+COLUMNS = ["COB-ID", "Frames", "Sender", "Bytes", "Comes", "Bits", "stuffed", "Time [us]", "stuffed [us]", "Share [%]",
+           "stuffed [%]", "Longest wait [ms]", "stuffed [ms]", "In the trace [ms]", "Deadline [ms]", "In time"]
+
+
+def in_milliseconds(time):
+    return NONE if time is None else f"{time / 1000:.3f}"
+
+
+def share_text(share):
+    return NONE if share is None else f"{share:.2f}"
+
+
+def row(load, each):
+    """What there is to tell of the frames of an identifier."""
+    late = load.is_late(each)
+    bits = [plain_bits(each.size), most_bits(each.size)]
+    deadline = None if each.period is None else load.deadline(each)[0]
+    return ([f"{each.identifier:03X}h", each.name, load.network.name(each.sender), each.size, comes(load, each)] + bits
+            + [count * load.bit for count in bits]
+            + [share_text(analysis.share(each)) for analysis in (load.plain, load.stuffed)]
+            + [in_milliseconds(analysis.of[each].wait) for analysis in (load.plain, load.stuffed)]
+            + [in_milliseconds(load.seen[each].longest), in_milliseconds(deadline), {None: "no bound", True: "NO", False: "yes"}[late]])
+
+
+def comes(load, each):
+    """How often frames come, in words, and whether that is assumed."""
+    return each.comes + (f", taken: each {time_text(load.assumed)}" if each.is_assumed else "")
+
+
+def frames_table(load):
+    sums = " and ".join(f"{load.total(analysis):.1f} % {words}" for analysis, words in
+                        ((load.plain, "without stuff bits"), (load.stuffed, "with the most stuff bits")))
+    below = f"All frames that have a bound take {sums} of the bus. Waits are from when a frame is ready, and of frames that "\
+            "SYNC sends from SYNC on, to when it is there whole."
+    return Table("frames", "Once the network is operational", COLUMNS, [row(load, each) for each in load.traffic], below)
+
+
+def is_sdo(line, node):
+    return not isinstance(line, Note) and line.identifier in (0x580 + node, 0x600 + node)
+
+
+def boot_table(load):
+    """What the first boot of each node takes: SDO frames, their time on the bus, and when it was configured."""
+    all_boots, rows = boots.boots_of(load.lines), []
+    for number, node in sorted(load.network.nodes.items()):
+        first = all_boots.get(number, [None])[0]
+        end = first.end if first else None
+        frames = [line for line in load.lines if is_sdo(line, number) and (end is None or line.time <= end)]
+        plain, most = (sum(bits(len(frame.data)) for frame in frames) * load.bit for bits in (plain_bits, most_bits))
+        rows.append([number, load.network.name(number), len(node.written), len(frames), in_milliseconds(plain), in_milliseconds(most),
+                     in_milliseconds(end if first and first.is_configured() else None)])
+    columns = ["Node", "Name", "Entries written", "SDO frames", "On the bus [ms]", "stuffed [ms]", "Configured at [ms]"]
+    times = [boot.end for several in all_boots.values() for boot in several[:1] if boot.is_configured()]
+    below = f"In the trace the last node is configured at {milliseconds(max(times))}." if times else ""
+    return Table("boot", "Before that: the boot of each node", columns, rows, below)
+
+
+def heading(title, load):
+    lines = matrix.heading(title, load.network)
+    return lines + [f"window behind SYNC {load.window:,} us"] if load.window is not None else lines
+
+
+TABLES = {"frames": frames_table, "boot": boot_table}
+
+
+def tables_of(load, wanted=None):
+    """All tables, or the wanted one."""
+    return [TABLES[wanted](load)] if wanted else [make(load) for make in TABLES.values()]

@@ -1,0 +1,121 @@
+"""What a network sends once it is operational: each identifier, how long its frames are, and how often they can come."""
+from . import matrix, values
+from .device import object_name
+from .wiring import TPDO
+
+SYNC, HEARTBEAT = 0x080, 0x700
+EVENT_TYPES = 254, 255
+UNSIGNED16 = 0x06
+
+# Bits of a frame with n bytes: fields and intermission, and at most one stuff bit for each four of those that can have some.
+FIXED_BITS, STUFFED_BITS = 47, 34
+
+
+def plain_bits(size):
+    """The bits of a frame without stuff bits."""
+    return FIXED_BITS + 8 * size
+
+
+def most_bits(size):
+    """The bits of a frame with the most stuff bits."""
+    return plain_bits(size) + (STUFFED_BITS + 8 * size - 1) // 4
+
+
+class Traffic:
+    """The frames of an identifier.
+
+    identifier   by which the bus decides
+    part         the part of the project that they are of, as `("message", "x_actual")`
+    name         what they are, in words
+    sender       the node that sends them
+    size         their bytes
+    period       the least microseconds between two, None where nothing bounds it
+    syncs        with how many SYNC messages they come, 0 for other frames
+    comes        how often they come, in words
+    tpdo         the TPDO that sends them, None for other frames
+    """
+
+    def __init__(self, identifier, part, name, sender, size, period, comes):
+        self.identifier, self.part, self.name, self.sender = identifier, part, name, sender
+        self.size, self.period, self.comes = size, period, comes
+        self.syncs, self.tpdo, self.is_assumed = 0, None, False
+
+    def is_of_sync(self):
+        return self.syncs > 0
+
+
+def traffic_of(network, assumed=None):
+    """All frames of a network by identifier; `assumed` are the microseconds for those that nothing bounds."""
+    found = [sync(network)] + heartbeats(network) + [pdo(network, tpdo) for tpdo in network.tpdos]
+    found = [each for each in found if each]
+    for each in found:
+        if each.period is None and assumed:
+            each.period, each.is_assumed = assumed, True
+    return sorted(found, key=lambda each: (each.identifier, each.sender))
+
+
+def sync(network):
+    """SYNC, or None where the manager sends none."""
+    manager, period, _, _ = network.project.manager
+    size = 1 if network.project.sync_counter else 0
+    return Traffic(SYNC, ("manager",), "SYNC", manager, size, period, f"each {time_text(period)}") if period else None
+
+
+def heartbeats(network):
+    """The heartbeats of the manager and of the nodes; an event may set a node's to come more often."""
+    periods = {number: [time] for number, time in matrix.producers(network).items()}
+    for event in network.project.events.values():
+        if event.kind == "set" and event.entry == (0x1017, 0) and event.time <= network.project.horizon:
+            periods.setdefault(event.node, []).append(values.number_of(UNSIGNED16, event.what, event.node) or 0)
+    found = []
+    for number, times in periods.items():
+        period = 1000 * min(filter(None, times), default=0)
+        part = ("manager",) if number == network.project.manager[0] else ("node", number)
+        if period:
+            found.append(Traffic(HEARTBEAT + number, part, f"heartbeat of {network.name(number)}", number, 1, period,
+                                 f"each {time_text(period)}"))
+    return found
+
+
+def pdo(network, tpdo):
+    """The frames of a TPDO, None where it is never sent."""
+    message = network.message_of(tpdo)
+    part = ("message", message) if message else ("node", tpdo.node)
+    name = message or f"{TPDO} {tpdo.number} of {network.name(tpdo.node)}"
+    period, comes = how_often(network, tpdo)
+    if comes is None:
+        return None
+    found = Traffic(tpdo.identifier, part, name, tpdo.node, tpdo.size, period, comes)
+    found.tpdo, found.syncs = tpdo, max(tpdo.kind, 1) if tpdo.kind <= 240 else 0
+    return found
+
+
+def how_often(network, tpdo):
+    """The least microseconds between two frames of a TPDO, None for no bound; and in words, None for never."""
+    sync_period = network.project.manager[1]
+    if tpdo.kind is not None and tpdo.kind <= 240:
+        return max(tpdo.kind, 1) * sync_period, matrix.when(tpdo) if sync_period else None
+    if tpdo.kind not in EVENT_TYPES:
+        return None, None
+    if tpdo.inhibit:
+        return 100 * tpdo.inhibit, f"when changed, at most each {time_text(100 * tpdo.inhibit)}"
+    if tpdo.event:
+        return 1000 * tpdo.event, f"each {tpdo.event} ms, if not changed before"
+    return None, "whenever changed"
+
+
+def time_text(time):
+    """Microseconds in words."""
+    return f"{time / 1000:g} ms" if time >= 1000 else f"{time} us"
+
+
+def why_no_bound(network, traffic):
+    """What bounds how often the frames of a TPDO come, where nothing does."""
+    tpdo = traffic.tpdo
+    inhibit = 0x17FF + tpdo.number, 3
+    if network.message_of(tpdo):
+        return "it is sent whenever a value changes, as it has no inhibit time and no event time; INHIBIT of its message bounds it"
+    there = network.nodes[tpdo.node].device.entries.get(inhibit)
+    bound = f"a message of this TPDO with INHIBIT, which writes {object_name(inhibit)}, bounds it" if there else (
+        "the device has no inhibit time for it")
+    return f"it is on by the defaults of the data sheet, and sent whenever a value changes; {bound}"

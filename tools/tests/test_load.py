@@ -1,0 +1,231 @@
+"""`load`: the worst cases of published and worked examples, of the example servo_axes by hand, and of generated networks."""
+import csv
+import io
+import json
+import os
+import xml.etree.ElementTree as xml
+
+import buses
+from helper import BINARY, example, file, in_parallel, is_refused, put, real, recorded, run
+
+from cobench_tools.responses import Stream, responses
+
+
+def worst(*streams, bit=8):
+    """The worst cases, from the event and from when the frame is ready, of streams by priority: duration, period, jitter."""
+    found = responses([Stream(place, *stream) for place, stream in enumerate(streams)], bit)
+    return [(response.total, response.wait) for response in found]
+
+
+def test_the_published_example():
+    """Davis et al. 2007, section 3: three messages of 1 ms; the last one has its worst case in its second instance."""
+    assert worst((1000, 2500), (1000, 3500), (1000, 3500)) == [(2000, 2000), (3000, 3000), (3500, 3500)]
+    assert responses([Stream(1, 1000, 2500), Stream(2, 1000, 3500), Stream(3, 1000, 3500)], 8)[2].earlier == 1
+
+
+def test_two_streams_by_hand():
+    """The upper one waits for a whole frame of the lower one: 2 + 1; the lower one for one of the upper one: 1 + 2."""
+    assert worst((1000, 5000), (2000, 10_000)) == [(3000, 3000), (3000, 3000)]
+
+
+def test_jitter_by_hand():
+    """The upper one is ready 3 ms late at most, so 3 + (1 + 1); two of it may come within the lower one's wait: 1 + 1 + 1."""
+    assert worst((1000, 4000, 3000), (1000, 10_000)) == [(5000, 2000), (3000, 3000)]
+
+
+def test_a_frame_that_comes_at_the_last_bit_by_hand():
+    """The middle one waits 2 for the lower one and 2 for the upper one; at 4 the next upper one comes, within a bit: 6 + 2.
+
+    Its busy time is 2 + 2 + 2 x 2 = 8 and ends before its second event. The lower one waits for 2 + 2 of the upper ones,
+    at 4 the next upper one comes: 6, and 2 for itself. The upper one waits for the middle one.
+    """
+    assert worst((2000, 4000), (2000, 16_000), (2000, 16_000)) == [(4000, 4000), (8000, 8000), (8000, 8000)]
+
+
+def test_several_instances_by_hand():
+    """Durations of 2 and periods of 5, 7 and 9, in ms.
+
+    Upper: 2 of blocking, and 2. Middle: the bus is busy for 2 -> 6 -> 8 -> 10, so for two of it: the first waits 2 + 2, and the
+    second starts at 2 + 2 + 4 = 8, which is 1 after its event. Lower: busy for 2 -> 6 -> 8 -> 10 -> 12 -> 14, so for two of it: the
+    first waits 2 + 2; the second 2 + 4 + 4 = 10, where an upper one comes within a bit, so 12, which is 3 after its event.
+    """
+    assert worst((2000, 5000), (2000, 7000), (2000, 9000)) == [(4000, 4000), (6000, 6000), (6000, 6000)]
+
+
+def test_what_has_no_bound():
+    """5 of 5 are used with the second one; the third asks for more. What has no period has no bound, and none behind it has."""
+    assert worst((2000, 5000), (3000, 5000), (1000, 9000)) == [(5000, 5000), (None, None), (None, None)]
+    unbounded = responses([Stream(1, 10, 100), Stream(2, 10, None), Stream(3, 10, 100)], 1)
+    assert [response.wait for response in unbounded] == [20, None, None] and unbounded[2].why.identifier == 2
+
+
+def load(*words, given=None):
+    return run("load", "--cobench", recorded(), *words, given or example("io_modules.txt"))
+
+
+# servo_axes.txt by hand, at 250 kbit/s, 4 us a bit. Bits without stuff bits: 47 + 8 n; with the most: and (33 + 8 n) / 4 more.
+# The longest frame behind those of SYNC and the first PDOs is that of 28Ah: 111 bits, 444 us; with 24 more 540 us.
+# SYNC: 444 + 188. Its jitter so is 444 us, and 10 ms - 572 us with stuff bits (760 - 188) is the deadline of what it sends.
+# 181h: 444 + 188 + 380; 182h: and 380 more; 18Ah: 444 + 188 + 380 + 380 + 316. Heartbeats: the least consumer time less 100 ms.
+SERVO = """\
+080h,SYNC,0,47,55,188,220,1.88,2.20,0.632,0.760,10.000,yes
+181h,x_actual,6,95,115,380,460,3.80,4.60,1.012,1.220,9.428,yes
+182h,y_actual,6,95,115,380,460,7.60,9.20,1.392,1.680,5.000,yes
+18Ah,controls,4,79,95,316,380,3.16,3.80,1.708,2.060,9.428,yes
+281h,TPDO 2 of x_axis,3,71,85,284,340,-,-,-,-,-,no bound
+28Ah,targets,8,111,135,444,540,4.44,5.40,-,-,9.428,no bound
+701h,heartbeat of x_axis,1,55,65,220,260,0.22,0.26,-,-,50.000,no bound
+77Fh,heartbeat of manager,1,55,65,220,260,0.04,0.05,-,-,500.000,no bound
+"""
+SHOWN = ["COB-ID", "Frames", "Bytes", "Bits", "stuffed", "Time [us]", "stuffed [us]", "Share [%]", "stuffed [%]", "Longest wait [ms]",
+         "stuffed [ms]", "Deadline [ms]", "In time"]
+
+
+def rows_of(output):
+    return list(csv.DictReader(io.StringIO(output.decode())))
+
+
+def test_load_of_the_example_by_hand():
+    status, output, faults = load("--format", "csv", given=example("servo_axes.txt"))
+    rows = [",".join(row[name] for name in SHOWN) for row in rows_of(output)]
+    assert status == 1 and len(rows) == 10
+    for line in SERVO.splitlines():
+        assert line in rows, (line, rows)
+    assert "servo_axes.txt:6: warning: TPDO 2 of x_axis: it is on by the defaults of the data sheet" in faults
+    assert "with INHIBIT, which writes 1801h:03, bounds it: 28 (2.8 ms) is the least with which all is in time [unbounded]" in faults
+
+
+def test_load_tells_what_the_trace_shows():
+    rows = {row["Frames"]: row for row in rows_of(load("--format", "csv", given=example("servo_axes.txt"))[1])}
+    # 10047 us is the time of the first SYNC, 188 us after it is due; 18Ah follows on 181h and 182h, 380 us each.
+    assert rows["SYNC"]["In the trace [ms]"] == "0.188" and rows["controls"]["In the trace [ms]"] == "1.076"
+    assert rows["heartbeat of manager"]["In the trace [ms]"] == "-"
+
+
+def test_load_finds_what_is_late():
+    """Behind SYNC 18Ah waits 540 us of blocking, 220 us of SYNC, 460 us and 460 us, and takes 380 us itself: 2.06 ms."""
+    text = file(os.path.dirname(example("x")), "servo_axes.txt")
+    lines = [line for line in text.splitlines() if not line.startswith((b"param 3 ", b"param 1 1400", b"drop-node"))]
+    for name in ("servo_drive.eds", "motion_controller.eds"):
+        os.symlink(example(name), name)
+    put("servo.txt", b"\n".join(lines))
+    status, output, faults = load("--window", "2060", "--assume", "5000", given="servo.txt")
+    assert status == 1 and faults.count(": error: ") == 1 and "servo.txt:43: error: targets: at worst 3.000 ms after SYNC" in faults, faults
+    status, output, faults = load("--window", "2059", "--assume", "5000", given="servo.txt")
+    assert ("servo.txt:38: error: controls: at worst 2.060 ms after SYNC, and the window behind SYNC is 2.059 ms: 3 frames of higher "
+            "priority in 1.140 ms and one of lower priority that had started, in 0.540 ms [late]\n") in faults, faults
+    assert load("--window", "3000", "--assume", "5000", given="servo.txt")[0] == 0
+    assert load("--window", "2060", "--assume", "5000", "--allow", "late targets", given="servo.txt")[0] == 0
+    assert load("--window", "3000", "--assume", "5000", "--werror", given="servo.txt")[0] == 1
+
+
+def network_of(*lines, kind=255, inhibit=0, event=0, period=10000):
+    """A network of a TPDO of 1 byte at 10 kbit/s: 55 bits, 5.5 ms, or 6.5 ms with stuff bits."""
+    sheet = ["[1017]", "DataType=6", "[1800sub1]", "DataType=7", "DefaultValue=0x80000000", "[1800sub2]", "DataType=5", "[1800sub3]",
+             "DataType=6", "[1800sub5]", "DataType=6", "[1A00sub0]", "DataType=5", "[1A00sub1]", "DataType=7", "[2000]", "DataType=5",
+             "PDOMapping=1"]
+    settings = ["bitrate 10", f"manager 127 {period} 0 5000", "horizon 3000000", f"eds d {len(sheet)}", *sheet, "node 5 p d",
+                f"message m 5 1 {kind} {inhibit} {event} 0", "source m 1 2000 0", *lines]
+    return put("network.txt", "\n".join(settings).encode())
+
+
+def test_load_finds_a_bus_that_is_too_slow():
+    status, output, faults = load("--table", "frames", given=network_of(kind=1))
+    assert status == 1 and "m: with it and what goes before it the bus has 120.0 % to carry" in faults and "[overload]" in faults
+    assert "network.txt:24: error: m: " in faults and b"no bound" in output, faults
+
+
+def test_load_says_what_it_takes_for_granted():
+    words = "it has an event time but no inhibit time: it is taken to come each 100 ms, if not changed before [assumed]"
+    status, output, faults = load(given=network_of(event=100, period=0))
+    assert status == 0 and f"network.txt:24: warning: m: {words}" in faults, faults
+    changes = [f"event {number} {2_000_000 + 7000 * number} set 5 2000 0 {number}" for number in range(1, 20)]
+    status, output, faults = load(given=network_of(*changes, event=100, period=0))
+    assert status == 1 and "m: it comes after 7.000 ms in the trace, and is counted as coming each 100 ms" in faults, faults
+
+
+def test_load_takes_heartbeats_that_an_event_sets():
+    """The least consumer time is none, so the deadline is the own period: that which the event sets."""
+    status, output, _ = load("--format", "csv", given=network_of("param 5 1017 0 500", "event 1 2900000 set 5 1017 0 200", period=0, inhibit=1000))
+    row = rows_of(output)[1]
+    assert status == 0 and row["Comes"] == "each 200 ms" and row["Deadline [ms]"] == "200.000", row
+
+
+def test_load_for_programs():
+    status, output, faults = load("--json")
+    whole = json.loads(output)
+    assert status == 0 and not faults and whole["errors"] == 0 and whole["warnings"] == 1
+    assert [frame["frames"] for frame in whole["frames"]][:2] == ["outputs", "infeed_inputs"]
+    assert whole["frames"][1]["time_us"] == 220 and whole["frames"][1]["time_stuffed_us"] == 260
+    assert whole["frames"][1]["wait_us"] is None and whole["findings"][0]["code"] == "unbounded"
+    assert load("--junit", "report.xml", "--werror")[0] == 1
+    suite = xml.parse("report.xml").getroot().find("testsuite")
+    assert [case.get("name") for case in suite if case.find("failure") is not None] == ["message outputs"]
+
+
+def test_load_draws_a_bar_for_each_identifier():
+    output = load("--format", "svg", "--assume", "10000")[1].decode()
+    picture = xml.fromstring(output)
+    texts = [each.text for each in picture.iter("{http://www.w3.org/2000/svg}text")]
+    # 181h: 260 us of blocking and 300 us itself; 18Bh and 18Ch: 260 us more each; heartbeats behind them.
+    for text in ("181h outputs", "0.560", "18Bh infeed_inputs", "0.820", "1.080", "77Fh heartbeat of manager", "its own frame"):
+        assert text in texts, (text, texts)
+    page = load("--format", "html", "--assume", "10000", "--title", "<&>")[1].decode()
+    assert output in page and "<title>&lt;&amp;&gt;</title>" in page and page.count("<h2>") == 3 and "src=" not in page
+    assert load("--format", "svg")[1].count(b"no bound") == 7
+
+
+def test_load_as_markdown():
+    output = load("--format", "markdown", "--table", "boot")[1].decode()
+    # line: 2 reads of its identity and 18 entries in 24 writes: 52 frames of 111 bits and 4 us, configured as explain tells it.
+    assert "| 1 | line | 18 | 52 | 23.088 | 28.080 | 23.308 |" in output, output
+
+
+def test_load_on_bad_input():
+    put("binary", BINARY)
+    put("cut.txt", b"eds x 3\n")
+    for name, says in (("nosuch.txt", "No such file"), ("binary", "this is no text"), ("cut.txt", "0 of the 3 lines")):
+        is_refused(load(given=name), says)
+    for words, says in ((("--window", "x"), "invalid int"), (("--window", "0"), "--window is 1 to 10,000,000"),
+                        (("--assume", "10000001"), "--assume is 1 to 10,000,000"), (("--format", "pdf"), "invalid choice")):
+        is_refused(load(*words), says)
+    put("empty.txt", b"bitrate 500\n")
+    status, output, faults = load(given="empty.txt")
+    assert status == 0 and output.count(b"\nnone\n") == 2 and not faults
+    assert load("--format", "html", given="empty.txt")[0] == load("--format", "svg", given="empty.txt")[0] == 0
+
+
+def judged(seed, program):
+    """Of a generated bus: what is wrong, its share, and how near the trace comes to the bound of a PDO, at most."""
+    put("network.txt", buses.bus(seed))
+    status, output, faults = run("load", "--json", "--cobench", program, "network.txt")
+    frames = json.loads(output)["frames"] if status != 2 else []
+    wrong = [line for line in (faults or output.decode()).splitlines() if "[trace]" in line or "one of the two is wrong" in line]
+    wrong += [f"{each['frames']}: {each['seen_us']} of {each['wait_us']}" for each in frames
+              if each["seen_us"] and each["wait_us"] and not each["seen_us"] <= each["wait_us"]]
+    wrong += [f"{each['frames']}: with stuff bits {each['wait_stuffed_us']}" for each in frames
+              if each["wait_stuffed_us"] and each["wait_stuffed_us"] < each["wait_us"]]
+    pdos = [each for each in frames if 0x180 < each["identifier"] < 0x700 and each["wait_us"] and each["seen_us"]]
+    return wrong, sum(each["share"] for each in frames), max((each["seen_us"] / each["wait_us"] for each in pdos), default=0)
+
+
+def test_load_bounds_what_generated_networks_show():
+    for seed in (3, 13):
+        wrong, share, nearness = judged(seed, recorded())
+        assert not wrong and share > 60 and nearness > 0.8, (seed, wrong, share, nearness)
+
+
+def generated(seed):
+    return judged(seed, real())
+
+
+def all_load_bounds_what_500_networks_show():
+    """No wait is above its bound; of those whose bus is full to 60 % or more, a tenth comes within a tenth of a PDO's bound."""
+    real()
+    found = in_parallel(generated, list(range(500)))
+    assert not [wrong for wrong, _, _ in found if wrong], found
+    full = [nearness for _, share, nearness in found if share >= 60]
+    near = sum(nearness >= 0.9 for nearness in full)
+    print(f"load: of 500 networks {len(full)} have a bus that is full to 60 % or more; in {near} of these the longest wait of a PDO is "
+          f"within a tenth of its bound")
+    assert len(full) >= 100 and near * 10 >= len(full), (len(full), near)
