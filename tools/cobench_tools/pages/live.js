@@ -42,11 +42,14 @@ class Live {
     if (!whole) this.voice.textContent = this.all[0].spoken();
   }
 
+  /** What is the matter; a fault is spoken too. */
+
   say({ state, words, waits, clock }) {
     const works = waits ? `Waits for the ${waits} ..` : "Works ..";
     const texts = { well: `Up to date ${clock}${this.cost}. ${words}`, working: works, fault: words };
     this.status.className = state;
     this.status.textContent = texts[state];
+    if (state === "fault") this.voice.textContent = words;
     this.run.wait(waits && state === "working" ? "the run is of the save before; this one is being simulated" : "");
   }
 

@@ -149,8 +149,8 @@ class FrameTable {
 
   row(frame) {
     const { trace } = this, sort = trace.sortOf(frame), kind = trace.kinds[sort.kind];
-    const cells = [shownTime(trace.time[frame]), trace.identifier(frame), kind, trace.lanes[sort.lane].name, trace.text(frame),
-      spaced(trace.bytes(frame))];
+    const time = element("button", { type: "button", class: "link", title: "show it in the timeline" }, shownTime(trace.time[frame]));
+    const cells = [time, trace.identifier(frame), kind, trace.lanes[sort.lane].name, trace.text(frame), spaced(trace.bytes(frame))];
     const made = element("tr", trace.fresh.has(frame) ? { class: "new" } : {}, ...cells.map(cell => element("td", {}, cell)));
     made.children[2].prepend(element("i", { style: `background: var(--${colourOf(kind)})` }));
     made.addEventListener("click", () => this.chosen(frame));

@@ -18,6 +18,7 @@ class Tabs {
     part.element.id = `part-${part.name}`;
     part.element.setAttribute("role", "tabpanel");
     part.element.setAttribute("aria-labelledby", made.id);
+    part.element.tabIndex = 0;
     part.badge = (words, kind) => badge(made.lastChild, words, kind);
     made.addEventListener("click", () => this.choose(number));
     return made;
