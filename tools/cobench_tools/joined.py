@@ -10,7 +10,7 @@ from .project import Message, Project
 from .wiring import RPDO, TPDO, key_and_bits
 
 LONGEST_NAME = 32
-MOST_MESSAGES = 1024
+MOST_MESSAGES, GREATEST_START = 1024, 240
 
 
 class Place:
@@ -54,7 +54,8 @@ class Draft:
         tpdo = self.tpdo
         words = [str(tpdo.kind or 0), str(tpdo.inhibit), str(tpdo.event), f"{tpdo.identifier:03X}"]
         message = Message(tpdo.node, tpdo.number, words)
-        message.start, message.sources, message.sinks = tpdo.start, self.sources(), self.sinks()
+        message.start = tpdo.start if tpdo.start <= GREATEST_START else 0
+        message.sources, message.sinks = self.sources(), self.sinks()
         return message
 
 

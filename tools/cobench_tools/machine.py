@@ -3,12 +3,13 @@ import os
 import re
 
 from . import lost_pdos, tool
-from .limits import RATES
 from .joined import MOST_MESSAGES, Joined, free_name
-from .node_file import WARNING, NodeFile
+from .limits import RATES
+from .node_file import NodeFile
+from .node_values import WARNING, NodeValues
 from .wiring import RPDO
 
-MOST_SHEETS, MOST_ENTRIES = 64, 4096
+MOST_SHEETS, MOST_ENTRIES, MOST_NODES = 64, 4096, 127
 SYNC_PRODUCER = 1 << 30
 LEAST_SYNC, LONGEST_SYNC = 1_000, 10_000_000
 
@@ -22,8 +23,11 @@ def read_files(paths):
     names = set()
     for file in files:
         file.name = free_name(file.name, names)
-        if len(file.device.entries) > MOST_ENTRIES:
-            raise tool.Fault(f"{file.path}: it has {len(file.device.entries):,} entries, and cobench takes {MOST_ENTRIES:,}")
+        entries = len(file.device.entries)
+        if entries > MOST_ENTRIES:
+            raise tool.Fault(f"{file.path}: it has {entries:,} entries, and cobench takes {MOST_ENTRIES:,}")
+    if len(files) == MOST_NODES:
+        raise tool.Fault(f"{MOST_NODES} nodes leave no number for the manager")
     return files
 
 
@@ -35,28 +39,32 @@ def comment(text):
 class Machine:
     """The nodes of several DCFs, with the messages between them.
 
-    sheets    the data sheets by their names, each the lines of the first file that has it
-    plan      what the plan makes of its messages
-    told      what a script can't say, or needn't: FILE, line, `warning` or `note`, and words each
+    sheets  the data sheets by their names, each the lines of the first file that has it
+    joined  the messages
+    told    what a script can't say, or needn't: FILE, line, `warning` or `note`, and words each
     """
 
     def __init__(self, paths, with_defaults):
         self.files = read_files(paths)
-        self.with_defaults = with_defaults
         self.sheets, self.sheet_of = {}, {}
         self._share_sheets()
         self.joined = Joined(self.files)
         if len(self.joined.drafts) > MOST_MESSAGES:
             raise tool.Fault(f"they have {len(self.joined.drafts):,} messages, and cobench takes {MOST_MESSAGES:,}")
-        self.parameters = {file.number: file.parameters(with_defaults) for file in self.files}
-        self.bitrate = self._bitrate()
-        self.plan = self.joined.plan()
-        self.told = [(file.path, *each) for file in self.files for each in sorted(file.told + self._lost_pdos(file))]
+        self.values = {file.number: NodeValues(file, with_defaults) for file in self.files}
+        self.bitrate = next((file.bitrate for file in self.files if file.bitrate in RATES), None)
+        plan = self.joined.plan()
+        self.told = [(file.path, *each) for file in self.files for each in sorted(self._told_of(file, plan))]
 
-    def _lost_pdos(self, file):
-        causes = {(direction, number): why for (node, direction, number), why in self.joined.causes.items() if node == file.number}
-        lost = lost_pdos.warnings(file.node, self.plan.values(file.number), causes)
-        return [(line, WARNING, words) for line, words in lost]
+    def _told_of(self, file, plan):
+        """What there is to tell of a file: a line, `warning` or `note`, and words each."""
+        causes = {(direction, number): why for (node, direction, number), why in self.joined.causes.items()
+                  if node == file.number}
+        lost = lost_pdos.warnings(file.node, plan.values(file.number), causes)
+        if file.bitrate not in (None, self.bitrate):
+            network = f"the network has {self.bitrate}" if self.bitrate else "cobench has no such bit rate"
+            lost.append((file.line, f"Baudrate is {file.bitrate} kbit/s; {network}"))
+        return self.values[file.number].told + [(line, WARNING, words) for line, words in lost]
 
     def _share_sheets(self):
         """Nodes with equal data sheets have one name for it."""
@@ -70,24 +78,15 @@ class Machine:
         if len(self.sheets) > MOST_SHEETS:
             raise tool.Fault(f"they have {len(self.sheets)} data sheets, and cobench takes {MOST_SHEETS}")
 
-    def _bitrate(self):
-        """The bit rate of the first file that has one; others that differ are told."""
-        rates = [file for file in self.files if file.bitrate in RATES]
-        for file in self.files:
-            if file.bitrate is not None and (not rates or file.bitrate != rates[0].bitrate):
-                taken = f"the network has {rates[0].bitrate}, by {rates[0].path}" if rates else "cobench has no such bit rate"
-                file.told.append((file.line, WARNING, f"Baudrate is {file.bitrate} kbit/s; {taken}"))
-        return rates[0].bitrate if rates else None
-
     # The script.
 
     def lines(self, folder):
         """The lines of the script, as bytes; with a folder the data sheets are taken from the files there."""
-        lines = [comment("made of " + ", ".join(os.path.basename(file.path) for file in self.files) + " by cobtool import")]
-        lines += self._settings()
+        names = ", ".join(os.path.basename(file.path) for file in self.files)
+        lines = [comment(f"made of {names} by cobtool import")] + self._settings()
         for name, sheet in self.sheets.items():
-            lines.append("#")
-            lines += [f"eds {name} <{os.path.join(folder, name)}.eds"] if folder else [f"eds {name} {len(sheet)}", *map(tool.shown, sheet)]
+            path = os.path.join(folder, f"{name}.eds") if folder else None
+            lines += ["#", f"eds {name} <{path}"] if path else ["#", f"eds {name} {len(sheet)}", *map(tool.shown, sheet)]
         for file in self.files:
             lines += self._node(file)
         takers = self._takers_by_default()
@@ -123,7 +122,8 @@ class Machine:
         if file.is_manager:
             lines.append(comment("it is the CANopen manager of its network; here the manager is a node of its own"))
         lines.append(f"node {file.number} {file.name} {self.sheet_of[file.number]}")
-        return lines + [f"param {file.number} {key[0]:04X} {key[1]:X} {text}" for key, text in self.parameters[file.number]]
+        return lines + [f"param {file.number} {key[0]:04X} {key[1]:X} {text}"
+                        for key, text in self.values[file.number].parameters]
 
     def _takers_by_default(self):
         """The RPDOs that are on without a value in a file: their nodes' files and their numbers, by identifier."""

@@ -22,11 +22,26 @@ def add_arguments(parser):
 
 
 def asked(options):
-    """The session of SCRIPT, its network, and the status, once its errors were told."""
-    answered = session.run(options.script, options.cobench, Evidence.QUERIES)
-    found = findings.of(answered)
+    """The session of SCRIPT, with what the findings need."""
+    return session.run(options.script, options.cobench, Evidence.QUERIES)
+
+
+def report_of(options, answered, more=()):
+    """What is wrong with a session, with what else was found, those that the user accepts marked."""
+    found = findings.of(answered) + list(more)
     acceptance.judge(found, options)
-    report = Report(answered, found)
-    for line in findings.lines_of([each for each in report.open if each.severity == findings.ERROR]):
+    return Report(answered, found)
+
+
+def wired(options):
+    """The network of SCRIPT, and the status, once its errors were told."""
+    answered = asked(options)
+    report = report_of(options, answered)
+    tell([each for each in report.open if each.severity == findings.ERROR])
+    return Wiring(answered), report.status
+
+
+def tell(found):
+    """Tells findings on the standard error."""
+    for line in findings.lines_of(found):
         tool.warn(line)
-    return answered, Wiring(answered), report.status

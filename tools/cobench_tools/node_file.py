@@ -3,13 +3,12 @@ import os
 import re
 
 from . import ini, script, tool, values
-from .device import Device, object_name, read_number
+from .device import Device, read_number
 from .pdo_values import is_of_pdos
 from .wiring import Node, pdo_numbers, pdo_of
 
 COMMISSIONING = "devicecomissioning", "devicecommissioning"
-LONGEST_NAME, LONGEST_TEXT = 32, 4000
-WARNING, NOTE = "warning", "note"
+LONGEST_NAME = 32
 VALUES = re.compile("([0-9a-f]{4})value")
 
 
@@ -38,11 +37,10 @@ class NodeFile:
     device          its entries, with the values that the file gives them
     sheet           the lines of its data sheet: without these values, and without who the node is
     node            the node with the values that the file gives
-    told            what a script can't say of it, or needn't: a line, `warning` or `note`, and words each
     """
 
     def __init__(self, path):
-        self.path, self.told = path, []
+        self.path = path
         lines = script.eds_lines(b"dcf", path)
         self.is_export = is_export(lines)
         self.device = Device(lines)
@@ -53,7 +51,8 @@ class NodeFile:
     def _read_commissioning(self):
         sections = [self.device.sections[name] for name in COMMISSIONING if name in self.device.sections]
         if not sections:
-            raise tool.Fault(f"{self.path}: no [DeviceComissioning] says which node it is of: this is a data sheet, and no DCF")
+            raise tool.Fault(f"{self.path}: no [DeviceComissioning] says which node it is of: this is a data sheet, "
+                             "and no DCF")
         keys = sections[0]
         self.line = keys.lines.get("nodeid", keys.line)
         self.number = read_number(keys.get("nodeid", ""))
@@ -66,14 +65,9 @@ class NodeFile:
 
     def _given_values(self):
         """The bytes of the entries to which the file gives values."""
-        found = {}
-        for key, entry in self.device.entries.items():
-            data = values.data_of(entry.kind, entry.value, self.number) if entry.value else None
-            if data is not None:
-                found[key] = data
-            elif entry.value and is_of_pdos(key[0]):
-                self.told.append((entry.line, WARNING, f"{object_name(key)}: {entry.value} is no {values.type_name(entry.kind)}"))
-        return found
+        found = {key: values.data_of(entry.kind, entry.value, self.number)
+                 for key, entry in self.device.entries.items() if entry.value}
+        return {key: data for key, data in found.items() if data is not None}
 
     def on_pdos(self, direction):
         """The PDOs of a direction that are on."""
@@ -82,8 +76,8 @@ class NodeFile:
 
     def set_pdos(self, direction):
         """Those that are on, and of which the file gives a value."""
-        numbers = {pdo_of(index)[1] for index, _ in self.node.written if is_of_pdos(index) and pdo_of(index)[0] == direction}
-        return [pdo for pdo in self.on_pdos(direction) if pdo.number in numbers]
+        set_ones = {pdo_of(index) for index, _ in self.node.written if is_of_pdos(index)}
+        return [pdo for pdo in self.on_pdos(direction) if (direction, pdo.number) in set_ones]
 
     def _without_values(self, lines):
         """The lines of the data sheet."""
@@ -101,10 +95,10 @@ class NodeFile:
 
     def _end_section(self, kept, section, start):
         """Takes a section of values of compact subs away, where no value is left in it; its other lines stay."""
-        found = VALUES.fullmatch(section)
-        keys = {pair[0] for pair in map(ini.pair_of, (line.strip(ini.BLANKS) for line in kept[start:])) if pair}
+        found, lines = VALUES.fullmatch(section), [line.strip(ini.BLANKS) for line in kept[start:]]
+        keys = {pair[0] for pair in map(ini.pair_of, lines) if pair}
         if found and self._is_compact(found.group(1)) and keys <= {"nrofentries"}:
-            kept[start:] = [line for line in kept[start + 1:] if not line.strip(ini.BLANKS) or line.strip(ini.BLANKS).startswith(b";")]
+            kept[start:] = [line for line in lines[1:] if not line or line.startswith(b";")]
 
     def _is_compact(self, section):
         return bool(read_number(self.device.sections.get(section, {}).get("compactsubobj", "0")))
@@ -123,51 +117,3 @@ class NodeFile:
         sections = ini.sections_of(self.sheet)
         sections.pop("fileinfo", None)
         return tuple((name, tuple(keys.items())) for name, keys in sections.items())
-
-    def parameters(self, with_defaults):
-        """The entry and the text of each parameter that the file sets, by index and sub-index; tells what can't be set.
-
-        A value that is the default's is left out, but where the file is an export or where it is wished.
-        """
-        found, unset, equal = [], {}, []
-        for key, entry in sorted(self.device.entries.items()):
-            if entry.value and not is_of_pdos(key[0]):
-                why = self._why_not(entry)
-                if why:
-                    unset.setdefault(why, []).append((entry.line, key))
-                elif entry.is_writable() and self._is_default(entry) and not (with_defaults or self.is_export):
-                    equal.append((entry.line, key))
-                elif entry.is_writable():
-                    found.append((key, entry.value))
-        for why, several in unset.items():
-            self._tell(WARNING, several, f"not taken over, as {why}")
-        if equal:
-            self._tell(NOTE, equal, "no parameter is needed for the default's value (--all makes one)")
-        return found
-
-    def _is_default(self, entry):
-        return values.data_of(entry.kind, entry.value, self.number) == values.default_of(entry, self.number)
-
-    def _why_not(self, entry):
-        """Why a value can't be set, or None; the value that an entry can't but have needs no word."""
-        data = values.data_of(entry.kind, entry.value, self.number)
-        if entry.kind not in values.MODELLED:
-            return f"of {values.type_name(entry.kind)}, a data type that cobench doesn't write"
-        if not entry.is_writable():
-            return None if data == values.default_of(entry, self.number) else "read only, and not the default"
-        if data is None:
-            return f"no value of {values.type_name(entry.kind)}"
-        if len(entry.value) > LONGEST_TEXT or re.search("[\x00-\x08\x0a-\x1f]", entry.value):
-            return "a text that no command can have"
-        low, high = values.limits_of(entry, self.number)
-        number = values.number_of(entry.kind, entry.value, self.number) if low is not None or high is not None else None
-        if low is not None and number < low or high is not None and number > high:
-            return "beyond the limits of the data sheet"
-        return None
-
-    def _tell(self, severity, several, what):
-        """Tells of values, at the line of the first of them."""
-        several.sort()
-        names = ", ".join(f"{object_name(key)} (line {line})" for line, key in several[:8])
-        more = f" and {len(several) - 8} more" if len(several) > 8 else ""
-        self.told.append((several[0][0], severity, f"{what}: {names}{more}"))

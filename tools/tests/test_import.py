@@ -3,7 +3,7 @@ import os
 import re
 
 import networks
-from helper import BINARY, answers, example, file, in_parallel, is_fine, is_refused, kept, kept_at, put, real, recorded, run
+from helper import BINARY, answers, example, in_parallel, is_fine, is_refused, kept, kept_at, put, real, recorded, run
 
 MACHINE = ["plc.dcf", "axis_1.dcf", "axis_2.dcf", "valve.dcf"]
 DCF = b"[1017]\nDataType=6\nDefaultValue=0\n%s[DeviceComissioning]\nNodeID=5\nNodeName=pump\nBaudrate=500\n"
@@ -130,6 +130,13 @@ def test_import_gives_each_receiver_its_rpdo():
     assert messages_with_rpdos(0x191, 0x190) == [b"m1_a_2 1 2 255 0 0 191", b"m2_a_1 1 1 255 0 0 190"]
 
 
+def test_import_says_what_no_start_value_can_say():
+    put("a.dcf", (one_byte_pdo(0x1800, 0x40000190) + "[1800sub6]\nDataType=5\nParameterValue=250\n[2000]\nDataType=5\nPDOMapping=1\n"
+                  "[DeviceComissioning]\nNodeID=1\n").encode())
+    status, output, faults = run("import", "a.dcf")
+    assert status == 0 and b"start" not in output and "a.dcf:16: warning: TPDO 1: 1800h:06 is FAh here, and 0h by the script" in faults
+
+
 def test_import_on_bad_input():
     put("binary", BINARY)
     put("utf16.dcf", "[1017]\r\n".encode("utf-16"))
@@ -147,7 +154,10 @@ def test_import_on_bad_input():
                         (["long.dcf"], "70,000 lines"), (["."], "Is a directory")):
         is_refused(run("import", *names), says)
     is_refused(run("import"), "DCF")
-    assert file("5.dcf") == DCF % b""
+    is_refused(run("import", "--sheets", "a #b", "5.dcf"), "no script can name this folder")
+    many = [put(f"{node}.dcf", b"[DeviceComissioning]\nNodeID=%d\n" % node) for node in range(1, 128)]
+    is_refused(run("import", *many), "127 nodes leave no number for the manager")
+    assert run("import", *many[:-1])[0] == 0
 
 
 def test_import_takes_windows_and_dos_files():

@@ -21,9 +21,10 @@ def arguments(parser):
 
 
 def run(options):
-    _, wired, status = network.asked(options)
-    dbc = Dbc(wired)
+    wiring, status = network.wired(options)
+    dbc = Dbc(wiring)
     for tpdo in dbc.left_out:
-        tool.warn(f"TPDO {tpdo.number} of node {tpdo.node} is left out: {tpdo.identifier:03X}h is the identifier of another")
+        tool.warn(f"TPDO {tpdo.number} of node {tpdo.node} is left out: {tpdo.identifier:03X}h is the identifier of "
+                  "another")
     tool.put(dbc.text().encode("cp1252", "replace"))
     return tool.FOUND if dbc.left_out else status

@@ -1,5 +1,6 @@
 """Makes a script of the DCFs of an existing machine."""
 import os
+import re
 
 from .. import output, tool
 from ..machine import Machine
@@ -29,6 +30,8 @@ def arguments(parser):
 
 def write_sheets(folder, files):
     """Writes the data sheets; where one is there already and says something else, none."""
+    if re.search(r"[\x00-\x1f]|[ \t]#", folder):
+        raise tool.Fault(f"{folder!r}: no script can name this folder")
     for name, data in files.items():
         path = os.path.join(folder, name)
         if os.path.exists(path) and tool.read(path) != data:

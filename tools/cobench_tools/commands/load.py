@@ -1,12 +1,11 @@
 """Says what the bus has to carry at worst, and whether each frame is in time."""
 import os
 
-from .. import acceptance, findings, load_tables, network, output, session, tables, tool
+from .. import findings, load_tables, network, output, tables, tool
 from ..evidence import Evidence
 from ..load import Load, findings_of
 from ..load_picture import picture
 from ..page import page_of
-from ..report import Report
 from ..wiring import Wiring
 
 SUMMARY = "say what the bus has to carry at worst, and which frames may be late"
@@ -34,11 +33,14 @@ The waits are those of Davis, Burns, Bril and Lukkien, Real-Time Systems 35 (200
 
 def arguments(parser):
     parser.epilog = AFTER
-    parser.add_argument("--format", choices=["text", "markdown", "csv", "html", "svg"], default="text", help="text without it")
+    parser.add_argument("--format", choices=["text", "markdown", "csv", "html", "svg"], default="text",
+                        help="text without it")
     parser.add_argument("--table", choices=list(load_tables.TABLES), help="print this table alone")
     parser.add_argument("--title", metavar="TEXT", help="what stands above, not the name of SCRIPT")
-    parser.add_argument("--window", metavar="US", type=int, help="the microseconds behind SYNC within which its PDOs have to come")
-    parser.add_argument("--assume", metavar="US", type=int, help="take frames that nothing bounds to come at most each US")
+    parser.add_argument("--window", metavar="US", type=int,
+                        help="the microseconds behind SYNC within which its PDOs have to come")
+    parser.add_argument("--assume", metavar="US", type=int,
+                        help="take frames that nothing bounds to come at most each US")
     parser.add_argument("--json", action="store_true", help="print all of it as JSON")
     parser.add_argument("--junit", metavar="FILE", help="write what is wrong as JUnit XML too")
     network.add_arguments(parser)
@@ -55,42 +57,46 @@ def check(options):
 def record(load, each):
     """What there is to tell of the frames of an identifier, for programs."""
     plain, stuffed = load.plain, load.stuffed
-    return {"identifier": each.identifier, "frames": each.name, "sender": each.sender, "bytes": each.size, "period_us": each.period,
-            "time_us": plain.duration(each), "time_stuffed_us": stuffed.duration(each),
+    return {"identifier": each.identifier, "frames": each.name, "sender": each.sender, "bytes": each.size,
+            "period_us": each.period, "time_us": plain.duration(each), "time_stuffed_us": stuffed.duration(each),
             "share": plain.share(each), "share_stuffed": stuffed.share(each),
-            "wait_us": plain.of[each].wait, "wait_stuffed_us": stuffed.of[each].wait, "seen_us": load.seen[each].longest,
+            "wait_us": plain.of[each].wait, "wait_stuffed_us": stuffed.of[each].wait,
+            "seen_us": load.seen[each].longest,
             "deadline_us": None if each.period is None else load.deadline(each)[0], "late": load.is_late(each)}
+
+
+def page(heading, load, report, shown):
+    """The page: what is wrong, the tables, and behind the first of them the picture."""
+    wrong = [f'<p class="{each.severity}">{tables.html_text(line)}</p>\n'
+             for each in report.open for line in findings.lines_of([each])]
+    sections = [tables.html_section(table) for table in shown]
+    drawn = f'<section>\n<h2>What each waits for at worst</h2>\n<div class="wide">{picture(load)}</div>\n</section>\n'
+    return page_of(heading, wrong + sections[:1] + [drawn] + sections[1:])
 
 
 def printed(options, load, report):
     """What is printed of the load of a network."""
-    heading = load_tables.heading(options.title or os.path.basename(tool.name_of(options.script)), load)
-    shown = load_tables.tables_of(load, options.table)
     if options.json:
         return report.as_json(frames=[record(load, each) for each in load.traffic])
     if options.format == "svg":
         return picture(load)
+    heading = load_tables.heading(options.title or os.path.basename(tool.name_of(options.script)), load)
+    shown = load_tables.tables_of(load, options.table)
     if options.format == "csv":
         return tables.as_csv(shown[0])
     if options.format == "html":
-        wrong = [f'<p class="{each.severity}">{tables.html_text(line)}</p>\n' for each in report.open for line in findings.lines_of([each])]
-        sections = [tables.html_section(table) for table in shown]
-        drawn = f'<section class="picture">\n<h2>What each waits for at worst</h2>\n<div class="wide">{picture(load)}</div>\n</section>\n'
-        return page_of(heading, wrong + sections[:1] + [drawn] + sections[1:])
+        return page(heading, load, report, shown)
     return (tables.as_text if options.format == "text" else tables.as_markdown)(heading, shown)
 
 
 def run(options):
     check(options)
-    answered = session.run(options.script, options.cobench, Evidence.QUERIES)
+    answered = network.asked(options)
     load = Load(Wiring(answered), answered.lines("trace"), options.window, options.assume)
-    found = findings.of(answered) + findings_of(load, Evidence(answered).origins, options.script)
-    acceptance.judge(found, options)
-    report = Report(answered, found)
+    report = network.report_of(options, answered, findings_of(load, Evidence(answered).origins, options.script))
     if options.junit:
         output.write_file(options.junit, report.as_junit().encode("utf-8", "surrogateescape"))
     if not options.json:
-        for line in findings.lines_of(report.open):
-            tool.warn(line)
+        network.tell(report.open)
     tool.put(printed(options, load, report))
     return report.status

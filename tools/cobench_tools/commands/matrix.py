@@ -25,19 +25,19 @@ def arguments(parser):
     network.add_arguments(parser)
 
 
-def printed(options, wired):
+def printed(options, wiring):
     """What is printed of a network."""
     title = options.title or os.path.basename(tool.name_of(options.script))
-    heading = matrix.heading(title, wired)
+    heading = matrix.heading(title, wiring)
     if options.format == "csv":
-        return tables.as_csv(matrix.tables_of(wired, options.table or "signals")[0])
+        return tables.as_csv(matrix.tables_of(wiring, options.table or "signals")[0])
     if options.format == "html":
-        return matrix_page.network_page(heading, wired, options.table)
-    shown = matrix.tables_of(wired, options.table)
+        return matrix_page.network_page(heading, wiring, options.table)
+    shown = matrix.tables_of(wiring, options.table)
     return (tables.as_text if options.format == "text" else tables.as_markdown)(heading, shown)
 
 
 def run(options):
-    _, wired, status = network.asked(options)
-    tool.put(printed(options, wired))
+    wiring, status = network.wired(options)
+    tool.put(printed(options, wiring))
     return status
