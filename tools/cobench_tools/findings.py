@@ -42,9 +42,10 @@ def lines_of(findings):
     for (place, severity, code, text, notes), who in groups.items():
         more = [f"and {len(who) - 4} more"] if len(who) > 4 else []
         subject = ", ".join(who[:4] + more)
-        lines.append(f"{place}: {severity}: {f'{subject}: ' if subject else ''}{text} [{code}]")
-        lines += [f"{where}: note: {words}" for where, words in notes]
-    return [tool.readable(line) for line in lines]
+        what = tool.readable(f"{subject}: {text}" if subject else text)
+        lines.append(f"{place}: {severity}: {what} [{code}]")
+        lines += [f"{where}: note: {tool.readable(words)}" for where, words in notes]
+    return lines
 
 
 def milliseconds(time):

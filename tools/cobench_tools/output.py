@@ -1,4 +1,5 @@
 """Files that are written whole or not at all."""
+import errno
 import os
 
 from . import tool
@@ -53,10 +54,14 @@ def real_name(path):
 
 def write_beside(folder, name, data):
     """Writes a file beside its place."""
-    if os.path.isdir(os.path.join(folder, name)):
-        raise IsADirectoryError(21, "Is a directory", os.path.join(folder, name))
-    with open(beside(folder, name, "new"), "wb") as file:
-        file.write(data)
+    place = os.path.join(folder, name)
+    if os.path.isdir(place):
+        raise IsADirectoryError(errno.EISDIR, os.strerror(errno.EISDIR), place)
+    try:
+        with open(beside(folder, name, "new"), "wb") as file:
+            file.write(data)
+    except OSError as error:
+        raise OSError(error.errno, error.strerror, place) from None
 
 
 def change_places(folder, names):
@@ -64,9 +69,8 @@ def change_places(folder, names):
     changed = []
     try:
         for name in names:
-            place, old = os.path.join(folder, name), beside(folder, name, "old")
-            if os.path.lexists(place):
-                os.replace(place, old)
+            place = os.path.join(folder, name)
+            keep(place, beside(folder, name, "old"))
             changed.append(name)
             os.replace(beside(folder, name, "new"), place)
     except OSError:
@@ -77,11 +81,22 @@ def change_places(folder, names):
         remove(beside(folder, name, "old"))
 
 
+def keep(place, old):
+    """What a place has stays beside it; the place keeps it too, where the disk has links."""
+    remove(old)
+    if os.path.lexists(place):
+        try:
+            os.link(place, old, follow_symlinks=False)
+        except (OSError, NotImplementedError):
+            os.replace(place, old)
+
+
 def put_back(folder, name):
     """A place has what it had before."""
     place, old = os.path.join(folder, name), beside(folder, name, "old")
     if os.path.lexists(old):
         os.replace(old, place)
+        remove(old)     # where both are one file, it stays at both
     else:
         remove(place)
 

@@ -2,8 +2,12 @@
 import json
 import os
 import re
+import subprocess
+import sys
 
-from helper import example, file, is_fine, is_refused, put, recorded, recorded_replies, run, stand_in
+from helper import COBTOOL, example, file, is_fine, is_refused, put, recorded, recorded_replies, run, stand_in
+
+from cobench_tools import output
 
 NODES = ("11_infeed", "12_outfeed", "1_line")
 NAMES = sorted([name + end for name in NODES for end in (".bin", ".dcf")] + ["diagnostics.txt", "trace.log", "trace.txt"])
@@ -106,6 +110,28 @@ def test_export_replaces_all_files_or_none():
     os.rmdir("files/trace.txt")
     is_fine(export(), TOLD + WRITTEN)
     assert sorted(os.listdir("files")) == NAMES and file("files", "11_infeed.dcf") == reply_to(b"dcf 11")
+
+
+def test_export_to_a_disk_that_fills_up_writes_nothing():
+    os.mkdir("files")
+    put("files/11_infeed.dcf", b"old")
+    words = [sys.executable, COBTOOL, "export", "--cobench", recorded(), "files", example("io_modules.txt")]
+    done = subprocess.run(["sh", "-c", "ulimit -f 8; exec \"$@\"", "sh", *words], stdout=subprocess.PIPE, stderr=subprocess.PIPE)
+    assert done.returncode == 2 and done.stdout == b"", done
+    assert done.stderr == b"cobtool: files/11_infeed.dcf: File too large\n", done.stderr
+    assert os.listdir("files") == ["11_infeed.dcf"] and file("files", "11_infeed.dcf") == b"old"
+
+
+def test_a_place_that_cannot_be_changed_gives_back_all_others():
+    put("a", b"old a")
+    put(".a.new", b"new a")
+    put(".b.new", b"new b")
+    try:
+        output.change_places(".", ["a", "c", "b"])
+        raise AssertionError("there is no .c.new")
+    except FileNotFoundError:
+        pass
+    assert file("a") == b"old a" and sorted(os.listdir(".")) == [".b.new", "a"]
 
 
 def test_explain_takes_the_trace_of_an_export():
