@@ -118,7 +118,7 @@ def test_export_to_a_disk_that_fills_up_writes_nothing():
     words = [sys.executable, COBTOOL, "export", "--cobench", recorded(), "files", example("io_modules.txt")]
     done = subprocess.run(["sh", "-c", "ulimit -f 8; exec \"$@\"", "sh", *words], stdout=subprocess.PIPE, stderr=subprocess.PIPE)
     assert done.returncode == 2 and done.stdout == b"", done
-    assert done.stderr == b"cobtool: files/11_infeed.dcf: File too large\n", done.stderr
+    assert done.stderr == b"cobtool: files/1_line.dcf: File too large\n", done.stderr
     assert os.listdir("files") == ["11_infeed.dcf"] and file("files", "11_infeed.dcf") == b"old"
 
 
