@@ -1,6 +1,6 @@
 """What is other in one network than in another, in words: nothing is told of what is equal.
 
-Each part of it takes the two sides, and gives lines: `what: old -> new`, what is new with a `+`, what is gone with a `-`.
+Each part of it takes the two sides, and gives lines: `what: old -> new`, with a `+` what is new, with a `-` what is gone.
 """
 from . import findings, tool, trace_difference
 from .device import object_name
@@ -35,7 +35,8 @@ def settings(old, new):
     """What is other in the settings of the network."""
     one, two = old.project, new.project
     names = ("number of the manager", "SYNC each [us]", "heartbeat of the manager [ms]", "SDO timeout [ms]")
-    lines = changed("version of the script", one.version, two.version) + changed("bit rate [kbit/s]", one.bitrate, two.bitrate)
+    lines = changed("version of the script", one.version, two.version)
+    lines += changed("bit rate [kbit/s]", one.bitrate, two.bitrate)
     for name, before, after in zip(names, one.manager, two.manager):
         lines += changed(name, before, after)
     return (lines + changed("SYNC is counted to", one.sync_counter or "none", two.sync_counter or "none")
@@ -46,7 +47,8 @@ def event_text(event):
     """An event in words."""
     if event.kind == "nmt":
         return f"{event.time} us, NMT {event.what} to {event.node or 'all'}"
-    what = f"{object_name(event.entry)} := {tool.readable(event.what)}" if event.kind == "set" else f"power {event.what}"
+    is_set = event.kind == "set"
+    what = f"{object_name(event.entry)} := {tool.readable(event.what)}" if is_set else f"power {event.what}"
     return f"{event.time} us, node {event.node}: {what}"
 
 
@@ -67,15 +69,16 @@ def diagnostics(old, new):
     known = [{finding.words for finding in side.findings} for side in (old, new)]
     gone = [("-", each) for each in old.findings if each.words not in known[1]]
     come = [("+", each) for each in new.findings if each.words not in known[0]]
-    return [tool.readable(f"{sign} {each.severity}: {each.who}: {each.text} [{each.code}]") for sign, each in gone + come]
+    return [tool.readable(f"{sign} {each.severity}: {each.who}: {each.text} [{each.code}]")
+            for sign, each in gone + come]
 
 
 def trace(old, new):
     return trace_difference.lines_of(old, new)
 
 
-PARTS = {"Settings": settings, "Data sheets": sheets, "Nodes and their files": nodes, "Messages": messages, "Scenario": scenario,
-         "What is wrong": diagnostics, "Trace": trace}
+PARTS = {"Settings": settings, "Data sheets": sheets, "Nodes and their files": nodes, "Messages": messages,
+         "Scenario": scenario, "What is wrong": diagnostics, "Trace": trace}
 
 
 def text_of(old, new):

@@ -26,7 +26,8 @@ def node(old, new, number):
     lines = of_itself(old, new, number) + written(*(side.network.nodes[number] for side in (old, new)))
     files = [f"{number}_{name}{end}" for query, end in (("dcf", ".dcf"), ("cdcf", ".bin"))
              if old.answered.lines(query, number) != new.answered.lines(query, number)]
-    title = f"node {number} {name}" + (f": {' and '.join(files)} change{'s' if len(files) == 1 else ''}" if files else "")
+    verb = "changes" if len(files) == 1 else "change"
+    title = f"node {number} {name}" + (f": {' and '.join(files)} {verb}" if files else "")
     return [title] + [f"  {line}" for line in lines] if lines or files else []
 
 
@@ -35,8 +36,8 @@ def of_itself(old, new, number):
     lines = []
     for what, before, after in zip(("name", "data sheet"), old.project.nodes[number], new.project.nodes[number]):
         lines += [f"{what}: {before} -> {after}"] if before != after else []
-    names, texts = zip(*((side.project.nodes[number][1], side.project.texts[side.project.nodes[number][1]]) for side in (old, new)))
-    if names[0] == names[1] and texts[0] != texts[1]:
+    names = [side.project.nodes[number][1] for side in (old, new)]
+    if names[0] == names[1] and old.project.texts[names[0]] != new.project.texts[names[0]]:
         lines.append(f"its data sheet {names[0]} is other")
     needs = ["mandatory" if number in side.project.mandatory else "optional" for side in (old, new)]
     return lines + ([f"need: {needs[0]} -> {needs[1]}"] if needs[0] != needs[1] else [])

@@ -80,7 +80,7 @@ class Joined:
         return [pdo for number in sorted(self.files) for pdo in self.files[number].set_pdos(direction)]
 
     def _drafts(self):
-        """A message for each TPDO that a file sets, and for those that are on by default and taken by an RPDO that is set."""
+        """A message for each TPDO that a file sets, or that is on by default and taken by an RPDO that is set."""
         taken = {pdo.identifier for pdo in self._on(RPDO)}
         names, drafts = set(), []
         for number in sorted(self.files):
@@ -102,14 +102,15 @@ class Joined:
             if draft is None:
                 self.causes[where] = f"no TPDO of these files sends {rpdo.identifier:03X}h"
             elif rpdo.node in draft.takers:
-                self.causes[where] = f"RPDO {draft.takers[rpdo.node].number} of the node takes {rpdo.identifier:03X}h too"
+                other = draft.takers[rpdo.node].number
+                self.causes[where] = f"RPDO {other} of the node takes {rpdo.identifier:03X}h too"
             else:
                 draft.takers[rpdo.node] = rpdo
         for draft in self.drafts:
             self._judge_takers(draft)
 
     def _judge_takers(self, draft):
-        """What a receiver takes of a message has to stand at the bits of a source; one that takes nothing so is none of it."""
+        """What a receiver takes of a message has to stand at the bits of a source; without any it is no receiver."""
         nodes = {node for _, node in draft.sinks()}
         sent = {(place.start, place.bits) for place in places_of(draft.tpdo)}
         for node, rpdo in list(draft.takers.items()):
@@ -161,8 +162,9 @@ class Joined:
         owners = {(node, rpdo.number): draft for draft in self.drafts for node, rpdo in draft.takers.items()}
         for draft in self.drafts:
             for node, rpdo in draft.takers.items():
-                lower = [number for number in planned.rpdos_that_fit(node, len(draft.tpdo.items)) if number < rpdo.number]
-                before[draft] |= {owners[node, number] for number in lower if (node, number) in owners}
+                fitting = planned.rpdos_that_fit(node, len(draft.tpdo.items))
+                before[draft] |= {owners[node, number] for number in fitting
+                                  if number < rpdo.number and (node, number) in owners}
         return before
 
     def _order(self):

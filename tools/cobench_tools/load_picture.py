@@ -2,9 +2,29 @@
 from .tables import html_text
 
 WIDTH, LABELS, ROW, HEAD, FOOT = 1000, 220, 20, 34, 40
-COLOURS = {"lower": "#b9c0c8", "higher": "#7da7d9", "own": "#1f5fa8", "deadline": "#b00020", "seen": "#1c2228"}
-WORDS = (("lower", "waits for a frame of lower priority"), ("higher", "for frames that go before it"), ("own", "its own frame"))
+MOST_LETTERS = 28
+COLOURS = {"lower": "#b9c0c8", "higher": "#7da7d9", "own": "#1f5fa8", "deadline": "#b00020", "seen": "#1c2228",
+           "grid": "#dfe3e8", "text": "#1c2228"}
+BARS = {"lower": "waits for a frame of lower priority", "higher": "for frames that go before it", "own": "its own frame"}
+MARKS = {"deadline": "deadline", "seen": "longest in the trace"}
 STEPS = (1, 2, 5)
+
+
+def box(left, right, top, height, what):
+    """A filled rectangle."""
+    width = max(right - left, 0.5)
+    return f'<rect x="{left:.1f}" y="{top}" width="{width:.1f}" height="{height}" fill="{COLOURS[what]}"/>'
+
+
+def upright(place, top, bottom, what, width=2):
+    """A vertical line."""
+    ends = f'x1="{place:.1f}" x2="{place:.1f}" y1="{top}" y2="{bottom}"'
+    return f'<line {ends} stroke="{COLOURS[what]}" stroke-width="{width}"/>'
+
+
+def words(text, place, bottom, what="text", anchor="start"):
+    """A text."""
+    return f'<text x="{place:.1f}" y="{bottom}" fill="{COLOURS[what]}" text-anchor="{anchor}">{html_text(text)}</text>'
 
 
 class Axis:
@@ -25,60 +45,46 @@ class Axis:
         return range(0, int(self.longest) + 1, step)
 
 
-def bar(axis, start, end, what, y):
-    left, right = axis.place(start), axis.place(end)
-    return f'<rect x="{left:.1f}" y="{y + 4}" width="{max(right - left, 0.5):.1f}" height="{ROW - 8}" fill="{COLOURS[what]}"/>'
-
-
-def bars(load, axis, each, y):
+def bars(load, axis, each, top):
     """The bars of an identifier, its deadline and the longest wait of the trace."""
     response = load.stuffed.of[each]
     if response.wait is None:
-        return [f'<text x="{LABELS}" y="{y + 14}" fill="{COLOURS["deadline"]}">no bound</text>']
-    own, blocking = load.stuffed.duration(each), 0 if response.earlier else response.blocking
-    parts = [bar(axis, 0, blocking, "lower", y)] if blocking else []
-    parts += [bar(axis, blocking, response.wait - own, "higher", y)] if response.wait - own > blocking else []
-    parts.append(bar(axis, response.wait - own, response.wait, "own", y))
-    parts += mark(axis, load.deadline(each)[0], "deadline", y) + mark(axis, load.seen[each].longest, "seen", y)
-    time = f"{response.wait / 1000:.3f}"
-    return parts + [f'<text x="{axis.place(max(response.wait, 0)) + 4:.1f}" y="{y + 14}">{time}</text>']
+        return [words("no bound", LABELS, top + 14, "deadline")]
+    blocking, own = 0 if response.earlier else response.blocking, response.wait - load.stuffed.duration(each)
+    ends = {"lower": (0, blocking), "higher": (blocking, own), "own": (own, response.wait)}
+    parts = [box(axis.place(start), axis.place(end), top + 4, ROW - 8, what) for what, (start, end) in ends.items() if end > start]
+    for what, time in (("deadline", load.deadline(each)[0]), ("seen", load.seen[each].longest)):
+        if time is not None and time <= axis.longest:
+            parts.append(upright(axis.place(time), top + 1, top + ROW - 1, what))
+    return parts + [words(f"{response.wait / 1000:.3f}", axis.place(response.wait) + 4, top + 14)]
 
 
-def mark(axis, time, what, y):
-    """A line across a row, where there is such a time and it is on the picture."""
-    if time is None or time > axis.longest:
-        return []
-    place = axis.place(time)
-    return [f'<line x1="{place:.1f}" x2="{place:.1f}" y1="{y + 1}" y2="{y + ROW - 1}" stroke="{COLOURS[what]}" stroke-width="2"/>']
-
-
-def legend(y):
+def legend(top):
     """What the colours mean."""
-    parts, x = [], 12
-    for what, words in WORDS:
-        parts.append(f'<rect x="{x}" y="{y}" width="12" height="12" fill="{COLOURS[what]}"/><text x="{x + 16}" y="{y + 11}">{words}</text>')
-        x += 44 + 7 * len(words)
-    for what, words in (("deadline", "deadline"), ("seen", "longest in the trace")):
-        parts.append(f'<line x1="{x + 6}" x2="{x + 6}" y1="{y}" y2="{y + 12}" stroke="{COLOURS[what]}" stroke-width="2"/>'
-                     f'<text x="{x + 16}" y="{y + 11}">{words}</text>')
-        x += 44 + 7 * len(words)
+    parts, left = [], 12
+    for what, text in {**BARS, **MARKS}.items():
+        parts.append(box(left, left + 12, top, 12, what) if what in BARS else upright(left + 6, top, top + 12, what))
+        parts.append(words(text, left + 16, top + 11))
+        left += 44 + 7 * len(text)
     return parts
+
+
+def grid(axis, bottom):
+    """Lines at round times, with these above."""
+    places = [(axis.place(time), f"{time / 1000:g} ms") for time in axis.ticks()]
+    return [part for place, text in places for part in (
+        upright(place, HEAD - 6, bottom, "grid", 1), words(text, place, HEAD - 12, anchor="middle"))]
 
 
 def picture(load):
     """The picture."""
     longest = max((load.stuffed.of[each].wait or 0 for each in load.traffic), default=0)
     axis, bottom = Axis(longest), HEAD + ROW * len(load.traffic)
-    parts = []
-    for time in axis.ticks():
-        place = axis.place(time)
-        parts.append(f'<line x1="{place:.1f}" x2="{place:.1f}" y1="{HEAD - 6}" y2="{bottom}" stroke="#dfe3e8"/>'
-                     f'<text x="{place:.1f}" y="{HEAD - 12}" text-anchor="middle">{time / 1000:g} ms</text>')
-    for number, each in enumerate(load.traffic):
-        y = HEAD + ROW * number
-        name = each.name if len(each.name) <= 28 else each.name[:27] + "…"
-        parts.append(f'<text x="{LABELS - 8}" y="{y + 14}" text-anchor="end">{each.identifier:03X}h {html_text(name)}</text>')
-        parts += bars(load, axis, each, y)
-    parts += legend(bottom + 16)
-    return (f'<svg xmlns="http://www.w3.org/2000/svg" viewBox="0 0 {WIDTH} {bottom + FOOT}" font-family="system-ui, sans-serif" '
-            f'font-size="12" role="img" aria-label="Worst case of each identifier">\n' + "\n".join(parts) + "\n</svg>\n")
+    parts = grid(axis, bottom)
+    for top, each in zip(range(HEAD, bottom, ROW), load.traffic):
+        name = each.name if len(each.name) <= MOST_LETTERS else each.name[:MOST_LETTERS - 2] + ".."
+        parts.append(words(f"{each.identifier:03X}h {name}", LABELS - 8, top + 14, anchor="end"))
+        parts += bars(load, axis, each, top)
+    head = (f'<svg xmlns="http://www.w3.org/2000/svg" viewBox="0 0 {WIDTH} {bottom + FOOT}" font-size="12" '
+            'font-family="system-ui, sans-serif" role="img" aria-label="Worst case of each identifier">')
+    return "\n".join([head, *parts, *legend(bottom + 16), "</svg>"]) + "\n"

@@ -20,14 +20,14 @@ def share_text(share):
 
 def row(load, each):
     """What there is to tell of the frames of an identifier."""
-    late = load.is_late(each)
-    bits = [plain_bits(each.size), most_bits(each.size)]
+    both = load.plain, load.stuffed
+    cells = [f"{each.identifier:03X}h", each.name, load.network.name(each.sender), each.size, comes(load, each)]
+    cells += [analysis.bits(each.size) for analysis in both] + [analysis.duration(each) for analysis in both]
+    cells += [share_text(analysis.share(each)) for analysis in both]
+    cells += [in_milliseconds(analysis.of[each].wait) for analysis in both]
     deadline = None if each.period is None else load.deadline(each)[0]
-    return ([f"{each.identifier:03X}h", each.name, load.network.name(each.sender), each.size, comes(load, each)] + bits
-            + [count * load.bit for count in bits]
-            + [share_text(analysis.share(each)) for analysis in (load.plain, load.stuffed)]
-            + [in_milliseconds(analysis.of[each].wait) for analysis in (load.plain, load.stuffed)]
-            + [in_milliseconds(load.seen[each].longest), in_milliseconds(deadline), {None: "no bound", True: "NO", False: "yes"}[late]])
+    cells += [in_milliseconds(load.seen[each].longest), in_milliseconds(deadline)]
+    return cells + [{None: "no bound", True: "NO", False: "yes"}[load.is_late(each)]]
 
 
 def comes(load, each):
@@ -36,11 +36,11 @@ def comes(load, each):
 
 
 def frames_table(load):
-    sums = " and ".join(f"{load.total(analysis):.1f} % {words}" for analysis, words in
-                        ((load.plain, "without stuff bits"), (load.stuffed, "with the most stuff bits")))
-    below = f"All frames that have a bound take {sums} of the bus. Waits are from when a frame is ready, and of frames that "\
-            "SYNC sends from SYNC on, to when it is there whole."
-    return Table("frames", "Once the network is operational", COLUMNS, [row(load, each) for each in load.traffic], below)
+    sums = [f"{load.total(analysis):.1f} %" for analysis in (load.plain, load.stuffed)]
+    below = (f"All frames that have a bound take {sums[0]} of the bus without stuff bits, and {sums[1]} with the most. Waits "
+             "are from when a frame is ready, for what SYNC sends from SYNC on, to when it is there whole.")
+    rows = [row(load, each) for each in load.traffic]
+    return Table("frames", "Once the network is operational", COLUMNS, rows, below)
 
 
 def is_sdo(line, node):
@@ -55,8 +55,8 @@ def boot_table(load):
         end = first.end if first else None
         frames = [line for line in load.lines if is_sdo(line, number) and (end is None or line.time <= end)]
         plain, most = (sum(bits(len(frame.data)) for frame in frames) * load.bit for bits in (plain_bits, most_bits))
-        rows.append([number, load.network.name(number), len(node.written), len(frames), in_milliseconds(plain), in_milliseconds(most),
-                     in_milliseconds(end if first and first.is_configured() else None)])
+        times = [plain, most, end if first and first.is_configured() else None]
+        rows.append([number, load.network.name(number), len(node.written), len(frames), *map(in_milliseconds, times)])
     columns = ["Node", "Name", "Entries written", "SDO frames", "On the bus [ms]", "stuffed [ms]", "Configured at [ms]"]
     times = [boot.end for several in all_boots.values() for boot in several[:1] if boot.is_configured()]
     below = f"In the trace the last node is configured at {milliseconds(max(times))}." if times else ""

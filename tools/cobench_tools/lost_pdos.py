@@ -49,7 +49,7 @@ def made_number(node, made, key):
 
 
 def matters(node, made, key):
-    """Whether an entry says anything: the PDO is on here or by the script, and a mapping entry is one of those that count."""
+    """Whether an entry says anything: its PDO is on, here or by the script, and a mapping entry counts."""
     direction, number = pdo_of(key[0])
     communication = COMMUNICATION[direction] + number
     cob = node.number_at(communication, 1, 0x07)
@@ -81,12 +81,13 @@ def warning(pdo, several, why):
     first = min(several, key=lambda lost: lost.line)
     cob = next((lost for lost in several if lost.key == (COMMUNICATION[pdo[0]] + pdo[1], 1)), None)
     if cob and (cob.wanted ^ cob.made) & OFF:
-        if cob.made & OFF:
-            return cob.line, f"{pdo[0]} {pdo[1]} is on here, and off by the script (COB-ID {cob.wanted & 0x7FF:03X}h){because(why)}"
-        return cob.line, f"{pdo[0]} {pdo[1]} is off here, and on by the script, as in the data sheet (COB-ID {cob.made & 0x7FF:03X}h)"
+        is_on = "is on here, and off by the script" if cob.made & OFF else (
+            "is off here, and on by the script, as in the data sheet")
+        identifier = (cob.wanted if cob.made & OFF else cob.made) & 0x7FF
+        return cob.line, f"{pdo[0]} {pdo[1]} {is_on} (COB-ID {identifier:03X}h){because(why)}"
     rest = f", and {len(several) - 1} more of its values" if len(several) > 1 else ""
-    return first.line, (f"{pdo[0]} {pdo[1]}: {object_name(first.key)} is {first.wanted:X}h here, and {first.made:X}h by the "
-                        f"script{rest}{because(why)}")
+    return first.line, (f"{pdo[0]} {pdo[1]}: {object_name(first.key)} is {first.wanted:X}h here, and {first.made:X}h "
+                        f"by the script{rest}{because(why)}")
 
 
 def because(why):

@@ -85,8 +85,8 @@ class Machine:
         names = ", ".join(os.path.basename(file.path) for file in self.files)
         lines = [comment(f"made of {names} by cobtool import")] + self._settings()
         for name, sheet in self.sheets.items():
-            path = os.path.join(folder, f"{name}.eds") if folder else None
-            lines += ["#", f"eds {name} <{path}"] if path else ["#", f"eds {name} {len(sheet)}", *map(tool.shown, sheet)]
+            block = [f"eds {name} {len(sheet)}", *map(tool.shown, sheet)]
+            lines += ["#"] + ([f"eds {name} <{os.path.join(folder, name)}.eds"] if folder else block)
         for file in self.files:
             lines += self._node(file)
         takers = self._takers_by_default()

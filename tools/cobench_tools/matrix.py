@@ -58,7 +58,8 @@ def nodes_table(network):
         info = node.device.sections.get("deviceinfo", {})
         need = "mandatory" if number in network.project.mandatory else "optional"
         params = sum(not pdo_values.is_of_pdos(key[0]) for key in node.written)
-        return [number, name, eds, info.get("vendorname", NONE), info.get("productname", NONE), device_type(node), need, params]
+        about = [info.get("vendorname", NONE), info.get("productname", NONE), device_type(node)]
+        return [number, name, eds, *about, need, params]
 
     columns = ["Node", "Name", "Data sheet", "Vendor", "Product", "Device type", "Need", "Parameters"]
     return Table("nodes", "Nodes", columns, [row(number) for number in sorted(network.nodes)])
@@ -83,8 +84,8 @@ def messages_table(network):
                 NONE if tpdo.kind is None else tpdo.kind, when(tpdo), milliseconds(tpdo.inhibit), tpdo.event or NONE,
                 tpdo.start or NONE, tpdo.size, receivers_text(network, tpdo)]
 
-    columns = ["COB-ID", "Message", "Sender", "TPDO", "Type", "Sent", "Inhibit [ms]", "Event [ms]", "SYNC start", "Bytes",
-               "Receivers"]
+    columns = ["COB-ID", "Message", "Sender", "TPDO", "Type", "Sent", "Inhibit [ms]", "Event [ms]", "SYNC start",
+               "Bytes", "Receivers"]
     return Table("messages", "Messages", columns, [row(tpdo) for tpdo in network.tpdos])
 
 
@@ -127,7 +128,8 @@ def parameters_table(network):
             if not pdo_values.is_of_pdos(key[0]):
                 entry = node.device.entries[key]
                 default = value_text(entry.kind, values.default_of(entry, number))
-                rows.append([number, network.name(number), object_name(key), entry.name, value_text(entry.kind, data), default])
+                value = value_text(entry.kind, data)
+                rows.append([number, network.name(number), object_name(key), entry.name, value, default])
     return Table("parameters", "Parameters", ["Node", "Name", "Entry", "Parameter", "Value", "Default"], rows)
 
 
@@ -156,7 +158,8 @@ def heartbeats_table(network):
     for number in sorted(set(times) | {each[0] for each in watched}):
         name = network.name(number) if number in known else "(not in the project)"
         sent = [number, name, times.get(number, NONE)]
-        rows += [sent + [network.name(by), time] for each, by, time in watched if each == number] or [sent + [NONE, NONE]]
+        watching = [[network.name(by), time] for each, by, time in watched if each == number]
+        rows += [sent + cells for cells in watching or [[NONE, NONE]]]
     return Table("heartbeats", "Heartbeats", ["Node", "Name", "Each [ms]", "Watched by", "Missed after [ms]"], rows)
 
 

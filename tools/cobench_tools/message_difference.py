@@ -8,10 +8,12 @@ class Seen:
 
     def __init__(self, side, tpdo):
         network = side.network
-        self.attributes = {"identifier": f"{tpdo.identifier:03X}h", "sender": f"{network.name(tpdo.node)} TPDO {tpdo.number}",
-                           "type": f"{tpdo.kind}, {matrix.when(tpdo)}", "inhibit time [ms]": matrix.milliseconds(tpdo.inhibit),
-                           "event time [ms]": tpdo.event or "-", "SYNC start value": tpdo.start or "-"}
-        self.signals = {part.start: f"{object_name(part.key)} {part.entry.name} of {part.bits} bits" for part in tpdo.parts}
+        self.attributes = {
+            "identifier": f"{tpdo.identifier:03X}h", "sender": f"{network.name(tpdo.node)} TPDO {tpdo.number}",
+            "type": f"{tpdo.kind}, {matrix.when(tpdo)}", "inhibit time [ms]": matrix.milliseconds(tpdo.inhibit),
+            "event time [ms]": tpdo.event or "-", "SYNC start value": tpdo.start or "-"}
+        self.signals = {part.start: f"{object_name(part.key)} {part.entry.name} of {part.bits} bits"
+                        for part in tpdo.parts}
         self.receivers = {network.name(pdo.node): f"RPDO {pdo.number}" for pdo in network.receivers(tpdo)}
         self.targets = {(network.name(pdo.node), other.start): f"{object_name(other.key)} {other.entry.name}"
                         for part in tpdo.parts for pdo, other in network.targets(tpdo, part)}
@@ -25,8 +27,9 @@ class Seen:
 def seen_of(side):
     """The messages that are in a PDO, and the TPDOs that devices have by default, by how they are called."""
     network = side.network
-    return {network.message_of(tpdo) or f"TPDO {tpdo.number} of {network.name(tpdo.node)} (by default)": Seen(side, tpdo)
-            for tpdo in network.tpdos}
+    names = [network.message_of(tpdo) or f"TPDO {tpdo.number} of {network.name(tpdo.node)} (by default)"
+             for tpdo in network.tpdos]
+    return {name: Seen(side, tpdo) for name, tpdo in zip(names, network.tpdos)}
 
 
 def messages(old, new):

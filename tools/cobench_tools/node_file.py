@@ -18,7 +18,7 @@ def name_of(text):
 
 
 def is_export(lines):
-    """Whether these lines are as cobench prints a DCF: nothing but sections and keys, and who the node is at the end."""
+    """Whether these lines are as cobench prints a DCF: sections and keys alone, and who the node is at the end."""
     starts = [number for number, line in enumerate(lines) if line.startswith(b"[")]
     last = lines[starts[-1]:starts[-1] + 4] if starts else []
     names = [line.partition(b"=")[0] for line in last]
@@ -57,7 +57,8 @@ class NodeFile:
         self.line = keys.lines.get("nodeid", keys.line)
         self.number = read_number(keys.get("nodeid", ""))
         if self.number is None or not 1 <= self.number <= 127:
-            raise tool.Fault(f"{tool.Place(self.path, self.line)}: NodeID is 1 to 127, not {keys.get('nodeid', 'missing')}")
+            there = keys.get("nodeid", "missing")
+            raise tool.Fault(f"{tool.Place(self.path, self.line)}: NodeID is 1 to 127, not {there}")
         stem = os.path.splitext(os.path.basename(self.path))[0]
         self.name = name_of(keys.get("nodename", "")) or name_of(stem) or f"node_{self.number}"
         self.is_manager = bool(read_number(keys.get("canopenmanager", "0")))

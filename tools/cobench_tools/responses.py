@@ -40,6 +40,10 @@ class Response:
         self.stream, self.wait, self.total = stream, None, None
         self.blocking, self.earlier, self.higher, self.why = 0, 0, [], None
 
+    def is_overload(self):
+        """Whether there is no bound, as the frames ask for more than the bus can carry."""
+        return self.wait is None and self.why is None
+
     def frames_before(self):
         """How many frames of higher priority go before it, and for how long they take the bus."""
         return sum(count for _, count in self.higher), sum(count * other.duration for other, count in self.higher)
@@ -67,7 +71,8 @@ class Level:
 
     def higher(self, time, also=0):
         """What the streams of higher priority take of the bus in a time."""
-        return sum(ceiling(time + jitter + also, period) * duration for (period, jitter), duration in self.groups.items())
+        return sum(ceiling(time + jitter + also, period) * duration
+                   for (period, jitter), duration in self.groups.items())
 
     def busy(self):
         """The longest time for which they keep the bus busy, None where it is beyond all measure."""

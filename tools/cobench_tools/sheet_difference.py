@@ -4,6 +4,13 @@ from .device import Device, object_name
 
 MOST_LINES = 20
 
+# What a data sheet says of an entry.
+SAID = {
+    "name": lambda entry: entry.name, "data type": lambda entry: values.type_name(entry.kind),
+    "access": lambda entry: entry.access, "default": lambda entry: entry.default, "low limit": lambda entry: entry.low,
+    "high limit": lambda entry: entry.high, "PDO mapping": lambda entry: entry.mappable, "value": lambda entry: entry.value,
+}
+
 
 def sheets(old, new):
     """What is other in the data sheets."""
@@ -34,10 +41,8 @@ def sheet(old, new):
 def entry(key, old, new):
     """What a data sheet says otherwise of an entry that both have."""
     lines = []
-    for what, before, after in (("name", old.name, new.name), ("data type", values.type_name(old.kind), values.type_name(new.kind)),
-                                ("access", old.access, new.access), ("default", old.default, new.default),
-                                ("low limit", old.low, new.low), ("high limit", old.high, new.high),
-                                ("PDO mapping", old.mappable, new.mappable), ("value", old.value, new.value)):
+    for what, said in SAID.items():
+        before, after = said(old), said(new)
         if before != after:
             lines.append(f"{object_name(key)} {new.name}".rstrip() + f": {what} {shown(before)} -> {shown(after)}")
     return lines

@@ -29,7 +29,8 @@ def text_lines(table):
     numbers = [table.is_number(place) for place in range(len(widths))]
 
     def line(cells):
-        texts = [cell.rjust(width) if number else cell.ljust(width) for cell, width, number in zip(cells, widths, numbers)]
+        texts = [cell.rjust(width) if number else cell.ljust(width)
+                 for cell, width, number in zip(cells, widths, numbers)]
         return "  ".join(texts).rstrip()
 
     rule = "  ".join("-" * width for width in widths)

@@ -41,8 +41,9 @@ def lines_of(old, new):
         return []
     front = equal_front(one, two)
     end = equal_end(one, two, front)
-    same = f"the same up to {milliseconds(time_of(one[front - 1]))}, {counted(front)}" if front else "other from the first line on"
-    lines = [same, f"- {told(old, one, front)}", f"+ {told(new, two, front)}"]
+    since = f"the same up to {milliseconds(time_of(one[front - 1]))}, {counted(front)}" if front else (
+        "other from the first line on")
+    lines = [since, f"- {told(old, one, front)}", f"+ {told(new, two, front)}"]
     others = len(one) - front - end, len(two) - front - end
     lines.append(f"other in {counted(others[0])} before and {counted(others[1])} now")
     if end:

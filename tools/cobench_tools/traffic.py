@@ -1,4 +1,4 @@
-"""What a network sends once it is operational: each identifier, how long its frames are, and how often they can come."""
+"""What a network sends once it is operational: each identifier, how long its frames are, and how often they come."""
 from . import matrix, values
 from .device import object_name
 from .wiring import TPDO
@@ -7,7 +7,7 @@ SYNC, HEARTBEAT = 0x080, 0x700
 EVENT_TYPES = 254, 255
 UNSIGNED16 = 0x06
 
-# Bits of a frame with n bytes: fields and intermission, and at most one stuff bit for each four of those that can have some.
+# Bits of a frame without its bytes: fields and intermission; and those that, with its bytes, can have stuff bits.
 FIXED_BITS, STUFFED_BITS = 47, 34
 
 
@@ -41,7 +41,12 @@ class Traffic:
         self.syncs, self.tpdo, self.is_assumed = 0, None, False
 
     def is_of_sync(self):
+        """Whether SYNC sends them."""
         return self.syncs > 0
+
+    def has_event_time_alone(self):
+        """Whether they come by an event time, and at each change too, since no inhibit time prevents it."""
+        return bool(self.tpdo and not self.is_of_sync() and self.tpdo.event and not self.tpdo.inhibit)
 
 
 def traffic_of(network, assumed=None):
@@ -114,8 +119,9 @@ def why_no_bound(network, traffic):
     tpdo = traffic.tpdo
     inhibit = 0x17FF + tpdo.number, 3
     if network.message_of(tpdo):
-        return "it is sent whenever a value changes, as it has no inhibit time and no event time; INHIBIT of its message bounds it"
+        return ("it is sent whenever a value changes, as it has no inhibit time and no event time; INHIBIT of its message "
+                "bounds it")
     there = network.nodes[tpdo.node].device.entries.get(inhibit)
-    bound = f"a message of this TPDO with INHIBIT, which writes {object_name(inhibit)}, bounds it" if there else (
-        "the device has no inhibit time for it")
+    bound = (f"a message of this TPDO with INHIBIT, which writes {object_name(inhibit)}, bounds it" if there
+             else "the device has no inhibit time for it")
     return f"it is on by the defaults of the data sheet, and sent whenever a value changes; {bound}"

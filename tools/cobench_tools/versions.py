@@ -42,7 +42,7 @@ class Version:
         return f"{self.revision}:{self.path}"
 
     def put(self, root):
-        """Writes the script and all that it takes in below a folder, each at its path; gives the script's place there."""
+        """Writes the script and all that it takes in below a folder, each at its path; gives the script's place."""
         wanted, known = [(self.path, True)], set()
         while wanted:
             path, is_script = wanted.pop()
@@ -60,7 +60,7 @@ class Version:
 
 
 def taken_in(path, text):
-    """The paths of the files that a script takes in, and whether each is a script; absolute ones are read where they are."""
+    """The paths of the files that a script takes in, and whether each is a script; but for absolute ones."""
     return [(os.path.normpath(script.beside(path, command.file)), command.takes_script())
             for command in script.commands_of(text) if command.file and not os.path.isabs(command.file)]
 

@@ -15,7 +15,7 @@ PRODUCER = 0x1017, 0
 
 
 class Seen:
-    """What a trace shows of the frames of an identifier: how many count, the longest wait, when, and the least distance."""
+    """What a trace shows of an identifier: how many frames count, their longest wait and when, and the least distance."""
 
     def __init__(self):
         self.count, self.longest, self.moment, self.least = 0, None, None, None
@@ -88,7 +88,8 @@ class Waits:
     def _counts(self, traffic, frame):
         """Whether a frame is one that the bounds count: of a node that is configured, and no boot-up message."""
         is_boot_up = traffic.identifier >> 7 == 0xE and frame.data == BOOT_UP
-        return not is_boot_up and (traffic.sender in self.configured or traffic.sender == self.network.project.manager[0])
+        is_known = traffic.sender in self.configured or traffic.sender == self.network.project.manager[0]
+        return is_known and not is_boot_up
 
     def _measure(self, traffic, start, time):
         """Counts the wait of a frame, if it is known."""
@@ -119,14 +120,15 @@ class Waits:
         inhibit, event = 100 * tpdo.inhibit, 1000 * tpdo.event
         return [queued + inhibit] * bool(inhibit) + [queued + max(inhibit, event)] * bool(event)
 
-    def _take_events(self, time):
+    def _take_events(self, until):
         """The events of the scenario up to a time."""
-        while self._events and self._events[-1].time <= time:
+        while self._events and self._events[-1].time <= until:
             event = self._events.pop()
             if event.kind == "power" and event.what == "on":
                 self.clocks[event.node] = self._default_clock(event.node, event.time)
             elif event.kind == "set" and event.entry == PRODUCER:
-                self.clocks[event.node] = Clock(event.time, 1000 * (values.number_of(UNSIGNED16, event.what, event.node) or 0))
+                time = values.number_of(UNSIGNED16, event.what, event.node) or 0
+                self.clocks[event.node] = Clock(event.time, 1000 * time)
             elif event.kind == "set":
                 self._touch(self._feeds.of_entry.get((event.node, event.entry), ()), event.time)
 

@@ -140,7 +140,7 @@ def key_and_bits(item):
 
 
 class Wiring:
-    """The network of a session that was asked `diag` and `cdcf`: its nodes, and its TPDOs with the RPDOs that take each.
+    """The network of a session that was asked `diag` and `cdcf`: its nodes, its TPDOs, and the RPDOs that take each.
 
     project  what the script makes
     nodes    the nodes by number

@@ -131,7 +131,7 @@ def network_of(*lines, kind=255, inhibit=0, event=0, period=10000):
 
 def test_load_finds_a_bus_that_is_too_slow():
     status, output, faults = load("--table", "frames", given=network_of(kind=1))
-    assert status == 1 and "m: with it and what goes before it the bus has 120.0 % to carry" in faults and "[overload]" in faults
+    assert status == 1 and "m: with what goes before it the bus has 120.0 % to carry" in faults and "[overload]" in faults
     assert "network.txt:24: error: m: " in faults and b"no bound" in output, faults
 
 

@@ -32,7 +32,8 @@ def arguments(parser):
 def both(options):
     """What A and B are: each a path or a version."""
     if len(options.scripts) != (1 if options.git else 2):
-        raise tool.Fault("two scripts are compared, or with --git REV the one that is named; cobtool diff --help tells more")
+        raise tool.Fault("two scripts are compared, or with --git REV the one that is named; cobtool diff --help tells "
+                         "more")
     if options.git:
         path = options.scripts[0]
         if path == "-":

@@ -25,7 +25,8 @@ def arguments(parser):
     parser.epilog = AFTER
     parser.add_argument("files", metavar="DCF", nargs="+")
     parser.add_argument("--all", action="store_true", help="make a param of values that are the default's too")
-    parser.add_argument("--sheets", metavar="DIR", help="write the data sheets into DIR, and take them in by <DIR/NAME.eds")
+    parser.add_argument("--sheets", metavar="DIR",
+                        help="write the data sheets into DIR, and take them in by <DIR/NAME.eds")
 
 
 def write_sheets(folder, files):

@@ -3,7 +3,8 @@ import os
 
 from .. import findings, load_tables, network, output, tables, tool
 from ..evidence import Evidence
-from ..load import Load, findings_of
+from ..load import Load
+from ..load_findings import LoadFindings
 from ..load_picture import picture
 from ..page import page_of
 from ..wiring import Wiring
@@ -93,7 +94,8 @@ def run(options):
     check(options)
     answered = network.asked(options)
     load = Load(Wiring(answered), answered.lines("trace"), options.window, options.assume)
-    report = network.report_of(options, answered, findings_of(load, Evidence(answered).origins, options.script))
+    found = LoadFindings(load, Evidence(answered).origins, options.script).all()
+    report = network.report_of(options, answered, found)
     if options.junit:
         output.write_file(options.junit, report.as_junit().encode("utf-8", "surrogateescape"))
     if not options.json:
