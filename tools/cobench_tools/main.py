@@ -12,7 +12,7 @@ COMMANDS = (
     "check", "export",
     "import", "matrix", "diff", "dbc", "load",
     "expand", "eds",
-    "refusals", "explain", "stats", "timeline", "candump",
+    "refusals", "explain", "stats", "timeline", "candump", "conform",
     "live",
     "man", "completion",
 )

@@ -16,10 +16,15 @@ STATES = {0: "boot-up", 4: "stopped", 5: "operational", 127: "pre-operational"}
 EMERGENCIES = {0: "no error any more", 0x8130: "heartbeat error", 0x8210: "PDO too short"}
 ABORTS = {
     0x05030000: "toggle bit not alternated", 0x05040000: "SDO timed out", 0x05040001: "command not valid",
-    0x06010000: "access not supported", 0x06010001: "write only", 0x06010002: "read only",
+    0x05040002: "block size not valid", 0x05040003: "sequence number not valid", 0x05040004: "CRC error",
+    0x05040005: "out of memory", 0x06010000: "access not supported", 0x06010001: "write only", 0x06010002: "read only",
     0x06020000: "no such object", 0x06040041: "cannot be mapped", 0x06040042: "PDO length exceeded",
-    0x06070010: "length does not match", 0x06070012: "length too high", 0x06090011: "no such sub-index",
-    0x06090030: "invalid value", 0x06090031: "value too high", 0x06090032: "value too low",
+    0x06040043: "parameters don't go together", 0x06040047: "incompatible inside the device", 0x06060000: "hardware error",
+    0x06070010: "length does not match", 0x06070012: "length too high", 0x06070013: "length too low",
+    0x06090011: "no such sub-index", 0x06090030: "invalid value", 0x06090031: "value too high", 0x06090032: "value too low",
+    0x06090036: "maximum below minimum", 0x060A0023: "resource not available", 0x08000000: "general error",
+    0x08000020: "cannot be transferred or stored", 0x08000021: "local control prevents it",
+    0x08000022: "the device's state prevents it", 0x08000023: "no object dictionary", 0x08000024: "no data available",
 }
 PREDEFINED = {0x180: "TPDO 1", 0x280: "TPDO 2", 0x380: "TPDO 3", 0x480: "TPDO 4",
               0x200: "RPDO 1", 0x300: "RPDO 2", 0x400: "RPDO 3", 0x500: "RPDO 4"}

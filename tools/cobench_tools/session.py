@@ -85,9 +85,13 @@ def queries_of(names, commands):
     return asked + [f"{name} {node}" for node in sorted(nodes - {None}) for name in names if name in OF_A_NODE]
 
 
-def run(path, given=None, names=()):
-    """The session of a script, by the program that `--cobench` gave; `names` are those of queries to ask behind it."""
+def run(path, given=None, names=(), part=None):
+    """The session of a script, by the program that `--cobench` gave; `names` are those of queries to ask behind it.
+
+    part  takes the commands of the script, and gives those that are wanted
+    """
     commands = reader.read(path)
+    commands = part(commands) if part else commands
     queries = queries_of(names, commands)
     text = b"".join([command.text() for command in commands] + [f"{query}\n".encode() for query in queries])
     answers = replies_to(program(given), text)

@@ -95,14 +95,19 @@ def is_utf_16(front):
     return len(zeros) > 3 and zeros.count(0) * 4 > len(zeros) * 3 and not CONTROL.search(letters)
 
 
-def read_text(path):
-    """The bytes of a file that has to be a text."""
-    text = read(path)
+def check_text(text, path):
+    """Whether the bytes of a file, or its first ones, are a text."""
     front = text[:4096]
     if text.startswith((b"\xff\xfe", b"\xfe\xff")) or is_utf_16(front[:200]):
         raise Fault(f"{name_of(path)}: this is UTF-16; save it as UTF-8 or as plain ASCII")
     if len(CONTROL.findall(front)) * 20 > len(front):
         raise Fault(f"{name_of(path)}: this is no text")
+
+
+def read_text(path):
+    """The bytes of a file that has to be a text."""
+    text = read(path)
+    check_text(text, path)
     return text
 
 

@@ -32,11 +32,6 @@ class Frame:
         data = "".join(f" {byte:02X}" for byte in self.data)
         return f"{self.time:010} {self.identifier:03X} [{len(self.data)}]{data}"
 
-    def log_line(self, start):
-        """The frame as a line of a log of candump, with power-on at this second."""
-        seconds, micros = divmod(self.time, 1_000_000)
-        return f"({start + seconds:010}.{micros:06}) can0 {self.identifier:03X}#{self.data.hex().upper()}\n"
-
 
 class Note:
     """What the manager notes of a node."""
@@ -77,9 +72,9 @@ def bit_time(lines, project):
     return int(time) if time in BIT_TIMES else 1
 
 
-def log_of(lines, start=LOG_START):
-    """The frames of a trace as a log of candump."""
-    return "".join(line.log_line(start) for line in lines if isinstance(line, Frame))
+def frames_of(lines):
+    """The frames of a trace: the time, identifier and bytes of each."""
+    return [(line.time, line.identifier, line.data) for line in lines if isinstance(line, Frame)]
 
 
 def is_session(text):

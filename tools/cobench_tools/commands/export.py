@@ -3,6 +3,7 @@ import os
 import re
 
 from .. import acceptance, concise, output, session, tool, trace
+from ..logs import writers
 from . import check
 
 SUMMARY = "check a script, and write the files of its network: DCF, concise DCF, trace"
@@ -27,6 +28,11 @@ def text_of(lines):
     return b"".join(line + b"\n" for line in lines)
 
 
+def log_of(answered):
+    """The frames of the trace as a log."""
+    return writers.log_of(trace.frames_of(trace.trace_of(answered.lines("trace"))), "log", trace.LOG_START)
+
+
 def files_of(answered):
     """The name and the bytes of each file of a network."""
     files = {}
@@ -34,7 +40,7 @@ def files_of(answered):
         files[f"{node}_{name}.dcf"] = text_of(answered.lines("dcf", node))
         files[f"{node}_{name}.bin"] = concise.bytes_of(answered.lines("cdcf", node))
     files["diagnostics.txt"], files["trace.txt"] = text_of(answered.lines("diag")), text_of(answered.lines("trace"))
-    files["trace.log"] = trace.log_of(trace.trace_of(answered.lines("trace"))).encode()
+    files["trace.log"] = log_of(answered).encode()
     return files
 
 

@@ -1,0 +1,99 @@
+"""Says what was recorded on a bus beside what a script plans for it."""
+from .. import acceptance, findings, output, session, tool
+from ..conform import tolerance as tolerances
+from ..conform.plan import Plan
+from ..conform.report import ConformReport
+from ..conform.run import judged
+from ..evidence import Evidence
+from ..logs import source
+
+SUMMARY = "say what was recorded on a bus beside what a script plans"
+
+AFTER = f"""Runs cobench on SCRIPT, reads LOG in one pass, and tells what isn't as planned, each
+cause once, with its line in LOG, how often it was there, first and last:
+
+  machine.log:3712: error: node 2 y_axis: it comes 152.310 ms after the last one; .. [heartbeat-missed]
+
+LOG is what candump -L of can-utils, Vector's tools (ASC), PEAK's (TRC 1.0 to 2.1) or
+python-can (CSV) have recorded, also packed by gzip; its content says which. It may
+begin and end anywhere, and - is the standard input. Frames with 29-bit identifiers,
+FD, error and remote frames are counted and set aside.
+
+What the planned run shows itself, as a power cut of the scenario and what follows on
+it, isn't told where LOG has it at the same time. The two are laid on one another by
+the first boot-up message or command, else by SYNC.
+
+Times may be off by the jitter, {tolerances.JITTER} us where --jitter doesn't say it (at most an
+eighth of a period), and by {tolerances.CLOCK} ppm of what is measured. A frame isn't late that
+had to wait for the bus.
+
+{acceptance.HELP.replace("those of the line of", "those of its").split("An accepted")[0].split(":")[0]}:
+the code, and what it is of, as 'emcy 5 8130', 'pdo-missing 181', 'sdo-value 5 1017'.
+The first words will do. An accepted finding isn't told, and counts for no status.
+
+{session.PROGRAM} Status: 0 without errors, 1 with some, 2 where SCRIPT or LOG can't be
+read, or cobench can't be run.
+
+  cobtool conform --jitter 200 --timeline run.html network.txt machine.log"""
+
+MOST_JITTER, MOST_CLOCK, MOST_WINDOW = 100_000, 20_000, 10_000_000
+
+
+def arguments(parser):
+    parser.epilog = AFTER
+    parser.add_argument("script", metavar="SCRIPT", help="the script, with comments and files")
+    parser.add_argument("log", metavar="LOG", help="what was recorded")
+    parser.add_argument("--trace", metavar="N", type=int,
+                        help="the plan is the network at the Nth `trace` of SCRIPT, 0 for its end; at the last one without it")
+    parser.add_argument("--format", choices=source.NAMES, help="read LOG so, whatever it looks like")
+    parser.add_argument("--channel", metavar="NAME", help="take the frames of this channel alone, as can0, or 1 of ASC and TRC")
+    parser.add_argument("--jitter", metavar="US", type=int, help="how far each time may be off, in microseconds")
+    parser.add_argument("--clock", metavar="PPM", type=int, help="how far clocks may be off, in parts of a million")
+    parser.add_argument("--window", metavar="US", type=int,
+                        help="the microseconds behind SYNC within which its PDOs have to come; 1007h of each node without it")
+    parser.add_argument("--load", metavar="PERCENT", type=float, help="how full the bus may be in 100 ms")
+    parser.add_argument("--json", action="store_true", help="print the findings as JSON, the accepted ones too")
+    parser.add_argument("--junit", metavar="FILE", help="write them as JUnit XML too")
+    acceptance.add_arguments(parser)
+    session.add_arguments(parser)
+
+
+def check(options):
+    """Whether the numbers are such that can be."""
+    for name, most, unit in (("jitter", MOST_JITTER, "microseconds"), ("clock", MOST_CLOCK, "parts of a million"),
+                             ("window", MOST_WINDOW, "microseconds"), ("load", 100, "per cent")):
+        number = getattr(options, name)
+        if number is not None and not 0 <= number <= most:
+            raise tool.Fault(f"--{name} is 0 to {most:,} {unit}, not {number:,}")
+    tool.check_one_input(options.script, options.log)
+
+
+def planning(commands, wanted):
+    """The commands of a script that make the plan: those up to its last `trace`, or to the wanted one, 0 for all."""
+    traces = [place for place, command in enumerate(commands) if command.name == b"trace"]
+    if wanted is not None and not 0 <= wanted <= len(traces):
+        raise tool.Fault(f"the script has {len(traces)} commands trace, and no trace {wanted}")
+    if wanted == 0 or not traces:
+        return commands
+    return commands[:traces[-1 if wanted is None else wanted - 1] + 1]
+
+
+def report_of(options, log):
+    """What is wrong with a log."""
+    tolerance = tolerances.Tolerance(options.jitter, options.clock)
+    log.slack = tolerance.jitter
+    plan = Plan(session.run(options.script, options.cobench, Evidence.QUERIES, lambda commands: planning(commands, options.trace)))
+    judge = judged(plan, log, tolerance, options.window or None, options.load)
+    own = sum(each.severity == findings.ERROR for each in findings.of(plan.answered))
+    report = ConformReport(plan, judge, log, own)
+    acceptance.judge(report.findings, options)
+    return report.judged()
+
+
+def run(options):
+    check(options)
+    report = report_of(options, source.Log(options.log, options.format, options.channel))
+    if options.junit:
+        output.write_file(options.junit, report.as_junit().encode("utf-8", "surrogateescape"))
+    tool.put(report.as_json() if options.json else report.as_text())
+    return report.status

@@ -1,0 +1,162 @@
+"""Follows the writes of a node's boot beside its concise DCF, and the numbers that are read of it."""
+from ..device import object_name
+from .causes import Spot
+from .sdo import names
+
+HEARTBEAT_TIME = 0x1017, 0
+PDO_OBJECTS = range(0x1400, 0x1C00)
+SHOWN = 4
+
+
+class Boot:
+    """The boot of a node.
+
+    writes    the planned writes in their order
+    place     how many of them are behind, None where that isn't known: the log began later
+    skipped   the places of those that were passed over, each with where that was seen
+    other     the places of those that were written with another value
+    started   where the node was started while writes were left, and none of them came since
+    """
+
+    def __init__(self, judge, node):
+        self.judge, self.node, self.writes = judge, node, node.planned.writes
+        self.place, self.skipped, self.other, self.started = None, {}, set(), None
+        self.keys = {key for key, _ in self.writes}
+
+    # Its beginning and its end.
+
+    def begin(self, time, line):
+        """The node's boot-up message came."""
+        self.finish()
+        self.place, self.skipped, self.other, self.started = 0, {}, set(), None
+
+    def start(self, time, line):
+        """The node was started."""
+        if self.place is not None and self.place < len(self.writes):
+            self.started = self.started or Spot(time, line)
+
+    def finish(self):
+        """The boot is over: what wasn't written is missing."""
+        missing = dict(self.skipped)
+        if self.started:
+            missing.update((place, self.started) for place in range(self.place, len(self.writes)))
+        self.skipped, self.started = {}, None
+        places = sorted(place for place in missing if place not in self.other)
+        while places:
+            run = [places[0]]
+            while len(run) < len(places) and places[len(run)] == run[-1] + 1 and missing[places[len(run)]] == missing[run[0]]:
+                run.append(places[len(run)])
+            self._missing(run, missing[run[0]])
+            places = places[len(run):]
+
+    def _missing(self, run, spot):
+        key = self.writes[run[0]][0]
+        texts = [self._text(*self.writes[place]) for place in run[:SHOWN]]
+        more = f" and {len(run) - SHOWN} more" if len(run) > SHOWN else ""
+        what = "the write" if len(run) == 1 else f"{len(run)} writes"
+        self._tell("sdo-missing", key, f"{what} of {', '.join(texts)}{more} {'is' if len(run) == 1 else 'are'} missing in its boot", spot)
+
+    def _tell(self, code, key, text, spot, notes=()):
+        self.node.tell(code, [self.node.number, *names(key)], text, spot.time, spot.line, notes)
+
+    def _text(self, key, data):
+        return f"{self.judge.plan.entry(self.node.number, key)} := {shown(data)}"
+
+    # What is written.
+
+    def wrote(self, transfer):
+        """A write was sent, whatever became of it."""
+        write = transfer.key, transfer.data if transfer.is_whole else None
+        spot = Spot(transfer.time, transfer.line)
+        if self.place is None and self.place_of(write, 0) is not None:
+            self.place = self.place_of(write, 0) + 1
+        elif self.place is None or not self._in_order(write, spot):
+            self._out_of_boot(write, spot)
+        else:
+            self.started = None
+
+    def place_of(self, write, start):
+        """The place of a planned write, from a place on."""
+        for place in range(start, len(self.writes)):
+            if is_same(self.writes[place], write):
+                return place
+        return None
+
+    def _in_order(self, write, spot):
+        """Whether a write is one of the boot, which then goes on behind it."""
+        place = self.place
+        if place < len(self.writes) and is_same(self.writes[place], write):
+            self.place += 1
+        elif place < len(self.writes) and self.writes[place][0] == write[0] and not self._comes_next(write):
+            self._other_value(place, write, spot)
+            self.place += 1
+        elif self.place_of(write, place) is not None:
+            self.place = self.place_of(write, place) + 1
+            self.skipped.update((each, spot) for each in range(place, self.place - 1))
+        else:
+            return self._passed_over(write, spot)
+        return True
+
+    def _comes_next(self, write):
+        """Whether a write is the one behind the next."""
+        return self.place + 1 < len(self.writes) and is_same(self.writes[self.place + 1], write)
+
+    def _passed_over(self, write, spot):
+        """Whether a write is one that was passed over, or one that was there."""
+        for place in self.skipped:
+            if is_same(self.writes[place], write):
+                before = self.skipped.pop(place)
+                self._tell("sdo-order", write[0], f"{self._text(*write)} comes late: it is planned before what line {before.line} writes", spot)
+                return True
+        return any(is_same(each, write) for each in self.writes[:self.place])
+
+    def _other_value(self, place, write, spot):
+        self.other.add(place)
+        key, data = self.writes[place]
+        where = self.judge.plan.write_place(self.node.number, key)
+        self._tell("sdo-value", key, f"{self._text(*write)}, and {shown(data)} is planned", spot, [(where, "planned here")] if where else [])
+
+    def _out_of_boot(self, write, spot):
+        """A write that isn't the next one of a boot."""
+        planned = [place for place, each in enumerate(self.writes) if each[0] == write[0]]
+        if any(is_same(self.writes[place], write) for place in planned):
+            return
+        if planned:
+            self._other_value(planned[-1], write, spot)
+        else:
+            self._tell("sdo-unplanned", write[0], f"{self._text(*write)} isn't planned", spot)
+
+    def confirmed(self, transfer):
+        """A write was confirmed: the node goes by it."""
+        if transfer.key == HEARTBEAT_TIME and len(transfer.data) == 2:
+            period = 1000 * int.from_bytes(transfer.data, "little")
+            self.node.heartbeat.set_period(period if period == self.node.planned.heartbeat else 0)
+            self.node.heartbeat.anchor(transfer.time, transfer.line)
+        elif transfer.key[0] in PDO_OBJECTS:
+            self.node.rest_pdo(transfer.key[0])
+
+    def was_read(self, transfer, line):
+        """A number was read of the node."""
+        expected = self.node.planned.identity.get(transfer.key)
+        if not expected:
+            return
+        number = int.from_bytes(transfer.data, "little")
+        if number != expected:
+            entry = self.judge.plan.entry(self.node.number, transfer.key)
+            self._tell("identity", transfer.key, f"{entry} is {number:08X}h, and {expected:08X}h is planned", Spot(transfer.time, line),
+                       [(transfer.line, "the request")])
+
+
+def is_same(planned, write):
+    """Whether a write is a planned one; one of which the bytes aren't known is the one of its entry."""
+    return planned[0] == write[0] and (write[1] is None or planned[1] == write[1])
+
+
+def shown(data):
+    """Bytes of a value: a number where they are few."""
+    if data is None:
+        return "(a block)"
+    if 1 <= len(data) <= 8:
+        return f"{int.from_bytes(data, 'little'):0{2 * len(data)}X}h"
+    text = data[:24].hex(" ").upper() + (" .." if len(data) > 24 else "")
+    return text or "nothing"

@@ -1,0 +1,98 @@
+"""What a log shows that isn't as planned: each cause once, with how often it was there, first and last."""
+from collections import namedtuple
+
+from .aligned import Alignment
+
+MOST = 10_000
+MOST_WAITING = 1_000
+
+# Where in a log something is: its microsecond and its line.
+Spot = namedtuple("Spot", "time line")
+
+
+class Cause:
+    """A cause.
+
+    code     what kind of thing is wrong
+    subject  the words that say which it is
+    about    the part of the project that it is about, as `("node", 5)`
+    who      that part in words
+    text     what is wrong, as it was the first time
+    first    where it was first; `last` where last; `count` how often
+    notes    further lines of the log, each with words
+    """
+
+    def __init__(self, code, subject, about, who, text, spot, notes):
+        self.code, self.subject, self.about, self.who, self.text = code, subject, about, who, text
+        self.first = self.last = spot
+        self.count, self.notes = 1, notes
+
+    @property
+    def key(self):
+        return (self.code, *self.subject)
+
+
+class Causes:
+    """The causes of a log.
+
+    planned    the times of the causes that the planned run itself has, by key: what it has isn't told
+    tolerance  how far times may be off
+    """
+
+    def __init__(self, plan, planned, tolerance):
+        self.plan, self.planned, self.tolerance = plan, planned, tolerance
+        self.alignment = Alignment(plan.landmarks, tolerance)
+        self.found, self.waiting, self.too_many = {}, [], 0
+
+    def tell(self, code, subject, about, text, time, line, notes=()):
+        """Something isn't as planned."""
+        cause = Cause(code, tuple(map(str, subject)), about, self.plan.who(about), text, Spot(time, line), tuple(notes))
+        if cause.key not in self.planned:
+            self._add(cause)
+        elif self.alignment.is_known():
+            self._judge(cause)
+        elif len(self.waiting) < MOST_WAITING:
+            self.waiting.append(cause)
+
+    def _judge(self, cause):
+        if not self.alignment.has(self.planned[cause.key], cause.first.time):
+            self._add(cause)
+
+    def _add(self, cause):
+        known = self.found.get(cause.key)
+        if known:
+            known.count, known.last = known.count + 1, max(known.last, cause.first)
+            if cause.first < known.first:
+                known.first, known.text, known.notes = cause.first, cause.text, cause.notes
+        elif len(self.found) < MOST:
+            self.found[cause.key] = cause
+        else:
+            self.too_many += 1
+
+    def landmark(self, key, data, time, since):
+        """A boot-up message or a command, by which the log lies on the planned run; `since` is when a node was heard first."""
+        if self.alignment.take(key, data, time, since):
+            waiting, self.waiting = self.waiting, []
+            for cause in waiting:
+                self._judge(cause)
+
+    def all(self):
+        """All causes by their lines."""
+        for cause in self.waiting if self.alignment.is_lost() else ():
+            self._add(cause)
+        self.waiting = []
+        return sorted(self.found.values(), key=lambda cause: (cause.first.line, cause.key))
+
+
+class Times:
+    """Stands for the causes where the planned run itself is judged: `of` has the times of each, by key."""
+
+    def __init__(self):
+        self.of = {}
+
+    def tell(self, code, subject, about, text, time, line, notes=()):
+        """Something isn't as the rules have it."""
+        self.of.setdefault((code, *map(str, subject)), []).append(time)
+
+    def landmark(self, key, data, time, since):
+        """The planned run lies on itself."""

@@ -1,0 +1,104 @@
+"""Follows the heartbeats of a node: whether they are in time for 1017h and for those who watch it, and which state they tell."""
+from .. import meaning
+from ..boots import BOOT_UP
+from ..logs.rows import key_of
+from .plan import milliseconds
+
+NEVER = 1 << 62
+STATE_BYTES = {4: "04", 5: "05", 127: "7F"}
+
+
+def state_name(state):
+    return meaning.STATES.get(state, f"state {state}")
+
+
+class Heartbeat:
+    """The heartbeats of a node.
+
+    period    the microseconds from one to the next, 0 for none, None where it isn't known
+    last      the time of the last one, or of what it counts from, None before; `line` its line
+    expected  the digits of the state that it has to tell, "" where that isn't known
+    """
+
+    def __init__(self, judge, node, period):
+        self.judge, self.node, self.key = judge, node, key_of(BOOT_UP + node.number)
+        self.last, self.line, self.expected, self.high = None, 0, "", NEVER
+        self.watched = judge.plan.consumers.get(node.number, [])
+        self.set_period(period)
+
+    def set_period(self, period):
+        """Takes the period by which they come from now on."""
+        self.period = period
+        self.high = period + self.judge.tolerance.of(period) if period else NEVER
+
+    def tolerate(self):
+        """Works out what is allowed."""
+        self.set_period(self.period)
+
+    def anchor(self, time, line):
+        """The period begins anew."""
+        self.last, self.line = time, line
+
+    def take(self, time, data, number):
+        """A heartbeat or a boot-up message came."""
+        if data == self.expected and self.last is not None and time - self.last <= self.high:
+            self.last, self.line = time, number
+        else:
+            self._look(time, data, number)
+
+    def _look(self, time, data, number):
+        if data == "00":
+            self.node.boot_up(time, number)
+            return
+        if self.last is not None and time - self.last > self.high:
+            self._late(time, number)
+        self.last, self.line = time, number
+        self.node.hear(time, number)
+        if len(data) == 2:
+            self.node.tells_state(int(data, 16), time, number)
+        else:
+            self.node.tell("state", [self.node.number], f"its heartbeat has {len(data) // 2} bytes", time, number)
+
+    def _late(self, time, number):
+        """One that is late: because the bus was busy, or because it is."""
+        due = self.last + self.high
+        since = self.judge.bus.waited_since(number, self.last + self.period)
+        if since is not None and since <= due or self.node.was_silent(self, time, number):
+            return
+        self._tell(time - self.last, time, number)
+
+    def _tell(self, gap, time, number, is_over=False):
+        """Tells of a heartbeat that is so long in coming, and who misses it."""
+        missing = [each for each in self.watched if gap > each[0] + self.judge.tolerance.of(each[0])]
+        came = f"none came for {milliseconds(gap)}, to the end" if is_over else f"it comes {milliseconds(gap)} after the last one"
+        text = f"{came}; 1017h has {milliseconds(self.period)}"
+        if missing:
+            names = " and ".join(self.judge.plan.name(node) for _, node in missing[:3])
+            text += f", and {names} misse{'s' if len(missing) == 1 else ''} it after {milliseconds(missing[0][0])}".replace("misse ", "miss ")
+            code = "heartbeat-missed"
+        else:
+            code = "heartbeat-late"
+            if self.watched:
+                limit, node = self.watched[0]
+                text += f"; {self.judge.plan.name(node)} misses it after {milliseconds(limit)}: {milliseconds(limit - gap)} were left"
+        self.node.tell(code, [self.node.number], text, time, number, [(self.line, "the last one before")])
+
+    def is_overdue(self, time):
+        """Whether one should have come by now."""
+        return self.last is not None and time - self.last > self.high
+
+    def is_judged(self):
+        """Whether it says when it is to come."""
+        return self.last is not None and self.high < NEVER
+
+    def forget(self):
+        """What comes next is the first one."""
+        self.last = None
+
+    def finish(self, end):
+        """The log is over."""
+        if self.is_overdue(end):
+            since = self.judge.bus.waits_since(self.key, self.last + self.period)
+            if since > self.last + self.high:
+                gap = end - self.last
+                self._tell(gap, self.last + self.high, self.line, is_over=True)

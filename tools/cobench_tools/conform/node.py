@@ -1,0 +1,179 @@
+"""Follows a node: its boots, its state, and whether it is there at all."""
+from ..boots import BOOT_UP
+from ..logs.rows import key_of
+from ..wiring import TPDO, pdo_of
+from .boot import Boot
+from .causes import Spot
+from .heartbeat import STATE_BYTES, Heartbeat, state_name
+from .plan import milliseconds
+from .sdo import Talk
+
+OPERATIONAL, STOPPED, PRE_OPERATIONAL = 5, 4, 127
+BY_SERVICE = {1: OPERATIONAL, 2: STOPPED, 128: PRE_OPERATIONAL}
+RESETS = 129, 130
+LEAST_SILENT = 2
+
+
+class Node:
+    """A planned node as it was recorded.
+
+    state      what it was told to be in, None where that isn't known; `since` is when it was told
+    is_sure    whether a command or a boot-up message told it
+    heard      the time and line at which something else than its cyclic frames was heard last, None for nothing so far
+    streams    its heartbeat and its TPDOs, each with when it came last
+    """
+
+    def __init__(self, judge, planned):
+        self.judge, self.planned, self.number = judge, planned, planned.number
+        self.about = "node", self.number
+        self.state, self.since, self.is_sure = None, None, False
+        self.heard, self.first, self.boots, self.is_reset = None, None, 0, False
+        self.heartbeat = Heartbeat(judge, self, planned.heartbeat)
+        self.streams, self.pdos = [self.heartbeat], {}
+        self.boot = Boot(judge, self)
+        self.talk = Talk(self.boot, self)
+
+    def tell(self, code, subject, text, time, line, notes=(), about=None):
+        """Something of it isn't as planned."""
+        self.judge.causes.tell(code, subject, about or self.about, text, time, line, notes)
+
+    def hear(self, time, line):
+        """It was heard."""
+        if self.first is None:
+            self.first = Spot(time, line)
+            self.judge.hear(time)
+        self.heard = Spot(time, line)
+
+    def add_stream(self, pdo):
+        """A TPDO of it is followed."""
+        self.streams.append(pdo)
+        self.pdos[pdo.tpdo.number] = pdo
+
+    def rest_pdo(self, index):
+        """An object of a PDO was written: what comes next is the first one."""
+        direction, number = pdo_of(index)
+        if direction == TPDO and number in self.pdos:
+            self.pdos[number].forget()
+
+    # States.
+
+    def set_state(self, state, time, is_sure):
+        self.state, self.since, self.is_sure = state, time, is_sure
+        self.heartbeat.expected = STATE_BYTES.get(state, "")
+
+    def boot_up(self, time, line):
+        """Its boot-up message came."""
+        self.judge.landmark(key_of(BOOT_UP + self.number), "00", time)
+        if self.first is not None and not self.is_reset:
+            self._boots_again(time, line)
+        else:
+            self.set_state(PRE_OPERATIONAL, time, True)
+        self.boots += 1
+        self.is_reset = False
+        self.hear(time, line)
+        self.boot.begin(time, line)
+        self.talk.forget()
+        self.heartbeat.set_period(self.planned.at_first)
+        self.heartbeat.anchor(time, line)
+        self._rest()
+
+    def _boots_again(self, time, line):
+        """It boots though nothing reset it."""
+        silent = time - max(self.heard.time, *(stream.last or 0 for stream in self.streams))
+        said = f", {milliseconds(silent)} after it was heard last" if any(each.is_overdue(time) for each in self.streams) else ""
+        self.set_state(None, time, False)
+        self.tell("boots-again", [self.number], f"it boots again, and no command reset it{said}", time, line)
+
+    def command(self, service, time, line):
+        """It was told to be in a state, or to reset."""
+        if service in RESETS:
+            self.is_reset = True
+            self.set_state(None, time, False)
+            self._rest()
+            for stream in self.streams:
+                stream.forget()
+        elif service in BY_SERVICE and self.state != BY_SERVICE[service]:
+            was_known = self.state is not None
+            self.set_state(BY_SERVICE[service], time, True)
+            self._rest()
+            if service == 1:
+                self.boot.start(time, line)
+                self._start(time, line, was_known)
+        elif service == 1:
+            self.boot.start(time, line)
+
+    def _start(self, time, line, was_known):
+        for stream in self.streams[1:] if self.first is not None and was_known else ():
+            stream.start(time, line)
+
+    def _rest(self):
+        """Its TPDOs are counted anew."""
+        for stream in self.streams[1:]:
+            stream.forget()
+
+    def trip(self, time):
+        """An emergency may have changed its state."""
+        self.set_state(None, time, False)
+        self._rest()
+
+    def tells_state(self, state, time, line):
+        """A heartbeat tells its state."""
+        if state == self.state:
+            return
+        waited = self.since is not None and self._may_have_waited(time, line)
+        if self.state is None:
+            if not waited:
+                self.set_state(state, time, False)
+        elif not waited:
+            self.tell("state", [self.number], f"it is {state_name(state)}, and "
+                      f"{'was told to be' if self.is_sure else 'was'} {state_name(self.state)}", time, line)
+
+    def _may_have_waited(self, time, line):
+        """Whether what comes now can have begun to wait before its state changed."""
+        slack = 2 * self.judge.tolerance.jitter
+        if time - self.since <= slack:
+            return True
+        since = self.judge.bus.waited_since(line, self.since)
+        return since is not None and since <= self.since + slack
+
+    def sends(self, pdo, time, line):
+        """A PDO came of it that wasn't counted before."""
+        if self.is_sure and self.state in (STOPPED, PRE_OPERATIONAL) and not self._may_have_waited(time, line):
+            self.tell("state", [self.number], f"it sends {pdo}, and was told to be {state_name(self.state)}", time, line)
+            self.is_sure = False
+
+    # Silence.
+
+    def last_heard(self):
+        """When and in which line it was heard last."""
+        spots = [Spot(stream.last, stream.line) for stream in self.streams if stream.last is not None]
+        return max(spots + ([self.heard] if self.heard else []), default=None)
+
+    def was_silent(self, stream, time, line):
+        """Whether all of its frames stayed away up to now, as this one does; then that is told, and all begins anew."""
+        if not self._is_silent(time, stream):
+            return False
+        last = self.last_heard()
+        self.tell("silent", [self.number], f"nothing of it came for {milliseconds(time - last.time)}", last.time, last.line,
+                  [(line, "here it is heard again")])
+        for each in self.streams:
+            if each is not stream:
+                each.forget()
+        return True
+
+    def _is_silent(self, time, stream=None):
+        judged = [each for each in self.streams if each.is_judged()]
+        if len(judged) < LEAST_SILENT or not all(each.is_overdue(time) for each in judged if each is not stream):
+            return False
+        starts = [each.last for each in judged]
+        return self.heard is None or self.heard.time <= max(starts)
+
+    def finish(self, end):
+        """The log is over."""
+        self.boot.finish()
+        if self._is_silent(end):
+            last = self.last_heard()
+            self.tell("silent", [self.number], f"nothing of it comes any more", last.time, last.line)
+            return
+        for stream in self.streams:
+            stream.finish(end)

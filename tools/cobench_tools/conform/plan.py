@@ -1,0 +1,162 @@
+"""What a script plans for the bus: of each node its boot and its heartbeat, of each TPDO when it comes and with what."""
+from .. import concise, findings, matrix, trace, values
+from ..evidence import Evidence
+from ..logs.rows import key_of
+from ..traffic import plain_bits
+from ..wiring import RPDO, Wiring
+
+UNSIGNED = {0x05: 1, 0x06: 2, 0x07: 4}
+IDENTITY = ((0x1000, 0), (0x1018, 1), (0x1018, 2), (0x1018, 3), (0x1018, 4))
+HEARTBEAT_TIME, WINDOW, COUNTER = (0x1017, 0), (0x1007, 0), (0x1019, 0)
+PDO_OBJECTS = range(0x1400, 0x1C00)
+
+
+class Limit:
+    """What the value of a part of a PDO may be: least and greatest number, and whose limits they are."""
+
+    def __init__(self, part, key, name, low, high):
+        self.part, self.key, self.name, self.low, self.high = part, key, name, low, high
+        self.start, self.mask, self.bits = part.start, (1 << part.bits) - 1, part.bits
+        self.is_signed = part.entry.kind in values.SIGNED
+
+    def number(self, whole):
+        """The number that the part has in the number of a frame."""
+        number = whole >> self.start & self.mask
+        return number - (1 << self.bits) if self.is_signed and number >> self.bits - 1 else number
+
+    def is_broken(self, number):
+        return self.low is not None and number < self.low or self.high is not None and number > self.high
+
+
+class PlannedNode:
+    """What is planned for a node.
+
+    writes     the writes of its boot in their order: entry and bytes each
+    identity   the numbers that have to be read at its boot, by entry
+    heartbeat  the microseconds between two heartbeats, 0 for none; `at_first` those before its boot writes them
+    window     the microseconds behind SYNC within which its PDOs have to come, 0 for none
+    """
+
+    def __init__(self, number, node, lines):
+        self.number, self.node = number, node
+        self.writes = [((index, sub), data) for index, sub, data in concise.writes_of(concise.bytes_of(lines))]
+        self.identity = {key: self._expected(key) for key in IDENTITY}
+        self.heartbeat = 1000 * (node.number_at(*HEARTBEAT_TIME, 0x06) or 0)
+        entry = node.device.entries.get(HEARTBEAT_TIME)
+        at_first = int.from_bytes(values.default_of(entry, number), "little") if entry and entry.kind == 0x06 else 0
+        self.at_first = 1000 * at_first
+        self.window = node.number_at(*WINDOW, 0x07) or 0
+        self.counts_syncs = bool(node.number_at(*COUNTER, 0x05))
+
+    def _expected(self, key):
+        entry = self.node.device.entries.get(key)
+        if not entry or entry.kind not in UNSIGNED:
+            return 0
+        return int.from_bytes(values.default_of(entry, self.number), "little")
+
+
+class Plan:
+    """What a session that was asked `Evidence.QUERIES` plans.
+
+    wiring     its nodes and PDOs
+    nodes      what is planned for each node, by number
+    frames     the frames of the planned run: time, key and bytes, as those of a log
+    landmarks  the times of its boot-up messages and commands, by key and bytes
+    consumers  who misses the heartbeats of each node, and after how many microseconds, the shortest time first
+    """
+
+    def __init__(self, answered):
+        self.answered, self.wiring, self.evidence = answered, Wiring(answered), Evidence(answered)
+        self.project, self.origins = answered.project, self.evidence.origins
+        self.manager, self.sync, heartbeat, _ = self.project.manager
+        self.manager_heartbeat, self.counter = 1000 * heartbeat, self.project.sync_counter
+        self.bit = 1000 // self.project.bitrate
+        self.nodes = {number: PlannedNode(number, node, answered.lines("cdcf", number))
+                      for number, node in self.wiring.nodes.items()}
+        self.lines = trace.trace_of(answered.lines("trace"))
+        self.frames = [(time, key_of(identifier), data.hex().upper()) for time, identifier, data in trace.frames_of(self.lines)]
+        self.landmarks, self.first_sync = {}, None
+        for time, key, data in self.frames:
+            if is_landmark(key, data):
+                self.landmarks.setdefault((key, data), []).append(time)
+            elif key == "080#" and self.first_sync is None:
+                self.first_sync = time
+        self.consumers = {}
+        for watched, consumer, millis in matrix.consumers(self.wiring):
+            self.consumers.setdefault(watched, []).append((1000 * millis, consumer))
+        for each in self.consumers.values():
+            each.sort()
+
+    def duration(self, digits):
+        """The microseconds that a frame with so many hexadecimal digits takes, without stuff bits."""
+        return plain_bits(digits // 2) * self.bit
+
+    def limits(self, tpdo):
+        """The limits that the values of a TPDO have: those of its own entries and of those that take them."""
+        found = []
+        for part in tpdo.parts:
+            if not part.is_dummy():
+                own = [(tpdo.node, part)]
+                taken = [(pdo.node, other) for pdo, other in self.wiring.targets(tpdo, part)
+                         if (other.start, other.bits) == (part.start, part.bits)]
+                found += [self._limit(part, node, each) for node, each in own + taken]
+        return [limit for limit in found if limit.low is not None or limit.high is not None]
+
+    def _limit(self, part, node, other):
+        low, high = values.limits_of(other.entry, node)
+        return Limit(other, part.key, self.evidence.node_name(node), low, high)
+
+    # Names and places.
+
+    def name(self, node):
+        """A node in words, also one that isn't planned."""
+        if node == self.manager:
+            return "manager"
+        return self.evidence.node_name(node) if node in self.project.nodes else f"node {node}"
+
+    def pdo_name(self, tpdo):
+        """A TPDO in words."""
+        message = self.wiring.message_of(tpdo)
+        return f"message {message}" if message else f"TPDO {tpdo.number} of {self.name(tpdo.node)}"
+
+    def about(self, tpdo):
+        """The part of the project that a TPDO is of."""
+        message = self.wiring.message_of(tpdo)
+        return ("message", message) if message else ("node", tpdo.node)
+
+    def who(self, about):
+        """A part of the project in words."""
+        if about[0] == "node":
+            return self.name(about[1])
+        return " ".join(map(str, about))
+
+    def entry(self, node, key):
+        """An entry in words."""
+        if node in self.project.nodes:
+            return self.evidence.entry_name(node, key)
+        return f"{key[0]:04X}h:{key[1]:02X}"
+
+    def taker(self, identifier):
+        """Who takes frames of an identifier though nobody sends them, in words; None for nobody."""
+        taking = [pdo for node in self.wiring.nodes.values() for pdo in node.pdos(RPDO) if pdo.identifier == identifier]
+        return f"RPDO {taking[0].number} of {self.name(taking[0].node)}" if taking else None
+
+    def place(self, about):
+        """FILE:LINE of the command that made a part, None where there is none."""
+        command = self.origins.command(*about)
+        return command.place if command else None
+
+    def write_place(self, node, key):
+        """FILE:LINE of what has an entry written."""
+        if key[0] in PDO_OBJECTS:
+            return self.place(("node", node))
+        return self.evidence.value_place(node, key)
+
+
+def is_landmark(key, data):
+    """Whether a frame is a boot-up message or a command."""
+    return key == "000#" or "701#" <= key <= "77F#" and data == "00"
+
+
+def milliseconds(time):
+    return findings.milliseconds(time)

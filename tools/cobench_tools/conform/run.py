@@ -1,0 +1,51 @@
+"""Judges a log beside the plan of a script."""
+import gc
+
+from ..logs.progress import Progress
+from ..logs.source import Block
+from .bus import WINDOW
+from .causes import Causes, Times
+from .judge import Judge
+
+
+def planned_causes(plan, tolerance, window=None):
+    """The times of what the planned run itself shows, by key: it isn't told of a log that has it too."""
+    times = Times()
+    judge = Judge(plan, tolerance, times, window)
+    if plan.frames:
+        judge.take(Block(plan.frames, range(1, len(plan.frames) + 1)))
+        judge.finish()
+    return times.of
+
+
+def judged(plan, log, tolerance, window=None, most=None, also=()):
+    """The judge of a log that has taken all of it; `also` takes each block too."""
+    judge = Judge(plan, tolerance, Causes(plan, planned_causes(plan, tolerance, window), tolerance), window)
+    tolerance.coarse = 0
+    progress = Progress(log)
+    gc.disable()
+    try:
+        for block in log.blocks():
+            if log.format.resolution > tolerance.coarse + 1:
+                tolerance.coarse = log.format.resolution
+                judge.tolerate()
+            judge.take(block)
+            for each in also:
+                each.take(block)
+            progress.step()
+    finally:
+        gc.enable()
+        progress.end()
+    judge.finish()
+    if most is not None:
+        tell_load(judge, most)
+    return judge
+
+
+def tell_load(judge, most):
+    """Tells of the windows in which the bus was fuller than it may be."""
+    load = judge.bus.load
+    for place, share in enumerate(load.shares(load.bits)):
+        if share > most:
+            judge.causes.tell("load", [], ("bus",), f"{share:.1f} % in {WINDOW // 1000} ms, and {most:g} % is allowed",
+                              load.start + place * WINDOW, 1)

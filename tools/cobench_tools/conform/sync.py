@@ -1,0 +1,160 @@
+"""Follows SYNC: its period and its counter, and the numbers by which synchronous TPDOs are counted."""
+from collections import deque
+
+from .causes import Spot
+from .plan import milliseconds
+
+ABOUT, KEY = ("manager",), "080#"
+KEPT = 2048
+
+
+class Sync:
+    """SYNC as it was recorded.
+
+    index   how many came, those that were missed too
+    era     how often the count was broken, so that TPDOs have to be counted anew
+    last    the time of the last one; `line` its line
+    extra   how many came too soon since the last one that counts
+    recent  the number, time and line of the last ones
+    """
+
+    def __init__(self, judge):
+        self.judge, self.period, self.modulus = judge, judge.plan.sync, judge.plan.counter
+        self.tolerate()
+        self.index = self.era = self.extra = self.line = self.count = 0
+        self.last = self.other = self.counter = None
+        self.shortest = self.longest = None
+        self.recent = deque(maxlen=KEPT)
+
+    def tolerate(self):
+        """Works out what is allowed."""
+        self.allowed = self.judge.tolerance.of(self.period) if self.period else 0
+        self.low, self.high = self.period - self.allowed, self.period + self.allowed
+
+    def take(self, time, data, number):
+        """A SYNC came."""
+        if self.last is None:
+            self._first(time, data, number)
+            return
+        gap = time - self.last
+        if self.low <= gap <= self.high:
+            if gap < self.shortest:
+                self.shortest = gap
+            if gap > self.longest:
+                self.longest = gap
+            self.index += 1
+            if data or self.modulus:
+                self._count(data, 1, time, number)
+        elif not self._deviates(gap, time, data, number):
+            return
+        self.last, self.line, self.extra, self.count = time, number, 0, self.count + 1
+        self.recent.append((self.index, time, number))
+
+    def _first(self, time, data, number):
+        self.last, self.line, self.index, self.count = time, number, 1, 1
+        self.shortest, self.longest = (self.period or 1 << 60), (self.period or 0)
+        self.recent.append((1, time, number))
+        self.counter = int(data, 16) if len(data) == 2 else None
+        self.judge.first_sync(time)
+        if not self.period:
+            self._tell("sync-unplanned", "it isn't planned", time, number)
+        elif bool(self.modulus) != bool(data):
+            self._has_wrong_bytes(data, time, number)
+
+    def _tell(self, code, text, time, line, notes=()):
+        self.judge.causes.tell(code, ["080"], ABOUT, f"SYNC: {text}", time, line, notes)
+
+    def _deviates(self, gap, time, data, number):
+        """A SYNC at another time than the period says; whether it counts."""
+        if not self.period:
+            self._tell("sync-unplanned", "it isn't planned", time, number)
+            self.index += 1
+            return True
+        if gap < self.low:
+            return self._early(gap, time, data, number)
+        self._late(gap, time, data, number)
+        return True
+
+    def _early(self, gap, time, data, number):
+        since = self.judge.bus.waited_since(self.line)
+        waited = since is not None and time - since >= self.low
+        resumed = self.other is not None and abs(time - self.other - self.period) <= self.allowed
+        if waited or resumed:
+            self.other = None
+            self.index += 1
+            self._count(data, 1, time, number)
+            return True
+        if 2 * gap < self.period:
+            self._tell("sync-extra", f"one more comes {milliseconds(gap)} after the last one; the period is {milliseconds(self.period)}",
+                       time, number)
+            self.extra, self.other = self.extra + 1, time
+            return False
+        self._tell("sync-period", f"it comes {milliseconds(self.period - gap)} early, {milliseconds(gap)} after the last one", time, number)
+        self.other, self.index, self.era = self.last + self.period - self.period, self.index + 1, self.era + 1
+        self._count(data, None, time, number)
+        return True
+
+    def _late(self, gap, time, data, number):
+        missed = round(gap / self.period) - 1
+        since = self.judge.bus.waited_since(number, self.last + self.period)
+        if since is not None and since <= self.last + self.high:
+            self.index += 1
+            self._count(data, None, time, number)
+            return
+        resumed = self.other is not None and abs(time - self.other - self.period) <= self.allowed
+        self.index, self.era = self.index + 1 + max(missed, 0), self.era + 1
+        if resumed:
+            self.other = None
+            self._count(data, None, time, number)
+            return
+        if missed > 0 and abs(gap - (missed + 1) * self.period) <= self.judge.tolerance.of((missed + 1) * self.period):
+            what = "one is missing" if missed == 1 else f"{missed:,} are missing"
+            self._tell("sync-missing", f"{what}: it comes {milliseconds(gap)} after the last one; the period is {milliseconds(self.period)}",
+                       time, number)
+            self._count(data, missed + 1, time, number)
+            return
+        self._tell("sync-period", f"it comes {milliseconds(gap - self.period)} late, {milliseconds(gap)} after the last one", time, number)
+        self.other = self.last + self.period
+        self._count(data, None, time, number)
+
+    def _count(self, data, step, time, number):
+        """Judges the counter of a SYNC that comes so many steps after the last one, None where that isn't known."""
+        if len(data) != (2 if self.modulus else 0):
+            self._has_wrong_bytes(data, time, number)
+            return
+        if not self.modulus:
+            return
+        counter, before = int(data, 16), self.counter
+        self.counter = counter
+        if before is None or step is None:
+            return
+        expected = (before - 1 + step) % self.modulus + 1
+        if counter != expected:
+            self._tell("sync-counter", f"its counter is {counter} behind {before}; it counts from 1 to {self.modulus}", time, number)
+            self.counter = expected if counter != before else counter
+
+    def _has_wrong_bytes(self, data, time, number):
+        planned = f"a counter from 1 to {self.modulus}" if self.modulus else "no counter"
+        self._tell("sync-counter", f"it has {len(data) // 2} bytes, and {planned} is planned", time, number)
+        self.counter = None
+
+    def is_overdue(self, time):
+        """Whether one should have come by now."""
+        return self.last is not None and self.period and time > self.last + self.low
+
+    def spot(self, index):
+        """The time and line of the SYNC of a number, as far as they are kept."""
+        for each, time, line in reversed(self.recent):
+            if each <= index:
+                return Spot(time, line)
+        return Spot(self.last, self.line)
+
+    def finish(self, end, line):
+        """The log is over."""
+        if not self.period:
+            return
+        if self.last is None and end - self.judge.begin > 2 * self.period:
+            self._tell("sync-missing", f"there is none; the period is {milliseconds(self.period)}", self.judge.begin, line)
+        elif self.last is not None and end > self.last + self.high + self.allowed + self.period // 2:
+            if self.judge.bus.waits_since(KEY, self.last + self.period) > self.last + self.high:
+                self._tell("sync-missing", f"none comes any more; the period is {milliseconds(self.period)}", self.last, self.line)
