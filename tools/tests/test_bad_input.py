@@ -25,6 +25,7 @@ CALLS = {
     "stats": ("stats", "--script", "SCRIPT", "REPLIES"),
     "timeline": ("timeline", "--script", "SCRIPT", "REPLIES"),
     "candump": ("candump", "REPLIES"),
+    "conform": ("conform", "--cobench", recorded(), "SCRIPT", "LOG"),
     "man": ("man",),
     "completion": ("completion",),
 }
@@ -36,10 +37,12 @@ def good_files():
     """A file for each role."""
     put("x.eds", file(example("digital_io.eds")))
     put("x.dcf", file(example("digital_io.eds")) + b"[DeviceComissioning]\nNodeID=5\nNodeName=pump\nBaudrate=250\n")
-    return {"SCRIPT": example("io_modules.txt"), "REPLIES": example("io_modules.replies.txt"), "EDS": "x.eds", "DCF": "x.dcf"}
+    put("x.log", run("candump", example("io_modules.replies.txt"))[1])
+    return {"SCRIPT": example("io_modules.txt"), "REPLIES": example("io_modules.replies.txt"), "EDS": "x.eds", "DCF": "x.dcf",
+            "LOG": "x.log"}
 
 
-def calls(path, roles=("SCRIPT", "REPLIES", "EDS", "DCF")):
+def calls(path, roles=("SCRIPT", "REPLIES", "EDS", "DCF", "LOG")):
     """Each call of each command in which one file is this one, and the others are good."""
     good = good_files()
     for call in CALLS.values():
@@ -101,7 +104,7 @@ def test_files_of_64_mib_are_told():
     for words in calls("large"):
         is_refused(run(*words), "large")
     put("large", b"x\n" * (SIXTY_FOUR_MIB // 2))
-    for words in calls("large", ("REPLIES", "EDS", "DCF")):
+    for words in calls("large", ("REPLIES", "EDS", "DCF", "LOG")):
         is_refused(run(*words), "large")
     for name in ("check", "refusals"):
         words = ["large" if word == "SCRIPT" else good_files().get(word, word) for word in CALLS[name]]
@@ -121,8 +124,11 @@ def test_cut_files_are_told():
         assert done[0] in (1, 2) and "cut" in done[2] + done[1].decode(), done
         assert done[0] == 1 or not done[1] and len(done[2].splitlines()) == 1
     put("cut", b"")
-    for words in calls("cut", ("REPLIES",)):
+    for words in calls("cut", ("REPLIES", "LOG")):
         assert run(*words)[0] == (1 if words[0] == "refusals" else 2), words
+    put("cut", run("candump", good["REPLIES"])[1][:-4])
+    for words in calls("cut", ("LOG",)):
+        is_refused(run(*words), "cut:204: the last line is cut")
 
 
 def test_arguments_that_are_swapped_are_told():
@@ -131,6 +137,7 @@ def test_arguments_that_are_swapped_are_told():
                         ("explain", ["explain", good["REPLIES"], good["SCRIPT"]]), ("eds", ["eds", "x.eds", "x"]),
                         ("stats", ["stats", "--script", good["REPLIES"], good["SCRIPT"]]),
                         ("timeline", ["timeline", "--script", good["REPLIES"], good["SCRIPT"]]),
+                        ("conform", ["conform", "--cobench", recorded(), good["LOG"], good["SCRIPT"]]),
                         ("export", ["export", "--cobench", recorded(), good["SCRIPT"], "files"])):
         is_refused(run(*words))
     assert not os.path.exists("files")
@@ -147,7 +154,8 @@ def test_lines_that_end_by_cr_lf_are_those_that_end_by_lf():
     put("io_modules.txt", with_cr(example("io_modules.txt")))
     put("io_modules.replies.txt", with_cr(example("io_modules.replies.txt")))
     put("x.dcf", with_cr("x.dcf"))
-    there = {"SCRIPT": "io_modules.txt", "REPLIES": "io_modules.replies.txt", "EDS": "digital_io.eds", "DCF": "x.dcf"}
+    put("x.log", with_cr("x.log"))
+    there = {"SCRIPT": "io_modules.txt", "REPLIES": "io_modules.replies.txt", "EDS": "digital_io.eds", "DCF": "x.dcf", "LOG": "x.log"}
     for name, call in CALLS.items():
         status, output, faults = run(*[there.get(word, word) for word in call])
         assert status == before[name][0] and not faults, (name, faults)

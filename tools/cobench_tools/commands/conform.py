@@ -52,6 +52,8 @@ def arguments(parser):
     parser.add_argument("--window", metavar="US", type=int,
                         help="the microseconds behind SYNC within which its PDOs have to come; 1007h of each node without it")
     parser.add_argument("--load", metavar="PERCENT", type=float, help="how full the bus may be in 100 ms")
+    parser.add_argument("--values", action="store_true",
+                        help="the values of PDOs have to be those of the planned run too, as long as it goes")
     parser.add_argument("--json", action="store_true", help="print the findings as JSON, the accepted ones too")
     parser.add_argument("--junit", metavar="FILE", help="write them as JUnit XML too")
     acceptance.add_arguments(parser)
@@ -83,7 +85,7 @@ def report_of(options, log):
     tolerance = tolerances.Tolerance(options.jitter, options.clock)
     log.slack = tolerance.jitter
     plan = Plan(session.run(options.script, options.cobench, Evidence.QUERIES, lambda commands: planning(commands, options.trace)))
-    judge = judged(plan, log, tolerance, options.window or None, options.load)
+    judge = judged(plan, log, tolerance, options.window or None, options.load, options.values)
     own = sum(each.severity == findings.ERROR for each in findings.of(plan.answered))
     report = ConformReport(plan, judge, log, own)
     acceptance.judge(report.findings, options)

@@ -66,8 +66,12 @@ class Boot:
 
     def wrote(self, transfer):
         """A write was sent, whatever became of it."""
+        if self.node.first is None:
+            return
+        if transfer.key == HEARTBEAT_TIME:
+            self.node.heartbeat.set_period(0)
         write = transfer.key, transfer.data if transfer.is_whole else None
-        spot = Spot(transfer.time, transfer.line)
+        spot, self.transfer = Spot(transfer.time, transfer.line), transfer
         if self.place is None and self.place_of(write, 0) is not None:
             self.place = self.place_of(write, 0) + 1
         elif self.place is None or not self._in_order(write, spot):
@@ -87,32 +91,41 @@ class Boot:
         place = self.place
         if place < len(self.writes) and is_same(self.writes[place], write):
             self.place += 1
+        elif self._was_skipped(write, spot):
+            return True
         elif place < len(self.writes) and self.writes[place][0] == write[0] and not self._comes_next(write):
             self._other_value(place, write, spot)
             self.place += 1
         elif self.place_of(write, place) is not None:
             self.place = self.place_of(write, place) + 1
-            self.skipped.update((each, spot) for each in range(place, self.place - 1))
+            self._skip(range(place, self.place - 1), spot)
         else:
-            return self._passed_over(write, spot)
+            return any(is_same(each, write) for each in self.writes[:place])
         return True
+
+    def _skip(self, places, spot):
+        """Writes are passed over; without that of its period the heartbeat may have any."""
+        self.skipped.update((each, spot) for each in places)
+        if any(self.writes[each][0] == HEARTBEAT_TIME for each in places):
+            self.node.heartbeat.set_period(0)
 
     def _comes_next(self, write):
         """Whether a write is the one behind the next."""
         return self.place + 1 < len(self.writes) and is_same(self.writes[self.place + 1], write)
 
-    def _passed_over(self, write, spot):
-        """Whether a write is one that was passed over, or one that was there."""
+    def _was_skipped(self, write, spot):
+        """Whether a write is one that was passed over: it comes late."""
         for place in self.skipped:
             if is_same(self.writes[place], write):
                 before = self.skipped.pop(place)
                 self._tell("sdo-order", write[0], f"{self._text(*write)} comes late: it is planned before what line {before.line} writes", spot)
                 return True
-        return any(is_same(each, write) for each in self.writes[:self.place])
+        return False
 
     def _other_value(self, place, write, spot):
         self.other.add(place)
         key, data = self.writes[place]
+        spot = Spot(spot.time, self.transfer.line_of(first_other(data, write[1])))
         where = self.judge.plan.write_place(self.node.number, key)
         self._tell("sdo-value", key, f"{self._text(*write)}, and {shown(data)} is planned", spot, [(where, "planned here")] if where else [])
 
@@ -145,6 +158,11 @@ class Boot:
             entry = self.judge.plan.entry(self.node.number, transfer.key)
             self._tell("identity", transfer.key, f"{entry} is {number:08X}h, and {expected:08X}h is planned", Spot(transfer.time, line),
                        [(transfer.line, "the request")])
+
+
+def first_other(one, other):
+    """The place of the first byte that isn't the same."""
+    return next((place for place, (here, there) in enumerate(zip(one, other or b"")) if here != there), min(len(one), len(other or b"")))
 
 
 def is_same(planned, write):

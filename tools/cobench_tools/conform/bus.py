@@ -3,6 +3,13 @@ import bisect
 
 WINDOW = 100_000
 
+# Frames are measured in the first blocks, and in some of the others; stuff bits make them longer by up to a fifth, and
+# by a sixteenth on the average.
+ALL_UP_TO, EACH = 20, 32
+STUFFED, SHARE = 5, 16
+SEEN, BITS = 4, 8
+ALWAYS = -1 << 62
+
 
 class Load:
     """How full the bus was in each window of 100 ms.
@@ -62,40 +69,67 @@ class Bus:
     def __init__(self, plan, tolerance):
         self.plan, self.tolerance, self.blocks, self.load = plan, tolerance, [], Load(plan.bit)
         self.durations = [plan.duration(digits) for digits in range(17)]
+        self.squeeze, self.tight, self.loose, self.count = 0, 0, 0, 0
 
     def take(self, block):
         """The next block."""
         self.blocks = self.blocks[-1:] + [block]
         self.load.add(block.rows)
+        if self.count < ALL_UP_TO or self.count % EACH == 0:
+            self._measure(block.rows)
+        self.count += 1
 
-    def waited_since(self, line, until=None):
+    def _measure(self, rows):
+        """Measures how far times are off: by how much frames come sooner than one can after the other."""
+        before = rows[0][0]
+        for time, _, data in rows:
+            more = time - before - self.durations[len(data)]
+            before = time
+            if more < -self.squeeze:
+                self.squeeze = -more
+            if -1 <= more <= 1:
+                self.tight += 1
+            elif 1 < more * STUFFED < self.durations[len(data)]:
+                self.loose += 1
+
+    def slack(self, elapsed):
+        """How long the bus may seem to be idle though it is busy, in a time: times are off, and frames have stuff bits."""
+        off = min(2 * self.tolerance.jitter, SEEN * self.squeeze + BITS * self.plan.bit + 2 * self.tolerance.coarse)
+        return off + (0 if self.tight > self.loose else elapsed // SHARE)
+
+    def waited_since(self, line, until=None, spare=0):
         """The earliest moment from which on the frame of a line can have waited, as far as the bus was busy.
 
         It waits while frames with a lower identifier go before it, and one with a higher one that had started.
-        Gaps count as busy as long as they are no longer in all than times may be off.
+        Gaps count as busy as long as they are no longer in all than times may be off, and `spare` microseconds more.
         """
         found = self._find(line)
         if found is None:
             return None
         rows, place = found
         time, key, data = rows[place]
-        return self._since(time, key, self.durations[len(data)], self._before(rows, place), until)
+        return self._since(time, key, self.durations[len(data)], self._before(rows, place), until, spare)
 
-    def waits_since(self, key, until):
+    def waits_since(self, key, until, spare=0):
         """The earliest moment from which on a frame with a key can wait that isn't there up to the end of the log."""
         rows = self.blocks[-1].rows
-        return self._since(rows[-1][0], key, 0, self._before(rows, len(rows)), until)
+        return self._since(rows[-1][0], key, 0, self._before(rows, len(rows)), until, spare)
 
-    def _since(self, time, key, busy, before, until):
-        """The earliest moment from which on a frame can have waited that is there at a time, of the frames before it."""
-        since, slack = time - busy, 2 * self.tolerance.jitter
+    def _since(self, time, key, busy, before, until, spare):
+        """The earliest moment from which on a frame can have waited that is there at a time, of the frames before it.
+
+        Where the bus was busy for all that is kept of the log, that is always.
+        """
+        since = time - busy
         for earlier, other, digits in before:
-            if time - earlier > busy + slack or until is not None and since < until:
+            if time - earlier > busy + self.slack(time - earlier) + spare or until is not None and since < until:
                 break
             busy += self.durations[len(digits)]
             since = time - busy
             if other > key:
                 break
+        else:
+            return ALWAYS
         return since
 
     def _find(self, line):

@@ -87,6 +87,8 @@ class Causes:
 class Times:
     """Stands for the causes where the planned run itself is judged: `of` has the times of each, by key."""
 
+    alignment = None
+
     def __init__(self):
         self.of = {}
 

@@ -23,6 +23,7 @@ class Heartbeat:
     def __init__(self, judge, node, period):
         self.judge, self.node, self.key = judge, node, key_of(BOOT_UP + node.number)
         self.last, self.line, self.expected, self.high = None, 0, "", NEVER
+        self.spare = 2 * judge.plan.duration(16)
         self.watched = judge.plan.consumers.get(node.number, [])
         self.set_period(period)
 
@@ -62,7 +63,7 @@ class Heartbeat:
     def _late(self, time, number):
         """One that is late: because the bus was busy, or because it is."""
         due = self.last + self.high
-        since = self.judge.bus.waited_since(number, self.last + self.period)
+        since = self.judge.bus.waited_since(number, self.last + self.period, self.spare)
         if since is not None and since <= due or self.node.was_silent(self, time, number):
             return
         self._tell(time - self.last, time, number)
@@ -98,7 +99,7 @@ class Heartbeat:
     def finish(self, end):
         """The log is over."""
         if self.is_overdue(end):
-            since = self.judge.bus.waits_since(self.key, self.last + self.period)
+            since = self.judge.bus.waits_since(self.key, self.last + self.period, self.spare)
             if since > self.last + self.high:
                 gap = end - self.last
                 self._tell(gap, self.last + self.high, self.line, is_over=True)

@@ -3,6 +3,7 @@ from ..logs.rows import key_of
 from ..wiring import is_restricted
 from . import emergencies
 from .bus import Bus
+from .expected import Expected
 from .heartbeat import Heartbeat
 from .node import Node
 from .pdo import Shared, Unplanned, follower
@@ -57,8 +58,8 @@ class Judge:
     begin, end, last_line  when the log begins and ends, and its last line
     """
 
-    def __init__(self, plan, tolerance, causes, window=None):
-        self.plan, self.tolerance, self.causes, self.window = plan, tolerance, causes, window
+    def __init__(self, plan, tolerance, causes, window=None, is_exact=False):
+        self.plan, self.tolerance, self.causes, self.window, self.is_exact = plan, tolerance, causes, window, is_exact
         self.begin = self.end = None
         self.last_line, self.active_since, self.is_power_on = 0, None, None
         self.bus, self.sync = Bus(plan, tolerance), Sync(self)
@@ -85,6 +86,8 @@ class Judge:
             handlers[key_of(identifier)] = pdos[0].take if len(pdos) == 1 else Shared(pdos).take
             for pdo in pdos if len(pdos) == 1 else ():
                 pdo.node.add_stream(pdo)
+                if self.causes.alignment and self.plan.sent.get(pdo.key):
+                    handlers[pdo.key] = Expected(self, pdo, self.plan.sent[pdo.key], self.is_exact).take
 
     def take(self, block):
         """Takes the frames of a block."""
@@ -126,8 +129,8 @@ class Judge:
 
     def landmark(self, key, data, time):
         """A boot-up message or a command came."""
-        if self.is_power_on is None:
-            self.is_power_on = self.active_since is None and key != "000#"
+        if self.is_power_on is None and key != "000#":
+            self.is_power_on = self.active_since is None
         self.causes.landmark(key, data, time, time if self.active_since is None else self.active_since)
 
     def hear(self, time):
@@ -137,7 +140,7 @@ class Judge:
 
     def first_sync(self, time):
         """The first SYNC came."""
-        if hasattr(self.causes, "alignment"):
+        if self.causes.alignment:
             self.causes.alignment.take_sync(time, self.plan.first_sync)
 
     def _never_boot(self):

@@ -64,8 +64,10 @@ class Node:
     def boot_up(self, time, line):
         """Its boot-up message came."""
         self.judge.landmark(key_of(BOOT_UP + self.number), "00", time)
+        period = self.planned.at_first
         if self.first is not None and not self.is_reset:
             self._boots_again(time, line)
+            period = period if period == self.planned.heartbeat else 0
         else:
             self.set_state(PRE_OPERATIONAL, time, True)
         self.boots += 1
@@ -73,7 +75,7 @@ class Node:
         self.hear(time, line)
         self.boot.begin(time, line)
         self.talk.forget()
-        self.heartbeat.set_period(self.planned.at_first)
+        self.heartbeat.set_period(period)
         self.heartbeat.anchor(time, line)
         self._rest()
 
@@ -165,8 +167,8 @@ class Node:
         judged = [each for each in self.streams if each.is_judged()]
         if len(judged) < LEAST_SILENT or not all(each.is_overdue(time) for each in judged if each is not stream):
             return False
-        starts = [each.last for each in judged]
-        return self.heard is None or self.heard.time <= max(starts)
+        starts = [each.last for each in judged if each.last is not None]
+        return bool(starts) and (self.heard is None or self.heard.time <= max(starts))
 
     def finish(self, end):
         """The log is over."""

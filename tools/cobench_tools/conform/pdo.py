@@ -153,7 +153,7 @@ class SyncPdo(Pdo):
 
     def _carried(self, time, number):
         """Whether it has waited since before this SYNC."""
-        if not self.sync.period:
+        if not self.sync.period or self.sync.last is None:
             return False
         since = self.judge.bus.waited_since(number, self.sync.last - self.sync.period)
         return since is not None and since <= self.sync.last - self.sync.period + 2 * self.judge.tolerance.jitter

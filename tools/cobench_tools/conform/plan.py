@@ -62,6 +62,7 @@ class Plan:
     nodes      what is planned for each node, by number
     frames     the frames of the planned run: time, key and bytes, as those of a log
     landmarks  the times of its boot-up messages and commands, by key and bytes
+    sent       its frames by their keys: time and bytes each
     consumers  who misses the heartbeats of each node, and after how many microseconds, the shortest time first
     """
 
@@ -75,12 +76,13 @@ class Plan:
                       for number, node in self.wiring.nodes.items()}
         self.lines = trace.trace_of(answered.lines("trace"))
         self.frames = [(time, key_of(identifier), data.hex().upper()) for time, identifier, data in trace.frames_of(self.lines)]
-        self.landmarks, self.first_sync = {}, None
+        self.landmarks, self.first_sync, self.sent = {}, None, {}
         for time, key, data in self.frames:
             if is_landmark(key, data):
                 self.landmarks.setdefault((key, data), []).append(time)
             elif key == "080#" and self.first_sync is None:
                 self.first_sync = time
+            self.sent.setdefault(key, []).append((time, data))
         self.consumers = {}
         for watched, consumer, millis in matrix.consumers(self.wiring):
             self.consumers.setdefault(watched, []).append((1000 * millis, consumer))

@@ -18,9 +18,9 @@ def planned_causes(plan, tolerance, window=None):
     return times.of
 
 
-def judged(plan, log, tolerance, window=None, most=None, also=()):
+def judged(plan, log, tolerance, window=None, most=None, is_exact=False, also=()):
     """The judge of a log that has taken all of it; `also` takes each block too."""
-    judge = Judge(plan, tolerance, Causes(plan, planned_causes(plan, tolerance, window), tolerance), window)
+    judge = Judge(plan, tolerance, Causes(plan, planned_causes(plan, tolerance, window), tolerance), window, is_exact)
     tolerance.coarse = 0
     progress = Progress(log)
     gc.disable()
@@ -47,5 +47,5 @@ def tell_load(judge, most):
     load = judge.bus.load
     for place, share in enumerate(load.shares(load.bits)):
         if share > most:
-            judge.causes.tell("load", [], ("bus",), f"{share:.1f} % in {WINDOW // 1000} ms, and {most:g} % is allowed",
+            judge.causes.tell("load", ["bus"], ("bus",), f"{share:.1f} % in {WINDOW // 1000} ms, and {most:g} % is allowed",
                               load.start + place * WINDOW, 1)

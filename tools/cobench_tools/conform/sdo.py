@@ -9,11 +9,16 @@ class Transfer:
     """A transfer: its direction, entry, the bytes so far, and the time and line of its request.
 
     is_whole  whether the bytes are known to be all that were sent
+    segments  where the bytes of each segment end, and its line
     """
 
     def __init__(self, kind, key, time, line):
         self.kind, self.key, self.time, self.line = kind, key, time, line
-        self.data, self.is_whole, self.is_block = b"", True, False
+        self.data, self.is_whole, self.is_block, self.segments = b"", True, False, []
+
+    def line_of(self, place):
+        """The line that has the byte at a place."""
+        return next((line for end, line in self.segments if place < end), self.segments[-1][1] if self.segments else self.line)
 
 
 def expedited(data):
@@ -50,6 +55,7 @@ class Talk:
         elif command == 0 and self.open:
             piece, self.is_last = segment(data)
             self.open.data += piece
+            self.open.segments.append((len(self.open.data), line))
         elif command == 4 and self.open:
             self._abort(data, "the manager", time, line)
         elif command == 6 and not data[0] & 1:

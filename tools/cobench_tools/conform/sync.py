@@ -5,7 +5,7 @@ from .causes import Spot
 from .plan import milliseconds
 
 ABOUT, KEY = ("manager",), "080#"
-KEPT = 2048
+KEPT, LOOKED_AT = 2048, 8
 
 
 class Sync:
@@ -15,13 +15,14 @@ class Sync:
     era     how often the count was broken, so that TPDOs have to be counted anew
     last    the time of the last one; `line` its line
     extra   how many came too soon since the last one that counts
+    broken  the number of the last one at which the count was broken
     recent  the number, time and line of the last ones
     """
 
     def __init__(self, judge):
         self.judge, self.period, self.modulus = judge, judge.plan.sync, judge.plan.counter
         self.tolerate()
-        self.index = self.era = self.extra = self.line = self.count = 0
+        self.index = self.era = self.extra = self.line = self.count = self.broken = 0
         self.last = self.other = self.counter = None
         self.shortest = self.longest = None
         self.recent = deque(maxlen=KEPT)
@@ -76,8 +77,8 @@ class Sync:
         return True
 
     def _early(self, gap, time, data, number):
-        since = self.judge.bus.waited_since(self.line)
-        waited = since is not None and time - since >= self.low
+        repeats = bool(self.modulus) and len(data) == 2 and int(data, 16) == self.counter
+        waited = not repeats and time - self._due_since() >= self.low
         resumed = self.other is not None and abs(time - self.other - self.period) <= self.allowed
         if waited or resumed:
             self.other = None
@@ -90,9 +91,19 @@ class Sync:
             self.extra, self.other = self.extra + 1, time
             return False
         self._tell("sync-period", f"it comes {milliseconds(self.period - gap)} early, {milliseconds(gap)} after the last one", time, number)
-        self.other, self.index, self.era = self.last + self.period - self.period, self.index + 1, self.era + 1
+        self.other, self.index = self.last, self.index + 1
+        self._break()
         self._count(data, None, time, number)
         return True
+
+    def _due_since(self):
+        """Since when the last SYNC was due at the earliest: each of those before it was due some periods before."""
+        bounds = []
+        for index, _, line in list(self.recent)[-LOOKED_AT:]:
+            since = self.judge.bus.waited_since(line) if index > self.broken or index == self.index else None
+            if since is not None:
+                bounds.append(since + (self.index - index) * self.period)
+        return max(bounds, default=self.last)
 
     def _late(self, gap, time, data, number):
         missed = round(gap / self.period) - 1
@@ -102,7 +113,8 @@ class Sync:
             self._count(data, None, time, number)
             return
         resumed = self.other is not None and abs(time - self.other - self.period) <= self.allowed
-        self.index, self.era = self.index + 1 + max(missed, 0), self.era + 1
+        self.index += 1 + max(missed, 0)
+        self._break()
         if resumed:
             self.other = None
             self._count(data, None, time, number)
@@ -116,6 +128,10 @@ class Sync:
         self._tell("sync-period", f"it comes {milliseconds(gap - self.period)} late, {milliseconds(gap)} after the last one", time, number)
         self.other = self.last + self.period
         self._count(data, None, time, number)
+
+    def _break(self):
+        """What was counted before says nothing of what comes."""
+        self.era, self.broken = self.era + 1, self.index - 1
 
     def _count(self, data, step, time, number):
         """Judges the counter of a SYNC that comes so many steps after the last one, None where that isn't known."""
