@@ -1,6 +1,9 @@
 """Says what was recorded on a bus beside what a script plans for it."""
-from .. import acceptance, findings, output, session, tool
+import os
+
+from .. import acceptance, bundle, findings, output, session, tool
 from ..conform import tolerance as tolerances
+from ..conform.overlay import Overlay, Recorded
 from ..conform.plan import Plan
 from ..conform.report import ConformReport
 from ..conform.run import judged
@@ -54,6 +57,8 @@ def arguments(parser):
     parser.add_argument("--load", metavar="PERCENT", type=float, help="how full the bus may be in 100 ms")
     parser.add_argument("--values", action="store_true",
                         help="the values of PDOs have to be those of the planned run too, as long as it goes")
+    parser.add_argument("--timeline", metavar="FILE",
+                        help="draw it as an HTML page: each recorded lane above the planned one, the first million frames")
     parser.add_argument("--json", action="store_true", help="print the findings as JSON, the accepted ones too")
     parser.add_argument("--junit", metavar="FILE", help="write them as JUnit XML too")
     acceptance.add_arguments(parser)
@@ -81,15 +86,28 @@ def planning(commands, wanted):
 
 
 def report_of(options, log):
-    """What is wrong with a log."""
+    """What is wrong with a log, once its timeline is written."""
     tolerance = tolerances.Tolerance(options.jitter, options.clock)
     log.slack = tolerance.jitter
     plan = Plan(session.run(options.script, options.cobench, Evidence.QUERIES, lambda commands: planning(commands, options.trace)))
-    judge = judged(plan, log, tolerance, options.window or None, options.load, options.values)
+    drawn = Recorded(plan) if options.timeline else None
+    judge = judged(plan, log, tolerance, options.window or None, options.load, options.values, [drawn] if drawn else [])
     own = sum(each.severity == findings.ERROR for each in findings.of(plan.answered))
     report = ConformReport(plan, judge, log, own)
     acceptance.judge(report.findings, options)
+    if drawn:
+        draw(options, drawn, report)
     return report.judged()
+
+
+def draw(options, drawn, report):
+    """Writes the timeline, with what wasn't accepted as flags."""
+    alignment = report.judge.causes.alignment
+    zero = alignment.offset if alignment.offset is not None else report.judge.begin
+    found = [(cause, finding.text) for cause, finding in zip(report.causes, report.findings) if not finding.accepted]
+    title = f"{os.path.basename(tool.name_of(options.log))} and {os.path.basename(tool.name_of(options.script))}"
+    page = bundle.timeline_page(Overlay(drawn, report.judge, zero, found).content(title))
+    output.write_file(options.timeline, page.encode("utf-8", "surrogateescape"))
 
 
 def run(options):

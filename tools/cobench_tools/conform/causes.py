@@ -5,6 +5,7 @@ from .aligned import Alignment
 
 MOST = 10_000
 MOST_WAITING = 1_000
+MOST_SPOTS = 200
 
 # Where in a log something is: its microsecond and its line.
 Spot = namedtuple("Spot", "time line")
@@ -20,12 +21,13 @@ class Cause:
     text     what is wrong, as it was the first time
     first    where it was first; `last` where last; `count` how often
     notes    further lines of the log, each with words
+    spots    the first of the places where it was
     """
 
     def __init__(self, code, subject, about, who, text, spot, notes):
         self.code, self.subject, self.about, self.who, self.text = code, subject, about, who, text
         self.first = self.last = spot
-        self.count, self.notes = 1, notes
+        self.count, self.notes, self.spots = 1, notes, [spot]
 
     @property
     def key(self):
@@ -62,6 +64,7 @@ class Causes:
         known = self.found.get(cause.key)
         if known:
             known.count, known.last = known.count + 1, max(known.last, cause.first)
+            known.spots += [cause.first] if len(known.spots) < MOST_SPOTS else []
             if cause.first < known.first:
                 known.first, known.text, known.notes = cause.first, cause.text, cause.notes
         elif len(self.found) < MOST:

@@ -13,6 +13,9 @@ RESTRICTED = [is_restricted(identifier) for identifier in range(0x800)]
 HEARTBEATS, EMERGENCIES, ANSWERS, REQUESTS = 0x700, 0x080, 0x580, 0x600
 ALL_NODES = 0
 
+# Within these microseconds the nodes of a machine are taken to be switched on together.
+POWER_ON = 5_000
+
 
 class Manager:
     """The manager as the follower of its heartbeats sees it."""
@@ -147,8 +150,13 @@ class Judge:
         """Tells of the nodes that never boot though the log begins with power-on."""
         for number, node in self.nodes.items():
             planned = self.plan.landmarks.get((key_of(HEARTBEATS + number), "00"))
-            if planned and self.is_power_on and node.first is None:
+            if planned and self.is_power_on and node.first is None and self._has_begun_before(planned[0]):
                 node.tell("never-boots", [number], "it never boots: nothing of it is there", self.begin, 1)
+
+    def _has_begun_before(self, planned):
+        """Whether the log has begun before a time of the planned run, as far as that is known."""
+        alignment = self.causes.alignment
+        return not alignment or alignment.offset is None or planned + alignment.offset >= self.begin - POWER_ON
 
     # Emergencies.
 

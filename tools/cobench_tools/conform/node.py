@@ -19,6 +19,7 @@ class Node:
 
     state      what it was told to be in, None where that isn't known; `since` is when it was told
     is_sure    whether a command or a boot-up message told it
+    first_state  the time and the digits of its first heartbeat or boot-up message
     heard      the time and line at which something else than its cyclic frames was heard last, None for nothing so far
     streams    its heartbeat and its TPDOs, each with when it came last
     """
@@ -27,7 +28,7 @@ class Node:
         self.judge, self.planned, self.number = judge, planned, planned.number
         self.about = "node", self.number
         self.state, self.since, self.is_sure = None, None, False
-        self.heard, self.first, self.boots, self.is_reset = None, None, 0, False
+        self.heard, self.first, self.first_state, self.is_reset = None, None, None, False
         self.heartbeat = Heartbeat(judge, self, planned.heartbeat)
         self.streams, self.pdos = [self.heartbeat], {}
         self.boot = Boot(judge, self)
@@ -64,13 +65,13 @@ class Node:
     def boot_up(self, time, line):
         """Its boot-up message came."""
         self.judge.landmark(key_of(BOOT_UP + self.number), "00", time)
+        self.first_state = self.first_state or (time, "00")
         period = self.planned.at_first
         if self.first is not None and not self.is_reset:
             self._boots_again(time, line)
             period = period if period == self.planned.heartbeat else 0
         else:
             self.set_state(PRE_OPERATIONAL, time, True)
-        self.boots += 1
         self.is_reset = False
         self.hear(time, line)
         self.boot.begin(time, line)
@@ -120,6 +121,7 @@ class Node:
 
     def tells_state(self, state, time, line):
         """A heartbeat tells its state."""
+        self.first_state = self.first_state or (time, f"{state:02X}")
         if state == self.state:
             return
         waited = self.since is not None and self._may_have_waited(time, line)

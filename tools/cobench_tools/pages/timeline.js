@@ -191,7 +191,7 @@ function nextFrame(view, lane, time, by) {
 
 /** The name of a lane, and the kinds of its rows. */
 function laneLabel(view, lane) {
-  const { lanes, trace } = view, title = lanes.compact ? lane.title.replace(/^node /, "") : lane.title;
+  const { lanes, trace } = view, title = lanes.compact ? lane.title.replace("node ", "") : lane.title;
   const label = element("li", { style: `top: ${lane.top}px; height: ${lane.height}px`, title: `${lane.name} ${lane.title}` },
     element("b", {}, lane.name), element("span", { class: "number" }, title));
   if (lane.trouble) label.prepend(element("i", { class: "alarm", role: "img", "aria-label": several(lane.trouble, "alarm") }, "!"));

@@ -1,8 +1,10 @@
 /* Flags: what the manager notes, emergencies, and events of the scenario. */
 
-const FLAG_COLOURS = { configured: "well", lost: "warning", failed: "wrong", emergency: "wrong", recovered: "well", event: "event" };
+const FLAG_COLOURS = { configured: "well", lost: "warning", failed: "wrong", emergency: "wrong", recovered: "well", event: "event",
+  deviation: "wrong" };
 const FLAG_SAYS = { configured: "noted by the manager", lost: "noted by the manager", failed: "noted by the manager",
-  emergency: "emergency message", recovered: "emergency message", event: "event of the scenario" };
+  emergency: "emergency message", recovered: "emergency message", event: "event of the scenario",
+  deviation: "not as planned" };
 
 /** Draws the flags of a lane that are in view: plain ones first, so that trouble stands above them. */
 function drawFlags(pen, view, lane) {

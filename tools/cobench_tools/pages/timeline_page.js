@@ -2,8 +2,12 @@
 
 function summaryOf(content, trace) {
   const notes = trace.flags.filter(flag => FLAG_SAYS[flag.kind] === "noted by the manager").length;
+  const planned = trace.lanes.some(lane => lane.planned);
+  const frames = trace.kinds.reduce((sum, _, kind) => sum + trace.countOf(kind), 0);
   const seconds = (trace.end / 1e6).toLocaleString("en", { maximumFractionDigits: 6 });
-  return `${several(trace.count, "frame")} and ${several(notes, "note")} in ${seconds} s, ${1000 / content.bit} kbit/s`;
+  const left = content.left ? `, and ${counted(content.left)} more that aren't drawn` : "";
+  const what = planned ? `${several(frames, "recorded frame")}${left}` : `${several(frames, "frame")} and ${several(notes, "note")}`;
+  return `${what} in ${seconds} s, ${1000 / content.bit} kbit/s`;
 }
 
 /** The part of the run that the address asks for: #FROM-TO in microseconds. */

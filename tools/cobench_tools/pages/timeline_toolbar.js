@@ -28,8 +28,8 @@ class Toolbar {
   }
 
   take(trace) {
-    const countOf = kind => trace.lanes.reduce((sum, _, lane) => sum + trace.row(lane, kind).frame.length, 0);
-    const kinds = trace.kinds.map((name, kind) => ({ name, kind, count: countOf(kind) })).filter(each => each.count);
+    const kinds = trace.kinds.map((name, kind) => ({ name, kind, count: trace.countOf(kind), there: trace.countOf(kind, true) }))
+      .filter(each => each.there);
     const states = new Set(trace.lanes.flatMap(lane => lane.states.map(([, state]) => state)));
     const names = trace.content.stateNames.filter((_, state) => states.has(state));
     this.legend.replaceChildren(...kinds.map(each => this.chip(each)), ...names.map(stateChip));

@@ -46,7 +46,8 @@ class Trace {
     this.end = content.end;
     this.bit = content.bit;
     this.kinds = content.kinds;
-    this.lanes = content.lanes.map(([key, name, title]) => ({ key, name, title, flags: [], states: content.states[key] || [] }));
+    this.lanes = content.lanes.map(([key, name, title, planned]) =>
+      ({ key, name, title, planned: Boolean(planned), flags: [], states: content.states[key] || [] }));
     this.laneOf = new Map(this.lanes.map((lane, number) => [lane.key, number]));
     this.sorts = content.sorts.map(([identifier, kind, lane, size, text]) =>
       ({ identifier, kind, lane: this.laneOf.get(lane), size, text, slot: (47 + 8 * size) * content.bit }));
@@ -114,8 +115,15 @@ class Trace {
     this.step = step;
     this.steps = Math.floor(Math.max(this.end, 0) / step) + 1;
     this.counts = this.kinds.map(() => new Uint32Array(this.steps));
-    for (let i = 0; i < this.count; i++)
-      this.counts[this.sorts[this.sort[i]].kind][Math.min(this.steps - 1, Math.floor(this.time[i] / step))]++;
+    for (let i = 0; i < this.count; i++) {
+      const sort = this.sorts[this.sort[i]];
+      if (!this.lanes[sort.lane].planned) this.counts[sort.kind][Math.min(this.steps - 1, Math.floor(this.time[i] / step))]++;
+    }
+  }
+
+  /** How many frames there are of a kind; those of planned lanes beside recorded ones count only where that is wanted. */
+  countOf(kind, planned = false) {
+    return this.lanes.reduce((sum, each, lane) => sum + (planned || !each.planned ? this.row(lane, kind).frame.length : 0), 0);
   }
 
   row(lane, kind) { return this.rows[lane * this.kinds.length + kind]; }
@@ -148,4 +156,4 @@ class Trace {
   }
 }
 
-const isTrouble = flag => flag.kind === "emergency" || flag.kind === "failed";
+const isTrouble = flag => ["emergency", "failed", "deviation"].includes(flag.kind);

@@ -1,0 +1,141 @@
+"""The timeline of a log beside the plan: each recorded lane above the planned one, and what isn't as planned as flags.
+
+It is what picture.py draws, twice: times are those of the planned run, shifted so that the first of all is 0.
+"""
+from .. import meaning, tool
+from ..picture import BY_BYTE, OTHERS, STATES, Drawing, Sorts, event_flag, events_of, moments_of, states_of
+from ..trace import Frame
+from ..wiring import COMMUNICATION, TPDO, pdo_numbers
+
+MOST_FRAMES = 1_000_000
+PLANNED = 1_000     # what the keys of planned lanes have above those of recorded ones
+
+
+class Recorded:
+    """Draws the frames of a log as it is read, up to the first million.
+
+    windows  a span for each block, with times of the log
+    left     how many frames aren't drawn
+    """
+
+    def __init__(self, plan):
+        self.plan, self.network, self.sorts = plan, meaning.Network(plan.project, with_names=True), Sorts()
+        self._take_plan()
+        self.drawing, self.windows, self.count, self.left, self.begin = Drawing(self.network, self.sorts), [], 0, 0, None
+
+    def _take_plan(self):
+        """What PDOs are, as they are planned: a log may begin behind the boots."""
+        for number, node in self.plan.wiring.nodes.items():
+            for tpdo in pdo_numbers(node.device, TPDO):
+                for index in (COMMUNICATION[TPDO] + tpdo, COMMUNICATION[TPDO] + 0x200 + tpdo):
+                    for sub in sorted(sub for at, sub in node.device.entries if at == index):
+                        value = node.number_at(index, sub, node.device.entries[index, sub].kind)
+                        if value is not None:
+                            self.network.write(number, (index, sub), value)
+
+    def take(self, block):
+        """Takes a block of the log."""
+        rows = block.rows[:max(MOST_FRAMES - self.count, 0)]
+        self.left += len(block.rows) - len(rows)
+        self.count += len(rows)
+        if not rows:
+            return
+        if self.begin is None:
+            self.begin = rows[0][0]
+        frames = (Frame(time, int(key[:3], 16), bytes.fromhex(data)) for time, key, data in rows)
+        self.windows.append(self.drawing.window(rows[0][0], frames))
+        self.windows[-1].end = rows[-1][0]
+
+
+class Overlay:
+    """The content of the page of a timeline; see picture.py."""
+
+    def __init__(self, recorded, judge, zero, findings):
+        self.recorded, self.plan, self.judge = recorded, recorded.plan, judge
+        self.findings, self.network = findings, recorded.network
+        planned = meaning.Network(self.plan.project, with_names=True)
+        self.sorts = Sorts()
+        self.drawing = Drawing(planned, self.sorts)
+        self.window = self.drawing.window(0, self.plan.lines)
+        start = recorded.begin - zero
+        self.shift = max(-start, 0)                 # what the times of the planned run are moved by
+        self.offset = zero - self.shift             # what those of the log are moved back by
+        self.end = max(recorded.windows[-1].end - self.offset, self.plan.frames[-1][0] + self.shift if self.plan.frames else 0)
+
+    def moved(self, windows, by):
+        """Windows with all of their times moved."""
+        for window in windows:
+            content = window.content()
+            yield {**content, "at": content["at"] + by, "flags": [[time + by, *rest] for time, *rest in content["flags"]]}
+
+    def nodes(self):
+        """The nodes of both, the manager not among them."""
+        told = self.recorded.drawing.nodes | self.drawing.nodes
+        return sorted((set(self.network.names) | told) - {self.network.manager})
+
+    def lanes(self):
+        """The lanes: each recorded one, and below it the planned one."""
+        lanes = []
+        for node in [self.network.manager] + self.nodes():
+            name, title = self.network.name(node), f"node {node}"
+            lanes.append([node, name, title])
+            if node in self.plan.project.nodes or node == self.plan.manager:
+                lanes.append([PLANNED + node, name, f"planned, {title}", True])
+        others = self.recorded.drawing.others or any(self.lane_of(cause) == OTHERS for cause, _ in self.findings)
+        return lanes + ([[OTHERS, "others", "sender not known"]] if others else [])
+
+    def lane_of(self, cause):
+        """The lane of a cause."""
+        kind, *name = cause.about
+        if kind == "node":
+            return name[0] if name[0] in self.nodes() else OTHERS
+        if kind == "message":
+            return self.plan.project.messages[name[0]].node
+        return OTHERS if kind == "identifiers" else self.network.manager
+
+    def flags(self):
+        """A flag for each place at which a cause was told."""
+        return [[spot.time - self.offset, self.lane_of(cause), "deviation", cause.code, f"{tool.readable(text)}, line {spot.line}"]
+                for cause, text in self.findings for spot in cause.spots]
+
+    def states(self):
+        """The states of recorded and planned lanes."""
+        nodes = self.nodes()
+        moments = [(time - self.offset, node, state) for window in self.recorded.windows for time, node, state in window.changes]
+        found = {node: self.from_first(node, changes) for node, changes in states_of(nodes, moments).items()}
+        planned = states_of(list(self.plan.project.nodes), moments_of(events_of(self.plan.project, self.end), [self.window]))
+        found.update((PLANNED + node, [[time + self.shift if time else 0, state] for time, state in changes])
+                     for node, changes in planned.items())
+        return found
+
+    def from_first(self, node, changes):
+        """A node is off until its boot-up message, and as a heartbeat tells it where that is what comes first."""
+        first = self.first_told(node)
+        if first is None:
+            return changes
+        time, digits = first
+        if digits == "00":
+            return [[0, STATES.index("off")], [time - self.offset, STATES.index("pre-operational")]] + changes[1:]
+        return [[0, STATES.index(BY_BYTE.get(int(digits, 16), "pre-operational"))]] + [each for each in changes[1:] if each[0] > time - self.offset]
+
+    def first_told(self, node):
+        """The first heartbeat or boot-up message of a node: its time and its digits."""
+        follower = self.judge.nodes.get(node)
+        return follower.first_state if follower else None
+
+    def content(self, title):
+        rows = [list(row) for row in self.recorded.sorts.rows]
+        count = len(rows)
+        rows += [[identifier, kind, lane + PLANNED if lane != OTHERS else OTHERS, size, text]
+                 for identifier, kind, lane, size, text in self.sorts.rows]
+        planned = next(self.moved([self.window], self.shift))
+        planned["sort"] = [sort + count for sort in planned["sort"]]
+        planned["flags"] = [[time, lane + PLANNED, *rest] for time, lane, *rest in planned["flags"]]
+        scenario = [event_flag(self.drawing.network, *each) for each in events_of(self.plan.project, self.end)]
+        events = [[time + self.shift, lane + PLANNED, *rest] for time, lane, *rest in scenario]
+        return {
+            "title": tool.readable(title), "script": True, "end": self.end, "bit": self.plan.bit, "kinds": meaning.KINDS,
+            "stateNames": STATES, "lanes": self.lanes(), "states": self.states(), "sorts": rows,
+            "windows": list(self.moved(self.recorded.windows, -self.offset)) + [planned], "events": events + self.flags(),
+            "left": self.recorded.left,
+        }
