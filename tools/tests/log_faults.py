@@ -64,9 +64,8 @@ class Recording:
     def inserted(self, time, *added):
         """The frames with others in the first gap from a time on that has room for them, and the line of the first of these."""
         took = [(47 + 8 * len(data)) * self.plan.bit for _, data in added]
-        for place, before in enumerate(self.frames):
-            start = max(before[0], time)
-            behind = self.frames[place + 1] if place + 1 < len(self.frames) else [start + 2 * sum(took), 0, b""]
+        for place, before in enumerate(self.frames[:-1]):
+            start, behind = max(before[0], time), self.frames[place + 1]
             if behind[0] - (47 + 8 * len(behind[2])) * self.plan.bit >= start + sum(took):
                 fresh = [[start + sum(took[:n + 1]), identifier, bytes(data)] for n, (identifier, data) in enumerate(added)]
                 return self.frames[:place + 1] + fresh + self.frames[place + 1:], place + 2
@@ -76,6 +75,11 @@ class Recording:
         """Whether the bus has room in each 10 ms of a time."""
         windows = range((start - 10_000) // 10_000, (end + 10_000) // 10_000 + 1)
         return max(self.busy.get(window, 0) for window in windows) <= most * 10_000
+
+    def has_gap_before(self, place):
+        """Whether the bus was idle before a frame, so that it can't have waited."""
+        time, _, data = self.frames[place]
+        return place > 0 and time - (47 + 8 * len(data)) * self.plan.bit - self.frames[place - 1][0] > 1_500
 
     def calm(self, places):
         """Those of some places round which the bus has room."""
@@ -184,7 +188,8 @@ def pdo_length(recording):
 
 def pdo_within_inhibit(recording):
     """A PDO comes once more before its inhibit time is over."""
-    places = [place for place in recording.pdos(lambda tpdo: tpdo.kind in (254, 255) and tpdo.inhibit >= 20)]
+    places = [place for place in recording.pdos(lambda tpdo: tpdo.kind in (254, 255) and tpdo.inhibit >= 20)
+              if recording.has_gap_before(place)]
     place = recording.pick(recording.calm(places))
     if place is None:
         return None
@@ -195,6 +200,8 @@ def pdo_within_inhibit(recording):
     frames, line = planted
     later = next((frame for frame in frames[line:] if frame[1] == identifier), None)
     soon = later and later[0] - frames[line - 1][0] < 100 * recording.tpdos[identifier].inhibit
+    if soon and recording.tpdos[identifier].event:
+        return None
     if soon:
         frames.remove(later)
     return frames, "pdo-inhibit", line
@@ -207,7 +214,8 @@ def pdo_event_missed(recording):
         if tpdo.kind in (254, 255) and tpdo.event:
             places = recording.of(identifier)
             pairs += [(middle, behind) for before, middle, behind in zip(places, places[1:], places[2:])
-                      if recording.frames[behind][0] - recording.frames[before][0] > 1500 * tpdo.event]
+                      if recording.frames[behind][0] - recording.frames[before][0] > 1500 * tpdo.event
+                      and not any(before < boot < behind for boot in recording.of(0x700 + tpdo.node) if recording.frames[boot][2] == b"\0")]
     if not pairs:
         return None
     middle, behind = recording.dice.one(pairs)
@@ -426,7 +434,7 @@ def write_inserted(recording):
     fresh = [[time, 0x600 + node, b"\x2b" + key + b"\x05\0\0\0"], [time, 0x580 + node, b"\x60" + key + bytes(4)]]
     took = 222 * recording.plan.bit
     later = [[at + took, identifier, data] for at, identifier, data in frames[place:]]
-    if took > 2 * min(500, recording.plan.sync // 8) and recording.plan.sync:
+    if took > min(900, 2 * (recording.plan.sync // 8 or 500)):
         return None
     fresh[0][0], fresh[1][0] = time + took // 2, time + took
     return frames[:place] + fresh + later, "sdo-unplanned", place + 1
@@ -463,9 +471,10 @@ def boots_twice(recording):
 
 def never_boots(recording):
     """Nothing of a node is there."""
-    if len(recording.plan.nodes) < 2:
+    nodes = [node for node in recording.plan.nodes if recording.of(0x700 + node)]
+    if len(nodes) < 2:
         return None
-    node = recording.dice.one(list(recording.plan.nodes))
+    node = recording.dice.one(nodes)
     own = {0x700 + node, 0x580 + node, 0x80 + node} | {tpdo.identifier for tpdo in recording.plan.wiring.tpdos if tpdo.node == node}
     return recording.filled(lambda place, frame: frame[1] in own), "never-boots", 1
 

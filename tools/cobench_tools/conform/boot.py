@@ -25,10 +25,10 @@ class Boot:
 
     # Its beginning and its end.
 
-    def begin(self, time, line):
-        """The node's boot-up message came."""
+    def begin(self, is_expected):
+        """The node's boot-up message came; where that wasn't expected, the manager may leave it at that."""
         self.finish()
-        self.place, self.skipped, self.other, self.started = 0, {}, set(), None
+        self.place, self.skipped, self.other, self.started = (0 if is_expected else None), {}, set(), None
 
     def start(self, time, line):
         """The node was started."""

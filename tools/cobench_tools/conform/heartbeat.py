@@ -88,6 +88,10 @@ class Heartbeat:
         """Whether one should have come by now."""
         return self.last is not None and time - self.last > self.high
 
+    def latest(self):
+        """Up to when the next one may wait for the bus, at the latest."""
+        return self.last + self.period + max(self.period // 2, self.spare)
+
     def is_judged(self):
         """Whether it says when it is to come."""
         return self.last is not None and self.high < NEVER

@@ -11,6 +11,9 @@ from .sdo import Talk
 OPERATIONAL, STOPPED, PRE_OPERATIONAL = 5, 4, 127
 BY_SERVICE = {1: OPERATIONAL, 2: STOPPED, 128: PRE_OPERATIONAL}
 RESETS = 129, 130
+
+# What 1029h:01 says that a node does at a communication error; 1 is no change.
+BY_ERROR = {0: PRE_OPERATIONAL, 2: STOPPED}
 LEAST_SILENT = 2
 
 
@@ -19,6 +22,7 @@ class Node:
 
     state      what it was told to be in, None where that isn't known; `since` is when it was told
     is_sure    whether a command or a boot-up message told it
+    possible   the states of which it has one after a communication error, None where that isn't known
     first_state  the time and the digits of its first heartbeat or boot-up message
     heard      the time and line at which something else than its cyclic frames was heard last, None for nothing so far
     streams    its heartbeat and its TPDOs, each with when it came last
@@ -27,7 +31,7 @@ class Node:
     def __init__(self, judge, planned):
         self.judge, self.planned, self.number = judge, planned, planned.number
         self.about = "node", self.number
-        self.state, self.since, self.is_sure = None, None, False
+        self.state, self.since, self.is_sure, self.possible = None, None, False, None
         self.heard, self.first, self.first_state, self.is_reset = None, None, None, False
         self.heartbeat = Heartbeat(judge, self, planned.heartbeat)
         self.streams, self.pdos = [self.heartbeat], {}
@@ -59,22 +63,22 @@ class Node:
     # States.
 
     def set_state(self, state, time, is_sure):
-        self.state, self.since, self.is_sure = state, time, is_sure
+        self.state, self.since, self.is_sure, self.possible = state, time, is_sure, None
         self.heartbeat.expected = STATE_BYTES.get(state, "")
 
     def boot_up(self, time, line):
         """Its boot-up message came."""
         self.judge.landmark(key_of(BOOT_UP + self.number), "00", time)
         self.first_state = self.first_state or (time, "00")
-        period = self.planned.at_first
-        if self.first is not None and not self.is_reset:
+        period, is_expected = self.planned.at_first, self.first is None or self.is_reset
+        if is_expected:
+            self.set_state(PRE_OPERATIONAL, time, True)
+        else:
             self._boots_again(time, line)
             period = period if period == self.planned.heartbeat else 0
-        else:
-            self.set_state(PRE_OPERATIONAL, time, True)
         self.is_reset = False
         self.hear(time, line)
-        self.boot.begin(time, line)
+        self.boot.begin(is_expected)
         self.talk.forget()
         self.heartbeat.set_period(period)
         self.heartbeat.anchor(time, line)
@@ -115,8 +119,10 @@ class Node:
             stream.forget()
 
     def trip(self, time):
-        """An emergency may have changed its state."""
+        """A communication error may have changed its state, as 1029h has it."""
+        possible = {self.state, BY_ERROR.get(self.planned.on_error, self.state)}
         self.set_state(None, time, False)
+        self.possible = None if None in possible else possible
         self._rest()
 
     def tells_state(self, state, time, line):
@@ -125,7 +131,10 @@ class Node:
         if state == self.state:
             return
         waited = self.since is not None and self._may_have_waited(time, line)
-        if self.state is None:
+        if self.state is None and self.possible and state not in self.possible:
+            names = " or ".join(map(state_name, sorted(self.possible)))
+            self.tell("state", [self.number], f"it is {state_name(state)}, and by its communication error may be {names}", time, line)
+        elif self.state is None:
             if not waited:
                 self.set_state(state, time, False)
         elif not waited:
@@ -154,7 +163,7 @@ class Node:
         return max(spots + ([self.heard] if self.heard else []), default=None)
 
     def was_silent(self, stream, time, line):
-        """Whether all of its frames stayed away up to now, as this one does; then that is told, and all begins anew."""
+        """Whether others of its frames stayed away as this one did; then that is told, and all begins anew."""
         if not self._is_silent(time, stream):
             return False
         last = self.last_heard()
@@ -166,11 +175,12 @@ class Node:
         return True
 
     def _is_silent(self, time, stream=None):
-        judged = [each for each in self.streams if each.is_judged()]
-        if len(judged) < LEAST_SILENT or not all(each.is_overdue(time) for each in judged if each is not stream):
+        """Whether several of its frames are overdue, and none of them was before it was heard last."""
+        overdue = [each for each in self.streams if each.is_judged() and (each is stream or each.is_overdue(time))]
+        if len(overdue) < LEAST_SILENT:
             return False
-        starts = [each.last for each in judged if each.last is not None]
-        return bool(starts) and (self.heard is None or self.heard.time <= max(starts))
+        last = self.last_heard().time
+        return all(each.latest() >= last for each in overdue)
 
     def finish(self, end):
         """The log is over."""

@@ -82,6 +82,10 @@ class Pdo:
     def start(self, time, line):
         """Its node was started."""
 
+    def latest(self):
+        """Up to when the next one may wait for the bus, at the latest."""
+        return self.last
+
     def is_judged(self):
         """Whether it says when it is to come."""
         return False
@@ -109,7 +113,10 @@ class SyncPdo(Pdo):
     def take(self, time, data, number):
         """A frame of it came."""
         if data != self.data:
-            self.changed(data, time, number)
+            if len(data) == self.digits and not self.limits:
+                self.data = data
+            else:
+                self.changed(data, time, number)
         sync = self.sync
         if self.index is None or sync.index - self.index != self.step:
             self._look(time, number)
@@ -140,7 +147,7 @@ class SyncPdo(Pdo):
             self._extra(passed, before, time, number)
         elif self._carried(time, number):
             self.index = before + passed // self.step * self.step
-        elif not self.node.was_silent(self, time, number):
+        else:
             self._missing(before, passed, time, number)
 
     def _extra(self, passed, before, time, number):
@@ -164,6 +171,11 @@ class SyncPdo(Pdo):
         count = passed // self.step - bool(passed % self.step == 0)
         if self.judge.stands_for(self, first.time, time):
             return
+        self.index = before
+        if self.node.was_silent(self, time, number):
+            self.index = self.sync.index
+            return
+        self.index = self.sync.index
         many = f", {count:,} times one after the other" if count > 1 else ""
         self.tell("pdo-missing", f"it doesn't come after SYNC{many}; its type is {self.step}", first.time, first.line,
                   [(number, "here it comes again")])
@@ -174,6 +186,9 @@ class SyncPdo(Pdo):
 
     def forget(self):
         self.last = self.index = None
+
+    def latest(self):
+        return self.sync.spot(self.index + self.step).time + self.step * self.sync.period // 2
 
     def is_judged(self):
         return self.index is not None and self.sync.last is not None and self.era == self.sync.era
@@ -265,6 +280,9 @@ class EventPdo(Pdo):
         if self.event:
             self.last = time
             self.line = self.started = line
+
+    def latest(self):
+        return self.last + self.period + self.period // 2
 
     def is_judged(self):
         return self.last is not None and self.event > 0

@@ -7,7 +7,7 @@ from ..wiring import RPDO, Wiring
 
 UNSIGNED = {0x05: 1, 0x06: 2, 0x07: 4}
 IDENTITY = ((0x1000, 0), (0x1018, 1), (0x1018, 2), (0x1018, 3), (0x1018, 4))
-HEARTBEAT_TIME, WINDOW, COUNTER = (0x1017, 0), (0x1007, 0), (0x1019, 0)
+HEARTBEAT_TIME, WINDOW, COUNTER, ON_ERROR = (0x1017, 0), (0x1007, 0), (0x1019, 0), (0x1029, 1)
 PDO_OBJECTS = range(0x1400, 0x1C00)
 
 
@@ -34,6 +34,7 @@ class PlannedNode:
     writes     the writes of its boot in their order: entry and bytes each
     identity   the numbers that have to be read at its boot, by entry
     heartbeat  the microseconds between two heartbeats, 0 for none; `at_first` those before its boot writes them
+    on_error   what it does at a communication error, as 1029h:01 has it
     window     the microseconds behind SYNC within which its PDOs have to come, 0 for none
     """
 
@@ -46,6 +47,7 @@ class PlannedNode:
         at_first = int.from_bytes(values.default_of(entry, number), "little") if entry and entry.kind == 0x06 else 0
         self.at_first = 1000 * at_first
         self.window = node.number_at(*WINDOW, 0x07) or 0
+        self.on_error = node.number_at(*ON_ERROR, 0x05) or 0
         self.counts_syncs = bool(node.number_at(*COUNTER, 0x05))
 
     def _expected(self, key):
