@@ -18,6 +18,7 @@ import log_faults
 import networks
 from helper import put, real
 from networks import Dice
+from recording import Recording
 
 from cobench_tools import session, trace
 from cobench_tools.conform import run
@@ -75,7 +76,7 @@ def own_run(number, program):
 
 def why_wrong(kind, plan, frames, dice):
     """Plants a fault: what is wrong with what is told of it, "" for nothing; None where there is no place for it."""
-    recording = log_faults.Recording(plan, frames, dice)
+    recording = Recording(plan, frames, dice)
     planted = log_faults.KINDS[kind](recording)
     if planted is None:
         return None

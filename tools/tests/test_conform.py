@@ -10,6 +10,7 @@ import conform_judge
 import log_faults
 from helper import Skipped, example, is_refused, put, recorded, run
 from networks import Dice
+from own_pace import Machine
 
 from cobench_tools.logs import source, writers
 
@@ -235,6 +236,22 @@ def test_the_load_is_told_by_100_ms():
     assert abs(load["percent"][1] - (10 * 204 + 110 * beats) / 1000) < 0.25, (load, beats)
     found = told(lines, "--load", "2")
     assert len(found) == 1 and "and 2 % is allowed" in found[0] and found[0].endswith("[load]"), found
+
+
+def test_a_machine_of_its_own_pace_conforms():
+    """No time of it is that of the planned run, and no value; and the same machine with a fault is told."""
+    put("net.txt", NETWORK)
+    for seed in range(5):
+        text = Machine(Dice(seed), 8).log()
+        put("run.log", text.encode())
+        done = conform("net.txt", "run.log")
+        is_conforming(done)
+        assert "; set aside: 1 frame with 29-bit identifiers; " in done[1].decode(), done[1]
+        lines = text.splitlines(keepends=True)
+        at = place(lines, " 185#", 300)
+        del lines[at]
+        found = told(lines)
+        assert len(found) == 1 and found[0].startswith(f"run.log:{at}: error: message level: 185h: it doesn't come after SYNC; "), found
 
 
 # Logs.

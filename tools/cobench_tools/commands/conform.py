@@ -30,9 +30,9 @@ Times may be off by the jitter, {tolerances.JITTER} us where --jitter doesn't sa
 eighth of a period), and by {tolerances.CLOCK} ppm of what is measured. A frame isn't late that
 had to wait for the bus.
 
-{acceptance.HELP.replace("those of the line of", "those of its").split("An accepted")[0].split(":")[0]}:
-the code, and what it is of, as 'emcy 5 8130', 'pdo-missing 181', 'sdo-value 5 1017'.
-The first words will do. An accepted finding isn't told, and counts for no status.
+A finding is accepted by the words that say which it is: the code, and what it is
+of, as 'emcy 5 8130', 'pdo-missing 181', 'sdo-value 5 1017'; --json has them. The
+first words will do. An accepted finding isn't told, and counts for no status.
 
 {session.PROGRAM} Status: 0 without errors, 1 with some, 2 where SCRIPT or LOG can't be
 read, or cobench can't be run.
@@ -48,7 +48,7 @@ def arguments(parser):
     parser.add_argument("log", metavar="LOG", help="what was recorded")
     parser.add_argument("--trace", metavar="N", type=int,
                         help="the plan is the network at the Nth `trace` of SCRIPT, 0 for its end; at the last one without it")
-    parser.add_argument("--format", choices=source.NAMES, help="read LOG so, whatever it looks like")
+    parser.add_argument("--format", choices=list(source.NAMES), help="read LOG so, whatever it looks like")
     parser.add_argument("--channel", metavar="NAME", help="take the frames of this channel alone, as can0, or 1 of ASC and TRC")
     parser.add_argument("--jitter", metavar="US", type=int, help="how far each time may be off, in microseconds")
     parser.add_argument("--clock", metavar="PPM", type=int, help="how far clocks may be off, in parts of a million")

@@ -34,8 +34,10 @@ class Alignment:
             self.sync = time - planned
 
     def take(self, key, data, time, since):
-        """Takes a landmark; whether it is the first one."""
+        """Takes a landmark; whether it is the first one that the planned run has too."""
         possible = [time - planned for planned in self.landmarks.get((key, data), ())]
+        if not possible:
+            return False
         if not self.is_taken:
             elapsed = time - since - SLACK
             self.offsets = [offset for offset in possible if time - offset >= elapsed]

@@ -139,12 +139,12 @@ class Boot:
         else:
             self._tell("sdo-unplanned", write[0], f"{self._text(*write)} isn't planned", spot)
 
-    def confirmed(self, transfer):
-        """A write was confirmed: the node goes by it."""
+    def confirmed(self, transfer, time, line):
+        """A write was confirmed: the node goes by it from then on, at the latest."""
         if transfer.key == HEARTBEAT_TIME and len(transfer.data) == 2:
             period = 1000 * int.from_bytes(transfer.data, "little")
             self.node.heartbeat.set_period(period if period == self.node.planned.heartbeat else 0)
-            self.node.heartbeat.anchor(transfer.time, transfer.line)
+            self.node.heartbeat.anchor(time, line)
         elif transfer.key[0] in PDO_OBJECTS:
             self.node.rest_pdo(transfer.key[0])
 

@@ -57,7 +57,7 @@ class Load:
         return 100 * sum(bits) * self.bit / max(self.last - self.start, sum(self.bits) * self.bit, 1)
 
 
-MOST_WINDOWS = 10_000_000
+MOST_WINDOWS = 1_000_000
 
 
 class Bus:

@@ -5,6 +5,7 @@ from ..logs.rows import key_of
 from .plan import milliseconds
 
 NEVER = 1 << 62
+STATE = 0x7F       # above it node guarding has its toggle bit
 STATE_BYTES = {4: "04", 5: "05", 127: "7F"}
 
 
@@ -56,7 +57,7 @@ class Heartbeat:
         self.last, self.line = time, number
         self.node.hear(time, number)
         if len(data) == 2:
-            self.node.tells_state(int(data, 16), time, number)
+            self.node.tells_state(int(data, 16) & STATE, time, number)
         else:
             self.node.tell("state", [self.node.number], f"its heartbeat has {len(data) // 2} bytes", time, number)
 

@@ -92,36 +92,36 @@ class Talk:
         if command == 4:
             self._abort(data, "the node", time, line)
         elif command == 5:
-            self._block(data)
+            self._block(data, time, line)
         elif self.open.kind == WRITE:
             if command == 3 and self.is_last or command == 1 and self.is_last:
-                self._done(line)
+                self._done(time, line)
         else:
-            self._read(command, data, line)
+            self._read(command, data, time, line)
 
-    def _block(self, data):
+    def _block(self, data, time, line):
         """An answer of a block transfer: it goes on until its end is confirmed."""
         if data[0] & 3 == 1:
-            self._done(0)
+            self._done(time, line)
         else:
             self.open.is_block = True
 
-    def _read(self, command, data, line):
+    def _read(self, command, data, time, line):
         if command == 2 and data[0] & 2:
             self.open.data = expedited(data)
-            self._done(line)
+            self._done(time, line)
         elif command == 0:
             piece, is_last = segment(data)
             self.open.data += piece
             if is_last:
-                self._done(line)
+                self._done(time, line)
 
-    def _done(self, line):
+    def _done(self, time, line):
         """The transfer is over, and was confirmed."""
         transfer, self.open = self.open, None
         if transfer.kind == WRITE:
             self.boot.wrote(transfer)
-            self.boot.confirmed(transfer)
+            self.boot.confirmed(transfer, time, line)
         else:
             self.boot.was_read(transfer, line)
 

@@ -106,28 +106,32 @@ class Sync:
         return max(bounds, default=self.last)
 
     def _late(self, gap, time, data, number):
-        missed = round(gap / self.period) - 1
-        since = self.judge.bus.waited_since(number, self.last + self.period)
+        """A SYNC that comes late: it had to wait, others are missing before it, or it is late."""
+        since, step = self.judge.bus.waited_since(number, self.last + self.period), None
         if since is not None and since <= self.last + self.high:
             self.index += 1
-            self._count(data, None, time, number)
-            return
+        else:
+            step = self._after_gap(gap, time, number)
+        self._count(data, step, time, number)
+
+    def _after_gap(self, gap, time, number):
+        """Tells why a SYNC comes late; how many steps its counter has to have gone, None where that isn't known."""
+        missed = max(round(gap / self.period) - 1, 0)
+        periods = (missed + 1) * self.period
         resumed = self.other is not None and abs(time - self.other - self.period) <= self.allowed
-        self.index += 1 + max(missed, 0)
+        self.index += 1 + missed
         self._break()
         if resumed:
             self.other = None
-            self._count(data, None, time, number)
-            return
-        if missed > 0 and abs(gap - (missed + 1) * self.period) <= self.judge.tolerance.of((missed + 1) * self.period):
+            return None
+        if missed and abs(gap - periods) <= self.judge.tolerance.of(periods):
             what = "one is missing" if missed == 1 else f"{missed:,} are missing"
-            self._tell("sync-missing", f"{what}: it comes {milliseconds(gap)} after the last one; the period is {milliseconds(self.period)}",
-                       time, number)
-            self._count(data, missed + 1, time, number)
-            return
+            self._tell("sync-missing", f"{what}: it comes {milliseconds(gap)} after the last one; the period is "
+                       f"{milliseconds(self.period)}", time, number)
+            return missed + 1
         self._tell("sync-period", f"it comes {milliseconds(gap - self.period)} late, {milliseconds(gap)} after the last one", time, number)
         self.other = self.last + self.period
-        self._count(data, None, time, number)
+        return None
 
     def _break(self):
         """What was counted before says nothing of what comes."""

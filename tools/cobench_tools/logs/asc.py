@@ -89,24 +89,30 @@ class Asc:
 
     def rows(self, text, channel):
         """The rows of whole lines, None where they aren't all of one shape."""
-        if self.is_relative or self.base != 16 or self.resolution > 1 or channel is None:
+        mark = MARK.search(text)
+        if self.is_relative or self.base != 16 or self.resolution > 1 or channel is None or not mark:
             return None
         try:
-            rows = self._cut(text.splitlines(), channel)
-        except (ValueError, IndexError, KeyError):
+            rows = self._cut(text.splitlines(), channel, mark.group(1))
+        except (ValueError, IndexError):
             return None
-        return rows if rows is not None and are_rows(rows) else None
+        return rows if rows is not None and are_rows(rows) and not set("".join({data for _, _, data in rows})) - HEX else None
 
-    def _cut(self, lines, channel):
+    def _cut(self, lines, channel, mark):
+        """The rows of lines; the mark stands between the direction and the number of bytes."""
         keys, rows = self._keys, []
         for line in lines:
-            stamp, number, identifier, _, kind, size, *data = line.split()
-            if number != channel or kind != "d" or stamp[-7] != "." or len(data) != int(size):
+            head, found, tail = line.partition(mark)
+            stamp, number, identifier, _ = head.split()
+            data = tail[2:].replace(" ", "")
+            if not found or number != channel or stamp[-7] != "." or len(data) != 2 * int(tail[0]):
                 return None
             if identifier not in keys:
                 keys[identifier] = key_of(int(identifier, 16))
-            rows.append((int(stamp[:-7] + stamp[-6:]), keys[identifier], "".join(data)))
-        return rows if all(data.isalnum() or not data for _, _, data in rows) and not set("".join({d for _, _, d in rows})) - HEX else None
+            rows.append((int(stamp[:-7] + stamp[-6:]), keys[identifier], data))
+        return rows
 
 
+# What stands between the direction of a frame and its bytes.
+MARK = re.compile(r"[RT](x +d +)[0-8](?: [0-9A-F]{2})*\s*\n")
 HEX = set("0123456789ABCDEF")

@@ -14,7 +14,7 @@ from .table import Table
 from .trc import Trc
 
 FORMATS = (Candump, Asc, Trc, Table)
-NAMES = tuple(each.name for each in FORMATS)
+NAMES = {"log": Candump, "asc": Asc, "trc": Trc, "trc21": Trc, "csv": Table}
 BLOCK = 1 << 16
 LONGEST_LINE = 1 << 14
 GZIP = b"\x1f\x8b"
@@ -77,7 +77,7 @@ class Log:
     def _format(self):
         """The format that the user wants, else the one that the first lines have."""
         if self.wanted:
-            return next(each for each in FORMATS if each.name == self.wanted)
+            return NAMES[self.wanted]
         lines = without_mark(self.head).decode("latin-1").split("\n")[:40]
         lines = [line.rstrip("\r") for line in lines]
         for each in FORMATS:
