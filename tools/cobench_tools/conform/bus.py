@@ -97,25 +97,27 @@ class Bus:
         off = min(2 * self.tolerance.jitter, SEEN * self.squeeze + BITS * self.plan.bit + 2 * self.tolerance.coarse)
         return off + (0 if self.tight > self.loose else elapsed // SHARE)
 
-    def waited_since(self, line, until=None, spare=0):
+    def waited_since(self, line, until=None, spare=0, lower=1, key=None):
         """The earliest moment from which on the frame of a line can have waited, as far as the bus was busy.
 
         It waits while frames with a lower identifier go before it, and one with a higher one that had started.
-        Gaps count as busy as long as they are no longer in all than times may be off, and `spare` microseconds more.
+        Gaps count as busy as long as they are no longer in all than times may be off, and `spare` microseconds more;
+        `lower` is how many frames with a higher identifier may stand among those before it. With a key it is told for
+        a frame of that key which may have waited up to this line.
         """
         found = self._find(line)
         if found is None:
             return None
         rows, place = found
-        time, key, data = rows[place]
-        return self._since(time, key, self.durations[len(data)], self._before(rows, place), until, spare)
+        time, own, data = rows[place]
+        return self._since(time, key or own, self.durations[len(data)], self._before(rows, place), until, spare, lower)
 
-    def waits_since(self, key, until, spare=0):
+    def waits_since(self, key, until, spare=0, lower=1):
         """The earliest moment from which on a frame with a key can wait that isn't there up to the end of the log."""
         rows = self.blocks[-1].rows
-        return self._since(rows[-1][0], key, 0, self._before(rows, len(rows)), until, spare)
+        return self._since(rows[-1][0], key, 0, self._before(rows, len(rows)), until, spare, lower)
 
-    def _since(self, time, key, busy, before, until, spare):
+    def _since(self, time, key, busy, before, until, spare, lower):
         """The earliest moment from which on a frame can have waited that is there at a time, of the frames before it.
 
         Where the bus was busy for all that is kept of the log, that is always.
@@ -126,7 +128,8 @@ class Bus:
                 break
             busy += self.durations[len(digits)]
             since = time - busy
-            if other > key:
+            lower -= other > key
+            if not lower:
                 break
         else:
             return ALWAYS

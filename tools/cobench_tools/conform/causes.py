@@ -37,12 +37,13 @@ class Cause:
 class Causes:
     """The causes of a log.
 
-    planned    the times of the causes that the planned run itself has, by key: what it has isn't told
+    planned    the times of the causes that the planned run itself has, by key: what it has isn't told; `waits` those
+               of the frames that have to wait in it
     tolerance  how far times may be off
     """
 
-    def __init__(self, plan, planned, tolerance):
-        self.plan, self.planned, self.tolerance = plan, planned, tolerance
+    def __init__(self, plan, times, tolerance):
+        self.plan, self.planned, self.waits, self.tolerance = plan, times.of, times.waits, tolerance
         self.alignment = Alignment(plan.landmarks, tolerance)
         self.found, self.waiting, self.too_many = {}, [], 0
 
@@ -72,6 +73,14 @@ class Causes:
         else:
             self.too_many += 1
 
+    def add_wait(self, key, time, gap):
+        """A frame of a key had to wait for the bus, so that it came so long after the one before it."""
+
+    def has_wait(self, key, time, gap):
+        """Whether a frame of a key has to wait likewise in the planned run: then it isn't late, though the bus be less full here."""
+        times = [at for at, most in self.waits.get(key, ()) if gap <= most + 2 * self.tolerance.jitter]
+        return bool(times) and self.alignment.has(times, time)
+
     def landmark(self, key, data, time, since):
         """A boot-up message or a command, by which the log lies on the planned run; `since` is when a node was heard first."""
         if self.alignment.take(key, data, time, since):
@@ -88,16 +97,28 @@ class Causes:
 
 
 class Times:
-    """Stands for the causes where the planned run itself is judged: `of` has the times of each, by key."""
+    """Stands for the causes where the planned run itself is judged.
+
+    of     the times of each cause, by key
+    waits  the times and gaps of the frames that have to wait for the bus, by key
+    """
 
     alignment = None
 
     def __init__(self):
-        self.of = {}
+        self.of, self.waits = {}, {}
 
     def tell(self, code, subject, about, text, time, line, notes=()):
         """Something isn't as the rules have it."""
         self.of.setdefault((code, *map(str, subject)), []).append(time)
+
+    def add_wait(self, key, time, gap):
+        """A frame of a key has to wait for the bus, so that it comes so long after the one before it."""
+        self.waits.setdefault(key, []).append((time, gap))
+
+    def has_wait(self, key, time, gap):
+        """Nothing is planned before."""
+        return False
 
     def landmark(self, key, data, time, since):
         """The planned run lies on itself."""

@@ -4,7 +4,8 @@ from ..boots import BOOT_UP
 from ..logs.rows import key_of
 from .plan import milliseconds
 
-NEVER = 1 << 62
+NEVER, LOWER = 1 << 62, 2
+LATE, MISSED = "heartbeat-late", "heartbeat-missed"
 STATE = 0x7F       # above it node guarding has its toggle bit
 STATE_BYTES = {4: "04", 5: "05", 127: "7F"}
 
@@ -64,10 +65,14 @@ class Heartbeat:
     def _late(self, time, number):
         """One that is late: because the bus was busy, or because it is."""
         due = self.last + self.high
-        since = self.judge.bus.waited_since(number, self.last + self.period, self.spare)
-        if since is not None and since <= due or self.node.was_silent(self, time, number):
+        since = self.judge.bus.waited_since(number, self.last + self.period, self.spare, LOWER)
+        gap, waits = time - self.last, self.judge.causes
+        if since is not None and since <= due:
+            waits.add_wait(self.key, time, gap)
             return
-        self._tell(time - self.last, time, number)
+        if waits.has_wait(self.key, time, gap) or self.node.was_silent(self, time, number):
+            return
+        self._tell(gap, time, number)
 
     def _tell(self, gap, time, number, is_over=False):
         """Tells of a heartbeat that is so long in coming, and who misses it."""
@@ -77,9 +82,9 @@ class Heartbeat:
         if missing:
             names = " and ".join(self.judge.plan.name(node) for _, node in missing[:3])
             text += f", and {names} misse{'s' if len(missing) == 1 else ''} it after {milliseconds(missing[0][0])}".replace("misse ", "miss ")
-            code = "heartbeat-missed"
+            code = MISSED
         else:
-            code = "heartbeat-late"
+            code = LATE
             if self.watched:
                 limit, node = self.watched[0]
                 text += f"; {self.judge.plan.name(node)} misses it after {milliseconds(limit)}: {milliseconds(limit - gap)} were left"
@@ -89,9 +94,9 @@ class Heartbeat:
         """Whether one should have come by now."""
         return self.last is not None and time - self.last > self.high
 
-    def latest(self):
-        """Up to when the next one may wait for the bus, at the latest."""
-        return self.last + self.period + max(self.period // 2, self.spare)
+    def due(self):
+        """When the next one has to come."""
+        return self.last + self.period
 
     def is_judged(self):
         """Whether it says when it is to come."""
@@ -104,7 +109,7 @@ class Heartbeat:
     def finish(self, end):
         """The log is over."""
         if self.is_overdue(end):
-            since = self.judge.bus.waits_since(self.key, self.last + self.period, self.spare)
+            since = self.judge.bus.waits_since(self.key, self.last + self.period, self.spare, LOWER)
             if since > self.last + self.high:
                 gap = end - self.last
                 self._tell(gap, self.last + self.high, self.line, is_over=True)

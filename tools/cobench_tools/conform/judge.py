@@ -14,7 +14,7 @@ HEARTBEATS, EMERGENCIES, ANSWERS, REQUESTS = 0x700, 0x080, 0x580, 0x600
 ALL_NODES = 0
 
 # Within these microseconds the nodes of a machine are taken to be switched on together.
-POWER_ON = 5_000
+POWER_ON, SAME = 5_000, 50
 
 
 class Manager:
@@ -152,6 +152,13 @@ class Judge:
             planned = self.plan.landmarks.get((key_of(HEARTBEATS + number), "00"))
             if planned and self.is_power_on and node.first is None and self._has_begun_before(planned[0]):
                 node.tell("never-boots", [number], "it never boots: nothing of it is there", self.begin, 1)
+            elif planned and node.first is not None and node.first_boot is None and self._begins_with_the_run():
+                node.tell("never-boots", [number], "it is heard, and no boot-up message of it is there", *node.first)
+
+    def _begins_with_the_run(self):
+        """Whether the first frame of the log is that of the planned run."""
+        alignment = self.causes.alignment
+        return bool(alignment) and bool(alignment.offsets) and abs(self.begin - alignment.offset - self.plan.frames[0][0]) <= SAME
 
     def _has_begun_before(self, planned):
         """Whether the log has begun before a time of the planned run, as far as that is known."""

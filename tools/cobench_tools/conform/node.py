@@ -23,6 +23,7 @@ class Node:
     state      what it was told to be in, None where that isn't known; `since` is when it was told
     is_sure    whether a command or a boot-up message told it
     possible   the states of which it has one after a communication error, None where that isn't known
+    first_boot   the time and line of its first boot-up message
     first_state  the time and the digits of its first heartbeat or boot-up message
     heard      the time and line at which something else than its cyclic frames was heard last, None for nothing so far
     streams    its heartbeat and its TPDOs, each with when it came last
@@ -33,6 +34,7 @@ class Node:
         self.about = "node", self.number
         self.state, self.since, self.is_sure, self.possible = None, None, False, None
         self.heard, self.first, self.first_state, self.is_reset = None, None, None, False
+        self.first_boot = None
         self.heartbeat = Heartbeat(judge, self, planned.heartbeat)
         self.streams, self.pdos = [self.heartbeat], {}
         self.boot = Boot(judge, self)
@@ -70,6 +72,7 @@ class Node:
         """Its boot-up message came."""
         self.judge.landmark(key_of(BOOT_UP + self.number), "00", time)
         self.first_state = self.first_state or (time, "00")
+        self.first_boot = self.first_boot or Spot(time, line)
         period, is_expected = self.planned.at_first, self.first is None or self.is_reset
         if is_expected:
             self.set_state(PRE_OPERATIONAL, time, True)
@@ -179,8 +182,16 @@ class Node:
         overdue = [each for each in self.streams if each.is_judged() and (each is stream or each.is_overdue(time))]
         if len(overdue) < LEAST_SILENT:
             return False
-        last = self.last_heard().time
-        return all(each.latest() >= last for each in overdue)
+        last = self.last_heard()
+        return all(self._may_wait(each, last) for each in overdue)
+
+    def _may_wait(self, stream, last):
+        """Whether a frame was due when the node was heard last, or was waiting for the bus then."""
+        due = stream.due() + 2 * self.judge.tolerance.jitter
+        if due >= last.time:
+            return True
+        since = self.judge.bus.waited_since(last.line, due, key=stream.key)
+        return since is not None and since <= due
 
     def finish(self, end):
         """The log is over."""

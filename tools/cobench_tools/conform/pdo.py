@@ -82,8 +82,8 @@ class Pdo:
     def start(self, time, line):
         """Its node was started."""
 
-    def latest(self):
-        """Up to when the next one may wait for the bus, at the latest."""
+    def due(self):
+        """When the next one has to come."""
         return self.last
 
     def is_judged(self):
@@ -147,7 +147,8 @@ class SyncPdo(Pdo):
             self._extra(passed, before, time, number)
         elif self._carried(time, number):
             self.index = before + passed // self.step * self.step
-        else:
+            self.judge.causes.add_wait(self.key, time, passed)
+        elif not self.judge.causes.has_wait(self.key, time, passed):
             self._missing(before, passed, time, number)
 
     def _extra(self, passed, before, time, number):
@@ -187,8 +188,8 @@ class SyncPdo(Pdo):
     def forget(self):
         self.last = self.index = None
 
-    def latest(self):
-        return self.sync.spot(self.index + self.step).time + self.step * self.sync.period // 2
+    def due(self):
+        return self.sync.spot(self.index + self.step).time
 
     def is_judged(self):
         return self.index is not None and self.sync.last is not None and self.era == self.sync.era
@@ -265,12 +266,17 @@ class EventPdo(Pdo):
         gap = time - self.last
         if gap < self.low:
             since = None if self.line == self.started else self.judge.bus.waited_since(self.line)
-            if self.line != self.started and (since is None or time - since < self.low):
+            if since is not None and time - since >= self.low:
+                self.judge.causes.add_wait(self.key, time, -gap)
+            elif self.line != self.started and not self.judge.causes.has_wait(self.key, time, -gap):
                 self.tell("pdo-inhibit", f"it comes {milliseconds(gap)} after the last one, and its inhibit time is "
                           f"{milliseconds(self.inhibit)}", time, number, [(self.line, "the one before")])
             return
         since = self.judge.bus.waited_since(number, self.last + self.period)
-        if since is not None and since <= self.last + self.high or self.node.was_silent(self, time, number):
+        if since is not None and since <= self.last + self.high:
+            self.judge.causes.add_wait(self.key, time, gap)
+            return
+        if self.judge.causes.has_wait(self.key, time, gap) or self.node.was_silent(self, time, number):
             return
         if not self.judge.stands_for(self, self.last + self.period, time):
             self.tell("pdo-event", f"it comes {milliseconds(gap)} after the last one, and its event time is {milliseconds(self.period)}",
@@ -281,8 +287,8 @@ class EventPdo(Pdo):
             self.last = time
             self.line = self.started = line
 
-    def latest(self):
-        return self.last + self.period + self.period // 2
+    def due(self):
+        return self.last + self.period
 
     def is_judged(self):
         return self.last is not None and self.event > 0

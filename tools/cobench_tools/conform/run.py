@@ -9,13 +9,13 @@ from .judge import Judge
 
 
 def planned_causes(plan, tolerance, window=None):
-    """The times of what the planned run itself shows, by key: it isn't told of a log that has it too."""
+    """What the planned run itself shows: it isn't told of a log that has it too."""
     times = Times()
     judge = Judge(plan, tolerance, times, window)
     if plan.frames:
         judge.take(Block(plan.frames, range(1, len(plan.frames) + 1)))
         judge.finish()
-    return times.of
+    return times
 
 
 def judged(plan, log, tolerance, window=None, most=None, is_exact=False, also=()):
