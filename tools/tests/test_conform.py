@@ -144,9 +144,44 @@ def test_a_heartbeat_that_stays_away_is_told_with_who_misses_it():
     found = told(lines)
     assert len(found) == 1 and found[0].startswith(f"run.log:{beats[3]}: error: node 5 pump: it comes 80.0"), found
     assert "1017h has 40.000 ms; node 6 valve misses it after 120.000 ms: 40.0" in found[0] and found[0].endswith("[heartbeat-late]")
-    del lines[beats[3] - 1]
+    del lines[beats[4] - 1], lines[beats[3] - 1]
     found = told(lines)
-    assert len(found) == 1 and "node 6 valve misses it after 120.000 ms" not in found[0] or "heartbeat-late" in found[0], found
+    assert len(found) == 1 and found[0].startswith(f"run.log:{beats[5] - 2}: error: node 5 pump: it comes 160.0"), found
+    assert "1017h has 40.000 ms, and node 6 valve misses it after 120.000 ms (at " in found[0] and found[0].endswith("[heartbeat-missed]")
+
+
+def test_the_window_of_a_node_is_judged():
+    """1007h of node 5 is 2,000 us. A PDO that comes 4 ms behind its SYNC is told; one that comes 2.5 ms behind isn't, by 500 us of jitter."""
+    put("net.txt", NETWORK.replace(b"eds unit 24\n", b"eds unit 26\n[1007]\nDataType=7\n") + b"param 5 1007 0 2000\n")
+    frames = conform_judge.plan_of("net.txt", recorded())[1]
+    for late, count in ((2_500, 0), (4_000, 1)):
+        lines, at = later_pdo(frames, late)
+        found = told(lines)
+        assert len(found) == count, found
+    assert found[0].startswith(f"run.log:{at}: error: message level: 185h: it comes 4.000 ms after SYNC, and the window is 2.000 ms (at "), found
+
+
+def later_pdo(frames, late):
+    """The lines of a run in which the fifth PDO comes so many microseconds behind its SYNC, and its line."""
+    pdo = [place for place, (_, identifier, _) in enumerate(frames) if identifier == 0x185][4]
+    sync = max(place for place in range(pdo) if frames[place][1] == 0x80)
+    moved = (frames[sync][0] + late, *frames[pdo][1:])
+    frames = sorted(frames[:pdo] + [moved] + frames[pdo + 1:], key=lambda frame: frame[0])
+    return writers.log_of(frames, "log", 1).splitlines(keepends=True), frames.index(moved) + 1
+
+
+def test_sync_is_judged():
+    lines = lines_of_hand()
+    syncs = [number for number, line in enumerate(lines) if " 080#" in line]
+    without = lines[:syncs[10]] + lines[syncs[10] + 1:]
+    assert told(without) == [f"run.log:{syncs[11]}: error: manager: SYNC: one is missing: it comes 20.000 ms after the last one; the period is "
+                             f"10.000 ms (at {seconds(lines, syncs[11])} s) [sync-missing]"]
+    twice = lines[:syncs[10] + 1] + lines[syncs[10]:]
+    assert told(twice) == [f"run.log:{syncs[10] + 2}: error: manager: SYNC: one more comes 0.000 ms after the last one; the period is 10.000 ms "
+                           f"(at {seconds(lines, syncs[10])} s) [sync-extra]"]
+    counted = lines[:syncs[10]] + [lines[syncs[10]].replace("080#", "080#05")] + lines[syncs[10] + 1:]
+    assert told(counted) == [f"run.log:{syncs[10] + 1}: error: manager: SYNC: it has 1 bytes, and no counter is planned "
+                             f"(at {seconds(lines, syncs[10])} s) [sync-counter]"]
 
 
 def test_what_is_written_otherwise_is_told_with_what_is_planned():
@@ -196,6 +231,19 @@ def test_an_emergency_is_told_in_words():
     found = told(lines)
     assert len(found) == 1 and (f"run.log:{at + 1}: error: node 6 valve: emergency 4210h: device temperature; error register 09h (generic, "
                                 "temperature), 00 11 22 00 00 of the maker") in found[0] and found[0].endswith("[emcy]"), found
+
+
+def test_identifiers_that_are_no_pdos_are_let_pass():
+    """TIME, an emergency message of the manager, LSS, and SDO of nobody's node."""
+    lines = lines_of_hand()
+    at = place(lines, " 080#", 8)
+    stamp = lines[at].split(" can0 ")[0]
+    lines[at:at] = [f"{stamp} can0 {frame}\n" for frame in ("100#0000000000A0", "0FF#0000000000000000", "7E5#0000000000000000", "609#4000100000000000")]
+    assert told(lines) == []
+    lines[at:at] = [f"{stamp} can0 {frame}\n" for frame in ("181#00", "589#4300100000000000", "086#00")]
+    assert [line.split(": ", 2)[2].split(" (")[0] for line in told(lines)] == [
+        "no TPDO of the plan has the identifier 181h", "node 9: no node of the plan has this number; it is heard",
+        "node 6 valve: its emergency message has 1 bytes, not 8"]
 
 
 def test_findings_are_accepted_by_their_words():
@@ -318,6 +366,9 @@ def test_what_is_no_log_is_told():
     put("run.log", b"timestamp,arbitration_id,extended,remote,error,dlc,data\n")
     is_refused(conform("net.txt", "run.log"), "run.log: there is no frame in it")
     is_refused(conform("-", "-"), "the standard input can be one file alone")
+    put("run.log", "".join(lines).encode())
+    is_refused(conform("--timeline", "nosuch/run.html", "net.txt", "run.log"), "nosuch/run.html: No such file or directory")
+    is_refused(conform("--junit", "nosuch/x.xml", "net.txt", "run.log"), "nosuch/x.xml: No such file or directory")
     is_refused(conform("--jitter", "-1", "net.txt", "run.log"), "--jitter is 0 to 100,000 microseconds, not -1")
 
 

@@ -1,5 +1,6 @@
 """Has the followers take the frames of a log, each those of its identifier."""
 from ..logs.rows import key_of
+from ..plan import LEAST_IDENTIFIER
 from ..wiring import is_restricted
 from . import emergencies
 from .bus import Bus
@@ -11,7 +12,7 @@ from .sync import Sync
 
 RESTRICTED = [is_restricted(identifier) for identifier in range(0x800)]
 HEARTBEATS, EMERGENCIES, ANSWERS, REQUESTS = 0x700, 0x080, 0x580, 0x600
-ALL_NODES = 0
+ALL_NODES, COMMUNICATION = 0, 0x81
 
 # Within these microseconds the nodes of a machine are taken to be switched on together.
 POWER_ON, SAME = 5_000, 50
@@ -25,7 +26,7 @@ class Manager:
         self.heartbeat = Heartbeat(judge, self, judge.plan.manager_heartbeat)
 
     def tell(self, code, subject, text, time, line, notes=()):
-        self.judge.causes.tell(code, subject, self.about, f"manager: {text}", time, line, notes)
+        self.judge.causes.tell(code, subject, self.about, text, time, line, notes)
 
     def boot_up(self, time, line):
         """It was switched on; its heartbeat has a beat of its own, which its period doesn't begin with."""
@@ -39,6 +40,10 @@ class Manager:
 
     def was_silent(self, stream, time, line):
         return False
+
+
+def let_pass(time, data, number):
+    """A frame that isn't judged: TIME, LSS, SDO of nobody's node."""
 
 
 class Handlers(dict):
@@ -67,7 +72,7 @@ class Judge:
         self.last_line, self.active_since, self.is_power_on = 0, None, None
         self.bus, self.sync = Bus(plan, tolerance), Sync(self)
         self.nodes = {number: Node(self, planned) for number, planned in sorted(plan.nodes.items())}
-        self.manager, self.strangers, self.others = Manager(self), {}, {}
+        self.manager, self.unplanned_pdos = Manager(self), {}
         self.handlers = Handlers(self)
         self._connect()
 
@@ -84,7 +89,6 @@ class Judge:
         shared = {}
         for tpdo in self.plan.wiring.tpdos:
             shared.setdefault(tpdo.identifier, []).append(follower(self, self.nodes[tpdo.node], tpdo))
-        self.unplanned_pdos = {}
         for identifier, pdos in shared.items():
             handlers[key_of(identifier)] = pdos[0].take if len(pdos) == 1 else Shared(pdos).take
             for pdo in pdos if len(pdos) == 1 else ():
@@ -169,10 +173,11 @@ class Judge:
 
     def _emergency_of(self, node):
         def take(time, data, number):
+            message = bytes.fromhex(data)
+            code = int.from_bytes(message[:2], "little")
             node.hear(time, number)
-            code = int.from_bytes(bytes.fromhex(data)[:2], "little")
-            node.tell("emcy", [node.number, f"{code:04X}"], emergencies.text_of(bytes.fromhex(data)), time, number)
-            if code >> 8 == 0x81:
+            node.tell("emcy", [node.number, f"{code:04X}" if len(message) == 8 else "length"], emergencies.text_of(message), time, number)
+            if code >> 8 == COMMUNICATION:
                 node.trip(time)
         return take
 
@@ -184,20 +189,15 @@ class Judge:
         node, service = identifier & 0x7F, identifier & 0x780
         if node and node != self.plan.manager and (service in (HEARTBEATS, ANSWERS) or service == EMERGENCIES and identifier > EMERGENCIES):
             return self._stranger(node)
-        if not RESTRICTED[identifier]:
+        if identifier >= LEAST_IDENTIFIER and not RESTRICTED[identifier]:
             found = self.unplanned_pdos[identifier] = Unplanned(self, key)
             return found.take
-        return self._other(key)
+        return let_pass
 
     def _stranger(self, node):
         def take(time, data, number):
             self.causes.tell("unplanned-node", [node], ("node", node), "no node of the plan has this number; "
                              + ("it boots" if data == "00" else "it is heard"), time, number)
-        return take
-
-    def _other(self, key):
-        def take(time, data, number):
-            self.others[key] = self.others.get(key, 0) + 1
         return take
 
     def stands_for(self, pdo, start, end):

@@ -98,7 +98,22 @@ class Pdo:
         """The log is over."""
 
 
-class SyncPdo(Pdo):
+class SyncedPdo(Pdo):
+    """A TPDO that SYNC sends; `window` are the microseconds within which it has to come."""
+
+    def __init__(self, judge, node, tpdo):
+        super().__init__(judge, node, tpdo)
+        self.sync, self.window = judge.sync, judge.window or judge.plan.nodes[tpdo.node].window or NEVER
+
+    def judge_window(self, time, number):
+        """A frame that comes behind the window, unless it is of the SYNC that should have come by now."""
+        late = time - self.sync.last
+        if not self.sync.is_overdue(time + self.sync.allowed) and late > self.window + self.judge.tolerance.of(self.window):
+            self.tell("pdo-window", f"it comes {milliseconds(late)} after SYNC, and the window is {milliseconds(self.window)}",
+                      time, number, [(self.sync.line, "the SYNC")])
+
+
+class SyncPdo(SyncedPdo):
     """A TPDO of type 1 to 240.
 
     index  the number of the SYNC after which its last frame came, None where its count isn't known
@@ -106,8 +121,7 @@ class SyncPdo(Pdo):
 
     def __init__(self, judge, node, tpdo):
         super().__init__(judge, node, tpdo)
-        self.sync, self.step, self.index, self.era = judge.sync, tpdo.kind, None, 0
-        self.window = judge.window or judge.plan.nodes[tpdo.node].window or NEVER
+        self.step, self.index, self.era = tpdo.kind, None, 0
         self.has_start = bool(tpdo.start) and judge.plan.nodes[tpdo.node].counts_syncs
 
     def take(self, time, data, number):
@@ -123,13 +137,8 @@ class SyncPdo(Pdo):
         else:
             self.index = sync.index
         if sync.last is not None and time - sync.last > self.window:
-            self._judge_window(time, number)
+            self.judge_window(time, number)
         self.last, self.line = time, number
-
-    def _judge_window(self, time, number):
-        if not self.sync.is_overdue(time + self.sync.allowed) and time - self.sync.last > self.window + self.judge.tolerance.of(self.window):
-            self.tell("pdo-window", f"it comes {milliseconds(time - self.sync.last)} after SYNC, and the window is "
-                      f"{milliseconds(self.window)}", time, number, [(self.sync.line, "the SYNC")])
 
     def _look(self, time, number):
         """A frame that doesn't come with the SYNC with which it has to."""
@@ -153,7 +162,7 @@ class SyncPdo(Pdo):
 
     def _extra(self, passed, before, time, number):
         """A frame that no SYNC called for."""
-        if sync_explains(self.sync, time):
+        if self.sync.extra or self.sync.is_overdue(time):
             return
         self.index = before if passed == 0 else self.index
         when = "a second time after the same SYNC" if passed == 0 else f"{self.step - passed} SYNC too early"
@@ -207,27 +216,13 @@ class SyncPdo(Pdo):
                   first.time, first.line)
 
 
-def sync_explains(sync, time):
-    """Whether a frame too many is explained by a SYNC that is told of."""
-    if sync.extra:
-        return True
-    return sync.is_overdue(time)
-
-
-class AcyclicPdo(Pdo):
+class AcyclicPdo(SyncedPdo):
     """A TPDO of type 0: it comes after a SYNC, if it has changed."""
-
-    def __init__(self, judge, node, tpdo):
-        super().__init__(judge, node, tpdo)
-        self.sync = judge.sync
-        self.window = judge.window or judge.plan.nodes[tpdo.node].window or NEVER
-
-    _judge_window = SyncPdo._judge_window
 
     def take(self, time, data, number):
         """A frame of it came."""
         if self.sync.last is not None and time - self.sync.last > self.window:
-            self._judge_window(time, number)
+            self.judge_window(time, number)
         super().take(time, data, number)
 
 

@@ -6,6 +6,7 @@ from ..findings import ERROR, WARNING, Finding
 from ..logs.rows import NAMES
 from ..report import Report, counted, json_of
 from .bus import WINDOW
+from .causes import MOST
 from .plan import milliseconds
 
 MOST_NOTES = 4
@@ -66,6 +67,8 @@ class ConformReport(Report):
         words = [counted(self.count(ERROR), "error"), counted(self.count(WARNING), "warning")]
         words += [f"{accepted} accepted"] if accepted else []
         lines = [f"{', '.join(words)}; {self.frames_text()}{self.aligned_text()}", self.bus_text()]
+        if self.judge.causes.too_many:
+            lines.append(f"more causes than {MOST:,} are not told, {self.judge.causes.too_many:,} times")
         if self.own_errors:
             lines.append(f"the script itself has {counted(self.own_errors, 'error')}, which cobtool check tells")
         return "\n".join(lines)

@@ -27,5 +27,5 @@ class Tolerance:
         return 2 * (jitter + self.coarse) + period * self.clock // 1_000_000 + 1
 
     def words(self):
-        share = f", for short periods an eighth of them" if self.given is None else ""
+        share = ", for short periods an eighth of them" if self.given is None else ""
         return f"each time may be off by {self.jitter} us{share}, clocks by {self.clock} ppm"
