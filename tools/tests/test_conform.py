@@ -50,6 +50,19 @@ def test_the_runs_of_the_examples_conform_in_each_format():
         is_conforming(conform("--values", example(f"{name}.txt"), "-", given=recording(name)))
 
 
+def test_the_plan_is_the_state_of_the_script_with_which_the_log_begins():
+    """servo_axes has its trace in line 90, and edits behind it, by which the exported run is another one."""
+    run("export", "--force", "--cobench", recorded(), "files", example("servo_axes.txt"))
+    done = conform(example("servo_axes.txt"), os.path.join("files", "trace.log"))
+    is_conforming(done)
+    assert b"the plan is the network at line" not in done[1]
+    put("run.log", recording("servo_axes"))
+    done = conform(example("servo_axes.txt"), "run.log")
+    assert b"\nthe plan is the network at line 90 of the script, a trace; edits stand behind it\n" in done[1], done
+    assert conform("--trace", "0", example("servo_axes.txt"), "run.log")[0] == 1
+    is_refused(conform("--trace", "2", example("servo_axes.txt"), "run.log"), "the script has 1 commands trace, and no trace 2")
+
+
 def test_the_runs_of_generated_networks_conform():
     for number in NUMBERS:
         assert conform_judge.own_run(number, recorded()) == []

@@ -2,12 +2,11 @@
 import os
 
 from .. import acceptance, bundle, findings, output, session, tool
+from ..conform import choice
 from ..conform import tolerance as tolerances
 from ..conform.overlay import Overlay, Recorded
-from ..conform.plan import Plan
 from ..conform.report import ConformReport
 from ..conform.run import judged
-from ..evidence import Evidence
 from ..logs import source
 
 SUMMARY = "say what was recorded on a bus beside what a script plans"
@@ -25,6 +24,9 @@ FD, error and remote frames are counted and set aside.
 What the planned run shows itself, as a power cut of the scenario and what follows on
 it, isn't told where LOG has it at the same time. The two are laid on one another by
 the first boot-up message or command, else by SYNC.
+
+The plan is the network at the end of SCRIPT; where edits stand behind its last
+`trace`, it is the one at that where LOG begins as it does. --trace says which.
 
 Times may be off by the jitter, {tolerances.JITTER} us where --jitter doesn't say it (at most an
 eighth of a period), and by {tolerances.CLOCK} ppm of what is measured. A frame isn't late that
@@ -47,7 +49,7 @@ def arguments(parser):
     parser.add_argument("script", metavar="SCRIPT", help="the script, with comments and files")
     parser.add_argument("log", metavar="LOG", help="what was recorded")
     parser.add_argument("--trace", metavar="N", type=int,
-                        help="the plan is the network at the Nth `trace` of SCRIPT, 0 for its end; at the last one without it")
+                        help="the plan is the network at the Nth `trace` of SCRIPT, 0 for its end")
     parser.add_argument("--format", choices=list(source.NAMES), help="read LOG so, whatever it looks like")
     parser.add_argument("--channel", metavar="NAME", help="take the frames of this channel alone, as can0, or 1 of ASC and TRC")
     parser.add_argument("--jitter", metavar="US", type=int, help="how far each time may be off, in microseconds")
@@ -75,21 +77,11 @@ def check(options):
     tool.check_one_input(options.script, options.log)
 
 
-def planning(commands, wanted):
-    """The commands of a script that make the plan: those up to its last `trace`, or to the wanted one, 0 for all."""
-    traces = [place for place, command in enumerate(commands) if command.name == b"trace"]
-    if wanted is not None and not 0 <= wanted <= len(traces):
-        raise tool.Fault(f"the script has {len(traces)} commands trace, and no trace {wanted}")
-    if wanted == 0 or not traces:
-        return commands
-    return commands[:traces[-1 if wanted is None else wanted - 1] + 1]
-
-
 def report_of(options, log):
     """What is wrong with a log, once its timeline is written."""
     tolerance = tolerances.Tolerance(options.jitter, options.clock)
     log.slack = tolerance.jitter
-    plan = Plan(session.run(options.script, options.cobench, Evidence.QUERIES, lambda commands: planning(commands, options.trace)))
+    plan = choice.plan_of(options, log, tolerance)
     drawn = Recorded(plan) if options.timeline else None
     judge = judged(plan, log, tolerance, options.window or None, options.load, options.values, [drawn] if drawn else [])
     own = sum(each.severity == findings.ERROR for each in findings.of(plan.answered))

@@ -60,6 +60,7 @@ class PlannedNode:
 class Plan:
     """What a session that was asked `Evidence.QUERIES` plans.
 
+    line       the line of the script up to which it is that of, None for all of it
     wiring     its nodes and PDOs
     nodes      what is planned for each node, by number
     frames     the frames of the planned run: time, key and bytes, as those of a log
@@ -69,6 +70,7 @@ class Plan:
     """
 
     def __init__(self, answered):
+        self.line = None
         self.answered, self.wiring, self.evidence = answered, Wiring(answered), Evidence(answered)
         self.project, self.origins = answered.project, self.evidence.origins
         self.manager, self.sync, heartbeat, _ = self.project.manager

@@ -69,6 +69,8 @@ class ConformReport(Report):
         lines = [f"{', '.join(words)}; {self.frames_text()}{self.aligned_text()}", self.bus_text()]
         if self.judge.causes.too_many:
             lines.append(f"more causes than {MOST:,} are not told, {self.judge.causes.too_many:,} times")
+        if self.plan.line:
+            lines.append(f"the plan is the network at line {self.plan.line} of the script, a trace; edits stand behind it")
         if self.own_errors:
             lines.append(f"the script itself has {counted(self.own_errors, 'error')}, which cobtool check tells")
         return "\n".join(lines)

@@ -86,6 +86,19 @@ class Log:
         raise tool.Fault(f"{self.where}: this is no log: neither {', '.join(each.title for each in FORMATS[:-1])} nor "
                          f"{FORMATS[-1].title}")
 
+    def first_rows(self):
+        """The first frames of the log, and their lines, as far as they can be read; it is read from the beginning after that."""
+        reader, found = type(self.format)(), []
+        for number, line in enumerate(without_mark(self.head).decode("latin-1").split("\n")[:-1], 1):
+            try:
+                row = reader.row(line.rstrip("\r"))
+            except Unreadable:
+                break
+            if isinstance(row, tuple):
+                found.append((row[0], row[2], row[3], number))
+        found.sort(key=lambda each: each[0])
+        return [row[:3] for row in found], [row[3] for row in found]
+
     def blocks(self):
         """The frames of the log, block by block."""
         data = without_mark(self.head)
