@@ -155,11 +155,11 @@ def test_a_heartbeat_that_stays_away_is_told_with_who_misses_it():
     beats = [number for number, line in enumerate(lines) if " 705#05" in line]
     del lines[beats[2]]
     found = told(lines)
-    assert len(found) == 1 and found[0].startswith(f"run.log:{beats[3]}: error: node 5 pump: it comes 80.0"), found
+    assert len(found) == 1 and found[0].startswith(f"run.log:{beats[3]}: error: node 5 pump: its heartbeat comes 80.0"), found
     assert "1017h has 40.000 ms; node 6 valve misses it after 120.000 ms: 40.0" in found[0] and found[0].endswith("[heartbeat-late]")
     del lines[beats[4] - 1], lines[beats[3] - 1]
     found = told(lines)
-    assert len(found) == 1 and found[0].startswith(f"run.log:{beats[5] - 2}: error: node 5 pump: it comes 160.0"), found
+    assert len(found) == 1 and found[0].startswith(f"run.log:{beats[5] - 2}: error: node 5 pump: its heartbeat comes 160.0"), found
     assert "1017h has 40.000 ms, and node 6 valve misses it after 120.000 ms (at " in found[0] and found[0].endswith("[heartbeat-missed]")
 
 

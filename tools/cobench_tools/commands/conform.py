@@ -14,7 +14,7 @@ SUMMARY = "say what was recorded on a bus beside what a script plans"
 AFTER = f"""Runs cobench on SCRIPT, reads LOG in one pass, and tells what isn't as planned, each
 cause once, with its line in LOG, how often it was there, first and last:
 
-  machine.log:3712: error: node 2 y_axis: it comes 152.310 ms after the last one; .. [heartbeat-missed]
+  machine.log:3712: error: node 2 y_axis: its heartbeat comes 152.310 ms after .. [heartbeat-missed]
 
 LOG is what candump -L of can-utils, Vector's tools (ASC), PEAK's (TRC 1.0 to 2.1) or
 python-can (CSV) have recorded, also packed by gzip; its content says which. It may

@@ -76,19 +76,24 @@ class Heartbeat:
 
     def _tell(self, gap, time, number, is_over=False):
         """Tells of a heartbeat that is so long in coming, and who misses it."""
-        missing = [each for each in self.watched if gap > each[0] + self.judge.tolerance.of(each[0])]
-        came = f"none came for {milliseconds(gap)}, to the end" if is_over else f"it comes {milliseconds(gap)} after the last one"
-        text = f"{came}; 1017h has {milliseconds(self.period)}"
-        if missing:
-            names = " and ".join(self.judge.plan.name(node) for _, node in missing[:3])
-            text += f", and {names} misse{'s' if len(missing) == 1 else ''} it after {milliseconds(missing[0][0])}".replace("misse ", "miss ")
-            code = MISSED
-        else:
-            code = LATE
-            if self.watched:
-                limit, node = self.watched[0]
-                text += f"; {self.judge.plan.name(node)} misses it after {milliseconds(limit)}: {milliseconds(limit - gap)} were left"
+        code, who = self._who_misses(gap)
+        came = f"no heartbeat came for {milliseconds(gap)}, to the end"
+        if not is_over:
+            came = f"its heartbeat comes {milliseconds(gap)} after the last one"
+        text = f"{came}; 1017h has {milliseconds(self.period)}{who}"
         self.node.tell(code, [self.node.number], text, time, number, [(self.line, "the last one before")])
+
+    def _who_misses(self, gap):
+        """The code of a heartbeat that is so long in coming, and in words who misses it, or would have been the first."""
+        name, allowed = self.judge.plan.name, self.judge.tolerance.of
+        missing = [(limit, node) for limit, node in self.watched if gap > limit + allowed(limit)]
+        if missing:
+            names, limit = [name(node) for _, node in missing[:3]], missing[0][0]
+            return MISSED, f", and {' and '.join(names)} miss{'es' if len(names) == 1 else ''} it after {milliseconds(limit)}"
+        if self.watched:
+            limit, node = self.watched[0]
+            return LATE, f"; {name(node)} misses it after {milliseconds(limit)}: {milliseconds(max(limit - gap, 0))} were left"
+        return LATE, ""
 
     def is_overdue(self, time):
         """Whether one should have come by now."""

@@ -198,7 +198,7 @@ class Node:
         self.boot.finish()
         if self._is_silent(end):
             last = self.last_heard()
-            self.tell("silent", [self.number], f"nothing of it comes any more", last.time, last.line)
+            self.tell("silent", [self.number], "nothing of it comes any more", last.time, last.line)
             return
         for stream in self.streams:
             stream.finish(end)
