@@ -166,7 +166,7 @@ def goes_silent(recording):
         cyclic = [identifier for identifier, tpdo in recording.tpdos.items() if tpdo.node == node and tpdo.kind == 1]
         beats, period = recording.of(0x700 + node), recording.plan.nodes[node].heartbeat
         if cyclic and period and len(beats) > 2 and recording.of(cyclic[0]):
-            start, latest = recording.frames[recording.of(cyclic[0])[0]][0], recording.end - 2 * period - BEHIND
+            start, latest = recording.frames[recording.of(cyclic[0])[0]][0], recording.end - 2 * max(period, recording.plan.sync) - BEHIND
             own = {0x700 + node, 0x580 + node, 0x80 + node} | {tpdo.identifier for tpdo in recording.plan.wiring.tpdos if tpdo.node == node}
             found += [(own, start, latest)] if latest > start and start > recording.frames[beats[1]][0] else []
     if not found:

@@ -370,6 +370,11 @@ def test_what_is_no_log_is_told():
     lines = lines_of_hand()
     put("run.log", "".join(lines[:5]).encode() + b"hello\n" + "".join(lines[5:]).encode())
     is_refused(conform("net.txt", "run.log"), "run.log:6: this is no line of candump -L: hello")
+    long = "".join(lines[:-1]) + lines[-1] * 5000
+    put("run.log", long.encode()[:-5])
+    is_refused(conform("net.txt", "run.log"), f"run.log:{long.count(chr(10))}: the last line is cut")
+    put("run.log", long.encode() + b"x" * 200_000)
+    is_refused(conform("net.txt", "run.log"), f"run.log:{long.count(chr(10)) + 1}: this line is too long for a log")
     put("run.log.gz", gzip.compress("".join(lines).encode())[:-20])
     is_refused(conform("net.txt", "run.log.gz"), "run.log.gz: it is cut")
     put("run.log", "".join(lines[:9]).encode() + lines[9].replace("can0", "can1").encode())

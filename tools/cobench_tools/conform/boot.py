@@ -1,5 +1,4 @@
 """Follows the writes of a node's boot beside its concise DCF, and the numbers that are read of it."""
-from ..device import object_name
 from .causes import Spot
 from .sdo import names
 

@@ -1,6 +1,5 @@
 """Follows SDO transfers between the manager and a node: what is written and read, and how it ends."""
 from .. import meaning
-from .plan import milliseconds
 
 WRITE, READ = "write", "read"
 

@@ -9,7 +9,6 @@ FD = re.compile(r"\s*([0-9]+\.[0-9]+)\s+CANFD\s+([0-9]+)\s+(Rx|Tx)\s+([0-9A-Fa-f
 FAILED = re.compile(r"\s*([0-9]+\.[0-9]+)\s+(?:CANFD\s+)?([0-9]+)\s+(?:(?:Rx|Tx)\s+)?ErrorFrame.*", re.IGNORECASE)
 TIMED = re.compile(r"\s*[0-9]+\.[0-9]+\s")
 DATE = re.compile(r"date\s+\w+", re.IGNORECASE)
-END = "end triggerblock"
 IS_FD = 1 << 12
 
 

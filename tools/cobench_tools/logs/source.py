@@ -28,13 +28,13 @@ class Log:
 
     aside    how many lines of each other kind there were
     frames   how many frames there were
-    bits     the bits of the frames that were set aside
     size     the bytes of the file, 0 where they aren't known; `position` is how many of them were read
     """
 
     def __init__(self, path, wanted=None, channel=None, slack=0):
         self.path, self.wanted, self.channel, self.slack = path, wanted, channel, slack
-        self.aside, self.frames, self.last, self.line, self.first_line = Counter(), 0, None, 0, None
+        self.is_chosen = channel is not None
+        self.aside, self.frames, self.last, self.line = Counter(), 0, None, 0
         self.file, self.size = opened(path)
         self.stream = self._unpacked()
         self.head = self._read(BLOCK)
@@ -104,8 +104,7 @@ class Log:
         data = without_mark(self.head)
         while data:
             if not data.endswith(b"\n"):
-                raise tool.Fault(f"{self.where}:{self.line + data.count(bytes([10])) + 1}: "
-                                 + ("the last line is cut" if len(data) < LONGEST_LINE else "this line is too long for a log"))
+                raise self._cut(data)
             block = self._block(data)
             if block.rows:
                 self.frames += len(block.rows)
@@ -113,6 +112,12 @@ class Log:
             data = self._read(BLOCK)
         if not self.frames:
             raise tool.Fault(f"{self.where}: there is no frame in it")
+
+    def _cut(self, data):
+        """The fault of bytes that don't end with a line."""
+        number, last = self.line + data.count(b"\n") + 1, data[data.rfind(b"\n") + 1:]
+        why = "the last line is cut" if len(last) < LONGEST_LINE else "this line is too long for a log"
+        return tool.Fault(f"{self.where}:{number}: {why}")
 
     def _block(self, data):
         text = data.decode("latin-1")
@@ -152,11 +157,8 @@ class Log:
         """Whether frames of a channel are looked at: those of one channel alone."""
         if self.channel is None:
             self.channel = channel
-            self.is_chosen = False
-        if channel == self.channel:
-            return True
-        if getattr(self, "is_chosen", True):
-            return False
+        if channel == self.channel or self.is_chosen:
+            return channel == self.channel
         raise tool.Fault(f"{self.where}:{self.line}: it has frames of {self.channel} and of {channel}; --channel takes those of one")
 
     def _in_order(self, time):
