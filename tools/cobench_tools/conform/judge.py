@@ -202,5 +202,6 @@ class Judge:
 
     def stands_for(self, pdo, start, end):
         """Whether frames with an unplanned identifier may be those of a TPDO that stay away from a time to another."""
-        return any(start - self.plan.sync <= time <= end and digits == pdo.digits
+        start -= self.plan.sync + 4 * self.tolerance.jitter
+        return any(start <= time <= end and digits == pdo.digits
                    for each in self.unplanned_pdos.values() for time, digits in each.recent)

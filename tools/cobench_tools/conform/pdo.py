@@ -273,7 +273,7 @@ class EventPdo(Pdo):
             return
         if self.judge.causes.has_wait(self.key, time, gap) or self.node.was_silent(self, time, number):
             return
-        if not self.judge.stands_for(self, self.last + self.period, time):
+        if not self.judge.stands_for(self, self.last, time):
             self.tell("pdo-event", f"it comes {milliseconds(gap)} after the last one, and its event time is {milliseconds(self.period)}",
                       time, number, [(self.line, "the one before")])
 
@@ -295,7 +295,7 @@ class EventPdo(Pdo):
         if not self.is_overdue(end):
             return
         since = self.judge.bus.waits_since(self.key, self.last + self.period)
-        if since <= self.last + self.high or self.judge.stands_for(self, self.last + self.period, end):
+        if since <= self.last + self.high or self.judge.stands_for(self, self.last, end):
             return
         self.tell("pdo-event", f"it doesn't come any more, for {milliseconds(end - self.last)}, and its event time is "
                   f"{milliseconds(self.period)}", self.last + self.high, self.line)
