@@ -307,7 +307,7 @@ def test_a_machine_of_its_own_pace_conforms():
         put("run.log", text.encode())
         done = conform("net.txt", "run.log")
         is_conforming(done)
-        assert "; set aside: 1 frame with 29-bit identifiers; " in done[1].decode(), done[1]
+        assert "; set aside: 2 frames of 29 bits, 1 error frame; " in done[1].decode(), done[1]
         lines = text.splitlines(keepends=True)
         at = place(lines, " 185#", 300)
         del lines[at]

@@ -53,7 +53,8 @@ class Boot:
         texts = [self._text(*self.writes[place]) for place in run[:SHOWN]]
         more = f" and {len(run) - SHOWN} more" if len(run) > SHOWN else ""
         what = "the write" if len(run) == 1 else f"{len(run)} writes"
-        self._tell("sdo-missing", key, f"{what} of {', '.join(texts)}{more} {'is' if len(run) == 1 else 'are'} missing in its boot", spot)
+        self._tell("sdo-missing", key, f"{what} of {', '.join(texts)}{more} {'is' if len(run) == 1 else 'are'} missing in its boot", spot,
+                   self._planned_at(key))
 
     def _tell(self, code, key, text, spot, notes=()):
         self.node.tell(code, [self.node.number, *names(key)], text, spot.time, spot.line, notes)
@@ -117,7 +118,8 @@ class Boot:
         for place in self.skipped:
             if is_same(self.writes[place], write):
                 before = self.skipped.pop(place)
-                self._tell("sdo-order", write[0], f"{self._text(*write)} comes late: it is planned before what line {before.line} writes", spot)
+                self._tell("sdo-order", write[0], f"{self._text(*write)} comes late: it is planned before what line {before.line} writes", spot,
+                           self._planned_at(write[0]))
                 return True
         return False
 
@@ -125,8 +127,12 @@ class Boot:
         self.other.add(place)
         key, data = self.writes[place]
         spot = Spot(spot.time, self.transfer.line_of(first_other(data, write[1])))
+        self._tell("sdo-value", key, f"{self._text(*write)}, and {shown(data)} is planned", spot, self._planned_at(key))
+
+    def _planned_at(self, key):
+        """The note that says where a write is planned."""
         where = self.judge.plan.write_place(self.node.number, key)
-        self._tell("sdo-value", key, f"{self._text(*write)}, and {shown(data)} is planned", spot, [(where, "planned here")] if where else [])
+        return [(where, "planned here")] if where else []
 
     def _out_of_boot(self, write, spot):
         """A write that isn't the next one of a boot."""

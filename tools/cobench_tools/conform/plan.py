@@ -3,7 +3,7 @@ from .. import concise, findings, matrix, trace, values
 from ..evidence import Evidence
 from ..logs.rows import key_of
 from ..traffic import plain_bits
-from ..wiring import RPDO, Wiring
+from ..wiring import RPDO, TPDO, Wiring, pdo_of
 
 UNSIGNED = {0x05: 1, 0x06: 2, 0x07: 4}
 IDENTITY = ((0x1000, 0), (0x1018, 1), (0x1018, 2), (0x1018, 3), (0x1018, 4))
@@ -154,9 +154,18 @@ class Plan:
 
     def write_place(self, node, key):
         """FILE:LINE of what has an entry written."""
-        if key[0] in PDO_OBJECTS:
-            return self.place(("node", node))
-        return self.evidence.value_place(node, key)
+        if key[0] not in PDO_OBJECTS:
+            return self.evidence.value_place(node, key)
+        message = self._message_of(node, *pdo_of(key[0]))
+        return self.place(("message", message) if message else ("node", node))
+
+    def _message_of(self, node, direction, number):
+        """The message that a TPDO of a node sends or that an RPDO takes, None for none."""
+        if direction == TPDO:
+            return self.evidence.plan.sender_of(node, number)
+        taking = (name for name, planned in self.evidence.plan.messages.items()
+                  if not planned.faults and planned.rpdos.get(node, (None,))[0] == number)
+        return next(taking, None)
 
 
 def is_landmark(key, data):

@@ -77,7 +77,7 @@ class ConformReport(Report):
 
     def frames_text(self):
         """How many frames the log has, and what was set aside."""
-        aside = [counted(number, NAMES[kind]) for kind, number in sorted(self.log.aside.items())]
+        aside = [f"{number:,} {NAMES[kind][number > 1]}" for kind, number in sorted(self.log.aside.items())]
         behind = f"; set aside: {', '.join(aside)}" if aside else ""
         return f"{self.log.frames:,} frames in {seconds(self.judge.end - self.judge.begin)}{behind}"
 

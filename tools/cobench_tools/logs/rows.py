@@ -4,8 +4,8 @@ import re
 # Frames that CANopen doesn't have, and that are counted and set aside: each by its name.
 EXTENDED, FLEXIBLE, ERROR, REMOTE, OTHER = "29-bit", "FD", "error", "remote", "other"
 NAMES = {
-    EXTENDED: "frame with 29-bit identifiers", FLEXIBLE: "FD frame", ERROR: "error frame", REMOTE: "remote frame",
-    OTHER: "line of another kind",
+    EXTENDED: ("frame of 29 bits", "frames of 29 bits"), FLEXIBLE: ("FD frame", "FD frames"), ERROR: ("error frame", "error frames"),
+    REMOTE: ("remote frame", "remote frames"), OTHER: ("line of another kind", "lines of another kind"),
 }
 
 LENGTHS = frozenset(range(0, 17, 2))
