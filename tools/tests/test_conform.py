@@ -8,7 +8,7 @@ import xml.etree.ElementTree as xml
 
 import conform_judge
 import log_faults
-from helper import Skipped, example, is_refused, put, recorded, run
+from helper import Skipped, example, in_parallel, is_refused, put, real, recorded, run
 from networks import Dice
 from own_pace import Machine
 
@@ -74,12 +74,24 @@ def test_planted_faults_are_told_at_their_lines_and_nothing_else():
     assert len(counts) >= 20 and min(counts.values()) >= 1 and sum(counts.values()) >= 40, counts
 
 
-def all_own_runs_of_300_networks_conform_and_300_faults_of_each_kind_are_told():
-    conform_judge.real()
-    wrong = [told for number in range(300) for told in conform_judge.own_run(number, conform_judge.real())]
-    counts, told = conform_judge.judge_kinds(list(log_faults.KINDS), 300, range(100), conform_judge.real())
-    assert not wrong and not told, (wrong[:20], told[:20])
-    assert sum(count >= 300 for count in counts.values()) >= 20, counts
+def own_runs(number):
+    return conform_judge.own_run(number, real())
+
+
+def faults_of(place):
+    """How many faults of a kind are planted in 120 networks, and which of them are told wrongly."""
+    counts, wrong = conform_judge.judge_kinds([list(log_faults.KINDS)[place]], 330, range(120), real())
+    return sum(counts.values()), wrong
+
+
+def all_runs_of_300_networks_conform_and_300_faults_of_each_of_20_kinds_are_told():
+    real()
+    runs = in_parallel(own_runs, list(range(300)))
+    assert not sum(runs, []), sum(runs, [])[:20]
+    found = in_parallel(faults_of, list(range(len(log_faults.KINDS))))
+    wrong = [each for _, several in found for each in several]
+    print(f"conform: {sum(count for count, _ in found)} planted faults, {len(wrong)} told wrongly")
+    assert not wrong and sum(count >= 300 for count, _ in found) >= 20, (wrong[:20], found)
 
 
 # By hand.

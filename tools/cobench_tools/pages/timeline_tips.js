@@ -34,7 +34,7 @@ function tellFrame(view, frame) {
   const { trace } = view, sort = trace.sortOf(frame), kind = trace.kinds[sort.kind], said = trace.said(frame);
   return {
     time: trace.time[frame], lane: sort.lane, frame, colour: colourOf(kind),
-    head: `${shownTime(trace.time[frame])} · ${kind} · ${trace.lanes[sort.lane].name}`,
+    head: `${shownTime(trace.time[frame])} · ${kind} · ${trace.lanes[sort.lane].said}`,
     words: said.subject, values: said.values,
     code: `${trace.identifier(frame)} [${sort.size}] ${spaced(trace.bytes(frame))}`,
   };
@@ -45,13 +45,13 @@ function tellFlag(view, flag, others = []) {
   const more = others.length > 8 ? [`and ${others.length - 8} more`] : [];
   const values = others.slice(0, 8).map(each => `${shownTime(each.time)} ${each.words}`).concat(more);
   return { time: flag.time, lane: flag.lane, flag, colour: FLAG_COLOURS[flag.kind], values, code: "",
-    head: `${shownTime(flag.time)} · ${FLAG_SAYS[flag.kind]} · ${view.trace.lanes[flag.lane].name}`, words: flag.words };
+    head: `${shownTime(flag.time)} · ${FLAG_SAYS[flag.kind]} · ${view.trace.lanes[flag.lane].said}`, words: flag.words };
 }
 
 function tellState(view, lane, time) {
   const state = view.trace.stateAt(lane.number, time);
   if (!state || time < 0 || time > view.trace.end) return null;
-  return { time, lane: lane.number, colour: state, values: [], code: "", head: shownTime(Math.round(time)), words: `${lane.name} ${state}` };
+  return { time, lane: lane.number, colour: state, values: [], code: "", head: shownTime(Math.round(time)), words: `${lane.said} ${state}` };
 }
 
 function tellStep(view, time) {

@@ -119,7 +119,7 @@ class FlagList {
   item(flag) {
     const made = element("button", { type: "button", class: isTrouble(flag) ? "wrong" : "" },
       element("span", { class: "at" }, shownTime(flag.time)),
-      element("span", {}, element("b", {}, this.trace.lanes[flag.lane].name), " ", flag.words));
+      element("span", {}, element("b", {}, this.trace.lanes[flag.lane].said), " ", flag.words));
     made.addEventListener("click", () => { this.element.open = false; this.view.scroller.focus(); this.view.goTo(tellFlag(this.view, flag)); });
     return element("li", {}, made);
   }

@@ -46,8 +46,8 @@ class Trace {
     this.end = content.end;
     this.bit = content.bit;
     this.kinds = content.kinds;
-    this.lanes = content.lanes.map(([key, name, title, planned]) =>
-      ({ key, name, title, planned: Boolean(planned), flags: [], states: content.states[key] || [] }));
+    this.lanes = content.lanes.map(([key, name, title, planned]) => ({ key, name, title, planned: Boolean(planned),
+      said: planned ? name + ", planned" : name, flags: [], states: content.states[key] || [] }));
     this.laneOf = new Map(this.lanes.map((lane, number) => [lane.key, number]));
     this.sorts = content.sorts.map(([identifier, kind, lane, size, text]) =>
       ({ identifier, kind, lane: this.laneOf.get(lane), size, text, slot: (47 + 8 * size) * content.bit }));
