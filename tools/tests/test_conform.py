@@ -369,6 +369,23 @@ def test_the_formats_by_hand():
         assert rows[1][1] - rows[0][1] == (12_200 if form == "trc" else 12_290), (form, rows)
 
 
+def test_other_forms_of_asc_and_trc_by_hand():
+    put("dec.asc", b"date Fri Nov 27 10:00:00.000 am 2026\nbase dec  timestamps relative\nno internal events logged\nBegin Triggerblock\n"
+        b" 0.000000 Start of measurement\n 0.000100 1  389             Rx   d 2  10 100  Length = 236000 BitCount = 122 ID = 389\n"
+        b" 0.000200 1  389             Tx   d 1 255\n 0.000000 1  Statistic: D 1 R 0 XD 0 XR 0 E 0 O 0 B 0.00%\nEnd TriggerBlock\n")
+    rows, log = rows_of("dec.asc")
+    assert rows == [(6, 100, "185#", "0A64"), (7, 300, "185#", "FF")] and dict(log.aside) == {"other": 1}, (rows, log.aside)
+    put("two.trc", b";$FILEVERSION=2.0\r\n;$COLUMNS=N,O,T,I,d,l,D\r\n     1      1.100 DT     0185 Rx 2  0A 64\r\n     2      1.250 ST          Rx 4  00 00 00 08\r\n")
+    rows, log = rows_of("two.trc")
+    assert rows == [(3, 1100, "185#", "0A64")] and dict(log.aside) == {"other": 1}, (rows, log.aside)
+    put("one.trc", b";$FILEVERSION=1.1\r\n     1)       1.1  Rx         0185  2  0A 64\r\n     2)       1.3  Error         0008  4  00 19 08 08\r\n"
+        b"     3)       1.5  Rx     00000185  2  0A 64\r\n     4)       1.6  Tx         0185  0  RTR\r\n")
+    rows, log = rows_of("one.trc")
+    assert rows == [(2, 1100, "185#", "0A64")] and dict(log.aside) == {"error": 1, "29-bit": 1, "remote": 1}, (rows, log.aside)
+    put("new.trc", b";$FILEVERSION=2.1\n;$COLUMNS=N,O,X,I\n     1      1.100 DT     0185 Rx 2  0A 64\n")
+    is_refused(conform(example("io_modules.txt"), "new.trc"), "new.trc:2: cobtool doesn't know these columns of TRC")
+
+
 def test_times_that_go_backwards_are_told():
     put("net.txt", NETWORK)
     lines = lines_of_hand()
