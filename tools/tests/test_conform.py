@@ -419,6 +419,28 @@ def test_what_is_no_log_is_told():
     is_refused(conform("--jitter", "-1", "net.txt", "run.log"), "--jitter is 0 to 100,000 microseconds, not -1")
 
 
+def damaged(data, dice):
+    """Bytes of which some are others, more or fewer."""
+    for _ in range(dice.one([1, 3, 20])):
+        place, size = dice.below(len(data)), dice.below(40)
+        data = dice.one([data[:place] + bytes([dice.below(256)]) + data[place + 1:], data[:place] + data[place + size:],
+                         data[:place] + data[max(place - size, 0):]])
+    return data
+
+
+def test_damaged_logs_end_with_a_status_and_at_most_a_line():
+    put("net.txt", NETWORK)
+    frames, ends = conform_judge.plan_of("net.txt", recorded())[1], []
+    for seed in range(20):
+        dice = Dice(seed)
+        put("run.log", damaged(writers.log_of(frames, dice.one(writers.FORMATS), 1).encode(), dice))
+        status, output, faults = conform("net.txt", "run.log")
+        assert status in (0, 1, 2) and "cobtool itself" not in faults and "Traceback" not in faults, (seed, faults)
+        assert (not output and len(faults.splitlines()) == 1) if status == 2 else output and not faults, (seed, status, output, faults)
+        ends.append(status)
+    assert ends.count(2) >= 5 and len(set(ends)) >= 2, ends
+
+
 def test_logs_of_can_utils_are_read_alike():
     put("run.log", recording("servo_axes"))
     for words in ([], ["-n"], ["-f"], ["-4"]):

@@ -2,6 +2,7 @@
 import gzip
 import io
 import os
+import re
 import sys
 import zlib
 from collections import Counter, namedtuple
@@ -18,6 +19,7 @@ NAMES = {"log": Candump, "asc": Asc, "trc": Trc, "trc21": Trc, "csv": Table}
 BLOCK = 1 << 16
 LONGEST_LINE = 1 << 14
 GZIP = b"\x1f\x8b"
+CONTROL = re.compile("[\x00-\x1f\x7f-\x9f]")
 
 # Frames of a log: the time, the key and the bytes of each (see rows.py), and the line that each has.
 Block = namedtuple("Block", "rows numbers")
@@ -92,7 +94,7 @@ class Log:
         for number, line in enumerate(without_mark(self.head).decode("latin-1").split("\n")[:-1], 1):
             try:
                 row = reader.row(line.rstrip("\r"))
-            except Unreadable:
+            except (Unreadable, ValueError, IndexError):
                 break
             if isinstance(row, tuple):
                 found.append((row[0], row[2], row[3], number))
@@ -144,8 +146,9 @@ class Log:
         """The row of a line, None where it has none for the network."""
         try:
             found = self.format.row(line)
-        except Unreadable as why:
-            raise tool.Fault(f"{self.where}:{self.line}: {why}: {tool.readable(line[:60])}") from None
+        except (Unreadable, ValueError, IndexError) as why:
+            what = why if isinstance(why, Unreadable) else f"this is no line of {self.format.title}"
+            raise tool.Fault(f"{self.where}:{self.line}: {what}: {CONTROL.sub('?', line[:60])}") from None
         if isinstance(found, Aside):
             self.aside[found.kind] += 1
         if found is None or isinstance(found, Aside):
