@@ -26,6 +26,7 @@ ABORTS = {
     0x08000020: "cannot be transferred or stored", 0x08000021: "local control prevents it",
     0x08000022: "the device's state prevents it", 0x08000023: "no object dictionary", 0x08000024: "no data available",
 }
+MOST_MAPPED = 64
 PREDEFINED = {0x180: "TPDO 1", 0x280: "TPDO 2", 0x380: "TPDO 3", 0x480: "TPDO 4",
               0x200: "RPDO 1", 0x300: "RPDO 2", 0x400: "RPDO 3", 0x500: "RPDO 4"}
 
@@ -178,7 +179,8 @@ class Network:
     def mapping(self, node, tpdo):
         """The entries and bits that a TPDO maps, None where that isn't known."""
         values, index = self.values.get(node, {}), 0x19FF + tpdo
-        words = [values.get((index, sub)) for sub in range(1, values.get((index, 0), 0) + 1)]
+        count = values.get((index, 0), 0)
+        words = [values.get((index, sub)) for sub in range(1, count + 1)] if count <= MOST_MAPPED else []
         if not words or None in words:
             return None
         return [((word >> 16, word >> 8 & 0xFF), word & 0xFF) for word in words]
