@@ -167,7 +167,7 @@ class Node:
 
     def was_silent(self, stream, time, line):
         """Whether others of its frames stayed away as this one did; then that is told, and all begins anew."""
-        if not self._is_silent(time, stream):
+        if not self._is_silent(time, line, stream):
             return False
         last = self.last_heard()
         self.tell("silent", [self.number], f"nothing of it came for {milliseconds(time - last.time)}", last.time, last.line,
@@ -177,26 +177,29 @@ class Node:
                 each.forget()
         return True
 
-    def _is_silent(self, time, stream=None):
-        """Whether several of its frames are overdue, and none of them was before it was heard last."""
-        overdue = [each for each in self.streams if each.is_judged() and (each is stream or each.is_overdue(time))]
+    def _is_silent(self, time, line, stream=None):
+        """Whether several of its frames are overdue in a line, and none of them was before it was heard last."""
+        overdue = [each for each in self.streams if each.is_judged()
+                   and (each is stream or each.is_overdue(time) and not self._waits(each, line))]
         if len(overdue) < LEAST_SILENT:
             return False
         last = self.last_heard()
-        return all(self._may_wait(each, last) for each in overdue)
+        return all(each.due() + self._slack >= last.time or self._waits(each, last.line) for each in overdue)
 
-    def _may_wait(self, stream, last):
-        """Whether a frame was due when the node was heard last, or was waiting for the bus then."""
-        due = stream.due() + 2 * self.judge.tolerance.jitter
-        if due >= last.time:
-            return True
-        since = self.judge.bus.waited_since(last.line, due, key=stream.key)
+    @property
+    def _slack(self):
+        return 2 * self.judge.tolerance.jitter
+
+    def _waits(self, stream, line):
+        """Whether a frame that is due may be waiting for the bus in a line."""
+        due = stream.due() + self._slack
+        since = self.judge.bus.waited_since(line, due, key=stream.key)
         return since is not None and since <= due
 
     def finish(self, end):
         """The log is over."""
         self.boot.finish()
-        if self._is_silent(end):
+        if self._is_silent(end, self.judge.last_line):
             last = self.last_heard()
             self.tell("silent", [self.number], "nothing of it comes any more", last.time, last.line)
             return

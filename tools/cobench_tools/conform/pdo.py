@@ -108,7 +108,7 @@ class SyncedPdo(Pdo):
     def judge_window(self, time, number):
         """A frame that comes behind the window, unless it is of the SYNC that should have come by now."""
         late = time - self.sync.last
-        if not self.sync.is_overdue(time + self.sync.allowed) and late > self.window + self.judge.tolerance.of(self.window):
+        if not self.sync.is_overdue(time) and late > self.window + self.judge.tolerance.of(self.window):
             self.tell("pdo-window", f"it comes {milliseconds(late)} after SYNC, and the window is {milliseconds(self.window)}",
                       time, number, [(self.sync.line, "the SYNC")])
 
