@@ -21,7 +21,7 @@ from networks import Dice
 from recording import Recording
 
 from cobench_tools import session, trace
-from cobench_tools.conform import run
+from cobench_tools.conform import choice, run
 from cobench_tools.conform.plan import Plan
 from cobench_tools.conform.tolerance import Tolerance
 from cobench_tools.evidence import Evidence
@@ -46,9 +46,13 @@ def planned(number, program):
     return plan_of("net.txt", program)
 
 
-def plan_of(path, program):
-    """The plan of a script, and the frames of its run."""
-    plan = Plan(session.run(path, program, Evidence.QUERIES))
+def plan_of(path, program, log=None):
+    """The plan of a script, the one of a log where there is one, and the frames of its run."""
+    if log:
+        options = argparse.Namespace(script=path, cobench=program, trace=None)
+        plan = choice.plan_of(options, source.Log(log), Tolerance())
+    else:
+        plan = Plan(session.run(path, program, Evidence.QUERIES))
     return plan, trace.frames_of(plan.lines)
 
 
@@ -66,7 +70,7 @@ def own_run(number, program):
     if not frames:
         return []
     cut = dice.below(len(frames))
-    logs = [(form, frames, form) for form in FORMS] + [("cut", frames[cut:], "log")]
+    logs = [(form, frames, form) for form in FORMS] + [("begins later", frames[cut:], "log"), ("ends sooner", frames[:cut + 1], "log")]
     logs += [(f"{ppm} ppm", log_faults.drifted(frames, dice, ppm, JITTER), "log") for ppm in (-PPM, PPM)]
     for name, each, form in logs:
         found = conform(plan, each, form, is_exact=name == "log")
@@ -117,7 +121,7 @@ def main():
         os.chdir(folder)
         for number in range(options.networks):
             wrong += own_run(number, program)
-        print(f"{options.networks} networks, each in {len(FORMS)} formats, cut, and by 2 other clocks: {len(wrong)} logs of which something is told")
+        print(f"{options.networks} networks, each in {len(FORMS)} formats, cut twice, and by 2 other clocks: {len(wrong)} logs of which something is told")
         if options.faults:
             counts, told = judge_kinds(options.kind or list(log_faults.KINDS), options.faults, range(options.of), program)
             print(*(f"{kind}: {count} logs" for kind, count in counts.items()), sep="\n")

@@ -50,6 +50,15 @@ def test_the_runs_of_the_examples_conform_in_each_format():
         is_conforming(conform("--values", example(f"{name}.txt"), "-", given=recording(name)))
 
 
+def test_the_runs_of_the_examples_conform_from_anywhere_to_anywhere():
+    for name in ("servo_axes", "io_modules"):
+        put("run.log", recording(name))
+        plan = conform_judge.plan_of(example(f"{name}.txt"), recorded(), "run.log")[0]
+        frames = [(time - 1_000_000, int(key[:3], 16), bytes.fromhex(data)) for _, time, key, data in rows_of("run.log")[0]]
+        for cut in range(1, len(frames), 11):
+            assert conform_judge.conform(plan, frames[cut:]) == [] == conform_judge.conform(plan, frames[:cut]), (name, cut)
+
+
 def test_the_plan_is_the_state_of_the_script_with_which_the_log_begins():
     """servo_axes has its trace in line 90, and edits behind it, by which the exported run is another one."""
     run("export", "--force", "--cobench", recorded(), "files", example("servo_axes.txt"))

@@ -6,6 +6,7 @@ from .aligned import Alignment
 MOST = 10_000
 MOST_WAITING = 1_000
 MOST_SPOTS = 200
+HEARTBEATS = "heartbeat-late", "heartbeat-missed"
 
 # Where in a log something is: its microsecond and its line.
 Spot = namedtuple("Spot", "time line")
@@ -109,8 +110,9 @@ class Times:
         self.of, self.waits = {}, {}
 
     def tell(self, code, subject, about, text, time, line, notes=()):
-        """Something isn't as the rules have it."""
-        self.of.setdefault((code, *map(str, subject)), []).append(time)
+        """Something isn't as the rules have it; a heartbeat that is late is missed later."""
+        for each in HEARTBEATS if code in HEARTBEATS else (code,):
+            self.of.setdefault((each, *map(str, subject)), []).append(time)
 
     def add_wait(self, key, time, gap):
         """A frame of a key has to wait for the bus, so that it comes so long after the one before it."""

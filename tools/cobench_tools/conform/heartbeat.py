@@ -2,10 +2,11 @@
 from .. import meaning
 from ..boots import BOOT_UP
 from ..logs.rows import key_of
+from .causes import HEARTBEATS
 from .plan import milliseconds
 
 NEVER, LOWER = 1 << 62, 2
-LATE, MISSED = "heartbeat-late", "heartbeat-missed"
+LATE, MISSED = HEARTBEATS
 STATE = 0x7F       # above it node guarding has its toggle bit
 STATE_BYTES = {4: "04", 5: "05", 127: "7F"}
 
@@ -116,5 +117,8 @@ class Heartbeat:
         if self.is_overdue(end):
             since = self.judge.bus.waits_since(self.key, self.last + self.period, self.spare, LOWER)
             if since > self.last + self.high:
-                gap = end - self.last
-                self._tell(gap, self.last + self.high, self.line, is_over=True)
+                self.tell_over(end)
+
+    def tell_over(self, end):
+        """None came up to the end."""
+        self._tell(end - self.last, self.last + self.high, self.line, is_over=True)

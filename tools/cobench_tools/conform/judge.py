@@ -63,11 +63,13 @@ class Judge:
 
     causes   what isn't as planned
     nodes    the planned nodes, by number
+    is_of_plan  whether it is the planned run that is judged
     begin, end, last_line  when the log begins and ends, and its last line
     """
 
     def __init__(self, plan, tolerance, causes, window=None, is_exact=False):
         self.plan, self.tolerance, self.causes, self.window, self.is_exact = plan, tolerance, causes, window, is_exact
+        self.is_of_plan = causes.alignment is None
         self.begin = self.end = None
         self.last_line, self.active_since, self.is_power_on = 0, None, None
         self.bus, self.sync = Bus(plan, tolerance), Sync(self)
@@ -154,7 +156,7 @@ class Judge:
         """Tells of the nodes that never boot though the log begins with power-on."""
         for number, node in self.nodes.items():
             planned = self.plan.landmarks.get((key_of(HEARTBEATS + number), "00"))
-            if planned and self.is_power_on and node.first is None and self._has_begun_before(planned[0]):
+            if planned and self.is_power_on and node.first is None and self._goes_past(planned[0]):
                 node.tell("never-boots", [number], "it never boots: nothing of it is there", self.begin, 1)
             elif planned and node.first is not None and node.first_boot is None and self._begins_with_the_run():
                 node.tell("never-boots", [number], "it is heard, and no boot-up message of it is there", *node.first)
@@ -164,10 +166,10 @@ class Judge:
         alignment = self.causes.alignment
         return bool(alignment) and bool(alignment.offsets) and abs(self.begin - alignment.offset - self.plan.frames[0][0]) <= SAME
 
-    def _has_begun_before(self, planned):
-        """Whether the log has begun before a time of the planned run, as far as that is known."""
+    def _goes_past(self, planned):
+        """Whether the log has begun before a time of the planned run and ends behind it, as far as that is known."""
         alignment = self.causes.alignment
-        return not alignment or alignment.offset is None or planned + alignment.offset >= self.begin - POWER_ON
+        return not alignment or alignment.offset is None or self.begin - POWER_ON <= planned + alignment.offset <= self.end
 
     # Emergencies.
 

@@ -91,8 +91,18 @@ class Node:
         """It boots though nothing reset it."""
         silent = time - max(self.heard.time, *(stream.last or 0 for stream in self.streams))
         said = f", {milliseconds(silent)} after it was heard last" if any(each.is_overdue(time) for each in self.streams) else ""
+        if self.judge.is_of_plan:
+            self._stays_away(time)
         self.set_state(None, time, False)
         self.tell("boots-again", [self.number], f"it boots again, and no command reset it{said}", time, line)
+
+    def _stays_away(self, time):
+        """In the planned run: what would be told if it ended here, before the node is there again."""
+        overdue = [stream for stream in self.streams if stream.is_overdue(time)]
+        for stream in overdue:
+            stream.tell_over(time)
+        if overdue:
+            self.tell("silent", [self.number], "", *self.last_heard())
 
     def command(self, service, time, line):
         """It was told to be in a state, or to reset."""
@@ -202,6 +212,7 @@ class Node:
         if self._is_silent(end, self.judge.last_line):
             last = self.last_heard()
             self.tell("silent", [self.number], "nothing of it comes any more", last.time, last.line)
-            return
+            if not self.judge.is_of_plan:
+                return
         for stream in self.streams:
             stream.finish(end)

@@ -97,6 +97,9 @@ class Pdo:
     def finish(self, end):
         """The log is over."""
 
+    def tell_over(self, end):
+        """None came up to the end, though one should have come."""
+
 
 class SyncedPdo(Pdo):
     """A TPDO that SYNC sends; `window` are the microseconds within which it has to come."""
@@ -209,9 +212,12 @@ class SyncPdo(SyncedPdo):
     def finish(self, end):
         if not self.is_overdue(end):
             return
+        first = self.sync.spot(self.index + self.step)
+        if self.judge.bus.waits_since(self.key, first.time) > first.time and not self.judge.stands_for(self, first.time, end):
+            self.tell_over(end)
+
+    def tell_over(self, end):
         first, passed = self.sync.spot(self.index + self.step), self.sync.index - self.index
-        if self.judge.bus.waits_since(self.key, first.time) <= first.time or self.judge.stands_for(self, first.time, end):
-            return
         self.tell("pdo-missing", f"it doesn't come after SYNC any more, {passed // self.step:,} times; its type is {self.step}",
                   first.time, first.line)
 
@@ -295,8 +301,10 @@ class EventPdo(Pdo):
         if not self.is_overdue(end):
             return
         since = self.judge.bus.waits_since(self.key, self.last + self.period)
-        if since <= self.last + self.high or self.judge.stands_for(self, self.last, end):
-            return
+        if since > self.last + self.high and not self.judge.stands_for(self, self.last, end):
+            self.tell_over(end)
+
+    def tell_over(self, end):
         self.tell("pdo-event", f"it doesn't come any more, for {milliseconds(end - self.last)}, and its event time is "
                   f"{milliseconds(self.period)}", self.last + self.high, self.line)
 
