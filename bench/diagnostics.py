@@ -14,10 +14,10 @@ the plan and the diagnostics, and the peak memory. Asserts a difference under 30
 Run it from anywhere: bench/diagnostics.py crates/cobench/out/cobench
 """
 import os
-import subprocess
 import sys
-import tempfile
 from collections import Counter
+
+from measured import session
 
 TEXTS = 64
 LINES = 65536
@@ -94,17 +94,8 @@ def script(filler):
 
 def run(program, lines):
     """The processor's seconds, the peak bytes and the replies of one session."""
-    with tempfile.TemporaryFile() as file, tempfile.TemporaryFile() as output:
-        file.writelines(lines)
-        file.seek(0)
-        child = subprocess.Popen([program], stdin=file, stdout=output)
-        _, status, usage = os.wait4(child.pid, 0)
-        child.returncode = os.waitstatus_to_exitcode(status)
-        output.seek(0)
-        replies = output.read().split(b"\n")[:-1]
-    if child.returncode != 0:
-        sys.exit(f"{program} ended with {child.returncode}")
-    return usage.ru_utime + usage.ru_stime, usage.ru_maxrss * 1024, replies
+    seconds, memory, written = session(program, lines)
+    return seconds, memory, written.split(b"\n")[:-1]
 
 
 def expected(entries, skipped):

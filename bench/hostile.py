@@ -17,9 +17,9 @@ Run it from anywhere: bench/hostile.py crates/cobench/out/cobench
 import importlib.util
 import os
 import re
-import subprocess
 import sys
-import tempfile
+
+from measured import session
 
 MEMORY = 2 << 30
 SYNC_US = 1000
@@ -27,27 +27,10 @@ NODES = 126
 ONE_LINE = re.compile(rb"ok|refused [2-9] [A-Za-z]+|lines \d+")
 
 
-# Runs a program and tells what it took. It is a process of its own since a child begins with the memory of its parent.
-RUNNER = """import os, subprocess, sys
-child = subprocess.Popen(sys.argv[1:])
-_, status, usage = os.wait4(child.pid, 0)
-child.returncode = os.waitstatus_to_exitcode(status)
-print(child.returncode, usage.ru_utime + usage.ru_stime, usage.ru_maxrss, file=sys.stderr)
-"""
-
-
 def run(program, lines):
     """The processor's seconds, the peak of memory in KiB and the replies of one session."""
-    with tempfile.TemporaryFile() as file, tempfile.TemporaryFile() as output:
-        file.writelines(lines)
-        file.seek(0)
-        done = subprocess.run([sys.executable, "-S", "-c", RUNNER, program], stdin=file, stdout=output, stderr=subprocess.PIPE)
-        output.seek(0)
-        replies = output.read().split(b"\n")[:-1]
-    status, seconds, kib = done.stderr.split()[-3:]
-    if status != b"0":
-        sys.exit(f"{program} ended with {done.stderr!r}")
-    return float(seconds), int(kib), replies
+    seconds, memory, written = session(program, lines)
+    return seconds, memory // 1024, written.split(b"\n")[:-1]
 
 
 def told(name, seconds, kib, good, more=""):

@@ -21,6 +21,8 @@ import subprocess
 import sys
 import tempfile
 
+from measured import session
+
 ROOT = os.path.dirname(os.path.dirname(os.path.abspath(__file__)))
 CRATE = os.path.join(ROOT, "crates", "checks_files")
 PROGRAM = os.path.join(CRATE, "out", "checks_files")
@@ -78,14 +80,8 @@ def run(text):
     with tempfile.NamedTemporaryFile() as file:
         file.write(text)
         file.flush()
-        child = subprocess.Popen([PROGRAM, file.name], stdin=subprocess.DEVNULL, stdout=subprocess.PIPE)
-        answer = child.stdout.read()
-        _, status, usage = os.wait4(child.pid, 0)
-        child.stdout.close()
-        child.returncode = os.waitstatus_to_exitcode(status)
-    if child.returncode != 0:
-        sys.exit(f"{PROGRAM} ended with {child.returncode}")
-    return usage.ru_utime + usage.ru_stime, usage.ru_maxrss * 1024, answer.decode().strip()
+        seconds, memory, answer = session(PROGRAM, [], file.name)
+    return seconds, memory, answer.decode().strip()
 
 
 def least(texts, so_far):

@@ -17,11 +17,12 @@ messages instead: they don't grow.
 Prints the peak memory too. Run it from anywhere: bench/kept.py crates/cobench/out/cobench
 """
 import os
-import resource
 import subprocess
 import sys
 import tempfile
 import time
+
+from measured import session
 
 TURNS = 200
 NODES = 126
@@ -95,16 +96,9 @@ def sized():
 
 
 def seconds(program, lines):
-    """The seconds of the processor, and the peak of memory in KiB of all runs so far."""
-    with tempfile.TemporaryFile() as script:
-        script.write(b"\n".join(lines) + b"\n")
-        script.seek(0)
-        before = resource.getrusage(resource.RUSAGE_CHILDREN)
-        done = subprocess.run([program], stdin=script, stdout=subprocess.DEVNULL)
-        after = resource.getrusage(resource.RUSAGE_CHILDREN)
-    if done.returncode:
-        sys.exit("the program ended with %d" % done.returncode)
-    return after.ru_utime - before.ru_utime + after.ru_stime - before.ru_stime, after.ru_maxrss
+    """The seconds of the processor, and the peak of memory in KiB."""
+    took, memory, _written = session(program, [b"\n".join(lines), b"\n"])
+    return took, memory // 1024
 
 
 def plain_write(reply, turns):

@@ -15,9 +15,9 @@ difference under 5 seconds, that the edits are taken, and for `clean` that the f
 messages. Run it from anywhere: bench/messages.py crates/cobench/out/cobench
 """
 import os
-import subprocess
 import sys
-import tempfile
+
+from measured import session
 
 INPUT = 64 << 20
 NODES = 126
@@ -115,17 +115,8 @@ def most():
 
 def run(program, script):
     """The processor's seconds, the peak bytes and the replies of one session."""
-    with tempfile.TemporaryFile() as file, tempfile.TemporaryFile() as output:
-        file.writelines(script)
-        file.seek(0)
-        child = subprocess.Popen([program], stdin=file, stdout=output)
-        _, status, usage = os.wait4(child.pid, 0)
-        child.returncode = os.waitstatus_to_exitcode(status)
-        output.seek(0)
-        replies = output.read().split(b"\n")[:-1]
-    if child.returncode != 0:
-        sys.exit(f"{program} ended with {child.returncode}")
-    return usage.ru_utime + usage.ru_stime, usage.ru_maxrss * 1024, replies
+    seconds, memory, written = session(program, script)
+    return seconds, memory, written.split(b"\n")[:-1]
 
 
 def whole(groups):

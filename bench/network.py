@@ -13,11 +13,9 @@ of the processor and at most 512 MiB, and the replies: the heads of all, and the
 `project`. Run it from anywhere: bench/network.py crates/cobench/out/cobench
 """
 import os
-import resource
-import subprocess
 import sys
-import tempfile
-import time
+
+from measured import session
 
 LINES = 65536
 ENTRIES = 4000
@@ -106,23 +104,6 @@ def missing():
     return [b"E01 param 1 %04X 00" % (0x2000 + number) for number in range(ENTRIES, MOST)]
 
 
-def run(program, script):
-    """The seconds by the clock, the replies and the standing of one session.
-
-    Its input and output are files, so that reading and writing here take none of its time."""
-    with tempfile.TemporaryFile() as file, tempfile.TemporaryFile() as output:
-        file.writelines(script)
-        file.seek(0)
-        start = time.monotonic()
-        status = subprocess.run([program], stdin=file, stdout=output).returncode
-        seconds = time.monotonic() - start
-        output.seek(0)
-        replies = output.read().split(b"\n")[:-1]
-    if status != 0:
-        sys.exit(f"{program} ended with {status}")
-    return seconds, replies
-
-
 def is_right(replies, edits, commands, linked):
     """Whether the replies have these heads, `diag` prints what is wrong and `project` the commands."""
     if replies[:edits] != [b"ok"] * edits:
@@ -145,13 +126,11 @@ def main():
     program = os.path.abspath(sys.argv[1])
     commands, edits = network(linked)
     queries = [b"dcf %d\ncdcf %d\n" % (node, node) for node in range(1, NODES + 1)]
-    seconds, replies = run(program, [*commands, *queries, b"diag\n", b"project\n"])
-    usage = resource.getrusage(resource.RUSAGE_CHILDREN)
-    work, memory = usage.ru_utime + usage.ru_stime, usage.ru_maxrss * 1024
+    seconds, memory, written = session(program, [*commands, *queries, b"diag\n", b"project\n"])
+    replies = written.split(b"\n")[:-1]
     right = is_right(replies, edits, commands, linked)
-    is_good = right and work < SECONDS and memory <= MEMORY
-    print(f"network {seconds:6.2f} s by the clock, {work:6.2f} s of the processor, "
-          f"{memory / (1 << 20):6.1f} MiB; replies {'right' if right else 'wrong'}"
+    is_good = right and seconds < SECONDS and memory <= MEMORY
+    print(f"network {seconds:6.2f} s, {memory / (1 << 20):6.1f} MiB; replies {'right' if right else 'wrong'}"
           f"{'' if is_good else '  FAILED'}")
     sys.exit(0 if is_good else 1)
 

@@ -17,7 +17,8 @@ from anywhere: bench/session.py
 import os
 import subprocess
 import sys
-import tempfile
+
+from measured import session
 
 ROOT = os.path.dirname(os.path.dirname(os.path.abspath(__file__)))
 CRATE = os.path.join(ROOT, "crates", "cobench")
@@ -63,20 +64,8 @@ def params():
 
 
 def run(script):
-    """The processor's seconds, the peak bytes and the replies of one session.
-
-    The peak counts this process too, as it is when it starts the session: so it stays small."""
-    with tempfile.TemporaryFile() as file, tempfile.TemporaryFile() as output:
-        file.writelines(script)
-        file.seek(0)
-        child = subprocess.Popen([PROGRAM], stdin=file, stdout=output)
-        _, status, usage = os.wait4(child.pid, 0)
-        child.returncode = os.waitstatus_to_exitcode(status)
-        output.seek(0)
-        replies = output.read()
-    if child.returncode != 0:
-        sys.exit(f"{PROGRAM} ended with {child.returncode}")
-    return usage.ru_utime + usage.ru_stime, usage.ru_maxrss * 1024, replies
+    """The processor's seconds, the peak bytes and the replies of one session."""
+    return session(PROGRAM, script)
 
 
 def heads(replies):

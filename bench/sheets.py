@@ -12,9 +12,9 @@ of the small one.
 Run it from anywhere: bench/sheets.py crates/cobench/out/cobench
 """
 import os
-import subprocess
 import sys
-import tempfile
+
+from measured import session
 
 NODES = 126
 WINDOW = 10_000
@@ -42,25 +42,20 @@ def network(entries, horizon):
 
 
 def run(program, lines):
-    """The processor's seconds, the peak memory in kilobytes, and the replies of one session."""
-    with tempfile.TemporaryFile() as script:
-        script.write("\n".join(lines).encode() + b"\n")
-        script.seek(0)
-        process = subprocess.Popen([program], stdin=script, stdout=subprocess.PIPE)
-        printed = process.stdout.read()
-        _, status, used = os.wait4(process.pid, 0)
-    if status != 0 or b"refused " in printed:
-        sys.exit(f"{program} ended with status {status}, or refused a command")
-    return used.ru_utime + used.ru_stime, used.ru_maxrss, printed
+    """The processor's seconds, the peak memory in bytes, and the replies of one session."""
+    seconds, memory, printed = session(program, ["\n".join(lines).encode(), b"\n"])
+    if b"refused " in printed:
+        sys.exit(f"{program} refused a command")
+    return seconds, memory, printed
 
 
 def measure(program, entries):
     bare = run(program, network(entries, LONG))[0]
     short = run(program, network(entries, SHORT) + ["trace"])[1]
     seconds, long, printed = run(program, network(entries, LONG) + ["trace"])
-    window = (long - short) * 1024 / ((LONG - SHORT) / WINDOW)
+    window = (long - short) / ((LONG - SHORT) / WINDOW)
     told = printed[printed.index(b"lines "):]
-    print(f"{entries:5} entries  {seconds - bare:.2f} s, {long / 1024:.0f} MiB; {window:.0f} bytes a window; {told.count(10) - 1} lines")
+    print(f"{entries:5} entries  {seconds - bare:.2f} s, {long / (1 << 20):.0f} MiB; {window:.0f} bytes a window; {told.count(10) - 1} lines")
     return window, told
 
 

@@ -17,9 +17,9 @@ lines and the last one.
 Run it from anywhere: bench/trace.py crates/cobench/out/cobench
 """
 import os
-import subprocess
 import sys
-import tempfile
+
+from measured import session
 
 NODES = 126
 ENTRIES = 30
@@ -106,17 +106,8 @@ def script(kind):
 
 def run(program, lines):
     """The processor's seconds, the peak bytes and the replies of one session."""
-    with tempfile.TemporaryFile() as file, tempfile.TemporaryFile() as output:
-        file.writelines(lines)
-        file.seek(0)
-        child = subprocess.Popen([program], stdin=file, stdout=output)
-        _, status, usage = os.wait4(child.pid, 0)
-        child.returncode = os.waitstatus_to_exitcode(status)
-        output.seek(0)
-        replies = output.read().split(b"\n")[:-1]
-    if child.returncode != 0:
-        sys.exit(f"{program} ended with {child.returncode}")
-    return usage.ru_utime + usage.ru_stime, usage.ru_maxrss * 1024, replies
+    seconds, memory, written = session(program, lines)
+    return seconds, memory, written.split(b"\n")[:-1]
 
 
 def is_right(replies, edits, kind):

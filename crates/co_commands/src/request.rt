@@ -94,7 +94,7 @@ fn query(query: Result<Query, EditFault>) -> Result<Request, EditFault>
     Ok(Request::Query(query?))
 }
 
-/// What a command asks; those are tried first that scripts have most of.
+/// What a command asks. Three of those that a project can have many of are tried first.
 #[tactic(auto, using(crate::proofs::FrequentLemmas::frequent_commands))]
 fn command(alloc: Global, first: &[u8], rest: &[u8]) -> Result<Request, EditFault>
     ensures { Gives is_memory (λ r. r) result (command_of first.now rest.now) }

@@ -1,4 +1,4 @@
--- What is found node by node, and then the rest, is all that is found.
+-- What is found of the nodes by their data sheets, and then the rest, is all that is found.
 use Rattle.std.proofs.Common.{◌≡◌, ◌↔◌, ◌⊎◌, inl, inr, ℕ, Bool, true, false, cond, List, [], ◌∷◌, ◌++◌, filter, filter_map}
 use Rattle.std.proofs.Common.{Contains, Option, Some, None, is_some, refl, sym, ap, subst, ◌∙◌}
 use Rattle.std.specs.Prelude.{option_and_then}
@@ -21,7 +21,7 @@ use Rattle.configured_nodes.specs.Values.{members}
 use Rattle.co_diag.specs.Found.{diagnostics_found, diagnostics_of, message_faults, no_sync, other_counter}
 use Rattle.co_diag.specs.Found.{parameter_diagnostic, remote_type, shared_identifiers, skipped_lines, unfit_consumers}
 use Rattle.co_diag.specs.Found.{unfit_event, unfit_parameters, unreached_start, unreadable_defaults}
-use Rattle.co_diag.specs.Sheets.{diagnostics_met, given_places, is_given, said_of_node}
+use Rattle.co_diag.specs.Sheets.{diagnostics_met, faults_of_node, given_places, is_given}
 use Rattle.co_diag.proofs.FoundLemmas.{collected}
 use Rattle.co_diag.proofs.ListLemmas.{Contains-flat_map, from_flat_map}
 use Rattle.co_diag.proofs.MemberLemmas.{entry_of}
@@ -77,18 +77,13 @@ module _ (e : ℕ × Member) (d : Diag) where
       Contains-filter_map (parameter_diagnostic e) (pairs_of e.1.sections) one.0 d
       (passed (is_given e.1.sections) (pairs_of e.1.sections) one.0 one.1) one.2
 
-  pub said_found : Contains (said_of_node e) d → Contains (unfit_parameters e) d ⊎ Contains (unreadable_defaults e) d
-  unfolding said_of_node unfit_parameters
-  said_found c = by (Contains-append_cases (own_ones ++ given_ones) (unreadable_defaults e) d c)
+  pub fault_found : Contains (faults_of_node e) d → Contains (unfit_parameters e) d
+  unfolding faults_of_node unfit_parameters
+  fault_found c = on (Contains-append_cases own_ones given_ones d c)
     where
       on : Contains own_ones d ⊎ Contains given_ones d → Contains (own_ones ++ all_ones) d
       on (inl own) = Contains-append_left own_ones all_ones d own
       on (inr given) = Contains-append_right own_ones all_ones d (of_given given)
-
-      by : Contains (own_ones ++ given_ones) d ⊎ Contains (unreadable_defaults e) d
-          → Contains (own_ones ++ all_ones) d ⊎ Contains (unreadable_defaults e) d
-      by (inl c) = inl (on (Contains-append_cases own_ones given_ones d c))
-      by (inr c) = inr c
 
   -- a parameter is the node's own, or its data sheet gives it
   at_place : (place : ℕ × ℕ) → Contains (pairs_of e.1.sections) place → parameter_diagnostic e place ≡ Some d
@@ -114,51 +109,28 @@ module _ (e : ℕ × Member) (d : Diag) where
           (passes (is_given e.1.sections) (pairs_of e.1.sections) place there
           (some_given (given_text e.1.sections place) u.text g)) found)
 
-  pub unfit_said : Contains (unfit_parameters e) d → Contains (said_of_node e) d
-  unfolding said_of_node unfit_parameters
-  unfit_said c = Contains-append_left (own_ones ++ given_ones) (unreadable_defaults e) d
-      (by (Contains-append_cases own_ones all_ones d c))
+  pub fault_met : Contains (unfit_parameters e) d → Contains (faults_of_node e) d
+  unfolding faults_of_node unfit_parameters
+  fault_met c = by (Contains-append_cases own_ones all_ones d c)
     where
       by : Contains own_ones d ⊎ Contains all_ones d → Contains (own_ones ++ given_ones) d
       by (inl own) = Contains-append_left own_ones given_ones d own
       by (inr all) = let one = from_filter_map (parameter_diagnostic e) (pairs_of e.1.sections) d all
           in at_place one.0 one.1 one.2
 
-  pub default_said : Contains (unreadable_defaults e) d → Contains (said_of_node e) d
-  unfolding said_of_node
-  default_said c = Contains-append_right (own_ones ++ given_ones) (unreadable_defaults e) d c
-
 -- ---- all nodes
 
-module _ (es : List (ℕ × Member)) (d : Diag) where
-  abbrev by_node : List Diag
-  by_node = flat_map said_of_node es
+nodes_same : (es : List (ℕ × Member)) (d : Diag)
+    → Contains (flat_map faults_of_node es) d ↔ Contains (flat_map unfit_parameters es) d
+nodes_same es d = (there, back)
+  where
+    there : Contains (flat_map faults_of_node es) d → Contains (flat_map unfit_parameters es) d
+    there c = let one = from_flat_map faults_of_node es d c
+        in Contains-flat_map unfit_parameters es one.0 d one.1 (fault_found one.0 d one.2)
 
-  abbrev parameters : List Diag
-  parameters = flat_map unfit_parameters es
-
-  abbrev defaults : List Diag
-  defaults = flat_map unreadable_defaults es
-
-  nodes_same : Contains by_node d ↔ Contains (parameters ++ defaults) d
-  nodes_same = (there, λ c. back (Contains-append_cases parameters defaults d c))
-    where
-      there : Contains by_node d → Contains (parameters ++ defaults) d
-      there c =
-          let one = from_flat_map said_of_node es d c in
-          on one.0 one.1 (said_found one.0 d one.2)
-        where
-          on : (e : ℕ × Member) → Contains es e → Contains (unfit_parameters e) d ⊎ Contains (unreadable_defaults e) d
-              → Contains (parameters ++ defaults) d
-          on e has (inl c) = Contains-append_left parameters defaults d (Contains-flat_map unfit_parameters es e d has c)
-          on e has (inr c) = Contains-append_right parameters defaults d
-              (Contains-flat_map unreadable_defaults es e d has c)
-
-      back : Contains parameters d ⊎ Contains defaults d → Contains by_node d
-      back (inl c) = let one = from_flat_map unfit_parameters es d c
-          in Contains-flat_map said_of_node es one.0 d one.1 (unfit_said one.0 d one.2)
-      back (inr c) = let one = from_flat_map unreadable_defaults es d c
-          in Contains-flat_map said_of_node es one.0 d one.1 (default_said one.0 d one.2)
+    back : Contains (flat_map unfit_parameters es) d → Contains (flat_map faults_of_node es) d
+    back c = let one = from_flat_map unfit_parameters es d c
+        in Contains-flat_map faults_of_node es one.0 d one.1 (fault_met one.0 d one.2)
 
 -- ---- all that is found
 
@@ -183,9 +155,10 @@ same_found p d =
     (same_before _ _ (flat_map message_faults (plan_of_project p)) d
     (same_before _ _ (filter_map (other_counter p) (members p)) d
     (same_before _ _ (shared_identifiers p) d
-    (same_before (by_node (members p) d) (parameters (members p) d ++ defaults (members p) d)
-    (flat_map (unfit_consumers p) (members p)) d
-    (nodes_same (members p) d)))))))))
+    (same_before _ _ (flat_map (unfit_consumers p) (members p)) d
+    (same_before (flat_map faults_of_node (members p)) (flat_map unfit_parameters (members p))
+    (flat_map unreadable_defaults (members p)) d
+    (nodes_same (members p) d))))))))))
 
 pub met_is : (p : Content) → sorted_set diag_cmp (diagnostics_met p) ≡ diagnostics_of p
 met_is p = collected p (diagnostics_met p) (same_found p)

@@ -15,34 +15,44 @@ use Rattle.diag_lines.specs.declared.diag.Diag.{Diag}
 use Rattle.co_diag.specs.declared.sheet.Sheet.{Sheet}
 use Rattle.co_diag.specs.Devices.{device_at, of_node}
 use Rattle.co_diag.specs.Found.{parameter_diagnostic, unreadable_default, unreadable_defaults}
-use Rattle.co_diag.specs.Sheets.{IsSheet, IsSheetOf, given_places, said_of_node}
+use Rattle.co_diag.specs.Sheets.{IsSheet, IsSheetOf, faults_of_node, given_places}
 use Rattle.co_diag.proofs.DoubtLemmas.{doubts_suffice}
 
--- what is found one after the other at the entries of a data sheet
-pub said_by : (e : ℕ × Member) (d : Device) (sheet : Sheet) (given doubtful : List (ℕ × ℕ))
-    (found own parameters all : List Diag)
-    → IsSheetOf d sheet → e.1.sections ≡ d.sections → given ≡ sheet.given.items → doubtful ≡ sheet.doubtful.items
+-- what is found one after the other at the entries that a data sheet gives a parameter
+pub faults_by : (e : ℕ × Member) (d : Device) (sheet : Sheet) (given : List (ℕ × ℕ)) (found own all : List Diag)
+    → IsSheetOf d sheet → e.1.sections ≡ d.sections → given ≡ sheet.given.items
     → own ≡ found ++ filter_map (λ own. parameter_diagnostic e own.0) (entries e.1.node.params)
-    → parameters ≡ own ++ filter_map (parameter_diagnostic e) given
-    → all ≡ parameters ++ filter_map (unreadable_default e) doubtful → all ≡ found ++ said_of_node e
-unfolding said_of_node
-said_by e d sheet given doubtful found own parameters all is same is_given is_doubtful first second third =
-    third
-    ∙ ap (λ (ds : List Diag). parameters ++ ds) (ap (filter_map (unreadable_default e))
-    (is_doubtful ∙ is.doubtful ∙ ap doubtful_places (sym same)) ∙ doubts_suffice e)
-    ∙ ap (λ (ds : List Diag). ds ++ unreadable_defaults e) (second
+    → all ≡ own ++ filter_map (parameter_diagnostic e) given → all ≡ found ++ faults_of_node e
+unfolding faults_of_node
+faults_by e d sheet given found own all is same is_given first second =
+    second
     ∙ ap (λ (ds : List Diag). own ++ ds) (ap (filter_map (parameter_diagnostic e))
     (is_given ∙ is.given ∙ ap given_places (sym same)))
     ∙ ap (λ (ds : List Diag). ds ++ filter_map (parameter_diagnostic e) (given_places e.1.sections)) first
     ∙ append_assoc found (filter_map (λ own. parameter_diagnostic e own.0) (entries e.1.node.params))
-    (filter_map (parameter_diagnostic e) (given_places e.1.sections)))
-    ∙ append_assoc found (filter_map (λ own. parameter_diagnostic e own.0) (entries e.1.node.params)
-    ++ filter_map (parameter_diagnostic e) (given_places e.1.sections)) (unreadable_defaults e)
+    (filter_map (parameter_diagnostic e) (given_places e.1.sections))
 
--- what is said of a node that has a device
-pub of_member : (p : Content) (id : ℕ) (node : Node) (d : Device) → device_at p.texts node.eds ≡ Some d
-    → said_of_node (member_of id node d) ≡ of_node said_of_node p (id, node)
-of_member p id node d is = sym (ap (λ o. option_map_or (λ (it : Device). said_of_node (member_of id node it)) o []) is)
+-- at those whose default is doubtful
+pub defaults_by : (e : ℕ × Member) (d : Device) (sheet : Sheet) (doubtful : List (ℕ × ℕ)) (found all : List Diag)
+    → IsSheetOf d sheet → e.1.sections ≡ d.sections → doubtful ≡ sheet.doubtful.items
+    → all ≡ found ++ filter_map (unreadable_default e) doubtful → all ≡ found ++ unreadable_defaults e
+defaults_by e d sheet doubtful found all is same is_doubtful now =
+    now
+    ∙ ap (λ (ds : List Diag). found ++ ds) (ap (filter_map (unreadable_default e))
+    (is_doubtful ∙ is.doubtful ∙ ap doubtful_places (sym same)) ∙ doubts_suffice e)
+
+-- what is found of a node that has a device
+of_member : (f : ℕ × Member → List Diag) (p : Content) (id : ℕ) (node : Node) (d : Device)
+    → device_at p.texts node.eds ≡ Some d → f (member_of id node d) ≡ of_node f p (id, node)
+of_member f p id node d is = sym (ap (λ o. option_map_or (λ (it : Device). f (member_of id node it)) o []) is)
+
+pub faults_of_member : (p : Content) (id : ℕ) (node : Node) (d : Device) → device_at p.texts node.eds ≡ Some d
+    → faults_of_node (member_of id node d) ≡ of_node faults_of_node p (id, node)
+faults_of_member = of_member faults_of_node
+
+pub defaults_of_member : (p : Content) (id : ℕ) (node : Node) (d : Device) → device_at p.texts node.eds ≡ Some d
+    → unreadable_defaults (member_of id node d) ≡ of_node unreadable_defaults p (id, node)
+defaults_of_member = of_member unreadable_defaults
 
 -- the data sheet of a name is that of its device
 pub sheet_for : (texts : Texts) (sheets : List Sheet) (sheet : Sheet) (name : List ℕ) (d : Device)

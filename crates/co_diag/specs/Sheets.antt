@@ -33,15 +33,16 @@ pub record IsSheetOf (device : Device) (sheet : Sheet) : Type 0 where
 abbrev pub IsSheet : Texts → Sheet → Type 0
 IsSheet texts sheet = IfSome (device_at texts sheet.name) (λ (d : Device). IsSheetOf d sheet)
 
--- the faults of a node's own parameters and of those that its data sheet gives, and its unreadable defaults
-unfoldable pub said_of_node : ℕ × Member → List Diag
-said_of_node e = filter_map (λ own. parameter_diagnostic e own.0) (entries e.1.node.params)
-    ++ filter_map (parameter_diagnostic e) (given_places e.1.sections) ++ unreadable_defaults e
+-- the faults of a node's own parameters, and of those that its data sheet gives
+unfoldable pub faults_of_node : ℕ × Member → List Diag
+faults_of_node e = filter_map (λ own. parameter_diagnostic e own.0) (entries e.1.node.params)
+    ++ filter_map (parameter_diagnostic e) (given_places e.1.sections)
 
--- what is found node by node, and then the rest
+-- what is found of the nodes by their data sheets, and then the rest
 unfoldable pub diagnostics_met : Content → List Diag
 diagnostics_met p =
-    flat_map said_of_node (members p) ++ flat_map (unfit_consumers p) (members p)
+    flat_map faults_of_node (members p) ++ flat_map unreadable_defaults (members p)
+    ++ flat_map (unfit_consumers p) (members p)
     ++ shared_identifiers p ++ filter_map (other_counter p) (members p)
     ++ flat_map message_faults (plan_of_project p) ++ filter_map remote_type (entries p.messages)
     ++ filter_map (no_sync p) (entries p.messages) ++ filter_map (unreached_start p) (entries p.messages)

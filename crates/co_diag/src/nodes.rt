@@ -1,8 +1,9 @@
 //! What is wrong with nodes by themselves, put at the end of what was found.
-ghost use Rattle.std.specs.Prelude.{◌≡◌, ◌++◌, All, Contains, IfSome, OnOk};
+ghost use Rattle.std.specs.Prelude.{◌≡◌, ◌++◌, All, Contains, IfOk, IfSome, OnOk};
 ghost use Rattle.std.specs.List.{flat_map};
 ghost use Rattle.co_diag.specs.Devices.{AreAllRead, of_node};
-ghost use Rattle.co_diag.specs.Sheets.{IsSheet, IsSheetOf, said_of_node};
+ghost use Rattle.co_diag.specs.Found.{unreadable_defaults};
+ghost use Rattle.co_diag.specs.Sheets.{IsSheet, IsSheetOf, faults_of_node};
 ghost use Rattle.configured_nodes.specs.Values.{member_of, members};
 
 use crate::defaults::find_unreadable;
@@ -15,8 +16,8 @@ use eds_device::Device;
 use project_plan::Library;
 use std::alloc::{AllocError, Global};
 
-/// Finds the faults of a node's parameters, and its unreadable defaults.
-fn find_by_sheet(
+/// Finds the faults of a node's own parameters, and of those that its data sheet gives.
+fn find_faults(
     found: &mut Vec<Diag>,
     alloc: Global,
     id: u8,
@@ -26,10 +27,26 @@ fn find_by_sheet(
 ) -> Result<(), AllocError>
     requires { IsSheetOf device.now sheet.now }
     ensures { OnOk result (found.new.items
-        ≡ found.old.items ++ said_of_node (member_of id node.now device.now)) }
+        ≡ found.old.items ++ faults_of_node (member_of id node.now device.now)) }
 {
     find_own(found, alloc, id, node, device)?;
     find_given(found, alloc, id, node, device, &sheet.given)?;
+    Ok(())
+}
+
+/// Finds a node's unreadable defaults.
+fn find_defaults(
+    found: &mut Vec<Diag>,
+    alloc: Global,
+    id: u8,
+    node: &Node,
+    device: &Device,
+    sheet: &Sheet,
+) -> Result<(), AllocError>
+    requires { IsSheetOf device.now sheet.now }
+    ensures { OnOk result (found.new.items
+        ≡ found.old.items ++ unreadable_defaults (member_of id node.now device.now)) }
+{
     find_unreadable(found, alloc, id, node, device, &sheet.doubtful)?;
     Ok(())
 }
@@ -47,8 +64,8 @@ fn find_sheet<'a>(sheets: &'a [Sheet], name: &[u8]) -> Option<&'a Sheet>
     None
 }
 
-/// Finds them of a node, by the data sheets that were looked at. Keeps its own among them.
-fn find_of_node(
+/// Finds the faults of a node's parameters, by the data sheets that were looked at. Keeps its own among them.
+fn find_faults_of_node(
     found: &mut Vec<Diag>,
     alloc: Global,
     library: &Library<'_>,
@@ -59,7 +76,7 @@ fn find_of_node(
     requires read { AreAllRead library.now }
     requires sheets { All (IsSheet library.now.project.texts) sheets.old.items }
     ensures found { OnOk result (found.new.items
-        ≡ found.old.items ++ of_node said_of_node library.now.project (id, node.now)) }
+        ≡ found.old.items ++ of_node faults_of_node library.now.project (id, node.now)) }
     ensures sheets { OnOk result (All (IsSheet library.now.project.texts) sheets.new.items) }
 {
     let name = node.eds.as_slice();
@@ -67,15 +84,78 @@ fn find_of_node(
         return Ok(());
     };
     if let Some(sheet) = find_sheet(sheets, name) {
-        return find_by_sheet(found, alloc, id, node, device, sheet);
+        return find_faults(found, alloc, id, node, device, sheet);
     }
     let sheet = sheet_of(alloc, library.project(), name, device)?;
-    find_by_sheet(found, alloc, id, node, device, &sheet)?;
+    find_faults(found, alloc, id, node, device, &sheet)?;
     sheets.push(sheet)?;
     Ok(())
 }
 
-/// Finds them of all nodes. Each data sheet is looked at once for all nodes that have it.
+/// Finds a node's unreadable defaults, by its data sheet among these; one that isn't there is looked at anew.
+fn find_defaults_of_node(
+    found: &mut Vec<Diag>,
+    alloc: Global,
+    library: &Library<'_>,
+    sheets: &[Sheet],
+    id: u8,
+    node: &Node,
+) -> Result<(), AllocError>
+    requires read { AreAllRead library.now }
+    requires sheets { All (IsSheet library.now.project.texts) sheets.now }
+    ensures { OnOk result (found.new.items
+        ≡ found.old.items ++ of_node unreadable_defaults library.now.project (id, node.now)) }
+{
+    let name = node.eds.as_slice();
+    let Some(device) = device_of(library, name) else {
+        return Ok(());
+    };
+    if let Some(sheet) = find_sheet(sheets, name) {
+        return find_defaults(found, alloc, id, node, device, sheet);
+    }
+    let sheet = sheet_of(alloc, library.project(), name, device)?;
+    find_defaults(found, alloc, id, node, device, &sheet)
+}
+
+/// Finds the faults of the parameters of all nodes, and answers the data sheets of these: each is looked at once
+/// for all nodes that have it.
+fn find_faults_of_nodes(
+    found: &mut Vec<Diag>,
+    alloc: Global,
+    library: &Library<'_>,
+) -> Result<Vec<Sheet>, AllocError>
+    requires { AreAllRead library.now }
+    ensures found { OnOk result (found.new.items ≡ found.old.items
+        ++ flat_map faults_of_node (members library.now.project)) }
+    ensures sheets { IfOk result (λ sheets. All (IsSheet library.now.project.texts) sheets.items) }
+{
+    let mut sheets = Vec::new(alloc);
+    for (id, node) in library.project().nodes() {
+        find_faults_of_node(found, alloc, library, &mut sheets, *id, node)?;
+    }
+    Ok(sheets)
+}
+
+/// Finds the unreadable defaults of all nodes, by these data sheets.
+fn find_defaults_of_nodes(
+    found: &mut Vec<Diag>,
+    alloc: Global,
+    library: &Library<'_>,
+    sheets: &[Sheet],
+) -> Result<(), AllocError>
+    requires read { AreAllRead library.now }
+    requires sheets { All (IsSheet library.now.project.texts) sheets.now }
+    ensures { OnOk result (found.new.items ≡ found.old.items
+        ++ flat_map unreadable_defaults (members library.now.project)) }
+{
+    for (id, node) in library.project().nodes() {
+        find_defaults_of_node(found, alloc, library, sheets, *id, node)?;
+    }
+    Ok(())
+}
+
+/// Finds the faults of the parameters of all nodes, and then their unreadable defaults, so that each of the two
+/// comes in order. Each data sheet is looked at once for all nodes that have it.
 pub(crate) fn find_of_nodes(
     found: &mut Vec<Diag>,
     alloc: Global,
@@ -83,11 +163,9 @@ pub(crate) fn find_of_nodes(
 ) -> Result<(), AllocError>
     requires { AreAllRead library.now }
     ensures { OnOk result (found.new.items ≡ found.old.items
-        ++ flat_map said_of_node (members library.now.project)) }
+        ++ flat_map faults_of_node (members library.now.project)
+        ++ flat_map unreadable_defaults (members library.now.project)) }
 {
-    let mut sheets = Vec::new(alloc);
-    for (id, node) in library.project().nodes() {
-        find_of_node(found, alloc, library, &mut sheets, *id, node)?;
-    }
-    Ok(())
+    let sheets = find_faults_of_nodes(found, alloc, library)?;
+    find_defaults_of_nodes(found, alloc, library, &sheets)
 }

@@ -49,7 +49,8 @@ fn low_at(text: &[u8], at: usize) -> usize
         .count_ones() as usize
 }
 
-/// Whether a text of at least 16 bytes has a byte below a space.
+/// Whether a text of at least 16 bytes has a byte below a space, a tab too: where it has none, it has no control
+/// byte.
 fn has_low(text: &[u8]) -> bool
     requires { LANES ≤ length text.now }
     ensures { result ≡ false → list_any is_control text.now ≡ false }

@@ -26,7 +26,7 @@ fn digit_value(byte: u8) -> u8
     DIGIT_VALUES[byte as usize]
 }
 
-/// As many digits as write a number below 2^64 to every base up to 16.
+/// So many digits write a number below 2^60 to every base up to 16.
 const SHORT: usize = 15;
 
 /// The number that at most 15 digits write to a base from 2 to 16.
