@@ -10,7 +10,11 @@ use Rattle.co_memo.specs.Stale.{AreBrought}
 use Rattle.co_memo.specs.Work.{Refreshes, Work}
 use Rattle.kept_diagnostics.specs.Kept.{from_project, AreOf}
 use Rattle.kept_diagnostics.specs.declared.kept_diagnostics.KeptDiagnostics.{KeptDiagnostics}
-use Rattle.kept_image.specs.Kept.{for_plan, given, held, reached_by_trace, same_part, IsOf}
+use Rattle.co_commands.specs.declared.query.Query.{Query}
+use Rattle.co_commands.specs.declared.query.Query.TheVariants.{Dcf, Cdcf, Diag, Trace, Project}
+use Rattle.kept_parts.specs.declared.part.Part.TheVariants as kind
+use Rattle.kept_image.specs.declared.image_part.ImagePart.TheVariants as part
+use Rattle.kept_image.specs.Kept.{for_plan, given, held, reached, reached_by_trace, same_part, IsOf}
 use Rattle.kept_image.specs.declared.kept_image.KeptImage.{KeptImage}
 use Rattle.kept_image.specs.declared.image_part.ImagePart.{ImagePart}
 
@@ -62,7 +66,8 @@ pub record BringsDiagnostics (old new : Bench) : Type 0 where
   pub store : new.store ≡ old.store
 
 -- what a simulation reads is held as it is to be built from the project, and then the segments up to the horizon are
--- used or run, one after another: each is used that serves, and each other one is run, counted and kept
+-- used or run, one after another: each is used that serves, and each other one is run, counted and kept; the store
+-- holds as many as before at most
 pub record Traces (old new : Bench) : Type 0 where
   pub between : Work
   pub end : Bus
@@ -75,3 +80,13 @@ pub record Traces (old new : Bench) : Type 0 where
       new.store.segments told ran read
   pub run : HasRun ran between new.work
   pub found : new.found.found.kept ≡ old.found.found.kept
+  pub capacity : new.store.capacity ≡ old.store.capacity
+
+-- WHAT AN ANSWER TAKES: of a file, what it is built from is held as it is to be built from the project; of diagnostics
+-- the plan and they; of a trace what a simulation reads, and its segments; the commands of the project take nothing
+abbrev pub AnswerTakes : Query → Bench → Bench → Type 0
+AnswerTakes (Dcf id) old new = Brings (reached old.project (part.Kept (kind.Dcf id))) old new
+AnswerTakes (Cdcf id) old new = Brings (reached old.project (part.Kept (kind.Concise id))) old new
+AnswerTakes Diag old new = BringsDiagnostics old new
+AnswerTakes Trace old new = Traces old new
+AnswerTakes Project old new = new ≡ old

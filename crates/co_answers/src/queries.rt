@@ -1,7 +1,8 @@
 //! The answers to queries.
-ghost use Rattle.std.specs.Prelude.{◌≡◌, IfOk};
+ghost use Rattle.std.specs.Prelude.{◌≡◌, OnOk};
 ghost use Rattle.co_base.specs.Gives.{Gives};
 ghost use Rattle.co_edits.specs.Faults.{is_memory};
+ghost use Rattle.co_answers.specs.Bench.{AnswerTakes};
 ghost use Rattle.co_answers.specs.Queries.{answer};
 ghost use Rattle.co_answers.specs.Texts.{text_of};
 
@@ -19,6 +20,7 @@ use std::alloc::Global;
 /// script is made anew; each is copied once.
 pub fn answer(alloc: Global, workbench: &mut Workbench, query: Query) -> Result<Answer, EditFault>
     ensures answer { Gives is_memory text_of result (answer workbench.old.project query) }
+    ensures takes { OnOk result (AnswerTakes query workbench.old workbench.new) }
     ensures same { workbench.new.project ≡ workbench.old.project }
 {
     match query {

@@ -56,7 +56,8 @@ impl Model for Workbench {
     ghost use Rattle.co_project.specs.contracts.project.Project as held;
     ghost use Rattle.co_answers.specs.Bench.{Bench, bench_code};
     ghost use Rattle.co_memo.specs.contracts.meter.Meter as counted;
-    ghost use Rattle.co_answers.specs.Bench.{IsKeptOf};
+    ghost use Rattle.std.specs.Prelude.{◌≡◌};
+    ghost use Rattle.co_answers.specs.Bench.{IsKeptOf, store_capacity};
     ghost use Rattle.kept_diagnostics.specs.contracts.kept_diagnostics.KeptDiagnostics as wrong;
     ghost use Rattle.co_segments.specs.contracts.store.Store as traces;
     ghost use Rattle.kept_image.specs.contracts.kept_image.KeptImage as kept;
@@ -74,7 +75,7 @@ impl Model for Workbench {
       work = w.meter;
     } };
 
-    ghost invariant = { λ w. IsKeptOf w.project w.image w.found };
+    ghost invariant = { λ w. IsKeptOf w.project w.image w.found × (w.store.capacity ≡ store_capacity) };
 }
 
 impl Workbench {
@@ -278,10 +279,11 @@ impl Workbench {
     /// text of each window is kept with it, and copied once.
     pub(crate) fn trace_text(&mut self) -> Result<ListedText, AllocError>
         ensures text { IfOk result (λ text. text ≡ lines_text (trace_of self.old.project)) }
+        ensures traces { OnOk result (Traces self.old self.new) }
         ensures same { self.new.project ≡ self.old.project }
     {
-        let told = self.told()?;
-        let text = told.listed()?;
+        let shown = self.told()?;
+        let text = shown.listed()?;
         Ok(text)
     }
 

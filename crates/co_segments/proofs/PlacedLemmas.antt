@@ -11,6 +11,7 @@ use Rattle.co_segments.specs.Placed.{Meaning, Numbered, Placed, kept_of}
 use Rattle.co_segments.specs.declared.given.Given.{Given}
 use Rattle.co_parts.specs.declared.part.Part.{Part}
 use Rattle.kept_reads.specs.Reads.{AreMarked, Extends, Known, Recorded}
+use Rattle.kept_reads.specs.Records.{IsRecordOf}
 use Rattle.kept_reads.proofs.KnownLemmas.{all_marked_later}
 use Rattle.kept_reads.specs.Numbers.{KeepsMeaning, StandsFor, with_meaning}
 use Rattle.kept_reads.proofs.NumberLemmas.{given_keeps, given_stands, keeps_all, stands_later}
@@ -343,5 +344,10 @@ used_served image es number key start s s' h found serves found' =
     }
 
 -- none is, and one is run
-pub ran_served : (image : Image) (held : List Kept) (number : ℕ) (start : Bus) (kept : Kept) → IsStale image held number start → kept.number ≡ number → kept.start ≡ start → outcome (span number start) image ≡ (kept.end, kept.lines) → IsServed image held number start kept held 1 (length (reads (span number start) image))
-ran_served image held number start kept stale n s g = record { number_is = n; start_is = s; gives = g; how = inr (stale, refl, refl, refl) }
+pub ran_served : (image : Image) (held : List Kept) (number : ℕ) (start : Bus) (kept : Kept)
+    → IsStale image held number start → kept.number ≡ number → kept.start ≡ start
+    → outcome (span number start) image ≡ (kept.end, kept.lines)
+    → IsRecordOf (reads (span number start) image) kept.reads
+    → IsServed image held number start kept held 1 (length (reads (span number start) image))
+ran_served image held number start kept stale n s g r =
+    record { number_is = n; start_is = s; gives = g; how = inr (stale, refl, refl, refl, r) }

@@ -9,7 +9,7 @@ use Rattle.co_parts.specs.declared.part.Part.{Part}
 use Rattle.can_bus.specs.Bus.{Bus, blank_bus}
 use Rattle.can_bus.specs.declared.line.Line.{Line}
 use Rattle.bus_laws.specs.Spans.{span}
-use Rattle.kept_reads.specs.Records.{IsOnce}
+use Rattle.kept_reads.specs.Records.{IsOnce, IsRecordOf}
 
 -- A SEGMENT: the span of a number from a bus on, what it read, what it told, and the bus at its end
 pub record Kept : Type 0 where
@@ -73,8 +73,8 @@ pub record IsTaken (held : List Kept) (kept : Kept) (rest : List Kept) : Type 0 
   pub held_is : held ≡ before ++ kept ∷ after
   pub rest_is : rest ≡ before ++ after
 
--- how a segment was come by: it serves, and was taken out of those held; or its number was stale, and it was run.
--- `ran` counts the runs, `read` their readings
+-- how a segment was come by: it serves, and was taken out of those held; or its number was stale, and it was run, and
+-- records each name once of what its span read. `ran` counts the runs, `read` their readings
 pub record IsServed (image : Image) (held : List Kept) (number : ℕ) (start : Bus) (kept : Kept) (rest : List Kept)
     (ran read : ℕ) : Type 0 where
   pub number_is : kept.number ≡ number
@@ -82,7 +82,7 @@ pub record IsServed (image : Image) (held : List Kept) (number : ℕ) (start : B
   pub gives : outcome (span number start) image ≡ (kept.end, kept.lines)
   pub how : (IsTaken held kept rest × (ran ≡ 0) × (read ≡ 0))
       ⊎ (IsStale image held number start × (rest ≡ held) × (ran ≡ 1)
-      × (read ≡ length (reads (span number start) image)))
+      × (read ≡ length (reads (span number start) image)) × IsRecordOf (reads (span number start) image) kept.reads)
 
 -- one more segment: what was before it, and how it was come by; it goes first
 pub record Further (image : Image) (capacity number : ℕ) (before : Bus → List Kept → List Line → ℕ → ℕ → Type 0)

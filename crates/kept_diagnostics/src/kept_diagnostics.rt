@@ -1,5 +1,5 @@
 //! Diagnostics that are kept.
-ghost use Rattle.std.specs.Prelude.{◌≡◌, IfOk, IfSome, OnOk, Some};
+ghost use Rattle.std.specs.Prelude.{◌≡◌, true, IfOk, IfSome, OnOk, Some, is_some};
 ghost use Rattle.co_diag.specs.Found.{diagnostics_of};
 ghost use Rattle.co_memo.specs.Work.{Refreshes};
 ghost use Rattle.co_project.specs.Project.{Content};
@@ -44,7 +44,9 @@ impl KeptDiagnostics {
     /// they are of is equal.
     fn current(&self, project: &Project) -> Result<Option<Shared<Diagnostics>>, AllocError>
         requires { AreOf project.now self.now }
-        ensures { IfOk result (λ found. IfSome found (λ d. d ≡ diagnostics_of project.now)) }
+        ensures found { IfOk result (λ found. IfSome found (λ d. d ≡ diagnostics_of project.now)) }
+        ensures there { self.now.found.kept ≡ Some (from_project project.now)
+            → IfOk result (λ found. is_some found ≡ true) }
     {
         let Some(kept) = self.found.inputs() else {
             return Ok(None);

@@ -122,6 +122,7 @@ returns-in_ok-reached-in-None-clause-served g c =
     let facts = e.ran.1.1 in
     let stale = rw c.in-None.is at c.in_ok-found.ensures.found in
     let gives = rw same at facts.5 in
+    let recorded = rw same at facts.4 in
     let counted = rw same at e.counted in
     let placed : Placed = record {
       kept = kept;
@@ -139,7 +140,8 @@ returns-in_ok-reached-in-None-clause-served g c =
           (
             length (reads (span c.args.number c.args.here.state.bus) image),
             (
-              ran_served image (kept_of es) c.args.number c.args.here.state.bus kept stale facts.2 facts.3 gives,
+              ran_served image (kept_of es) c.args.number c.args.here.state.bus kept stale facts.2 facts.3 gives
+              recorded,
               facts.1,
               facts.6,
               held,

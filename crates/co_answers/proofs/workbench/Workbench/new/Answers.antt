@@ -1,4 +1,4 @@
 use Rattle.co_answers.proofs.workbench.Workbench.new.Goals as goal
 
 pub invariant_of-result : goal.invariant_of-result
-invariant_of-result c = (c.new-3.ensures c.new-2.result, c.new-4.ensures c.new-2.result)
+invariant_of-result c = ((c.new-3.ensures c.new-2.result, c.new-4.ensures c.new-2.result), search rules)

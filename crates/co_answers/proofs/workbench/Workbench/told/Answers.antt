@@ -14,4 +14,5 @@ returns-clause-traces c =
       traced = traced.1.1.1.1.0;
       run = traced.1.1.1.1.1;
       found = refl;
+      capacity = c.traced.ensures.capacity;
     }
