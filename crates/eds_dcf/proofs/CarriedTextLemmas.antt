@@ -1,10 +1,9 @@
--- The texts of parameters can stand in a line.
+-- What holds of the values of an EDS and of a node's settings holds of the texts of its parameters.
 use Rattle.std.proofs.Common.{◌==◌, ℕ, Bool, true, false, cond, List, [], ◌∷◌, IfSome, Option, None, Some, option_map}
 use Rattle.std.proofs.Common.{option_and_then, codes, nat_le}
 use Rattle.std.specs.List.{AllByRecursion, find}
 use Rattle.std.specs.Option.{option_or}
 use Rattle.ini_text.specs.Content.{Pair, Section, same, value_at}
-use Rattle.ini_text.specs.Printable.{IsPrintable, IsPrintablePair, IsPrintableSection, IsValue}
 use Rattle.co_dict.specs.Pdos.{is_of_pdos}
 use Rattle.eds_device.specs.Described.{listed_value, sub_listed, unless_empty, value_by, value_text}
 use Rattle.eds_device.specs.Names.{index_named, place_named, values_named}
@@ -16,19 +15,6 @@ use Rattle.co_params.specs.Params.{Texts}
 use Rattle.co_params.specs.Parameters.{given_text, parameter_text}
 use Rattle.eds_dcf.specs.Standing.{section_in}
 use Rattle.eds_dcf.proofs.SectionLemmas.{found_all}
-
-abbrev Params : Type 0
-Params = Texts
-
--- ---- texts that can stand in a line
-
-value_all : (ps : List Pair) (key : List ℕ) → AllByRecursion IsPrintablePair ps → IfSome (value_at ps key) IsValue
-value_all [] key h = tt
-value_all (p ∷ ps) key h = by (same key p.key) (value_all ps key h.1)
-  where
-    by : (t : Bool) → IfSome (value_at ps key) IsValue → IfSome (cond t (Some p.value) (value_at ps key)) IsValue
-    by true rest = h.0.value
-    by false rest = rest
 
 -- the section of an entry is one of the sections
 module _ (P : Section → Type 0) (index sub : ℕ) where
@@ -67,54 +53,66 @@ module _ (P : Section → Type 0) (index sub : ℕ) where
       (found_all P (λ s. is_place (index, sub) (place_named s.name)) ss h)
       (found_all P (λ s. is_index index (index_named s.name)) ss h)
 
-found_value : (o : Option Pair) → IfSome o IsPrintablePair → IfSome (option_map (λ (p : Pair). p.value) o) IsValue
-found_value None h = tt
-found_value (Some p) h = h.value
+module _ (Good : List ℕ → Type 0) where
+  -- each value of the section is good
+  abbrev pub HasGood : Section → Type 0
+  HasGood s = AllByRecursion (λ (p : Pair). Good p.value) s.pairs
 
-listed_all : (ss : List Section) (index sub : ℕ) → AllByRecursion IsPrintableSection ss
-    → IfSome (listed_value ss index sub) IsValue
-unfolding listed_value values_section
-listed_all ss index sub h = by (find (λ s. is_index index (values_named s.name)) ss)
-    (found_all IsPrintableSection (λ s. is_index index (values_named s.name)) ss h)
-  where
-    by : (o : Option Section) → IfSome o IsPrintableSection
-        → IfSome (option_and_then (λ (s : Section). option_map (λ (p : Pair). p.value)
-        (find (λ p. is_index sub (sub_listed p.key)) s.pairs)) o) IsValue
-    by None h = tt
-    by (Some s) h = found_value (find (λ p. is_index sub (sub_listed p.key)) s.pairs)
-        (found_all IsPrintablePair (λ p. is_index sub (sub_listed p.key)) s.pairs h.pairs)
+  value_all : (ps : List Pair) (key : List ℕ) → AllByRecursion (λ p. Good p.value) ps → IfSome (value_at ps key) Good
+  value_all [] key h = tt
+  value_all (p ∷ ps) key h = by (same key p.key) (value_all ps key h.1)
+    where
+      by : (t : Bool) → IfSome (value_at ps key) Good → IfSome (cond t (Some p.value) (value_at ps key)) Good
+      by true rest = h.0
+      by false rest = rest
 
-left_some : (o : Option (List ℕ)) → IfSome o IsValue → IfSome (option_and_then unless_empty o) IsValue
-left_some None h = tt
-left_some (Some []) h = tt
-left_some (Some (c ∷ cs)) h = h
+  found_value : (o : Option Pair) → IfSome o (λ p. Good p.value) → IfSome (option_map (λ (p : Pair). p.value) o) Good
+  found_value None h = tt
+  found_value (Some p) h = h
 
-given_all : (ss : List Section) (index sub : ℕ) → AllByRecursion IsPrintableSection ss
-    → IfSome (value_text ss index sub) IsValue
-unfolding value_text
-given_all ss index sub h = left_some (option_and_then (value_by ss index sub) (origin_of ss index sub))
-    (by (origin_of ss index sub) (origin_all IsPrintableSection index sub ss h))
-  where
-    by : (o : Option Origin) → IfSome o (λ o. IsPrintableSection (section_in o))
-        → IfSome (option_and_then (value_by ss index sub) o) IsValue
-    by None g = tt
-    by (Some (own s)) g = value_all s.pairs (codes "ParameterValue") g.pairs
-    by (Some (compact s n)) g = listed_all ss index sub h
+  listed_all : (ss : List Section) (index sub : ℕ) → AllByRecursion HasGood ss
+      → IfSome (listed_value ss index sub) Good
+  unfolding listed_value values_section
+  listed_all ss index sub h = by (find (λ s. is_index index (values_named s.name)) ss)
+      (found_all HasGood (λ s. is_index index (values_named s.name)) ss h)
+    where
+      by : (o : Option Section) → IfSome o HasGood
+          → IfSome (option_and_then (λ (s : Section). option_map (λ (p : Pair). p.value)
+          (find (λ p. is_index sub (sub_listed p.key)) s.pairs)) o) Good
+      by None h = tt
+      by (Some s) h = found_value (find (λ p. is_index sub (sub_listed p.key)) s.pairs)
+          (found_all (λ (p : Pair). Good p.value) (λ p. is_index sub (sub_listed p.key)) s.pairs h)
 
-either_value : (a b : Option (List ℕ)) → IfSome a IsValue → IfSome b IsValue → IfSome (option_or a b) IsValue
-either_value None b h g = g
-either_value (Some text) b h g = h
+  left_some : (o : Option (List ℕ)) → IfSome o Good → IfSome (option_and_then unless_empty o) Good
+  left_some None h = tt
+  left_some (Some []) h = tt
+  left_some (Some (c ∷ cs)) h = h
 
-unless_pdo : (t : Bool) (o : Option (List ℕ)) → IfSome o IsValue → IfSome (cond t None o) IsValue
-unless_pdo true o h = tt
-unless_pdo false o h = h
+  given_all : (ss : List Section) (index sub : ℕ) → AllByRecursion HasGood ss → IfSome (value_text ss index sub) Good
+  unfolding value_text
+  given_all ss index sub h = left_some (option_and_then (value_by ss index sub) (origin_of ss index sub))
+      (by (origin_of ss index sub) (origin_all HasGood index sub ss h))
+    where
+      by : (o : Option Origin) → IfSome o (λ o. HasGood (section_in o))
+          → IfSome (option_and_then (value_by ss index sub) o) Good
+      by None g = tt
+      by (Some (own s)) g = value_all s.pairs (codes "ParameterValue") g
+      by (Some (compact s n)) g = listed_all ss index sub h
 
-module _ (ss : List Section) (params : Params) (node : ℕ) (printable : IsPrintable ss)
-    (lines : (place : ℕ × ℕ) → IfSome (get params place) IsValue) where
-  pub text_all : (place : ℕ × ℕ) → IfSome (parameter_text ss params place) IsValue
+  either_value : (a b : Option (List ℕ)) → IfSome a Good → IfSome b Good → IfSome (option_or a b) Good
+  either_value None b h g = g
+  either_value (Some text) b h g = h
+
+  unless_pdo : (t : Bool) (o : Option (List ℕ)) → IfSome o Good → IfSome (cond t None o) Good
+  unless_pdo true o h = tt
+  unless_pdo false o h = h
+
+  pub text_all : (ss : List Section) (params : Texts) → AllByRecursion HasGood ss
+      → ((place : ℕ × ℕ) → IfSome (get params place) Good)
+      → (place : ℕ × ℕ) → IfSome (parameter_text ss params place) Good
   unfolding parameter_text
-  text_all place =
+  text_all ss params values lines place =
       left_some (option_or (get params place) (given_text ss place))
       (either_value (get params place) (given_text ss place) (lines place)
       (unless_pdo (is_of_pdos place.0) (value_text ss place.0 place.1)
-      (given_all ss place.0 place.1 printable.each)))
+      (given_all ss place.0 place.1 values)))

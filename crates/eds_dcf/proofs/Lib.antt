@@ -1,12 +1,14 @@
 pub mod AgainLemmas
 mod AlikeLemmas
 mod ApartLemmas
+pub mod ByteLemmas
 pub mod CarriedLemmas
 pub mod CarriedTextLemmas
 mod ChangeLemmas
 mod CompactLemmas
 mod CountLemmas
 pub mod EntryLemmas
+mod KeptSectionLemmas
 mod LastLemmas
 mod LawLemmas
 pub mod LineLemmas

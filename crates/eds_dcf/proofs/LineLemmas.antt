@@ -125,7 +125,7 @@ decimal_plain n = numerals_plain (decimal n) (decimal_numerals n)
 pub decimal_value : (n : ℕ) → IsValue (decimal n)
 decimal_value n = plain_value (decimal n) (decimal_plain n)
 
-signed_plain : (z : ℤ) → IsPlain (signed_decimal z)
+pub signed_plain : (z : ℤ) → IsPlain (signed_decimal z)
 signed_plain (pos n) = decimal_plain n
 signed_plain (negsuc n) = (omega arith, decimal_plain (suc n))
 

@@ -22,20 +22,23 @@ use Rattle.eds_dcf.proofs.EntryLemmas.{left_holds}
 use Rattle.eds_dcf.proofs.LineLemmas.{IsPlain, decimal_value, plain_append, plain_value, signed_value}
 use Rattle.eds_dcf.proofs.SectionLemmas.{sections_printable}
 
-glyph_plain : (d : ℕ) → byte "!" ≤ digit_glyph true d
+pub glyph_plain : (d : ℕ) → byte "!" ≤ digit_glyph true d
 glyph_plain d = by (nat_lt d 10)
   where
     by : (t : Bool) → byte "!" ≤ cond t (48 + d) (55 + d)
     by true = omega arith
     by false = omega arith
 
-pairs_plain : (bytes : List ℕ) → IsPlain (pairs_of bytes)
+pub pairs_plain : (bytes : List ℕ) → IsPlain (pairs_of bytes)
 pairs_plain [] = tt
 pairs_plain (b ∷ bs) = (glyph_plain (b / 16), (glyph_plain (b % 16), pairs_plain bs))
 
+pub unsigned_plain : (bytes : List ℕ) → IsPlain (codes "0x" ++ pairs_of (reverse bytes))
+unsigned_plain bytes =
+    plain_append (codes "0x") (pairs_of (reverse bytes)) (lit≤ tt, (lit≤ tt, tt)) (pairs_plain (reverse bytes))
+
 unsigned_value : (bytes : List ℕ) → IsValue (codes "0x" ++ pairs_of (reverse bytes))
-unsigned_value bytes = plain_value (codes "0x" ++ pairs_of (reverse bytes))
-    (plain_append (codes "0x") (pairs_of (reverse bytes)) (lit≤ tt, (lit≤ tt, tt)) (pairs_plain (reverse bytes)))
+unsigned_value bytes = plain_value (codes "0x" ++ pairs_of (reverse bytes)) (unsigned_plain bytes)
 
 -- numbers and pairs of digits always, and a text where it is such
 pub printed_value : (kind : DataType) (bytes : List ℕ) → (kind ≡ VisibleString → IsValue bytes)

@@ -16,6 +16,7 @@ ghost use Rattle.eds_device.specs.Described.{description_of, kind_at};
 ghost use Rattle.eds_device.specs.Names.{values_named};
 ghost use Rattle.eds_device.specs.Places.{pairs_of};
 ghost use Rattle.eds_device.specs.Sections.{kind_of};
+ghost use Rattle.eds_dcf.specs.Commissioning.{commissioning, is_commissioning};
 ghost use Rattle.eds_dcf.specs.Compact.{compact_object, is_decimal, values_pairs_at};
 ghost use Rattle.eds_dcf.specs.Dcf.{dcf_sections, with_values};
 ghost use Rattle.eds_dcf.specs.Entries.{parameter_place};
@@ -63,6 +64,18 @@ pub fn values_are_counted()
         ≡ Some (decimal (count_by (λ p. is_decimal p.key) section.pairs))) }
 {}
 
+/// Each section of an EDS but the one that names its node stands in the DCF under its name, with the values that the
+/// writes leave. The section that names the node is the DCF's own.
+pub fn each_section_stands_in_a_dcf()
+    ensures stands { (ss : List Section) (node : ℕ) (name : List ℕ) (bitrate : ℕ) (writes : List written) (s : Section)
+        → Contains ss s → is_commissioning s.name ≡ false
+        → Contains (dcf_sections ss node name bitrate writes) (with_values ss (last_of writes) s) }
+    ensures of_node { (ss : List Section) (node : ℕ) (name : List ℕ) (bitrate : ℕ) (writes : List written)
+        (t : Section)
+        → Contains (dcf_sections ss node name bitrate writes) t → is_commissioning t.name ≡ true
+        → t ≡ commissioning ss node name bitrate }
+{}
+
 /// The other keys of the section of a modelled entry have what they had.
 pub fn other_keys_stay()
     ensures { (ss : List Section) (writes : List written) (s : Section) (place : ℕ × ℕ) (key : List ℕ)
@@ -73,7 +86,13 @@ pub fn other_keys_stay()
 
 /// The keys of a section `[xxxxValue]` that are no numbers, but NrOfEntries, have what they had.
 pub fn other_keys_of_values_stay()
-    ensures { (ss : List Section) (writes : List written) (index : ℕ) (object : Section) (highest : ℕ)
+    ensures section { (ss : List Section) (writes : List written) (s : Section) (index : ℕ) (object : Section)
+        (highest : ℕ) (key : List ℕ)
+        → values_named s.name ≡ Some index
+        → compact_object ss index ≡ Some (object, highest) → is_modelled (kind_of object) ≡ true
+        → is_decimal key ≡ false → same (codes "NrOfEntries") key ≡ false
+        → value_at (with_values ss (last_of writes) s).pairs key ≡ value_at s.pairs key }
+    ensures pairs { (ss : List Section) (writes : List written) (index : ℕ) (object : Section) (highest : ℕ)
         (pairs : List Pair) (key : List ℕ)
         → compact_object ss index ≡ Some (object, highest) → is_modelled (kind_of object) ≡ true
         → is_decimal key ≡ false → same (codes "NrOfEntries") key ≡ false
