@@ -332,7 +332,7 @@ impl ScheduledDevice {
     }
 
     /// Whether nothing happens to it at the moment t.
-    fn does_nothing(&self, t: u64, delivery: &Option<Delivery>) -> bool
+    pub(crate) fn does_nothing(&self, t: u64, delivery: &Option<Delivery>) -> bool
         ensures nothing { IsTrue result → at_instant t delivery.now self.now ≡ Answer self.now }
         ensures unspent { IsTrue result → self.now.spent ≡ false }
     {
@@ -343,7 +343,7 @@ impl ScheduledDevice {
     }
 
     /// Whether it isn't due at the moment t, and takes nothing of what is delivered.
-    pub(crate) fn is_left_alone(&self, t: u64, delivery: &Option<Delivery>) -> bool
+    fn is_left_alone(&self, t: u64, delivery: &Option<Delivery>) -> bool
         ensures nothing { IsTrue result → at_instant t delivery.now self.now ≡ Answer self.now }
         ensures unspent { IsTrue result → self.now.spent ≡ false }
     {

@@ -2,7 +2,7 @@
 
 ghost use Rattle.std.specs.Prelude.{◌≡◌, ◌↔◌, ◌<◌, ◌≤◌, ◌∷◌, [], Some, false, length, remove, slice_get};
 ghost use Rattle.std.specs.Prelude.{IfOk, OnOk, IsTrue};
-ghost use Rattle.asking.specs.Asking.{Answer, outcome};
+ghost use Rattle.asking.specs.Asking.{outcome};
 ghost use Rattle.asking.specs.Record.{IsAsked, Lasts};
 ghost use Rattle.can_frame.specs.Winner.{contenders_of, IsWinner};
 ghost use Rattle.co_base.specs.Ranges.{is_between};
@@ -24,29 +24,23 @@ use std::rc::Rc;
 /// A device at a moment (CiA 301), which copies share until one of them is changed.
 ///
 /// A change of a device that is shared takes memory for a copy of it. Where none is found the device stays as
-/// it was, and isn't spent. Its agenda is kept beside the pointer, so that a device that sleeps isn't touched; it
-/// follows from the device, and is no part of it.
+/// it was, and isn't spent.
 #[derive(Drop)]
 pub struct SharedDevice {
     device: Rc<ScheduledDevice>,
-    agenda: Agenda,
 }
 
 impl Model for SharedDevice {
     ghost use Rattle.std.specs.Coded.{codes, coded_ℕ, coded_list, coded×};
     ghost use Rattle.std.specs.FinMap as map;
     ghost use Rattle.co_dict.specs.Places.{place_cmp};
-    ghost use Rattle.std.specs.Prelude.{[], ◌∷◌};
     ghost use Rattle.co_device.specs.Device.{Device};
-    ghost use Rattle.device_agenda.specs.Agenda.{IsAgendaOf};
 
     ghost Value = { Device };
 
     ghost coded = { Prim.hlevel (codes, map.code {R = place_cmp} (coded× coded_ℕ coded_ℕ) (coded_list coded_ℕ)) };
 
     ghost view = { λ s. s.device.value };
-
-    ghost invariant = { λ s. IsAgendaOf s.agenda (s.device.value ∷ []) };
 }
 
 /// Takes a waiting frame of a device behind a handle. Copies of the handle keep theirs.
@@ -118,8 +112,7 @@ impl SharedDevice {
         ensures { IfOk result (λ device. device ≡ without_power false number) }
     {
         let device = Rc::new(alloc, ScheduledDevice::new(alloc, number))?;
-        let agenda = device.agenda();
-        Ok(SharedDevice { device, agenda })
+        Ok(SharedDevice { device })
     }
 
     /// An equal device, which it shares. Takes no memory.
@@ -127,10 +120,7 @@ impl SharedDevice {
         ensures { IfOk result (λ device. device ≡ self.now) }
     {
         let device = self.device.clone()?;
-        Ok(SharedDevice {
-            device,
-            agenda: self.agenda,
-        })
+        Ok(SharedDevice { device })
     }
 
     /// Whether the other device may be the same: a quick look ahead of `same`.
@@ -173,18 +163,14 @@ impl SharedDevice {
     pub fn next_due(&self) -> Option<u64>
         ensures { result ≡ next_due self.now }
     {
-        if self.agenda.awake {
-            self.device.next_due()
-        } else {
-            self.agenda.due
-        }
+        self.device.next_due()
     }
 
     /// Its agenda.
     pub fn agenda(&self) -> Agenda
         ensures { IsAgendaOf result (self.now ∷ []) }
     {
-        self.agenda
+        self.device.agenda()
     }
 
     /// The frame with which it contends for the bus: the first of those waiting that have the least
@@ -192,9 +178,6 @@ impl SharedDevice {
     pub fn contender(&self) -> Option<Contender>
         ensures { IsWinner (contenders_of (self.now.number, self.now.waiting)) result }
     {
-        if !self.agenda.waits {
-            return None;
-        }
         self.device.contender()
     }
 
@@ -204,9 +187,7 @@ impl SharedDevice {
         ensures frame { IfOk result (λ sent. slice_get self.old.waiting place ≡ Some sent) }
         ensures left { OnOk result (self.new ≡ record self.old { waiting = remove self.old.waiting place }) }
     {
-        let sent = send_from(&mut self.device, place);
-        self.agenda = self.device.agenda();
-        sent
+        send_from(&mut self.device, place)
     }
 
     /// Switches the power of the device at the moment t. Where it is as it was, nothing changes.
@@ -217,9 +198,7 @@ impl SharedDevice {
             (P.seen shapes.old) (P.seen shapes.new) (P.asks shapes.old) (P.asks shapes.new)) }
         ensures lasts { Lasts (P.seen shapes.old) (P.seen shapes.new) }
     {
-        let done = power_in(&mut self.device, on, t, shapes);
-        self.agenda = self.device.agenda();
-        done
+        power_in(&mut self.device, on, t, shapes)
     }
 
     /// The application of the device sets an entry at the moment t, whatever its access and limits; without
@@ -230,9 +209,7 @@ impl SharedDevice {
         requires short { length bytes.now ≤ longest_value }
         ensures state { OnOk result (self.new ≡ after_set t (index, sub) bytes.now self.old) }
     {
-        let done = set_in(&mut self.device, t, index, sub, bytes);
-        self.agenda = self.device.agenda();
-        done
+        set_in(&mut self.device, t, index, sub, bytes)
     }
 
     /// Runs what has to at the moment t: it hears what is delivered, if another node sent it, and then come its
@@ -255,8 +232,7 @@ impl SharedDevice {
         Ok(())
     }
 
-    /// What `instant` does, and whether it had to run: where it hadn't, it is as it was. It isn't touched behind
-    /// its pointer where its agenda says that it sleeps.
+    /// What `instant` does, and whether it had to run: where it hadn't, it is as it was.
     pub fn run_instant<P: Shapes>(
         &mut self,
         t: u64,
@@ -271,22 +247,10 @@ impl SharedDevice {
         ensures lasts { Lasts (P.seen shapes.old) (P.seen shapes.new) }
         ensures still { IfOk result (λ ran. ran ≡ false → self.new ≡ self.old) }
     {
-        if self.does_nothing(t, delivery) {
+        if self.device.does_nothing(t, delivery) {
             return Ok(false);
         }
-        let done = run_in(&mut self.device, t, delivery, shapes);
-        self.agenda = self.device.agenda();
-        done?;
+        run_in(&mut self.device, t, delivery, shapes)?;
         Ok(true)
-    }
-
-    /// Whether nothing happens to it at the moment t.
-    fn does_nothing(&self, t: u64, delivery: &Option<Delivery>) -> bool
-        ensures { IsTrue result → at_instant t delivery.now self.now ≡ Answer self.now }
-    {
-        if self.agenda.sleeps_through(t, delivery) {
-            return true;
-        }
-        self.device.is_left_alone(t, delivery)
     }
 }
