@@ -1,6 +1,7 @@
 -- Parts that are brought up to date one after another.
 use Rattle.std.proofs.Common.{◌≡◌, ℕ, ◌+◌, inl, inr, Bool, true, false, ◌||◌, List, [], ◌∷◌, ◌++◌, Option, Some, None}
-use Rattle.std.proofs.Common.{if◌then◌else◌, ◌==◌, refl, sym, ap, ◌∙◌, subst, arith, zero-add}
+use Rattle.std.proofs.Common.{if◌then◌else◌, ◌==◌, refl, sym, ap, ◌∙◌, subst, arith, zero-add, ◌-◌, ◌^◌, ◌≤◌, min}
+use Rattle.std.specs.Prelude.{IfSome, IfNone}
 use borrow.Author.Tests.{eqb-true}
 use Rattle.std.specs.List.{list_any}
 use Rattle.std.specs.Option.{option_map}
@@ -105,3 +106,22 @@ pub shelf_stands : {X G : Type 0} (make : X → G) (key : ℕ) (now : ℕ → Op
     → option_map make (at new q) ≡ (if q == key then option_map make (now q) else option_map make (at old q))
 shelf_stands make key now old new h q = ap (option_map make) (h q)
     ∙ chosen_at make (q == key) (now key) (now q) (at old q) (λ e. ap now (sym (eqb-true q key e)))
+
+-- ---- what is counted of one part
+
+one_at_most : (m : ℕ) → min (m + 1) (2 ^ 64 - 1) ≤ m + 1
+one_at_most m = omega arith
+
+-- of one that is current
+pub refreshes_none : (P : Type 0) (m : Work) → P → Refreshes P m m
+refreshes_none P m current = (refl, inl (current, omega arith))
+
+-- and of one that isn't, where it is built from inputs, or let go where there are none
+pub refreshes_built : {O : Type 0} (P : Type 0) (now : Option O) (m n : Work) → (P → ⊥)
+    → IfSome now (λ _. n ≡ record m { parts = min (m.parts + 1) (2 ^ 64 - 1) }) → IfNone now (n ≡ m) → Refreshes P m n
+refreshes_built P None m n stale built same =
+    (ap (λ (w : Work). w.segments) same, inr (stale, let e = ap (λ (w : Work). w.parts) same in omega (arith, e)))
+refreshes_built P (Some o) m n stale built same =
+    let e = ap (λ (w : Work). w.parts) built in
+    let most = one_at_most m.parts in
+    (ap (λ (w : Work). w.segments) built, inr (stale, omega (arith, e, most)))

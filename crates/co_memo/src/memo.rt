@@ -1,5 +1,6 @@
 //! One kept value with its mark.
-ghost use Rattle.std.specs.Prelude.{◌≡◌, true, false, None, Some, OnOk, OnErr};
+ghost use Rattle.std.specs.Prelude.{◌≡◌, ◌↔◌, ◌+◌, ◌-◌, ◌^◌, min, true, false, None, Some, IsTrue, OnOk, OnErr};
+ghost use Rattle.std.specs.Bool.{IsFalse};
 ghost use Rattle.std.specs.Option.{option_map, option_copied};
 ghost use Rattle.co_memo.specs.Work.{Builds, Refreshes};
 
@@ -75,6 +76,60 @@ impl<I: Makes<T>, T> Memo<I, T> {
 }
 
 impl<I: Makes<T> + Drop, T: Drop> Memo<I, T> {
+    /// Whether a value is kept, and its inputs are those of now.
+    fn has<O: Offers<I, T>>(&self, now: &O) -> bool
+        ensures { IsTrue result ↔ (self.now.kept ≡ Some (O.offered now.now)) }
+    {
+        match &self.kept {
+            Some(kept) => now.same(kept.inputs()),
+            None => false,
+        }
+    }
+
+    /// Whether the value is up to date: whether one is kept, and its inputs are those of now. Then it takes
+    /// the mark away. Where there is no mark, the inputs that are kept must be those of now: whoever
+    /// changes inputs sets the mark.
+    ///
+    /// Without a mark it looks at nothing and takes constant time, else the time of one comparison of
+    /// inputs.
+    pub fn settle<O: Offers<I, T>>(&mut self, now: &O) -> bool
+        requires { self.old.fresh ≡ true → self.old.kept ≡ Some (O.offered now.now) }
+        ensures same { IsTrue result ↔ (self.old.kept ≡ Some (O.offered now.now)) }
+        ensures settled { IsTrue result → self.new ≡ record self.old { fresh = true } }
+        ensures stale { IsFalse result → self.new ≡ self.old }
+    {
+        if self.fresh {
+            return true;
+        }
+        if !self.has(now) {
+            return false;
+        }
+        self.fresh = true;
+        true
+    }
+
+    /// Builds the value from the inputs of now, in place of any that is kept, tells the meter, and takes the
+    /// mark away. Takes the time and the memory of one copy and of one building. Want of memory is the only
+    /// error, and changes nothing.
+    pub fn build<O: Offers<I, T> + Drop>(
+        &mut self,
+        alloc: Global,
+        now: O,
+        meter: &mut Meter,
+    ) -> Result<(), AllocError>
+        ensures ok { OnOk result (self.new ≡ record { kept = Some (O.offered now); fresh = true }) }
+        ensures err { OnErr result (self.new ≡ self.old) }
+        ensures counted { OnOk result
+            (meter.new ≡ record meter.old { parts = min (meter.old.parts + 1) (2 ^ 64 - 1) }) }
+        ensures uncounted { OnErr result (meter.new ≡ meter.old) }
+    {
+        let kept = Kept::build(alloc, &now)?;
+        self.kept = Some(kept);
+        self.fresh = true;
+        meter.refreshed();
+        Ok(())
+    }
+
     /// Brings the value up to date: builds it anew where nothing is kept or the inputs of now are other
     /// ones, tells the meter if it did, and takes the mark away. Where there is no mark, the inputs that
     /// are kept must be those of now: whoever changes inputs sets the mark.
@@ -95,19 +150,9 @@ impl<I: Makes<T> + Drop, T: Drop> Memo<I, T> {
         ensures built { OnOk result (Builds (self.old.kept ≡ Some (O.offered now)) meter.old meter.new) }
         ensures uncounted { OnErr result (meter.new ≡ meter.old) }
     {
-        if self.fresh {
+        if self.settle(&now) {
             return Ok(());
         }
-        if let Some(kept) = &self.kept {
-            if now.same(kept.inputs()) {
-                self.fresh = true;
-                return Ok(());
-            }
-        }
-        let kept = Kept::build(alloc, &now)?;
-        self.kept = Some(kept);
-        self.fresh = true;
-        meter.refreshed();
-        Ok(())
+        self.build(alloc, now, meter)
     }
 }

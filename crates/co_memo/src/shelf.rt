@@ -1,5 +1,6 @@
 //! Kept values by number, each with its mark.
-ghost use Rattle.std.specs.Prelude.{◌≡◌, ◌↔◌, ◌==◌, ◌||◌, ◌&&◌, not, ℕ, true, false, None, Some};
+ghost use Rattle.std.specs.Bool.{IsFalse};
+ghost use Rattle.std.specs.Prelude.{◌≡◌, ◌↔◌, ◌==◌, ◌||◌, ◌&&◌, ◌+◌, ◌-◌, ◌^◌, min, not, ℕ, true, false, None, Some};
 ghost use Rattle.std.specs.Prelude.{if◌then◌else◌, IsTrue, IfNone, IfSome, OnOk, OnErr};
 ghost use Rattle.std.specs.Option.{option_map, option_copied};
 ghost use Rattle.co_memo.specs.Shelved.{is_fresh, kept_at};
@@ -119,14 +120,71 @@ impl<I: Makes<T> + Drop, T: Drop> Shelf<I, T> {
         Ok(())
     }
 
-    /// Whether a value is kept at a number, and its inputs are those of now.
-    fn has<O: Offers<I, T>>(&self, key: u8, now: &O) -> bool
-        ensures { IsTrue result ↔ (kept_at self.now key ≡ Some (O.offered now.now)) }
+    /// Whether what is kept at a number is built from the inputs of now, and nothing is kept there if there
+    /// are none.
+    fn has<O: Offers<I, T>>(&self, key: u8, now: &Option<O>) -> bool
+        ensures { IsTrue result ↔ (kept_at self.now key ≡ option_map O.offered now.now) }
     {
-        match self.kept.get(&key) {
-            Some(kept) => now.same(kept.inputs()),
-            None => false,
+        match (self.kept.get(&key), now) {
+            (Some(kept), Some(now)) => now.same(kept.inputs()),
+            (None, None) => true,
+            _ => false,
         }
+    }
+
+    /// Whether the value at a number is up to date: whether its inputs are those of now, or none is kept and
+    /// there are none now. Then it takes the mark at the number away. Where there is no mark, the inputs that
+    /// are kept must be those of now: whoever changes inputs sets the mark.
+    ///
+    /// Without a mark it looks at nothing and takes constant time. Else it takes time by the logarithm of the
+    /// number of kept values, with one comparison of inputs.
+    pub fn settle<O: Offers<I, T>>(&mut self, key: u8, now: &Option<O>) -> bool
+        requires { is_fresh self.old key ≡ true → kept_at self.old key ≡ option_map O.offered now.now }
+        ensures same { IsTrue result ↔ (kept_at self.old key ≡ option_map O.offered now.now) }
+        ensures kept { self.new.kept ≡ self.old.kept }
+        ensures fresh { IsTrue result → (q : ℕ) → is_fresh self.new q ≡ (q == key || is_fresh self.old q) }
+        ensures stale { IsFalse result → self.new ≡ self.old }
+    {
+        if self.is_fresh(key) {
+            return true;
+        }
+        if !self.has(key, now) {
+            return false;
+        }
+        self.clear(key);
+        true
+    }
+
+    /// Builds the value at a number from the inputs of now, in place of any that is kept there, and tells the
+    /// meter; lets it go where there are no inputs now; and takes the mark at the number away. Takes time by
+    /// the logarithm of the number of kept values, and the time and the memory of one copy and of one
+    /// building. Want of memory is the only error, and changes nothing.
+    pub fn build<O: Offers<I, T> + Drop>(
+        &mut self,
+        alloc: Global,
+        key: u8,
+        now: Option<O>,
+        meter: &mut Meter,
+    ) -> Result<(), AllocError>
+        ensures ok { OnOk result ((q : ℕ)
+            → kept_at self.new q ≡ (if q == key then option_map O.offered now else kept_at self.old q)) }
+        ensures fresh { OnOk result ((q : ℕ) → is_fresh self.new q ≡ (q == key || is_fresh self.old q)) }
+        ensures err { OnErr result (self.new ≡ self.old) }
+        ensures counted { OnOk result (IfSome now (λ _.
+            meter.new ≡ record meter.old { parts = min (meter.old.parts + 1) (2 ^ 64 - 1) })) }
+        ensures nothing_built { OnOk result (IfNone now (meter.new ≡ meter.old)) }
+        ensures uncounted { OnErr result (meter.new ≡ meter.old) }
+    {
+        let Some(now) = now else {
+            self.remove(key);
+            self.clear(key);
+            return Ok(());
+        };
+        let kept = Kept::build(alloc, &now)?;
+        self.insert(key, kept)?;
+        self.clear(key);
+        meter.refreshed();
+        Ok(())
     }
 
     /// Brings the value at a number up to date: builds it anew where none is kept or the inputs of now
@@ -156,22 +214,9 @@ impl<I: Makes<T> + Drop, T: Drop> Shelf<I, T> {
         ensures nothing_built { OnOk result (IfNone now (meter.new ≡ meter.old)) }
         ensures uncounted { OnErr result (meter.new ≡ meter.old) }
     {
-        if self.is_fresh(key) {
+        if self.settle(key, &now) {
             return Ok(());
         }
-        let Some(now) = now else {
-            self.remove(key);
-            self.clear(key);
-            return Ok(());
-        };
-        if self.has(key, &now) {
-            self.clear(key);
-            return Ok(());
-        }
-        let kept = Kept::build(alloc, &now)?;
-        self.insert(key, kept)?;
-        self.clear(key);
-        meter.refreshed();
-        Ok(())
+        self.build(alloc, key, now, meter)
     }
 }

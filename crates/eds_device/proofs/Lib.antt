@@ -11,6 +11,5 @@ pub mod ListedLemmas
 pub mod MapLemmas
 pub mod OnceLemmas
 pub mod PlaceLemmas
-pub mod PositionLemmas
 pub mod ReadLemmas
 pub mod TableLemmas

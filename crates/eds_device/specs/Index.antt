@@ -9,11 +9,10 @@ use Rattle.std.specs.Ordering.{nat_cmp}
 use Rattle.ini_text.specs.Content.{Section}
 use Rattle.eds_entries.specs.declared.said.Said.{Said}
 use Rattle.eds_entries.specs.Said.{said_in}
-use Rattle.co_dict.specs.Shapes.{Shaped}
 use Rattle.eds_device.specs.declared.index.Listed.{Listed}
+use Rattle.eds_device.specs.declared.reading.Reading.{Reading}
 use Rattle.eds_device.specs.declared.table.Stand.{Stand}
 use Rattle.eds_device.specs.Table.{AreStands}
-use Rattle.eds_device.specs.Common.{IsCommon}
 use Rattle.eds_device.specs.Described.{sub_listed}
 use Rattle.eds_entries.specs.Names.{index_named, values_named}
 use Rattle.eds_device.specs.Places.{pairs_of}
@@ -40,13 +39,17 @@ FindsListed entries all seen =
     (key : ℕ) → let first = find (λ s. is_index key (values_named s.name)) seen
     in MatchOption (lookup (is_at (nat_cmp key)) entries) (first ≡ None) (λ listed. IsListed listed first all)
 
--- the tables and the lists of entries are those of the sections, and so is the shape that is kept
+-- the tables and the lists of entries are those of the sections
 pub record IsIndexed (sections : List Section) (said : List Said) (objects : List (ℕ × ℕ)) (values : List (ℕ × Listed))
-    (places : List (ℕ × ℕ)) (stands : List (Option Stand)) (common : Option Shaped) : Type 0 where
+    (places : List (ℕ × ℕ)) (stands : List (Option Stand)) : Type 0 where
   pub all_said : said ≡ map said_in sections
   pub finds_objects : FindsFirsts nat_cmp (λ key s. is_index key (index_named s.name)) objects sections sections
   pub finds_values : FindsListed values sections sections
   pub all_places : places ≡ pairs_of sections
   pub not_too_many : length places ≤ most_entries
   pub all_stands : AreStands sections places stands
-  pub is_common : IsCommon sections common
+
+-- what is read of a text
+abbrev pub IsReading : Reading → Type 0
+IsReading r =
+    IsIndexed r.ini.sections r.said.items r.objects.entries r.values.entries r.places.items r.stands.items

@@ -1,19 +1,33 @@
-//! The shape that a device has at every node, kept where no limit names one.
-ghost use Rattle.std.specs.Prelude.{◌≡◌, ℕ, IfOk, IsTrue};
+//! What a device has alike at every node, found once for all of them.
+ghost use Rattle.std.specs.Prelude.{◌≡◌, ℕ, IfOk, IfSome, IsTrue, option_map};
+ghost use Rattle.std.specs.Arc.{arc_value};
 ghost use Rattle.std.specs.FinMap as map;
 ghost use Rattle.std.specs.Option.{option_map_or};
 ghost use Rattle.co_dict.specs.Places.{place_cmp};
-ghost use Rattle.eds_device.specs.Common.{has_dollar, IsCommon};
+ghost use Rattle.eds_device.specs.Common.{has_dollar, IsCommon, IsOfAll};
 ghost use Rattle.eds_device.specs.Entries.{entry_at, entry_by, limit_at, shape_of};
+ghost use Rattle.eds_device.specs.Fixed.{AreFixed};
+ghost use Rattle.eds_device.specs.Places.{pairs_of};
 ghost use Rattle.eds_entries.specs.Shown.{description_shown};
 
 use crate::device::Device;
 use crate::entries::entry_of;
-use crate::fixed::LONGEST_TEXT;
+use crate::fixed::{Fixed, LONGEST_TEXT, fixed_defaults};
+use co_base::Octets;
 use co_dict::Shape;
 use co_values::DataType;
 use eds_entries::Described;
 use std::alloc::AllocError;
+use std::sync::Arc;
+
+/// What a device has alike at every node.
+#[derive(Drop)]
+pub(crate) struct Common {
+    /// Its shape, if that is known to be the same at each.
+    pub shape: Option<Shape>,
+    /// What is known of the default of each entry, in the order of the entries.
+    pub fixed: Vec<Fixed>,
+}
 
 /// Whether a text has a `$`, as `$NODEID` has.
 fn has_dollar(text: &[u8]) -> bool
@@ -37,6 +51,19 @@ fn is_fixed(described: Described<'_>) -> bool
         entry_by node (description_shown described.entry) ≡ entry_by other (description_shown described.entry) }
 {
     is_fixed_limit(described.kind, described.low) && is_fixed_limit(described.kind, described.high)
+}
+
+/// Another handle on a text that is kept.
+fn share_text(text: &Option<Arc<Octets>>) -> Result<Option<Arc<Octets>>, AllocError>
+    ensures { IfOk result (λ t. option_map arc_value t ≡ option_map arc_value text.now) }
+{
+    match text {
+        Some(text) => {
+            let text = Arc::try_clone(text)?;
+            Ok(Some(text))
+        }
+        None => Ok(None),
+    }
 }
 
 impl Device {
@@ -75,23 +102,63 @@ impl Device {
         Ok(Some(shape))
     }
 
-    /// Keeps the shape beside the text, for all nodes, where it is the same at each: where no limit of
-    /// an integer has a `$`, as `$NODEID` has, or is longer than 32 bytes. Takes time and memory by the number
-    /// of entries, and time by its logarithm. Where memory is wanting, the device stays as it was.
-    pub fn keep_shape(&mut self) -> Result<(), AllocError>
-        ensures { self.new ≡ self.old }
+    /// What is known of the defaults of the entries. Takes time by their number.
+    fn common_defaults(&self) -> Result<Vec<Fixed>, AllocError>
+        ensures { IfOk result (λ v. AreFixed self.now.sections (pairs_of self.now.sections) v.items) }
     {
-        let common = self.common_shape()?;
-        self.common = common;
-        Ok(())
+        let reading = &*self.reading;
+        fixed_defaults(
+            self.allocator(),
+            reading.ini.sections(),
+            &reading.said,
+            &reading.places,
+            &reading.stands,
+        )
     }
 
-    /// What `shape` answers. Takes constant time and no memory where `keep_shape` kept it, and the time
+    /// What it has alike at every node.
+    fn common_part(&self) -> Result<Common, AllocError>
+        ensures { IfOk result (λ common. IsOfAll self.now.sections common) }
+    {
+        let shape = self.common_shape()?;
+        let fixed = self.common_defaults()?;
+        Ok(Common { shape, fixed })
+    }
+
+    /// The same device, which shares what was read of the text, and holds what is the same at every node: its
+    /// shape, where no limit of an integer has a `$`, as `$NODEID` has, or is longer than 32 bytes; and of each
+    /// entry that it has no default, or the default, where that is a number of at most 32 bytes, or is missing,
+    /// and its value takes at most 8. So `shared_shape` and `defaults` of it are found at once. Takes time and
+    /// memory by the number of entries, and time by its logarithm; want of memory is the only error.
+    pub fn with_common(&self) -> Result<Device, AllocError>
+        ensures { IfOk result (λ device. device ≡ self.now) }
+    {
+        let common = self.common_part()?;
+        let reading = Arc::try_clone(&self.reading)?;
+        let text = share_text(&self.text)?;
+        Ok(Device {
+            reading,
+            text,
+            common: Some(common),
+        })
+    }
+
+    /// The shape that is kept for all nodes.
+    fn kept_shape(&self) -> Option<&Shape>
+        ensures { IfSome result (λ shape. (node : ℕ) → shape.now ≡ shape_of self.now.sections node) }
+    {
+        match &self.common {
+            Some(common) => common.shape.as_ref(),
+            None => None,
+        }
+    }
+
+    /// What `shape` answers. Takes constant time and no memory where `with_common` found it, and the time
     /// and the memory of `shape` else.
     pub fn shared_shape(&self, node: u8) -> Result<Shape, AllocError>
         ensures { IfOk result (λ shape. shape ≡ shape_of self.now.sections node) }
     {
-        match &self.common {
+        match self.kept_shape() {
             Some(shape) => shape.share(),
             None => self.shape(node),
         }

@@ -18,48 +18,45 @@ ghost use Rattle.eds_device.specs.Shown.{origin_shown};
 ghost use Rattle.eds_device.specs.Table.{standing};
 ghost use Rattle.eds_device.specs.Origins.{is_index, object_section, values_section, origin_of};
 
+use crate::common::Common;
 use crate::fault::DeviceFault;
-use crate::fixed::{Fixed, fixed_defaults};
+use crate::fixed::{Fixed, known_at};
 use crate::index::{Listed, object_positions, sub_positions, values_positions};
 use crate::origin::Origin;
 use crate::places::places_of;
+use crate::reading::Reading;
 use crate::table::{Stand, find_stand, find_stand_near, stand_there, stands};
 use co_base::Octets;
-use co_dict::Shape;
 use eds_entries::Said;
 use ini_text::{Ini, Pair, Section};
 use std::alloc::Global;
-use std::collections::BTreeMap;
 use std::marker::Model;
+use std::sync::Arc;
 
 /// The device that an EDS text describes (CiA 306). Contracts see it as the content of the text.
 ///
 /// It has at most 4,096 entries. A look-up takes time by the logarithm of the sections.
 #[derive(Drop)]
 pub struct Device {
-    text: Octets,
-    ini: Ini,
-    said: Vec<Said>,
-    objects: BTreeMap<u16, usize>,
-    values: BTreeMap<u16, Listed>,
-    places: Vec<(u16, u8)>,
-    stands: Vec<Option<Stand>>,
-    fixed: Vec<Fixed>,
-    pub(crate) common: Option<Shape>,
+    pub(crate) reading: Arc<Reading>,
+    pub(crate) text: Option<Arc<Octets>>,
+    pub(crate) common: Option<Common>,
 }
 
 impl Model for Device {
-    ghost use Rattle.std.specs.Prelude.{◌≡◌};
+    ghost use Rattle.std.specs.Arc.{arc_value};
+    ghost use Rattle.std.specs.Prelude.{◌≡◌, IfSome, option_map};
     ghost use Rattle.ini_text.specs.Content.{Content, content_of};
-    ghost use Rattle.eds_device.specs.Fixed.{AreFixed};
-    ghost use Rattle.eds_device.specs.Index.{IsIndexed};
+    ghost use Rattle.eds_device.specs.Common.{IsOfAll};
+    ghost use Rattle.eds_device.specs.Index.{IsReading};
 
     ghost Value = { Content };
 
-    ghost view = { λ a. a.ini };
+    ghost view = { λ a. (arc_value a.reading).ini };
 
-    ghost invariant = { λ a. IsIndexed a.ini.sections a.said.items a.objects.entries a.values.entries a.places.items
-        a.stands.items a.common × (AreFixed a.ini.sections a.places.items a.fixed.items × (a.ini ≡ content_of a.text)) };
+    ghost invariant = { λ a. let reading = arc_value a.reading
+        in IsReading reading × (IfSome a.common (λ c. IsOfAll reading.ini.sections c)
+        × IfSome (option_map arc_value a.text) (λ t. reading.ini ≡ content_of t)) };
 }
 
 /// The section at a position that a table has.
@@ -103,17 +100,18 @@ impl Device {
         let values = values_positions(alloc, ini.sections())?;
         let stands = stands(alloc, ini.sections(), &subs, &objects, &places)?;
         let said = Said::of_all(alloc, ini.sections())?;
-        let fixed = fixed_defaults(alloc, ini.sections(), &said, &places, &stands)?;
-        let text = Octets::from_slice(alloc, text)?;
-        Ok(Device {
-            text,
+        let reading = Reading {
             ini,
             said,
             objects,
             values,
             places,
             stands,
-            fixed,
+        };
+        let reading = Arc::new(alloc, reading)?;
+        Ok(Device {
+            reading,
+            text: None,
             common: None,
         })
     }
@@ -132,31 +130,23 @@ impl Device {
         Ok(())
     }
 
-    /// Whether the other device has the same text, letter by letter: then it is the same. Takes time by the
-    /// length of the texts up to the first difference.
-    pub(crate) fn has_text_of(&self, other: &Device) -> bool
-        ensures { IsTrue result → self.now ≡ other.now }
-    {
-        self.text.as_slice() == other.text.as_slice()
-    }
-
     /// Where this device takes its memory.
     pub(crate) fn allocator(&self) -> Global {
-        *self.places.allocator()
+        *self.reading.places.allocator()
     }
 
     /// The sections of the text, in order.
     pub fn sections(&self) -> &[Section]
         ensures { result.now ≡ self.now.sections }
     {
-        self.ini.sections()
+        self.reading.ini.sections()
     }
 
     /// The numbers of the warned lines, from 1, in rising order.
     pub fn warnings(&self) -> &[u32]
         ensures { result.now ≡ self.now.warnings }
     {
-        self.ini.warnings()
+        self.reading.ini.warnings()
     }
 
     /// The index and sub-index of each entry, in order, at most 4,096.
@@ -164,29 +154,31 @@ impl Device {
         ensures pairs { result.now ≡ pairs_of self.now.sections }
         ensures bound { length result.now ≤ most_entries }
     {
-        self.places.as_slice()
+        self.reading.places.as_slice()
     }
 
     /// The first section that is named for an object, as `[1018]`.
     pub fn object_section(&self, index: u16) -> Option<&Section>
         ensures { option_copied result ≡ object_section self.now.sections index }
     {
-        section_at(self.ini.sections(), self.objects.get(&index))
+        let reading = &*self.reading;
+        section_at(reading.ini.sections(), reading.objects.get(&index))
     }
 
     /// The first section that is named for an object's compact values, as `[1003Value]`.
     pub fn values_section(&self, index: u16) -> Option<&Section>
         ensures { option_copied result ≡ values_section self.now.sections index }
     {
-        let listed = self.values.get(&index)?;
-        section_at(self.ini.sections(), Some(&listed.position))
+        let reading = &*self.reading;
+        let listed = reading.values.get(&index)?;
+        section_at(reading.ini.sections(), Some(&listed.position))
     }
 
     /// The value of a key in a section, each in any case.
     pub(crate) fn text(&self, section: &[u8], key: &[u8]) -> Option<&[u8]>
         ensures { option_copied result ≡ content_at self.now.sections section.now key.now }
     {
-        self.ini.get(section, key)
+        self.reading.ini.get(section, key)
     }
 
     /// The value that `[xxxxValue]` lists for a sub of a compact object: of two spellings of the sub
@@ -195,8 +187,9 @@ impl Device {
     pub(crate) fn listed_value(&self, index: u16, sub: u8) -> Option<&[u8]>
         ensures { option_copied result ≡ listed_value self.now.sections index sub }
     {
-        let listed = self.values.get(&index)?;
-        let section = section_at(self.ini.sections(), Some(&listed.position))?;
+        let reading = &*self.reading;
+        let listed = reading.values.get(&index)?;
+        let section = section_at(reading.ini.sections(), Some(&listed.position))?;
         let pair = listed_pair(section, listed, sub)?;
         Some(pair.value())
     }
@@ -205,7 +198,14 @@ impl Device {
     pub(crate) fn stand(&self, index: u16, sub: u8) -> Option<Stand>
         ensures { standing self.now.sections result ≡ origin_of self.now.sections index sub }
     {
-        find_stand(self.ini.sections(), &self.places, &self.stands, index, sub)
+        let reading = &*self.reading;
+        find_stand(
+            reading.ini.sections(),
+            &reading.places,
+            &reading.stands,
+            index,
+            sub,
+        )
     }
 
     /// Where an entry stands, with its position among the entries, which is looked for at `near` and
@@ -214,10 +214,11 @@ impl Device {
         ensures { standing self.now.sections (option_map (λ p. p.1) result)
             ≡ origin_of self.now.sections index sub }
     {
+        let reading = &*self.reading;
         find_stand_near(
-            self.ini.sections(),
-            &self.places,
-            &self.stands,
+            reading.ini.sections(),
+            &reading.places,
+            &reading.stands,
             near,
             index,
             sub,
@@ -229,10 +230,11 @@ impl Device {
         requires { slice_get (pairs_of self.now.sections) position ≡ Some (index, sub) }
         ensures { standing self.now.sections result ≡ origin_of self.now.sections index sub }
     {
+        let reading = &*self.reading;
         stand_there(
-            self.ini.sections(),
-            &self.places,
-            &self.stands,
+            reading.ini.sections(),
+            &reading.places,
+            &reading.stands,
             position,
             index,
             sub,
@@ -244,8 +246,9 @@ impl Device {
         ensures section { option_map (λ p. p.0.now) result ≡ slice_get self.now.sections position }
         ensures said { IfSome result (λ p. p.1.now ≡ said_in p.0.now) }
     {
-        let section = self.ini.sections().get(position)?;
-        let said = self.said.get(position)?;
+        let reading = &*self.reading;
+        let section = reading.ini.sections().get(position)?;
+        let said = reading.said.get(position)?;
         Some((section, said))
     }
 
@@ -254,8 +257,8 @@ impl Device {
         ensures { (place : ℕ × ℕ) → slice_get (pairs_of self.now.sections) position ≡ Some place
             → IsFixedAt self.now.sections place result }
     {
-        match self.fixed.get(position) {
-            Some(fixed) => *fixed,
+        match &self.common {
+            Some(common) => known_at(&common.fixed, position),
             None => Fixed::Varies,
         }
     }
@@ -266,7 +269,7 @@ impl Device {
         ensures { option_map origin_shown result ≡ origin_of self.now.sections index sub }
     {
         let stand = self.stand(index, sub)?;
-        let section = self.ini.sections().get(stand.position)?;
+        let section = self.sections().get(stand.position)?;
         match stand.highest {
             None => Some(Origin::Own(section)),
             Some(highest) => Some(Origin::Compact(section, highest)),

@@ -1,12 +1,14 @@
-//! Defaults that are the same at every node, found once when a device is read.
-ghost use Rattle.std.specs.Prelude.{◌≡◌, ◌≤◌, ℕ, IfOk, IsTrue, Some, length, map, option_map, option_and_then};
+//! Defaults that are the same at every node, found once for all.
+ghost use Rattle.std.specs.Prelude.{◌≡◌, ◌≤◌, ℕ, List, IfOk, IsTrue, Some, length, map, option_map, option_and_then};
+ghost use Rattle.std.specs.List.{slice_get};
 ghost use Rattle.co_values.specs.declared.data_type.DataType.{DataType as Kind};
 ghost use Rattle.co_values.specs.Values.{value};
 ghost use Rattle.eds_entries.specs.Said.{said_in};
+ghost use Rattle.ini_text.specs.Content.{Section as Named};
 ghost use Rattle.eds_entries.specs.Shown.{default_shown, description_shown};
 ghost use Rattle.eds_device.specs.Described.{description_by};
 ghost use Rattle.eds_device.specs.Entries.{default_bytes as bytes_of_default, default_by};
-ghost use Rattle.eds_device.specs.Fixed.{AreFixed, IsFixed};
+ghost use Rattle.eds_device.specs.Fixed.{AreFixed, IsFixed, IsFixedAt};
 ghost use Rattle.eds_device.specs.Table.{AreStands, standing};
 
 use crate::entries::default_bytes;
@@ -143,4 +145,15 @@ pub(crate) fn fixed_defaults(
         position += 1;
     }
     Ok(known)
+}
+
+/// What is known of the default of the entry at a position, in the list that `fixed_defaults` makes.
+pub(crate) fn known_at(known: &[Fixed], position: usize) -> Fixed
+    ensures { (ss : List Named) (places : List (ℕ × ℕ)) (place : ℕ × ℕ) → AreFixed ss places known.now
+        → slice_get places position ≡ Some place → IsFixedAt ss place result }
+{
+    match known.get(position) {
+        Some(fixed) => *fixed,
+        None => Fixed::Varies,
+    }
 }

@@ -15,6 +15,7 @@ pub mod laws;
 mod origin;
 mod placed;
 mod places;
+mod reading;
 mod table;
 mod values;
 

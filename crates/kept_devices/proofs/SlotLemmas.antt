@@ -2,7 +2,7 @@
 use Rattle.std.proofs.Common.{◌≡◌, ℕ, Vec, List, Bool, true, false, Option, Some, None, IsSome, option_map, cond, refl}
 use Rattle.std.proofs.Common.{sym, ap, subst, ◌∙◌}
 use Rattle.std.specs.BTreeMap.{BTreeMap, Updates, WritesThrough}
-use Rattle.std.specs.FinMap.{get, get-insert, get-remove, insert, remove}
+use Rattle.std.specs.FinMap.{get, get-insert, get-remove, insert, remove, same_map}
 use Rattle.std.specs.Option.{option_map_or}
 use Rattle.std.specs.Ordering.{eq_by_cmp}
 use Rattle.std.proofs.lemmas.Cmp.{nat_list_cmp_total}
@@ -17,9 +17,23 @@ use Rattle.kept_devices.specs.declared.device_slot.DeviceSlot.{DeviceSlot}
 abbrev set_at : Slots → List ℕ → Bool → Option DeviceSlot → Slots
 set_at slots name fresh o = option_map_or (λ (s : DeviceSlot). insert slots name (record s { fresh = fresh })) o slots
 
+-- a slot that is put where it is
+same_put : (slots : Slots) (name : List ℕ) (s : DeviceSlot) → get slots name ≡ Some s → insert slots name s ≡ slots
+same_put slots name s there =
+    same_map nat_list_cmp_total exact_bytes _ _ (λ q. get-insert nat_list_cmp_total slots name s q
+    ∙ by q (eq_by_cmp name_cmp q name) refl)
+  where
+    by : (q : List ℕ) (t : Bool) → eq_by_cmp name_cmp q name ≡ t → cond t (Some s) (get slots q) ≡ get slots q
+    by q true same = sym there ∙ ap (get slots) (sym (alike nat_list_cmp_total exact_bytes q name same))
+    by q false other = refl
+
 module _ {A : Type 0} (tree : BTreeMap (Vec ℕ A) DeviceSlot) (slots : Slots) (is : made tree.entries ≡ slots) where
   pub slot_found : (name : List ℕ) → value_in tree.entries name ≡ get slots name
   slot_found name = sym (value_found tree.entries name) ∙ ap (λ (m : Slots). get m name) is
+
+  pub text_found : (name : List ℕ) (o : Option DeviceSlot) → o ≡ value_in tree.entries name
+      → option_map (λ (s : DeviceSlot). s.kept) o ≡ text_kept slots name
+  text_found name o found = ap (option_map (λ (s : DeviceSlot). s.kept)) (found ∙ slot_found name)
 
   module _ (after : BTreeMap (Vec ℕ A) DeviceSlot) where
     pub slot_put : (key : Vec ℕ A) (s : DeviceSlot) → Updates key_cmp tree after key (Some s)
@@ -39,6 +53,15 @@ module _ {A : Type 0} (tree : BTreeMap (Vec ℕ A) DeviceSlot) (slots : Slots) (
         ∙ ap (λ (m : Slots). insert m name new) is
         ∙ ap (insert slots name) same
         ∙ sym (ap (set_at slots name fresh) (sym (slot_found name) ∙ sym found))
+
+    -- a slot that is left as it was
+    pub slot_left : (name : List ℕ) (old new : DeviceSlot) → Some old ≡ value_in tree.entries name → new ≡ old
+        → WritesThrough key_cmp (λ k. name_cmp name k.items) tree new after → made after.entries ≡ slots
+    slot_left name old new found same writes =
+        value_changed tree.entries after.entries name old new found (writes.3 (subst IsSome found refl)).0
+        ∙ ap (λ (m : Slots). insert m name new) is
+        ∙ ap (insert slots name) same
+        ∙ same_put slots name old (sym (slot_found name) ∙ sym found)
 
   pub none_marked : (name : List ℕ) (fresh : Bool) → None ≡ value_in tree.entries name
       → slots ≡ with_fresh slots name fresh

@@ -1,5 +1,5 @@
 //! The devices of EDS, by name.
-ghost use Rattle.std.specs.Prelude.{◌≡◌, ◌↔◌, ℕ, List, IsTrue, true, false, None, Some, Ok, OnOk, OnErr, cond};
+ghost use Rattle.std.specs.Prelude.{◌≡◌, ◌↔◌, ℕ, List, IsTrue, true, false, None, Some, Ok, IfOk, OnOk, OnErr, cond};
 ghost use Rattle.std.specs.Prelude.{option_copied, option_map};
 ghost use Rattle.std.specs.FinMap as map;
 ghost use Rattle.std.specs.Ordering.{eq_by_cmp};
@@ -10,8 +10,8 @@ ghost use Rattle.co_project.specs.Tables.{text_at};
 ghost use Rattle.co_memo.specs.Work.{Refreshes};
 ghost use Rattle.kept_devices.specs.Slots.{fresh_at, fresh_slot, text_kept, with_fresh};
 
-use crate::device_slot::DeviceSlot;
 use crate::eds_text::keep_device;
+use crate::seat::Seat;
 use co_memo::{Meter, Shared};
 use co_project::Project;
 use eds_device::Device;
@@ -23,7 +23,7 @@ use std::marker::Model;
 /// logarithm of their number.
 #[derive(Drop)]
 pub struct DeviceShelf {
-    slots: BTreeMap<Vec<u8>, DeviceSlot>,
+    slots: BTreeMap<Vec<u8>, Seat>,
 }
 
 impl Model for DeviceShelf {
@@ -49,17 +49,17 @@ impl DeviceShelf {
         }
     }
 
-    fn get(&self, name: &[u8]) -> Option<&DeviceSlot>
+    fn get(&self, name: &[u8]) -> Option<&Seat>
         ensures { option_copied result ≡ map.get self.now name.now }
     {
         self.slots.get(name)
     }
 
-    fn put(&mut self, name: Vec<u8>, slot: DeviceSlot) -> Result<(), AllocError>
-        ensures ok { OnOk result (self.new ≡ map.insert self.old name.items slot) }
+    fn put(&mut self, name: Vec<u8>, seat: Seat) -> Result<(), AllocError>
+        ensures ok { OnOk result (self.new ≡ map.insert self.old name.items seat) }
         ensures err { OnErr result (self.new ≡ self.old) }
     {
-        self.slots.insert(name, slot)?;
+        self.slots.insert(name, seat)?;
         Ok(())
     }
 
@@ -73,13 +73,13 @@ impl DeviceShelf {
     fn set_fresh(&mut self, name: &[u8], fresh: bool)
         ensures { self.new ≡ with_fresh self.old name.now fresh }
     {
-        let Some(slot) = self.slots.get_mut(name) else {
+        let Some(seat) = self.slots.get_mut(name) else {
             return;
         };
-        slot.fresh = fresh;
+        seat.set_fresh(fresh);
     }
 
-    /// The text of a name may be another one now.
+    /// The text of a name may be another one now. What was found of its device for many nodes is let go.
     pub fn mark(&mut self, name: &[u8])
         ensures { self.new ≡ with_fresh self.old name.now false }
     {
@@ -91,16 +91,35 @@ impl DeviceShelf {
         ensures { option_copied result ≡ option_map content_of (text_kept self.now name.now) }
     {
         match self.get(name) {
-            Some(slot) => Some(slot.kept.value()),
+            Some(seat) => Some(seat.device()),
             None => None,
         }
+    }
+
+    /// The device of a name that is kept, with what it has alike at every node: that is found at the first
+    /// asking, and kept till the name is marked. Takes time by the logarithm of the number of names, and at the
+    /// first asking time and memory by the number of entries, and time by its logarithm; want of memory is the
+    /// only error.
+    pub fn common(
+        &mut self,
+        alloc: Global,
+        name: &[u8],
+    ) -> Result<Option<Shared<Device>>, AllocError>
+        ensures same { self.new ≡ self.old }
+        ensures device { IfOk result (λ d. d ≡ option_map content_of (text_kept self.old name.now)) }
+    {
+        let Some(seat) = self.slots.get_mut(name) else {
+            return Ok(None);
+        };
+        let device = seat.common(alloc)?;
+        Ok(Some(device))
     }
 
     pub fn is_fresh(&self, name: &[u8]) -> bool
         ensures { result ≡ fresh_at self.now name.now }
     {
         match self.get(name) {
-            Some(slot) => slot.fresh,
+            Some(seat) => seat.is_fresh(),
             None => false,
         }
     }
@@ -109,7 +128,7 @@ impl DeviceShelf {
         ensures { IsTrue result ↔ (text_kept self.now name.now ≡ Some text.now) }
     {
         match self.get(name) {
-            Some(slot) => slot.kept.inputs().as_slice() == text,
+            Some(seat) => seat.text() == text,
             None => false,
         }
     }
@@ -122,7 +141,7 @@ impl DeviceShelf {
     {
         let kept = keep_device(alloc, text)?;
         let name = Vec::from_slice(alloc, name)?;
-        self.put(name, DeviceSlot { kept, fresh: true })
+        self.put(name, Seat::new(kept))
     }
 
     /// Reads the text that a project has under a name anew if it is another one, and lets the device

@@ -1,5 +1,6 @@
 //! The text of a device.
 ghost use Rattle.std.specs.Prelude.{◌≡◌, IfOk, Ok};
+ghost use Rattle.std.specs.Arc.{arc_value};
 ghost use Rattle.eds_device.specs.Faults.{device_of};
 ghost use Rattle.ini_text.specs.Content.{content_of};
 
@@ -8,23 +9,25 @@ use co_memo::{Kept, Makes, Shared};
 use eds_device::{Device, DeviceFault};
 use std::alloc::{AllocError, Global};
 use std::marker::Model;
+use std::sync::Arc;
 
 /// An EDS text (CiA 306) that describes a device: what a device is built from.
 #[derive(Drop)]
 pub struct EdsText {
-    text: Octets,
+    text: Arc<Octets>,
 }
 
 impl Model for EdsText {
     ghost use Rattle.std.specs.Prelude.{◌≡◌, ℕ, List, Ok};
+    ghost use Rattle.std.specs.Arc.{arc_value};
     ghost use Rattle.eds_device.specs.Faults.{device_of};
     ghost use Rattle.ini_text.specs.Content.{content_of};
 
     ghost Value = { List ℕ };
 
-    ghost view = { λ t. t.text };
+    ghost view = { λ t. arc_value t.text };
 
-    ghost invariant = { λ t. device_of t.text ≡ Ok (content_of t.text) };
+    ghost invariant = { λ t. device_of (arc_value t.text) ≡ Ok (content_of (arc_value t.text)) };
 }
 
 impl EdsText {
@@ -35,6 +38,7 @@ impl EdsText {
         ensures { IfOk result (λ t. t ≡ text.now) }
     {
         let text = Octets::from_slice(alloc, text)?;
+        let text = Arc::new(alloc, text)?;
         Ok(EdsText { text })
     }
 
@@ -43,6 +47,13 @@ impl EdsText {
         ensures { result.now ≡ self.now }
     {
         self.text.as_slice()
+    }
+
+    /// The text, for its device to share.
+    fn handle(&self) -> &Arc<Octets>
+        ensures { arc_value result.now ≡ self.now }
+    {
+        &self.text
     }
 }
 
@@ -64,14 +75,14 @@ fn read_device(alloc: Global, text: &[u8]) -> Result<Device, AllocError>
     }
 }
 
-/// The device of a text, with its shape where that is the same at every node, and with the text.
+/// The device of a text, with the text, which both share where most of it is content.
 pub fn keep_device(alloc: Global, text: &[u8]) -> Result<Kept<EdsText, Shared<Device>>, AllocError>
     requires { device_of text.now ≡ Ok (content_of text.now) }
     ensures { IfOk result (λ kept. kept ≡ text.now) }
 {
     let inputs = EdsText::of(alloc, text)?;
     let mut device = read_device(alloc, text)?;
-    device.keep_shape()?;
+    device.keep_text(inputs.handle())?;
     let device = Shared::new(alloc, device)?;
     Ok(Kept::new(inputs, device))
 }

@@ -4,6 +4,7 @@
 mod device_shelf;
 mod device_slot;
 mod eds_text;
+mod seat;
 
 pub use device_shelf::DeviceShelf;
 pub use device_slot::DeviceSlot;

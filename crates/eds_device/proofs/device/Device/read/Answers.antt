@@ -1,5 +1,6 @@
-use Rattle.std.proofs.Common.{◌∙◌, ap, Err}
+use Rattle.std.proofs.Common.{◌∙◌, ap, sym, Err, Ok}
 use Rattle.std.proofs.lemmas.Result.{err_from_is_err_and}
+use Rattle.eds_device.specs.declared.reading.Reading.{Reading}
 use Rattle.eds_device.proofs.ReadLemmas.{ini_refused, read_as, places_refused, places_given_back}
 use Rattle.eds_device.proofs.device.Device.read.Goals as goal
 
@@ -21,3 +22,4 @@ returns-clause-content c =
     let given = read_as c.args.text.now c.in_ok-ini.ini (λ h. absurd (let e = c.in_ok-ini.ensures.range.1 h in cc))
     (λ h. absurd (let e = c.in_ok-ini.ensures.bad_byte.1 h in cc)) c.in_ok-ini.ensures.content in
     given ∙ (places_given_back _ _ c.in_ok-ini.ini (rw c.sections.ensures at c.in_ok-places.ensures)).0
+    ∙ ap (λ (r : Reading). Ok r.ini) (sym c.in_ok-reading.ensures.ok)

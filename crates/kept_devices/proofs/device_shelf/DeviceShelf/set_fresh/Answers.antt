@@ -1,5 +1,4 @@
-use Rattle.std.proofs.Common.{refl, ◌∙◌}
-use Rattle.kept_devices.specs.declared.device_slot.DeviceSlot.{DeviceSlot}
+use Rattle.std.proofs.Common.{◌∙◌}
 use Rattle.kept_devices.proofs.SlotLemmas.{none_marked, slot_marked, slots_stay}
 use Rattle.kept_devices.proofs.device_shelf.DeviceShelf.set_fresh.Goals as goal
 
@@ -12,7 +11,6 @@ returns-in_default c =
 
 pub returns : goal.returns
 returns c =
-    let old = c.in-Some.slot.now in
-    let new : DeviceSlot = record old { fresh = c.args.fresh } in
-    slot_marked c.self.inside.slots c.args.self.now c.self.view_is (c.get_mut.follows.lender new) c.args.name.now old
-    c.in-Some.ensures.value c.args.fresh new refl (c.get_mut.follows.holds new)
+    let new = c.set_fresh.new.self in
+    slot_marked c.self.inside.slots c.args.self.now c.self.view_is (c.get_mut.follows.lender new) c.args.name.now
+    c.in-Some.seat.now c.in-Some.ensures.value c.args.fresh new c.set_fresh.ensures (c.get_mut.follows.holds new)
