@@ -7,7 +7,9 @@ use Rattle.std.proofs.lemmas.Bool.Decides.{nat_tests}
 use Rattle.asking.specs.Asking.{outcome}
 use Rattle.co_base.specs.Ranges.{is_between}
 use Rattle.co_dict.proofs.RestoredLemmas.{restored_at}
+use Rattle.co_dict.specs.Mappings.{mapped_place}
 use Rattle.co_dict.specs.Shapes.{Shaped}
+use Rattle.co_mapping.specs.Packing.{takes, with_bits}
 use Rattle.co_parts.specs.Contents.{Image, shape_of, values_of}
 use Rattle.co_parts.specs.declared.part.Part.TheVariants.{Defaults, Shape}
 use Rattle.device_objects.specs.Profile.{next_heartbeat}
@@ -17,6 +19,7 @@ use Rattle.co_device.specs.Device.{Device, after_own_write, after_write, after_s
 use Rattle.co_device.specs.Device.{after_write_of_consumer, after_initialisation, is_in, is_producer_time}
 use Rattle.co_device.specs.Device.{reset_communication, after_reset_node, after_sdo_request, after_set}
 use Rattle.co_device.specs.Device.{without_error_if}
+use Rattle.co_device.specs.Receiving.{after_entry}
 use Rattle.co_fields.specs.declared.nmt_state.NmtState.TheVariants.{Stopped}
 use Rattle.device_laws.proofs.CaseLemmas.{either, not_both, one_of, picked}
 
@@ -124,3 +127,27 @@ unfolding after_set
 other_sets_leave t place bytes d other =
     one_of (λ e. e.heartbeat ≡ d.heartbeat) d.has_power _ d
     (own_leaves t place (record d { values = map.insert d.values place bytes }) other) refl
+
+-- an entry of an RPDO's mapping
+module _ (t : ℕ) (shape : Shaped) (entry : ℕ) (bits : List ℕ) (d : Device) where
+  abbrev with_taken : Device
+  with_taken = record d { values = with_bits shape entry bits d.values }
+
+  pub entry_starts : takes shape entry bits d.values ≡ true → mapped_place entry ≡ producer_time
+      → StartsHeartbeat t (after_entry t shape entry bits d)
+  unfolding after_entry
+  entry_starts taken is =
+      rw taken (started t shape (Some (mapped_place entry)) with_taken (ap Some is))
+
+  pub other_entries_leave : mapped_place entry ≢ producer_time
+      → (after_entry t shape entry bits d).heartbeat ≡ d.heartbeat
+  unfolding after_entry
+  other_entries_leave other =
+      one_of (λ e. e.heartbeat ≡ d.heartbeat) (takes shape entry bits d.values) _ d
+      (write_leaves t shape (mapped_place entry) with_taken other) refl
+
+  pub untaken_leaves : takes shape entry bits d.values ≡ false → after_entry t shape entry bits d ≡ d
+  unfolding after_entry
+  untaken_leaves untaken = rw untaken refl
+
+pub ruleset what_entries_start = (entry_starts, other_entries_leave, untaken_leaves)

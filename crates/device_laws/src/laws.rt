@@ -9,21 +9,24 @@ ghost use Rattle.asking.specs.Asking.{Agrees, Answer, bind, outcome, reads};
 ghost use Rattle.can_frame.specs.Frames.{BaseFrame};
 ghost use Rattle.can_frame.specs.declared.waiting.Waiting.{Waiting};
 ghost use Rattle.co_base.specs.Ranges.{is_between};
+ghost use Rattle.co_dict.specs.Mappings.{mapped_place};
 ghost use Rattle.co_dict.specs.Places.{place_cmp};
+ghost use Rattle.co_dict.specs.Shapes.{Shaped};
 ghost use Rattle.co_parts.specs.Contents.{Image, shape_of, values_of};
 ghost use Rattle.co_pdos.specs.Sync.{sync_message};
 ghost use Rattle.device_objects.specs.Consumers.{failures_at};
 ghost use Rattle.device_objects.specs.Profile.{with_error_bits, next_heartbeat};
 ghost use Rattle.co_sdo.specs.Frames.{command};
 ghost use Rattle.co_sdo.specs.Server.{server_answer};
-ghost use Rattle.co_mapping.specs.Packing.{unpacked};
+ghost use Rattle.co_mapping.specs.Packing.{takes, unpacked};
 ghost use Rattle.device_pdos.specs.Rpdos.{mapping_of_rpdo, receipt_of, rpdo_at};
 ghost use Rattle.co_device.specs.Device.{Device, after_consumers, enter_pre_operational, is_in, moments, next_due};
 ghost use Rattle.co_device.specs.Device.{after_power, after_instant, reset_communication, after_reset_node};
 ghost use Rattle.co_device.specs.Device.{after_sdo_request};
 ghost use Rattle.co_device.specs.Device.{stop_remote_node, after_timers, after_set, with_emergencies, with_emergency};
 ghost use Rattle.co_device.specs.Device.{without_power};
-ghost use Rattle.co_device.specs.Receiving.{is_ignored, after_pdo, after_frame, after_rpdo, after_sync_at, after_sync};
+ghost use Rattle.co_device.specs.Receiving.{is_ignored, after_entry, after_pdo, after_frame, after_rpdo, after_sync_at};
+ghost use Rattle.co_device.specs.Receiving.{after_sync};
 ghost use Rattle.device_laws.specs.Ahead.{IsAhead, IsOwnPart};
 ghost use Rattle.device_laws.specs.Deaf.{IsDeafTo};
 ghost use Rattle.device_laws.specs.Rest.{Rests};
@@ -197,9 +200,10 @@ pub fn a_reset_restores_its_entries()
         else map.get d.values place) }
 {}
 
-/// A write of the producer heartbeat time, by SDO or by the application, starts the heartbeat anew,
-/// whatever the value was before; no other write does.
-#[tactic(auto, using(crate::proofs::ResetLemmas::write_starts, crate::proofs::ResetLemmas::others_leave, crate::proofs::ResetLemmas::set_starts, crate::proofs::ResetLemmas::other_sets_leave))]
+/// A write of the producer heartbeat time, by SDO, by the application or by an RPDO, starts the heartbeat anew,
+/// whatever the value was before; no other write does. An RPDO's frame is written entry by entry of its mapping: an
+/// entry that is not taken leaves the device as it is.
+#[tactic(auto, using(crate::proofs::ResetLemmas::write_starts, crate::proofs::ResetLemmas::others_leave, crate::proofs::ResetLemmas::set_starts, crate::proofs::ResetLemmas::other_sets_leave, crate::proofs::ResetLemmas::what_entries_start))]
 pub fn a_write_of_1017h_starts_the_heartbeat()
     ensures started { (image : Image) (t : ℕ) (request : List ℕ) (d : Device) → is_in NmtState.Stopped d ≡ false
         → (server_answer (shape_of (image (Part.Shape d.number))) d.values d.transfer request).wrote ≡ Some (0x1017, 0)
@@ -214,6 +218,14 @@ pub fn a_write_of_1017h_starts_the_heartbeat()
         ≡ next_heartbeat t d.learnt (after_set t (0x1017, 0) bytes d).values }
     ensures other_sets { (t : ℕ) (place : ℕ × ℕ) (bytes : List ℕ) (d : Device) → place ≢ (0x1017, 0)
         → (after_set t place bytes d).heartbeat ≡ d.heartbeat }
+    ensures rpdo { (t : ℕ) (shape : Shaped) (entry : ℕ) (bits : List ℕ) (d : Device)
+        → takes shape entry bits d.values ≡ true → mapped_place entry ≡ (0x1017, 0)
+        → (after_entry t shape entry bits d).heartbeat
+        ≡ next_heartbeat t (after_entry t shape entry bits d).learnt (after_entry t shape entry bits d).values }
+    ensures other_rpdos { (t : ℕ) (shape : Shaped) (entry : ℕ) (bits : List ℕ) (d : Device)
+        → mapped_place entry ≢ (0x1017, 0) → (after_entry t shape entry bits d).heartbeat ≡ d.heartbeat }
+    ensures untaken { (t : ℕ) (shape : Shaped) (entry : ℕ) (bits : List ℕ) (d : Device)
+        → takes shape entry bits d.values ≡ false → after_entry t shape entry bits d ≡ d }
 {}
 
 /// Once Operational is left, no TPDO waits, none remembers anything, and no RPDO keeps a frame.
