@@ -1,10 +1,11 @@
 -- The DCF of a node of a sound project, read again.
-use Rattle.std.proofs.Common.{◌≡◌, ◌≤◌, ◌∙◌, ℕ, Bool, true, false, cond, List, length, All, Contains, IfSome, Option}
+use Rattle.std.proofs.Common.{◌≡◌, ◌≤◌, ◌∙◌, ℕ, Bool, true, false, cond, List, [], ◌∷◌, length, All, Contains, IfSome, Option}
 use Rattle.std.proofs.Common.{Some, None, Ok, Err, refl, sym, ap, subst, nat_lt}
 use Rattle.std.specs.FinMap.{empty, get}
 use Rattle.std.proofs.lemmas.List.Elements.{All-contains_itself, All-weaker}
-use Rattle.ini_text.specs.Content.{Section, content_of}
-use Rattle.ini_text.specs.Printable.{IsPrintable, IsValue}
+use Rattle.std.specs.List.{AllByRecursion}
+use Rattle.ini_text.specs.Content.{Pair, Section, content_of}
+use Rattle.ini_text.specs.Printable.{IsPrintable, IsPrintablePair, IsPrintableSection, IsValue}
 use Rattle.ini_text.specs.Text.{has_bad_byte, is_out_of_range}
 use Rattle.ini_text.proofs.ReadLemmas.{read_is_printable}
 use Rattle.concise_dcf.specs.declared.write.Write.{Write}
@@ -20,6 +21,10 @@ use Rattle.co_params.specs.Parameters.{parameter_writes}
 use Rattle.eds_dcf.specs.Dcf.{dcf_sections}
 use Rattle.eds_dcf.specs.Printable.{StandsInLine}
 use Rattle.eds_dcf.specs.Writes.{is_to, last_of}
+use Rattle.co_values.specs.Values.{text_of_value}
+use Rattle.eds_device.specs.Described.{kind_at}
+use Rattle.eds_dcf.proofs.ByteLemmas.{IsGood, IsGoodPair, IsGoodSection, dcf_good}
+use Rattle.eds_dcf.proofs.CarriedTextLemmas.{HasGood}
 use Rattle.eds_dcf.proofs.CarriedLemmas.{carried, dcf_entry, LeaveParameters}
 use Rattle.eds_dcf.proofs.PrintedLemmas.{dcf_again, dcf_printable}
 use Rattle.eds_dcf.proofs.WholeLemmas.{dcf_pairs}
@@ -35,8 +40,31 @@ use Rattle.file_laws.proofs.DcfLemmas.{given, left_alone, to_another}
 use Rattle.file_laws.proofs.MappedLemmas.{all_writable}
 use Rattle.file_laws.proofs.MemberLemmas.{is_device, is_node, is_setting, member, no_pdo_params, IsMember}
 use Rattle.file_laws.proofs.PdoLemmas.{links_pdo, not_pdo}
-use Rattle.file_laws.proofs.TextLemmas.{name_value, sections_again, text_value}
-use Rattle.file_laws.proofs.ValueLemmas.{all_given, stands, IsGiven}
+use Rattle.file_laws.proofs.ReadBytesLemmas.{content_good}
+use Rattle.file_laws.proofs.TextLemmas.{name_good, name_value, sections_again, text_good, text_value}
+use Rattle.file_laws.proofs.ValueLemmas.{IsGiven, IsLine, all_given, printed, stands}
+
+-- the text of a device has no bad byte
+no_bad_byte : (text : List ℕ) → device_of text ≡ Ok (content_of text) → has_bad_byte text ≡ false
+unfolding device_of
+no_bad_byte text is = by (is_out_of_range text) (has_bad_byte text)
+    (nat_lt most_entries (length (pairs_of (content_of text).sections))) is
+  where
+    by : (long bad many : Bool) → cond long (Err Range)
+        (cond bad (Err BadByte) (cond many (Err Limit) (Ok (content_of text)))) ≡ Ok (content_of text) → bad ≡ false
+    by true bad many e = cc
+    by false true many e = cc
+    by false false many e = refl
+
+pairs_in_line : (ps : List Pair) → AllByRecursion IsPrintablePair ps → AllByRecursion IsGoodPair ps
+    → AllByRecursion (λ (p : Pair). IsLine p.value) ps
+pairs_in_line [] h g = tt
+pairs_in_line (p ∷ ps) h g = ((h.0.value, g.0.1), pairs_in_line ps h.1 g.1)
+
+sections_in_line : (ss : List Section) → AllByRecursion IsPrintableSection ss → AllByRecursion IsGoodSection ss
+    → AllByRecursion (HasGood IsLine) ss
+sections_in_line [] h g = tt
+sections_in_line (s ∷ ss) h g = (pairs_in_line s.pairs h.0.pairs g.0.pairs, sections_in_line ss h.1 g.1)
 
 module _ (project : Content) (id : ℕ) (m : Member) (node : IsSoundNode project id m) where
   here : IsMember project id m
@@ -45,22 +73,32 @@ module _ (project : Content) (id : ℕ) (m : Member) (node : IsSoundNode project
   printable : IsPrintable m.sections
   printable = subst IsPrintable here.sections (read_is_printable here.text)
 
+  -- its EDS has no bad byte
+  good : AllByRecursion IsGoodSection m.sections
+  good = subst (AllByRecursion IsGoodSection) here.sections
+      (content_good here.text (no_bad_byte here.text (is_device project id m node.sound here)))
+
+  values_in_line : AllByRecursion (HasGood IsLine) m.sections
+  values_in_line = sections_in_line m.sections printable.each good
+
   label : IsValue m.node.name
   unfolding IsNodeOf
   label = name_value m.node.name (is_node project id m node.sound here).2
 
-  lines : (place : ℕ × ℕ) → IfSome (get m.node.params place) IsValue
+  lines : (place : ℕ × ℕ) → IfSome (get m.node.params place) IsLine
   unfolding IsSetting
   lines place = by (get m.node.params place) refl
     where
-      by : (o : Option (List ℕ)) → get m.node.params place ≡ o → IfSome o IsValue
+      by : (o : Option (List ℕ)) → get m.node.params place ≡ o → IfSome o IsLine
       by None e = tt
-      by (Some text) e = text_value text (is_setting project id m node.sound here place text e).2
+      by (Some text) e =
+          let setting = is_setting project id m node.sound here place text e in
+          (text_value text setting.2, text_good text setting.2)
 
   all : All (λ (w : Write). IsGiven m.sections id (w.index, w.sub) w.bytes) (writes_of project m id)
   unfolding writes_of
   all = all_given m.sections id (plan_of_project project) (made_for_member project id m node.there)
-      (all_within project node.sound) (all_writable project node.sound) m.node.params printable lines
+      (all_within project node.sound) (all_writable project node.sound) m.node.params values_in_line lines
 
   all_stand : All (StandsInLine m.sections) (writes_of project m id)
   all_stand = All-weaker (λ (w : Write). IsGiven m.sections id (w.index, w.sub) w.bytes) (StandsInLine m.sections)
@@ -104,6 +142,15 @@ module _ (project : Content) (id : ℕ) (m : Member) (node : IsSoundNode project
   places = ap pairs_of again ∙ dcf_pairs m.sections id m.node.name project.bitrate (writes_of project m id)
       ∙ ap pairs_of (sym here.sections)
 
+  pub no_bad : has_bad_byte (dcf_text project id m) ≡ false
+  unfolding dcf_text IsNodeOf
+  no_bad =
+      dcf_good m.sections id m.node.name project.bitrate (writes_of project m id) good
+      (name_good m.node.name (is_node project id m node.sound here).2)
+      (All-weaker (λ (w : Write). IsGiven m.sections id (w.index, w.sub) w.bytes)
+      (λ (w : Write). IsGood (text_of_value (kind_at m.sections (w.index, w.sub)) w.bytes))
+      (printed m.sections id) (writes_of project m id) all)
+
   few : (text : List ℕ) → device_of text ≡ Ok (content_of text)
       → nat_lt most_entries (length (pairs_of (content_of text).sections)) ≡ false
   unfolding device_of
@@ -117,14 +164,14 @@ module _ (project : Content) (id : ℕ) (m : Member) (node : IsSoundNode project
       by false false true e = cc
       by false false false e = refl
 
-  pub device : is_out_of_range (dcf_text project id m) ≡ false → has_bad_byte (dcf_text project id m) ≡ false
+  pub device : is_out_of_range (dcf_text project id m) ≡ false
       → device_of (dcf_text project id m) ≡ Ok (content_of (dcf_text project id m))
   unfolding device_of
-  device short good =
+  device short =
       let same : nat_lt most_entries (length (pairs_of (content_of (dcf_text project id m)).sections)) ≡ false =
       ap (λ (ps : List (ℕ × ℕ)). nat_lt most_entries (length ps)) places
       ∙ few here.text (is_device project id m node.sound here) in
-      rw (short, good, same) refl
+      rw (short, no_bad, same) refl
 
   kept : kept_text (lines_of (dcf_text project id m)) ≡ dcf_text project id m
   unfolding dcf_text
@@ -134,6 +181,5 @@ module _ (project : Content) (id : ℕ) (m : Member) (node : IsSoundNode project
 
   -- and it is kept as it is by an `eds` command
   pub taken_in : (name : List ℕ) → is_name name ≡ true → length (lines_of (dcf_text project id m)) ≤ most_lines
-      → is_out_of_range (dcf_text project id m) ≡ false → has_bad_byte (dcf_text project id m) ≡ false
-      → IsEds name (dcf_text project id m)
-  taken_in name named few short good = record { name = named; lines = few; ended = kept; device = device short good }
+      → is_out_of_range (dcf_text project id m) ≡ false → IsEds name (dcf_text project id m)
+  taken_in name named few short = record { name = named; lines = few; ended = kept; device = device short }

@@ -6,6 +6,7 @@ mod MemberLemmas
 mod NamedLemmas
 mod PdoLemmas
 mod PlanLemmas
+mod ReadBytesLemmas
 mod TextLemmas
 mod ValueLemmas
 mod WritesLemmas

@@ -19,6 +19,7 @@ use Rattle.ini_text.specs.Change.{pair_text, section_text, text_of}
 use Rattle.ini_text.specs.Content.{Pair, Section}
 use Rattle.ini_text.specs.Printable.{has_byte, IsPrintablePair, IsPrintableSection, IsValue}
 use Rattle.ini_text.proofs.BytesLemmas.{none_append, sharp_end_if_trim, trimmed_sharp, IsSharp}
+use Rattle.eds_dcf.proofs.ByteLemmas.{IsGood, plain_good}
 use Rattle.eds_dcf.proofs.LineLemmas.{plain_value, IsPlain}
 
 and_left : (a b : Bool) → (a && b) ≡ true → a ≡ true
@@ -44,6 +45,10 @@ plain_bytes (b ∷ bs) e = (
 pub name_value : (name : List ℕ) → is_name name ≡ true → IsValue name
 name_value name e =
     plain_value name (plain_bytes name (and_right (is_between 1 32 (length name)) (list_all is_name_byte name) e))
+
+pub name_good : (name : List ℕ) → is_name name ≡ true → IsGood name
+name_good name e =
+    plain_good name (plain_bytes name (and_right (is_between 1 32 (length name)) (list_all is_name_byte name) e))
 
 -- ---- texts
 
@@ -118,6 +123,22 @@ text_value text e =
           (sharp_first (reverse text) (plain_reverse text each) ends.1);
       on_one_line = no_feeds text none;
     }
+
+-- a byte that is no control byte is none that a text may not have
+no_bad : (b : ℕ) → is_control b ≡ false → ini.is_bad_byte b ≡ false
+no_bad b plain = grind (arith, nat_tests)
+
+none_bad : (bs : List ℕ) → list_any is_control bs ≡ false → IsGood bs
+none_bad [] none = refl
+none_bad (b ∷ bs) none =
+    let parts = or_parts (is_control b) (list_any is_control bs) none in
+    rw (no_bad b parts.0) (none_bad bs parts.1)
+
+pub text_good : (text : List ℕ) → is_text text ≡ true → IsGood text
+text_good text e =
+    let plain : is_plain text ≡ true = and_left (is_plain text) (bytes_eq (trimmed text) text) e in
+    none_bad text (turned (list_any is_control text)
+    (and_right (is_between 1 4000 (length text)) (not (list_any is_control text)) plain))
 
 -- ---- lines
 

@@ -5,7 +5,9 @@ use Rattle.std.specs.FinMap.{get}
 use Rattle.std.specs.Option.{option_map_or}
 use Rattle.std.proofs.lemmas.List.Elements.{All-contains, All-contains_itself, All-weaker}
 use Rattle.ini_text.specs.Content.{Section}
-use Rattle.ini_text.specs.Printable.{IsPrintable, IsValue}
+use Rattle.ini_text.specs.Printable.{IsValue}
+use Rattle.std.specs.List.{AllByRecursion}
+use Rattle.eds_device.specs.Described.{kind_at}
 use Rattle.concise_dcf.specs.declared.write.Write.{Write}
 use Rattle.co_values.specs.declared.data_type.DataType.{DataType}
 use Rattle.co_values.specs.declared.data_type.DataType.TheVariants.{VisibleString}
@@ -37,8 +39,13 @@ use Rattle.pdo_links.proofs.WhoseLemmas.{of_either, of_rpdos, of_tpdos}
 use Rattle.std.specs.Prelude.{filter_map}
 use Rattle.eds_dcf.specs.Printable.{StandsInLine}
 use Rattle.eds_dcf.proofs.AgainLemmas.{characters, value_again}
-use Rattle.eds_dcf.proofs.CarriedTextLemmas.{text_all}
+use Rattle.eds_dcf.proofs.ByteLemmas.{IsGood, printed_good}
+use Rattle.eds_dcf.proofs.CarriedTextLemmas.{HasGood, text_all}
 use Rattle.file_laws.proofs.MappedLemmas.{IsWritable}
+
+-- bytes that can stand in a line of a text, none of them bad
+abbrev pub IsLine : List ℕ → Type 0
+IsLine bytes = IsValue bytes × IsGood bytes
 
 -- bytes are a value of an entry that may be written, are read again as they are printed, and can stand in a line
 pub record IsGiven (ss : List Section) (node : ℕ) (place : ℕ × ℕ) (bytes : List ℕ) : Type 0 where
@@ -48,19 +55,24 @@ pub record IsGiven (ss : List Section) (node : ℕ) (place : ℕ × ℕ) (bytes 
   pub writable : is_writable entry.access ≡ true
   pub again : value entry.kind (text_of_value entry.kind bytes) node ≡ Some bytes
   pub some : 0 < length bytes
-  pub in_line : entry.kind ≡ VisibleString → IsValue bytes
+  pub in_line : entry.kind ≡ VisibleString → IsLine bytes
 
 module _ (ss : List Section) (node : ℕ) where
   abbrev pub IsGivenBy : Write → Type 0
   IsGivenBy w = IsGiven ss node (w.index, w.sub) w.bytes
 
   pub stands : (w : Write) → IsGivenBy w → StandsInLine ss w
-  stands w given is = given.in_line (sym (kind_of_entry ss node w.index w.sub given.entry given.there) ∙ is)
+  stands w given is = (given.in_line (sym (kind_of_entry ss node w.index w.sub given.entry given.there) ∙ is)).0
+
+  pub printed : (w : Write) → IsGivenBy w → IsGood (text_of_value (kind_at ss (w.index, w.sub)) w.bytes)
+  printed w given =
+      printed_good (kind_at ss (w.index, w.sub)) w.bytes
+      (λ is. (given.in_line (sym (kind_of_entry ss node w.index w.sub given.entry given.there) ∙ is)).1)
 
   -- ---- parameters
 
-  module _ (params : Texts) (printable : IsPrintable ss)
-      (lines : (place : ℕ × ℕ) → IfSome (get params place) IsValue) where
+  module _ (params : Texts) (values : AllByRecursion (HasGood IsLine) ss)
+      (lines : (place : ℕ × ℕ) → IfSome (get params place) IsLine) where
     parameter_given : (w : Write) → Contains (parameter_writes ss params node) w → IsGivenBy w
     parameter_given w has =
         let behind = nothing_else ss params node w has in
@@ -70,9 +82,9 @@ module _ (ss : List Section) (node : ℕ) where
         let s : Suits entry text w.bytes node = j.2 in
         let sized = All-contains (λ (w : Write). (1 ≤ length w.bytes) × (length w.bytes ≤ 512))
         (parameter_writes ss params node) w (writes_sized ss params node) has in
-        let line : IsValue text =
-        subst (λ (o : Option (List ℕ)). IfSome o IsValue) behind.1
-        (text_all ss params node printable lines (place_of w)) in
+        let line : IsLine text =
+        subst (λ (o : Option (List ℕ)). IfSome o IsLine) behind.1
+        (text_all IsLine ss params values lines (place_of w)) in
         record {
           entry = entry;
           there = j.1;
@@ -81,7 +93,7 @@ module _ (ss : List Section) (node : ℕ) where
           again = value_again entry.kind text w.bytes node s.spelled;
           some = omega (arith, sized.0);
           in_line =
-              λ is. subst IsValue (characters text w.bytes node (subst (λ (k : DataType). value k text node
+              λ is. subst IsLine (characters text w.bytes node (subst (λ (k : DataType). value k text node
               ≡ Some w.bytes) is s.spelled)) line;
         }
 
@@ -162,11 +174,12 @@ module _ (ss : List Section) (node : ℕ) where
         (of_either (by_number (tpdo_writes ss node) (filter_map (tpdo_of node) (clean plan)))
         (by_number (λ (t : Clean × Consumer). rpdo_writes t.0 t.1) (filter_map (rpdo_of node) (clean plan))) w has)
 
-    pub all_given : (params : Texts) → IsPrintable ss → ((place : ℕ × ℕ) → IfSome (get params place) IsValue)
+    pub all_given : (params : Texts) → AllByRecursion (HasGood IsLine) ss
+        → ((place : ℕ × ℕ) → IfSome (get params place) IsLine)
         → All (λ w. IsGiven ss node (w.index, w.sub) w.bytes) (node_writes plan params ss node)
     unfolding node_writes
-    all_given params printable lines =
+    all_given params values lines =
         All-weaker (Contains (node_writes plan params ss node)) IsGivenBy
-        (λ w has. ⊎_elim (parameter_given params printable lines w) (link_given w)
+        (λ w has. ⊎_elim (parameter_given params values lines w) (link_given w)
         (of_either (parameter_writes ss params node) (link_writes plan ss node) w has))
         (node_writes plan params ss node) (All-contains_itself (node_writes plan params ss node))

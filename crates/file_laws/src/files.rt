@@ -30,12 +30,14 @@ pub fn a_dcf_gives_the_parameters_of_its_node()
         ≡ parameter_writes m.sections m.node.params id }
 {}
 
-/// A DCF within the limits of a text, without a bad byte, can be taken in as an EDS: it is the text of
-/// a device, which has the entries of its node's EDS as that describes them.
+/// A DCF within the limits of a text can be taken in as an EDS: it is the text of a device, which has the
+/// entries of its node's EDS as that describes them. It has no byte that a text may not have.
 pub fn a_dcf_is_the_text_of_a_device()
     ensures device { (project : Content) (id : ℕ) (m : Member) → IsSoundNode project id m
-        → is_out_of_range (dcf_text project id m) ≡ false → has_bad_byte (dcf_text project id m) ≡ false
+        → is_out_of_range (dcf_text project id m) ≡ false
         → device_of (dcf_text project id m) ≡ Ok (content_of (dcf_text project id m)) }
+    ensures bytes { (project : Content) (id : ℕ) (m : Member) → IsSoundNode project id m
+        → has_bad_byte (dcf_text project id m) ≡ false }
     ensures entries { (project : Content) (id : ℕ) (m : Member) (index sub : ℕ) → IsSoundNode project id m
         → entry_at (content_of (dcf_text project id m)).sections id index sub ≡ entry_at m.sections id index sub }
 {}
@@ -44,6 +46,6 @@ pub fn a_dcf_is_the_text_of_a_device()
 pub fn a_dcf_can_be_taken_in()
     ensures { (project : Content) (id : ℕ) (m : Member) (name : List ℕ) → IsSoundNode project id m → is_name name ≡ true
         → length (lines_of (dcf_text project id m)) ≤ most_lines
-        → is_out_of_range (dcf_text project id m) ≡ false → has_bad_byte (dcf_text project id m) ≡ false
+        → is_out_of_range (dcf_text project id m) ≡ false
         → IsEds name (dcf_text project id m) }
 {}
