@@ -1,3 +1,4 @@
+pub mod AgendaLemmas
 pub mod BlockLemmas
 pub mod DueLemmas
 pub mod IdleLemmas

@@ -35,15 +35,23 @@ module _ (t : ℕ) (delivered : Option Delivered) (bound : IfSome delivered (λ 
   none_at_all m (d ∷ ds) e = absurd cc
 
   pub all_idle_in : (n m : ℕ) (blocks : List Block) (ds : List Device) → m ≡ 8 * n → AreBlocksOf blocks ds
-      → AllByRecursion (λ b. sleeps_through t delivered b.agenda ≡ true) (take n blocks) → Idle (take m ds)
+      → AllByRecursion (λ b. sleeps_through t delivered b.outlook.agenda ≡ true) (take n blocks) → Idle (take m ds)
   all_idle_in zero m blocks ds e h asleep = rw e tt
   all_idle_in (suc n) m [] ds e h asleep = none_at_all m ds h
   all_idle_in (suc n) m (b ∷ blocks) ds e h asleep =
       let more : m ≡ 8 + 8 * n = omega (arith, e) in
       subst Idle (sym (ap (λ (k : ℕ). take k ds) more ∙ take-add {A = Device} 8 (8 * n) ds))
       (all_both (λ d. at_instant t delivered d ≡ Answer d) (take 8 ds) (take (8 * n) (drop 8 ds))
-      (nothing_happens b.agenda (take 8 ds) t delivered bound h.0.agenda asleep.0)
+      (nothing_happens b.outlook.agenda (take 8 ds) t delivered bound h.0.outlook.agenda asleep.0)
       (all_idle_in n (8 * n) blocks (drop 8 ds) refl h.1 asleep.1))
+
+pub idle_first : (t : ℕ) (delivered : Option Delivered) (n m : ℕ) (blocks : List Block) (ds : List Device)
+    → (0 < n → IfSome delivered (λ d. d.frame.id < 0x800)) → m ≡ 8 * n → AreBlocksOf blocks ds
+    → AllByRecursion (λ b. sleeps_through t delivered b.outlook.agenda ≡ true) (take n blocks)
+    → AllByRecursion (λ d. at_instant t delivered d ≡ Answer d) (take m ds)
+idle_first t delivered zero m blocks ds bound e h asleep = rw e tt
+idle_first t delivered (suc n) m blocks ds bound e h asleep =
+    all_idle_in t delivered (bound (omega arith)) (suc n) m blocks ds e h asleep
 
 -- ---- the first ones, and those behind them
 
@@ -72,14 +80,19 @@ first_known blocks [] others ds block d e one f h = absurd (omega (arith, one))
 first_known blocks (b ∷ firsts) others ds block d e one f h =
     subst (IsBlockOf b) (sym f) (subst (λ (xs : List Block). AreBlocksOf xs ds) e h).0
 
+-- without blocks there are no devices
+pub none_left : (blocks : List Block) (rest : List Device) → length blocks ≡ 0 → AreBlocksOf blocks rest → rest ≡ []
+none_left [] rest e h = h
+none_left (b ∷ blocks) rest e h = absurd (omega (arith, e))
+
 -- ---- one more
 
 pub one_more_asleep : (t : ℕ) (delivered : Option Delivered) (blocks : List Block) (i : ℕ) (d : Block) → i < length blocks
-    → sleeps_through t delivered (get_or blocks i d).agenda ≡ true
-    → AllByRecursion (λ b. sleeps_through t delivered b.agenda ≡ true) (take i blocks)
-    → AllByRecursion (λ b. sleeps_through t delivered b.agenda ≡ true) (take (i + 1) blocks)
+    → sleeps_through t delivered (get_or blocks i d).outlook.agenda ≡ true
+    → AllByRecursion (λ b. sleeps_through t delivered b.outlook.agenda ≡ true) (take i blocks)
+    → AllByRecursion (λ b. sleeps_through t delivered b.outlook.agenda ≡ true) (take (i + 1) blocks)
 one_more_asleep t delivered blocks i d within asleep all =
-    rw (take_more blocks i d within) (all_both (λ (b : Block). sleeps_through t delivered b.agenda ≡ true)
+    rw (take_more blocks i d within) (all_both (λ (b : Block). sleeps_through t delivered b.outlook.agenda ≡ true)
     (take i blocks) (get_or blocks i d ∷ []) all (asleep, tt))
 
 -- ---- those behind them
@@ -107,6 +120,17 @@ module _ (step : Device → Asking Part Content Device) (ds : List Device) (m : 
       (ap (λ (xs : List Device). reads (each step xs) a.image) (sym whole)
       ∙ reads_append step (take m ds) (drop m ds) a.image)
       (asked_none (each step (take m ds)) (take m ds) a x nothing)
+
+  -- there is nothing behind them
+  pub all_passed : (image : Image) (rest : List Device) → rest ≡ drop m ds → rest ≡ []
+      → take m ds ++ rest ≡ outcome (each step ds) image
+  all_passed image rest e none = passed_state image rest
+      (none ∙ ap (λ (xs : List Device). outcome (each step xs) image) (sym none ∙ e))
+
+  pub none_asked : (a : Seen Part Content) (x : ℕ) (rest : List Device) → rest ≡ drop m ds → rest ≡ []
+      → IsAsked (each step ds) a a x x
+  none_asked a x rest e none =
+      passed_asked a a x x (asked_none (each step (drop m ds)) [] a x (ap (each step) (sym e ∙ none)))
 
 passed_by : (n m : ℕ) (blocks new : List Block) (ds rest : List Device) → m ≡ 8 * n → n ≤ length blocks
     → AreBlocksOf blocks ds → length rest ≡ length ds - m → AreBlocksOf new rest

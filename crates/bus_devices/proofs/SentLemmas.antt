@@ -7,7 +7,7 @@ use Rattle.std.proofs.lemmas.List.{drop-set-add, drop-set-lt, get_or-drop, lengt
 use Rattle.std.proofs.lemmas.List.{take_at}
 use Rattle.std.proofs.Math.Seq.{drop-nil, take-set-lt}
 use Rattle.co_base.specs.Moments.{earliest}
-use Rattle.bus_devices.specs.Blocks.{AreBlocksOf, IsBlockOf, IsDueAsBefore, WereBlocksOf}
+use Rattle.bus_devices.specs.Blocks.{AreAgendasOf, AreBlocksOf, IsBlockOf, IsDueAsBefore, WereBlocksOf, with_best}
 use Rattle.bus_devices.specs.declared.block.Block.{Block}
 use Rattle.bus_devices.proofs.SenderLemmas.{IsBest}
 use Rattle.bus_events.specs.Places.{device_at}
@@ -74,6 +74,14 @@ module _ (now d : Device) where
     silent = λ e. all_set (λ (x : Device). x.waiting ≡ []) ds i h.silent (plan.silent e);
   }
 
+  -- and so is the agenda of each
+  agendas_set : (plans : List Agenda) (ds : List Device) (i : ℕ) → IsDueAsBefore (get_or ds i d) now
+      → AreAgendasOf plans ds → AreAgendasOf plans (set ds i now)
+  agendas_set plans [] i h all = all
+  agendas_set [] (x ∷ ds) i h all = absurd all
+  agendas_set (a ∷ plans) (x ∷ ds) zero h all = (agenda_set a (x ∷ []) 0 h all.0, all.1)
+  agendas_set (a ∷ plans) (x ∷ ds) (suc i) h all = (all.0, agendas_set plans ds i h all.1)
+
 -- ---- blocks
 
 get_taken : (n : ℕ) (ds : List Device) (r : ℕ) (d : Device) → r < n → get_or (take n ds) r d ≡ get_or ds r d
@@ -91,12 +99,16 @@ drop_later (suc n) m (suc k) (x ∷ ds) e = drop_later n m k ds (omega (arith, e
 module _ (now d : Device) (best : Option Contender) (b0 : Block) where
   near_set : (b : Block) (blocks : List Block) (ds : List Device) (r : ℕ) → r < 8 → AreBlocksOf (b ∷ blocks) ds
       → IsDueAsBefore (get_or ds r d) now → IsBest best (take 8 (set ds r now))
-      → AreBlocksOf (record b { best = best } ∷ blocks) (set ds r now)
+      → AreBlocksOf (with_best b best ∷ blocks) (set ds r now)
   near_set b blocks ds r near h still wins = (
     record {
-      agenda = subst (IsAgendaOf b.agenda) (sym (take-set-lt 8 ds r now near))
-          (agenda_set now d b.agenda (take 8 ds) r (rw (get_taken 8 ds r d near) still) h.0.agenda);
-      best = wins;
+      outlook = record {
+        agenda = subst (IsAgendaOf b.outlook.agenda) (sym (take-set-lt 8 ds r now near))
+            (agenda_set now d b.outlook.agenda (take 8 ds) r (rw (get_taken 8 ds r d near) still) h.0.outlook.agenda);
+        best = wins;
+      };
+      each = subst (AreAgendasOf b.each) (sym (take-set-lt 8 ds r now near))
+          (agendas_set now d b.each (take 8 ds) r (rw (get_taken 8 ds r d near) still) h.0.each);
     },
     subst (AreBlocksOf blocks) (sym (drop-set-lt 8 ds r now near)) h.1,
   )
@@ -104,11 +116,11 @@ module _ (now d : Device) (best : Option Contender) (b0 : Block) where
   -- the block of a place anew
   pub sent_at : (k r : ℕ) (blocks : List Block) (ds : List Device) → r < 8 → k < length blocks → AreBlocksOf blocks ds
       → IsDueAsBefore (get_or ds (8 * k + r) d) now → IsBest best (take 8 (drop (8 * k) (set ds (8 * k + r) now)))
-      → AreBlocksOf (set blocks k (record (get_or blocks k b0) { best = best })) (set ds (8 * k + r) now)
+      → AreBlocksOf (set blocks k (with_best (get_or blocks k b0) best)) (set ds (8 * k + r) now)
   sent_at k r [] ds near within h still wins = absurd (omega (arith, within))
   sent_at zero r (b ∷ blocks) ds near within h still wins =
       let at : r ≡ 8 * 0 + r = omega arith in
-      subst (λ (n : ℕ). AreBlocksOf (record b { best = best } ∷ blocks) (set ds n now)) at
+      subst (λ (n : ℕ). AreBlocksOf (with_best b best ∷ blocks) (set ds n now)) at
       (near_set b blocks ds r near h (subst (λ (n : ℕ). IsDueAsBefore (get_or ds n d) now) (sym at) still)
       (subst (λ (n : ℕ). IsBest best (take 8 (set ds n now))) (sym at) wins))
   sent_at (suc k) r (b ∷ blocks) ds near within h still wins =
@@ -120,7 +132,7 @@ module _ (now d : Device) (best : Option Contender) (b0 : Block) where
       drop_later 8 (8 * k) (8 * suc k) (set ds (8 * suc k + r) now) (omega arith)
       ∙ ap (drop (8 * k)) behind in (
         subst (IsBlockOf b) (sym (take-set-le 8 ds (8 * suc k + r) now far)) h.0,
-        subst (AreBlocksOf (set blocks k (record (get_or blocks k b0) { best = best }))) (sym behind)
+        subst (AreBlocksOf (set blocks k (with_best (get_or blocks k b0) best))) (sym behind)
             (sent_at k r blocks (drop 8 ds) near (omega (arith, within)) h.1
             (rw (get_or-drop 8 ds (8 * k + r) d, ← at) still)
             (subst (λ (xs : List Device). IsBest best (take 8 xs)) further wins)),
@@ -142,14 +154,14 @@ module _ (i : ℕ) (blocks : List Block) (ds : List Device) (h : WereBlocksOf i 
   place_within = reach (i / 8) blocks h.before h.of (let within = h.within in omega (arith, within))
 
   pub best_planned : (b0 : Block) (best : Option Contender) → IsBest best (take 8 (drop (i / 8 * 8) ds))
-      → AreBlocksOf (set blocks (i / 8) (record (get_or blocks (i / 8) b0) { best = best })) ds
+      → AreBlocksOf (set blocks (i / 8) (with_best (get_or blocks (i / 8) b0) best)) ds
   best_planned b0 best wins =
       let at : i ≡ 8 * (i / 8) + i % 8 = omega arith in
       let near : i % 8 < 8 = omega arith in
       let turned : i / 8 * 8 ≡ 8 * (i / 8) = omega arith in
       let now_is : ds ≡ set h.before (8 * (i / 8) + i % 8) h.now =
       h.changed ∙ ap (λ (n : ℕ). set h.before n h.now) at in
-      subst (AreBlocksOf (set blocks (i / 8) (record (get_or blocks (i / 8) b0) { best = best }))) (sym now_is)
+      subst (AreBlocksOf (set blocks (i / 8) (with_best (get_or blocks (i / 8) b0) best))) (sym now_is)
       (sent_at h.now (without_power false 0) best b0 (i / 8) (i % 8) blocks h.before near place_within h.of
       (subst (λ (n : ℕ). IsDueAsBefore (get_or h.before n (without_power false 0)) h.now) at h.still)
       (subst (λ (xs : List Device). IsBest best (take 8 (drop (8 * (i / 8)) xs))) now_is

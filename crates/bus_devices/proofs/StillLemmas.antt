@@ -12,7 +12,8 @@ neither false b h = (refl, h)
 pub set_as_it_was : (ds : List Device) (i : ℕ) (d t : Device) → t ≡ get_or ds i d → set ds i t ≡ ds
 set_as_it_was ds i d t e = ap (λ (x : Device). set ds i x) e ∙ set-get_or ds i d
 
--- the first block and those behind it are as they were
-pub both_still : (ds block rest : List Device) → block ≡ take 8 ds → rest ≡ drop 8 ds → block ++ rest ≡ ds
-both_still ds block rest e f = ap (λ (xs : List Device). xs ++ rest) e ∙ ap (λ (xs : List Device). take 8 ds ++ xs) f
-    ∙ take-append-drop {A = Device} 8 ds
+-- those that were passed over and those behind them are as they were
+pub passed_still : (m : ℕ) (ds front rest : List Device) → front ≡ take m ds → rest ≡ drop m ds → front ++ rest ≡ ds
+passed_still m ds front rest e f = ap (λ (xs : List Device). xs ++ rest) e
+    ∙ ap (λ (xs : List Device). take m ds ++ xs) f
+    ∙ take-append-drop {A = Device} m ds

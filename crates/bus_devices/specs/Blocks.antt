@@ -1,17 +1,35 @@
 -- Blocks of eight devices.
-use Rattle.std.specs.Prelude.{◌≡◌, ◌<◌, ℕ, List, [], ◌∷◌, length, slice_set, take, drop}
+use Rattle.std.specs.Prelude.{◌≡◌, ◌<◌, ℕ, List, [], ◌∷◌, length, slice_set, take, drop, Option, ⊤}
 use Rattle.bus_devices.specs.Senders.{device_lists}
+use Rattle.bus_devices.specs.declared.outlook.Outlook.{Outlook}
 use Rattle.bus_devices.specs.declared.block.Block.{Block}
 use Rattle.bus_events.specs.Places.{device_at}
 use Rattle.can_frame.specs.Winner.{contenders, IsWinner}
+use Rattle.can_frame.specs.declared.contender.Contender.{Contender}
 use Rattle.co_device.specs.Device.{Device, moments}
 use Rattle.device_agenda.specs.Agenda.{IsAgendaOf, Sleeps}
+use Rattle.device_agenda.specs.declared.agenda.Agenda.{Agenda}
 use Rattle.device_agenda.specs.declared.groups.Groups.{Groups}
 
 -- what is known of devices: their agenda, and which of the frames that wait at them wins
+pub record IsOutlookOf (outlook : Outlook) (ds : List Device) : Type 0 where
+  pub agenda : IsAgendaOf outlook.agenda ds
+  pub best : IsWinner (contenders (device_lists ds)) outlook.best
+
+-- agendas of the devices, one of each; there may be more of them
+abbrev pub AreAgendasOf : List Agenda → List Device → Type 0
+AreAgendasOf agendas [] = ⊤
+AreAgendasOf [] (d ∷ ds) = ⊥
+AreAgendasOf (a ∷ agendas) (d ∷ ds) = IsAgendaOf a (d ∷ []) × AreAgendasOf agendas ds
+
+-- what is known of the devices of a block: of all of them, and the agenda of each
 pub record IsBlockOf (block : Block) (ds : List Device) : Type 0 where
-  pub agenda : IsAgendaOf block.agenda ds
-  pub best : IsWinner (contenders (device_lists ds)) block.best
+  pub outlook : IsOutlookOf block.outlook ds
+  pub each : AreAgendasOf block.each ds
+
+-- another frame wins of those that wait at its devices
+abbrev pub with_best : Block → Option Contender → Block
+with_best block best = record block { outlook = record block.outlook { best = best } }
 
 -- blocks of the devices, of eight at a time
 abbrev pub AreBlocksOf : List Block → List Device → Type 0
@@ -34,6 +52,6 @@ pub record WereBlocksOf (i : ℕ) (blocks : List Block) (ds : List Device) : Typ
   pub changed : ds ≡ slice_set before i now
 
 -- what is known of the devices of a bus: of each eight of them, and of all
-pub record AreKnown (blocks : List Block) (whole : Block) (ds : List Device) : Type 0 where
+pub record AreKnown (blocks : List Block) (whole : Outlook) (ds : List Device) : Type 0 where
   pub each : AreBlocksOf blocks ds
-  pub all : IsBlockOf whole ds
+  pub all : IsOutlookOf whole ds

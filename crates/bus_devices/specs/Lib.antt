@@ -1,3 +1,4 @@
 pub mod Blocks
 pub mod Numbers
 pub mod Senders
+pub mod Telling

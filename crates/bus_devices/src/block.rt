@@ -1,18 +1,19 @@
 //! What a few devices of a bus do, and what is known of them.
 
-ghost use Rattle.std.specs.Prelude.{◌≡◌, ◌<◌, ◌++◌, [], false, List, option_copied, IfOk, OnOk};
+ghost use Rattle.std.specs.Prelude.{◌≡◌, ◌<◌, ◌≤◌, ◌∷◌, [], false, length, option_copied, IfOk, OnOk};
 ghost use Rattle.asking.specs.Asking.{outcome};
 ghost use Rattle.asking.specs.Record.{IsAsked, Lasts};
-ghost use Rattle.bus_devices.specs.Blocks.{IsBlockOf};
+ghost use Rattle.bus_devices.specs.Blocks.{AreAgendasOf, IsBlockOf};
 ghost use Rattle.bus_devices.specs.Numbers.{device_of as first_of, values_of as first_values_of};
 ghost use Rattle.bus_devices.specs.Senders.{contends_with as contends, device_lists, is_contender, sender_place};
 ghost use Rattle.asking.specs.Each.{each};
 ghost use Rattle.can_frame.specs.Winner.{contenders, IsWinner};
 ghost use Rattle.co_base.specs.Moments.{earliest};
-ghost use Rattle.co_device.specs.Device.{Device, moments};
+ghost use Rattle.co_device.specs.Device.{moments};
 ghost use Rattle.std.specs.List.{flat_map};
 ghost use Rattle.device_agenda.specs.Agenda.{at_instant, IsAgendaOf};
 
+use crate::outlook::Outlook;
 use can_frame::Contender;
 use co_base::earlier;
 use co_dict::Dict;
@@ -21,49 +22,46 @@ use device_agenda::{Agenda, Delivery, SharedDevice};
 use device_objects::Shapes;
 use std::alloc::AllocError;
 
-/// What is known of devices in a row: when they have to run, and which of their frames wins.
+/// The number of devices of a block; the last one may have fewer.
+pub(crate) const BLOCK: usize = 8;
+
+/// What is known of the devices of a block: of all of them, and when each has to run, so that those that sleep
+/// aren't touched.
 #[derive(Clone, Copy, Debug)]
 pub(crate) struct Block {
-    /// When they have to run.
-    pub agenda: Agenda,
-    /// The least frame that waits at one of them, if one waits.
-    pub best: Option<Contender>,
+    /// What is known of all of them.
+    pub outlook: Outlook,
+    /// When each has to run, in their order; what stands behind those of the devices is of none.
+    pub each: [Agenda; BLOCK],
 }
 
 impl Block {
-    /// That of no device.
-    pub(crate) fn none() -> Block
-        ensures { IsBlockOf result [] }
-    {
-        Block {
-            agenda: Agenda::none(),
-            best: None,
-        }
-    }
-
-    /// That of devices. Walks them.
+    /// That of at most eight devices. Walks them.
     pub(crate) fn of(devices: &[SharedDevice]) -> Block
+        requires { length devices.now ≤ 8 }
         ensures { IsBlockOf result devices.now }
     {
         Block {
-            agenda: agenda_of(devices),
-            best: winner_of(devices),
-        }
-    }
-
-    /// That of these devices and others.
-    pub(crate) fn and(self, other: &Block) -> Block
-        ensures { (ds es : List Device) → IsBlockOf self ds → IsBlockOf other.now es → IsBlockOf result (ds ++ es) }
-    {
-        Block {
-            agenda: self.agenda.and(other.agenda),
-            best: Contender::lower(self.best, other.best),
+            outlook: Outlook::of(devices),
+            each: agendas_of(devices),
         }
     }
 }
 
+/// The agendas of at most eight devices, in their order.
+fn agendas_of(devices: &[SharedDevice]) -> [Agenda; BLOCK]
+    requires { length devices.now ≤ 8 }
+    ensures { AreAgendasOf result devices.now }
+{
+    let mut agendas = [Agenda::none(); BLOCK];
+    for (place, device) in devices.iter().enumerate() {
+        agendas[place] = device.agenda();
+    }
+    agendas
+}
+
 /// The agenda of devices.
-fn agenda_of(devices: &[SharedDevice]) -> Agenda
+pub(crate) fn agenda_of(devices: &[SharedDevice]) -> Agenda
     ensures { IsAgendaOf result devices.now }
 {
     let mut agenda = Agenda::none();
@@ -73,14 +71,41 @@ fn agenda_of(devices: &[SharedDevice]) -> Agenda
     agenda
 }
 
-/// Runs each device that has to run at the moment t, at which this is delivered, and says whether one had to.
-pub(crate) fn run_each<P: Shapes>(
-    devices: &mut [SharedDevice],
+/// Runs a device of this agenda, if it has to run at the moment t, at which this is delivered, and says whether it
+/// had to. It isn't touched where its agenda says that it sleeps.
+fn run_one<P: Shapes>(
+    device: &mut SharedDevice,
+    agenda: &Agenda,
     t: u64,
     delivery: &Option<Delivery>,
     shapes: &mut P,
 ) -> Result<bool, AllocError>
-    requires { t < END }
+    requires soon { t < END }
+    requires agenda { IsAgendaOf agenda.now (device.old ∷ []) }
+    ensures state { OnOk result (device.new ≡ outcome (at_instant t delivery.now device.old)
+        (P.seen shapes.old).image) }
+    ensures asked { OnOk result (IsAsked (at_instant t delivery.now device.old)
+        (P.seen shapes.old) (P.seen shapes.new) (P.asks shapes.old) (P.asks shapes.new)) }
+    ensures lasts { Lasts (P.seen shapes.old) (P.seen shapes.new) }
+    ensures still { IfOk result (λ ran. ran ≡ false → device.new ≡ device.old) }
+{
+    if agenda.sleeps_through(t, delivery) {
+        return Ok(false);
+    }
+    device.run_instant(t, delivery, shapes)
+}
+
+/// Runs each device that has to run at the moment t, at which this is delivered, and says whether one had to. The
+/// agendas are theirs.
+pub(crate) fn run_each<P: Shapes>(
+    devices: &mut [SharedDevice],
+    agendas: &[Agenda],
+    t: u64,
+    delivery: &Option<Delivery>,
+    shapes: &mut P,
+) -> Result<bool, AllocError>
+    requires soon { t < END }
+    requires agendas { AreAgendasOf agendas.now devices.old }
     ensures state { OnOk result (devices.new ≡ outcome (each (at_instant t delivery.now) devices.old)
         (P.seen shapes.old).image) }
     ensures asked { OnOk result (IsAsked (each (at_instant t delivery.now) devices.old)
@@ -89,8 +114,8 @@ pub(crate) fn run_each<P: Shapes>(
     ensures still { IfOk result (λ ran. ran ≡ false → devices.new ≡ devices.old) }
 {
     let mut ran = false;
-    for device in devices.iter_mut() {
-        let had_to = device.run_instant(t, delivery, shapes)?;
+    for (place, device) in devices.iter_mut().enumerate() {
+        let had_to = run_one(device, &agendas[place], t, delivery, shapes)?;
         ran |= had_to;
     }
     Ok(ran)

@@ -4,22 +4,20 @@ ghost use Rattle.std.specs.Prelude.{◌≡◌, ◌<◌, ◌≤◌, ◌*◌, fals
 ghost use Rattle.std.specs.List.{AllByRecursion};
 ghost use Rattle.asking.specs.Asking.{outcome};
 ghost use Rattle.asking.specs.Record.{IsAsked, Lasts};
-ghost use Rattle.bus_devices.specs.Blocks.{AreBlocksOf, IsBlockOf, WereBlocksOf};
+ghost use Rattle.bus_devices.specs.Blocks.{AreBlocksOf, IsBlockOf, IsOutlookOf, WereBlocksOf};
 ghost use Rattle.bus_devices.specs.Senders.{device_lists, may_wait_at, sender_place as place_of};
 ghost use Rattle.asking.specs.Each.{each};
 ghost use Rattle.can_frame.specs.Winner.{contenders, IsWinner};
 ghost use Rattle.co_device.specs.Device.{Device};
-ghost use Rattle.device_agenda.specs.Agenda.{at_instant, sleeps_through};
+ghost use Rattle.device_agenda.specs.Agenda.{at_instant, sleeps_through, IsAgendaOf};
 
-use crate::block::{Block, place_of_sender, run_each, winner_of};
+use crate::block::{BLOCK, Block, place_of_sender, run_each, winner_of};
+use crate::outlook::Outlook;
 use can_frame::Contender;
 use co_parts::END;
 use device_agenda::{Delivery, SharedDevice};
 use device_objects::Shapes;
 use std::alloc::AllocError;
-
-/// The number of devices of a block; the last one may have fewer.
-const BLOCK: usize = 8;
 
 /// The number of devices of the first block of so many.
 fn first_block(count: usize) -> usize
@@ -43,8 +41,8 @@ pub(crate) fn plan(blocks: &mut Vec<Block>, devices: &[SharedDevice]) -> Result<
     Ok(())
 }
 
-/// Runs the devices of a block that have to run, and where one had to, works out anew what is known of them.
-/// Says whether one had to.
+/// Runs those of the devices of a block that have to run, and where one had to, works out anew what is known of
+/// them. Says whether one had to.
 fn run_block<P: Shapes>(
     block: &mut Block,
     devices: &mut [SharedDevice],
@@ -53,6 +51,7 @@ fn run_block<P: Shapes>(
     shapes: &mut P,
 ) -> Result<bool, AllocError>
     requires soon { t < END }
+    requires few { length devices.old ≤ 8 }
     requires known { IsBlockOf block.old devices.old }
     ensures block { OnOk result (IsBlockOf block.new devices.new) }
     ensures state { OnOk result (devices.new ≡ outcome (each (at_instant t delivery.now) devices.old)
@@ -62,10 +61,7 @@ fn run_block<P: Shapes>(
     ensures lasts { Lasts (P.seen shapes.old) (P.seen shapes.new) }
     ensures still { IfOk result (λ ran. ran ≡ false → devices.new ≡ devices.old) }
 {
-    if block.agenda.sleeps_through(t, delivery) {
-        return Ok(false);
-    }
-    let ran = run_each(devices, t, delivery, shapes)?;
+    let ran = run_each(devices, &block.each, t, delivery, shapes)?;
     if ran {
         *block = Block::of(devices);
     }
@@ -75,11 +71,11 @@ fn run_block<P: Shapes>(
 /// How many of the first blocks sleep through the moment t, at which this is delivered.
 fn asleep(blocks: &[Block], t: u64, delivery: &Option<Delivery>) -> usize
     ensures within { result ≤ length blocks.now }
-    ensures asleep { AllByRecursion (λ b. sleeps_through t delivery.now b.agenda ≡ true) (take result blocks.now) }
+    ensures asleep { AllByRecursion (λ b. sleeps_through t delivery.now b.outlook.agenda ≡ true) (take result blocks.now) }
     ensures bound { 0 < result → IfSome delivery.now (λ d. d.frame.id < 0x800) }
 {
     for i in 0..blocks.len() {
-        if !blocks[i].agenda.sleeps_through(t, delivery) {
+        if !blocks[i].outlook.agenda.sleeps_through(t, delivery) {
             return i;
         }
     }
@@ -97,8 +93,8 @@ fn devices_of(blocks: usize, count: usize) -> usize
     }
 }
 
-/// Runs the devices of each block that has to run, one block after another, and says whether one had to, or one
-/// did before them. Goes as deep as there are blocks.
+/// Runs the devices that have to run, one block after another, and says whether one had to, or one did before
+/// them. Passes over the blocks that sleep, and goes as deep as there are others.
 pub(crate) fn run_blocks<P: Shapes>(
     blocks: &mut [Block],
     devices: &mut [SharedDevice],
@@ -118,18 +114,15 @@ pub(crate) fn run_blocks<P: Shapes>(
     ensures still { IfOk result (λ ran. ran ≡ false → (before ≡ false) × (devices.new ≡ devices.old)) }
 {
     let asleep = asleep(blocks, t, delivery);
-    if asleep > 0 {
-        let (_asleep, others) = blocks.split_at_mut(asleep);
-        let (_still, rest) = devices.split_at_mut(devices_of(asleep, devices.len()));
-        return run_blocks(others, rest, t, delivery, shapes, before);
-    }
-    if blocks.is_empty() {
+    let (_asleep, awake) = blocks.split_at_mut(asleep);
+    let (_still, rest) = devices.split_at_mut(devices_of(asleep, devices.len()));
+    if awake.is_empty() {
         return Ok(before);
     }
-    let (firsts, others) = blocks.split_at_mut(1);
-    let (block, rest) = devices.split_at_mut(first_block(devices.len()));
+    let (firsts, others) = awake.split_at_mut(1);
+    let (block, behind) = rest.split_at_mut(first_block(rest.len()));
     let ran = run_block(&mut firsts[0], block, t, delivery, shapes)?;
-    run_blocks(others, rest, t, delivery, shapes, before | ran)
+    run_blocks(others, behind, t, delivery, shapes, before | ran)
 }
 
 /// Works out anew which frame wins in the block of a place, after the frames have changed that wait at the device
@@ -141,30 +134,41 @@ pub(crate) fn plan_best(blocks: &mut [Block], devices: &[SharedDevice], i: usize
     let place = i / BLOCK;
     let (_before, rest) = devices.split_at(place * BLOCK);
     let (block, _behind) = rest.split_at(first_block(rest.len()));
-    blocks[place].best = winner_of(block);
+    blocks[place].outlook.best = winner_of(block);
 }
 
 /// The least frame that waits at the devices of all blocks. Walks the blocks.
-pub(crate) fn best_of(blocks: &[Block]) -> Option<Contender>
+fn best_of(blocks: &[Block]) -> Option<Contender>
     ensures { (devices : List Device) → AreBlocksOf blocks.now devices
         → IsWinner (contenders (device_lists devices)) result }
 {
     let mut best = None;
     for block in blocks {
-        best = Contender::lower(best, block.best);
+        best = Contender::lower(best, block.outlook.best);
     }
     best
 }
 
 /// What is known of the devices of all blocks. Walks the blocks.
-pub(crate) fn all_of(blocks: &[Block]) -> Block
-    ensures { (devices : List Device) → AreBlocksOf blocks.now devices → IsBlockOf result devices }
+pub(crate) fn all_of(blocks: &[Block]) -> Outlook
+    ensures { (devices : List Device) → AreBlocksOf blocks.now devices → IsOutlookOf result devices }
 {
-    let mut all = Block::none();
+    let mut all = Outlook::none();
     for block in blocks {
-        all = all.and(block);
+        all = all.and(&block.outlook);
     }
     all
+}
+
+/// What is known of the devices of all blocks behind a send, of which the agenda is as it was. Walks the blocks.
+pub(crate) fn all_sent(all: Outlook, blocks: &[Block]) -> Outlook
+    ensures { (devices : List Device) → AreBlocksOf blocks.now devices → IsAgendaOf all.agenda devices
+        → IsOutlookOf result devices }
+{
+    Outlook {
+        agenda: all.agenda,
+        best: best_of(blocks),
+    }
 }
 
 /// Whether a frame can be one of those waiting at devices, of which this is the least.
@@ -182,7 +186,7 @@ fn place_in(contender: &Contender, block: &Block, devices: &[SharedDevice]) -> O
     requires { IsBlockOf block.now devices.now }
     ensures { result ≡ place_of contender.now devices.now }
 {
-    if may_wait_at(contender, &block.best) {
+    if may_wait_at(contender, &block.outlook.best) {
         place_of_sender(contender, devices)
     } else {
         None

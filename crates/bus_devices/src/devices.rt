@@ -8,15 +8,18 @@ ghost use Rattle.asking.specs.Record.{IsAsked, Lasts};
 ghost use Rattle.asking.specs.Each.{each};
 ghost use Rattle.bus_devices.specs.Numbers.{values_of as first_values_of};
 ghost use Rattle.bus_devices.specs.Senders.{device_lists, sender_place as place_of, with_sent};
+ghost use Rattle.bus_devices.specs.Telling.{TellsApart};
 ghost use Rattle.bus_events.specs.Places.{device_at};
 ghost use Rattle.can_frame.specs.Winner.{contenders, IsWinner};
 ghost use Rattle.co_device.specs.Device.{moments};
 ghost use Rattle.co_base.specs.Moments.{earliest};
 ghost use Rattle.device_agenda.specs.Agenda.{at_instant};
 
+use crate::apart::Apart;
 use crate::block::{Block, first_due, place_of_sender, values_of, winner_of};
-use crate::blocks::{all_of, best_of, plan, plan_best, run_blocks, sender_place};
-use crate::lists::{copy_all, differ_at, place_apart, same_all};
+use crate::blocks::{all_of, all_sent, plan, plan_best, run_blocks, sender_place};
+use crate::lists::{copy_all, differ_at, tell_apart};
+use crate::outlook::Outlook;
 use can_frame::{Contender, Waiting};
 use co_dict::Dict;
 use co_parts::END;
@@ -34,7 +37,7 @@ pub struct Devices {
     alloc: Global,
     devices: Vec<SharedDevice>,
     blocks: Vec<Block>,
-    all: Block,
+    all: Outlook,
     known: bool,
 }
 
@@ -71,7 +74,7 @@ impl Devices {
             alloc,
             devices,
             blocks: Vec::new(alloc),
-            all: Block::none(),
+            all: Outlook::none(),
             known: false,
         }
     }
@@ -98,11 +101,24 @@ impl Devices {
         })
     }
 
+    /// Lets go of what is known of them, and of its memory. They are the same; their next instant works it out
+    /// anew.
+    pub fn forget_known(&mut self)
+        ensures { self.new ≡ self.old }
+    {
+        self.known = false;
+        self.blocks = Vec::new(self.alloc);
+    }
+
     /// Whether two lists of devices are the same.
     pub fn same(&self, other: &Devices) -> bool
         ensures { IsTrue result ↔ (self.now ≡ other.now) }
     {
-        same_all(&self.devices, &other.devices)
+        match self.tell_apart(other) {
+            Apart::No => true,
+            Apart::At(_place) => false,
+            Apart::Elsewhere => false,
+        }
     }
 
     /// Whether a quick look at the device of a place tells them from others. Takes the time of one such look.
@@ -112,17 +128,20 @@ impl Devices {
         differ_at(&self.devices, &other.devices, place)
     }
 
-    /// The first place at which `differ_at` tells them from others, if there is one. Looks at each of them up to
-    /// that place, as `same` does.
-    pub fn place_apart(&self, other: &Devices) -> Option<usize> {
-        place_apart(&self.devices, &other.devices)
+    /// What tells them from others: the first place at which `differ_at` does, if there is one. Looks at each of
+    /// them up to that place; where none is told so, compares them by value.
+    pub fn tell_apart(&self, other: &Devices) -> Apart
+        ensures { TellsApart result self.now other.now }
+    {
+        tell_apart(&self.devices, &other.devices)
     }
 
     /// An instant of each device, by number: it hears what is delivered, if another node sent it, and then
-    /// runs what is due. Takes constant time where none of them has to run; else time by the devices that have
-    /// to, and by an eighth of all. The first instant of devices of which nothing is known walks all of them, and
-    /// takes memory for what is known of each eight. Want of memory may come halfway: some of the devices have had
-    /// their instant then, and others not.
+    /// runs what is due. Takes constant time where the agenda of all says that they sleep: none is due, and what is
+    /// delivered is of a group of none. Else takes time by an eighth of all, by those that are due, and by the
+    /// consumers or RPDOs of those of whose groups it is. The first instant of devices of which nothing is known
+    /// walks all of them, and takes memory for what is known of each eight. Want of memory may come halfway: some of
+    /// the devices have had their instant then, and others not.
     pub fn instant<P: Shapes>(
         &mut self,
         t: u64,
@@ -155,7 +174,7 @@ impl Devices {
     }
 
     /// The first moment at which one of them is due, in microseconds, if there is one. Takes constant time once
-    /// an instant has run.
+    /// an instant has run, else walks them.
     pub fn next_due(&self) -> Option<u64>
         ensures { result ≡ earliest (flat_map moments self.now) }
     {
@@ -173,7 +192,7 @@ impl Devices {
     }
 
     /// The frame with which one of them contends for the bus: of all that wait at them the one that wins. Takes
-    /// constant time once an instant has run.
+    /// constant time once an instant has run, else walks them.
     pub fn contender(&self) -> Option<Contender>
         ensures { IsWinner (contenders (device_lists self.now)) result }
     {
@@ -195,7 +214,8 @@ impl Devices {
         }
     }
 
-    /// Takes the frame at a place of its list from the device at a place.
+    /// Takes the frame at a place of its list from the device at a place. Takes time by an eighth of all, wherever
+    /// the device stands, once an instant has run. Want of memory leaves the devices as they were.
     pub fn send(&mut self, i: usize, place: usize) -> Result<Waiting, AllocError>
         requires device { i < length self.old }
         requires frame { place < length (device_at self.old i).waiting }
@@ -207,7 +227,7 @@ impl Devices {
         let sent = self.devices[i].send(place)?;
         if known {
             plan_best(self.blocks.as_mut_slice(), &self.devices, i);
-            self.all.best = best_of(&self.blocks);
+            self.all = all_sent(self.all, &self.blocks);
             self.known = true;
         }
         Ok(sent)

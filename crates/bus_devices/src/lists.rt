@@ -1,11 +1,13 @@
 //! The devices of a network as the power comes on.
 
-ghost use Rattle.std.specs.Prelude.{◌≡◌, ◌↔◌, false, length, true, map, IfOk, IsTrue, OnOk};
+ghost use Rattle.std.specs.Prelude.{◌≡◌, ◌↔◌, false, length, true, map, slice_get, IfOk, IfSome, IsTrue, OnOk};
 ghost use Rattle.asking.specs.Asking.{outcome};
 ghost use Rattle.asking.specs.Record.{IsAsked, Lasts};
 ghost use Rattle.asking.specs.Each.{each};
+ghost use Rattle.bus_devices.specs.Telling.{TellsApart};
 ghost use Rattle.co_device.specs.Device.{after_power, without_power};
 
+use crate::apart::Apart;
 use device_agenda::SharedDevice;
 use device_objects::Shapes;
 use std::alloc::{AllocError, Global};
@@ -37,22 +39,9 @@ pub(crate) fn copy_all(
     Ok(copies)
 }
 
-/// Whether each device of two lists of one length may be the same: a quick look at each.
-fn may_be_all(devices: &[SharedDevice], others: &[SharedDevice]) -> bool
-    requires { length devices.now ≡ length others.now }
-    ensures { devices.now ≡ others.now → IsTrue result }
-{
-    for i in 0..devices.len() {
-        if !devices[i].may_be(&others[i]) {
-            return false;
-        }
-    }
-    true
-}
-
 /// Whether a quick look at the devices of a place tells two lists apart. Takes the time of one such look.
 pub(crate) fn differ_at(devices: &[SharedDevice], others: &[SharedDevice], place: usize) -> bool
-    ensures { IsTrue result → devices.now ≡ others.now → ⊥ }
+    ensures { IsTrue result → slice_get devices.now place ≡ slice_get others.now place → ⊥ }
 {
     match (devices.get(place), others.get(place)) {
         (Some(device), Some(other)) => !device.may_be(other),
@@ -62,24 +51,46 @@ pub(crate) fn differ_at(devices: &[SharedDevice], others: &[SharedDevice], place
 
 /// The first place at which a quick look tells the devices of two lists apart, if there is one. Looks at each of
 /// them up to that place.
-pub(crate) fn place_apart(devices: &[SharedDevice], others: &[SharedDevice]) -> Option<usize> {
-    (0..devices.len()).find(|place| differ_at(devices, others, *place))
+fn place_apart(devices: &[SharedDevice], others: &[SharedDevice]) -> Option<usize>
+    ensures { IfSome result (λ place. slice_get devices.now place ≡ slice_get others.now place → ⊥) }
+{
+    for place in 0..devices.len() {
+        if differ_at(devices, others, place) {
+            return Some(place);
+        }
+    }
+    None
 }
 
-/// Whether the devices of two lists are the same. Looks at each of them quickly before it compares one by
-/// value.
-pub(crate) fn same_all(devices: &[SharedDevice], others: &[SharedDevice]) -> bool
+/// Whether the devices of two lists of one length are the same. Compares one after another by value.
+fn same_each(devices: &[SharedDevice], others: &[SharedDevice]) -> bool
+    requires { length devices.now ≡ length others.now }
     ensures { IsTrue result ↔ (devices.now ≡ others.now) }
 {
-    if devices.len() != others.len() || !may_be_all(devices, others) {
-        return false;
-    }
     for i in 0..devices.len() {
         if !devices[i].same(&others[i]) {
             return false;
         }
     }
     true
+}
+
+/// What tells the devices of two lists apart. Looks at each of them quickly before it compares one by value; lists
+/// of other lengths are told apart by these.
+pub(crate) fn tell_apart(devices: &[SharedDevice], others: &[SharedDevice]) -> Apart
+    ensures { TellsApart result devices.now others.now }
+{
+    if devices.len() != others.len() {
+        return Apart::Elsewhere;
+    }
+    if let Some(place) = place_apart(devices, others) {
+        return Apart::At(place);
+    }
+    if same_each(devices, others) {
+        Apart::No
+    } else {
+        Apart::Elsewhere
+    }
 }
 
 /// Switches the power of each on, at time 0.

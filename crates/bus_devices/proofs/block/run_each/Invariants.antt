@@ -5,18 +5,20 @@ use Rattle.asking.specs.Record.{Lasts}
 use Rattle.asking.specs.Each.{each}
 use Rattle.bus_devices.proofs.block.run_each.Given as goal
 
--- what is done and what is left give what all give; where none had to run so far, they are as they were
-abbrev pub invariant-loop-device : goal.invariant-loop-device
-invariant-loop-device g l =
+-- what is done and what is left give what all give; where none had to run so far, they are as they were, and those
+-- that are left are
+abbrev pub invariant-loop-place : goal.invariant-loop-place
+invariant-loop-place g l =
     let seen = g.P.Asked.seen l.fn.shapes in
     let step = at_instant l.fn.t l.fn.delivery in
-    let rest = each step (drop l.device-index l.devices) in
+    let rest = each step (drop l.place l.devices) in
     let all = each step l.fn.devices in
     record {
-      state : take l.device-index l.devices ++ outcome rest seen.image ≡ outcome all seen.image;
+      state : take l.place l.devices ++ outcome rest seen.image ≡ outcome all seen.image;
       noted : after_reads rest (g.P.Asked.seen l.shapes) ≡ after_reads all seen;
       counted : g.P.Asked.asks l.shapes + length (reads rest seen.image)
           ≤ g.P.Asked.asks l.fn.shapes + length (reads all seen.image);
       lasts : Lasts seen (g.P.Asked.seen l.shapes);
       still : l.ran ≡ false → l.devices ≡ l.fn.devices;
+      behind : drop l.place l.devices ≡ drop l.place l.fn.devices;
     }

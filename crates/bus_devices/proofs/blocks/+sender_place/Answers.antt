@@ -1,9 +1,9 @@
-use Rattle.std.proofs.Common.{◌≡◌, ◌+◌, ◌<◌, List, length, Some, subst, sym, ◌∙◌, arith}
+use Rattle.std.proofs.Common.{◌≡◌, ◌+◌, ◌<◌, List, length, Some, rules, subst, sym, ◌∙◌, arith}
 use Rattle.bus_devices.specs.Senders.{sender_place}
 use Rattle.bus_devices.proofs.BlockLemmas.{back_is, front_is, opened}
 use Rattle.bus_devices.proofs.SenderLemmas.{nowhere_in, sends_at, sends_here, sends_nowhere, sends_within}
 use Rattle.co_device.specs.Device.{Device}
-use Rattle.bus_devices.specs.Blocks.{IsBlockOf}
+use Rattle.bus_devices.specs.Blocks.{AreBlocksOf, IsBlockOf}
 use Rattle.bus_devices.proofs.blocks.+sender_place.Goals as goal
 
 pub returns-in_err-first : goal.returns-in_err-first
@@ -55,3 +55,13 @@ returns t c =
     (sym front)
     (sends_at c.args.contender.now ds c.in_ok-place.place (rw front at (sym c.in_default.is ∙ c.place_in.ensures))
     (rw back at (sym c.in_ok-place.was ∙ c.sender_place.ensures)))
+
+pub sender_place-requires : goal.sender_place-requires
+sender_place-requires t c =
+    let ds = c.args.devices.now in
+    let back = back_is c.first_block.result ds c.split_at.result.1.now c.first_block.ensures c.split_at.ensures.back in (
+      search rules,
+      subst (AreBlocksOf c.in_ok-first.others.now) (sym back)
+          (opened c.args.blocks.now c.in_ok-first.others.now c.in_ok-first.first.now ds
+          c.in_ok-first.ensures.cases.0 c.requires).1,
+    )

@@ -16,4 +16,4 @@ loop-block-preserved c = λ ds known.
     one_block_known (IsBest c.loop-block.best) (IsBest c.lower-best.result) _ c.args.blocks.now
     c.loop-block.block-index ds c.loop-block-test.true
     (λ before others won block. best_of_both before others c.loop-block.best _
-    c.lower-best.result won block.best c.lower-best.ensures) (c.loop-block.invariant ds known)
+    c.lower-best.result won block.outlook.best c.lower-best.ensures) (c.loop-block.invariant ds known)

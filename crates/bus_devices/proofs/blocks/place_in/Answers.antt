@@ -3,5 +3,5 @@ use Rattle.bus_devices.proofs.SenderLemmas.{none_sends}
 use Rattle.bus_devices.proofs.blocks.place_in.Goals as goal
 
 pub returns-else-may_wait_at : goal.returns-else-may_wait_at
-returns-else-may_wait_at c = none_sends c.args.contender.now c.args.devices.now c.args.block.now.best
-    c.requires.best (sym c.may_wait_at.ensures ∙ c.if-may_wait_at.false)
+returns-else-may_wait_at c = none_sends c.args.contender.now c.args.devices.now c.args.block.now.outlook.best
+    c.requires.outlook.best (sym c.may_wait_at.ensures ∙ c.if-may_wait_at.false)

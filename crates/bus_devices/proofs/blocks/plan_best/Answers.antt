@@ -1,4 +1,4 @@
-use Rattle.std.proofs.Common.{List, take, subst, ◌∙◌, ap}
+use Rattle.std.proofs.Common.{◌/◌, ◌<◌, List, length, rules, take, subst, ◌∙◌, ap}
 use Rattle.co_device.specs.Device.{Device}
 use Rattle.bus_devices.proofs.BlockLemmas.{front_is}
 use Rattle.bus_devices.proofs.SenderLemmas.{IsBest}
@@ -17,3 +17,9 @@ returns c =
 
 pub bounds-blocks-place : goal.bounds-blocks-place
 bounds-blocks-place c = place_within c.args.i c.args.blocks.now c.args.devices.now c.requires
+
+pub offset_bounds-blocks-place : goal.offset_bounds-blocks-place
+offset_bounds-blocks-place c =
+    let within : c.args.i / 8 < length c.args.blocks.now =
+    place_within c.args.i c.args.blocks.now c.args.devices.now c.requires in
+    search rules

@@ -1,5 +1,5 @@
 use Rattle.bus_devices.proofs.SenderLemmas.{best_of_both}
-use Rattle.bus_devices.proofs.block.Block.and.Goals as goal
+use Rattle.bus_devices.proofs.outlook.Outlook.and.Goals as goal
 
 pub returns : goal.returns
 returns c ds es one other = record {
