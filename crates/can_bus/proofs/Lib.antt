@@ -1,3 +1,4 @@
+pub mod ApartLemmas
 pub mod WindowLemmas
 pub mod ArbitrationLemmas
 pub mod ManagerLemmas

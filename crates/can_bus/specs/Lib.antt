@@ -2,3 +2,4 @@ pub mod Bus
 pub mod Dues
 pub mod Lines
 pub mod Runs
+pub mod Telling

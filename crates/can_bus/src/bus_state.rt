@@ -8,6 +8,7 @@ ghost use Rattle.bus_devices.specs.Numbers.{values_of};
 ghost use Rattle.can_bus.specs.Bus.{blank_bus, ended_slot, from_delivery_on, instant, open_slot, power_on, power_on_of};
 ghost use Rattle.can_bus.specs.Bus.{after_arbitration};
 ghost use Rattle.can_bus.specs.Dues.{next_due};
+ghost use Rattle.can_bus.specs.Telling.{TellsApart};
 ghost use Rattle.can_frame.specs.Frames.{slot_bits as bits_of};
 ghost use Rattle.co_parts.specs.Contents.{first_roster as roster_of_first};
 
@@ -19,7 +20,7 @@ use crate::parts::Parts;
 use crate::slot::Slot;
 use crate::telling::tell;
 use crate::windows::{begin_window, run_due};
-use bus_devices::{Devices, new_devices, power_all};
+use bus_devices::{Apart, Devices, new_devices, power_all};
 use bus_events::StepsLeft;
 use can_frame::{Frame, bit_time, slot_bits};
 use co_base::Octets;
@@ -278,6 +279,13 @@ impl BusState {
         })
     }
 
+    /// Lets go of what is known of its devices beside them, and of its memory: it is the same bus.
+    pub fn forget_known(&mut self)
+        ensures { self.new ≡ self.old }
+    {
+        self.devices.forget_known();
+    }
+
     /// Whether the other bus is the same but for its devices.
     fn is_like(&self, other: &BusState) -> bool
         ensures { IsTrue result ↔ (record self.now { devices = other.now.devices } ≡ other.now) }
@@ -314,13 +322,15 @@ impl BusState {
         self.devices.differ_at(&other.devices, place)
     }
 
-    /// The first place at which `differs_at` tells it from a bus that is the same but for its devices, if there is
-    /// one; none of another bus. Takes time as `same` does.
-    pub fn place_apart(&self, other: &BusState) -> Option<usize> {
+    /// What tells it from another bus: of one that is the same but for its devices the first place at which
+    /// `differs_at` does, if there is one. Takes time as `same` does, and no memory.
+    pub fn tell_apart(&self, other: &BusState) -> Apart
+        ensures { TellsApart result self.now other.now }
+    {
         if self.is_like(other) {
-            self.devices.place_apart(&other.devices)
+            self.devices.tell_apart(&other.devices)
         } else {
-            None
+            Apart::Elsewhere
         }
     }
 
@@ -352,11 +362,12 @@ impl BusState {
         sooner(first, self.devices.next_due())
     }
 
-    /// The instant at the moment t, which is below `END`: adds what it tells to the lines. Takes time by the
-    /// devices that have to run, and by an eighth of all where one has to or sends; by all of them where events
-    /// run, and in the first instant of a bus that was switched on, or whose events have run, or of a copy of such
-    /// a bus. That one takes memory for what is known of each eight devices; else one in which nothing is due and
-    /// no window starts takes none.
+    /// The instant at the moment t, which is below `END`: adds what it tells to the lines. Takes time by an eighth
+    /// of all devices, by those that are due, and by the consumers or RPDOs of those of whose groups the frame is
+    /// that is delivered; constant time where no device is due, the frame is of a group of none, and none sends; and
+    /// time by all devices where events run, and in the first instant of a bus that was switched on, whose events
+    /// have run, or that let go of what it knew, or of a copy of such a bus. That one takes memory for what is known
+    /// of each eight devices; else one in which nothing is due and no window starts takes none.
     /// Want of memory may leave lines added, and reads noted: what stood there before comes first, unchanged.
     pub fn instant<P: Parts>(
         &mut self,
