@@ -104,3 +104,38 @@ module _ (p : Project) (a b : KeptParts) (k m : Work) (devices : List (ℕ × De
 
     pub so_far_unmarked : HaveNoMark b (map of_node (entries p.nodes))
     so_far_unmarked = subst (λ (ns : List (ℕ × Node)). HaveNoMark b (map of_node ns)) whole s.unmarked
+
+-- ---- devices that are gathered, where none has a mark
+
+-- those of the nodes before the rest
+pub record Gathered (p : Project) (rest : List (ℕ × Node)) (devices : List (ℕ × Device)) : Type 0 where
+  pub done : List (ℕ × Node)
+  pub all : done ++ rest ≡ entries p.nodes
+  pub value : devices ≡ filter_map (numbered p) done
+
+pub gathered_none : (p : Project) (rest : List (ℕ × Node)) (devices : List (ℕ × Device)) → rest ≡ entries p.nodes
+    → devices ≡ [] → Gathered p rest devices
+gathered_none p rest devices e f = record { done = []; all = e; value = f }
+
+pub gathered_more : (p : Project) (e : ℕ × Node) (rest : List (ℕ × Node)) (devices more : List (ℕ × Device))
+    → Gathered p (e ∷ rest) devices → more ≡ devices ++ option_to_list (numbered p e) → Gathered p rest more
+gathered_more p e rest devices more s v =
+    record {
+      done = s.done ++ e ∷ [];
+      all = append_assoc s.done (e ∷ []) rest ∙ s.all;
+      value =
+          v ∙ ap (λ d. d ++ option_to_list (numbered p e)) s.value
+          ∙ sym (filter_map-append (numbered p) s.done (e ∷ [])
+          ∙ ap (λ d. filter_map (numbered p) s.done ++ d) (filter_map-one (numbered p) e));
+    }
+
+-- the next has no mark
+pub gathered_next : (p : Project) (e : ℕ × Node) (rest : List (ℕ × Node)) (devices : List (ℕ × Device)) (k : KeptParts)
+    → Gathered p (e ∷ rest) devices → HaveNoMark k (map of_node (entries p.nodes)) → fresh k (of_node e) ≡ true
+gathered_next p e rest devices k s unmarked =
+    all_middle (λ q. fresh k q ≡ true) (map of_node s.done) (of_node e) (map of_node rest)
+    (subst (All (λ q. fresh k q ≡ true)) (ap (map of_node) (sym s.all) ∙ map-append of_node s.done (e ∷ rest)) unmarked)
+
+pub gathered_all : (p : Project) (devices : List (ℕ × Device)) → Gathered p [] devices
+    → devices ≡ filter_map (numbered p) (entries p.nodes)
+gathered_all p devices s = s.value ∙ ap (filter_map (numbered p)) (sym (append-nil s.done) ∙ s.all)

@@ -1,5 +1,6 @@
 -- Steps of bringing parts up to date, as they are written.
-use Rattle.std.proofs.Common.{◌≡◌, ℕ, List, [], ◌∷◌, Option, Some, None, refl, ap, ◌∙◌, subst, option_map}
+use Rattle.std.proofs.Common.{◌≡◌, ℕ, List, [], ◌∷◌, Option, Some, None, refl, sym, ap, ◌∙◌, subst, option_map}
+use Rattle.std.proofs.Common.{IfSome, Bool, true, ◌+◌, ◌-◌, ◌^◌, min}
 use Rattle.std.specs.Option.{option_map_or}
 use Rattle.concise_dcf.specs.declared.write.Write.{Write}
 use Rattle.ini_text.specs.Content.{Content as Device}
@@ -7,8 +8,10 @@ use Rattle.co_messages.specs.Messages.{Named}
 use Rattle.co_project.specs.declared.node.Node.{Node}
 use Rattle.co_project.specs.Project.{Content as Project}
 use Rattle.co_project.specs.Tables.{node_at}
-use Rattle.co_memo.specs.Work.{Work}
+use Rattle.co_memo.specs.Shelved.{Single}
+use Rattle.co_memo.specs.Work.{Refreshes, Work}
 use Rattle.co_memo.specs.Stale.{AreBrought}
+use Rattle.co_memo.proofs.Brought.{refreshes_built}
 use Rattle.kept_parts.specs.Written.{AreValuesOf, Written}
 use Rattle.kept_parts.specs.Made.{writes_made, written_made}
 use Rattle.kept_parts.specs.Offered.{concise_by}
@@ -44,6 +47,25 @@ both_are p devices messages d m =
     ap (λ (ds : List (ℕ × Device)). from_both ds messages) d
     ∙ ap (λ (ms : Named). from_both (plan_from p).devices ms) m
 
+-- a plan of other inputs is built
+pub plan_built : (p : Project) (old : Option PlanFrom) (now : PlanFrom) (m n : Work) → now ≡ plan_from p
+    → (old ≡ Some (plan_from p) → ⊥) → n ≡ record m { parts = min (m.parts + 1) (2 ^ 64 - 1) }
+    → Refreshes (old ≡ Some now) m n
+plan_built p old now m n is stale counted =
+    refreshes_built (old ≡ Some now) (Some now) m n (λ e. stale (e ∙ ap Some is)) counted tt
+
+single : Option PlanFrom → Bool → Single PlanFrom
+single k f = record { kept = k; fresh = f }
+
+-- a plan of these inputs has its mark taken
+pub plan_settled : (old new : Single PlanFrom) (now : PlanFrom) → old.kept ≡ Some now
+    → new ≡ record old { fresh = true } → new ≡ record { kept = Some now; fresh = true }
+unfolding single
+plan_settled old new now kept settled = settled ∙ ap (λ k. single k true) kept
+
+abbrev pub with_plan : KeptParts → Single PlanFrom → KeptParts
+with_plan k plan = record k { plan = plan }
+
 -- ---- the writes of a node
 
 -- writes that are values of the entries of one device are such of the same device
@@ -68,3 +90,10 @@ writes_are p id now written is are = is ∙ ap (option_map concise_by) are ∙ b
         ≡ option_map (λ w. record { writes = writes_made w }) o
     by None = refl
     by (Some w) = refl
+
+-- ---- devices of now
+
+-- what was found is all that there is
+pub all_there_is : {X : Type 0} (found all : Option X) → found ≡ all → IfSome found (λ x. all ≡ Some x)
+all_there_is None all is = tt
+all_there_is (Some x) all is = sym is

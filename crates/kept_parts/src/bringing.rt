@@ -68,6 +68,23 @@ impl KeptParts {
         Ok(devices)
     }
 
+    /// Builds the plan anew, where the devices of all nodes have no mark.
+    fn build_plan(&mut self, project: &Project, meter: &mut Meter) -> Result<(), AllocError>
+        requires is_of { IsOf project.now self.old }
+        requires unmarked { HaveNoMark self.old (map of_node (finmap.entries project.now.nodes)) }
+        requires stale { self.old.plan.kept ≡ Some (plan_from project.now) → ⊥ }
+        ensures is_of { IsOf project.now self.new }
+        ensures brings { OnOk result (AreBrought same_part (given project.now) (Part.Plan ∷ [])
+            (held self.old) (held self.new) meter.old meter.new) }
+        ensures kept { OnOk result (self.new.plan.kept ≡ Some (plan_from project.now)) }
+    {
+        let devices = self.devices_for_plan(project)?;
+        let messages = project.messages();
+        self.plan
+            .build(self.alloc, PlanNow { devices, messages }, meter)?;
+        Ok(())
+    }
+
     /// Brings the plan up to date after the devices of all nodes. Where it has no mark nothing is looked at.
     fn settle_plan(&mut self, project: &Project, meter: &mut Meter) -> Result<(), AllocError>
         requires { IsOf project.now self.old }
@@ -81,8 +98,11 @@ impl KeptParts {
         }
         let devices = self.bring_devices(project, meter)?;
         let messages = project.messages();
-        self.plan
-            .bring(self.alloc, PlanNow { devices, messages }, meter)?;
+        let now = PlanNow { devices, messages };
+        if self.plan.settle(&now) {
+            return Ok(());
+        }
+        self.build_plan(project, meter)?;
         Ok(())
     }
 

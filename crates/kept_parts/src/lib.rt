@@ -2,6 +2,7 @@
 #![tactic(auto)]
 
 mod bringing;
+mod common;
 mod concise_from;
 mod concise_now;
 mod dcf_from;

@@ -1,12 +1,8 @@
-use Rattle.std.proofs.Common.{◌≡◌, Option, Some, None, option_map, IfSome, sym, ap, ◌∙◌}
+use Rattle.std.proofs.Common.{option_map, sym, ap, ◌∙◌}
 use Rattle.ini_text.specs.Content.{content_of}
 use Rattle.kept_parts.proofs.KindLemmas.{device_now}
+use Rattle.kept_parts.proofs.StepLemmas.{all_there_is}
 use Rattle.kept_parts.proofs.kept_parts.KeptParts.device_of_now.Goals as goal
-
--- what was found is all that there is
-all_there_is : {X : Type 0} (found all : Option X) → found ≡ all → IfSome found (λ x. all ≡ Some x)
-all_there_is None all is = tt
-all_there_is (Some x) all is = sym is
 
 pub returns-then-is_fresh : goal.returns-then-is_fresh
 returns-then-is_fresh c =
