@@ -4,15 +4,14 @@ use Rattle.std.proofs.Common.{◌∙◌, subst, sym, arith, cond, Option, Some, 
 use Rattle.std.specs.Prelude.{if◌then◌else◌}
 use Rattle.std.specs.FinMap.{get, get-insert, insert}
 use Rattle.std.specs.Ordering.{eq_by_cmp}
-use Rattle.std.proofs.lemmas.List.Elements.{All-append, All-cons, Contains-append_left}
-use Rattle.std.proofs.lemmas.List.Elements.{Contains-append_right}
+use Rattle.std.proofs.lemmas.List.Elements.{All-append, All-cons}
 use Rattle.can_frame.specs.WaitingFrames.{without_unwanted}
 use Rattle.can_frame.specs.declared.purpose.Purpose.TheVariants.{Emergency}
 use Rattle.can_frame.specs.declared.unwanted.Unwanted.TheVariants.{Sdos}
 use Rattle.co_dict.specs.Places.{place_cmp}
 use Rattle.co_dict.specs.Shapes.{Shaped}
 use Rattle.co_dict.specs.Values.{Values}
-use Rattle.co_dict.proofs.PlaceLemmas.{places_exact, places_total, tied, written_elsewhere}
+use Rattle.co_dict.proofs.PlaceLemmas.{places_total, written_elsewhere}
 use Rattle.co_device.specs.Device.{Device, after_error_control, after_own_write, after_server_write, after_set, after_write}
 use Rattle.co_device.specs.Device.{after_write_of_consumer, enter_pre_operational, is_in, is_producer_time}
 use Rattle.co_device.specs.Device.{out_of_operational, stop_remote_node, with_emergencies, with_emergency}
@@ -27,8 +26,8 @@ use Rattle.device_objects.specs.declared.learnt.Learnt.{Learnt}
 use Rattle.device_pdos.specs.Objects.{is_of_rpdos, is_of_tpdos}
 use Rattle.device_writes.specs.Leaves.{LeavesServer, answers_of}
 use Rattle.device_writes.specs.Writes.{writes_of_set}
-use Rattle.device_writes.specs.Written.{AgreeButRegister, ChangeOnly, Event, IsWritten, NoneBySdo, Sdo, Writer, Written}
-use Rattle.device_writes.specs.Written.{error_register, written_by}
+use Rattle.device_writes.specs.Written.{AgreeButRegister, AreStored, EntryValue, Event, NoneBySdo, Sdo, Writer, Written}
+use Rattle.device_writes.specs.Written.{error_register, with_writes, written_by}
 use Rattle.device_writes.proofs.ListLemmas.{IsOther, WaitsAlike, alike_itself, boot_up_is_left, no_answer_is_left, one_behind}
 use Rattle.device_writes.proofs.ListLemmas.{some_behind, without_emergencies, without_tpdos}
 
@@ -114,7 +113,7 @@ pub left_with : (d e : Device) → e.has_power ≡ d.has_power → AgreeButRegis
     → e.transfer ≡ d.transfer → WaitsAlike d.waiting e.waiting → LeavesServer [] d e
 left_with d e has_power values transfer waits = record {
   has_power = has_power;
-  values = λ place apart. inl (values place apart);
+  values = values;
   by_others = none_written (λ w. w.by ≢ Sdo);
   transfer = inl transfer;
   answers = inl waits.answers;
@@ -130,16 +129,31 @@ left_itself d = left_alone d d (settled d d refl refl refl refl)
 
 -- ---- one rule after another
 
-changes_joined : (ws vs : List Written) (before between after : Values) → ChangeOnly ws before between
-    → ChangeOnly vs between after → ChangeOnly (ws ++ vs) before after
-changes_joined ws vs before between after h g place apart = by (h place apart) (g place apart)
-  where
-    by : (get between place ≡ get before place) ⊎ IsWritten place ws
-        → (get after place ≡ get between place) ⊎ IsWritten place vs
-        → (get after place ≡ get before place) ⊎ IsWritten place (ws ++ vs)
-    by (inl first) (inl second) = inl (second ∙ first)
-    by (inl first) (inr w) = inr (w.0, (Contains-append_right ws vs w.0 w.1.0, w.1.1))
-    by (inr w) second = inr (w.0, (Contains-append_left ws vs w.0 w.1.0, w.1.1))
+inserted_agree : (before after : Values) (place : ℕ × ℕ) (bytes : List ℕ) → AgreeButRegister before after
+    → AgreeButRegister (insert before place bytes) (insert after place bytes)
+inserted_agree before after place bytes agree q apart =
+    get-insert places_total after place bytes q
+    ∙ ap (cond (eq_by_cmp place_cmp q place) (Some bytes)) (agree q apart)
+    ∙ sym (get-insert places_total before place bytes q)
+
+-- the same writes leave the same values
+stored_agree : (writes : List Written) (before after : Values) → AgreeButRegister before after
+    → AgreeButRegister (with_writes writes before) (with_writes writes after)
+stored_agree [] before after agree = agree
+stored_agree (w ∷ writes) before after agree =
+    stored_agree writes (insert before w.place w.bytes) (insert after w.place w.bytes)
+    (inserted_agree before after w.place w.bytes agree)
+
+stored-append : (ws vs : List Written) (values : Values)
+    → with_writes (ws ++ vs) values ≡ with_writes vs (with_writes ws values)
+stored-append [] vs values = refl
+stored-append (w ∷ ws) vs values = stored-append ws vs (insert values w.place w.bytes)
+
+stored_joined : (ws vs : List Written) (before between after : Values) → AreStored ws before between
+    → AreStored vs between after → AreStored (ws ++ vs) before after
+stored_joined ws vs before between after h g place apart =
+    g place apart ∙ stored_agree vs (with_writes ws before) between h place apart
+    ∙ ap (λ v. get v place) (sym (stored-append ws vs before))
 
 -- what stays or is dropped by each, stays or is dropped by both
 dropped_joined : {X : Type 0} (before between after none : X) → (between ≡ before) ⊎ (between ≡ none)
@@ -152,7 +166,7 @@ pub followed : (ws vs : List Written) (d e f : Device) → LeavesServer ws d e �
     → LeavesServer (ws ++ vs) d f
 followed ws vs d e f h g = record {
   has_power = g.has_power ∙ h.has_power;
-  values = changes_joined ws vs d.values e.values f.values h.values g.values;
+  values = stored_joined ws vs d.values e.values f.values h.values g.values;
   by_others = All-append (λ w. w.by ≢ Sdo) ws vs h.by_others g.by_others;
   transfer = dropped_joined d.transfer e.transfer f.transfer Idle h.transfer g.transfer;
   answers = dropped_joined (answers_of d.waiting) (answers_of e.waiting) (answers_of f.waiting) [] h.answers g.answers;
@@ -161,29 +175,16 @@ followed ws vs d e f h g = record {
 
 -- ---- the write of one entry, but by SDO
 
-one_written : (writer : Writer) (number : ℕ) (place : ℕ × ℕ) → writer ≢ Sdo
-    → NoneBySdo (written_by writer number (place ∷ []))
-one_written writer number place other = All-cons (λ w. w.by ≢ Sdo) _ [] other (none_written (λ w. w.by ≢ Sdo))
+one_written : (writer : Writer) (number : ℕ) (e : EntryValue) → writer ≢ Sdo
+    → NoneBySdo (written_by writer number (e ∷ []))
+one_written writer number e other = All-cons (λ w. w.by ≢ Sdo) _ [] other (none_written (λ w. w.by ≢ Sdo))
 
-insert_changes : (writer : Writer) (number : ℕ) (place : ℕ × ℕ) (bytes : List ℕ) (values : Values)
-    → ChangeOnly (written_by writer number (place ∷ [])) values (insert values place bytes)
-insert_changes writer number place bytes values q apart = by (eq_by_cmp place_cmp q place) refl
-  where
-    by : (b : Bool) → eq_by_cmp place_cmp q place ≡ b
-        → (get (insert values place bytes) q ≡ get values q) ⊎ IsWritten q (written_by writer number (place ∷ []))
-    by true e = inr (
-      record { node = number; place = place; by = writer },
-      ((0, omega arith, refl), sym (places_exact q place (tied _ e))),
-    )
-    by false e = inl (get-insert places_total values place bytes q
-        ∙ ap (λ b. cond b (Some bytes) (get values q)) e)
-
-pub left_written : (writer : Writer) (number : ℕ) (place : ℕ × ℕ) (bytes : List ℕ) (d : Device) → writer ≢ Sdo
-    → LeavesServer (written_by writer number (place ∷ [])) d (record d { values = insert d.values place bytes })
-left_written writer number place bytes d other = record {
+pub left_written : (writer : Writer) (number : ℕ) (e : EntryValue) (d : Device) → writer ≢ Sdo
+    → LeavesServer (written_by writer number (e ∷ [])) d (record d { values = insert d.values e.place e.bytes })
+left_written writer number e d other = record {
   has_power = refl;
-  values = insert_changes writer number place bytes d.values;
-  by_others = one_written writer number place other;
+  values = λ place apart. refl;
+  by_others = one_written writer number e other;
   transfer = inl refl;
   answers = inl refl;
   boot_up = refl;
@@ -193,18 +194,33 @@ pub write_left : (t : ℕ) (shape : Shaped) (place : ℕ × ℕ) (d : Device) �
 write_left t shape place d = left_alone d _ (write_settles t shape place d)
 
 pub set_left : (t : ℕ) (place : ℕ × ℕ) (bytes : List ℕ) (d : Device)
-    → LeavesServer (writes_of_set place d) d (after_set t place bytes d)
+    → LeavesServer (writes_of_set place bytes d) d (after_set t place bytes d)
 unfolding after_set writes_of_set
 set_left t place bytes d = by d.has_power
   where
-    by : (on : Bool) → LeavesServer (if on then written_by Event d.number (place ∷ []) else []) d
+    one : EntryValue
+    one = record { place = place; bytes = bytes }
+
+    by : (on : Bool) → LeavesServer (if on then written_by Event d.number (one ∷ []) else []) d
         (if on then after_own_write t place (record d { values = insert d.values place bytes }) else d)
     by true =
         let set : Device = record d { values = insert d.values place bytes } in
-        followed (written_by Event d.number (place ∷ [])) [] d set (after_own_write t place set)
-        (left_written Event d.number place bytes d (λ same. absurd cc))
+        followed (written_by Event d.number (one ∷ [])) [] d set (after_own_write t place set)
+        (left_written Event d.number one d (λ same. absurd cc))
         (left_alone set (after_own_write t place set) (own_settles t place set))
     by false = left_itself d
+
+module _ (place : ℕ × ℕ) (bytes : List ℕ) (d : Device) where
+  pub set_written : d.has_power ≡ true
+      → writes_of_set place bytes d ≡ written_by Event d.number (record { place = place; bytes = bytes } ∷ [])
+  unfolding writes_of_set
+  set_written on = rw on refl
+
+  pub none_set : d.has_power ≡ false → writes_of_set place bytes d ≡ []
+  unfolding writes_of_set
+  none_set off = rw off refl
+
+pub ruleset what_is_set = (set_left, set_written, none_set)
 
 -- ---- emergency objects, and error control
 
@@ -249,7 +265,7 @@ unanswered_left d state =
     without_emergencies (without_unwanted Sdos d.waiting) in
     record {
       has_power = refl;
-      values = λ place apart. inl refl;
+      values = λ place apart. refl;
       by_others = none_written (λ w. w.by ≢ Sdo);
       transfer = inr refl;
       answers = inr (others.answers ∙ no_answer_is_left d.waiting);

@@ -23,9 +23,9 @@ use Rattle.co_fields.specs.declared.nmt_state.NmtState.TheVariants.{Operational}
 use Rattle.device_pdos.specs.Rpdos.{mapping_of_rpdo, receipt_of, rpdo_at, with_kept}
 use Rattle.device_writes.specs.Leaves.{LeavesServer}
 use Rattle.device_writes.specs.Writes.{entries_at_sync, entries_of_kept, entries_of_mapping, entries_of_receipt}
-use Rattle.device_writes.specs.Writes.{entries_of_rpdo, entries_of_walk, entries_taken, place_if, writes_of_pdo}
+use Rattle.device_writes.specs.Writes.{entries_of_rpdo, entries_of_walk, entries_taken, entry_if, writes_of_pdo}
 use Rattle.device_writes.specs.Writes.{writes_of_sync}
-use Rattle.device_writes.specs.Written.{Rpdo, Written, written_by}
+use Rattle.device_writes.specs.Written.{EntryValue, Rpdo, Written, written_by}
 use Rattle.device_writes.proofs.LeaveLemmas.{followed, left_alone, left_itself, left_written, settled, told_left}
 use Rattle.device_writes.proofs.LeaveLemmas.{write_left}
 
@@ -37,34 +37,36 @@ both image P true ws vs m n p q = p refl
 both image P false ws vs m n p q = q refl
 
 -- RPDOs of a node write these entries
-abbrev Leaves : ℕ → List (ℕ × ℕ) → Device → Device → Type 0
-Leaves number places d e = LeavesServer (written_by Rpdo number places) d e
+abbrev Leaves : ℕ → List EntryValue → Device → Device → Type 0
+Leaves number entries d e = LeavesServer (written_by Rpdo number entries) d e
 
 -- one after another
-joined : (number : ℕ) (places more : List (ℕ × ℕ)) (d e f : Device) → Leaves number places d e → Leaves number more e f
-    → Leaves number (places ++ more) d f
-joined number places more d e f h g =
-    subst (λ ws. LeavesServer ws d f) (sym (map-append _ places more))
-    (followed (written_by Rpdo number places) (written_by Rpdo number more) d e f h g)
+joined : (number : ℕ) (entries more : List EntryValue) (d e f : Device) → Leaves number entries d e
+    → Leaves number more e f → Leaves number (entries ++ more) d f
+joined number entries more d e f h g =
+    subst (λ ws. LeavesServer ws d f) (sym (map-append _ entries more))
+    (followed (written_by Rpdo number entries) (written_by Rpdo number more) d e f h g)
 
 -- ---- a mapping
 
 module _ (t number : ℕ) (shape : Shaped) where
   entry_leaves : (entry : ℕ) (bits : List ℕ) (d : Device)
-      → Leaves number (place_if (takes shape entry bits d.values) (mapped_place entry)) d (after_entry t shape entry bits d)
+      → Leaves number (entry_if (takes shape entry bits d.values) (mapped_place entry) (value_of_bits bits)) d
+      (after_entry t shape entry bits d)
   unfolding after_entry with_bits
   entry_leaves entry bits d = by (takes shape entry bits d.values)
     where
       by : (b : Bool)
-          → Leaves number (place_if b (mapped_place entry)) d
+          → Leaves number (entry_if b (mapped_place entry) (value_of_bits bits)) d
           (if b then after_write t shape (mapped_place entry)
           (record d { values = if b then insert d.values (mapped_place entry) (value_of_bits bits) else d.values })
           else d)
       by true =
+          let one : EntryValue = record { place = mapped_place entry; bytes = value_of_bits bits } in
           let written : Device = record d { values = insert d.values (mapped_place entry) (value_of_bits bits) } in
-          followed (written_by Rpdo number (mapped_place entry ∷ [])) [] d written
+          followed (written_by Rpdo number (one ∷ [])) [] d written
           (after_write t shape (mapped_place entry) written)
-          (left_written Rpdo number (mapped_place entry) (value_of_bits bits) d (λ same. absurd cc))
+          (left_written Rpdo number one d (λ same. absurd cc))
           (write_left t shape (mapped_place entry) written)
       by false = left_itself d
 
@@ -76,7 +78,7 @@ module _ (t number : ℕ) (shape : Shaped) where
   entries_leave position (entry ∷ mapping) bits d =
       let own : List ℕ = bits_for entry position bits in
       let next : Device = after_entry t shape entry own d in
-      joined number (place_if (takes shape entry own d.values) (mapped_place entry))
+      joined number (entry_if (takes shape entry own d.values) (mapped_place entry) (value_of_bits own))
       (entries_taken t shape (position + mapped_length entry) mapping bits next) d next _
       (entry_leaves entry own d) (entries_leave (position + mapped_length entry) mapping bits next)
 
@@ -120,7 +122,7 @@ module _ (image : Image) (t number : ℕ) where
 
   -- ---- all RPDOs
 
-  walk_leaves : {X : Type 0} (step : X → Device → Asking Part Content Device) (entries : X → Device → List (ℕ × ℕ))
+  walk_leaves : {X : Type 0} (step : X → Device → Asking Part Content Device) (entries : X → Device → List EntryValue)
       → ((x : X) (d : Device) → Leaves number (entries x d) d (outcome (step x d) image))
       → (xs : List X) (d : Device)
       → Leaves number (entries_of_walk image step entries xs d) d (outcome (walk step xs d) image)

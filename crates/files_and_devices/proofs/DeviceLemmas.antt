@@ -12,7 +12,7 @@ use Rattle.can_frame.specs.declared.purpose.Purpose.TheVariants.{BootUp}
 use Rattle.can_frame.specs.declared.unwanted.Unwanted.TheVariants.{Sdos}
 use Rattle.can_frame.specs.declared.waiting.Waiting.{Waiting}
 use Rattle.co_device.specs.Device.{Device, answer_frames}
-use Rattle.co_dict.specs.Values.{Values}
+use Rattle.co_dict.specs.Values.{Values, bytes_at}
 use Rattle.co_parts.specs.Contents.{Image, shape_of}
 use Rattle.co_parts.specs.declared.part.Part.TheVariants.{Shape}
 use Rattle.co_sdo.specs.declared.transfer.Transfer.{Transfer}
@@ -291,10 +291,10 @@ module _ (image : Image) (node : ℕ) where
     to_node = s.is_request ∙ ap sdo_request_id number
 
     told_is : (wrote : Option (ℕ × ℕ)) → done.wrote ≡ wrote → (place : ℕ × ℕ)
-        → after place ≡ told (marks place) (writes_told node wrote) node place
+        → after place ≡ told (marks place) (writes_told node done.values wrote) node place
     told_is wrote is place =
         now place ∙ ap (λ (ws : List Written). told (marks place) ws node place)
-        (s.written ∙ ap (writes_told d.number) is ∙ ap (λ n. writes_told n wrote) number)
+        (s.written ∙ ap (writes_told d.number done.values) is ∙ ap (λ n. writes_told n done.values wrote) number)
 
     -- the answer, as the client will take it
     module _ (a : List ℕ) (answers : done.answer ≡ Some a) where
@@ -305,7 +305,8 @@ module _ (image : Image) (node : ℕ) where
       told_truth j client w is below under = record {
         written = λ p. one_more_below image node marks after d.values e.values j w is
             (λ place other. told_is (Some (entry_of w)) (is_answered.written p).wrote place
-            ∙ stored_elsewhere node (entry_of w) place other (marks place))
+            ∙ stored_elsewhere node (record { place = entry_of w; bytes = bytes_at done.values (entry_of w) })
+            place other (marks place))
             (subst (λ (vs : Values). AgreeButRegister vs e.values) (is_answered.written p).stored s.values) below;
         goes_on = λ next p. (
           nothing_wrote image node marks after d.values e.values j

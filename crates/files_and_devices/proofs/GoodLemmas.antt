@@ -145,11 +145,11 @@ module _ (image : Image) (roster : Roster) (is : IsRoster roster) where
     unmoved = record { number = refl; numbers = refl }
 
     module _ (node : ℕ) (place : ℕ × ℕ) (bytes : List ℕ) where
-      set_own : (d : Device) → AreOf d.number (written_at node place d)
+      set_own : (d : Device) → AreOf d.number (written_at node place bytes d)
       set_own d = by (d.number == node)
         where
-          by : (b : Bool) → AreOf d.number (if b then writes_of_set place d else [])
-          by true = set_writes_own place d
+          by : (b : Bool) → AreOf d.number (if b then writes_of_set place bytes d else [])
+          by true = set_writes_own place bytes d
           by false = nothing d.number
 
       set_same : (d : Device) → (after_set_at t node place bytes d).number ≡ d.number
@@ -169,28 +169,28 @@ module _ (image : Image) (roster : Roster) (is : IsRoster roster) where
           by false = h
 
       set_turns : (i n : ℕ) (d : Device) → d.number ≡ n → (after : ℕ × ℕ → Bool)
-          → ((q : ℕ × ℕ) → after q ≡ told (marks n q) (written_at node place d) n q)
+          → ((q : ℕ × ℕ) → after q ≡ told (marks n q) (written_at node place bytes d) n q)
           → Ex image n (marks n) d m i wire → Ex image n after (after_set_at t node place bytes d) m i wire
       unfolding after_set_at
       set_turns i n d of_node after now h = by (d.number == node) now
         where
           by : (b : Bool)
-              → ((q : ℕ × ℕ) → after q ≡ told (marks n q) (if b then writes_of_set place d else []) n q)
+              → ((q : ℕ × ℕ) → after q ≡ told (marks n q) (if b then writes_of_set place bytes d else []) n q)
               → Ex image n after (if b then after_set t place bytes d else d) m i wire
           by true told_so =
-              exchange_left image n (marks n) after d (after_set t place bytes d) (writes_of_set place d) told_so
-              (subst (λ k. AreOf k (writes_of_set place d)) of_node (set_writes_own place d))
+              exchange_left image n (marks n) after d (after_set t place bytes d) (writes_of_set place bytes d) told_so
+              (subst (λ k. AreOf k (writes_of_set place bytes d)) of_node (set_writes_own place bytes d))
               (set_leaves t place bytes d) (node_at m.nodes i).stage (requests_to n m.waiting) wire h
           by false told_so =
               subst (λ (marked : ℕ × ℕ → Bool). Ex image n marked d m i wire)
               (λ j q. sym (told_so q) j) h
 
       pub set_good : Good marks ds m wire
-          → Good (after_writes marks (flat_map (written_at node place) ds)) (map (after_set_at t node place bytes) ds) m
-          wire
+          → Good (after_writes marks (flat_map (written_at node place bytes) ds))
+          (map (after_set_at t node place bytes) ds) m wire
       set_good g =
-          all_turn marks ds m m wire wire (after_set_at t node place bytes) (written_at node place) set_own set_same
-          set_has unmoved (λ h. h) (λ h. h)
+          all_turn marks ds m m wire wire (after_set_at t node place bytes) (written_at node place bytes) set_own
+          set_same set_has unmoved (λ h. h) (λ h. h)
           (λ i n at o after now h. set_turns i n (device_at ds i) at.number after now h) g
 
     -- where nothing is written

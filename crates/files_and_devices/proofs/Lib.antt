@@ -12,3 +12,4 @@ pub mod StartLemmas
 pub mod RunLemmas
 pub mod FileLemmas
 pub mod NoteLemmas
+pub mod LastLemmas

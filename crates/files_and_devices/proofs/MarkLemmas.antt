@@ -1,13 +1,17 @@
 -- The marks of one entry of a node, write by write.
 use Rattle.std.proofs.Common.{◌≡◌, ◌≢◌, ℕ, zero, suc, ◌<◌, Bool, true, false, List, [], ◌∷◌, ◌++◌, length, get_or}
 use Rattle.std.proofs.Common.{refl, sym, ap, ◌∙◌, arith}
-use Rattle.std.specs.Prelude.{if◌then◌else◌, ◌==◌, ◌&&◌}
+use Rattle.std.specs.Prelude.{Contains, if◌then◌else◌, ◌==◌, ◌&&◌}
 use Rattle.std.specs.List.{AllByRecursion, flat_map}
 use Rattle.std.proofs.lemmas.Bool.{false≢true}
 use Rattle.std.proofs.lemmas.List.Elements.{All-head, All-tail}
-use Rattle.device_writes.specs.Written.{AreOf, Event, IsWritten, NoneBySdo, Rpdo, Sdo, Writer, Written, written_by}
+use Rattle.device_writes.specs.Written.{AreOf, EntryValue, Event, NoneBySdo, Rpdo, Sdo, Writer, Written, written_by}
 use Rattle.files_and_devices.specs.Marks.{Marks, after_writes, is_marking, is_of, marked_after}
 use Rattle.boot_exchanges.proofs.WaitingLemmas.{number_itself, number_other}
+
+-- the entry is among those written
+abbrev pub IsWritten : ℕ × ℕ → List Written → Type 0
+IsWritten place writes = (w : Written) × (Contains writes w × (w.place ≡ place))
 
 -- whether a pair is marked after writes, where it was or wasn't before
 abbrev pub told : Bool → List Written → ℕ → ℕ × ℕ → Bool
@@ -101,10 +105,10 @@ module _ (node : ℕ) (place : ℕ × ℕ) where
       gets_marked writes none own h.1.0.0 h.0 h.1.0.1 h.1.0.2 h.1.1 before
 
 -- a write by SDO leaves the marks of all other entries
-pub stored_elsewhere : (node : ℕ) (stored place : ℕ × ℕ) → stored ≢ place → (before : Bool)
+pub stored_elsewhere : (node : ℕ) (stored : EntryValue) (place : ℕ × ℕ) → stored.place ≢ place → (before : Bool)
     → told before (written_by Sdo node (stored ∷ [])) node place ≡ before
 stored_elsewhere node stored place apart before =
-    elsewhere node place (record { node = node; place = stored; by = Sdo }) before apart
+    elsewhere node place (record { node = node; place = stored.place; bytes = stored.bytes; by = Sdo }) before apart
 
 -- ---- of a list of devices, the writes of one
 

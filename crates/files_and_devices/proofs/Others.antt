@@ -43,18 +43,18 @@ pub frame_writes_own : (image : Image) (t : ℕ) (frame : BaseFrame) (d : Device
     → AreOf d.number (writes_of_frame image t frame d)
 frame_writes_own = frame_of
 
-pub set_writes_own : (place : ℕ × ℕ) (d : Device) → AreOf d.number (writes_of_set place d)
+pub set_writes_own : (place : ℕ × ℕ) (bytes : List ℕ) (d : Device) → AreOf d.number (writes_of_set place bytes d)
 set_writes_own = set_of
 
 pub set_leaves : (t : ℕ) (place : ℕ × ℕ) (bytes : List ℕ) (d : Device)
-    → LeavesServer (writes_of_set place d) d (after_set t place bytes d)
+    → LeavesServer (writes_of_set place bytes d) d (after_set t place bytes d)
 set_leaves = set_left
 
 pub instant_leaves : (t : ℕ) (d : Device) → LeavesServer [] d (after_instant t d)
 instant_leaves = instant_left
 
 pub frame_does : (image : Image) (t : ℕ) (frame : BaseFrame) (d : Device)
-    → HasBooted d.number (outcome (after_frame t frame d) image)
+    → (HasBooted d.number (outcome (after_frame t frame d) image) × (writes_of_frame image t frame d ≡ []))
     ⊎ (ServesRequest image frame (writes_of_frame image t frame d) d (outcome (after_frame t frame d) image)
     ⊎ LeavesServer (writes_of_frame image t frame d) d (outcome (after_frame t frame d) image))
 frame_does = λ image t frame d. frame_in_ways image t frame d

@@ -194,11 +194,11 @@ module _ (image : Image) (n : ℕ) where
         own = subst (λ k. AreOf k (writes_of_frame image t slot.frame d)) of_node
             (frame_writes_own image t slot.frame d)
 
-        by : HasBooted d.number taken
+        by : (HasBooted d.number taken × (writes_of_frame image t slot.frame d ≡ []))
             ⊎ (ServesRequest image slot.frame (writes_of_frame image t slot.frame d) d taken
             ⊎ LeavesServer (writes_of_frame image t slot.frame d) d taken) → Ex after taken m i None
         by (inl booted) =
-            booted_exchanges image n after taken d.number booted (node_at m.nodes i).stage
+            booted_exchanges image n after taken d.number booted.0 (node_at m.nodes i).stage
             (requests_to n m.waiting) None
         by (inr (inl served)) =
             exchange_served image n marks after d taken slot (writes_of_frame image t slot.frame d) now of_node served

@@ -1,6 +1,7 @@
 -- What the entries hold of the writes so far.
-use Rattle.std.proofs.Common.{◌≡◌, ◌≢◌, ℕ, ◌+◌, ◌<◌, Bool, true, List, Option, Some, None}
-use Rattle.std.proofs.Common.{◌⊎◌, inl, inr, sym, ap, ◌∙◌, subst, arith}
+use Rattle.std.proofs.Common.{◌≡◌, ◌≢◌, ℕ, ◌+◌, ◌<◌, Bool, true, List, [], ◌∷◌, Option, Some, None}
+use Rattle.std.proofs.Common.{◌⊎◌, inl, inr, refl, sym, ap, ◌∙◌, subst, arith}
+use Rattle.std.proofs.lemmas.List.Elements.{Contains-append_right}
 use Rattle.std.specs.FinMap.{get, get-insert, insert}
 use Rattle.std.proofs.lemmas.Option.{same_Some}
 use Rattle.co_dict.specs.Values.{Values}
@@ -8,12 +9,37 @@ use Rattle.co_dict.proofs.PlaceLemmas.{written_elsewhere, written_there}
 use Rattle.co_parts.specs.Contents.{Image, write_of}
 use Rattle.co_parts.specs.declared.part.Part.TheVariants.{Boot}
 use Rattle.concise_dcf.specs.declared.write.Write.{Write}
-use Rattle.device_writes.specs.Written.{AgreeButRegister, AreOf, ChangeOnly, NoneBySdo, Written, error_register}
+use Rattle.device_writes.specs.Written.{AgreeButRegister, AreOf, AreStored, NoneBySdo, Written, error_register}
+use Rattle.device_writes.specs.Written.{with_writes}
 use Rattle.files_and_devices.specs.Exchanges.{GivesBelow, HoldsBelow}
 use Rattle.files_and_devices.specs.Files.{Holds, IsExcepted, IsWrite, entry_of}
 use Rattle.files_and_devices.proofs.ListLemmas.{below_next, place_or_not}
-use Rattle.files_and_devices.proofs.MarkLemmas.{stays_marked, told, written_is_marked}
+use Rattle.files_and_devices.proofs.MarkLemmas.{IsWritten, stays_marked, told, written_is_marked}
 use Rattle.std.proofs.lemmas.Bool.{cases_eq}
+
+-- where writes are stored, a value changes where it is written alone
+kept_or_written : (writes : List Written) (values : Values) (place : ℕ × ℕ)
+    → (get (with_writes writes values) place ≡ get values place) ⊎ IsWritten place writes
+kept_or_written [] values place = inl refl
+kept_or_written (w ∷ writes) values place =
+    by (kept_or_written writes (insert values w.place w.bytes) place) (place_or_not w.place place)
+  where
+    by : (get (with_writes writes (insert values w.place w.bytes)) place ≡ get (insert values w.place w.bytes) place)
+        ⊎ IsWritten place writes → (w.place ≡ place) ⊎ (w.place ≢ place)
+        → (get (with_writes writes (insert values w.place w.bytes)) place ≡ get values place)
+        ⊎ IsWritten place (w ∷ writes)
+    by (inr later) here = inr (later.0, (Contains-append_right (w ∷ []) writes later.0 later.1.0, later.1.1))
+    by (inl same) (inl here) = inr (w, ((0, omega arith, refl), here))
+    by (inl same) (inr apart) = inl (same ∙ written_elsewhere values w.place place w.bytes (λ e. apart (sym e)))
+
+changed_by : (writes : List Written) (values left : Values) → AreStored writes values left → (place : ℕ × ℕ)
+    → place ≢ error_register → (get left place ≡ get values place) ⊎ IsWritten place writes
+changed_by writes values left stored place apart = by (kept_or_written writes values place)
+  where
+    by : (get (with_writes writes values) place ≡ get values place) ⊎ IsWritten place writes
+        → (get left place ≡ get values place) ⊎ IsWritten place writes
+    by (inl same) = inl (stored place apart ∙ same)
+    by (inr written) = inr written
 
 module _ (image : Image) (node : ℕ) where
   abbrev Below : (ℕ × ℕ → Bool) → Values → ℕ → Type 0
@@ -32,9 +58,9 @@ module _ (image : Image) (node : ℕ) where
   -- where others than the SDO server write, the entries that change are marked
   pub others_wrote : (marks after : ℕ × ℕ → Bool) (values left : Values) (j : ℕ) (writes : List Written)
       → ((place : ℕ × ℕ) → after place ≡ told (marks place) writes node place)
-      → NoneBySdo writes → AreOf node writes → ChangeOnly writes values left
+      → NoneBySdo writes → AreOf node writes → AreStored writes values left
       → Below marks values j → Below after left j
-  others_wrote marks after values left j writes now none own changed h = record {
+  others_wrote marks after values left j writes now none own stored h = record {
     there = h.there;
     holds = λ place bytes g. by place bytes g (place_or_not place error_register);
   }
@@ -43,7 +69,7 @@ module _ (image : Image) (node : ℕ) where
       marked place e = now place ∙ ap (λ (b : Bool). told b writes node place) e ∙ stays_marked node place writes none
 
       still : (place : ℕ × ℕ) (bytes : List ℕ)
-          → (get left place ≡ get values place) ⊎ ((w : Written) × (Rattle.std.specs.Prelude.Contains writes w × (w.place ≡ place)))
+          → (get left place ≡ get values place) ⊎ IsWritten place writes
           → IsExcepted marks place ⊎ Holds values place bytes → IsExcepted after place ⊎ Holds left place bytes
       still place bytes c (inl (inl e)) = inl (inl e)
       still place bytes c (inl (inr e)) = inl (inr (marked place e))
@@ -54,7 +80,8 @@ module _ (image : Image) (node : ℕ) where
       by : (place : ℕ × ℕ) (bytes : List ℕ) → GivesBelow image node j place bytes
           → (place ≡ error_register) ⊎ (place ≢ error_register) → IsExcepted after place ⊎ Holds left place bytes
       by place bytes g (inl e) = inl (inl e)
-      by place bytes g (inr apart) = still place bytes (changed place apart) (h.holds place bytes g)
+      by place bytes g (inr apart) =
+          still place bytes (changed_by writes values left stored place apart) (h.holds place bytes g)
 
   -- where nothing was written but the error register
   pub nothing_wrote : (marks after : ℕ × ℕ → Bool) (values left : Values) (j : ℕ)

@@ -1,5 +1,5 @@
 -- What the files say of a device, and what the device holds.
-use Rattle.std.specs.Prelude.{◌≡◌, ◌≢◌, ◌⊎◌, ℕ, ◌<◌, ◌≤◌, Bool, true, false, Contains, List, Some, None}
+use Rattle.std.specs.Prelude.{◌≡◌, ◌≢◌, ◌⊎◌, ℕ, ◌<◌, ◌≤◌, Bool, true, false, Contains, List, Some, None, slice_get}
 use Rattle.std.specs.FinMap.{get}
 use Rattle.bus_laws.specs.Boots.{IsBootUpOf}
 use Rattle.can_bus.specs.Bus.{Bus}
@@ -9,6 +9,7 @@ use Rattle.co_device.specs.Device.{Device}
 use Rattle.co_dict.specs.Values.{Values}
 use Rattle.co_parts.specs.Contents.{Image, write_of}
 use Rattle.co_parts.specs.declared.part.Part.TheVariants.{Boot}
+use Rattle.concise_dcf.specs.Concise.{IsTextOf}
 use Rattle.concise_dcf.specs.declared.write.Write.{Write}
 use Rattle.device_writes.specs.Written.{error_register}
 use Rattle.boot_table.specs.declared.booting.Booting.{Booting}
@@ -38,6 +39,20 @@ pub record Configures (image : Image) (node : ℕ) (place : ℕ × ℕ) (bytes :
   pub gives : write.bytes ≡ bytes
   pub is_last : (later : ℕ) (other : Write) → number < later → IsReached image node later
       → IsWrite image node later other → entry_of other ≢ place
+
+-- of a list of writes the last that names the entry has this data
+pub record IsLastIn (writes : List Write) (place : ℕ × ℕ) (bytes : List ℕ) : Type 0 where
+  pub number : ℕ
+  pub write : Write
+  pub there : slice_get writes number ≡ Some write
+  pub names : entry_of write ≡ place
+  pub gives : write.bytes ≡ bytes
+  pub is_last : (later : ℕ) (other : Write) → number < later → slice_get writes later ≡ Some other
+      → entry_of other ≢ place
+
+-- THE CONCISE DCF GIVES THE ENTRY THIS DATA: so the last of its writes that names it
+abbrev pub IsGivenBy : List ℕ → ℕ × ℕ → List ℕ → Type 0
+IsGivenBy text place bytes = (writes : List Write) × (IsTextOf writes text × IsLastIn writes place bytes)
 
 -- the entry has the data
 abbrev pub Holds : Values → ℕ × ℕ → List ℕ → Type 0

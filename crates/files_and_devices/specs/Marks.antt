@@ -47,12 +47,12 @@ after_writes marks (w ∷ writes) = after_writes (λ node place. marked_after w 
 
 -- ---- the writes of an instant, in their order
 
-abbrev pub written_at : ℕ → ℕ × ℕ → Device → List Written
-written_at node place d = if d.number == node then writes_of_set place d else []
+abbrev pub written_at : ℕ → ℕ × ℕ → List ℕ → Device → List Written
+written_at node place bytes d = if d.number == node then writes_of_set place bytes d else []
 
 -- those of an event: power and commands write nothing
 abbrev pub writes_of_step : Step → List Device → List Written
-writes_of_step (Set node index sub bytes) ds = flat_map (written_at node (index, sub)) ds
+writes_of_step (Set node index sub bytes) ds = flat_map (written_at node (index, sub) bytes) ds
 writes_of_step (Power node on) ds = []
 writes_of_step (Nmt node command) ds = []
 

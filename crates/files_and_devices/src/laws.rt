@@ -1,6 +1,7 @@
 //! What the files say is what the devices hold: laws of the runs of a bus, each a function whose contract is the law.
 
-ghost use Rattle.std.specs.Prelude.{◌≡◌, ◌⊎◌, ◌+◌, ◌<◌, ◌++◌, ◌∷◌, ℕ, false, All, Contains, List, length};
+ghost use Rattle.std.specs.Prelude.{◌≡◌, ◌⊎◌, ◌↔◌, ◌+◌, ◌<◌, ◌++◌, ◌∷◌, ℕ, false, All, Contains, List, length};
+ghost use Rattle.std.specs.Prelude.{slice_get};
 ghost use Rattle.asking.specs.Asking.{outcome};
 ghost use Rattle.boot_exchanges.specs.Requests.{requests_to};
 ghost use Rattle.boot_table.specs.Table.{node_at};
@@ -9,13 +10,18 @@ ghost use Rattle.bus_laws.specs.Spans.{bus_at};
 ghost use Rattle.can_bus.specs.Bus.{instant};
 ghost use Rattle.can_bus.specs.declared.line.Line.TheVariants as line;
 ghost use Rattle.co_device.specs.Device.{Device};
-ghost use Rattle.co_parts.specs.Contents.{Image};
+ghost use Rattle.co_parts.specs.Contents.{Image, write_of};
 ghost use Rattle.co_parts.specs.Images.{IsImage};
+ghost use Rattle.concise_dcf.specs.Concise.{IsTextOf};
+ghost use Rattle.concise_dcf.specs.declared.write.Write.{Write};
 ghost use Rattle.device_writes.specs.Written.{Written};
 ghost use Rattle.files_and_devices.specs.Exchanges.{Exchanges};
-ghost use Rattle.files_and_devices.specs.Files.{Configures, Holds, IsConfigured, IsExcepted, IsUp};
+ghost use Rattle.files_and_devices.specs.Files.{Configures, Holds, IsConfigured, IsExcepted, IsGivenBy, IsReached};
+ghost use Rattle.files_and_devices.specs.Files.{IsUp, IsWrite, entry_of};
 ghost use Rattle.files_and_devices.specs.Marks.{Marks, after_writes, is_marking, is_of, marks_at};
 ghost use Rattle.nmt_boot.specs.Ends.{configured_note};
+
+use co_parts::Part;
 
 /// WHAT THE FILES SAY IS WHAT THE DEVICES HOLD. Under every image and at every moment of its run: a node that the
 /// manager has configured, that has power, and of which no boot-up message waits or is on the wire, holds at every
@@ -26,6 +32,21 @@ pub fn files_match_devices()
         → IsConfigured (bus_at image (t + 1)) node → IsUp (bus_at image (t + 1)) node d
         → (place : ℕ × ℕ) (bytes : List ℕ) → Configures image node place bytes
         → IsExcepted (marks_at image (t + 1) node) place ⊎ Holds d.values place bytes }
+{}
+
+/// What the files give an entry. Each entry that a write of a node names, in an image, has data by the files: that of
+/// the last write there; and it has no other. Where the node's writes are those of a list, and a text is the concise
+/// DCF of the list, the data is that of the last write in the text that names the entry.
+pub fn each_entry_that_is_written_has_a_last_write()
+    ensures some { (image : Image) → IsImage image → (node number : ℕ) (write : Write)
+        → IsWrite image node number write → IsReached image node number
+        → (bytes : List ℕ) × Configures image node (entry_of write) bytes }
+    ensures one { (image : Image) (node : ℕ) (place : ℕ × ℕ) (one other : List ℕ)
+        → Configures image node place one → Configures image node place other → one ≡ other }
+    ensures listed { (image : Image) (node : ℕ) (writes : List Write) (text : List ℕ)
+        → ((number : ℕ) → write_of (image (Part.Boot node number)) ≡ slice_get writes number)
+        → IsTextOf writes text → (place : ℕ × ℕ) (bytes : List ℕ)
+        → Configures image node place bytes ↔ IsGivenBy text place bytes }
 {}
 
 /// The last write of an entry marks it, or takes the mark away: it is marked where an event or an RPDO wrote it, and
