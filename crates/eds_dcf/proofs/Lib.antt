@@ -7,10 +7,12 @@ pub mod CarriedTextLemmas
 mod ChangeLemmas
 mod CompactLemmas
 mod CountLemmas
+pub mod EachLemmas
 pub mod EntryLemmas
 mod KeptSectionLemmas
 mod LastLemmas
 mod LawLemmas
+pub mod LengthLemmas
 pub mod LineLemmas
 mod MadeLemmas
 mod NamedLemmas

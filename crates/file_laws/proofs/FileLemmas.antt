@@ -1,16 +1,19 @@
 -- The DCF of a node of a sound project, read again.
-use Rattle.std.proofs.Common.{◌≡◌, ◌≤◌, ◌∙◌, ℕ, Bool, true, false, cond, List, [], ◌∷◌, length, All, Contains, IfSome, Option}
-use Rattle.std.proofs.Common.{Some, None, Ok, Err, refl, sym, ap, subst, nat_lt}
+use Rattle.std.proofs.Common.{◌≡◌, ◌≤◌, ◌∙◌, ℕ, Bool, true, false, cond, List, [], ◌∷◌, length, All, Contains, IfSome}
+use Rattle.std.proofs.Common.{Option, Some, None, Ok, Err, refl, sym, ap, subst, nat_lt, arith}
 use Rattle.std.specs.FinMap.{empty, get}
 use Rattle.std.proofs.lemmas.List.Elements.{All-contains_itself, All-weaker}
 use Rattle.std.specs.List.{AllByRecursion}
 use Rattle.ini_text.specs.Content.{Pair, Section, content_of}
 use Rattle.ini_text.specs.Printable.{IsPrintable, IsPrintablePair, IsPrintableSection, IsValue}
-use Rattle.ini_text.specs.Text.{has_bad_byte, is_out_of_range}
+use Rattle.ini_text.specs.Text.{has_bad_byte, is_long_line, is_out_of_range}
+use Rattle.std.proofs.lemmas.Bool.{or_from, or_parts}
+use Rattle.std.proofs.lemmas.Bool.Decides.{nat_tests}
+use Rattle.std.specs.List.{list_any}
 use Rattle.ini_text.proofs.ReadLemmas.{read_is_printable}
 use Rattle.concise_dcf.specs.declared.write.Write.{Write}
 use Rattle.co_text.specs.Lines.{lines_of}
-use Rattle.co_edits.specs.Eds.{most_lines, text_of as kept_text, IsEds}
+use Rattle.co_edits.specs.Eds.{most_bytes, most_lines, text_of as kept_text, IsEds}
 use Rattle.co_edits.specs.Edits.{IsSetting}
 use Rattle.co_edits.specs.Forms.{is_name}
 use Rattle.eds_device.specs.Entries.{entry_at}
@@ -25,6 +28,7 @@ use Rattle.co_values.specs.Values.{text_of_value}
 use Rattle.eds_device.specs.Described.{kind_at}
 use Rattle.eds_dcf.proofs.ByteLemmas.{IsGood, IsGoodPair, IsGoodSection, dcf_good}
 use Rattle.eds_dcf.proofs.CarriedTextLemmas.{HasGood}
+use Rattle.eds_dcf.proofs.LengthLemmas.{IsShortSection, dcf_short, printed_short}
 use Rattle.eds_dcf.proofs.CarriedLemmas.{carried, dcf_entry, LeaveParameters}
 use Rattle.eds_dcf.proofs.PrintedLemmas.{dcf_again, dcf_printable}
 use Rattle.eds_dcf.proofs.WholeLemmas.{dcf_pairs}
@@ -41,7 +45,9 @@ use Rattle.file_laws.proofs.MappedLemmas.{all_writable}
 use Rattle.file_laws.proofs.MemberLemmas.{is_device, is_node, is_setting, member, no_pdo_params, IsMember}
 use Rattle.file_laws.proofs.PdoLemmas.{links_pdo, not_pdo}
 use Rattle.file_laws.proofs.ReadBytesLemmas.{content_good}
-use Rattle.file_laws.proofs.TextLemmas.{name_good, name_value, sections_again, text_good, text_value}
+use Rattle.file_laws.proofs.ReadLengthLemmas.{content_short}
+use Rattle.file_laws.proofs.TextLemmas.{HasNoLongLine, name_good, name_short, name_value, sections_again}
+use Rattle.file_laws.proofs.TextLemmas.{text_good, text_lines, text_value}
 use Rattle.file_laws.proofs.ValueLemmas.{IsGiven, IsLine, all_given, printed, stands}
 
 -- the text of a device has no bad byte
@@ -55,6 +61,19 @@ no_bad_byte text is = by (is_out_of_range text) (has_bad_byte text)
     by true bad many e = cc
     by false true many e = cc
     by false false many e = refl
+
+-- nor a long line
+no_long_line : (text : List ℕ) → device_of text ≡ Ok (content_of text) → HasNoLongLine text
+unfolding device_of
+no_long_line text is = by (is_out_of_range text) (has_bad_byte text)
+    (nat_lt most_entries (length (pairs_of (content_of text).sections))) is refl
+  where
+    by : (long bad many : Bool) → cond long (Err Range)
+        (cond bad (Err BadByte) (cond many (Err Limit) (Ok (content_of text)))) ≡ Ok (content_of text)
+        → is_out_of_range text ≡ long → HasNoLongLine text
+    by true bad many e f = cc
+    by false bad many e f =
+        (or_parts (nat_lt most_bytes (length text)) (list_any is_long_line (lines_of text)) f).1
 
 pairs_in_line : (ps : List Pair) → AllByRecursion IsPrintablePair ps → AllByRecursion IsGoodPair ps
     → AllByRecursion (λ (p : Pair). IsLine p.value) ps
@@ -142,6 +161,30 @@ module _ (project : Content) (id : ℕ) (m : Member) (node : IsSoundNode project
   places = ap pairs_of again ∙ dcf_pairs m.sections id m.node.name project.bitrate (writes_of project m id)
       ∙ ap pairs_of (sym here.sections)
 
+  -- and no longer line
+  short : AllByRecursion IsShortSection m.sections
+  short = subst (AllByRecursion IsShortSection) here.sections
+      (content_short here.text (no_long_line here.text (is_device project id m node.sound here)))
+
+  pub no_long : list_any is_long_line (lines_of (dcf_text project id m)) ≡ false
+  unfolding dcf_text IsNodeOf
+  no_long =
+      text_lines (dcf_sections m.sections id m.node.name project.bitrate (writes_of project m id))
+      (dcf_printable m.sections id m.node.name project.bitrate (writes_of project m id) printable label all_stand).each
+      (dcf_short m.sections id m.node.name project.bitrate (writes_of project m id) short
+      (name_short m.node.name (is_node project id m node.sound here).2)
+      (All-weaker (λ (w : Write). IsGiven m.sections id (w.index, w.sub) w.bytes)
+      (λ (w : Write). length (text_of_value (kind_at m.sections (w.index, w.sub)) w.bytes) ≤ 1026)
+      (λ w given. printed_short (kind_at m.sections (w.index, w.sub)) w.bytes given.few)
+      (writes_of project m id) all))
+
+  within_limits : length (dcf_text project id m) ≤ most_bytes → is_out_of_range (dcf_text project id m) ≡ false
+  within_limits few = or_from (nat_lt most_bytes (length (dcf_text project id m))) _
+      (at_most (length (dcf_text project id m)) few) no_long
+    where
+      at_most : (n : ℕ) → n ≤ most_bytes → nat_lt most_bytes n ≡ false
+      at_most n le = grind (arith, nat_tests)
+
   pub no_bad : has_bad_byte (dcf_text project id m) ≡ false
   unfolding dcf_text IsNodeOf
   no_bad =
@@ -164,14 +207,14 @@ module _ (project : Content) (id : ℕ) (m : Member) (node : IsSoundNode project
       by false false true e = cc
       by false false false e = refl
 
-  pub device : is_out_of_range (dcf_text project id m) ≡ false
+  pub device : length (dcf_text project id m) ≤ most_bytes
       → device_of (dcf_text project id m) ≡ Ok (content_of (dcf_text project id m))
   unfolding device_of
-  device short =
+  device within =
       let same : nat_lt most_entries (length (pairs_of (content_of (dcf_text project id m)).sections)) ≡ false =
       ap (λ (ps : List (ℕ × ℕ)). nat_lt most_entries (length ps)) places
       ∙ few here.text (is_device project id m node.sound here) in
-      rw (short, no_bad, same) refl
+      rw (within_limits within, no_bad, same) refl
 
   kept : kept_text (lines_of (dcf_text project id m)) ≡ dcf_text project id m
   unfolding dcf_text
@@ -181,5 +224,5 @@ module _ (project : Content) (id : ℕ) (m : Member) (node : IsSoundNode project
 
   -- and it is kept as it is by an `eds` command
   pub taken_in : (name : List ℕ) → is_name name ≡ true → length (lines_of (dcf_text project id m)) ≤ most_lines
-      → is_out_of_range (dcf_text project id m) ≡ false → IsEds name (dcf_text project id m)
-  taken_in name named few short = record { name = named; lines = few; ended = kept; device = device short }
+      → length (dcf_text project id m) ≤ most_bytes → IsEds name (dcf_text project id m)
+  taken_in name named few within = record { name = named; lines = few; ended = kept; device = device within }

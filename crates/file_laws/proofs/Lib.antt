@@ -7,6 +7,7 @@ mod NamedLemmas
 mod PdoLemmas
 mod PlanLemmas
 mod ReadBytesLemmas
+mod ReadLengthLemmas
 mod TextLemmas
 mod ValueLemmas
 mod WritesLemmas

@@ -1,6 +1,6 @@
 -- What is read of a text without a bad byte has none.
-use Rattle.std.proofs.Common.{◌≡◌, ◌∙◌, ℕ, Bool, true, false, cond, List, [], ◌∷◌, ◌++◌, map, eqb, IfSome, Option, Some, None}
-use Rattle.std.proofs.Common.{option_and_then, length, refl, sym, ap, subst, not}
+use Rattle.std.proofs.Common.{◌≡◌, ◌∙◌, ℕ, Bool, true, false, cond, List, [], ◌∷◌, ◌++◌, map, eqb, IfSome, Option}
+use Rattle.std.proofs.Common.{Some, None, option_and_then, length, refl, sym, ap, subst, not}
 use Rattle.std.specs.List.{AllByRecursion, filter, list_any, onto_first, starts_with}
 use Rattle.std.specs.Bool.{nat_eq}
 use Rattle.std.proofs.lemmas.Bool.{or_parts}
@@ -127,7 +127,7 @@ pairs_good name true (pair k v ∷ ls) h = (h.0, pairs_good name true ls h.1)
 pairs_good name false (pair k v ∷ ls) h = pairs_good name false ls h.1
 pairs_good name here (other ∷ ls) h = pairs_good name here ls h.1
 
-firsts_all : {X : Type 0} (e : X → X → Bool) (P : X → Type 0) (xs : List X) → AllByRecursion P xs
+pub firsts_all : {X : Type 0} (e : X → X → Bool) (P : X → Type 0) (xs : List X) → AllByRecursion P xs
     → AllByRecursion P (firsts e xs)
 firsts_all e P [] h = tt
 firsts_all e P (x ∷ xs) h = (h.0, all_filtered e P (λ y. not (e x y)) (firsts e xs) (firsts_all e P xs h.1))

@@ -1,10 +1,10 @@
 -- Names and texts of a project can stand in lines of INI text.
 use Rattle.std.proofs.Common.{◌≡◌, ◌∙◌, ℕ, ◌+◌, ◌-◌, ◌==◌, ◌&&◌, not, ◌≤◌, Bool, true, false, cond, List, [], ◌∷◌, ◌++◌}
 use Rattle.std.proofs.Common.{length, take, drop, reverse, refl, sym, ap, subst, arith, length-drop, append_assoc}
-use Rattle.std.proofs.Common.{take_all}
+use Rattle.std.proofs.Common.{length-append, take_all}
 use Rattle.std.specs.List.{flat_map, list_all, list_any, onto_first, prefix_len, suffix_len, AllByRecursion}
 use Rattle.std.specs.Str.{byte, bytes_eq}
-use Rattle.std.proofs.lemmas.Bool.{or_parts}
+use Rattle.std.proofs.lemmas.Bool.{or_from, or_parts}
 use Rattle.std.proofs.lemmas.Bool.Decides.{nat_tests}
 use Rattle.std.proofs.lemmas.List.{length-take, reverse-append}
 use Rattle.std.proofs.lemmas.List.Sums.{prefix_len-le-length, suffix_len-le-length}
@@ -20,7 +20,9 @@ use Rattle.ini_text.specs.Content.{Pair, Section}
 use Rattle.ini_text.specs.Printable.{has_byte, IsPrintablePair, IsPrintableSection, IsValue}
 use Rattle.ini_text.proofs.BytesLemmas.{none_append, sharp_end_if_trim, trimmed_sharp, IsSharp}
 use Rattle.eds_dcf.proofs.ByteLemmas.{IsGood, plain_good}
+use Rattle.eds_dcf.proofs.LengthLemmas.{IsShortPair, IsShortSection}
 use Rattle.eds_dcf.proofs.LineLemmas.{plain_value, IsPlain}
+use Rattle.file_laws.proofs.ReadLengthLemmas.{short_line}
 
 and_left : (a b : Bool) → (a && b) ≡ true → a ≡ true
 and_left true b e = refl
@@ -49,6 +51,12 @@ name_value name e =
 pub name_good : (name : List ℕ) → is_name name ≡ true → IsGood name
 name_good name e =
     plain_good name (plain_bytes name (and_right (is_between 1 32 (length name)) (list_all is_name_byte name) e))
+
+pub name_short : (name : List ℕ) → is_name name ≡ true → length name ≤ 32
+name_short name e = few (length name) (and_left (is_between 1 32 (length name)) (list_all is_name_byte name) e)
+  where
+    few : (n : ℕ) → is_between 1 32 n ≡ true → n ≤ 32
+    few n e = grind (arith, nat_tests)
 
 -- ---- texts
 
@@ -225,3 +233,50 @@ unfolding lines_of
 sections_again [] each = refl
 sections_again (s ∷ ss) each = section_again s (text_of ss) each.0
     ∙ ap (λ (xs : List ℕ). section_text s ++ xs) (sections_again ss each.1)
+
+-- ---- lines that aren't too long
+
+abbrev pub HasNoLongLine : List ℕ → Type 0
+HasNoLongLine text = list_any ini.is_long_line (lines_of text) ≡ false
+
+one_more_line : (bs rest : List ℕ) → has_byte 10 bs ≡ false → length bs ≤ 4096 → HasNoLongLine rest
+    → HasNoLongLine (bs ++ 10 ∷ rest)
+one_more_line bs rest none short h =
+    ap (list_any ini.is_long_line) (first_line bs rest none)
+    ∙ or_from (ini.is_long_line bs) (list_any ini.is_long_line (lines_of rest)) (short_line bs short) h
+
+pair_line : (p : Pair) (rest : List ℕ) → IsPrintablePair p → IsShortPair p → HasNoLongLine rest
+    → HasNoLongLine (pair_text p ++ rest)
+pair_line p rest is short h =
+    let line : List ℕ = p.key ++ byte "=" ∷ p.value in
+    let spelled : pair_text p ++ rest ≡ line ++ 10 ∷ rest = simp append_assoc in
+    let long = length-append p.key (byte "=" ∷ p.value) in
+    subst HasNoLongLine (sym spelled)
+    (one_more_line line rest (none_before p.key p.value (byte "=") is.key.on_one_line refl is.value.on_one_line)
+    (omega (arith, long, short)) h)
+
+pair_lines : (ps : List Pair) (rest : List ℕ) → AllByRecursion IsPrintablePair ps → AllByRecursion IsShortPair ps
+    → HasNoLongLine rest → HasNoLongLine (flat_map pair_text ps ++ rest)
+pair_lines [] rest each short h = h
+pair_lines (p ∷ ps) rest each short h =
+    subst HasNoLongLine (sym (append_assoc (pair_text p) (flat_map pair_text ps) rest))
+    (pair_line p (flat_map pair_text ps ++ rest) each.0 short.0 (pair_lines ps rest each.1 short.1 h))
+
+section_lines : (s : Section) (rest : List ℕ) → IsPrintableSection s → IsShortSection s → HasNoLongLine rest
+    → HasNoLongLine (section_text s ++ rest)
+section_lines s rest is short h =
+    let header : List ℕ = (byte "[" ∷ s.name) ++ byte "]" ∷ [] in
+    let pairs : List ℕ = flat_map pair_text s.pairs in
+    let spelled : section_text s ++ rest ≡ header ++ 10 ∷ (pairs ++ rest) = simp append_assoc in
+    let long = length-append (byte "[" ∷ s.name) (byte "]" ∷ []) in
+    let named = short.name in
+    subst HasNoLongLine (sym spelled)
+    (one_more_line header (pairs ++ rest) (none_before (byte "[" ∷ s.name) [] (byte "]") is.name.on_one_line refl refl)
+    (omega (arith, long, named)) (pair_lines s.pairs rest is.pairs short.pairs h))
+
+pub text_lines : (ss : List Section) → AllByRecursion IsPrintableSection ss → AllByRecursion IsShortSection ss
+    → HasNoLongLine (text_of ss)
+unfolding lines_of
+text_lines [] each short = refl
+text_lines (s ∷ ss) each short =
+    section_lines s (text_of ss) each.0 short.0 (text_lines ss each.1 short.1)

@@ -15,7 +15,7 @@ use Rattle.co_values.specs.declared.form.Form.TheVariants.{Unsigned, Characters}
 use Rattle.co_values.specs.declared.form.Width.{Width}
 use Rattle.co_values.specs.declared.form.Width.TheVariants.{Bits8, Bits16, Bits32, Bits64}
 use Rattle.co_values.specs.Types.{form, is_modelled, is_modelled_form, octets}
-use Rattle.co_values.specs.Values.{text_of_value, value}
+use Rattle.co_values.specs.Values.{longest_value, text_of_value, value}
 use Rattle.co_values.proofs.Printed.{value-printed}
 use Rattle.co_dict.specs.declared.entry.Entry.{Entry}
 use Rattle.co_dict.specs.Accesses.{is_writable}
@@ -55,6 +55,7 @@ pub record IsGiven (ss : List Section) (node : ℕ) (place : ℕ × ℕ) (bytes 
   pub writable : is_writable entry.access ≡ true
   pub again : value entry.kind (text_of_value entry.kind bytes) node ≡ Some bytes
   pub some : 0 < length bytes
+  pub few : length bytes ≤ longest_value
   pub in_line : entry.kind ≡ VisibleString → IsLine bytes
 
 module _ (ss : List Section) (node : ℕ) where
@@ -92,6 +93,7 @@ module _ (ss : List Section) (node : ℕ) where
           writable = s.writable;
           again = value_again entry.kind text w.bytes node s.spelled;
           some = omega (arith, sized.0);
+          few = sized.1;
           in_line =
               λ is. subst IsLine (characters text w.bytes node (subst (λ (k : DataType). value k text node
               ≡ Some w.bytes) is s.spelled)) line;
@@ -107,6 +109,12 @@ module _ (ss : List Section) (node : ℕ) where
   some_octets Bits16 = omega arith
   some_octets Bits32 = omega arith
   some_octets Bits64 = omega arith
+
+  few_octets : (w : Width) → octets w ≤ longest_value
+  few_octets Bits8 = omega arith
+  few_octets Bits16 = omega arith
+  few_octets Bits32 = omega arith
+  few_octets Bits64 = omega arith
 
   no_characters : (kind : DataType) (width : Width) → is_unsigned kind width ≡ true → form kind ≡ Characters → ⊥
   no_characters kind width e is =
@@ -133,6 +141,7 @@ module _ (ss : List Section) (node : ℕ) where
               fits_unsigned entry.kind taken.width w.bytes unsigned taken.long,
             );
             some = bytes;
+            few = subst (λ (n : ℕ). n ≤ longest_value) (sym taken.long) (few_octets taken.width);
             in_line = λ string. absurd (no_characters entry.kind taken.width unsigned (ap form string));
           }
 

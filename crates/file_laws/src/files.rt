@@ -2,9 +2,10 @@
 ghost use Rattle.std.specs.Prelude.{◌≡◌, ◌≤◌, ℕ, List, length, false, true, Ok};
 ghost use Rattle.std.specs.FinMap as map;
 ghost use Rattle.ini_text.specs.Content.{content_of};
-ghost use Rattle.ini_text.specs.Text.{is_out_of_range, has_bad_byte};
+ghost use Rattle.std.specs.List.{list_any};
+ghost use Rattle.ini_text.specs.Text.{is_long_line, has_bad_byte};
 ghost use Rattle.co_text.specs.Lines.{lines_of};
-ghost use Rattle.co_edits.specs.Eds.{most_lines, IsEds};
+ghost use Rattle.co_edits.specs.Eds.{most_bytes, most_lines, IsEds};
 ghost use Rattle.co_edits.specs.Forms.{is_name};
 ghost use Rattle.eds_device.specs.Entries.{entry_at};
 ghost use Rattle.eds_device.specs.Faults.{device_of};
@@ -30,14 +31,17 @@ pub fn a_dcf_gives_the_parameters_of_its_node()
         ≡ parameter_writes m.sections m.node.params id }
 {}
 
-/// A DCF within the limits of a text can be taken in as an EDS: it is the text of a device, which has the
-/// entries of its node's EDS as that describes them. It has no byte that a text may not have.
+/// A DCF of at most 1,048,576 bytes can be taken in as an EDS: it is the text of a device, which has the
+/// entries of its node's EDS as that describes them. It has no byte that a text may not have, and no line
+/// that is too long.
 pub fn a_dcf_is_the_text_of_a_device()
     ensures device { (project : Content) (id : ℕ) (m : Member) → IsSoundNode project id m
-        → is_out_of_range (dcf_text project id m) ≡ false
+        → length (dcf_text project id m) ≤ most_bytes
         → device_of (dcf_text project id m) ≡ Ok (content_of (dcf_text project id m)) }
     ensures bytes { (project : Content) (id : ℕ) (m : Member) → IsSoundNode project id m
         → has_bad_byte (dcf_text project id m) ≡ false }
+    ensures lines { (project : Content) (id : ℕ) (m : Member) → IsSoundNode project id m
+        → list_any is_long_line (lines_of (dcf_text project id m)) ≡ false }
     ensures entries { (project : Content) (id : ℕ) (m : Member) (index sub : ℕ) → IsSoundNode project id m
         → entry_at (content_of (dcf_text project id m)).sections id index sub ≡ entry_at m.sections id index sub }
 {}
@@ -46,6 +50,6 @@ pub fn a_dcf_is_the_text_of_a_device()
 pub fn a_dcf_can_be_taken_in()
     ensures { (project : Content) (id : ℕ) (m : Member) (name : List ℕ) → IsSoundNode project id m → is_name name ≡ true
         → length (lines_of (dcf_text project id m)) ≤ most_lines
-        → is_out_of_range (dcf_text project id m) ≡ false
+        → length (dcf_text project id m) ≤ most_bytes
         → IsEds name (dcf_text project id m) }
 {}
