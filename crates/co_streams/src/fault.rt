@@ -10,13 +10,13 @@ use thiserror::Error;
 pub enum SessionFault {
     /// A growth was refused.
     #[error("1 Memory")]
-    Memory,
+    Memory = 1,
     /// The reader failed, or more came than the limit.
     #[error("2 Read")]
-    Read,
+    Read = 2,
     /// The writer failed, or took no byte.
     #[error("3 Write")]
-    Write,
+    Write = 3,
 }
 
 impl From<AllocError> for SessionFault {

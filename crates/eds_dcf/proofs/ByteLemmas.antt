@@ -1,5 +1,6 @@
 -- A DCF has no bad byte where the sections of its EDS, the name of its node and the values have none.
-use Rattle.std.proofs.Common.{◌≡◌, ℕ, ◌/◌, ◌%◌, ◌≤◌, false, List, [], ◌∷◌, ◌++◌, codes, decimal, All, reverse, refl, arith, ℤ}
+use Rattle.std.proofs.Common.{◌≡◌, ℕ, ◌/◌, ◌%◌, ◌≤◌, false, List, [], ◌∷◌, ◌++◌, codes, decimal, All, reverse, refl}
+use Rattle.std.proofs.Common.{arith, ℤ}
 use Rattle.std.proofs.lemmas.Bool.{or_from}
 use Rattle.std.proofs.lemmas.Bool.Decides.{nat_tests}
 use Rattle.std.specs.Fmt.{signed_decimal}
