@@ -1,12 +1,20 @@
 -- Steps of bringing parts up to date, as they are written.
-use Rattle.std.proofs.Common.{◌≡◌, ◌∙◌, ℕ, Option, Some, None, option_map, option_and_then, refl, ap}
+use Rattle.std.proofs.Common.{◌≡◌, ◌∙◌, ℕ, Bool, true, false, ◌==◌, ◌+◌, ◌-◌, ◌^◌, min, if◌then◌else◌, List}
+use Rattle.std.proofs.Common.{Option, Some, None, IfSome, IfNone, option_map, option_and_then, refl, sym, ap}
+use Rattle.std.proofs.lemmas.Bool.{eqb-true}
 use Rattle.ini_text.specs.Content.{Content as Device}
 use Rattle.co_project.specs.declared.node.Node.{Node}
 use Rattle.co_project.specs.Project.{Content as Project}
 use Rattle.co_project.specs.Tables.{node_at}
+use Rattle.co_memo.specs.At.{at}
+use Rattle.co_memo.specs.Shelved.{kept_at, Shelved}
+use Rattle.co_memo.specs.Work.{Refreshes, Work}
+use Rattle.co_memo.proofs.Brought.{refreshes_built}
 use Rattle.kept_parts.specs.Kept as parts
+use Rattle.kept_parts.proofs.KindLemmas.{KeptAt}
 use Rattle.kept_image.specs.Kept.{device_from, device_of_node}
 use Rattle.kept_image.specs.declared.device_at.DeviceAt.{DeviceAt}
+use Rattle.kept_image.specs.declared.kept_image.KeptImage.{KeptImage}
 
 -- a device with its number offers itself
 pub offered_is : (now from : Option DeviceAt) → now ≡ from → option_map (λ d. d) now ≡ from
@@ -26,3 +34,35 @@ module _ (p : Project) (n : ℕ) where
   pub device_value : (device : Option Device) (result : Option DeviceAt) → result ≡ option_map with_number device
       → device ≡ option_and_then (λ node. parts.device_at p node.eds) (node_at p.nodes n) → result ≡ device_from p n
   device_value device result is from = is ∙ ap (option_map with_number) from ∙ numbered (node_at p.nodes n)
+
+  -- and that of now
+  pub common_value : (node : Node) (device : Device) → Some node ≡ node_at p.nodes n
+      → parts.device_at p node.eds ≡ Some device → Some (with_number device) ≡ device_from p n
+  common_value node device there is =
+      sym (ap (option_map with_number) is) ∙ ap (option_and_then (device_of_node p n)) there
+
+-- ---- what is kept at a number
+
+abbrev pub with_defaults : KeptImage → Shelved DeviceAt → KeptImage
+with_defaults k shelf = record k { defaults = shelf }
+
+abbrev pub with_shapes : KeptImage → Shelved DeviceAt → KeptImage
+with_shapes k shelf = record k { shapes = shelf }
+
+-- what is of now already
+pub settled_kept : {X : Type 0} (key : ℕ) (now : Option X) (old new : Shelved X) → new.kept ≡ old.kept
+    → kept_at old key ≡ now → KeptAt key now old new
+settled_kept {X} key now old new same current q =
+    ap (λ (entries : List (ℕ × X)). at entries q) same ∙ by (q == key) refl
+  where
+    by : (t : Bool) → (q == key) ≡ t → kept_at old q ≡ (if t then now else kept_at old q)
+    by true e = ap (kept_at old) (eqb-true q key e) ∙ current
+    by false e = refl
+
+-- what wasn't is built
+pub built : (p : Project) (key : ℕ) (kept now offered : Option DeviceAt) (m n : Work) → offered ≡ device_from p key
+    → (kept ≡ device_from p key → ⊥)
+    → IfSome now (λ _. n ≡ record m { parts = min (m.parts + 1) (2 ^ 64 - 1) }) → IfNone now (n ≡ m)
+    → Refreshes (kept ≡ offered) m n
+built p key kept now offered m n is stale counted nothing =
+    refreshes_built (kept ≡ offered) now m n (λ e. stale (e ∙ is)) counted nothing

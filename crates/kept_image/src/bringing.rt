@@ -88,7 +88,10 @@ impl KeptImage {
             (reached project.now (ImagePart.Defaults node)) (held self.old) (held self.new) meter.old meter.new) }
     {
         let now = self.bring_device(project, node, meter)?;
-        self.defaults.bring(self.alloc, node, now, meter)?;
+        if self.defaults.settle(node, &now) {
+            return Ok(());
+        }
+        self.build_defaults(project, node, now, meter)?;
         Ok(())
     }
 
@@ -105,7 +108,10 @@ impl KeptImage {
             (reached project.now (ImagePart.Shape node)) (held self.old) (held self.new) meter.old meter.new) }
     {
         let now = self.bring_device(project, node, meter)?;
-        self.shapes.bring(self.alloc, node, now, meter)?;
+        if self.shapes.settle(node, &now) {
+            return Ok(());
+        }
+        self.build_shape(project, node, now, meter)?;
         Ok(())
     }
 
