@@ -1,11 +1,11 @@
 -- What holds of each name and each pair of an EDS holds of those of its DCF.
-use Rattle.std.proofs.Common.{◌≡◌, ◌==◌, ℕ, ◌+◌, Bool, true, false, cond, not, ◌&&◌, ◌||◌, List, [], ◌∷◌, ◌++◌}
+use Rattle.std.proofs.Common.{◌≡◌, ◌==◌, ℕ, ◌+◌, Bool, true, false, cond, not, ◌&&◌, ◌||◌, List, [], ◌∷◌}
 use Rattle.std.proofs.Common.{length, filter, filter_map, map, option_to_list, codes, decimal, IfSome, All}
 use Rattle.std.proofs.Common.{Option, None, Some, is_some, option_map, option_and_then, refl}
 use Rattle.std.specs.List.{AllByRecursion, cons_option, find, list_any}
 use Rattle.std.specs.Option.{option_map_or}
 use Rattle.ini_text.specs.Change.{put_value}
-use Rattle.ini_text.specs.Content.{Pair, Section, same, value_at}
+use Rattle.ini_text.specs.Content.{Pair, Section, same}
 use Rattle.concise_dcf.specs.declared.write.Write.{Write}
 use Rattle.co_values.specs.Types.{is_modelled}
 use Rattle.co_values.specs.Values.{text_of_value}
@@ -15,7 +15,7 @@ use Rattle.eds_device.specs.Origins.{origin_of, values_section}
 use Rattle.eds_device.specs.Places.{first_subs}
 use Rattle.eds_device.specs.Sections.{kind_of}
 use Rattle.eds_dcf.specs.Commissioning.{commissioning, first_spelling, is_commissioning, is_set_anew, others}
-use Rattle.eds_dcf.specs.Commissioning.{others_beside, pairs_named, second_spelling}
+use Rattle.eds_dcf.specs.Commissioning.{pairs_named, second_spelling}
 use Rattle.eds_dcf.specs.Compact.{compact_object, is_compact, is_decimal, made_section, new_values, value_pair}
 use Rattle.eds_dcf.specs.Compact.{values_name, values_pairs, values_pairs_at, values_set, with_all, with_count}
 use Rattle.eds_dcf.specs.Compact.{with_set}

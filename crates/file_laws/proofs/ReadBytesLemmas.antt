@@ -7,7 +7,7 @@ use Rattle.std.proofs.lemmas.Bool.{or_parts}
 use Rattle.ini_text.specs.Text.{byte_order_mark, has_bad_byte, is_bad_byte, lines_of, split_once, trimmed, without_mark}
 use Rattle.ini_text.specs.Line.{Line, nothing, header, pair, other, unless_empty, header_name, key_value, pair_or_other}
 use Rattle.ini_text.specs.Line.{header_or, meaning, line_of}
-use Rattle.ini_text.specs.Content.{Pair, Section, same, same_key, headers, pairs_under, firsts, section_of, sections_of}
+use Rattle.ini_text.specs.Content.{same, same_key, headers, pairs_under, firsts, section_of, sections_of}
 use Rattle.ini_text.specs.Content.{content_of, line_list}
 use Rattle.ini_text.proofs.BytesLemmas.{Split, at, none, none_dropped, none_left, none_right, none_trimmed, split}
 use Rattle.ini_text.proofs.NameLemmas.{all_filtered}

@@ -1,20 +1,20 @@
 -- What is read of a text without a long line can stand in a line of at most 4,096 bytes.
-use Rattle.std.proofs.Common.{◌≡◌, ◌∙◌, ℕ, zero, suc, ◌+◌, ◌-◌, ◌≤◌, Bool, true, false, cond, not, List, [], ◌∷◌, ◌++◌}
-use Rattle.std.proofs.Common.{map, eqb, IfSome, Option, Some, None, option_and_then, length, drop, take, reverse}
-use Rattle.std.proofs.Common.{refl, sym, ap, subst, arith, length-append, length-drop}
+use Rattle.std.proofs.Common.{◌≡◌, ◌∙◌, ℕ, zero, suc, ◌+◌, ◌-◌, ◌≤◌, Bool, true, false, cond, List, [], ◌∷◌, ◌++◌}
+use Rattle.std.proofs.Common.{map, eqb, IfSome, Option, Some, None, option_and_then, length, drop, reverse}
+use Rattle.std.proofs.Common.{refl, sym, ap, subst, arith, length-append}
 use Rattle.std.specs.List.{AllByRecursion, list_any, onto_first, prefix_len, starts_with, suffix_len}
 use Rattle.std.specs.Bool.{nat_eq}
 use Rattle.std.specs.Prelude.{nat_lt}
 use Rattle.std.proofs.lemmas.Bool.{ltb-false, or_parts}
 use Rattle.std.proofs.lemmas.Bool.Decides.{nat_tests}
-use Rattle.std.proofs.lemmas.List.{length-reverse, length-take-le, reverse-append}
-use Rattle.std.proofs.lemmas.List.Sums.{prefix_len-le-length, suffix_len-le-length}
+use Rattle.std.proofs.lemmas.List.{length-take-le, reverse-append}
+use Rattle.std.proofs.lemmas.List.Sums.{suffix_len-le-length}
 use Rattle.co_text.specs.Blanks.{trim_end, trim_start}
 use Rattle.co_text.specs.Lines.{is_cr}
 use Rattle.ini_text.specs.Text.{byte_order_mark, is_blank, is_long_line, lines_of, split_once, trimmed, without_mark}
 use Rattle.ini_text.specs.Line.{Line, nothing, header, pair, other, unless_empty, header_name, key_value, pair_or_other}
 use Rattle.ini_text.specs.Line.{header_or, meaning, line_of}
-use Rattle.ini_text.specs.Content.{Pair, Section, same, same_key, headers, pairs_under, firsts, section_of, sections_of}
+use Rattle.ini_text.specs.Content.{same, same_key, headers, pairs_under, firsts, section_of, sections_of}
 use Rattle.ini_text.specs.Content.{content_of, line_list}
 use Rattle.ini_text.proofs.BytesLemmas.{Split, at, none, split}
 use Rattle.eds_dcf.proofs.LengthLemmas.{AreShort, IsShortName, IsShortPair, IsShortSection}
