@@ -1,10 +1,9 @@
 -- Lists of waiting frames of which one leaves, and lists of at most one.
 use Rattle.std.proofs.Common.{◌≡◌, ◌≢◌, ℕ, zero, suc, ◌+◌, ◌<◌, Bool, true, false, List, [], ◌∷◌, ◌++◌, length, get_or}
 use Rattle.std.proofs.Common.{◌⊎◌, inl, inr, refl, sym, ap, ◌∙◌, arith}
-use Rattle.std.specs.Prelude.{cond, drop, filter, remove, ◌==◌, ◌||◌}
+use Rattle.std.specs.Prelude.{cond, drop, filter, remove, ◌||◌}
 use Rattle.std.specs.List.{list_any}
 use Rattle.std.proofs.lemmas.Bool.{cases_eq, false≢true}
-use Rattle.std.proofs.lemmas.Bool.Decides.{nat_tests}
 use Rattle.can_frame.specs.declared.waiting.Waiting.{Waiting}
 use Rattle.files_and_devices.specs.Exchanges.{bytes_of}
 
