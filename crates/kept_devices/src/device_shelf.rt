@@ -12,7 +12,7 @@ ghost use Rattle.kept_devices.specs.Slots.{fresh_at, fresh_slot, text_kept, with
 
 use crate::eds_text::keep_device;
 use crate::seat::Seat;
-use co_memo::{Meter, Shared};
+use co_memo::{Meter, Shared, share_of};
 use co_project::Project;
 use eds_device::Device;
 use std::alloc::{AllocError, Global};
@@ -113,6 +113,25 @@ impl DeviceShelf {
         };
         let device = seat.common(alloc)?;
         Ok(Some(device))
+    }
+
+    /// The device of a name that is kept, shared: where many build from it as `common` gives it, else as
+    /// `value`. Takes the time and the memory of these.
+    pub fn shared(
+        &mut self,
+        alloc: Global,
+        name: &[u8],
+        many: bool,
+    ) -> Result<Option<Shared<Device>>, AllocError>
+        ensures same { self.new ≡ self.old }
+        ensures device { IfOk result (λ d. d ≡ option_map content_of (text_kept self.old name.now)) }
+    {
+        if many {
+            let common = self.common(alloc, name)?;
+            return Ok(common);
+        }
+        let device = share_of(self.value(name))?;
+        Ok(device)
     }
 
     pub fn is_fresh(&self, name: &[u8]) -> bool

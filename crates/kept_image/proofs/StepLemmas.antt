@@ -1,6 +1,7 @@
 -- Steps of bringing parts up to date, as they are written.
 use Rattle.std.proofs.Common.{◌≡◌, ◌∙◌, ℕ, Bool, true, false, ◌==◌, ◌+◌, ◌-◌, ◌^◌, min, if◌then◌else◌, List}
 use Rattle.std.proofs.Common.{Option, Some, None, IfSome, IfNone, option_map, option_and_then, refl, sym, ap}
+use Rattle.std.specs.Option.{option_or}
 use Rattle.std.proofs.lemmas.Bool.{eqb-true}
 use Rattle.ini_text.specs.Content.{Content as Device}
 use Rattle.co_project.specs.declared.node.Node.{Node}
@@ -35,11 +36,14 @@ module _ (p : Project) (n : ℕ) where
       → device ≡ option_and_then (λ node. parts.device_at p node.eds) (node_at p.nodes n) → result ≡ device_from p n
   device_value device result is from = is ∙ ap (option_map with_number) from ∙ numbered (node_at p.nodes n)
 
-  -- and that of now
-  pub common_value : (node : Node) (device : Device) → Some node ≡ node_at p.nodes n
-      → parts.device_at p node.eds ≡ Some device → Some (with_number device) ≡ device_from p n
-  common_value node device there is =
-      sym (ap (option_map with_number) is) ∙ ap (option_and_then (device_of_node p n)) there
+  -- and that of now, where it is found
+  pub common_value : (node : Node) (name : List ℕ) (found : Option Device) (now : Option DeviceAt)
+      → Some node ≡ node_at p.nodes n → name ≡ node.eds → IfSome found (λ d. parts.device_at p name ≡ Some d)
+      → now ≡ device_from p n → option_or (option_map with_number found) now ≡ device_from p n
+  common_value node name None now there named is from = from
+  common_value node name (Some device) now there named is from =
+      sym (ap (option_map with_number) (ap (parts.device_at p) (sym named) ∙ is))
+      ∙ ap (option_and_then (device_of_node p n)) there
 
 -- ---- what is kept at a number
 
@@ -58,6 +62,13 @@ settled_kept {X} key now old new same current q =
     by : (t : Bool) → (q == key) ≡ t → kept_at old q ≡ (if t then now else kept_at old q)
     by true e = ap (kept_at old) (eqb-true q key e) ∙ current
     by false e = refl
+
+-- what isn't of now
+pub other_kept : {X : Type 0} (first last now from : X) (result : Bool) → now ≡ from
+    → (first ≡ now → result ≡ true) → result ≡ false → last ≡ first → last ≡ from → ⊥
+other_kept first last now from result is settled stale same e =
+    let true_so = settled (sym same ∙ e ∙ sym is) in
+    cc
 
 -- what wasn't is built
 pub built : (p : Project) (key : ℕ) (kept now offered : Option DeviceAt) (m n : Work) → offered ≡ device_from p key

@@ -75,6 +75,26 @@ impl KeptImage {
         Ok(device_at(device, node))
     }
 
+    /// The device of a node with its number, with what it has alike at every node, to build from.
+    fn with_common(
+        &mut self,
+        project: &Project,
+        node: u8,
+        now: Option<DeviceAt>,
+    ) -> Result<Option<DeviceAt>, AllocError>
+        requires is_of { IsOf project.now self.old }
+        requires now { now ≡ device_from project.now node }
+        ensures same { self.new ≡ self.old }
+        ensures value { IfOk result (λ d. d ≡ device_from project.now node) }
+    {
+        let Some(known) = project.node(node) else {
+            return Ok(now);
+        };
+        let name = known.eds.as_slice();
+        let found = self.parts.common_device_of_now(project, name)?;
+        Ok(device_at(found, node).or(now))
+    }
+
     /// Brings the values of a node by its device up to date.
     pub(crate) fn bring_defaults(
         &mut self,
@@ -91,7 +111,8 @@ impl KeptImage {
         if self.defaults.settle(node, &now) {
             return Ok(());
         }
-        self.build_defaults(project, node, now, meter)?;
+        let now = self.with_common(project, node, now)?;
+        self.defaults.build(self.alloc, node, now, meter)?;
         Ok(())
     }
 
@@ -111,7 +132,8 @@ impl KeptImage {
         if self.shapes.settle(node, &now) {
             return Ok(());
         }
-        self.build_shape(project, node, now, meter)?;
+        let now = self.with_common(project, node, now)?;
+        self.shapes.build(self.alloc, node, now, meter)?;
         Ok(())
     }
 

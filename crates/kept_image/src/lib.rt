@@ -4,7 +4,6 @@
 
 mod all;
 mod bringing;
-mod building;
 mod device_at;
 mod devices_now;
 mod image_part;

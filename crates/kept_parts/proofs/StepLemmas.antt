@@ -12,6 +12,7 @@ use Rattle.co_memo.specs.Shelved.{Single}
 use Rattle.co_memo.specs.Work.{Refreshes, Work}
 use Rattle.co_memo.specs.Stale.{AreBrought}
 use Rattle.co_memo.proofs.Brought.{refreshes_built}
+use Rattle.kept_devices.specs.Slots.{Slots}
 use Rattle.kept_parts.specs.Written.{AreValuesOf, Written}
 use Rattle.kept_parts.specs.Made.{writes_made, written_made}
 use Rattle.kept_parts.specs.Offered.{concise_by}
@@ -97,3 +98,6 @@ writes_are p id now written is are = is ∙ ap (option_map concise_by) are ∙ b
 pub all_there_is : {X : Type 0} (found all : Option X) → found ≡ all → IfSome found (λ x. all ≡ Some x)
 all_there_is None all is = tt
 all_there_is (Some x) all is = sym is
+
+abbrev pub with_devices : KeptParts → Slots → KeptParts
+with_devices k devices = record k { devices = devices }

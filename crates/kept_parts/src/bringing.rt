@@ -20,6 +20,7 @@ use co_memo::{Meter, Shared, share_of};
 use co_project::Project;
 use eds_device::Device;
 use pdo_plan::Plan;
+use project_plan::Named;
 use std::alloc::AllocError;
 
 impl KeptParts {
@@ -63,6 +64,25 @@ impl KeptParts {
         let mut devices = NodeDevices::new(self.alloc);
         for (number, node) in project.nodes() {
             let device = self.bring_device(project, node.eds.as_slice(), meter)?;
+            devices.push(*number, device)?;
+        }
+        Ok(devices)
+    }
+
+    /// The devices of all nodes, where none has a mark: those of nodes that messages name with what they
+    /// have alike at every node.
+    fn devices_for_plan(&mut self, project: &Project) -> Result<NodeDevices, AllocError>
+        requires is_of { IsOf project.now self.old }
+        requires unmarked { HaveNoMark self.old (map of_node (finmap.entries project.now.nodes)) }
+        ensures same { self.new ≡ self.old }
+        ensures value { IfOk result (λ d. d ≡ filter_map (numbered project.now) (finmap.entries project.now.nodes)) }
+    {
+        let named = Named::by(project.messages());
+        let mut devices = NodeDevices::new(self.alloc);
+        for (number, node) in project.nodes() {
+            let name = node.eds.as_slice();
+            let many = named.contains(*number);
+            let device = self.devices.shared(self.alloc, name, many)?;
             devices.push(*number, device)?;
         }
         Ok(devices)

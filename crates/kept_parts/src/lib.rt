@@ -2,7 +2,6 @@
 #![tactic(auto)]
 
 mod bringing;
-mod common;
 mod concise_from;
 mod concise_now;
 mod dcf_from;

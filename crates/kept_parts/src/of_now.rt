@@ -44,4 +44,23 @@ impl KeptParts {
         }
         Ok(None)
     }
+
+    /// The device of an EDS as `device_of_now` gives it, with what it has alike at every node: that is found
+    /// at the first asking, by the number of entries and its logarithm, and kept till the EDS is marked.
+    pub fn common_device_of_now(
+        &mut self,
+        project: &Project,
+        name: &[u8],
+    ) -> Result<Option<Shared<Device>>, AllocError>
+        requires { IsOf project.now self.old }
+        ensures same { self.new ≡ self.old }
+        ensures value { IfOk result (λ found. IfSome found (λ device. device_at project.now name.now ≡ Some device)) }
+    {
+        let _ = project;
+        if !self.devices.is_fresh(name) {
+            return Ok(None);
+        }
+        let device = self.devices.common(self.alloc, name)?;
+        Ok(device)
+    }
 }

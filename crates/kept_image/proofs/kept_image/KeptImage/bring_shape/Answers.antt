@@ -6,8 +6,9 @@ use Rattle.kept_parts.specs.Kept as parts
 use Rattle.kept_image.specs.Kept.{given, held, same_part, IsOf}
 use Rattle.kept_image.specs.declared.device_at.DeviceAt.{DeviceAt}
 use Rattle.kept_image.specs.declared.image_part.ImagePart.TheVariants as image
+use Rattle.kept_image.specs.declared.kept_image.KeptImage.{KeptImage}
 use Rattle.kept_image.proofs.KindLemmas.{shape_brought, shape_is_of, shape_now}
-use Rattle.kept_image.proofs.StepLemmas.{offered_is, settled_kept, with_shapes}
+use Rattle.kept_image.proofs.StepLemmas.{built, offered_is, other_kept, settled_kept, with_shapes}
 use Rattle.kept_image.proofs.kept_image.KeptImage.bring_shape.Goals as goal
 
 pub settle-requires : goal.settle-requires
@@ -44,28 +45,48 @@ returns-then-settle-clause-brings c =
 
 -- ---- or of another one
 
-pub build_shape-requires-clause-is_of : goal.build_shape-requires-clause-is_of
-build_shape-requires-clause-is_of c =
+pub with_common-requires-clause-is_of : goal.with_common-requires-clause-is_of
+with_common-requires-clause-is_of c =
     subst (λ (s : Shelved DeviceAt). IsOf c.args.project.now (with_shapes c.bring_device.new.self s))
     (sym (c.settle.ensures.stale c.if-settle.false)) c.in_ok-now.ensures.is_of
 
-pub build_shape-requires-clause-stale : goal.build_shape-requires-clause-stale
-build_shape-requires-clause-stale c = λ same.
-    let is = offered_is c.in_ok-now.now _ c.in_ok-now.ensures.value in
-    let settled = c.settle.ensures.same.1
-    (ap (λ (s : Shelved DeviceAt). kept_at s c.args.node) (sym (c.settle.ensures.stale c.if-settle.false)) ∙ same
-    ∙ sym is) in
-    let other = c.if-settle.false in
-    cc
+pub returns-in_err-now-2-clause-is_of : goal.returns-in_err-now-2-clause-is_of
+returns-in_err-now-2-clause-is_of c =
+    subst (IsOf c.args.project.now)
+    (sym (c.with_common.ensures.same
+    ∙ ap (with_shapes c.bring_device.new.self) (c.settle.ensures.stale c.if-settle.false)))
+    c.in_ok-now.ensures.is_of
+
+pub returns-clause-is_of : goal.returns-clause-is_of
+returns-clause-is_of c =
+    let p = c.args.project.now in
+    let last = c.with_common.new.self in
+    let same = c.with_common.ensures.same
+    ∙ ap (with_shapes c.bring_device.new.self) (c.settle.ensures.stale c.if-settle.false) in
+    shape_is_of p last (subst (IsOf p) (sym same) c.in_ok-now.ensures.is_of) c.args.node c.build.new.self
+    (option_map (λ d. d) c.in_ok-now-2.now) (offered_is c.in_ok-now-2.now _ c.in_ok-now-2.ensures.value)
+    c.in_ok-build.ensures.ok c.in_ok-build.ensures.fresh
 
 pub returns-clause-brings : goal.returns-clause-brings
 returns-clause-brings c =
     let p = c.args.project.now in
     let key = c.args.node in
     let first = c.bring_device.new in
-    let last = c.build_shape.new in
+    let last = c.with_common.new.self in
+    let n = c.build.new.meter in
+    let settled = c.settle.ensures.stale c.if-settle.false in
+    let same = c.with_common.ensures.same ∙ ap (with_shapes first.self) settled in
+    let now = option_map (λ d. d) c.in_ok-now-2.now in
+    let is = offered_is c.in_ok-now-2.now _ c.in_ok-now-2.ensures.value in
+    let old = offered_is c.in_ok-now.now _ c.in_ok-now.ensures.value in
+    let stale = other_kept (kept_at first.self.shapes key) (kept_at last.shapes key) _ _ c.settle.result old
+    c.settle.ensures.same.1 c.if-settle.false (ap (λ (k : KeptImage). kept_at k.shapes key) same) in
     both same_part (given p) (map image.Kept (parts.own_device p key)) (image.Shape key ∷ []) (held c.args.self.now)
-    (held first.self) _ c.args.meter.now first.meter last.meter c.in_ok-now.ensures.brings
-    (subst (λ (s : Shelved DeviceAt). AreBrought same_part (given p) (image.Shape key ∷ [])
-    (held (with_shapes first.self s)) (held last.self) first.meter last.meter)
-    (c.settle.ensures.stale c.if-settle.false) c.in_ok-build_shape.ensures.brings)
+    (held first.self) _ c.args.meter.now first.meter n c.in_ok-now.ensures.brings
+    (subst (λ (k : KeptImage). AreBrought same_part (given p) (image.Shape key ∷ []) (held k)
+    (held (with_shapes last c.build.new.self)) first.meter n)
+    same
+    (shape_brought p last (subst (IsOf p) (sym same) c.in_ok-now.ensures.is_of) key c.build.new.self now is
+    c.in_ok-build.ensures.ok c.in_ok-build.ensures.fresh first.meter n
+    (built p key (kept_at last.shapes key) c.in_ok-now-2.now now first.meter n is stale c.in_ok-build.ensures.counted
+    c.in_ok-build.ensures.nothing_built)))

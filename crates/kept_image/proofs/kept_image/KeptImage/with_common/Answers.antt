@@ -1,7 +1,16 @@
-use Rattle.std.proofs.Common.{sym}
+use Rattle.std.proofs.Common.{Option, ap, ◌∙◌}
+use Rattle.std.specs.Option.{option_or}
+use Rattle.kept_image.specs.declared.device_at.DeviceAt.{DeviceAt}
 use Rattle.kept_image.proofs.KindLemmas.{parts_of}
 use Rattle.kept_image.proofs.StepLemmas.{common_value}
 use Rattle.kept_image.proofs.kept_image.KeptImage.with_common.Goals as goal
 
 pub common_device_of_now-requires : goal.common_device_of_now-requires
 common_device_of_now-requires c = parts_of c.args.project.now c.args.self.now c.requires.is_of
+
+pub returns-clause-value : goal.returns-clause-value
+returns-clause-value c =
+    c.or.ensures
+    ∙ ap (λ (o : Option DeviceAt). option_or o c.args.now) c.device_at.ensures
+    ∙ common_value c.args.project.now c.args.node c.in-Some.known.now c.as_slice-name.result.now c.in_ok-found.found
+    c.args.now c.in-Some.ensures.node c.as_slice-name.ensures c.in_ok-found.ensures.value c.requires.now

@@ -1,10 +1,14 @@
-use Rattle.std.proofs.Common.{arith, refl, sym, ◌≡◌, ◌∙◌, ◌∷◌, ℕ, List, subst, true}
+use Rattle.std.proofs.Common.{arith, refl, sym, ap, option_map, ◌≡◌, ◌∙◌, ◌∷◌, ◌++◌, ℕ, List, Option, subst, true}
 use Rattle.std.proofs.lemmas.Grind.{common_steps}
+use Rattle.std.specs.Option.{option_to_list}
+use Rattle.ini_text.specs.Content.{Content as Device, content_of}
 use Rattle.co_project.specs.declared.node.Node.{Node}
-use Rattle.kept_parts.specs.Kept.{fresh, IsOf}
-use Rattle.kept_parts.specs.declared.part.Part.TheVariants as part
+use Rattle.kept_devices.specs.Slots.{text_kept, Slots}
+use Rattle.kept_parts.specs.Kept.{device_at}
 use Rattle.kept_parts.specs.declared.kept_parts.KeptParts.{KeptParts}
+use Rattle.kept_parts.proofs.KindLemmas.{device_now}
 use Rattle.kept_parts.proofs.NodeLemmas.{Gathered, gathered_all, gathered_more, gathered_next, gathered_none}
+use Rattle.kept_parts.proofs.StepLemmas.{with_devices}
 use Rattle.kept_parts.proofs.kept_parts.KeptParts.devices_for_plan.Goals as goal
 
 pub loop-number-init : goal.loop-number-init
@@ -14,29 +18,32 @@ loop-number-init c = (
       (grind (arith, common_steps)) c.new-devices.ensures,
 )
 
-pub device_for-requires-clause-is_of : goal.device_for-requires-clause-is_of
-device_for-requires-clause-is_of c = subst (IsOf c.args.project.now) (sym c.loop-number.invariant.0) c.requires.is_of
+pub returns-in_err-device-clause-same : goal.returns-in_err-device-clause-same
+returns-in_err-device-clause-same c =
+    ap (with_devices c.loop-number.self) c.shared.ensures.same ∙ c.loop-number.invariant.0
 
-pub device_for-requires-clause-unmarked : goal.device_for-requires-clause-unmarked
-device_for-requires-clause-unmarked c =
-    let p = c.args.project.now in
-    let e : ℕ × Node = (c.in-Some.number.now, c.in-Some.node.now) in
-    let steps : c.loop-number.number-iterator ≡ e ∷ c.next.new.self = grind (arith, common_steps) in
-    let before =
-    subst (λ (it : List (ℕ × Node)). Gathered p it c.loop-number.devices) steps c.loop-number.invariant.1 in
-    let here = gathered_next p e c.next.new.self c.loop-number.devices c.args.self.now before c.requires.unmarked in
-    subst (λ (k : KeptParts). fresh k (part.Device c.as_slice.result.now) ≡ true) (sym c.loop-number.invariant.0)
-    (subst (λ (name : List ℕ). fresh c.args.self.now (part.Device name) ≡ true) (sym c.as_slice.ensures) here)
+pub returns-in_err-push-clause-same : goal.returns-in_err-push-clause-same
+returns-in_err-push-clause-same c =
+    ap (with_devices c.loop-number.self) c.shared.ensures.same ∙ c.loop-number.invariant.0
 
 pub loop-number-preserved : goal.loop-number-preserved
 loop-number-preserved c =
     let p = c.args.project.now in
+    let old = c.args.self.now in
     let e : ℕ × Node = (c.in-Some.number.now, c.in-Some.node.now) in
+    let name : List ℕ = c.as_slice-name.result.now in
     let steps : c.loop-number.number-iterator ≡ e ∷ c.next.new.self = grind (arith, common_steps) in
     let before =
-    subst (λ (it : List (ℕ × Node)). Gathered p it c.loop-number.devices) steps c.loop-number.invariant.1 in (
-      c.device_for.ensures.same ∙ c.loop-number.invariant.0,
-      gathered_more p e c.next.new.self c.loop-number.devices c.push.new.self before (grind (arith, common_steps)),
+    subst (λ (it : List (ℕ × Node)). Gathered p it c.loop-number.devices) steps c.loop-number.invariant.1 in
+    let unmarked = gathered_next p e c.next.new.self c.loop-number.devices old before c.requires.unmarked in
+    let value : c.in_ok-device.device ≡ device_at p e.1.eds = c.in_ok-device.ensures.device
+    ∙ ap (λ (k : KeptParts). option_map content_of (text_kept k.devices name)) c.loop-number.invariant.0
+    ∙ ap (λ (n : List ℕ). option_map content_of (text_kept old.devices n)) c.as_slice-name.ensures
+    ∙ ap (option_map content_of) (device_now p old c.requires.is_of e.1.eds unmarked) in (
+      ap (with_devices c.loop-number.self) c.shared.ensures.same ∙ c.loop-number.invariant.0,
+      gathered_more p e c.next.new.self c.loop-number.devices c.push.new.self before
+          (c.in_ok-push.ensures
+          ∙ ap (λ (d : Option Device). c.loop-number.devices ++ option_to_list (option_map (λ d. (e.0, d)) d)) value),
     )
 
 pub returns-clause-same : goal.returns-clause-same
