@@ -153,17 +153,17 @@ module _ (u v cu cv : Option (List ℕ)) (bytes : List ℕ) (s : Cursor) (came :
         (wrote-then cu cv w (complete_replies bytes) (after s piece).replies wrote h)
 
     -- more came than the limit lets in
-    pub read_too_much : (limit : ℕ) (Q : Type 0) → length (bytes ++ piece) ≡ limit → 0 < length tail
+    pub read_too_much : (limit : ℕ) (Q R : Type 0) → length (bytes ++ piece) ≡ limit → 0 < length tail → R
         → WroteAll cv w (after s piece).replies
-        → (read : List ℕ) × Consumes u x read × (Q ⊎ (limit < length read))
+        → (read : List ℕ) × Consumes u x read × (Q ⊎ ((limit < length read) × R))
         × WroteAll cu w (complete_replies (take limit read))
-    read_too_much limit Q full some h =
+    read_too_much limit Q R full some same h =
         let both = (bytes ++ piece) ++ tail in
         let e : take limit both ≡ bytes ++ piece = ap (λ (k : ℕ). take k both) (sym full)
         ∙ take-append_seam (bytes ++ piece) tail in (
           both,
           came_both,
-          inr (omega (arith, length-append (bytes ++ piece) tail)),
+          inr (omega (arith, length-append (bytes ++ piece) tail), same),
           subst (λ (t : List ℕ). WroteAll cu w (complete_replies t)) (sym e) (all_in_piece h),
         )
 
@@ -173,11 +173,11 @@ came-none u v x bytes buffer n e came more =
     let none : Consumes v x [] = subst (λ (k : ℕ). Consumes v x (take k buffer)) e more in
     subst (Consumes u x) (append-nil bytes) (Consumes-trans u v x bytes [] came none)
 
-pub read-failed : (u v x cu cv : Option (List ℕ)) (bytes : List ℕ) (limit : ℕ) (Q : Type 0) → length bytes ≤ limit
+pub read-failed : (u v x cu cv : Option (List ℕ)) (bytes : List ℕ) (limit : ℕ) (Q R : Type 0) → length bytes ≤ limit
     → Consumes u v bytes → Keeps v x → Q → WroteAll cu cv (complete_replies bytes)
-    → (read : List ℕ) × Consumes u x read × (Q ⊎ (limit < length read))
+    → (read : List ℕ) × Consumes u x read × (Q ⊎ ((limit < length read) × R))
     × WroteAll cu cv (complete_replies (take limit read))
-read-failed u v x cu cv bytes limit Q le came kept why wrote = (
+read-failed u v x cu cv bytes limit Q R le came kept why wrote = (
   bytes,
   Consumes-kept u v x bytes came kept,
   inl why,

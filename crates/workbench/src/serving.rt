@@ -224,7 +224,8 @@ fn converse<R: Intake, W: Outlet>(
         × WroteAtLeast (W.contents writer.old) (W.contents writer.new) (complete_replies bytes) }
     ensures read { IsErrOf result SessionFault.Read → (bytes : List ℕ)
         × Consumes (R.remaining reader.old) (R.remaining reader.new) bytes
-        × (OneFailed (R.failures reader.old) (R.failures reader.new) ⊎ (LIMIT < length bytes))
+        × (OneFailed (R.failures reader.old) (R.failures reader.new)
+        ⊎ ((LIMIT < length bytes) × (R.failures reader.new ≡ R.failures reader.old)))
         × WroteAll (W.contents writer.old) (W.contents writer.new) (complete_replies (take LIMIT bytes)) }
     ensures write { IsErrOf result SessionFault.Write → OneFailed (W.failures writer.old) (W.failures writer.new) }
     ensures taken { IsErrOf result SessionFault.Write → IfSome (R.remaining reader.old) (λ input.
@@ -298,7 +299,8 @@ pub fn session<R: Intake, W: Outlet>(
     // Where reading stops, the replies to the commands that are complete in what was read.
     ensures read { IsErrOf result SessionFault.Read → (bytes : List ℕ)
         × Consumes (R.remaining reader.old) (R.remaining reader.new) bytes
-        × (OneFailed (R.failures reader.old) (R.failures reader.new) ⊎ (LIMIT < length bytes))
+        × (OneFailed (R.failures reader.old) (R.failures reader.new)
+        ⊎ ((LIMIT < length bytes) × (R.failures reader.new ≡ R.failures reader.old)))
         × WroteAll (W.contents writer.old) (W.contents writer.new) (complete_replies (take LIMIT bytes)) }
 
     // Where writing stops, a front of the replies.
@@ -339,7 +341,8 @@ pub fn session_of_process<R: Intake, W: Outlet>(
         × WroteAtLeast (W.contents writer.old) (W.contents writer.new) (complete_replies bytes) }
     ensures read { IsErrOf result SessionFault.Read → (bytes : List ℕ)
         × Consumes (R.remaining reader.old) (R.remaining reader.new) bytes
-        × (OneFailed (R.failures reader.old) (R.failures reader.new) ⊎ (LIMIT < length bytes))
+        × (OneFailed (R.failures reader.old) (R.failures reader.new)
+        ⊎ ((LIMIT < length bytes) × (R.failures reader.new ≡ R.failures reader.old)))
         × WroteAll (W.contents writer.old) (W.contents writer.new) (complete_replies (take LIMIT bytes)) }
     ensures write { IsErrOf result SessionFault.Write → OneFailed (W.failures writer.old) (W.failures writer.new) }
     ensures taken { IsErrOf result SessionFault.Write → IfSome (R.remaining reader.old) (λ input.

@@ -12,7 +12,7 @@ use Rattle.workbench.proofs.serving.converse.Goals as goal
 pub returns-in-Err-clause-read : goal.returns-in-Err-clause-read
 returns-in-Err-clause-read g c =
     let inv = c.loop-turn.invariant in
-    λ _. read-failed _ _ _ _ _ inv.0 LIMIT _ (omega arith) inv.1 c.in-Err.ensures.bytes
+    λ _. read-failed _ _ _ _ _ inv.0 LIMIT _ _ (omega arith) inv.1 c.in-Err.ensures.bytes
     (rw inv.6 at c.in-Err.ensures.failed) inv.3
 
 pub returns-then-n-eq0-clause-replies : goal.returns-then-n-eq0-clause-replies
@@ -93,10 +93,10 @@ returns-then-room-n-clause-read g c =
     let is_room : used ≡ c.loop-turn.room = omega (arith, c.min-used.ensures) in
     λ _. read_too_much _ _ _ _ inv.0 (cursor_of c.loop-turn.cursor) inv.1 inv.2 inv.3 _ _ (take n buffer)
     (take used buffer) (drop used (take n buffer))
-    (cut_at buffer n used (omega (arith, c.min-used.ensures))) c.in-Ok.ensures.bytes.0 LIMIT _
+    (cut_at buffer n used (omega (arith, c.min-used.ensures))) c.in-Ok.ensures.bytes.0 LIMIT _ _
     (omega (arith, length-append inv.0 (take used buffer), length-take used buffer))
     (omega (arith, length-drop used (take n buffer), length-take n buffer))
-    c.in_ok-take_turn-2.ensures.ok
+    (c.in-Ok.ensures.failed ∙ inv.6) c.in_ok-take_turn-2.ensures.ok
 
 pub loop-turn-preserved : goal.loop-turn-preserved
 loop-turn-preserved g c =
