@@ -56,10 +56,9 @@ fn held_start(
             if differs_there(segment, *apart, bus, sight) {
                 continue;
             }
-            if let Some(found) = segment.start_at(number, bus)? {
+            if let Some(found) = segment.start_at(number, bus, apart)? {
                 return Ok(Some(found));
             }
-            *apart = segment.place_apart(bus).or(*apart);
         }
     }
     Ok(None)

@@ -11,6 +11,7 @@ ghost use Rattle.co_segments.specs.Sights.{AreSightsOf};
 use crate::given::Given;
 use crate::numbered_bus::NumberedBus;
 use crate::sight::Sight;
+use bus_devices::Apart;
 use can_bus::{BusState, Parts};
 use co_memo::Shared;
 use kept_reads::KeptRead;
@@ -65,6 +66,21 @@ impl Numbered for Segment {
     }
 }
 
+/// Whether two buses are the same. Where a quick look at the devices of a place tells them apart, `apart` is that
+/// place behind it.
+fn are_same(bus: &BusState, other: &BusState, apart: &mut Option<usize>) -> bool
+    ensures { IsTrue result ↔ (bus.now ≡ other.now) }
+{
+    match bus.tell_apart(other) {
+        Apart::No => true,
+        Apart::At(place) => {
+            *apart = Some(place);
+            false
+        }
+        Apart::Elsewhere => false,
+    }
+}
+
 impl Segment {
     /// The segment of a span that was run.
     pub fn new(
@@ -111,8 +127,14 @@ impl Segment {
         &self.end
     }
 
-    /// The bus at its start, if it has this number and starts from an equal bus.
-    pub fn start_at(&self, number: u64, bus: &BusState) -> Result<Option<NumberedBus>, AllocError>
+    /// The bus at its start, if it has this number and starts from an equal bus. Where a quick look at the devices
+    /// of a place tells the buses apart, `apart` is that place behind it.
+    pub fn start_at(
+        &self,
+        number: u64,
+        bus: &BusState,
+        apart: &mut Option<usize>,
+    ) -> Result<Option<NumberedBus>, AllocError>
         ensures { IfOk result (λ start. MatchOption start
             ((image : Image) → Serves image number bus.now self.now.kept → ⊥)
             (λ n. IsStart self.now n bus.now)) }
@@ -121,7 +143,7 @@ impl Segment {
             return Ok(None);
         }
         let own = self.start.bus();
-        let same = own.same(bus);
+        let same = are_same(own, bus, apart);
         if !same {
             return Ok(None);
         }
@@ -143,13 +165,6 @@ impl Segment {
     {
         let own = self.start.bus();
         own.differs_at(bus, place)
-    }
-
-    /// The place of the device by which its bus at its start is told from another one, if a quick look at each
-    /// tells it.
-    pub fn place_apart(&self, bus: &BusState) -> Option<usize> {
-        let own = self.start.bus();
-        own.place_apart(bus)
     }
 
     /// Whether it serves.

@@ -31,7 +31,8 @@ use std::alloc::{AllocError, Global};
 use std::rc::Rc;
 use trace_text::TraceText;
 
-/// Gives a bus a new number, with what is seen of it, if it was looked at.
+/// Gives a bus a new number, with what is seen of it, if it was looked at. It is kept without what is known of its
+/// devices beside them, which takes more than they do where none of them changed.
 pub(crate) fn give(
     alloc: Global,
     given: &mut u64,
@@ -46,6 +47,8 @@ pub(crate) fn give(
     if *given == u64::MAX {
         return Err(AllocError);
     }
+    let mut bus = bus;
+    bus.forget_known();
     let bus = Rc::new(alloc, bus)?;
     let state = NumberedBus::new(*given, bus, sight);
     *given += 1;
