@@ -2,10 +2,12 @@
 
 use crate::entries;
 use crate::pair::Pair;
+use crate::sheets::device;
 use crate::shown::{show_answer, show_frame, show_progress, show_reply};
 use anyhow::Result;
 use co_dict::{Dict, Shape};
 use co_sdo_client::Client;
+use eds_device::Device;
 use std::alloc::{AllocError, Global};
 use std::io;
 
@@ -23,6 +25,18 @@ impl Asked {
     pub fn new(alloc: Global) -> Result<Asked, AllocError> {
         let shape = entries::shape(alloc)?;
         let dict = entries::values(alloc)?;
+        Ok(Asked {
+            pair: Pair::new(alloc),
+            kept: Pair::new(alloc),
+            shape,
+            dict,
+        })
+    }
+
+    /// A server whose device is node 5 of a data sheet at its start, and a client, both without a transfer.
+    fn of(alloc: Global, device: &Device) -> Result<Asked, AllocError> {
+        let shape = device.shape(5)?;
+        let dict = device.defaults(5)?;
         Ok(Asked {
             pair: Pair::new(alloc),
             kept: Pair::new(alloc),
@@ -135,10 +149,20 @@ fn ask_with(rt: &HostRuntime, asked: &mut Asked, word: &str, bytes: &[u8]) -> io
     }
 }
 
+/// Goes over to the device of a data sheet, and to a server and a client without a transfer.
+fn go_over(rt: &HostRuntime, asked: &mut Asked, path: &str) -> Result<()> {
+    let device = device(rt, path)?;
+    *asked = Asked::of(rt.alloc(), &device)?;
+    Ok(())
+}
+
 /// Does what a line says: `server`, `request` and `client` take a frame, `write` and `read` an index, a sub
-/// and a value; `timeout`, `copy`, `back`, `close` and `compare` take nothing.
+/// and a value; `timeout`, `copy`, `back`, `close` and `compare` take nothing; `device` takes a data sheet.
 pub fn ask(rt: &HostRuntime, asked: &mut Asked, line: &str) -> Result<()> {
     let (word, digits) = line.split_once(' ').unwrap_or((line, ""));
+    if word == "device" {
+        return go_over(rt, asked, digits);
+    }
     let bytes = hex::decode(rt.alloc(), digits.as_bytes())?;
     Ok(ask_with(rt, asked, word, &bytes)?)
 }

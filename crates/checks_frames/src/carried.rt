@@ -3,6 +3,7 @@
 use co_dict::{Access, Dict, Entry, Shape, check_mapping};
 use co_mapping::{pack, unpack};
 use co_values::DataType;
+use eds_device::Device;
 use std::alloc::{AllocError, Global};
 use std::io;
 
@@ -93,9 +94,14 @@ fn show_mapped(rt: &HostRuntime, shape: &Shape, dict: &Dict) -> io::Result<()> {
     show_counts(rt, shape, dict)
 }
 
+/// Takes a frame of an entry and a dummy.
+fn take(shape: &Shape, dict: &mut Dict) -> Result<(), AllocError> {
+    unpack(shape, dict, &[0x2000_0008, 0x0006_0010], &[9, 0, 0])
+}
+
 /// Takes a frame of an entry and a dummy, and prints the values.
 fn show_unpacked(rt: &HostRuntime, shape: &Shape, dict: &mut Dict) -> io::Result<()> {
-    unpack(shape, dict, &[0x2000_0008, 0x0006_0010], &[9, 0, 0])?;
+    take(shape, dict)?;
     show(rt, dict)
 }
 
@@ -110,4 +116,20 @@ pub fn both_ways(rt: &HostRuntime) -> io::Result<()> {
     let shape = shape(rt.alloc())?;
     let mut dict = values(rt.alloc())?;
     show_both(rt, &shape, &mut dict)
+}
+
+/// Prints the values of all entries of a device.
+fn show_all(rt: &HostRuntime, device: &Device, dict: &Dict) -> io::Result<()> {
+    for (index, sub) in device.pairs() {
+        show_entry(rt, dict, *index, *sub)?;
+    }
+    Ok(())
+}
+
+/// Prints the values of node 6 of a data sheet, after a frame of an entry and a dummy came.
+pub fn taken(rt: &HostRuntime, device: &Device) -> io::Result<()> {
+    let shape = device.shape(6)?;
+    let mut dict = device.defaults(6)?;
+    take(&shape, &mut dict)?;
+    show_all(rt, device, &dict)
 }

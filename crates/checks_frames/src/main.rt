@@ -1,7 +1,7 @@
 //! What the calls on frames answer: frames and their lines, a thousand waiting frames and their
-//! winners, waiting frames that are replaced and dropped, and values of a dictionary in a frame. Then it
-//! asks an SDO server, and plays an SDO client, by the lines of its input: a word, and bytes as
-//! hexadecimal digits. It shows each answer.
+//! winners, waiting frames that are replaced and dropped, values of a dictionary in a frame, and those that a
+//! frame leaves in a device of a data sheet. Then it asks an SDO server, and plays an SDO client, by the lines of
+//! its input: a word, and bytes as hexadecimal digits or the file of a data sheet. It shows each answer.
 #![tactic(auto)]
 
 mod asked;
@@ -9,11 +9,13 @@ mod carried;
 mod entries;
 mod pair;
 mod queues;
+mod sheets;
 mod shown;
 
 use anyhow::Result;
 use asked::{Asked, ask};
 use can_frame::{Frame, line, slot_bits, slot_time};
+use sheets::device;
 use std::io;
 use std::io::Write;
 
@@ -64,6 +66,12 @@ fn show_frames(rt: &HostRuntime) -> io::Result<()> {
     Ok(())
 }
 
+/// Shows what a frame leaves in a device of a data sheet.
+fn show_taken(rt: &HostRuntime) -> Result<()> {
+    let module = device(rt, "module.eds")?;
+    Ok(carried::taken(rt, &module)?)
+}
+
 /// Asks by the lines of a text.
 fn play_lines(rt: &HostRuntime, asked: &mut Asked, text: &str) -> Result<()> {
     for line in text.lines() {
@@ -84,5 +92,6 @@ fn main(rt: HostRuntime) -> Result<()> {
     queues::many(&rt)?;
     queues::few(&rt)?;
     carried::both_ways(&rt)?;
+    show_taken(&rt)?;
     play_transfers(&rt)
 }
