@@ -9,15 +9,8 @@ beginning of the whole output. Prints how many growths there are, and into how m
 Run it from anywhere, after `rt run` in crates/checks_answers: bench/asked_again.py PROGRAM, where PROGRAM is
 crates/checks_answers/out/checks_answers.
 """
-import importlib.util
-import os
-import subprocess
-import sys
-import tempfile
-
-spec = importlib.util.spec_from_file_location("refuse", os.path.join(os.path.dirname(__file__), "refuse.py"))
-refuse = importlib.util.module_from_spec(spec)
-spec.loader.exec_module(refuse)
+import memory
+from refuse import SESSIONS
 
 QUERIES = ("dcf", "cdcf", "diag", "trace", "project")
 
@@ -55,35 +48,21 @@ def without_one(whole, got):
     return differ[0][1].startswith(asked_for + b"no memory\n") and differ[0][0].endswith(differ[0][1][len(asked_for) + 10:])
 
 
-def main():
-    if len(sys.argv) < 2 or not set(sys.argv[2:]) <= set(refuse.SESSIONS):
-        sys.exit(__doc__)
-    program, failed = os.path.abspath(sys.argv[1]), False
-    with tempfile.TemporaryDirectory() as place:
-        source, library = os.path.join(place, "refuse.c"), os.path.join(place, "refuse.so")
-        with open(source, "w", encoding="ascii") as file:
-            file.write(refuse.LIBRARY)
-        subprocess.run(["gcc", "-shared", "-fPIC", "-O1", "-o", library, source, "-ldl"], check=True)
-        for name in sys.argv[2:] or refuse.SESSIONS:
-            script = asked(refuse.SESSIONS[name]).encode()
-            whole = refuse.run(program, script, library, COUNTED="1")
-            growths, missed, ended, wrong = int(whole.stderr.split()[-1]), 0, 0, 0
-            for number in range(1, growths + 1):
-                one = refuse.run(program, script, library, REFUSED=str(number))
-                if one.returncode == 0 and one.stdout == whole.stdout:
-                    continue
-                if one.returncode == 0 and without_one(whole.stdout, one.stdout):
-                    missed += 1
-                elif one.returncode != 0 and whole.stdout.startswith(one.stdout):
-                    ended += 1
-                else:
-                    wrong += 1
-                    print(f"{name}: growth {number}: status {one.returncode}, {len(one.stdout)} bytes")
-            failed = failed or wrong > 0
-            print(f"{name:10} {growths:6} growths, each refused once: {missed} answers missing, all later ones whole; "
-                  f"{ended} ended; {wrong} wrong", flush=True)
-    sys.exit(1 if failed else 0)
+def judge(whole, one):
+    """How a run ended: with all answers, with one missing, before an answer, or wrongly."""
+    if one.returncode == 0 and one.stdout == whole.stdout:
+        return "served"
+    if one.returncode == 0 and without_one(whole.stdout, one.stdout):
+        return "missing"
+    return "ended" if one.returncode == 1 and whole.stdout.startswith(one.stdout) else "wrong"
+
+
+def check(program, name, library):
+    """Whether each run over a session ends rightly, and what was counted."""
+    ends = memory.refuse_each(judge, program, asked(SESSIONS[name]).encode(), library)
+    counted = f"{ends.count('missing')} answers missing, all later ones whole; {ends.count('ended')} ended"
+    return "wrong" not in ends, f"{len(ends):6} growths, each refused once: {counted}; {ends.count('wrong')} wrong"
 
 
 if __name__ == "__main__":
-    main()
+    memory.main(__doc__, check, SESSIONS)

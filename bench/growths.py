@@ -1,7 +1,7 @@
 #!/usr/bin/env python3
 """Counts the growths of memory that what is shared must not take.
 
-Takes the path of the built program, and runs it behind a small library that counts growths:
+Takes the path of the built program, and names of what to count, or none for both:
 
   copies    126 nodes that have booted and do nothing: a trace to two seconds and one to one second. Each window
             of ten milliseconds more begins with a copy of the bus: fewer growths than nodes
@@ -11,12 +11,7 @@ Takes the path of the built program, and runs it behind a small library that cou
 Prints what was counted, and ends with status 1 where it isn't fewer. Wants gcc.
 Run it from anywhere: bench/growths.py crates/cobench/out/cobench
 """
-import os
-import subprocess
-import sys
-import tempfile
-
-from refuse import LIBRARY, run
+import memory
 
 NODES = 126
 ENTRIES = 200
@@ -35,27 +30,27 @@ def written(traces):
 
 
 def growths(program, library, lines):
-    done = run(program, "\n".join(lines).encode() + b"\n", library, COUNTED="1")
-    if b"refused " in done.stdout or done.returncode != 0:
-        sys.exit(f"a command is refused: {done.stdout[:200]!r}")
-    return int(done.stderr.split()[-1])
+    return memory.run_whole(program, "\n".join(lines).encode() + b"\n", library)[1]
 
 
-def main():
-    if len(sys.argv) != 2:
-        sys.exit(__doc__)
-    program = os.path.abspath(sys.argv[1])
-    with tempfile.TemporaryDirectory() as place:
-        source, library = os.path.join(place, "count.c"), os.path.join(place, "count.so")
-        with open(source, "w", encoding="ascii") as file:
-            file.write(LIBRARY)
-        subprocess.run(["gcc", "-shared", "-fPIC", "-O1", "-o", library, source, "-ldl"], check=True)
-        window = (growths(program, library, quiet(2 * WINDOWS)) - growths(program, library, quiet(WINDOWS))) / WINDOWS
-        second = growths(program, library, written(2)) - growths(program, library, written(1))
-    print(f"copies     {window:.1f} growths for a window of {NODES} nodes")
-    print(f"entries    {second} growths for a second trace of {ENTRIES} entries written")
-    sys.exit(0 if window < NODES and second < ENTRIES else 1)
+def check_copies(program, library):
+    """Whether a window takes fewer growths than there are nodes, and how many."""
+    more = growths(program, library, quiet(2 * WINDOWS)) - growths(program, library, quiet(WINDOWS))
+    return more < NODES * WINDOWS, f"{more / WINDOWS:.1f} growths for a window of {NODES} nodes"
+
+
+def check_entries(program, library):
+    """Whether a second trace takes fewer growths than there are entries, and how many."""
+    second = growths(program, library, written(2)) - growths(program, library, written(1))
+    return second < ENTRIES, f"{second} growths for a second trace of {ENTRIES} entries written"
+
+
+COUNTS = {"copies": check_copies, "entries": check_entries}
+
+
+def check(program, name, library):
+    return COUNTS[name](program, library)
 
 
 if __name__ == "__main__":
-    main()
+    memory.main(__doc__, check, COUNTS)

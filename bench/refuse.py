@@ -4,56 +4,19 @@
 Takes the path of the program, and names of sessions, or none for all:
 
   heartbeat   one node with a heartbeat time: its files and its trace
+  two_sources two sources of a message and one sink: its plan, and the files of sender and receiver
   too_wide    a message of over 64 bits, and what is said of it
   inhibit     a TPDO of an event-driven type with an inhibit time
   edited      an event that is edited and edited back, with the trace after each
   label       a label in an EDS that is edited: the file is another, the trace the same
   every       each kind of edit and each query
 
-Each `trace` is asked twice. A small library in front of the C allocator counts the growths, and refuses one. A run
-must end with status 1 and `cobench: 1 Memory`, and have written a front of the replies that ends at a whole reply; or,
-where a smaller growth served in place of the refused one, with status 0 and all replies. Wants gcc.
+Each `trace` is asked twice. A run must end with status 1 and `cobench: 1 Memory`, and have written a front of the
+replies that ends at a whole reply; or, where a smaller growth served in place of the refused one, with status 0 and
+all replies. Wants gcc.
 Run it from anywhere: bench/refuse.py crates/cobench/out/cobench
 """
-import os
-import subprocess
-import sys
-import tempfile
-
-# Stands in front of the C allocator: counts the growths, and refuses that of the number REFUSED.
-LIBRARY = r"""
-#define _GNU_SOURCE
-#include <dlfcn.h>
-#include <stddef.h>
-#include <stdio.h>
-#include <stdlib.h>
-
-static long growths = 0, refused = -1;
-static void *(*of_malloc)(size_t);
-static void *(*of_realloc)(void *, size_t);
-static void *(*of_aligned)(size_t, size_t);
-static int (*of_memalign)(void **, size_t, size_t);
-
-static int is_refused(void) {
-    if (!of_malloc) {
-        of_malloc = dlsym(RTLD_NEXT, "malloc");
-        of_realloc = dlsym(RTLD_NEXT, "realloc");
-        of_aligned = dlsym(RTLD_NEXT, "aligned_alloc");
-        of_memalign = dlsym(RTLD_NEXT, "posix_memalign");
-        if (getenv("REFUSED")) refused = atol(getenv("REFUSED"));
-    }
-    return ++growths == refused;
-}
-
-void *malloc(size_t size) { return is_refused() ? NULL : of_malloc(size); }
-void *realloc(void *block, size_t size) { return is_refused() ? NULL : of_realloc(block, size); }
-void *aligned_alloc(size_t unit, size_t size) { return is_refused() ? NULL : of_aligned(unit, size); }
-int posix_memalign(void **block, size_t unit, size_t size) { return is_refused() ? 12 : of_memalign(block, unit, size); }
-
-__attribute__((destructor)) static void tell(void) {
-    if (getenv("COUNTED")) fprintf(stderr, "growths %ld\n", growths);
-}
-"""
+import memory
 
 PUMP = """[FileInfo]
 FileName=a.eds
@@ -121,6 +84,17 @@ PUMPED = eds("a", PUMP) + "node 5 pump a\nhorizon 150000\nparam 5 1017 0 100\ncd
 
 SESSIONS = {
     "heartbeat": PUMPED,
+    "two_sources": eds("b", MODULE) + """node 5 p b
+node 6 q b
+message m 5 1 255 0 0 0
+source m 1 2000 0
+source m 2 2002 0
+sink m 1 6 2000 0
+diag
+cdcf 6
+cdcf 5
+dcf 6
+""",
     "too_wide": eds("b", MODULE) + """node 5 p b
 message m 5 1 255 0 0 0
 source m 1 2003 0
@@ -219,47 +193,19 @@ def ends_of_replies(text):
     return ends
 
 
-def run(program, script, library, **words):
-    environment = dict(os.environ, LD_PRELOAD=library, **words)
-    return subprocess.run([program], input=script, capture_output=True, env=environment, timeout=300)
+def judge(whole, one):
+    """How a run ended: with all replies, with Memory behind a whole one, or wrongly."""
+    if one.returncode == 0 and one.stdout == whole.stdout:
+        return "served"
+    is_front = whole.stdout.startswith(one.stdout) and len(one.stdout) in ends_of_replies(whole.stdout)
+    return "ended" if is_front and one.returncode == 1 and one.stderr == b"cobench: 1 Memory\n" else "wrong"
 
 
-def is_right(one, whole, ends):
-    served = one.returncode == 0 and one.stdout == whole.stdout
-    refused = one.returncode == 1 and one.stderr == b"cobench: 1 Memory\n"
-    return served or refused and whole.stdout.startswith(one.stdout) and len(one.stdout) in ends
-
-
-def refuse_each(program, name, library):
-    """The number of growths, and how many of them ended wrongly."""
-    script = SESSIONS[name].encode()
-    whole = run(program, script, library, COUNTED="1")
-    growths, ends, wrong = int(whole.stderr.split()[-1]), ends_of_replies(whole.stdout), 0
-    if b"refused " in whole.stdout:
-        sys.exit(f"{name}: a command is refused: {whole.stdout[:200]!r}")
-    for number in range(1, growths + 1):
-        one = run(program, script, library, REFUSED=str(number))
-        if not is_right(one, whole, ends):
-            wrong += 1
-            print(f"{name}: growth {number}: status {one.returncode}, {len(one.stdout)} bytes, {one.stderr[:80]!r}")
-    return growths, wrong
-
-
-def main():
-    if len(sys.argv) < 2 or not set(sys.argv[2:]) <= set(SESSIONS):
-        sys.exit(__doc__)
-    program, failed = os.path.abspath(sys.argv[1]), False
-    with tempfile.TemporaryDirectory() as place:
-        source, library = os.path.join(place, "refuse.c"), os.path.join(place, "refuse.so")
-        with open(source, "w", encoding="ascii") as file:
-            file.write(LIBRARY)
-        subprocess.run(["gcc", "-shared", "-fPIC", "-O1", "-o", library, source, "-ldl"], check=True)
-        for name in sys.argv[2:] or SESSIONS:
-            growths, wrong = refuse_each(program, name, library)
-            failed = failed or wrong > 0
-            print(f"{name:10} {growths:6} growths, each refused once: {wrong} wrong", flush=True)
-    sys.exit(1 if failed else 0)
+def check(program, name, library):
+    """Whether each run over a session ends rightly, and what was counted."""
+    ends = memory.refuse_each(judge, program, SESSIONS[name].encode(), library)
+    return "wrong" not in ends, f"{len(ends):6} growths, each refused once: {ends.count('wrong')} wrong"
 
 
 if __name__ == "__main__":
-    main()
+    memory.main(__doc__, check, SESSIONS)
