@@ -44,9 +44,9 @@ store_capacity = 2048
 abbrev pub no_segments : Held
 no_segments = record { capacity = store_capacity; segments = [] }
 
--- what is kept is of the project
-abbrev pub IsKeptOf : Content → KeptImage → KeptDiagnostics → Type 0
-IsKeptOf p image found = IsOf p image × AreOf p found
+-- what is kept is of the project, and the store holds as many segments as a workbench's
+abbrev pub IsKeptOf : Content → KeptImage → KeptDiagnostics → Held → Type 0
+IsKeptOf p image found store = IsOf p image × AreOf p found × (store.capacity ≡ store_capacity)
 
 -- these parts are held as they are to be built from the project, the others and the diagnostics as they were, and no
 -- more are counted than were stale

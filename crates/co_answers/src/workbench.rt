@@ -56,8 +56,7 @@ impl Model for Workbench {
     ghost use Rattle.co_project.specs.contracts.project.Project as held;
     ghost use Rattle.co_answers.specs.Bench.{Bench, bench_code};
     ghost use Rattle.co_memo.specs.contracts.meter.Meter as counted;
-    ghost use Rattle.std.specs.Prelude.{◌≡◌};
-    ghost use Rattle.co_answers.specs.Bench.{IsKeptOf, store_capacity};
+    ghost use Rattle.co_answers.specs.Bench.{IsKeptOf};
     ghost use Rattle.kept_diagnostics.specs.contracts.kept_diagnostics.KeptDiagnostics as wrong;
     ghost use Rattle.co_segments.specs.contracts.store.Store as traces;
     ghost use Rattle.kept_image.specs.contracts.kept_image.KeptImage as kept;
@@ -75,7 +74,7 @@ impl Model for Workbench {
       work = w.meter;
     } };
 
-    ghost invariant = { λ w. IsKeptOf w.project w.image w.found × (w.store.capacity ≡ store_capacity) };
+    ghost invariant = { λ w. IsKeptOf w.project w.image w.found w.store };
 }
 
 impl Workbench {
