@@ -13,18 +13,19 @@ STEPS = (1, 2, 5)
 def box(left, right, top, height, what):
     """A filled rectangle."""
     width = max(right - left, 0.5)
-    return f'<rect x="{left:.1f}" y="{top}" width="{width:.1f}" height="{height}" fill="{COLOURS[what]}"/>'
+    return f'<rect class="{what}" x="{left:.1f}" y="{top}" width="{width:.1f}" height="{height}" fill="{COLOURS[what]}"/>'
 
 
 def upright(place, top, bottom, what, width=2):
     """A vertical line."""
     ends = f'x1="{place:.1f}" x2="{place:.1f}" y1="{top}" y2="{bottom}"'
-    return f'<line {ends} stroke="{COLOURS[what]}" stroke-width="{width}"/>'
+    return f'<line class="{what}" {ends} stroke="{COLOURS[what]}" stroke-width="{width}"/>'
 
 
 def words(text, place, bottom, what="text", anchor="start"):
     """A text."""
-    return f'<text x="{place:.1f}" y="{bottom}" fill="{COLOURS[what]}" text-anchor="{anchor}">{html_text(text)}</text>'
+    where = f'x="{place:.1f}" y="{bottom}" text-anchor="{anchor}"'
+    return f'<text class="{what}" {where} fill="{COLOURS[what]}">{html_text(text)}</text>'
 
 
 class Axis:

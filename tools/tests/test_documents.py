@@ -1,4 +1,6 @@
 """The examples and the documents: what they show is what the tools and cobench print."""
+import csv
+import io
 import os
 import re
 
@@ -28,6 +30,54 @@ def test_the_readme_begins_with_the_first_network():
 
 def page(*parts):
     return file(ROOT, *parts).decode()
+
+
+def told(*words):
+    """What cobtool with these words tells of the examples: its output and its faults."""
+    if not os.path.exists("examples"):
+        os.symlink(EXAMPLES, "examples")
+    status, output, faults = run(*words, "--cobench", recorded())
+    assert status in (0, 1) and "Traceback" not in faults, (words, status, faults)
+    return output.decode() + faults
+
+
+def blocks_of(text):
+    """The indented blocks of a page, each without its indent."""
+    return [re.sub(r"(?m)^    ", "", block) for block in re.findall(r"(?m)(?:^    .*\n)+", text)]
+
+
+def test_from_plan_to_machine_has_what_its_commands_tell():
+    """Each block behind a command is what it tells, line by line; that of `conform` is all that it tells."""
+    blocks = blocks_of(page("docs", "on_the_machine.md"))
+    answers, output = 0, None
+    for block in blocks:
+        if block.startswith("tools/cobtool "):
+            output = told(*block.split()[1:])
+        elif block.startswith("examples/"):
+            assert set(block.splitlines()) <= set(output.splitlines()), set(block.splitlines()) - set(output.splitlines())
+            assert block.count(": error: ") == output.count(": error: "), (block, output)
+            assert block == output or "[sdo-value]" not in block, output
+            answers += 1
+    assert answers == 3 and file("run.html").decode().count("pdo-swapped")
+    assert "[late]" not in told("load", "--allow", "refused", "--assume", "20000", "--window", "3000", "examples/servo_axes.txt")
+
+
+def test_from_plan_to_machine_has_the_columns_of_the_load():
+    """The stuffed columns of the page are the last of each of these names in the table."""
+    found = re.findall(r"(?m)^\| ([0-9A-F]{3}h) \| (.*) \|$", page("docs", "on_the_machine.md"))
+    table = told("load", "--format", "csv", "--table", "frames", "--allow", "refused", "--assume", "20000", "examples/servo_axes.txt")
+    rows = {row["COB-ID"]: row for row in csv.DictReader(io.StringIO(table)) if row["In time"] in ("yes", "no")}
+    columns = "Frames", "Comes", "stuffed [%]", "stuffed [ms]", "In the trace [ms]"
+    assert {key: cells.split(" | ") for key, cells in found} == {key: [row[name] or "-" for name in columns] for key, row in rows.items()}
+
+
+def test_the_recording_has_three_faults_in_the_planned_run():
+    planned = run("candump", example("servo_axes.replies.txt"))[1].splitlines()
+    lines = file(EXAMPLES, "servo_axes.log").splitlines()
+    lines.insert(309, b"(0000000001.201109) can0 701#05")
+    assert [(number + 1, line) for number, (line, other) in enumerate(zip(lines, planned)) if line != other] == [
+        (28, b"(0000000001.003052) can0 601#237D600280841E00"), (275, b"(0000000001.120142) can0 181#0637A8610000")]
+    assert len(lines) == len(planned) == 428
 
 
 def test_the_trace_on_the_page_is_that_of_the_example():

@@ -26,6 +26,7 @@ def through_each_command(seed):
     status, text, _ = run("expand", "net.txt")
     put("replies.txt", replies_to(text) if status == 0 else b"")
     put("x.eds", b"\n".join(odd_script(seed).split(b"\n")[:200]))
+    put("x.log", run("candump", "replies.txt")[1])
     wrong = [f"{seed} {name}: {why}" for name in CALLS for why in [why_wrong(name)] if why]
     return "; ".join(wrong or (disagreements(seed) if status == 0 else []))
 
@@ -36,7 +37,7 @@ def replies_to(text):
 
 def why_wrong(name):
     """What is wrong with how a command ended, or None."""
-    files = {"SCRIPT": "net.txt", "REPLIES": "replies.txt", "EDS": "x.eds", "DCF": "x.eds"}
+    files = {"SCRIPT": "net.txt", "REPLIES": "replies.txt", "EDS": "x.eds", "DCF": "x.eds", "LOG": "x.log"}
     words = [files.get(word, real() if "stand_in" in word else word) for word in CALLS[name]]
     status, output, faults = run(*words)
     lines = [line for line in faults.splitlines() if ": warning: " not in line]
