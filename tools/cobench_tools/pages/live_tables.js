@@ -1,12 +1,17 @@
 /* Tables as the server gives them, and those of messages. */
 
+/** What a cell is by its class: a number, or a short word that stays in one line, as bits 16-47. */
+function kindOf(text, isNumber) {
+  const kinds = [...isNumber ? ["number"] : [], .../^\S{1,12}$/.test(text) ? ["whole"] : []];
+  return kinds.length ? { class: kinds.join(" ") } : {};
+}
+
 /** A table: its columns, its rows, whether each column has numbers, and which rows are marked as new. */
 function tableOf(columns, rows, numbers, marks) {
-  const side = n => numbers[n] ? { class: "number" } : {};
-  const head = element("tr", {}, ...columns.map((column, n) => element("th", { scope: "col", ...side(n) }, column)));
+  const head = element("tr", {}, ...columns.map((column, n) => element("th", { scope: "col", ...kindOf(column, numbers[n]) }, column)));
   const marked = new Set(marks);
   const body = rows.map((row, place) => element("tr", marked.has(place) ? { class: "new" } : {},
-    ...row.map((cell, n) => element("td", side(n), cell))));
+    ...row.map((cell, n) => element("td", kindOf(cell, numbers[n]), cell))));
   return element("div", { class: "wide", tabindex: "0" }, element("table", {}, element("thead", {}, head), element("tbody", {}, ...body)));
 }
 
