@@ -11,8 +11,8 @@ loop-id-preserved c =
     let e : ℕ × Node = (c.in-Some.id.now, c.in-Some.node.now) in
     let left : c.loop-id.id-iterator ≡ e ∷ c.next.new.self = search rules in
     walk_on (of_node unreadable_defaults c.args.library.now.project) _ c.loop-id.found.items
-        c.find_defaults_of_node.new.found.items e c.next.new.self c.loop-id.id-iterator left
-        c.in_ok-find_defaults_of_node.ensures c.loop-id.invariant
+    c.find_defaults_of_node.new.found.items e c.next.new.self c.loop-id.id-iterator left
+    c.in_ok-find_defaults_of_node.ensures c.loop-id.invariant
 
 pub returns : goal.returns
 returns c =

@@ -141,7 +141,7 @@ returns-in_ok-reached-in-None-clause-served g c =
             length (reads (span c.args.number c.args.here.state.bus) image),
             (
               ran_served image (kept_of es) c.args.number c.args.here.state.bus kept stale facts.2 facts.3 gives
-              recorded,
+                  recorded,
               facts.1,
               facts.6,
               held,
