@@ -6,7 +6,7 @@ ghost use Rattle.workbench.specs.Views.{cursor_of, ended_at};
 
 use crate::open_block::OpenBlock;
 use crate::reply::Reply;
-use crate::turns::take_line;
+use crate::turns::{take_command, take_line};
 use co_answers::{Work, Workbench};
 use std::alloc::{AllocError, Global};
 
@@ -37,19 +37,21 @@ impl Cursor {
         ensures { IfOk result (λ reply. ended_at self.new reply
             ≡ at_break (after_line (cursor_of self.old).state self.old.line.items)) }
     {
-        let reply = take_line(self.alloc, &mut self.workbench, &mut self.block, &self.line)?;
+        let block = self.block.take();
+        let (reply, block) = take_line(self.alloc, &mut self.workbench, block, &self.line)?;
+        self.block = block;
         self.line.clear();
         Ok(reply)
     }
 
-    /// Takes the line so far and these bytes behind it as a whole line. A command of which nothing came before is
-    /// read where it stands; the lines of a block are copied.
+    /// Takes the line so far and these bytes behind it as a whole line. A line of which nothing came before is read
+    /// where it stands.
     pub fn take_rest(&mut self, rest: &[u8]) -> Result<Reply, AllocError>
         ensures { IfOk result (λ reply. ended_at self.new reply
             ≡ at_break (after_line (cursor_of self.old).state (self.old.line.items ++ rest.now))) }
     {
-        if self.line.is_empty() {
-            return take_line(self.alloc, &mut self.workbench, &mut self.block, rest);
+        if self.block.is_none() && self.line.is_empty() {
+            return take_command(self.alloc, &mut self.workbench, &mut self.block, rest);
         }
         self.line.extend_from_slice(rest)?;
         self.end_line()

@@ -25,19 +25,23 @@ fn is_skipped(line: &[u8]) -> bool
     line.len() <= MAX_BLANKS && is_blank_line(line)
 }
 
-/// Takes one more line, with the CRs at its end: of the block that is open, or a command.
+/// Takes one more line, with the CRs at its end.
 #[tactic(auto, unfolding(crate::specs::Replies::after_line))]
 pub fn take_line(
     alloc: Global,
     workbench: &mut Workbench,
-    block: &mut Option<OpenBlock>,
+    block: Option<OpenBlock>,
     line: &[u8],
-) -> Result<Reply, AllocError>
-    ensures { IfOk result (λ reply. taken_at workbench.new.project block.new reply
-        ≡ after_line (record { project = workbench.old.project; block = block_of block.old }) line.now) }
+) -> Result<(Reply, Option<OpenBlock>), AllocError>
+    ensures { IfOk result (λ r. taken_at workbench.new.project r.1 r.0
+        ≡ after_line (record { project = workbench.old.project; block = block_of block }) line.now) }
 {
-    match block.take() {
-        None => take_command(alloc, workbench, block, line),
+    match block {
+        None => {
+            let mut opened = None;
+            let reply = take_command(alloc, workbench, &mut opened, line)?;
+            Ok((reply, opened))
+        }
         Some(
             OpenBlock {
                 name,
@@ -46,16 +50,14 @@ pub fn take_line(
             },
         ) => {
             lines.push(Vec::from_slice(alloc, without_crs(line))?)?;
-            let (reply, opened) = go_on(alloc, workbench, name, left.saturating_sub(1), lines)?;
-            *block = opened;
-            Ok(reply)
+            go_on(alloc, workbench, name, left.saturating_sub(1), lines)
         }
     }
 }
 
 /// Takes one more line where no block is open, with the CRs at its end, and opens the block that it asks for.
 #[tactic(auto, unfolding(crate::specs::Replies::after_line))]
-fn take_command(
+pub fn take_command(
     alloc: Global,
     workbench: &mut Workbench,
     block: &mut Option<OpenBlock>,
