@@ -1,5 +1,6 @@
 //! The calls of a workbench.
 
+use can_bus::text;
 use co_project::{Command, EditFault, Request};
 use std::alloc::Global;
 use workbench::Workbench;
@@ -24,6 +25,15 @@ const SCRIPT: &[u8] = b"\
     DataType=6\n\
     node 5 pump a\n\
     param 5 1017 00 100\n";
+
+const TRACE: &[u8] = b"\
+    0000000110 705 [1] 00\n\
+    0000000332 605 [8] 2B 17 10 00 64 00 00 00\n\
+    0000000554 585 [8] 60 17 10 00 00 00 00 00\n\
+    0000000554 note 5 configured\n\
+    0000000680 000 [2] 01 05\n\
+    0000000790 77F [1] 00\n\
+    0000100442 705 [1] 05\n";
 
 /// Lines that ask for edits, and the fault of each.
 const EDITS: [(&[u8], Option<EditFault>); 5] = [
@@ -87,10 +97,26 @@ fn knows_no_others(workbench: &mut Workbench) -> bool {
     true
 }
 
+/// Whether the trace is that of node 5 to 150 milliseconds, with 16 windows simulated so far.
+fn has_trace(alloc: Global, workbench: &mut Workbench) -> Result<bool, EditFault> {
+    let lines = workbench.trace()?;
+    let told = text(alloc, &lines)?;
+    Ok(told.as_slice() == TRACE && workbench.work().segments == 16)
+}
+
+/// Whether the trace is that twice, and nothing is made anew for the second one.
+fn has_trace_twice(alloc: Global, workbench: &mut Workbench) -> Result<bool, EditFault> {
+    edit(alloc, workbench, b"horizon 150000")?;
+    let is_first = has_trace(alloc, workbench)?;
+    let parts = workbench.work().parts;
+    Ok(is_first && has_trace(alloc, workbench)? && workbench.work().parts == parts)
+}
+
 /// Whether a new workbench answers as it has to.
 fn answers(alloc: Global, workbench: &mut Workbench) -> Result<bool, EditFault> {
     give_eds(alloc, workbench)?;
-    Ok(takes_edits(alloc, workbench) && has_files(workbench)? && knows_no_others(workbench))
+    let is_right = takes_edits(alloc, workbench) && has_files(workbench)?;
+    Ok(is_right && knows_no_others(workbench) && has_trace_twice(alloc, workbench)?)
 }
 
 /// Plays these edits and queries.
