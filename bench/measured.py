@@ -2,8 +2,9 @@
 """One session of a program, with the seconds of the processor and the greatest memory that it took.
 
 A process begins with the memory of the one that starts it, and its greatest memory counts that. So the program is
-started by a process of its own, which is small (this file run as a script, some 10 MB), and not by the one that
-holds the script and the replies.
+started by a small process of its own, and not by the one that holds the script and the replies: by GNU time (Debian's
+package time), which takes 2 MB, or, where that isn't there, by this file run as a script, which takes 12, so that of a
+program that takes less the memory isn't told.
 """
 import collections
 import os
@@ -13,6 +14,7 @@ import tempfile
 
 # Seconds of the processor, the greatest memory in bytes, and all that was written.
 Session = collections.namedtuple("Session", "seconds memory written")
+TIME = "/usr/bin/time"
 
 
 def session(program, lines, *arguments):
@@ -30,12 +32,22 @@ def session(program, lines, *arguments):
     return Session(float(seconds), int(kilobytes) * 1024, written)
 
 
+def used(command):
+    """The status of a program, and what it used."""
+    _, status, usage = os.wait4(os.posix_spawn(command[0], command, os.environ), 0)
+    return status >> 8 if not status & 0x7F else -(status & 0x7F), usage
+
+
 def tell(command):
     """Runs a program, and tells its status, its seconds and its kilobytes on the standard error."""
-    child = os.posix_spawn(command[0], command, os.environ)
-    _, status, used = os.wait4(child, 0)
-    code = status >> 8 if not status & 0x7F else -(status & 0x7F)
-    sys.stderr.write(f" {code} {used.ru_utime + used.ru_stime} {used.ru_maxrss}")
+    if not os.path.exists(TIME):
+        status, usage = used(command)
+        kilobytes = usage.ru_maxrss
+    else:
+        with tempfile.NamedTemporaryFile("r") as report:
+            status, usage = used([TIME, "-q", "-f", "%M", "-o", report.name, *command])
+            kilobytes = report.read().strip()
+    sys.stderr.write(f" {status} {usage.ru_utime + usage.ru_stime} {kilobytes}")
 
 
 if __name__ == "__main__":
