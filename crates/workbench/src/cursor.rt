@@ -44,8 +44,8 @@ impl Cursor {
         Ok(reply)
     }
 
-    /// Takes the line so far and these bytes behind it as a whole line. A line of which nothing came before is read
-    /// where it stands.
+    /// Takes the line so far and these bytes behind it as a whole line. Where no block is open, a line of which nothing
+    /// came before is read where it stands; every other line is copied.
     pub fn take_rest(&mut self, rest: &[u8]) -> Result<Reply, AllocError>
         ensures { IfOk result (λ reply. ended_at self.new reply
             ≡ at_break (after_line (cursor_of self.old).state (self.old.line.items ++ rest.now))) }
