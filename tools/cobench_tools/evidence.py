@@ -1,7 +1,7 @@
 """What a session shows of its network: what the causes of findings are told from."""
 import functools
 
-from . import concise, tool
+from . import concise, pdo_values, tool
 from .device import Device
 from .origins import Origins
 from .plan import Plan
@@ -21,9 +21,13 @@ class Evidence:
     QUERIES = ("diag", "trace", "cdcf")
 
     def __init__(self, answered, sheets=None):
-        self.answered, self.project, self.origins = answered, answered.project, Origins(answered.pairs)
+        self.answered, self.project = answered, answered.project
         self.diagnostics = [tool.shown(line) for line in answered.lines("diag")]
         self._devices, self._nodes = dict(sheets or {}), {}
+
+    @functools.cached_property
+    def origins(self):
+        return Origins(self.answered.pairs)
 
     @functools.cached_property
     def plan(self):
@@ -39,6 +43,12 @@ class Evidence:
         if eds not in self._devices:
             self._devices[eds] = Device(self.project.texts[eds])
         return self._devices[eds]
+
+    def value_lines(self, eds):
+        """The lines of a data sheet that give values to entries of PDO objects."""
+        if eds in self._devices:
+            return pdo_values.lines_of(self._devices[eds])
+        return pdo_values.lines_with_values(self.project.texts[eds])
 
     def node(self, node):
         """A node with the values that its entries have once it is configured."""

@@ -73,6 +73,8 @@ def part_of(words):
 
 def diagnosed(evidence):
     """What `diag` says."""
+    if not evidence.diagnostics:
+        return []
     of_messages, of_values = MessageCauses(evidence), ValueCauses(evidence)
     found = []
     for line in evidence.diagnostics:
@@ -89,8 +91,8 @@ def diagnosed(evidence):
 def unused_values(evidence):
     """The data sheets that give values to PDO objects, which nobody uses."""
     found = []
-    for eds, lines in sorted(evidence.project.texts.items()):
-        numbers = pdo_values.lines_with_values(lines)
+    for eds in sorted(evidence.project.texts):
+        numbers = evidence.value_lines(eds)
         if numbers:
             found.append(Finding(evidence.origins.sheet_place(eds, numbers[0]), f"{PDO_VALUES} {eds}", f"eds {eds}",
                                  f"data sheet {eds}", pdo_values.not_used(len(numbers))))
@@ -100,10 +102,14 @@ def unused_values(evidence):
 def booted(evidence):
     """The nodes that failed to boot, and those that aren't configured at the horizon."""
     lines = trace.trace_of(evidence.answered.lines("trace"))
-    all_boots = boots.boots_of(lines)
+    return of_boots(evidence, boots.boots_of(lines), lambda nodes: last_said(evidence, lines, nodes))
+
+
+def of_boots(evidence, all_boots, said_of):
+    """The same of the boots of each node; `said_of` gives for some nodes what was last said by SDO, as `last_said` does."""
     mine = {node: all_boots.get(node, []) for node in sorted(evidence.project.nodes)}
     troubled = [node for node, each in mine.items() if not each or not all(boot.is_configured() for boot in each)]
-    said = last_said(evidence, lines, troubled) if troubled else {}
+    said = said_of(troubled) if troubled else {}
     return [finding for node in troubled for finding in troubles(evidence, node, mine[node], said[node])]
 
 
@@ -135,11 +141,21 @@ def failure(evidence, what, ends, said):
 
 def last_said(evidence, lines, nodes):
     """What was last said by SDO to or by each of some nodes: by the time of each of its notes, and under None at the end."""
-    network, said = meaning.Network(evidence.project, True), {node: {None: "no SDO frame"} for node in nodes}
+    network, said = meaning.Network(evidence.project, True), said_first(nodes)
     for line in lines:
         told = network.of(line)
         if told.node in said and told.kind == meaning.SDO:
-            said[told.node][None] = told.text.replace(f"{network.name(told.node)} ", "", 1)
+            said[told.node][None] = said_without_name(evidence, told.node, told.text)
         elif isinstance(line, trace.Note) and line.node in said:
             said[line.node].setdefault(line.time, said[line.node][None])
     return said
+
+
+def said_first(nodes):
+    """What was said to or by some nodes before anything was."""
+    return {node: {None: "no SDO frame"} for node in nodes}
+
+
+def said_without_name(evidence, node, text):
+    """What was said by SDO, without the name of the node, which stands before it."""
+    return text.replace(f"{evidence.project.nodes[node][0]} ", "", 1)

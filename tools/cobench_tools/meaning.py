@@ -81,10 +81,30 @@ def values_text(parts, data):
     return " ".join(texts)
 
 
+def is_identifier(key):
+    """Whether an entry has the COB-ID of a TPDO."""
+    return key[1] == 1 and 0x1800 <= key[0] <= 0x19FF
+
+
+def tells_pdos(key):
+    """Whether PDOs are told by an entry: by the COB-IDs and mappings of TPDOs."""
+    return is_identifier(key) or 0x1A00 <= key[0] <= 0x1BFF
+
+
+def identifiers_of(node, values):
+    """The identifiers whose PDO may be told by a node with these values, or by none."""
+    owned = {value & 0x7FF for key, value in values.items() if is_identifier(key)} if values else set()
+    return owned | {base + node for base in PREDEFINED}
+
+
+def same(one, other):
+    return one is other or one == other
+
+
 class Network:
     """The nodes of a project, or of none, with what the trace so far tells of their PDOs.
 
-    values     the numbers of each node's PDO objects; a node's are never changed, but replaced
+    values     the numbers of each node's entries by which PDOs are told; a node's are never changed, but replaced
     owners     the TPDOs that have each identifier, as node and number
     transfers  the SDO transfer of each node
     changes    how often what PDOs are has changed
@@ -99,7 +119,7 @@ class Network:
         self.messages = {(each.node, each.tpdo): name for name, each in project.messages.items()} if project else {}
         self.with_names = with_names
         self.values, self.owners, self.transfers, self.changes = {}, {}, {}, 0
-        self._pdos = {}
+        self._pdos, self._defaults = {}, {}
 
     # What the trace has told so far, to be kept and to go on from.
 
@@ -109,12 +129,11 @@ class Network:
 
     def restore(self, state):
         """Goes on from what the trace had told there."""
-        if state[0] != self.values:
-            self.values, self.owners = {}, {}
-            for node, values in state[0].items():
-                self.values[node] = values
-                for key, value in values.items():
-                    self.own(node, key, value)
+        values = state[0]
+        others = [node for node in {**self.values, **values} if not same(self.values.get(node), values.get(node))]
+        for node in others:
+            self.replace(node, values.get(node))
+        if others:
             self.changed()
         self.transfers = dict(state[1])
 
@@ -144,36 +163,42 @@ class Network:
 
     def power(self, node):
         """A node boots up: its PDO objects have their defaults."""
-        for key in self.values.get(node, {}):
-            self.disown(node, key)
-        self.values[node] = self.defaults(node)
-        for key, value in self.values[node].items():
-            self.own(node, key, value)
+        self.replace(node, self.defaults(node))
         self.changed()
 
-    def defaults(self, node):
-        """The numbers that the PDO objects of a node have from power-on on."""
-        if node not in self.devices:
-            return {}
-        known = self.devices[node]
-        values = {key: known.default(*key, node) for key in known.entries if 0x1800 <= key[0] <= 0x1BFF}
-        return {key: value for key, value in values.items() if value is not None}
+    def replace(self, node, values):
+        """A node has these values in the place of those that it had, or none any more."""
+        for key, value in self.values.pop(node, {}).items():
+            self.disown(node, key, value)
+        if values is not None:
+            self.values[node] = values
+            for key, value in values.items():
+                self.own(node, key, value)
 
-    def disown(self, node, key):
-        value = self.values[node].get(key)
-        if key[1] == 1 and 0x1800 <= key[0] <= 0x19FF and value is not None:
+    def defaults(self, node):
+        """The numbers that the entries of a node by which PDOs are told have from power-on on."""
+        if node not in self._defaults:
+            known = self.devices.get(node)
+            values = {key: known.default(*key, node) for key in known.entries if tells_pdos(key)} if known else {}
+            self._defaults[node] = {key: value for key, value in values.items() if value is not None}
+        return self._defaults[node]
+
+    def disown(self, node, key, value):
+        if is_identifier(key):
             self.owners.get(value & 0x7FF, set()).discard((node, key[0] - 0x17FF))
 
     def own(self, node, key, value):
-        if key[1] == 1 and 0x1800 <= key[0] <= 0x19FF and not value & 0xA0000000:
+        if is_identifier(key) and not value & 0xA0000000:
             self.owners.setdefault(value & 0x7FF, set()).add((node, key[0] - 0x17FF))
 
     def write(self, node, key, value):
         """A PDO object of a node has a new value."""
         values = self.values.setdefault(node, {})
-        self.disown(node, key)
-        self.values[node] = {**values, key: value}
-        self.own(node, key, value)
+        if key in values:
+            self.disown(node, key, values[key])
+        if tells_pdos(key):
+            self.values[node] = {**values, key: value}
+            self.own(node, key, value)
         self.changed()
 
     def mapping(self, node, tpdo):

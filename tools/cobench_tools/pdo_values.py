@@ -1,10 +1,12 @@
 """Values that a data sheet gives to PDO objects. cobench doesn't use them: messages make them (docs/rules/commands.md)."""
 import re
+import weakref
 
 from . import tool
 from .device import Device
 
 FIRST, LAST = 0x1400, 0x1BFF
+KNOWN = weakref.WeakKeyDictionary()     # the lines of each data sheet that was gone through
 MAY_GIVE_VALUES = re.compile(rb"(?i)parametervalue|value *\]")
 
 
@@ -15,10 +17,14 @@ def is_of_pdos(index):
 
 def lines_with_values(lines):
     """The lines of a data sheet that give values to entries of PDO objects, by number from 1."""
-    if not any(map(MAY_GIVE_VALUES.search, lines)):
-        return []
-    entries = Device(lines).entries
-    return sorted(entry.line for key, entry in entries.items() if entry.value and is_of_pdos(key[0]))
+    return lines_of(Device(lines)) if any(map(MAY_GIVE_VALUES.search, lines)) else []
+
+
+def lines_of(device):
+    """The same of a data sheet that was read."""
+    if device not in KNOWN:
+        KNOWN[device] = sorted(entry.line for key, entry in device.entries.items() if entry.value and is_of_pdos(key[0]))
+    return KNOWN[device]
 
 
 def not_used(count):

@@ -13,17 +13,20 @@ Content of the page (JSON):
                   start), sort and data (hexadecimal digits, one frame behind the other); and its flags
   events          the flags of the scenario; a flag is [time, key of the lane, kind, label, all of its words]
 """
-from operator import itemgetter
+from operator import itemgetter, sub
 
 from . import meaning, tool
+from .boots import is_boot_up
 from .device import BOOLEAN, SIGNED
-from .trace import Note, bit_time
+from .trace import Note, bit_time, line_of
 
 OTHERS = -1
+TIME = 11               # the digits of a line's time, and the blank behind them
+MOST_TEXTS = 100_000    # so many texts of frames are known at most
+FIRST_STATE = "pre-operational"
 STATES = ("off", "stopped", "operational", "pre-operational")
 BY_BYTE = {4: "stopped", 5: "operational", 127: "pre-operational"}
 BY_SERVICE = {1: "operational", 2: "stopped", 128: "pre-operational", 129: "pre-operational", 130: "pre-operational"}
-TIME_AND_ORDER = itemgetter(0, 1)
 
 
 def form_of(kind):
@@ -84,13 +87,44 @@ class Window:
     """A span of a run.
 
     at       its start in microseconds
-    frames   as its part of the page has them: times, sorts and bytes
-    flags    its flags
+    times, sorts, data, flags   as its part of the page has them
     changes  what changes the states of nodes: time, node (0 for all) and state
+    boots    its boot-up messages and notes
+    said     what was said last by SDO to or by each node
+    noted    of each note its time and node, and what had been said by SDO in the span before it, else None
     """
 
     def __init__(self, at):
         self.at, self.times, self.sorts, self.data, self.flags, self.changes = at, [], [], [], [], []
+        self.boots, self.said, self.noted, self._now = [], {}, [], at
+
+    def add(self, time, place, change, digits):
+        """Adds a frame: its time, its sort, what it changes, if anything, and its bytes."""
+        self.times.append(time - self._now)
+        self.sorts.append(place)
+        self.data.append(digits)
+        if change:
+            self.changes.append((time,) + change)
+        self._now = time
+
+    def fill(self, times, found):
+        """Has these frames, each as `add` takes it, and no others."""
+        self.times = list(map(sub, times, [self.at] + times))
+        self.sorts = [each[0] for each in found]
+        self.data = [each[2] for each in found]
+        self.changes = [(time,) + each[1] for time, each in zip(times, found) if each[1]]
+
+    def tell(self, line, said):
+        """A line tells more than its frame: by a flag, of a boot, or by SDO."""
+        flag = flag_of(line, said)
+        self.flags += [flag] if flag else []
+        if said.kind == meaning.SDO:
+            self.said[said.node] = said.text
+        elif said.kind == meaning.NOTE:
+            self.boots.append(line)
+            self.noted.append((line.time, line.node, self.said.get(line.node)))
+        elif is_boot_up(line):
+            self.boots.append(line)
 
     def content(self):
         return {"at": self.at, "time": self.times, "sort": self.sorts, "data": "".join(self.data), "flags": self.flags}
@@ -106,46 +140,75 @@ class Drawing:
     def __init__(self, network, sorts):
         self.network, self.sorts = network, sorts
         self.nodes, self.others = set(), False
-        self._known, self._changes = {}, network.changes
+        self._known, self._texts, self._changes = {}, {}, network.changes
 
     def window(self, at, lines):
         """The window of the next lines."""
-        window, now = Window(at), at
+        window = Window(at)
         for line in lines:
-            if isinstance(line, Note):
-                self.take(window, line, self.network.of(line))
-                continue
-            place, change = self.place_of(window, line)
-            window.times.append(line.time - now)
-            window.sorts.append(place)
-            window.data.append(line.data.hex().upper())
-            if change:
-                window.changes.append((line.time,) + change)
-            now = line.time
+            self.take(window, line)
         return window
 
-    def place_of(self, window, line):
-        """The sort of a frame, and what it changes. One that was there already says the same again until PDOs change."""
-        if self.network.changes != self._changes:
-            self._known, self._changes = {}, self.network.changes
-        known = self._known.get((line.identifier, len(line.data))) or self._known.get((line.identifier, line.data))
-        return known or self.recognise(window, line)
+    def window_of(self, at, text):
+        """The window of the next lines, which stand in a text; frames are told by it where they were there before."""
+        window, lines = Window(at), text.split(b"\n")[:-1]
+        found = list(map(self.texts().get, [line[TIME:] for line in lines]))
+        if None in found:
+            for line in lines:
+                self.take_text(window, line)
+        else:
+            window.fill([int(line[:TIME - 1]) for line in lines], found)
+        return window
+
+    def take_text(self, window, line):
+        """Takes the next line, as it stands in a text."""
+        known = self.texts().get(line[TIME:])
+        if known:
+            window.add(int(line[:TIME - 1]), *known)
+            return
+        found = self.take(window, line_of(line))
+        if found and self.known(*found[0]):
+            self.texts()[line[TIME:]] = found[1]
+
+    def take(self, window, line):
+        """Takes the next line; of a frame its identifier and bytes, and what `Window.add` takes of it."""
+        if isinstance(line, Note):
+            self.tell(window, line, self.network.of(line))
+            return None
+        place, change = self.known(line.identifier, line.data) or self.recognise(window, line)
+        found = place, change, line.data.hex().upper()
+        window.add(line.time, *found)
+        return (line.identifier, line.data), found
+
+    def known(self, identifier, data):
+        """The sort of a frame that was there already, and what it changes: it says the same again until PDOs change."""
+        self.look()
+        return self._known.get((identifier, len(data))) or self._known.get((identifier, data))
+
+    def texts(self):
+        """What `Window.add` takes of each frame that was there already, by its text."""
+        self.look()
+        return self._texts
+
+    def look(self):
+        """Where PDOs have changed, nothing is known any more."""
+        if self.network.changes != self._changes or len(self._texts) > MOST_TEXTS:
+            self._known, self._texts, self._changes = {}, {}, self.network.changes
 
     def recognise(self, window, line):
         """What a frame is that wasn't there before; it is remembered where another of its kind says the same."""
         said = self.network.of(line)
         found = self.sorts.place_of(line, said), state_change(line, said)
-        self.take(window, line, said)
+        self.tell(window, line, said)
         if said.kind == meaning.PDO:
             self._known[line.identifier, len(line.data)] = found
         elif said.kind in (meaning.SYNC, meaning.HEARTBEAT, meaning.NMT) and self.network.changes == self._changes:
             self._known[line.identifier, line.data] = found
         return found
 
-    def take(self, window, line, said):
+    def tell(self, window, line, said):
         """What a line tells besides its frame."""
-        flag = flag_of(line, said)
-        window.flags += [flag] if flag else []
+        window.tell(line, said)
         self.nodes |= {said.node, said.sender} - {None}
         self.others = self.others or said.sender is None
 
@@ -167,21 +230,49 @@ def event_flag(network, key, event):
 
 def moments_of(events, windows):
     """What may change the states of nodes, in its order: time, node (0 for all) and state; on and off are those of power."""
-    powers = [(event.time, 0, event.node, event.what) for _, event in events if event.kind == "power"]
-    told = [(time, 1, node, state) for window in windows for time, node, state in window.changes]
-    return [(time, node, state) for time, _, node, state in sorted(powers + told, key=TIME_AND_ORDER)]
+    powers = [(event.time, event.node, event.what) for _, event in events if event.kind == "power"]
+    return in_order(powers, [change for window in windows for change in window.changes])
+
+
+def in_order(powers, changes):
+    """The changes of power and those that frames tell, by time; those of power first."""
+    return sorted([*powers, *changes], key=itemgetter(0))
 
 
 def states_of(nodes, moments):
     """For each node the times at which its state changes, and the states; one without power has no other."""
-    changes = {node: [[0, "pre-operational"]] for node in nodes}
+    return told_by_node(nodes, go_on(first_states(nodes), moments)[1])
+
+
+def first_states(nodes):
+    return dict.fromkeys(nodes, FIRST_STATE)
+
+
+def told_by_node(nodes, changes):
+    """For each node the times of its changes, and the states, from the start on."""
+    found = {node: [[0, STATES.index(FIRST_STATE)]] for node in nodes}
+    for time, node, state in changes:
+        found[node].append([time, STATES.index(state)])
+    return found
+
+
+def go_on(states, moments):
+    """The states of nodes behind some moments, and the changes on the way: time, node and state of each."""
+    now, changes = dict(states), []
     for time, node, state in moments:
-        for each in nodes if node == 0 else (node,):
-            now = changes[each][-1][1] if each in changes else state
-            new = now if (now == "off") != (state == "on") else "pre-operational" if state == "on" else state
-            if new != now:
-                changes[each].append([time, new])
-    return {node: [[time, STATES.index(state)] for time, state in each] for node, each in changes.items()}
+        for each in list(now) if node == 0 else [node]:
+            new = state_after(now.get(each), state)
+            if new != now.get(each, new):
+                now[each] = new
+                changes.append((time, each, new))
+    return (now if changes else states), changes
+
+
+def state_after(now, state):
+    """The state of a node that is told a state, or that its power is on or off."""
+    if (now == "off") != (state == "on"):
+        return now
+    return FIRST_STATE if state == "on" else state
 
 
 def events_of(project, end):

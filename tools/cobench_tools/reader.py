@@ -7,7 +7,7 @@ LONGEST_INPUT = 64 << 20
 MOST_SCRIPTS, MOST_DEEP = 10_000, 20
 
 
-def fill_block(command):
+def fill_block(command, read_text=tool.read_text):
     """Reads the FILE of an `eds NAME <FILE` into its block; tells where the block of another is cut."""
     if command.lacks:
         there = len(command.block)
@@ -18,7 +18,7 @@ def fill_block(command):
     if not command.file:
         raise tool.Fault(f"{command.place}: a file's name is missing behind <")
     try:
-        command.block = script.eds_lines(command.words[1], script.beside(command.path, command.file))
+        command.block = script.eds_lines(command.words[1], script.beside(command.path, command.file), read_text)
     except tool.Fault as fault:
         raise tool.Fault(f"{command.place}: {fault}") from None
 
@@ -32,20 +32,20 @@ class Reader:
     """Reads a script and all that it takes in, at most 64 MiB.
 
     with_sheets  whether the data sheets are read too
+    read_text    reads a file
     sheets       the commands that took in a data sheet, in their order
     raw          the commands of the script as it stands, comments among them
-    files        all files that it takes in, the script first, also one that can't be read
     open         the scripts that are being read, each taken in by the one before it
     """
 
-    def __init__(self, with_sheets=True):
-        self.with_sheets, self.sheets, self.raw, self.open, self.files = with_sheets, [], None, [], []
+    def __init__(self, with_sheets=True, read_text=tool.read_text):
+        self.with_sheets, self.read_text = with_sheets, read_text
+        self.sheets, self.raw, self.open = [], None, []
         self.size = self.taken = 0
 
     def text_of(self, path):
         """The text of a script."""
-        self.files.append(path)
-        text = tool.read_text(path)
+        text = self.read_text(path)
         fault = script.why_no_lines(text)
         if fault:
             raise tool.Fault(f"{tool.name_of(path)}: {fault}")
@@ -93,8 +93,7 @@ class Reader:
     def fill(self, command):
         """Gives a command its block, if it has one."""
         if self.with_sheets:
-            self.files += [script.beside(command.path, command.file)] if command.file else []
-            fill_block(command)
+            fill_block(command, self.read_text)
             if command.file is not None:
                 self.count(sum(map(len, command.block)), script.beside(command.path, command.file))
                 self.sheets.append(command)

@@ -16,12 +16,15 @@ class Report:
 
     open    the findings that aren't accepted
     booted  the microsecond at which each node that booted was configured first, by its number
+
+    `all_boots` are the boots of each node, where they are known already.
     """
 
-    def __init__(self, answered, findings):
+    def __init__(self, answered, findings, all_boots=None):
         self.answered, self.findings = answered, findings
         self.open = [finding for finding in findings if not finding.accepted]
-        all_boots = boots.boots_of(trace.trace_of(answered.lines("trace")))
+        if all_boots is None:
+            all_boots = boots.boots_of(trace.trace_of(answered.lines("trace")))
         ends = {node: [boot.end for boot in all_boots.get(node, []) if boot.is_configured()] for node in answered.project.nodes}
         self.booted = {node: times[0] for node, times in sorted(ends.items()) if times}
 

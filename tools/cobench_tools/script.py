@@ -4,6 +4,7 @@ A script that is to be expanded may also have comments (lines whose first word b
 which takes in a data sheet, and `<FILE`, which takes in the commands of another script. All of these stand outside
 blocks alone. FILE is looked for from the folder of the script that names it, and ends at a blank with a `#` behind.
 """
+import functools
 import os
 import re
 
@@ -12,6 +13,7 @@ from . import tool
 LONGEST_LINE = 4096
 MOST_LINES = 65536
 LONGEST_TEXT = 1 << 20
+MOST_SHEETS = 64
 
 # More commands than a network of all that cobench takes has; each takes memory here.
 MOST_COMMANDS = 4_000_000
@@ -193,18 +195,24 @@ def why_no_lines(text):
     return "its lines end by CR alone; save it with LF or CR LF" if b"\r" in ends and b"\n" not in ends else None
 
 
-def eds_lines(name, path):
+def eds_lines(name, path, read_text=tool.read_text):
     """The lines of a file that an `eds` block can have, without the CRs at their ends.
 
     The byte 1Ah by which DOS ended texts is left out where it stands last.
     """
     if not re.fullmatch(rb"[A-Za-z0-9_]{1,32}", name):
         raise tool.Fault(f"{tool.shown(name)}: a name has 1 to 32 of A-Z a-z 0-9 _")
-    text = tool.read_text(path).rstrip(DOS_END)
-    fault = why_no_lines(text) or why_no_eds(text)
+    fault, lines = lines_of_eds(read_text(path))
     if fault:
         raise tool.Fault(f"{tool.name_of(path)}: {fault}")
-    return [line.rstrip(b"\r") for line in lines_of(text)]
+    return lines
+
+
+@functools.lru_cache(maxsize=MOST_SHEETS)
+def lines_of_eds(text):
+    """Why a text is no data sheet, or None, and its lines, which nobody changes: the same each time."""
+    text = text.rstrip(DOS_END)
+    return why_no_lines(text) or why_no_eds(text), [line.rstrip(b"\r") for line in lines_of(text)]
 
 
 def block_of(name, lines):

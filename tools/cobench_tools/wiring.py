@@ -69,6 +69,10 @@ class Pdo:
         """Its bytes."""
         return (self.bits + 7) // 8
 
+    def shown(self):
+        """All by which it is another than one before, over one data sheet."""
+        return self.direction, self.number, self.identifier, self.kind, self.inhibit, self.event, self.start, self.items
+
     def works(self):
         """Whether it is sent or taken at all."""
         return 0 < self.bits <= MOST_BITS and not is_restricted(self.identifier)
@@ -83,6 +87,7 @@ class Node:
 
     def __init__(self, number, device, written):
         self.number, self.device, self.written = number, device, written
+        self._pdos = {}
 
     def number_at(self, index, sub, kind):
         """The number of an entry that is there with exactly that type, else None."""
@@ -94,8 +99,10 @@ class Node:
 
     def pdos(self, direction):
         """The PDOs of a direction that work, by number."""
-        found = [self.pdo(direction, number) for number in pdo_numbers(self.device, direction)]
-        return [pdo for pdo in found if pdo and pdo.works()]
+        if direction not in self._pdos:
+            found = [self.pdo(direction, number) for number in pdo_numbers(self.device, direction)]
+            self._pdos[direction] = [pdo for pdo in found if pdo and pdo.works()]
+        return self._pdos[direction]
 
     def pdo(self, direction, number):
         """The PDO of a number, or None where it is off."""
@@ -146,12 +153,14 @@ class Wiring:
     nodes    the nodes by number
     tpdos    all TPDOs that work, by identifier, node and number
     faults   the codes of the errors of each message that has some: it is in no PDO
+
+    `nodes` are the nodes by number, where they are known already.
     """
 
     QUERIES = "diag", "cdcf"
 
-    def __init__(self, answered, sheets=None):
-        self.project, self.nodes = answered.project, nodes_of(answered, sheets)
+    def __init__(self, answered, nodes=None):
+        self.project, self.nodes = answered.project, nodes or nodes_of(answered)
         self.faults = faults_of_messages(answered.lines("diag"))
         self.tpdos = sorted((pdo for node in self.nodes.values() for pdo in node.pdos(TPDO)),
                             key=lambda pdo: (pdo.identifier, pdo.node, pdo.number))
@@ -180,9 +189,9 @@ class Wiring:
                 if not other.is_dummy() and other.start < part.end and part.start < other.end]
 
 
-def nodes_of(answered, sheets=None):
-    """The nodes at the end of a session, by number; `sheets` are its data sheets, where they were read before."""
-    devices = sheets or {name: Device(lines) for name, lines in answered.project.texts.items()}
+def nodes_of(answered):
+    """The nodes at the end of a session, by number."""
+    devices = {name: Device(lines) for name, lines in answered.project.texts.items()}
     return {number: Node(number, devices[eds], concise.values_of(answered.lines("cdcf", number)))
             for number, (_, eds) in answered.project.nodes.items()}
 

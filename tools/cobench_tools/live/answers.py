@@ -2,15 +2,14 @@
 
 All of it is made of a session (session.Session) whose queries an open cobench has answered.
 """
+import functools
 import re
 
 from .. import concise, device, findings, ini, matrix, pdo_values, tool
 from ..evidence import Evidence
 from ..report import Report, json_of
-from ..wiring import Wiring
-from .run import words_of
+from .network import Tables
 
-TABLES = ("messages", "signals", "heartbeats", "left-out")
 FILE_TYPES = {"dcf": "text/plain; charset=utf-8", "bin": "application/octet-stream"}
 
 
@@ -35,9 +34,14 @@ class File:
     def bin(self):
         return concise.bytes_of(self.writes)
 
+    @functools.cached_property
     def values(self):
         """The bytes of each entry that it writes, the last of each."""
         return concise.values_of(self.writes)
+
+    def is_of(self, lines, writes):
+        """Whether it is made of these, which stay the same where they are other in nothing."""
+        return self.lines is lines and self.writes is writes
 
 
 def node_item(evidence, node, file, before):
@@ -52,7 +56,7 @@ def node_item(evidence, node, file, before):
 
 def values_of(evidence, node, file, before):
     """The values that a node's files set: entry, name, value, and its value before or null; those that are gone too."""
-    now, old = file.values(), before.values() if before else {}
+    now, old = file.values, before.values if before else {}
     sheet, rows = evidence.device(node), []
     for key in sorted(set(now) | set(old)):
         entry, was = sheet.entries.get(key), None
@@ -83,30 +87,25 @@ def marks_of(file, before):
     return sorted(marks, key=lambda mark: mark[0])
 
 
-def table_item(table, before):
-    """A table of the network; its rows that weren't there before the last save are marked."""
-    old = set(map(tuple, before["rows"])) if before else None
-    marks = [] if old is None else [place for place, row in enumerate(table.rows) if tuple(row) not in old]
-    return {"title": table.title, "columns": table.columns, "rows": table.rows, "below": table.below, "marks": marks,
-            "numbers": [table.is_number(place) for place in range(len(table.columns))]}
-
-
 class Answers:
     """The answers that the page shows now, and those before the last save.
 
     sheets  the data sheets by name, read once as long as they stay the same
     files   the files of each node
+    tables  the tables of the network
     """
 
     def __init__(self):
-        self.sheets, self.files = {}, {}
+        self.sheets, self.files, self.tables = {}, {}, Tables()
         self._texts, self._shown, self._marked = {}, {}, set()
-        self._tables, self._wired, self._found, self._booted = {}, None, [], []
+        self._found, self._booted = [], []
 
     def evidence(self, answered):
         """The evidence of a session, over data sheets that were read before."""
         texts = answered.project.texts
-        kept = {name: sheet for name, sheet in self.sheets.items() if texts.get(name) == self._texts[name]}
+        for name, lines in texts.items():
+            texts[name] = self._texts[name] if self._texts.get(name) == lines else lines
+        kept = {name: sheet for name, sheet in self.sheets.items() if texts.get(name) is self._texts[name]}
         evidence = Evidence(answered, kept)
         self._texts, self.sheets = texts, {name: evidence.sheet(name) for name in texts}
         return evidence
@@ -117,24 +116,22 @@ class Answers:
         self._found = [json_of(finding) for finding in found]
         items = {"wrong": wrong_item(self._found + self._booted, answered.lines("diag"))}
         items.update(self._take_nodes(answered, evidence, is_first))
-        items.update(self._take_tables(answered))
+        items.update(self.tables.take(answered, self.sheets, self.files))
         return items
 
-    def booted(self, answered, evidence):
+    def booted(self, answered, evidence, run):
         """The items that the trace decides too: what is wrong with all of it, and when each node was configured."""
-        self._booted = [json_of(finding) for finding in findings.booted(evidence)]
-        report = Report(answered, [])
+        boots = run.boots()
+        found = findings.of_boots(evidence, boots, lambda nodes: run.last_said(evidence, nodes))
+        self._booted = [json_of(finding) for finding in found]
+        report = Report(answered, [], boots)
         return {"wrong": wrong_item(self._found + self._booted, answered.lines("diag")),
                 "boots": {"text": report.boots_text(), "times": {str(node): time for node, time in report.booted.items()}}}
-
-    def has_trouble(self):
-        """Whether a node didn't boot; what was said by SDO then has to be known too."""
-        return bool(self._booted)
 
     def _take_nodes(self, answered, evidence, is_first):
         """The nodes that are other than they were, that were marked by the save before, or are gone."""
         before, shown, project = self.files, self._shown, answered.project
-        self.files = {node: File(answered.lines("dcf", node), answered.lines("cdcf", node)) for node in project.nodes}
+        self.files = {node: file_of(answered, node, before.get(node)) for node in project.nodes}
         self._shown = {node: (project.nodes[node], node in project.mandatory, project.texts[project.nodes[node][1]],
                               file.lines, file.writes) for node, file in self.files.items()}
         changed = {node for node in self.files if self._shown[node] != shown.get(node)}
@@ -146,20 +143,14 @@ class Answers:
         self._marked = set() if is_first else changed
         return items
 
-    def _take_tables(self, answered):
-        """The tables, with the rows that are new; where all that they are made of is as before, no row is."""
-        project, writes = answered.project, {node: file.writes for node, file in self.files.items()}
-        wired = words_of(project), project.manager, project.mandatory, answered.lines("diag"), writes
-        if wired == self._wired:
-            self._tables = {key: {**table, "marks": []} for key, table in self._tables.items()}
-        else:
-            tables = {table.key: table for table in matrix.tables_of(Wiring(answered, self.sheets)) if table.key in TABLES}
-            self._tables = {key: table_item(table, self._tables.get(key)) for key, table in tables.items()}
-        self._wired = wired
-        return {f"table/{key}": self._tables.get(key) for key in TABLES}
-
     def saved(self, name):
         """The bytes and the type of a file that can be saved, by its name, else None."""
         found = re.fullmatch(r"([0-9]{1,3})\.(dcf|bin)", name)
         file = self.files.get(int(found.group(1))) if found else None
         return (getattr(file, found.group(2)), FILE_TYPES[found.group(2)]) if file else None
+
+
+def file_of(answered, node, before):
+    """The files of a node: those before, where they are the same."""
+    lines, writes = answered.lines("dcf", node), answered.lines("cdcf", node)
+    return before if before and before.is_of(lines, writes) else File(lines, writes)

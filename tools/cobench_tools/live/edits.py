@@ -4,19 +4,32 @@ A project is kept as its commands by what they set: ("node", b"5") has the line 
 dropped goes first, and what hangs on it before it; then settings, data sheets and nodes; then what needs those.
 No edit of the order is refused (docs/rules/commands.md).
 """
+import functools
+
 from .. import script
 
 # How many words behind the first one say what a command sets.
 KEY_WORDS = {b"version": 0, b"bitrate": 0, b"horizon": 0, b"manager": 0, b"sync-counter": 0, b"eds": 1, b"node": 1,
              b"need": 1, b"param": 3, b"message": 1, b"start": 1, b"source": 2, b"sink": 3, b"event": 1}
 OF_A_MESSAGE = (b"start", b"source", b"sink")
-MOST_SHEETS = 64
+MOST_KEYS = 1 << 16     # so many lines are known at most
 
 
 def items_of(lines):
     """The commands of a project, whole, by what they set."""
-    commands = script.commands_of(b"".join(line + b"\n" for line in lines))
-    return {tuple(command.words[:1 + KEY_WORDS[command.name]]): command.text() for command in commands}
+    items, place = {}, 0
+    while place < len(lines):
+        key, count = key_of(lines[place])
+        items[key] = b"\n".join(lines[place:place + 1 + count]) + b"\n"
+        place += 1 + count
+    return items
+
+
+@functools.lru_cache(maxsize=MOST_KEYS)
+def key_of(line):
+    """What a command that `project` prints sets, and how many lines its block has."""
+    words = line.split(b" ")
+    return tuple(words[:1 + KEY_WORDS[words[0]]]), int(words[2]) if words[0] == b"eds" else 0
 
 
 def first_project():
@@ -141,7 +154,7 @@ class Way:
 
     def make_room(self):
         """Where all data sheets are there that can be, has the nodes of one that goes use another, and drops it."""
-        if len(self.keys(b"eds")) < MOST_SHEETS:
+        if len(self.keys(b"eds")) < script.MOST_SHEETS:
             return
         going = self.gone(b"eds")[0]
         other = next(key for key in self.keys(b"eds") if key != going)
@@ -189,6 +202,9 @@ class Way:
 
 def edits(old, new):
     """The edits that make the project `new` of the project `old`, each whole."""
+    other = [key for key in new if old.get(key) != new[key]]
+    if old.keys() <= new.keys() and not any(key[0] in (b"eds", b"node") for key in other):
+        old, new = {key: old[key] for key in other if key in old}, {key: new[key] for key in other}
     way = Way(old, new)
     for step in (way.drop_events, way.drop_messages, way.drop_parts, way.drop_nodes, way.settings, way.sheets, way.names, way.rest):
         step()

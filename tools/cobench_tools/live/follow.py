@@ -3,6 +3,7 @@
 The script is read and given to a cobench of its own, which says what of it is refused, and what project it makes. The
 way from the last project to that one goes to the open cobench as edits; its project then has to be the new one.
 """
+import functools
 import os
 import time
 
@@ -11,11 +12,19 @@ from ..report import Report
 from .answers import Answers
 from .edits import edits, first_project, items_of
 from .ledger import MOST_SAVES, Save
-from .opened import Ended, Opened, work_in_words
+from .opened import Ended, Opened, lines_of, work_in_words
 from .run import Run
 from . import watch
+from .watch import MOST_LOOKS
 
 QUIET = {b"trace", b"diag", b"project"}     # queries that are never refused, and change nothing
+
+
+MOST_EDITS = 20     # so many edits are sent before the files have stood still: those of a script that is half written are more
+
+
+class Moved(Exception):
+    """A file was written while the one before it was being followed."""
 
 
 class Made:
@@ -24,8 +33,21 @@ class Made:
     def __init__(self, lines):
         self.lines, self.items = lines, items_of(lines)
 
-    def nodes(self):
-        return [key[1] for key in self.items if key[0] == b"node"]
+    def queries(self):
+        """The queries that the page is made of, but for `trace`, which comes behind them."""
+        nodes = [key[1] for key in self.items if key[0] == b"node"]
+        return [b"diag"] + [name + b" " + node for node in nodes for name in (b"cdcf", b"dcf")]
+
+
+class Reply:
+    """A reply to a query as it stands, and its lines, which are taken apart once."""
+
+    def __init__(self, text):
+        self.text = text
+
+    @functools.cached_property
+    def lines(self):
+        return lines_of(self.text)[1:]
 
 
 class Follower:
@@ -35,7 +57,7 @@ class Follower:
         self.path, self.words, self.feed = path, words, feed
         self.watch, self.answers, self.run = watch.Watch(), Answers(), Run()
         self.opened, self.made, self.number, self.records, self.work = None, None, 0, [], ""
-        self.is_first = True
+        self.is_first, self.replies = True, {}
 
     # Looking.
 
@@ -88,26 +110,43 @@ class Follower:
     def update(self, files, why=""):
         """Brings the open cobench and the feed to what the script makes now."""
         self.number += 1
+        for looks in range(MOST_LOOKS, 0, -1):
+            try:
+                self.follow(files, why, looks)
+                return
+            except Moved:
+                files = sorted({*files, *self.watch.changed()})
+
+    def follow(self, files, why, looks):
+        """Follows what the files have now; `looks` is for how many of them in turn they may be others still."""
         save = Save(self.number, [os.path.basename(file) for file in files])
-        save.saved = max([watch.written_at(file) for file in files], default=0)
+        save.saved, self.looks = max([watch.written_at(file) for file in files], default=0), looks
         self.say("working", tool.readable(why) or "the script was saved")
         try:
             pairs, new = self.read(save)
             self.lead(save, new, why)
             self.answer(save, pairs)
         except tool.Fault as fault:
+            self.settle()
             self.say("fault", tool.readable(str(fault)))
         except Ended as ended:
             self.close()
             self.say("fault", tool.readable(str(ended)))
+        except Moved:
+            raise
         except Exception as error:      # a slip of cobtool may not end what a person sits before
             self.forget()
             self.say("fault", f"cobtool itself: {type(error).__name__}: {error}; the next save begins afresh")
 
+    def settle(self):
+        """What was read can be told once the files stand still."""
+        if not self.watch.stands_still() and self.looks > 1:
+            raise Moved
+
     def forget(self):
         """Forgets all that was kept, on the page too."""
         self.close()
-        self.answers, self.run, self.is_first = Answers(), Run(), True
+        self.answers, self.run, self.is_first, self.replies = Answers(), Run(), True, {}
         self.feed.clear()
 
     def say(self, state, words, waits=""):
@@ -117,11 +156,10 @@ class Follower:
     def read(self, save):
         """The commands of the script with their replies, and the project that they make."""
         with save.step("read"):
-            found = reader.Reader()
             try:
-                commands = found.commands(self.path)
+                commands = reader.Reader(read_text=self.watch.read_text).commands(self.path)
             finally:
-                self.watch.take(found.files or [self.path])
+                self.watch.take(self.path)
         with save.step("project apart"):
             asked = [command for command in commands if command.name not in QUIET or len(command.words) > 1]
             answers = session.replies_to(self.words, b"".join([command.text() for command in asked] + [b"project\n"]))
@@ -132,9 +170,7 @@ class Follower:
     # The open cobench.
 
     def lead(self, save, new, why):
-        """Has the open cobench make a project: by edits, or afresh where that isn't possible."""
-        if self.opened and self.opened.due:
-            why = why or "the answer to a query was left"
+        """Has the open cobench make a project: by edits, or afresh where that isn't possible. It is asked all queries at once."""
         if self.opened and not why:
             try:
                 if self.send_edits(save, new):
@@ -147,52 +183,57 @@ class Follower:
     def send_edits(self, save, new):
         """Sends the edits to the open cobench; whether its project is then the new one."""
         with save.step("edits"):
+            self.opened.leave()
             save.edits = edits(self.made.items, new.items)
-            self.opened.ask(b"".join(save.edits), len(save.edits))
-            self.made = new
-            return self.opened.lines(b"project") == new.lines
+            if len(save.edits) > MOST_EDITS:
+                self.settle()
+            return self.ask(save.edits, new)
 
     def start_afresh(self, save, new, why):
         """Starts a cobench that makes a project."""
         self.close()
+        self.settle()
         save.why, save.edits = tool.readable(why), None
         with save.step("started afresh"):
-            self.opened, self.made = Opened(self.words), new
-            commands = edits(first_project(), new.items)
-            self.opened.ask(b"".join(commands), len(commands))
-            if self.opened.lines(b"project") != new.lines:
+            self.opened = Opened(self.words)
+            if not self.ask(edits(first_project(), new.items), new):
                 raise Ended(f"{self.words[0]} makes another project of the commands that it prints")
+
+    def ask(self, commands, new):
+        """Sends edits, and all queries behind them; whether the project is then the new one."""
+        queries = [b"project"] + new.queries() + [b"trace"]
+        self.made = new
+        self.opened.send(b"".join(commands + [query + b"\n" for query in queries]), len(commands) + len(queries))
+        return self.opened.take(len(commands) + 1)[-1].lines == new.lines
 
     # What it answers.
 
     def answer(self, save, pairs):
-        """Asks the open cobench, and puts what it answers into the feed: first all but the run."""
+        """Takes what the open cobench answers, and puts it into the feed: first all but the run."""
         with save.step("diagnostics and files"):
-            answers = self.ask()
-            self.opened.send(b"trace\n", 1)
+            answers = self.take_answers()
             answered = session.Session(self.path, pairs, answers)
+        self.settle()
         with save.step("lists"):
             evidence = self.answers.evidence(answered)
             self.feed.put(self.answers.take(answered, evidence, self.is_first))
         self.say("working", "the script was saved", "trace")
         with save.step("trace"):
-            text = self.opened.take_text()
+            text = lines_behind(self.opened.take_text())
         with save.step("picture"):
             items = self.draw(save, text, answered.project)
-            answers["trace"] = self.run.boot_lines(False)
-            booted = self.answers.booted(answered, evidence)
-            if self.answers.has_trouble():
-                answers["trace"] = self.run.boot_lines(True)
-                booted = self.answers.booted(answered, evidence)
-            self.feed.put({**items, **booted})
+            self.feed.put({**items, **self.answers.booted(answered, evidence, self.run)})
         self.is_first = False
         self.end(save, answered)
 
-    def ask(self):
-        """What the open cobench answers to all queries but `trace`."""
-        queries = [b"diag"] + [name + b" " + node for node in self.made.nodes() for name in (b"cdcf", b"dcf")]
-        replies = self.opened.ask(b"".join(query + b"\n" for query in queries), len(queries))
-        return {"trace": [], **{tool.shown(query): reply.lines for query, reply in zip(queries, replies)}}
+    def take_answers(self):
+        """What the open cobench answers to all queries but `trace`: the lines of each, the same as before where they are."""
+        before, self.replies = self.replies, {}
+        for query in self.made.queries():
+            known = before.get(query)
+            text = self.opened.take_text(known.text if known else b"")
+            self.replies[query] = known if known and known.text is text else Reply(text)
+        return {tool.shown(query): reply.lines for query, reply in self.replies.items()}
 
     def draw(self, save, text, project):
         """The items of the run: what is other than before."""
@@ -208,6 +249,11 @@ class Follower:
         self.records = self.records[1 - MOST_SAVES:] + [save.record()]
         count = sum(not reply.is_accepted() for _, reply in answered.pairs)
         self.feed.put({"ledger": self.records, "status": status_item("well", refusals_text(count), "", save.clock)})
+
+
+def lines_behind(text):
+    """The lines of a reply to a query, as a text."""
+    return text[text.index(b"\n") + 1:]
 
 
 def status_item(state, words, waits, clock):

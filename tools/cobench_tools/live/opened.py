@@ -24,6 +24,25 @@ def widen(stream):
         fcntl.fcntl(stream.fileno(), SET_PIPE_SIZE, PIECE)
 
 
+def lines_of(text):
+    """The lines of a text that is made of whole ones."""
+    return text.split(b"\n")[:-1]
+
+
+def end_of(text, count, there):
+    """Where the first lines of a text end: so many of those that are there, looked for from the nearer end."""
+    behind = there - count
+    if count < behind:
+        end = 0
+        for _ in range(count):
+            end = text.find(b"\n", end) + 1
+        return end
+    end = len(text)
+    for _ in range(behind + 1):
+        end = text.rfind(b"\n", 0, end)
+    return end + 1
+
+
 class Opened:
     """A cobench over pipes.
 
@@ -58,13 +77,16 @@ class Opened:
         self.send(text, count)
         return self.take(count)
 
-    def take_text(self):
-        """The next reply, which is that to a query, as a text of whole lines."""
-        query = replies.LINES.fullmatch(self._next_line())
-        if not query:
-            raise Ended(f"{self.words[0]}: a query was refused")
+    def leave(self):
+        """Leaves the replies that haven't been taken."""
+        self.take(self.due)
+
+    def take_text(self, kept=b""):
+        """The next reply, which is that to a query, whole; `kept`, which is such a reply, where it is the same."""
+        text = kept if kept and self._comes(kept) else self._text_of_query()
+        self._at += len(text) if text is kept else 0
         self.due -= 1
-        return self._next_text(int(query.group(1)))
+        return text
 
     def lines(self, query):
         """The lines that a query answers, which can't be refused."""
@@ -103,13 +125,29 @@ class Opened:
         line = self._next_line()
         query = replies.LINES.fullmatch(line)
         if query:
-            return replies.Reply(0, lines=self._next_text(int(query.group(1))).split(b"\n")[:-1])
+            return replies.Reply(0, lines=lines_of(self._next_text(int(query.group(1)))))
         refused = replies.REFUSED.fullmatch(line)
         if refused:
             return replies.Reply(0, refused=tool.shown(b" ".join(refused.groups())))
         if line != b"ok":
             raise Ended(f"{self.words[0]}: this is no reply: {tool.shown(line[:60])}")
         return replies.Reply(0)
+
+    def _text_of_query(self):
+        """The next reply, which is that to a query, whole."""
+        line = self._next_line()
+        query = replies.LINES.fullmatch(line)
+        if not query:
+            raise Ended(f"{self.words[0]}: a query was refused")
+        return line + b"\n" + self._next_text(int(query.group(1)))
+
+    def _comes(self, text):
+        """Whether this text comes next in its output; as much is read as has to be for that."""
+        while len(self._read) - self._at < len(text):
+            if not text.startswith(self._read[self._at:]):
+                return False
+            self._read, self._at = self._read[self._at:] + self._piece(), 0
+        return self._read.startswith(text, self._at)
 
     def _next_line(self):
         """The next line of its output."""
@@ -126,22 +164,20 @@ class Opened:
         for _ in range(count):
             end = self._read.find(b"\n", end) + 1
             if not end:
-                return self._long_text(start, count)
+                return self._long_text(count)
         self._at = end
         return self._read[start:end]
 
-    def _long_text(self, start, count):
+    def _long_text(self, count):
         """The next lines of its output, of which some haven't been read yet."""
-        parts, there = [self._read[start:]], self._read.count(b"\n", start)
-        while there < count:
+        parts, missing = [self._read[self._at:]], count - self._read.count(b"\n", self._at)
+        while missing > 0:
             parts.append(self._piece())
-            there += parts[-1].count(b"\n")
-        self._read, end = parts[-1], len(parts[-1])
-        for _ in range(there - count + 1):
-            end = self._read.rfind(b"\n", 0, end)
-        self._at = end + 1
-        parts[-1] = self._read[:self._at]
-        return b"".join(parts)
+            there = parts[-1].count(b"\n")
+            missing -= there
+        self._read = parts.pop()
+        self._at = end_of(self._read, missing + there, there)
+        return b"".join(parts) + self._read[:self._at]
 
     def _piece(self):
         """Reads on."""

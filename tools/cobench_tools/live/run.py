@@ -1,6 +1,9 @@
 """The run of a project as the page draws it, kept by windows of ten milliseconds: what stays the same isn't made anew."""
-from .. import meaning, trace
-from ..picture import OTHERS, STATES, Drawing, Sorts, event_flag, events_of, moments_of, states_of
+from collections import namedtuple
+
+from .. import boots, findings, meaning
+from ..boots import is_boot_up
+from ..picture import OTHERS, STATES, Drawing, Sorts, event_flag, events_of, first_states, go_on, in_order, told_by_node
 
 WINDOW = 10_000         # microseconds
 DIGITS = 6              # so many of the ten digits of a time are the number of its window
@@ -9,21 +12,48 @@ SHORT = 400             # bytes that are gone through line by line
 
 
 class Kept:
-    """A window that was drawn: its lines as a text, what the trace had told before it and behind it, and the drawing.
+    """A window that was drawn.
 
-    boots  its lines that tell whether nodes boot, and those of SDO too
+    text         its lines
+    before       what the trace had told before it, and `behind` it
+    window       the drawing, and `content` what the page has of it
+    nodes        the nodes whose SDO transfers and values it goes by, or changes
+    identifiers  the identifiers of which it goes by what PDOs they are
     """
 
-    def __init__(self, text, before, behind, window):
+    def __init__(self, text, before, behind, window, sorts):
         self.text, self.before, self.behind, self.window = text, before, behind, window
         self.content = window.content()
-        lines = [line for line in text.split(b"\n") if tells_of_boots(line[11:])]
-        self.boots = [line for line in lines if line[11:12] not in b"56"], lines
+        self.nodes = set(window.said) | {line.identifier & 0x7F for line in window.boots if is_boot_up(line)}
+        self.identifiers = {sorts.rows[place][0] for place in set(window.sorts)} if window.sorts else set()
+
+    def at(self, before):
+        """The same where the trace has told something else before, which it doesn't go by."""
+        kept = Kept.__new__(Kept)
+        kept.__dict__.update(self.__dict__, before=before)
+        kept.behind = before if self.behind is self.before else tuple(map(self._changed, before, self.behind))
+        return kept
+
+    def _changed(self, before, behind):
+        """What there is by nodes, with what this window leaves."""
+        left = {node: behind[node] for node in self.nodes if node in behind}
+        return {**{node: value for node, value in before.items() if node not in self.nodes}, **left}
 
 
-def tells_of_boots(text):
-    """Whether a line with this text behind its time tells of the boot of a node: a note, SDO, a boot-up message."""
-    return text[:1] in (b"n", b"5", b"6") or text[:1] == b"7" and text.endswith(b"] 00")
+class Difference:
+    """What is other where the trace has told one thing, and where it has told another: of which nodes and identifiers."""
+
+    def __init__(self, one, other):
+        self.nodes, self.identifiers = set(), set()
+        for first, second in zip(one, other):
+            self.nodes |= {node for node in {**first, **second} if not meaning.same(first.get(node), second.get(node))}
+        for node in self.nodes:
+            if not meaning.same(one[0].get(node), other[0].get(node)):
+                self.identifiers |= meaning.identifiers_of(node, one[0].get(node)) | meaning.identifiers_of(node, other[0].get(node))
+
+    def matters_to(self, kept):
+        """Whether a window may say something else for it."""
+        return bool(self.nodes & kept.nodes or self.identifiers & kept.identifiers)
 
 
 def number_at(text, place):
@@ -66,6 +96,9 @@ def words_of(project):
     return project.manager[0], project.nodes, project.texts, messages
 
 
+NOTHING = {}, {}     # what a trace has told before its first line
+
+
 class Run:
     """The windows of the last trace.
 
@@ -77,26 +110,41 @@ class Run:
         self.windows, self.sorts = {}, Sorts()
         self._words, self._project, self._network, self._drawing = None, None, None, None
         self._told, self._count, self._gone = [], 0, []
-        self._made_of, self._states = None, None
+        self._at, self._differences, self._flows = None, {}, {}
 
     def take(self, text, project, devices):
         """Takes the text of a trace: the numbers of the windows that are other than before, or are gone."""
-        words = words_of(project)
-        before = self.windows
+        before, words = self.windows, words_of(project)
         if words != self._words or len(self.sorts.rows) > MOST_SORTS:
             before, self._words = {}, words
-            self.sorts, self._gone, self._told, self._count = Sorts(), self._gone + self._told, [], 0
-        self._project, self._network = project, meaning.Network(project, True, devices)
-        self._drawing = Drawing(self._network, self.sorts)
-        shown, self.windows = self.windows, {}
-        state = self._network.state()
+            self._begin(project, devices)
+        self._project, self._differences = project, {}
+        shown, self.windows, state = self.windows, {}, NOTHING
         for number, span in spans_of(text, shown):
-            kept = before.get(number)
-            if not kept or kept.text != span or kept.before != state:
-                kept = self._draw(number, span, state, kept)
-            self.windows[number] = kept
+            kept = self.windows[number] = self._kept(number, span, state, before.get(number))
             state = kept.behind
         return [number for number in sorted(set(shown) | set(self.windows)) if self._is_other(number, shown.get(number))]
+
+    def _begin(self, project, devices):
+        """Nothing that was drawn is of use any more, as names are others."""
+        self.sorts, self._gone, self._told, self._count = Sorts(), self._gone + self._told, [], 0
+        self._network = meaning.Network(project, True, devices)
+        self._drawing, self._at = Drawing(self._network, self.sorts), None
+
+    def _kept(self, number, text, state, kept):
+        """A window of the trace: as it was kept, where it says the same, or drawn."""
+        if not kept or kept.text is not text and kept.text != text:
+            return self._draw(number, text, state, kept)
+        if kept.before is state:
+            return kept
+        return self._draw(number, text, state, kept) if self._difference(kept.before, state).matters_to(kept) else kept.at(state)
+
+    def _difference(self, one, other):
+        """What is other between these two; both are held, so that no other has its identity."""
+        found = self._differences.get((id(one), id(other)))
+        if not found:
+            found = self._differences[id(one), id(other)] = Difference(one, other), one, other
+        return found[0]
 
     def _is_other(self, number, before):
         """Whether the page draws a window otherwise than before."""
@@ -107,9 +155,21 @@ class Run:
         """What the page draws of a window, None where it is gone."""
         return self.windows[number].content if number in self.windows else None
 
-    def boot_lines(self, with_sdo):
-        """The lines of the trace that tell how nodes boot."""
-        return [line for kept in self.windows.values() for line in kept.boots[with_sdo]]
+    def boots(self):
+        """The boots of each node, as boots.py has them."""
+        return boots.boots_of([line for kept in self.windows.values() for line in kept.window.boots])
+
+    def last_said(self, evidence, nodes):
+        """What was last said by SDO to or by each of some nodes, as findings.py has it."""
+        said = findings.said_first(nodes)
+        for window in (kept.window for kept in self.windows.values()):
+            for time, node, text in window.noted:
+                if node in said:
+                    now = said[node][None] if text is None else findings.said_without_name(evidence, node, text)
+                    said[node].setdefault(time, now)
+            for node in window.said.keys() & said.keys():
+                said[node][None] = findings.said_without_name(evidence, node, window.said[node])
+        return said
 
     def new_sorts(self):
         """The sorts that the page hasn't yet, as items; those that no window has any more are taken away."""
@@ -122,15 +182,15 @@ class Run:
         return items
 
     def _draw(self, number, text, state, kept):
-        """Draws a window; what it leaves is the state that it left before, where both are the same."""
-        self._network.restore(state)
-        drawn = self._drawing.window(number * WINDOW, trace.trace_of(text.split(b"\n")[:-1]))
-        left = self._network.state()
-        if left == state:
-            left = state
-        elif kept and left == kept.behind:
-            left = kept.behind
-        return Kept(text, state, left, drawn)
+        """Draws a window; what it leaves is what was there before it, or what it left before, where that is the same."""
+        if self._at is not state:
+            self._network.restore(state)
+        drawn, left = self._drawing.window_of(number * WINDOW, text), state
+        if drawn.said or drawn.boots:
+            now = self._network.state()
+            left = next((each for each in (state, kept and kept.behind) if each == now), now)
+        self._at = left
+        return Kept(text, state, left, drawn, self.sorts)
 
     def lanes(self):
         """The lanes, as on the page."""
@@ -151,10 +211,24 @@ class Run:
         }
 
     def _states_of(self, events):
-        """The states of the nodes; they are worked out anew where something is other that changes them."""
-        windows = [kept.window for kept in self.windows.values()]
-        nodes, powers = sorted(self._project.nodes), [(event.time, event.node, event.what) for _, event in events if event.kind == "power"]
-        made_of = nodes, powers, [window.changes for window in windows]
-        if made_of != self._made_of:
-            self._made_of, self._states = made_of, states_of(nodes, moments_of(events, windows))
-        return self._states
+        """The states of the nodes; they are worked out anew from where something is other that changes them."""
+        nodes, powers, found = sorted(self._project.nodes), {}, []
+        for event in (event for _, event in events if event.kind == "power"):
+            powers.setdefault(event.time // WINDOW, []).append((event.time, event.node, event.what))
+        flows, self._flows, states = self._flows, {}, first_states(nodes)
+        for number in sorted(self.windows.keys() | powers.keys()):
+            flow = self._flows[number] = self._flow(flows.get(number), self.windows.get(number), powers.get(number), states)
+            states = flow.behind
+            found += flow.changes
+        return told_by_node(nodes, found)
+
+    def _flow(self, known, kept, powers, states):
+        """What becomes of the states of nodes in a window."""
+        window = kept and kept.window
+        if known and (known.window, known.powers) == (window, powers) and meaning.same(known.before, states):
+            return known
+        moments = in_order(powers or (), window.changes if window else ())
+        return Flow(window, powers, states, *go_on(states, moments))
+
+
+Flow = namedtuple("Flow", "window powers before behind changes")

@@ -3,7 +3,10 @@ import hashlib
 import os
 import time
 
-SETTLED = 0.015     # seconds for which files stand still before they are read: some editors write in two steps
+from .. import tool
+
+SETTLED = 0.015     # seconds for which files stand still before what they make is told: some editors write in two steps
+JUST_NOW = 0.1      # seconds in which two writes of a file may have one time
 MOST_LOOKS = 20
 
 
@@ -32,37 +35,44 @@ def written_at(path):
 
 
 class Watch:
-    """Looks after files that are given again each time they have been read."""
+    """Looks after files, of which it keeps how they were when they were read."""
 
     def __init__(self):
-        self._files = {}
+        self._files, self._read = {}, {}
 
-    def take(self, paths):
-        """These are the files from now on, as they are now."""
-        self._files = {path: (stamp_of(path), digest_of(path)) for path in paths}
+    def read_text(self, path):
+        """The bytes of a file that has to be a text, which is one of those that are being read."""
+        self._read[path] = stamp_of(path), None
+        text = tool.read(path)
+        self._read[path] = self._read[path][0], hashlib.sha256(text).digest()
+        tool.check_text(text, path)
+        return text
+
+    def take(self, path):
+        """What was read are the files from now on; where nothing was, it is one."""
+        self._files, self._read = self._read or {path: (stamp_of(path), digest_of(path))}, {}
 
     def changed(self):
-        """The files that are other than they were; once some are, it waits until they stand still."""
-        if all(stamp_of(path) == stamp for path, (stamp, _) in self._files.items()):
-            return []
-        self._settle()
+        """The files that are other than they were."""
         found = []
         for path, (stamp, digest) in self._files.items():
-            now = stamp_of(path), digest_of(path)
-            if now[1] != digest or (now[0] is None) != (stamp is None):
-                found.append(path)
-            self._files[path] = now
+            now = stamp_of(path)
+            if now != stamp:
+                self._files[path] = now, digest_of(path)
+                found += [path] if self._files[path][1] != digest or (now is None) != (stamp is None) else []
         return found
 
-    def _settle(self):
-        """Waits until the files stand still, as long as they don't change for ever; those that were written a while ago do."""
-        stamps = [stamp_of(path) for path in self._files]
-        if all(stamp and stamp[0] / 1e9 + SETTLED < time.time() for stamp in stamps):
-            return
-        before = None
+    def stands_still(self):
+        """Waits until the files haven't been written for a while; whether they are as they were read."""
         for _ in range(MOST_LOOKS):
-            now = [stamp_of(path) for path in self._files]
-            if now == before:
-                return
-            before = now
-            time.sleep(SETTLED)
+            wait = max((stamp[0] / 1e9 + SETTLED for stamp, _ in self._files.values() if stamp), default=0) - time.time()
+            if not 0 < wait <= SETTLED or self._has_moved():
+                break
+            time.sleep(wait)
+        return not self._has_moved()
+
+    def _has_moved(self):
+        """Whether a file is other than it was; of one that was written just now, its time doesn't tell alone."""
+        late = time.time() - JUST_NOW
+        return any(stamp_of(path) != stamp or stamp and stamp[0] / 1e9 > late and digest_of(path) != digest
+                   for path, (stamp, digest) in self._files.items())
