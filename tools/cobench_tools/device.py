@@ -1,4 +1,5 @@
 """What a data sheet says of a device's entries: names, types, access, defaults, limits, values (docs/rules/entries.md)."""
+import functools
 import re
 
 from . import ini, tool
@@ -96,6 +97,14 @@ class Device:
         for section in self.sections:
             if re.fullmatch(r"[0-9a-f]{4}", section):
                 self._take_object(section)
+
+    @functools.cached_property
+    def subs(self):
+        """The sub-indices of each object that it has entries of, by its index."""
+        found = {}
+        for index, sub in sorted(self.entries):
+            found.setdefault(index, []).append(sub)
+        return found
 
     def _take_object(self, section):
         keys, index = self.sections[section], int(section, 16)

@@ -43,6 +43,12 @@ def pair_of(line):
     return (tool.shown(key.lower()), tool.shown(value.strip(BLANKS))) if equals and key else None
 
 
+def pair_in(line):
+    """The key, in lower case, and the value of a line that is no comment and no header, else None."""
+    line = line.strip(BLANKS)
+    return None if line.startswith(b";") or header_of(line) is not None else pair_of(line)
+
+
 def sections_of(lines):
     """The sections of a text by their names."""
     sections, section = {}, None

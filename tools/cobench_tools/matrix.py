@@ -136,24 +136,13 @@ def parameters_table(network):
 def producers(network):
     """The heartbeat times in milliseconds of the manager and the nodes that send one."""
     times = {network.project.manager[0]: network.project.manager[2]}
-    times.update((number, produced_by(node)) for number, node in network.nodes.items())
+    times.update((number, node.heartbeat) for number, node in network.nodes.items())
     return {number: time for number, time in times.items() if time}
-
-
-def produced_by(node):
-    """The heartbeat time of a node."""
-    return node.number_at(0x1017, 0, 0x06)
 
 
 def consumers(network):
     """Who watches whom, and for how many milliseconds: watched, watching and time of each."""
-    return sorted((watched, number, time) for number, node in network.nodes.items() for watched, time in watched_by(node))
-
-
-def watched_by(node):
-    """Whom a node watches, and for how many milliseconds."""
-    values = [node.number_at(0x1016, sub, 0x07) or 0 for index, sub in node.device.entries if index == 0x1016 and sub]
-    return [(value >> 16 & 0xFF, value & 0xFFFF) for value in values if value & 0xFFFF and value >> 16 & 0xFF]
+    return sorted((watched, number, time) for number, node in network.nodes.items() for watched, time in node.watched)
 
 
 def heartbeats_table(network):

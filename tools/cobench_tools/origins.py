@@ -1,6 +1,8 @@
 """Which command of a script last made each part of its project."""
+import functools
+
 from .project import hexadecimal, number
-from .tool import shown
+from .script import MOST_KNOWN, shown_words_in
 
 # By command the words that say which part it makes, each with how it is read.
 PARTS = {
@@ -10,9 +12,10 @@ PARTS = {
 }
 
 
-def part_of(command):
-    """The part that a command makes, as `("param", 5, 0x1017, 0)`, or None."""
-    words = [shown(word) for word in command.words[:4]]
+@functools.lru_cache(maxsize=MOST_KNOWN)
+def part_of(line):
+    """The part that the command of a line makes, as `("param", 5, 0x1017, 0)`, or None."""
+    words = shown_words_in(line)[:4]
     reads = PARTS.get(words[0])
     return None if reads is None else (words[0], *(read(word) for read, word in zip(reads, words[1:])))
 
@@ -21,7 +24,7 @@ class Origins:
     """The accepted commands that made the parts of a project."""
 
     def __init__(self, pairs):
-        self._commands = {part_of(command): command for command, reply in pairs if reply.is_accepted()}
+        self._commands = {part_of(command.line): command for command, reply in pairs if reply.is_accepted()}
 
     def command(self, *part):
         """The command that last made a part, None where none did."""

@@ -49,11 +49,11 @@ class Project:
 
     def take(self, command):
         """Takes an accepted command."""
-        name = tool.shown(command.name).replace("-", "_")
-        edit = getattr(self, f"_{name}", None)
+        name, *words = command.shown_words
+        edit = getattr(self, "_" + name.replace("-", "_"), None)
         try:
             if edit:
-                edit(command, [tool.shown(word) for word in command.words[1:]])
+                edit(command, words)
         except (IndexError, KeyError):
             raise tool.Fault(
                 f"line {command.number} of the script can't be accepted, and its reply says so: they are of "

@@ -41,6 +41,9 @@ def session_of(path, text):
     lines = io.BytesIO(text)
     for line in lines:
         number += 1
+        if line == b"ok\n":
+            replies.append(Reply(number))
+            continue
         if not line.endswith(b"\n"):
             return Session(replies, f"{where}:{number}: the last line is cut", None)
         line = line.rstrip(b"\n").rstrip(b"\r")

@@ -14,6 +14,7 @@ LONGEST_LINE = 4096
 MOST_LINES = 65536
 LONGEST_TEXT = 1 << 20
 MOST_SHEETS = 64
+MOST_KNOWN = 1 << 14     # so many lines are known at most
 
 # More commands than a network of all that cobench takes has; each takes memory here.
 MOST_COMMANDS = 4_000_000
@@ -42,12 +43,17 @@ class Command:
 
     @property
     def words(self):
-        return WORD.findall(self.line)
+        return list(words_in(self.line))
 
     @property
     def name(self):
         """Its first word."""
-        return WORD.search(self.line).group()
+        return words_in(self.line)[0]
+
+    @property
+    def shown_words(self):
+        """Its words as texts."""
+        return shown_words_in(self.line)
 
     @property
     def place(self):
@@ -75,8 +81,26 @@ class Command:
 
     def text_from(self, place):
         """The rest of the line from the word at a place on, without blanks at its end."""
-        rest = re.match(rb"[ \t]*(?:[^ \t]+[ \t]+){%d}(.*)" % place, self.line, re.DOTALL)
-        return rest.group(1).rstrip(b" \t") if rest else b""
+        return text_in(self.line, place)
+
+
+@functools.lru_cache(maxsize=MOST_KNOWN)
+def words_in(line):
+    """The words of a line, read once as long as it is known."""
+    return tuple(WORD.findall(line))
+
+
+@functools.lru_cache(maxsize=MOST_KNOWN)
+def shown_words_in(line):
+    """The words of a line as texts."""
+    return tuple(map(tool.shown, words_in(line)))
+
+
+@functools.lru_cache(maxsize=MOST_KNOWN)
+def text_in(line, place):
+    """The rest of a line from the word at a place on, without blanks at its end."""
+    rest = re.match(rb"[ \t]*(?:[^ \t]+[ \t]+){%d}(.*)" % place, line, re.DOTALL)
+    return rest.group(1).rstrip(b" \t") if rest else b""
 
 
 def beside(path, file):

@@ -3,6 +3,8 @@
 A node's values are the defaults of its data sheet, and over them the writes of its concise DCF. Which PDOs
 work with these values is said in docs/rules/pdos.md; TPDOs and RPDOs with one identifier belong together.
 """
+import functools
+
 from . import concise, tool, values
 from .device import BITS, Device
 
@@ -21,7 +23,7 @@ def is_restricted(identifier):
 def pdo_numbers(device, direction):
     """The numbers of the PDOs of a direction that a data sheet has."""
     first = COMMUNICATION[direction]
-    return sorted({index - first for index, sub in device.entries if sub == 1 and 1 <= index - first <= MOST_PDOS})
+    return sorted(index - first for index, subs in device.subs.items() if 1 in subs and 1 <= index - first <= MOST_PDOS)
 
 
 def pdo_of(index):
@@ -96,6 +98,17 @@ class Node:
             return None
         data = self.written.get((index, sub))
         return int.from_bytes(values.default_of(entry, self.number) if data is None else data, "little")
+
+    @functools.cached_property
+    def heartbeat(self):
+        """Its heartbeat time in milliseconds, None or 0 for none."""
+        return self.number_at(0x1017, 0, 0x06)
+
+    @functools.cached_property
+    def watched(self):
+        """Whose heartbeats it watches, and for how many milliseconds: node and time of each."""
+        values = [self.number_at(0x1016, sub, 0x07) or 0 for sub in self.device.subs.get(0x1016, ()) if sub]
+        return [(value >> 16 & 0xFF, value & 0xFFFF) for value in values if value & 0xFFFF and value >> 16 & 0xFF]
 
     def pdos(self, direction):
         """The PDOs of a direction that work, by number."""

@@ -50,7 +50,7 @@ def node_item(evidence, node, file, before):
     name, eds = project.nodes[node]
     return {"node": node, "name": name, "sheet": eds, "need": "mandatory" if node in project.mandatory else "optional",
             "file": f"{node}_{name}", "values": values_of(evidence, node, file, before),
-            "dcf": [tool.readable(tool.shown(line)) for line in file.lines],
+            "dcf": readable_lines(file.lines),
             "marks": marks_of(file, before), "bytes": file.bin.hex().upper(), "isNew": before is None}
 
 
@@ -75,16 +75,36 @@ def shown_value(key, entry, data):
     return tool.readable(matrix.value_text(entry.kind if entry else 0, data))
 
 
+def readable_lines(lines):
+    """Lines for reading."""
+    try:
+        return b"\n".join(lines).decode().split("\n") if lines else []
+    except UnicodeDecodeError:
+        return [tool.readable(tool.shown(line)) for line in lines]
+
+
 def marks_of(file, before):
     """The lines of a DCF that are new since the last save, by their places from 0, each with the value that was there."""
     if not before or before.lines == file.lines:
         return []
+    marks = marks_of_values(file.lines, before.lines)
+    if marks is not None:
+        return marks
     old, marks = ini.sections_of(before.lines), []
     for name, section in ini.sections_of(file.lines).items():
         was = old.get(name, {})
         marks += [[section.lines[key] - 1, tool.readable(was[key]) if key in was else None]
                   for key, value in section.items() if was.get(key) != value]
     return sorted(marks, key=lambda mark: mark[0])
+
+
+def marks_of_values(lines, old):
+    """The same where nothing but values of keys is other, which is told line by line; else None."""
+    places = [place for place, (line, was) in enumerate(zip(lines, old)) if line != was]
+    pairs = [(ini.pair_in(lines[place]), ini.pair_in(old[place])) for place in places]
+    if len(lines) != len(old) or not all(now and was and now[0] == was[0] for now, was in pairs):
+        return None
+    return [[place, tool.readable(was[1])] for place, (now, was) in zip(places, pairs) if now[1] != was[1]]
 
 
 class Answers:

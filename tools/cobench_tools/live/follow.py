@@ -219,7 +219,7 @@ class Follower:
             self.feed.put(self.answers.take(answered, evidence, self.is_first))
         self.say("working", "the script was saved", "trace")
         with save.step("trace"):
-            text = lines_behind(self.opened.take_text())
+            text = self.opened.take_text()
         with save.step("picture"):
             items = self.draw(save, text, answered.project)
             self.feed.put({**items, **self.answers.booted(answered, evidence, self.run)})
@@ -231,7 +231,7 @@ class Follower:
         before, self.replies = self.replies, {}
         for query in self.made.queries():
             known = before.get(query)
-            text = self.opened.take_text(known.text if known else b"")
+            text = self.opened.take_reply(known.text if known else b"")
             self.replies[query] = known if known and known.text is text else Reply(text)
         return {tool.shown(query): reply.lines for query, reply in self.replies.items()}
 
@@ -249,11 +249,6 @@ class Follower:
         self.records = self.records[1 - MOST_SAVES:] + [save.record()]
         count = sum(not reply.is_accepted() for _, reply in answered.pairs)
         self.feed.put({"ledger": self.records, "status": status_item("well", refusals_text(count), "", save.clock)})
-
-
-def lines_behind(text):
-    """The lines of a reply to a query, as a text."""
-    return text[text.index(b"\n") + 1:]
 
 
 def status_item(state, words, waits, clock):

@@ -57,7 +57,7 @@ class Known:
     def __init__(self, number, sheet, file):
         self.sheet, self.file, self.node = sheet, file, Node(number, sheet, file.values)
         self.pdos = [each.shown() for direction in (TPDO, RPDO) for each in self.node.pdos(direction)]
-        self.beats = matrix.produced_by(self.node), matrix.watched_by(self.node)
+        self.beats = self.node.heartbeat, self.node.watched
 
 
 def without_marks(item):

@@ -9,6 +9,7 @@ import threading
 from .. import replies, tool
 
 PIECE = 1 << 20
+MANY = 4096     # lines that aren't gone through one by one
 SET_PIPE_SIZE = 1031    # of Linux: a long answer then takes few reads
 WAIT = 5.0      # seconds that a cobench has to end once nothing more comes
 
@@ -81,12 +82,22 @@ class Opened:
         """Leaves the replies that haven't been taken."""
         self.take(self.due)
 
-    def take_text(self, kept=b""):
+    def take_reply(self, kept=b""):
         """The next reply, which is that to a query, whole; `kept`, which is such a reply, where it is the same."""
-        text = kept if kept and self._comes(kept) else self._text_of_query()
-        self._at += len(text) if text is kept else 0
+        if kept and self._comes(kept):
+            self._at += len(kept)
+            self.due -= 1
+            return kept
+        text = self.take_text()
+        return b"lines %d\n" % text.count(b"\n") + text
+
+    def take_text(self):
+        """The lines of the next reply, which is that to a query, as a text."""
+        query = replies.LINES.fullmatch(self._next_line())
+        if not query:
+            raise Ended(f"{self.words[0]}: a query was refused")
         self.due -= 1
-        return text
+        return self._next_text(int(query.group(1)))
 
     def lines(self, query):
         """The lines that a query answers, which can't be refused."""
@@ -133,14 +144,6 @@ class Opened:
             raise Ended(f"{self.words[0]}: this is no reply: {tool.shown(line[:60])}")
         return replies.Reply(0)
 
-    def _text_of_query(self):
-        """The next reply, which is that to a query, whole."""
-        line = self._next_line()
-        query = replies.LINES.fullmatch(line)
-        if not query:
-            raise Ended(f"{self.words[0]}: a query was refused")
-        return line + b"\n" + self._next_text(int(query.group(1)))
-
     def _comes(self, text):
         """Whether this text comes next in its output; as much is read as has to be for that."""
         while len(self._read) - self._at < len(text):
@@ -161,23 +164,24 @@ class Opened:
     def _next_text(self, count):
         """The next lines of its output, as one text."""
         start = end = self._at
-        for _ in range(count):
+        for _ in range(count if count < MANY else 0):
             end = self._read.find(b"\n", end) + 1
             if not end:
                 return self._long_text(count)
         self._at = end
-        return self._read[start:end]
+        return self._read[start:end] if count < MANY else self._long_text(count)
 
     def _long_text(self, count):
-        """The next lines of its output, of which some haven't been read yet."""
-        parts, missing = [self._read[self._at:]], count - self._read.count(b"\n", self._at)
+        """The next lines of its output, of which there are many, or some haven't been read yet."""
+        parts, there = [self._read[self._at:]], self._read.count(b"\n", self._at)
+        missing = count - there
         while missing > 0:
             parts.append(self._piece())
             there = parts[-1].count(b"\n")
             missing -= there
-        self._read = parts.pop()
-        self._at = end_of(self._read, missing + there, there)
-        return b"".join(parts) + self._read[:self._at]
+        self._read, self._at = parts[-1], end_of(parts[-1], missing + there, there)
+        parts[-1] = self._read[:self._at]
+        return b"".join(parts)
 
     def _piece(self):
         """Reads on."""

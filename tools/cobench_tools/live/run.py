@@ -81,13 +81,16 @@ def spans_of(text, kept):
     place = 0
     while place < len(text):
         number = number_at(text, place)
-        span, known = None, kept.get(number)
-        if known and text.startswith(known.text, place):
-            end = place + len(known.text)
-            span = known.text if end == len(text) or number_at(text, end) != number else None
-        span = span or text[place:behind(text, place, number)]
+        known = kept.get(number)
+        span = known.text if known and stands_at(text, place, known.text) else text[place:behind(text, place, number)]
         yield number, span
         place += len(span)
+
+
+def stands_at(text, place, span):
+    """Whether a window stands whole at a place of a trace, as this text has it."""
+    end = place + len(span)
+    return text.startswith(span, place) and text[end:end + DIGITS] != span[:DIGITS]
 
 
 def words_of(project):
@@ -119,11 +122,15 @@ class Run:
             before, self._words = {}, words
             self._begin(project, devices)
         self._project, self._differences = project, {}
-        shown, self.windows, state = self.windows, {}, NOTHING
+        shown, self.windows, state, others = self.windows, {}, NOTHING, []
         for number, span in spans_of(text, shown):
-            kept = self.windows[number] = self._kept(number, span, state, before.get(number))
-            state = kept.behind
-        return [number for number in sorted(set(shown) | set(self.windows)) if self._is_other(number, shown.get(number))]
+            known = before.get(number)
+            if not known or known.text is not span or known.before is not state:
+                known = self._kept(number, span, state, known)
+                others += [number] if self._is_other(known, shown.get(number)) else []
+            self.windows[number] = known
+            state = known.behind
+        return sorted(others + [number for number in shown if number not in self.windows])
 
     def _begin(self, project, devices):
         """Nothing that was drawn is of use any more, as names are others."""
@@ -133,11 +140,9 @@ class Run:
 
     def _kept(self, number, text, state, kept):
         """A window of the trace: as it was kept, where it says the same, or drawn."""
-        if not kept or kept.text is not text and kept.text != text:
+        if not kept or kept.text != text or self._difference(kept.before, state).matters_to(kept):
             return self._draw(number, text, state, kept)
-        if kept.before is state:
-            return kept
-        return self._draw(number, text, state, kept) if self._difference(kept.before, state).matters_to(kept) else kept.at(state)
+        return kept.at(state)
 
     def _difference(self, one, other):
         """What is other between these two; both are held, so that no other has its identity."""
@@ -146,10 +151,9 @@ class Run:
             found = self._differences[id(one), id(other)] = Difference(one, other), one, other
         return found[0]
 
-    def _is_other(self, number, before):
+    def _is_other(self, now, before):
         """Whether the page draws a window otherwise than before."""
-        now = self.windows.get(number)
-        return now is not before and (not now or not before or now.content != before.content)
+        return not before or now.content is not before.content and now.content != before.content
 
     def content(self, number):
         """What the page draws of a window, None where it is gone."""
@@ -225,7 +229,7 @@ class Run:
     def _flow(self, known, kept, powers, states):
         """What becomes of the states of nodes in a window."""
         window = kept and kept.window
-        if known and (known.window, known.powers) == (window, powers) and meaning.same(known.before, states):
+        if known and known.window is window and known.powers == powers and meaning.same(known.before, states):
             return known
         moments = in_order(powers or (), window.changes if window else ())
         return Flow(window, powers, states, *go_on(states, moments))
