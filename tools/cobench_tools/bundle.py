@@ -18,8 +18,14 @@ def part(name):
     return tool.read(os.path.join(FOLDER, name)).decode()
 
 
+class Ready(str):
+    """Content that is JSON already."""
+
+
 def content_text(content):
     """Content as JSON that can stand in a script element."""
+    if isinstance(content, Ready):
+        return content
     return json.dumps(content, separators=(",", ":"), ensure_ascii=True).replace("<", "\\u003c")
 
 

@@ -17,12 +17,14 @@ from operator import itemgetter, sub
 
 from . import meaning, tool
 from .boots import is_boot_up
+from .bundle import content_text
 from .device import BOOLEAN, SIGNED
 from .trace import Note, bit_time, line_of
 
 OTHERS = -1
 TIME = 11               # the digits of a line's time, and the blank behind them
 MOST_TEXTS = 100_000    # so many texts of frames are known at most
+NUMBERS = tuple(map(str, range(10_000)))
 FIRST_STATE = "pre-operational"
 STATES = ("off", "stopped", "operational", "pre-operational")
 BY_BYTE = {4: "stopped", 5: "operational", 127: "pre-operational"}
@@ -36,6 +38,14 @@ def form_of(kind):
 
 def entry_text(entry):
     return f"{entry[0]:04X}h" + (f":{entry[1]:02X}" if entry[1] else "")
+
+
+def joined(numbers):
+    """Numbers from 0 on, one behind the other."""
+    try:
+        return ",".join(map(NUMBERS.__getitem__, numbers))
+    except IndexError:
+        return ",".join(map(str, numbers))
 
 
 class Sorts:
@@ -96,23 +106,14 @@ class Window:
 
     def __init__(self, at):
         self.at, self.times, self.sorts, self.data, self.flags, self.changes = at, [], [], [], [], []
-        self.boots, self.said, self.noted, self._now = [], {}, [], at
-
-    def add(self, time, place, change, digits):
-        """Adds a frame: its time, its sort, what it changes, if anything, and its bytes."""
-        self.times.append(time - self._now)
-        self.sorts.append(place)
-        self.data.append(digits)
-        if change:
-            self.changes.append((time,) + change)
-        self._now = time
+        self.boots, self.said, self.noted = [], {}, []
 
     def fill(self, times, found):
-        """Has these frames, each as `add` takes it, and no others."""
+        """Has these frames: of each its time, and its sort, what it changes, and its bytes."""
         self.times = list(map(sub, times, [self.at] + times))
         self.sorts = [each[0] for each in found]
-        self.data = [each[2] for each in found]
         self.changes = [(time,) + each[1] for time, each in zip(times, found) if each[1]]
+        self.data = [each[2] for each in found]
 
     def tell(self, line, said):
         """A line tells more than its frame: by a flag, of a boot, or by SDO."""
@@ -129,6 +130,11 @@ class Window:
     def content(self):
         return {"at": self.at, "time": self.times, "sort": self.sorts, "data": "".join(self.data), "flags": self.flags}
 
+    def text(self):
+        """The content as JSON, which is made of texts that are there already."""
+        return (f'{{"at":{self.at},"time":[{joined(self.times)}],"sort":[{joined(self.sorts)}],'
+                f'"data":"{"".join(self.data)}","flags":{content_text(self.flags)}}}')
+
 
 class Drawing:
     """Draws a trace, window by window.
@@ -138,47 +144,52 @@ class Drawing:
     """
 
     def __init__(self, network, sorts):
-        self.network, self.sorts = network, sorts
-        self.nodes, self.others = set(), False
+        self.network, self.sorts, self.nodes, self.others = network, sorts, set(), False
         self._known, self._texts, self._changes = {}, {}, network.changes
 
     def window(self, at, lines):
         """The window of the next lines."""
         window = Window(at)
-        for line in lines:
-            self.take(window, line)
+        found = [(line.time, self.take(window, line)) for line in lines]
+        window.fill([time for time, each in found if each], [each for _, each in found if each])
         return window
 
     def window_of(self, at, text):
-        """The window of the next lines, which stand in a text; frames are told by it where they were there before."""
+        """The window of the next lines, which stand in a text; frames are told by theirs where they were there before."""
         window, lines = Window(at), text.split(b"\n")[:-1]
-        found = list(map(self.texts().get, [line[TIME:] for line in lines]))
-        if None in found:
-            for line in lines:
-                self.take_text(window, line)
-        else:
-            window.fill([int(line[:TIME - 1]) for line in lines], found)
+        found = self.found(window, lines, [line[TIME:] for line in lines])
+        times = [int(line[:TIME - 1]) for line in lines]
+        if window.noted:
+            times, found = [time for time, each in zip(times, found) if each], [each for each in found if each]
+        window.fill(times, found)
         return window
 
-    def take_text(self, window, line):
-        """Takes the next line, as it stands in a text."""
-        known = self.texts().get(line[TIME:])
-        if known:
-            window.add(int(line[:TIME - 1]), *known)
-            return
-        found = self.take(window, line_of(line))
-        if found and self.known(*found[0]):
-            self.texts()[line[TIME:]] = found[1]
+    def found(self, window, lines, texts):
+        """What `take` gives of each of the next lines; `texts` are what stands behind their times."""
+        found, place = list(map(self.texts().get, texts)), 0
+        while None in found:
+            place, changes = found.index(None, place), self.network.changes
+            found[place] = self.take_new(window, lines[place], texts[place])
+            if self.network.changes != changes:
+                found[place + 1:] = map(self.texts().get, texts[place + 1:])
+        return found
+
+    def take_new(self, window, line, text):
+        """Takes the next line, the text of which may not be known; what `take` gives, or () for a note."""
+        line = self.texts().get(text) or line_of(line)
+        if isinstance(line, tuple):
+            return line
+        found = self.take(window, line)
+        if found and self.known(line.identifier, line.data):
+            self.texts()[text] = found
+        return found or ()
 
     def take(self, window, line):
-        """Takes the next line; of a frame its identifier and bytes, and what `Window.add` takes of it."""
+        """Takes the next line; of a frame its sort, what it changes, and its bytes; None of a note."""
         if isinstance(line, Note):
             self.tell(window, line, self.network.of(line))
             return None
-        place, change = self.known(line.identifier, line.data) or self.recognise(window, line)
-        found = place, change, line.data.hex().upper()
-        window.add(line.time, *found)
-        return (line.identifier, line.data), found
+        return (self.known(line.identifier, line.data) or self.recognise(window, line)) + (line.data.hex().upper(),)
 
     def known(self, identifier, data):
         """The sort of a frame that was there already, and what it changes: it says the same again until PDOs change."""

@@ -66,15 +66,16 @@ class Session:
     path     the script
     pairs    each of its commands with the reply to it
     project  what its accepted edits make
+    answers  the lines that each query answers
     """
 
     def __init__(self, path, pairs, answers):
-        self.path, self.pairs, self._answers = path, pairs, answers
+        self.path, self.pairs, self.answers = path, pairs, answers
         self.project = project.after(pairs)
 
     def lines(self, query, node=None):
         """What a query that was asked for answers at the end of the script: its lines."""
-        return self._answers[query if node is None else f"{query} {node}"]
+        return self.answers[query if node is None else f"{query} {node}"]
 
 
 def queries_of(names, commands):

@@ -2,6 +2,7 @@
 
 All of it is made of a session (session.Session) whose queries an open cobench has answered.
 """
+import copy
 import functools
 import re
 
@@ -119,6 +120,12 @@ class Answers:
         self.sheets, self.files, self.tables = {}, {}, Tables()
         self._texts, self._shown, self._marked = {}, {}, set()
         self._found, self._booted = [], []
+
+    def copy(self):
+        """The same, to go on from."""
+        made = copy.copy(self)
+        made.tables = copy.copy(self.tables)
+        return made
 
     def evidence(self, answered):
         """The evidence of a session, over data sheets that were read before."""

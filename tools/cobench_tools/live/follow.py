@@ -3,7 +3,9 @@
 The script is read and given to a cobench of its own, which says what of it is refused, and what project it makes. The
 way from the last project to that one goes to the open cobench as edits; its project then has to be the new one.
 """
+import contextlib
 import functools
+import gc
 import os
 import time
 
@@ -20,6 +22,7 @@ from .watch import MOST_LOOKS
 QUIET = {b"trace", b"diag", b"project"}     # queries that are never refused, and change nothing
 
 
+RESTS = 1.0         # seconds behind a save, where nothing comes, until memory is looked through for what isn't used any more
 MOST_EDITS = 20     # so many edits are sent before the files have stood still: those of a script that is half written are more
 
 
@@ -28,10 +31,10 @@ class Moved(Exception):
 
 
 class Made:
-    """A project: the lines that `project` prints, and its commands by what they set."""
+    """A project: the reply to `project`, and its commands by what they set."""
 
-    def __init__(self, lines):
-        self.lines, self.items = lines, items_of(lines)
+    def __init__(self, reply):
+        self.reply, self.items = reply, items_of(lines_of(reply)[1:])
 
     def queries(self):
         """The queries that the page is made of, but for `trace`, which comes behind them."""
@@ -58,19 +61,20 @@ class Follower:
         self.watch, self.answers, self.run = watch.Watch(), Answers(), Run()
         self.opened, self.made, self.number, self.records, self.work = None, None, 0, [], ""
         self.is_first, self.replies = True, {}
+        self.spare, self.past, self.since = None, [], 0.0
 
     # Looking.
 
     def look(self):
         """Looks whether there is something to do, and does it; the first look is as a save."""
-        if not self.number:
-            self.update([self.path])
-            return
-        changed = self.watch.changed()
+        changed = self.watch.changed() if self.number else [self.path]
         if changed:
             self.update(changed)
         elif self.opened and not self.opened.is_running():
             self.update([], self.why_ended())
+        elif not gc.isenabled() and time.monotonic() > self.since + RESTS:
+            gc.enable()
+            gc.collect()
 
     def why_ended(self):
         """Why the open cobench, which has ended, did so."""
@@ -81,10 +85,16 @@ class Follower:
         return f"{self.words[0]} ended"
 
     def close(self):
-        """Ends the open cobench."""
+        """Ends the open cobench, and the one that waits."""
         if self.opened:
             self.opened.close()
             self.work, self.opened = work_in_words(self.opened.work), None
+        if self.spare:
+            self.spare.close()
+            self.spare = None
+        while self.past:
+            self.past.pop().close()
+        gc.enable()
 
     def probe(self):
         """Whether the program can be run at all."""
@@ -108,14 +118,25 @@ class Follower:
     # A save.
 
     def update(self, files, why=""):
-        """Brings the open cobench and the feed to what the script makes now."""
+        """Brings the open cobench and the feed to what the script makes now; what takes time beside that comes behind it."""
         self.number += 1
+        gc.disable()
         for looks in range(MOST_LOOKS, 0, -1):
             try:
                 self.follow(files, why, looks)
-                return
+                break
             except Moved:
                 files = sorted({*files, *self.watch.changed()})
+        self.wait()
+
+    def wait(self):
+        """Ends those that were asked apart, and has another one wait for the next save."""
+        self.since = time.monotonic()
+        while self.past:
+            self.past.pop().close()
+        if self.opened and not self.spare:
+            with contextlib.suppress(tool.Fault):
+                self.spare = Opened(self.words)
 
     def follow(self, files, why, looks):
         """Follows what the files have now; `looks` is for how many of them in turn they may be others still."""
@@ -124,8 +145,8 @@ class Follower:
         self.say("working", tool.readable(why) or "the script was saved")
         try:
             pairs, new = self.read(save)
-            self.lead(save, new, why)
-            self.answer(save, pairs)
+            self.lead(save, pairs, new, why)
+            self.answer(save)
         except tool.Fault as fault:
             self.settle()
             self.say("fault", tool.readable(str(fault)))
@@ -162,61 +183,75 @@ class Follower:
                 self.watch.take(self.path)
         with save.step("project apart"):
             asked = [command for command in commands if command.name not in QUIET or len(command.words) > 1]
-            answers = session.replies_to(self.words, b"".join([command.text() for command in asked] + [b"project\n"]))
-            if len(answers) != len(asked) + 1:
-                raise tool.Fault(f"{len(answers)} replies to {len(asked) + 1} commands")
-            return list(zip(asked, answers)), Made(answers[-1].lines)
+            replies, made = self.apart([command.text() for command in asked])
+            return list(zip(asked, replies)), made
+
+    def apart(self, commands):
+        """The replies of a cobench of its own to some commands, and the project that they make."""
+        opened, self.spare = self.spare if self.spare and self.spare.is_running() else Opened(self.words), None
+        self.past.append(opened)
+        try:
+            opened.send(b"".join(commands + [b"project\n"]), len(commands) + 1)
+            return opened.take(len(commands)), Made(opened.take_reply())
+        except Ended as ended:
+            raise tool.Fault(str(ended)) from None
 
     # The open cobench.
 
-    def lead(self, save, new, why):
+    def lead(self, save, pairs, new, why):
         """Has the open cobench make a project: by edits, or afresh where that isn't possible. It is asked all queries at once."""
+        self.answered = None
         if self.opened and not why:
             try:
-                if self.send_edits(save, new):
+                if self.send_edits(save, pairs, new):
                     return
                 why = "the edits made another project than the script"
             except Ended as ended:
                 why = str(ended)
-        self.start_afresh(save, new, why)
+        self.start_afresh(save, pairs, new, why)
 
-    def send_edits(self, save, new):
+    def send_edits(self, save, pairs, new):
         """Sends the edits to the open cobench; whether its project is then the new one."""
         with save.step("edits"):
             self.opened.leave()
             save.edits = edits(self.made.items, new.items)
             if len(save.edits) > MOST_EDITS:
                 self.settle()
-            return self.ask(save.edits, new)
+            return self.ask(save.edits, pairs, new)
 
-    def start_afresh(self, save, new, why):
+    def start_afresh(self, save, pairs, new, why):
         """Starts a cobench that makes a project."""
         self.close()
         self.settle()
         save.why, save.edits = tool.readable(why), None
         with save.step("started afresh"):
             self.opened = Opened(self.words)
-            if not self.ask(edits(first_project(), new.items), new):
+            if not self.ask(edits(first_project(), new.items), pairs, new):
                 raise Ended(f"{self.words[0]} makes another project of the commands that it prints")
 
-    def ask(self, commands, new):
+    def ask(self, commands, pairs, new):
         """Sends edits, and all queries behind them; whether the project is then the new one."""
         queries = [b"project"] + new.queries() + [b"trace"]
         self.made = new
         self.opened.send(b"".join(commands + [query + b"\n" for query in queries]), len(commands) + len(queries))
-        return self.opened.take(len(commands) + 1)[-1].lines == new.lines
+        self.answered = self.answered or session.Session(self.path, pairs, {})
+        self.opened.take(len(commands))
+        return self.opened.take_reply(new.reply) is new.reply
 
     # What it answers.
 
-    def answer(self, save, pairs):
+    def answer(self, save):
         """Takes what the open cobench answers, and puts it into the feed: first all but the run."""
+        answered = self.answered
         with save.step("diagnostics and files"):
-            answers = self.take_answers()
-            answered = session.Session(self.path, pairs, answers)
-        self.settle()
+            answered.answers = self.take_answers()
         with save.step("lists"):
-            evidence = self.answers.evidence(answered)
-            self.feed.put(self.answers.take(answered, evidence, self.is_first))
+            answers = self.answers.copy()
+            evidence = answers.evidence(answered)
+            items = answers.take(answered, evidence, self.is_first)
+        self.settle()
+        self.answers = answers
+        self.feed.put(items)
         self.say("working", "the script was saved", "trace")
         with save.step("trace"):
             text = self.opened.take_text()

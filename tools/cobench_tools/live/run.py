@@ -3,11 +3,13 @@ from collections import namedtuple
 
 from .. import boots, findings, meaning
 from ..boots import is_boot_up
+from ..bundle import Ready
 from ..picture import OTHERS, STATES, Drawing, Sorts, event_flag, events_of, first_states, go_on, in_order, told_by_node
 
 WINDOW = 10_000         # microseconds
 DIGITS = 6              # so many of the ten digits of a time are the number of its window
 MOST_SORTS = 200_000    # from here on they are collected anew, as most of them are of frames that aren't there any more
+NEAR = 1 << 16          # bytes in which the next window is looked for first
 SHORT = 400             # bytes that are gone through line by line
 
 
@@ -16,14 +18,14 @@ class Kept:
 
     text         its lines
     before       what the trace had told before it, and `behind` it
-    window       the drawing, and `content` what the page has of it
+    window       the drawing, and `content` what the page has of it, as JSON
     nodes        the nodes whose SDO transfers and values it goes by, or changes
     identifiers  the identifiers of which it goes by what PDOs they are
     """
 
     def __init__(self, text, before, behind, window, sorts):
         self.text, self.before, self.behind, self.window = text, before, behind, window
-        self.content = window.content()
+        self.content = Ready(window.text())
         self.nodes = set(window.said) | {line.identifier & 0x7F for line in window.boots if is_boot_up(line)}
         self.identifiers = {sorts.rows[place][0] for place in set(window.sorts)} if window.sorts else set()
 
@@ -63,6 +65,9 @@ def number_at(text, place):
 
 def behind(text, start, number):
     """Where the lines of a window end that begins there, in the text of a trace."""
+    end = text.find(b"\n%06d" % (number + 1), start, start + NEAR) + 1
+    if end:
+        return end
     low, high = start, len(text)
     while high - low > SHORT:
         middle = (low + high) // 2

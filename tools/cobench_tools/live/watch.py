@@ -5,7 +5,7 @@ import time
 
 from .. import tool
 
-SETTLED = 0.015     # seconds for which files stand still before what they make is told: some editors write in two steps
+SETTLED = 0.01     # seconds for which files stand still before what they make is told: some editors write in two steps
 JUST_NOW = 0.1      # seconds in which two writes of a file may have one time
 MOST_LOOKS = 20
 
