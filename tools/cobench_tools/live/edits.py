@@ -12,6 +12,9 @@ from .. import script
 KEY_WORDS = {b"version": 0, b"bitrate": 0, b"horizon": 0, b"manager": 0, b"sync-counter": 0, b"eds": 1, b"node": 1,
              b"need": 1, b"param": 3, b"message": 1, b"start": 1, b"source": 2, b"sink": 3, b"event": 1}
 OF_A_MESSAGE = (b"start", b"source", b"sink")
+
+# Edits by which no file of a node can become another, and those of the files of one node, which they name (docs/rules/commands.md).
+OF_NO_FILE, OF_ONE_NODE = (b"event", b"drop-event", b"horizon"), (b"param", b"unparam")
 MOST_KEYS = 1 << 16     # so many lines are known at most
 
 
@@ -38,13 +41,20 @@ def first_project():
 
 
 def words_of(text):
-    return text.split(b"\n", 1)[0].split(b" ")
+    return text[:text.index(b"\n")].split(b" ")
 
 
 def node_of_event(text):
     """The node that an event is of, as cobench counts it: one to all nodes is of none."""
     words = words_of(text)
     return words[5] if words[3] == b"nmt" else words[4]
+
+
+def nodes_of_files(made):
+    """The nodes whose files some edits can change, None for all."""
+    words = [words_of(edit) for edit in made]
+    words = [each for each in words if each[0] not in OF_NO_FILE]
+    return {each[1] for each in words} if all(each[0] in OF_ONE_NODE for each in words) else None
 
 
 class Way:

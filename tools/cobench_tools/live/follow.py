@@ -12,7 +12,7 @@ import time
 from .. import reader, session, tool
 from ..report import Report
 from .answers import Answers
-from .edits import edits, first_project, items_of
+from .edits import edits, first_project, items_of, nodes_of_files
 from .ledger import MOST_SAVES, Save
 from .opened import Ended, Opened, lines_of, work_in_words
 from .run import Run
@@ -23,7 +23,7 @@ QUIET = {b"trace", b"diag", b"project"}     # queries that are never refused, an
 
 
 RESTS = 1.0         # seconds behind a save, where nothing comes, until memory is looked through for what isn't used any more
-MOST_EDITS = 20     # so many edits are sent before the files have stood still: those of a script that is half written are more
+MOST_EDITS = 1      # so many edits are sent before the files have stood still: a script that is half written mostly makes more
 
 
 class Moved(Exception):
@@ -36,10 +36,13 @@ class Made:
     def __init__(self, reply):
         self.reply, self.items = reply, items_of(lines_of(reply)[1:])
 
-    def queries(self):
-        """The queries that the page is made of, but for `trace`, which comes behind them."""
-        nodes = [key[1] for key in self.items if key[0] == b"node"]
-        return [b"diag"] + [name + b" " + node for node in nodes for name in (b"cdcf", b"dcf")]
+    def nodes(self):
+        return [key[1] for key in self.items if key[0] == b"node"]
+
+
+def queries_of(nodes):
+    """The queries that the page is made of, of some nodes, but for `trace`, which comes behind them."""
+    return [b"diag"] + [name + b" " + node for node in nodes for name in (b"cdcf", b"dcf")]
 
 
 class Reply:
@@ -54,13 +57,19 @@ class Reply:
 
 
 class Follower:
-    """Follows a script, over the program that these words start, into a feed."""
+    """Follows a script, over the program that these words start, into a feed.
+
+    opened   the open cobench, `made` its project
+    spare    a cobench that waits for the next script, `past` those that have done so
+    replies  its last replies by their queries
+    current  the queries whose last reply is that to the project now
+    """
 
     def __init__(self, path, words, feed):
         self.path, self.words, self.feed = path, words, feed
         self.watch, self.answers, self.run = watch.Watch(), Answers(), Run()
         self.opened, self.made, self.number, self.records, self.work = None, None, 0, [], ""
-        self.is_first, self.replies = True, {}
+        self.is_first, self.replies, self.current = True, {}, set()
         self.spare, self.past, self.since = None, [], 0.0
 
     # Looking.
@@ -167,7 +176,8 @@ class Follower:
     def forget(self):
         """Forgets all that was kept, on the page too."""
         self.close()
-        self.answers, self.run, self.is_first, self.replies = Answers(), Run(), True, {}
+        self.answers, self.run, self.is_first = Answers(), Run(), True
+        self.replies, self.current = {}, set()
         self.feed.clear()
 
     def say(self, state, words, waits=""):
@@ -231,8 +241,10 @@ class Follower:
 
     def ask(self, commands, pairs, new):
         """Sends edits, and all queries behind them; whether the project is then the new one."""
-        queries = [b"project"] + new.queries() + [b"trace"]
-        self.made = new
+        nodes = nodes_of_files(commands)
+        self.current = self.current.difference(queries_of(nodes)) if nodes is not None else set()
+        self.made, self.asked = new, [query for query in queries_of(new.nodes()) if query not in self.current]
+        queries = [b"project"] + self.asked + [b"trace"]
         self.opened.send(b"".join(commands + [query + b"\n" for query in queries]), len(commands) + len(queries))
         self.answered = self.answered or session.Session(self.path, pairs, {})
         self.opened.take(len(commands))
@@ -262,13 +274,14 @@ class Follower:
         self.end(save, answered)
 
     def take_answers(self):
-        """What the open cobench answers to all queries but `trace`: the lines of each, the same as before where they are."""
-        before, self.replies = self.replies, {}
-        for query in self.made.queries():
-            known = before.get(query)
+        """The lines of what the open cobench answers to all queries but `trace`: the same as before where they are."""
+        for query in self.asked:
+            known = self.replies.get(query)
             text = self.opened.take_reply(known.text if known else b"")
-            self.replies[query] = known if known and known.text is text else Reply(text)
-        return {tool.shown(query): reply.lines for query, reply in self.replies.items()}
+            if not known or known.text is not text:
+                self.replies[query] = Reply(text)
+            self.current.add(query)
+        return {tool.shown(query): self.replies[query].lines for query in queries_of(self.made.nodes())}
 
     def draw(self, save, text, project):
         """The items of the run: what is other than before."""
