@@ -107,7 +107,7 @@ class Network:
     values     the numbers of each node's entries by which PDOs are told; a node's are never changed, but replaced
     owners     the TPDOs that have each identifier, as node and number
     transfers  the SDO transfer of each node
-    changes    how often what PDOs are has changed
+    touched    the identifiers of which it may have changed what PDOs they are
     """
 
     def __init__(self, project=None, with_names=False, devices=None):
@@ -118,8 +118,8 @@ class Network:
         self.devices = {node: devices[eds] for node, (_, eds) in project.nodes.items()} if project else {}
         self.messages = {(each.node, each.tpdo): name for name, each in project.messages.items()} if project else {}
         self.with_names = with_names
-        self.values, self.owners, self.transfers, self.changes = {}, {}, {}, 0
-        self._pdos, self._defaults = {}, {}
+        self.values, self.owners, self.transfers, self.touched = {}, {}, {}, set()
+        self._pdos, self._defaults, self._said = {}, {}, {}
 
     # What the trace has told so far, to be kept and to go on from.
 
@@ -130,17 +130,15 @@ class Network:
     def restore(self, state):
         """Goes on from what the trace had told there."""
         values = state[0]
-        others = [node for node in {**self.values, **values} if not same(self.values.get(node), values.get(node))]
-        for node in others:
+        for node in {**self.values, **values}:
             self.replace(node, values.get(node))
-        if others:
-            self.changed()
         self.transfers = dict(state[1])
 
-    def changed(self):
-        """What PDOs are has changed."""
-        self.changes += 1
-        self._pdos.clear()
+    def touch(self, identifiers):
+        """What PDOs these are may have changed."""
+        self.touched |= identifiers
+        for each in identifiers:
+            self._pdos.pop(each, None)
 
     def name(self, node):
         if node == self.manager:
@@ -164,16 +162,21 @@ class Network:
     def power(self, node):
         """A node boots up: its PDO objects have their defaults."""
         self.replace(node, self.defaults(node))
-        self.changed()
 
     def replace(self, node, values):
         """A node has these values in the place of those that it had, or none any more."""
-        for key, value in self.values.pop(node, {}).items():
+        before = self.values.get(node)
+        if same(before, values):
+            return
+        for key, value in (before or {}).items():
             self.disown(node, key, value)
-        if values is not None:
+        if values is None:
+            del self.values[node]
+        else:
             self.values[node] = values
             for key, value in values.items():
                 self.own(node, key, value)
+        self.touch(identifiers_of(node, before) | identifiers_of(node, values))
 
     def defaults(self, node):
         """The numbers that the entries of a node by which PDOs are told have from power-on on."""
@@ -193,13 +196,8 @@ class Network:
 
     def write(self, node, key, value):
         """A PDO object of a node has a new value."""
-        values = self.values.setdefault(node, {})
-        if key in values:
-            self.disown(node, key, values[key])
-        if tells_pdos(key):
-            self.values[node] = {**values, key: value}
-            self.own(node, key, value)
-        self.changed()
+        values = self.values.get(node, {})
+        self.replace(node, {**values, key: value} if tells_pdos(key) else values)
 
     def mapping(self, node, tpdo):
         """The entries and bits that a TPDO maps, None where that isn't known."""

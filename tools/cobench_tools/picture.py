@@ -25,6 +25,7 @@ OTHERS = -1
 TIME = 11               # the digits of a line's time, and the blank behind them
 MOST_TEXTS = 100_000    # so many texts of frames are known at most
 NUMBERS = tuple(map(str, range(10_000)))
+BY_DIGITS = {b"%04d" % number: number for number in range(10_000)}
 FIRST_STATE = "pre-operational"
 STATES = ("off", "stopped", "operational", "pre-operational")
 BY_BYTE = {4: "stopped", 5: "operational", 127: "pre-operational"}
@@ -145,7 +146,7 @@ class Drawing:
 
     def __init__(self, network, sorts):
         self.network, self.sorts, self.nodes, self.others = network, sorts, set(), False
-        self._known, self._texts, self._changes = {}, {}, network.changes
+        self._known, self._texts, self._texts_of = {}, {}, {}
 
     def window(self, at, lines):
         """The window of the next lines."""
@@ -155,10 +156,10 @@ class Drawing:
         return window
 
     def window_of(self, at, text):
-        """The window of the next lines, which stand in a text; frames are told by theirs where they were there before."""
+        """The window of the next lines, which stand in a text, of the 10 ms from there on; frames that were there are told by theirs."""
         window, lines = Window(at), text.split(b"\n")[:-1]
         found = self.found(window, lines, [line[TIME:] for line in lines])
-        times = [int(line[:TIME - 1]) for line in lines]
+        times = list(map(at.__add__, map(BY_DIGITS.__getitem__, [line[TIME - 5:TIME - 1] for line in lines])))
         if window.noted:
             times, found = [time for time, each in zip(times, found) if each], [each for each in found if each]
         window.fill(times, found)
@@ -166,23 +167,26 @@ class Drawing:
 
     def found(self, window, lines, texts):
         """What `take` gives of each of the next lines; `texts` are what stands behind their times."""
-        found, place = list(map(self.texts().get, texts)), 0
+        self.look()
+        found, place = list(map(self._texts.get, texts)), 0
         while None in found:
-            place, changes = found.index(None, place), self.network.changes
+            place = found.index(None, place)
             found[place] = self.take_new(window, lines[place], texts[place])
-            if self.network.changes != changes:
-                found[place + 1:] = map(self.texts().get, texts[place + 1:])
+            if self.network.touched:
+                self.look()
+                found[place + 1:] = map(self._texts.get, texts[place + 1:])
         return found
 
     def take_new(self, window, line, text):
         """Takes the next line, the text of which may not be known; what `take` gives, or () for a note."""
-        line = self.texts().get(text) or line_of(line)
-        if isinstance(line, tuple):
-            return line
-        found = self.take(window, line)
+        if text in self._texts:
+            return self._texts[text]
+        line = line_of(line)
+        found = self.take(window, line) or ()
         if found and self.known(line.identifier, line.data):
-            self.texts()[text] = found
-        return found or ()
+            self._texts[text] = found
+            self._texts_of.setdefault(line.identifier, []).append(text)
+        return found
 
     def take(self, window, line):
         """Takes the next line; of a frame its sort, what it changes, and its bytes; None of a note."""
@@ -193,18 +197,20 @@ class Drawing:
 
     def known(self, identifier, data):
         """The sort of a frame that was there already, and what it changes: it says the same again until PDOs change."""
-        self.look()
-        return self._known.get((identifier, len(data))) or self._known.get((identifier, data))
-
-    def texts(self):
-        """What `Window.add` takes of each frame that was there already, by its text."""
-        self.look()
-        return self._texts
+        if self.network.touched:
+            self.look()
+        known = self._known.get(identifier)
+        return known and (known.get(len(data)) or known.get(data))
 
     def look(self):
-        """Where PDOs have changed, nothing is known any more."""
-        if self.network.changes != self._changes or len(self._texts) > MOST_TEXTS:
-            self._known, self._texts, self._changes = {}, {}, self.network.changes
+        """Where it may have changed what PDOs some identifiers are, nothing of these is known any more."""
+        if len(self._texts) > MOST_TEXTS:
+            self._known, self._texts, self._texts_of = {}, {}, {}
+        for identifier in self.network.touched:
+            self._known.pop(identifier, None)
+            for text in self._texts_of.pop(identifier, ()):
+                del self._texts[text]
+        self.network.touched.clear()
 
     def recognise(self, window, line):
         """What a frame is that wasn't there before; it is remembered where another of its kind says the same."""
@@ -212,9 +218,9 @@ class Drawing:
         found = self.sorts.place_of(line, said), state_change(line, said)
         self.tell(window, line, said)
         if said.kind == meaning.PDO:
-            self._known[line.identifier, len(line.data)] = found
-        elif said.kind in (meaning.SYNC, meaning.HEARTBEAT, meaning.NMT) and self.network.changes == self._changes:
-            self._known[line.identifier, line.data] = found
+            self._known.setdefault(line.identifier, {})[len(line.data)] = found
+        elif said.kind in (meaning.SYNC, meaning.HEARTBEAT, meaning.NMT) and not is_boot_up(line):
+            self._known.setdefault(line.identifier, {})[line.data] = found
         return found
 
     def tell(self, window, line, said):
