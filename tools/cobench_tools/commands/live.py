@@ -24,7 +24,8 @@ can't be run, or the port is in use.
   cobtool live --open network.txt"""
 
 PORT = 8306
-LOOKS = 0.2     # seconds between two looks at the files
+LOOKS = 0.02    # seconds between two looks at the files
+SHARE = 0.05    # of the time goes into looks at most, where a file system is slow
 
 
 def arguments(parser):
@@ -54,8 +55,9 @@ def follow(follower):
     signal.signal(signal.SIGTERM, stop)
     try:
         while True:
-            follower.look()
-            time.sleep(LOOKS)
+            start = time.monotonic()
+            changed = follower.look()
+            time.sleep(LOOKS if changed else max(LOOKS, (time.monotonic() - start) / SHARE))
     except KeyboardInterrupt:
         pass
 

@@ -75,7 +75,7 @@ class Follower:
     # Looking.
 
     def look(self):
-        """Looks whether there is something to do, and does it; the first look is as a save."""
+        """Looks whether there is something to do, and does it; the first look is as a save. Gives the files that are other."""
         changed = self.watch.changed() if self.number else [self.path]
         if changed:
             self.update(changed)
@@ -84,6 +84,7 @@ class Follower:
         elif not gc.isenabled() and time.monotonic() > self.since + RESTS:
             gc.enable()
             gc.collect()
+        return changed
 
     def why_ended(self):
         """Why the open cobench, which has ended, did so."""
@@ -269,9 +270,9 @@ class Follower:
             text = self.opened.take_text()
         with save.step("picture"):
             items = self.draw(save, text, answered.project)
-            self.feed.put({**items, **self.answers.booted(answered, evidence, self.run)})
+            items.update(self.answers.booted(answered, evidence, self.run))
         self.is_first = False
-        self.end(save, answered)
+        self.feed.put({**items, **self.ended(save, answered)})
 
     def take_answers(self):
         """The lines of what the open cobench answers to all queries but `trace`: the same as before where they are."""
@@ -292,11 +293,11 @@ class Follower:
         items["run"] = self.run.about()
         return items
 
-    def end(self, save, answered):
-        """The save is over: what it cost goes into the ledger."""
+    def ended(self, save, answered):
+        """The items by which a save is over: what it cost goes into the ledger."""
         self.records = self.records[1 - MOST_SAVES:] + [save.record()]
         count = sum(not reply.is_accepted() for _, reply in answered.pairs)
-        self.feed.put({"ledger": self.records, "status": status_item("well", refusals_text(count), "", save.clock)})
+        return {"ledger": self.records, "status": status_item("well", refusals_text(count), "", save.clock)}
 
 
 def status_item(state, words, waits, clock):

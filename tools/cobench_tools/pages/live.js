@@ -15,11 +15,11 @@ class Live {
     addEventListener("keydown", event => this.onKey(event));
   }
 
-  /** Items are other: each part takes what is its own. What a save changes is new until the next one begins. */
+  /** Items are other: each part takes what is its own. What a save changes is new until the next one begins, which may come whole. */
   take(changed, whole) {
     const began = performance.now(), status = this.items.get("status");
     if (whole) for (const part of this.all) if (part.end) { part.end(null); part.begin(); }
-    if (this.isOver && status && status.state === "working") this.begin();
+    if (this.isOver && status && (status.state === "working" || changed.has("ledger"))) this.begin();
     for (const part of this.all) part.take(this.items, changed);
     if (changed.has("ledger")) this.end(began, whole);
     if (status) this.say(status);

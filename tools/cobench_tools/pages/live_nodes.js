@@ -15,6 +15,7 @@ class NodesPart {
   }
 
   take(items, changed) {
+    if (!["node/", "run", "boots"].some(start => touches(changed, start))) return;
     const nodes = items.all("node/"), run = items.get("run"), boots = items.get("boots");
     for (const [number, card] of this.cards) if (!items.get("node/" + number)) { card.element.remove(); this.cards.delete(number); }
     nodes.forEach((node, place) => this.put(node, place, changed.has("node/" + node.node)));
