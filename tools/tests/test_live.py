@@ -137,8 +137,8 @@ def test_a_save_that_changes_nothing_asks_nothing():
 def test_a_cobench_that_is_killed_is_started_afresh():
     with Scene() as scene:
         before = scene.trace()
-        os.kill(scene.follower.opened._process.pid, signal.SIGKILL)
-        wait_until(lambda: not scene.follower.opened.is_running())
+        os.kill(scene.follower.programs.opened._process.pid, signal.SIGKILL)
+        wait_until(lambda: not scene.follower.programs.opened.is_running())
         scene.look()
         assert "was killed by signal 9" in scene.ledger()["why"] and scene.ledger()["edits"] is None
         assert scene.trace() == before and scene.status() == ("well", "")
@@ -148,7 +148,7 @@ def test_a_cobench_that_is_killed_is_started_afresh():
 
 def test_a_cobench_of_another_project_is_started_afresh():
     with Scene() as scene:
-        scene.follower.opened.ask(b"horizon 50000\n", 1)
+        scene.follower.programs.opened.ask(b"horizon 50000\n", 1)
         scene.change(b"param 5 1017 0 100", b"param 5 1017 0 50")
         assert scene.ledger()["why"] == "the edits made another project than the script" and scene.items["run"]["end"] == 60000
 

@@ -8,6 +8,7 @@ import webbrowser
 from .. import session, tool
 from ..live.feed import Feed
 from ..live.follow import Follower
+from ..live.programs import probe
 from ..live.server import Server
 
 SUMMARY = "follow a script in a browser: after each save what is wrong, files, messages, run"
@@ -68,7 +69,7 @@ def run(options):
     tool.read_text(options.script)
     feed = Feed()
     follower = Follower(options.script, session.program(options.cobench), feed)
-    follower.probe()
+    probe(follower.words)
     server = server_of(options, feed, follower)
     threading.Thread(target=server.serve_forever, daemon=True).start()
     tool.put(f"{server.address} follows {options.script}; Ctrl-C ends it\n")
