@@ -11,11 +11,15 @@ import sys
 import threading
 from types import SimpleNamespace
 
+from cobench_tools import meaning, replies, trace
+from cobench_tools.bundle import content_text
 from cobench_tools.live import watch
 from cobench_tools.live.feed import Feed
+from cobench_tools.live.opened import Opened
 from cobench_tools.live.run import spans_of
 from cobench_tools.live.server import Server
 from cobench_tools.commands.live import PORT
+from cobench_tools.picture import Drawing, Sorts
 from helper import BINARY, COBTOOL, EXAMPLES, ROOT, file, is_refused, put, recorded, recorded_replies, run, run_alone
 from live_scene import FOLDER, Scene, day_script, wait_until, words
 
@@ -83,6 +87,27 @@ def test_windows_are_found_in_the_text_of_a_trace():
         assert list(spans_of(text, kept)) == spans, "what was kept changes nothing"
 
 
+def test_a_value_has_no_other_windows_drawn_again():
+    with Scene() as scene:
+        run, drawn = scene.follower.run, []
+        draw = run._draw
+        run._draw = lambda number, *more: drawn.append(number) or draw(number, *more)
+        scene.change(b"param 5 1017 0 100", b"param 5 1017 0 50")
+        assert scene.status() == ("well", "") and scene.windows() == drawn and 0 < len(drawn) < 6, (scene.windows(), drawn)
+
+
+def test_windows_of_texts_are_those_of_their_lines():
+    replies_of_axes = replies.session_of("replies", file(EXAMPLES, "servo_axes.replies.txt")).replies
+    lines = next(reply.lines for reply in replies_of_axes if reply.lines and trace.trace_of(reply.lines))
+    one, other = (Drawing(meaning.Network(None, True), Sorts()) for _ in range(2))
+    for number in range(int(lines[-1][:6]) + 1):
+        mine = [line for line in lines if int(line[:6]) == number]
+        window, text = one.window(number * 10000, trace.trace_of(mine)), other.window_of(number * 10000, b"".join(line + b"\n" for line in mine))
+        assert (window.content(), window.changes, window.said, window.noted) == (text.content(), text.changes, text.said, text.noted)
+        assert text.text() == content_text(text.content()) and len(window.boots) == len(text.boots)
+    assert one.sorts.rows == other.sorts.rows
+
+
 def test_another_name_is_shown_in_all_places():
     with Scene() as scene:
         before = scene.trace()
@@ -144,6 +169,45 @@ def test_a_cobench_that_is_killed_is_started_afresh():
         assert scene.trace() == before and scene.status() == ("well", "")
         scene.change(b"param 5 1017 0 100", b"param 5 1017 0 50")
         assert scene.ledger()["edits"] == ["param 5 1017 00 50"]
+
+
+def test_a_cobench_that_waits_may_end():
+    with Scene() as scene:
+        os.kill(scene.follower.programs._spare._process.pid, signal.SIGKILL)
+        wait_until(lambda: not scene.follower.programs._spare.is_running())
+        scene.change(b"param 5 1017 0 100", b"param 5 1017 0 50")
+        assert scene.status() == ("well", "") and scene.ledger()["edits"] == ["param 5 1017 00 50"]
+
+
+def test_replies_are_read_whatever_the_pieces():
+    chance = random.Random(65)
+    for _ in range(12):
+        texts = [random_reply(chance) for _ in range(chance.randint(1, 12))]
+        put("replies", b"".join(texts))
+        opened = Opened([sys.executable, "-S", "-E", "-c", PIECES, "replies", str(chance.choice((1, 7, 60, 1 << 17)))])
+        opened.send(b"", len(texts))
+        for text in texts:
+            kept = chance.choice((b"", text, text[:-2] + b"x\n", random_reply(chance)))
+            found = opened.take_reply(kept)
+            assert found == text and (found is kept or kept != text)
+        assert opened.due == 0
+        opened.close()
+
+
+# A program that writes a file in pieces of a size, and then waits for its input to end.
+PIECES = """
+import sys
+text, size = open(sys.argv[1], "rb").read(), int(sys.argv[2])
+for place in range(0, len(text), size):
+    sys.stdout.buffer.write(text[place:place + size])
+    sys.stdout.buffer.flush()
+sys.stdin.read()
+"""
+
+
+def random_reply(chance):
+    count = chance.choice((0, 1, 2, 3, 40, 5000))
+    return b"lines %d\n" % count + b"".join(b"%0*d\n" % (chance.randint(1, 9), line) for line in range(count))
 
 
 def test_a_cobench_of_another_project_is_started_afresh():

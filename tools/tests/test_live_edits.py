@@ -3,7 +3,7 @@ import random
 
 from cobench_tools import script, tool
 from cobench_tools.hints import Hints
-from cobench_tools.live.edits import edits, first_project, items_of
+from cobench_tools.live.edits import edits, first_project, items_of, nodes_of_files
 from cobench_tools.project import Project
 
 NODES, SHEETS, NAMES, MESSAGES = range(1, 8), ["d", "e", "f", "g"], ["a", "b", "c", "x", "y"], ["m", "n", "o"]
@@ -111,3 +111,11 @@ def test_all_data_sheets_are_exchanged_where_no_more_can_be_there():
 
     made = leads(project("a"), project("b"))
     assert len([edit for edit in made if edit.startswith("eds")]) == 64
+
+
+def test_files_that_edits_cannot_change_are_known():
+    for made, nodes in (([], set()), ([b"event 1 5 power 5 on\n", b"drop-event 2\n", b"horizon 9\n"], set()),
+                        ([b"param 5 1017 00 7\n", b"unparam 6 1017 00\n", b"event 1 5 power 7 on\n"], {b"5", b"6"}),
+                        ([b"param 5 1017 00 7\n", b"message m 5 1 2 0 0 000\n"], None), ([b"bitrate 500\n"], None), ([b"manager 9 0 0 500\n"], None),
+                        ([b"eds d 1\n[1000]\n"], None), ([b"node 5 pump drive\n"], None), ([b"need 5 optional\n"], None)):
+        assert nodes_of_files(made) == nodes, made
