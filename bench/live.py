@@ -12,8 +12,10 @@ a parameter changes; and the example servo_axes, in which a parameter changes. F
     files   a save while `cobtool live` follows it, until all but the run is there for the page
     page    the same, until the run is there too
 
-without the browser, and without the wait of at most 0.2 s for the next look. Prints the least of so many
-turns in milliseconds, and page beside afresh. Run it from anywhere: bench/live.py crates/cobench/out/cobench
+without the browser, and without the wait of at most 0.02 s for the next look. Prints the least of so many
+turns in milliseconds, and page beside afresh and beside whole. Limits: a third of afresh for a parameter of
+one of 126 drives and for the event, 100 ms for the example; there are none where cobench simulates all of
+ten seconds anew. Run it from anywhere: bench/live.py crates/cobench/out/cobench
 """
 import os
 import re
@@ -54,14 +56,14 @@ def axes():
     return day_script().encode().replace(b"<", b"<" + os.path.dirname(os.path.abspath(SHEET)).encode() + b"/")
 
 
-# Script, what changes, and what stands for the number of the turn there.
+# Script, what changes, what stands for the number of the turn there, the most of afresh, and the most in milliseconds.
 CHANGES = [
-    (long_run, "a parameter of one of 126 nodes", b"param 60 2000 0 7", b"param 60 2000 0 %d"),
-    (long_run, "a heartbeat time of one of 126 nodes", b"param 60 1017 0 100", b"param 60 1017 0 10%d"),
-    (long_run, "an event at 9.9 of 10 s", b"event 999 9900000 set 3 6064 0 5", b"event 999 9900000 set 3 6064 0 %d"),
-    (long_run, "a message's type", b"message m05 5 1 2 0 0 0", b"message m05 5 1 %d 0 0 0"),
-    (drives, "a parameter of one of 126 drives", b"param 60 1017 0 100", b"param 60 1017 0 10%d"),
-    (axes, "a parameter of the example", b"param 1 1017 0 100", b"param 1 1017 0 10%d"),
+    (long_run, "a parameter of one of 126 nodes", b"param 60 2000 0 7", b"param 60 2000 0 %d", None, None),
+    (long_run, "a heartbeat time of one of 126 nodes", b"param 60 1017 0 100", b"param 60 1017 0 10%d", None, None),
+    (long_run, "an event at 9.9 of 10 s", b"event 999 9900000 set 3 6064 0 5", b"event 999 9900000 set 3 6064 0 %d", 1 / 3, None),
+    (long_run, "a message's type", b"message m05 5 1 2 0 0 0", b"message m05 5 1 %d 0 0 0", None, None),
+    (drives, "a parameter of one of 126 drives", b"param 60 1017 0 100", b"param 60 1017 0 10%d", 1 / 3, None),
+    (axes, "a parameter of the example", b"param 1 1017 0 100", b"param 1 1017 0 10%d", None, 100),
 ]
 
 
@@ -114,12 +116,17 @@ def main():
     if len(sys.argv) != 2:
         sys.exit("usage: live.py PROGRAM")
     program = os.path.abspath(sys.argv[1])
-    print(f"{'':38} {'afresh':>8} {'whole':>8} {'files':>8} {'page':>8}  of afresh")
+    print(f"{'':38} {'afresh':>8} {'whole':>8} {'files':>8} {'page':>8}  of afresh  of whole")
+    failed = False
     with tempfile.TemporaryDirectory() as folder:
         os.chdir(folder)
-        for script, what, old, new in CHANGES:
+        for script, what, old, new, share, most in CHANGES:
             afresh, whole, files, page = measure(program, script(), old, new)
-            print(f"{what:38} {afresh:8.1f} {whole:8.1f} {files:8.1f} {page:8.1f}  {page / afresh:.2f}", flush=True)
+            is_over = share and page > share * afresh or most and page > most
+            words = ": over the limit" if is_over else ""
+            print(f"{what:38} {afresh:8.1f} {whole:8.1f} {files:8.1f} {page:8.1f} {page / afresh:10.2f} {page / whole:9.2f}{words}", flush=True)
+            failed = failed or is_over
+    return 1 if failed else 0
 
 
-main()
+sys.exit(main())
