@@ -17,15 +17,10 @@ from operator import itemgetter, sub
 
 from . import meaning, tool
 from .boots import is_boot_up
-from .bundle import content_text
 from .device import BOOLEAN, SIGNED
-from .trace import Note, bit_time, line_of
+from .trace import Note, bit_time
 
 OTHERS = -1
-TIME = 11               # the digits of a line's time, and the blank behind them
-MOST_TEXTS = 100_000    # so many texts of frames are known at most
-NUMBERS = tuple(map(str, range(10_000)))
-BY_DIGITS = {b"%04d" % number: number for number in range(10_000)}
 FIRST_STATE = "pre-operational"
 STATES = ("off", "stopped", "operational", "pre-operational")
 BY_BYTE = {4: "stopped", 5: "operational", 127: "pre-operational"}
@@ -39,14 +34,6 @@ def form_of(kind):
 
 def entry_text(entry):
     return f"{entry[0]:04X}h" + (f":{entry[1]:02X}" if entry[1] else "")
-
-
-def joined(numbers):
-    """Numbers from 0 on, one behind the other."""
-    try:
-        return ",".join(map(NUMBERS.__getitem__, numbers))
-    except IndexError:
-        return ",".join(map(str, numbers))
 
 
 class Sorts:
@@ -128,13 +115,12 @@ class Window:
         elif is_boot_up(line):
             self.boots.append(line)
 
+    def identifiers(self, sorts):
+        """Those of its frames."""
+        return {sorts.rows[place][0] for place in set(self.sorts)}
+
     def content(self):
         return {"at": self.at, "time": self.times, "sort": self.sorts, "data": "".join(self.data), "flags": self.flags}
-
-    def text(self):
-        """The content as JSON, which is made of texts that are there already."""
-        return (f'{{"at":{self.at},"time":[{joined(self.times)}],"sort":[{joined(self.sorts)}],'
-                f'"data":"{"".join(self.data)}","flags":{content_text(self.flags)}}}')
 
 
 class Drawing:
@@ -145,8 +131,8 @@ class Drawing:
     """
 
     def __init__(self, network, sorts):
-        self.network, self.sorts, self.nodes, self.others = network, sorts, set(), False
-        self._known, self._texts, self._texts_of = {}, {}, {}
+        self.network, self.sorts = network, sorts
+        self.nodes, self.others, self._known = set(), False, {}
 
     def window(self, at, lines):
         """The window of the next lines."""
@@ -154,39 +140,6 @@ class Drawing:
         found = [(line.time, self.take(window, line)) for line in lines]
         window.fill([time for time, each in found if each], [each for _, each in found if each])
         return window
-
-    def window_of(self, at, text):
-        """The window of the next lines, which stand in a text, of the 10 ms from there on; frames that were there are told by theirs."""
-        window, lines = Window(at), text.split(b"\n")[:-1]
-        found = self.found(window, lines, [line[TIME:] for line in lines])
-        times = list(map(at.__add__, map(BY_DIGITS.__getitem__, [line[TIME - 5:TIME - 1] for line in lines])))
-        if window.noted:
-            times, found = [time for time, each in zip(times, found) if each], [each for each in found if each]
-        window.fill(times, found)
-        return window
-
-    def found(self, window, lines, texts):
-        """What `take` gives of each of the next lines; `texts` are what stands behind their times."""
-        self.look()
-        found, place = list(map(self._texts.get, texts)), 0
-        while None in found:
-            place = found.index(None, place)
-            found[place] = self.take_new(window, lines[place], texts[place])
-            if self.network.touched:
-                self.look()
-                found[place + 1:] = map(self._texts.get, texts[place + 1:])
-        return found
-
-    def take_new(self, window, line, text):
-        """Takes the next line, the text of which may not be known; what `take` gives, or () for a note."""
-        if text in self._texts:
-            return self._texts[text]
-        line = line_of(line)
-        found = self.take(window, line) or ()
-        if found and self.known(line.identifier, line.data):
-            self._texts[text] = found
-            self._texts_of.setdefault(line.identifier, []).append(text)
-        return found
 
     def take(self, window, line):
         """Takes the next line; of a frame its sort, what it changes, and its bytes; None of a note."""
@@ -198,18 +151,14 @@ class Drawing:
     def known(self, identifier, data):
         """The sort of a frame that was there already, and what it changes: it says the same again until PDOs change."""
         if self.network.touched:
-            self.look()
+            self.forget()
         known = self._known.get(identifier)
         return known and (known.get(len(data)) or known.get(data))
 
-    def look(self):
-        """Where it may have changed what PDOs some identifiers are, nothing of these is known any more."""
-        if len(self._texts) > MOST_TEXTS:
-            self._known, self._texts, self._texts_of = {}, {}, {}
+    def forget(self):
+        """It may have changed what PDOs some identifiers are: nothing of these is known any more."""
         for identifier in self.network.touched:
             self._known.pop(identifier, None)
-            for text in self._texts_of.pop(identifier, ()):
-                del self._texts[text]
         self.network.touched.clear()
 
     def recognise(self, window, line):

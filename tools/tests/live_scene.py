@@ -98,11 +98,24 @@ def sorts_of(items):
     return rows
 
 
+def window_of(item):
+    """A window; of one whose lines came as they stand in the trace, as the others have it."""
+    if "lines" not in item:
+        return item
+    now, window = item["at"], {"at": item["at"], "time": [], "sort": [], "data": "", "flags": []}
+    for line in item["lines"].split("\n"):
+        window["time"].append(int(line[:10]) - now)
+        window["sort"].append(item["of"].get(line[11:], item["of"].get(line[11:18])))
+        window["data"] += line[19:].replace(" ", "")
+        now = int(line[:10])
+    return window
+
+
 def trace_of(items):
     """The lines of the trace that the windows of a feed have, notes and frames, by time."""
     sorts, lines = sorts_of(items), []
     for number in sorted(int(name[7:]) for name in items if name.startswith("window/")):
-        window = items[f"window/{number}"]
+        window = window_of(items[f"window/{number}"])
         time_at, place = window["at"], 0
         for delta, sort in zip(window["time"], window["sort"]):
             identifier, size = sorts[sort][0], sorts[sort][3]

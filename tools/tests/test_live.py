@@ -14,14 +14,15 @@ from types import SimpleNamespace
 from cobench_tools import meaning, replies, trace
 from cobench_tools.bundle import content_text
 from cobench_tools.live import watch
+from cobench_tools.live.drawing import Plain, TextDrawing
 from cobench_tools.live.feed import Feed
 from cobench_tools.live.opened import Opened
 from cobench_tools.live.run import spans_of
 from cobench_tools.live.server import Server
 from cobench_tools.commands.live import PORT
-from cobench_tools.picture import Drawing, Sorts
+from cobench_tools.picture import Drawing, Sorts, Window
 from helper import BINARY, COBTOOL, EXAMPLES, ROOT, file, is_refused, put, recorded, recorded_replies, run, run_alone
-from live_scene import FOLDER, Scene, day_script, wait_until, words
+from live_scene import FOLDER, Scene, day_script, wait_until, window_of, words
 
 
 def value(items, node, entry):
@@ -97,15 +98,24 @@ def test_a_value_has_no_other_windows_drawn_again():
 
 
 def test_windows_of_texts_are_those_of_their_lines():
-    replies_of_axes = replies.session_of("replies", file(EXAMPLES, "servo_axes.replies.txt")).replies
-    lines = next(reply.lines for reply in replies_of_axes if reply.lines and trace.trace_of(reply.lines))
-    one, other = (Drawing(meaning.Network(None, True), Sorts()) for _ in range(2))
+    answers = replies.session_of("replies", file(EXAMPLES, "servo_axes.replies.txt")).replies
+    lines = next(reply.lines for reply in answers if reply.lines and trace.trace_of(reply.lines))
+    one, other = Drawing(meaning.Network(None, True), Sorts()), TextDrawing(meaning.Network(None, True), Sorts())
+    kinds = []
     for number in range(int(lines[-1][:6]) + 1):
         mine = [line for line in lines if int(line[:6]) == number]
-        window, text = one.window(number * 10000, trace.trace_of(mine)), other.window_of(number * 10000, b"".join(line + b"\n" for line in mine))
-        assert (window.content(), window.changes, window.said, window.noted) == (text.content(), text.changes, text.said, text.noted)
-        assert text.text() == content_text(text.content()) and len(window.boots) == len(text.boots)
-    assert one.sorts.rows == other.sorts.rows
+        plain = one.window(number * 10000, trace.trace_of(mine))
+        window = other.window_of(number * 10000, b"".join(line + b"\n" for line in mine))
+        content = window_of(json.loads(content_text(window.content())))
+        assert rows_of(plain.content(), one.sorts) == rows_of(content, other.sorts)
+        assert (plain.changes, plain.said, plain.noted, plain.flags) == (window.changes, window.said, list(window.noted), list(window.flags))
+        kinds.append(type(window))
+    assert kinds.count(Window) > 2 and kinds.count(Plain) > 2
+
+
+def rows_of(content, sorts):
+    """What the frames of a window are, with their times and bytes."""
+    return content["time"], [json.loads(json.dumps(sorts.rows[sort])) for sort in content["sort"]], content["data"]
 
 
 def test_another_name_is_shown_in_all_places():

@@ -9,7 +9,7 @@ from cobench_tools.live.feed import Feed
 from cobench_tools.live.follow import Follower
 from helper import in_parallel, kept_at, put, real
 from histories import history
-from live_scene import sorts_of, trace_of
+from live_scene import sorts_of, trace_of, window_of
 
 KEPT = [sys.executable, "-S", "-E", kept_at("open_stand_in"), kept_at(os.path.join("live", "histories"))]
 
@@ -33,7 +33,7 @@ def drawn(items):
     """What the page draws of the run: each window with what its frames are."""
     sorts = sorts_of(items)
     windows = {name: (item["time"], [sorts[sort] for sort in item["sort"]], item["data"], item["flags"])
-               for name, item in items.items() if name.startswith("window/")}
+               for name, item in ((name, window_of(item)) for name, item in items.items() if name.startswith("window/"))}
     return windows, items["run"], items["boots"]
 
 

@@ -3,8 +3,8 @@ from collections import namedtuple
 
 from .. import boots, findings, meaning
 from ..boots import is_boot_up
-from ..bundle import Ready
-from ..picture import OTHERS, STATES, Drawing, Sorts, event_flag, events_of, first_states, go_on, in_order, told_by_node
+from ..picture import OTHERS, STATES, Sorts, event_flag, events_of, first_states, go_on, in_order, told_by_node
+from .drawing import TextDrawing
 
 WINDOW = 10_000         # microseconds
 DIGITS = 6              # so many of the ten digits of a time are the number of its window
@@ -18,16 +18,16 @@ class Kept:
 
     text         its lines
     before       what the trace had told before it, and `behind` it
-    window       the drawing, and `content` what the page has of it, as JSON
+    window       the drawing, and `content` what goes to the page of it
     nodes        the nodes whose SDO transfers and values it goes by, or changes
     identifiers  the identifiers of which it goes by what PDOs they are
     """
 
     def __init__(self, text, before, behind, window, sorts):
         self.text, self.before, self.behind, self.window = text, before, behind, window
-        self.content = Ready(window.text())
+        self.content = window.content()
         self.nodes = set(window.said) | {line.identifier & 0x7F for line in window.boots if is_boot_up(line)}
-        self.identifiers = {sorts.rows[place][0] for place in set(window.sorts)} if window.sorts else set()
+        self.identifiers = window.identifiers(sorts)
 
     def at(self, before):
         """The same where the trace has told something else before, which it doesn't go by."""
@@ -141,7 +141,7 @@ class Run:
         """Nothing that was drawn is of use any more, as names are others."""
         self.sorts, self._gone, self._told, self._count = Sorts(), self._gone + self._told, [], 0
         self._network = meaning.Network(project, True, devices)
-        self._drawing, self._at = Drawing(self._network, self.sorts), None
+        self._drawing, self._at = TextDrawing(self._network, self.sorts), None
 
     def _kept(self, number, text, state, kept):
         """A window of the trace: as it was kept, where it says the same, or drawn."""

@@ -5,9 +5,10 @@ import time
 
 from .. import tool
 
-SETTLED = 0.01     # seconds for which files stand still before what they make is told: some editors write in two steps
+SETTLED = 0.01      # seconds for which files stand still before what they make is told: some editors write in two steps
+FILLED = 0.25       # seconds in which a file that is empty or gone may come: some editors take it away first
 JUST_NOW = 0.1      # seconds in which two writes of a file may have one time
-MOST_LOOKS = 20
+MOST_LOOKS = 30
 
 
 def stamp_of(path):
@@ -32,6 +33,14 @@ def written_at(path):
     """When a file was written, in milliseconds of the clock, 0 where it isn't there."""
     stamp = stamp_of(path)
     return stamp[0] // 1_000_000 if stamp else 0
+
+
+def until(stamp, now):
+    """Until when a file with this stamp now may be written on, in seconds of the clock."""
+    if stamp is None:
+        return now + FILLED
+    written, size, _ = stamp
+    return written / 1e9 + (SETTLED if size else FILLED)
 
 
 class Watch:
@@ -64,11 +73,12 @@ class Watch:
 
     def stands_still(self):
         """Waits until the files haven't been written for a while; whether they are as they were read."""
+        start = time.time()
         for _ in range(MOST_LOOKS):
-            wait = max((stamp[0] / 1e9 + SETTLED for stamp, _ in self._files.values() if stamp), default=0) - time.time()
-            if not 0 < wait <= SETTLED or self._has_moved():
+            wait = max((until(stamp, start) for stamp, _ in self._files.values()), default=start) - time.time()
+            if not 0 < wait <= FILLED or self._has_moved():
                 break
-            time.sleep(wait)
+            time.sleep(min(wait, SETTLED))
         return not self._has_moved()
 
     def _has_moved(self):
