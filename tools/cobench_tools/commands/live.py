@@ -25,8 +25,8 @@ can't be run, or the port is in use.
   cobtool live --open network.txt"""
 
 PORT = 8306
-LOOKS = 0.02    # seconds between two looks at the files
-SHARE = 0.05    # of the time goes into looks at most, where a file system is slow
+LOOKS = 0.02, 0.2   # seconds between two looks at the files, and where a file system is slow
+SHARE = 0.05        # of the time that goes into looks, where it isn't
 
 
 def arguments(parser):
@@ -51,14 +51,19 @@ def stop(*_):
     raise KeyboardInterrupt
 
 
+def pause_after(look):
+    """How long there is no look at the files after one that took so long, in seconds."""
+    return min(max(LOOKS[0], look / SHARE), LOOKS[1])
+
+
 def follow(follower):
     """Looks at the files again and again, until Ctrl-C or the system's wish to end."""
     signal.signal(signal.SIGTERM, stop)
     try:
         while True:
             start = time.monotonic()
-            changed = follower.look()
-            time.sleep(LOOKS if changed else max(LOOKS, (time.monotonic() - start) / SHARE))
+            is_other = follower.look()
+            time.sleep(LOOKS[0] if is_other else pause_after(time.monotonic() - start))
     except KeyboardInterrupt:
         pass
 
