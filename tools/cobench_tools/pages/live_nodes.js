@@ -73,7 +73,9 @@ class NodeCard {
   /** What the run shows of it. */
   about(run, boots) {
     const states = run.states[this.node.node] || [], last = states.length ? run.stateNames[states[states.length - 1][1]] : "";
-    const time = boots ? boots.times[this.node.node] : undefined;
+    const time = boots ? boots.times[this.node.node] : undefined, shown = `${last} ${time}`;
+    if (shown === this.shown) return;
+    this.shown = shown;
     this.state.replaceChildren(element("i", { class: last, style: `background: var(--${last})` }), last);
     this.state.title = "state at the end of the run";
     this.booted.textContent = time === undefined ? "not configured" : `configured at ${shownTime(time)}`;

@@ -39,8 +39,9 @@ class RunPart {
   }
 
   take(items, changed) {
-    const isOther = ["window/", "sorts/", "run", "ledger"].some(start => touches(changed, start));
-    if (!isOther || !items.get("run")) return;
+    const isOther = ["window/", "sorts/", "run"].some(start => touches(changed, start));
+    const isMarked = changed.has("ledger") && this.timeline.trace && this.timeline.trace.fresh.size;
+    if (!isOther && !isMarked || !items.get("run")) return;
     const sorts = [];
     for (const { at, rows } of items.all("sorts/")) rows.forEach((row, n) => { sorts[at + n] = row; });
     const windows = items.all("window/");
