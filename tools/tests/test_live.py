@@ -298,6 +298,16 @@ def test_an_editor_that_writes_in_two_steps_is_waited_for():
         assert scene.ledger()["edits"] == ["param 5 1017 00 50"], scene.ledger()
 
 
+def test_a_file_that_is_written_meanwhile_is_followed_again():
+    with Scene() as scene:
+        still, before = iter((False,)), scene.trace()
+        scene.follower.watch.stands_still = lambda: next(still, True)
+        scene.change(b"param 5 1017 0 100", b"param 5 1017 0 50")
+        assert scene.status() == ("well", "") and scene.ledger()["edits"] == [] and len(scene.items["ledger"]) == 2
+        assert value(scene.items, 5, "1017h:00") == ["Producer heartbeat time", "50 (32h)", "100 (64h)"]
+        assert scene.windows() and len(scene.trace()) > len(before), "what was drawn of the first time is told too"
+
+
 # The feed and the server.
 
 def test_the_feed_gives_what_is_new():

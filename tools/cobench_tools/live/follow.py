@@ -31,7 +31,7 @@ class Follower:
         self.path, self.words, self.feed = path, words, feed
         self.programs, self.watch, self.answers, self.run = Programs(words), watch.Watch(), Answers(), Run()
         self.number, self.records, self.is_first = 0, [], True
-        self.looks, self.since, self.answered = 0, 0.0, None
+        self.looks, self.since, self.answered, self.drawn = 0, 0.0, None, {}
 
     # Looking.
 
@@ -105,6 +105,7 @@ class Follower:
         """Forgets all that was kept, on the page too."""
         self.programs.close()
         self.programs, self.answers, self.run, self.is_first = Programs(self.words), Answers(), Run(), True
+        self.drawn = {}
         self.feed.clear()
 
     def say(self, state, words, waits=""):
@@ -171,21 +172,27 @@ class Follower:
             answers = self.answers.copy()
             evidence = answers.evidence(answered)
             items = answers.take(answered, evidence, self.is_first)
-        self.settle()
-        self.answers = answers
-        self.feed.put(items)
-        self.say("working", "the script was saved", "trace")
+        if not self.programs.opened.is_answering():
+            self.tell(answers, items)
+            self.say("working", "the script was saved", "trace")
         with save.step("trace"):
             text = self.programs.opened.take_text()
         with save.step("picture"):
-            items = self.draw(save, text, answered.project)
-            items.update(self.answers.booted(answered, evidence, self.run))
-        self.is_first = False
-        self.feed.put({**items, **self.ended(save, answered)})
+            self.drawn.update(self.draw(save, text, answered.project, answers.sheets))
+            items.update(answers.booted(answered, evidence, self.run))
+        self.tell(answers, {**items, **self.drawn}, lambda: self.ended(save, answered))
+        self.is_first, self.drawn = False, {}
 
-    def draw(self, save, text, project):
+    def tell(self, answers, items, ended=dict):
+        """Puts into the feed what comes of answers, once the files have stood still, and what `ended` gives then."""
+        if self.answers is not answers:
+            self.settle()
+        self.answers = answers
+        self.feed.put({**items, **ended()})
+
+    def draw(self, save, text, project, sheets):
         """The items of the run: what is other than before."""
-        changed = self.run.take(text, project, self.answers.sheets)
+        changed = self.run.take(text, project, sheets)
         save.windows, save.of_windows, save.lines = len(changed), len(self.run.windows), text.count(b"\n")
         items = {f"window/{number}": self.run.content(number) for number in changed}
         items.update(self.run.new_sorts())

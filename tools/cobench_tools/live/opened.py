@@ -2,6 +2,7 @@
 import contextlib
 import os
 import re
+import select
 import subprocess
 import tempfile
 import threading
@@ -111,6 +112,10 @@ class Opened:
         if reply.lines is None:
             raise Ended(f"{self.words[0]}: {tool.shown(query)} was refused")
         return reply.lines
+
+    def is_answering(self):
+        """Whether some of its output is there."""
+        return self._at < len(self._read) or bool(select.select([self._process.stdout], [], [], 0)[0])
 
     def is_running(self):
         return self._process.poll() is None
