@@ -1,5 +1,5 @@
 //! Where a session is in its input.
-ghost use Rattle.std.specs.Prelude.{◌≡◌, ◌++◌, IfOk};
+ghost use Rattle.std.specs.Prelude.{◌≡◌, ◌++◌, [], IfOk, None};
 ghost use Rattle.workbench.specs.Replies.{after_line};
 ghost use Rattle.workbench.specs.Machine.{first_cursor, at_break};
 ghost use Rattle.workbench.specs.Views.{cursor_of, ended_at};
@@ -44,6 +44,16 @@ impl Cursor {
         Ok(reply)
     }
 
+    /// Takes a line of which nothing came before, where no block is open: it is read where it stands.
+    fn take_whole(&mut self, line: &[u8]) -> Result<Reply, AllocError>
+        requires block { self.old.block ≡ None }
+        requires line { self.old.line.items ≡ [] }
+        ensures { IfOk result (λ reply. ended_at self.new reply
+            ≡ at_break (after_line (cursor_of self.old).state line.now)) }
+    {
+        take_command(self.alloc, &mut self.workbench, &mut self.block, line)
+    }
+
     /// Takes the line so far and these bytes behind it as a whole line. Where no block is open, a line of which nothing
     /// came before is read where it stands; every other line is copied.
     pub fn take_rest(&mut self, rest: &[u8]) -> Result<Reply, AllocError>
@@ -51,7 +61,7 @@ impl Cursor {
             ≡ at_break (after_line (cursor_of self.old).state (self.old.line.items ++ rest.now))) }
     {
         if self.block.is_none() && self.line.is_empty() {
-            return take_command(self.alloc, &mut self.workbench, &mut self.block, rest);
+            return self.take_whole(rest);
         }
         self.line.extend_from_slice(rest)?;
         self.end_line()
