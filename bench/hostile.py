@@ -5,6 +5,8 @@ Takes the path of the program, and names of kinds, or none for all:
 
   bytes      each byte 0 to 255 in each place of five commands and of a line of an EDS, one command or block each
   replaced   64 MiB of `eds` blocks of one name, each in the place of the one before, with a `dcf` behind each
+  gone       data sheets under ever new names, each given to a node, asked about by `cdcf` and dropped as the next has its
+             place: 1,000 of 16 compact objects in at most 32 MiB, 100 of 65,536 lines in at most 200 MiB
   largest    the texts, nodes, parameters and messages of `diagnostics.py`, with a `trace` to a second
   busiest    126 nodes, of which each sends all its TPDOs at each SYNC of a millisecond, and events; to five and
              to ten seconds; with 1 and with 16 TPDOs a node
@@ -109,6 +111,34 @@ def replaced(program):
     return good
 
 
+# ---- gone
+
+def objects(number, lines):
+    """The lines of a data sheet with so many objects."""
+    return [line for n in range(number) for line in (b"[%04X]" % (0x2000 + n), *lines)]
+
+
+def one_after_another(program, name, sheet, turns, limit):
+    """Each `cdcf` is answered, and of the sheets that are dropped nothing is held."""
+    block = b"".join(line + b"\n" for line in sheet)
+    lines = []
+    for turn in range(turns):
+        lines += [b"eds a%d %d\n" % (turn, len(sheet)), block, b"node 5 p a%d\n" % turn]
+        lines += [b"drop-eds a%d\n" % (turn - 1)] if turn else []
+        lines += [b"cdcf 5\n"]
+    seconds, kib, replies = run(program, lines)
+    right = replies == [b"ok", b"ok", b"lines 1", b"00 00 00 00"] + [b"ok", b"ok", b"ok", b"lines 1", b"00 00 00 00"] * (turns - 1)
+    return told(name, seconds, kib, right and kib <= limit << 10, f"{turns} sheets of {len(sheet)} lines")
+
+
+def gone(program):
+    compact = objects(16, [b"ObjectType=8", b"DataType=7", b"CompactSubObj=254"])
+    large = objects(4096, [b"DataType=7"]) + [b"[Comments]"]
+    large += [b"%X=" % number for number in range(65536 - len(large))]
+    good = one_after_another(program, "gone, small", compact, 1000, 32)
+    return one_after_another(program, "gone, large", large, 100, 200) and good
+
+
 # ---- largest
 
 def largest(program):
@@ -176,7 +206,7 @@ def crowded(program):
     return good
 
 
-KINDS = {"bytes": bytes_everywhere, "replaced": replaced, "largest": largest, "busiest": busiest, "crowded": crowded}
+KINDS = {"bytes": bytes_everywhere, "replaced": replaced, "gone": gone, "largest": largest, "busiest": busiest, "crowded": crowded}
 
 
 def main():

@@ -119,7 +119,7 @@ before_next image fits t s h =
       rests = λ soon. at_rest_after image t s h;
     }
 
-due_ahead : (t : ℕ) (s : Bus) → IsJustBefore t s → t ≤ next_due s
+pub due_ahead : (t : ℕ) (s : Bus) → IsJustBefore t s → t ≤ next_due s
 due_ahead t s h = due_from t s h.in_time.window.from h.from
 
 pub due_past : (image : Image) → IsImage image → (t : ℕ) (s : Bus) → IsJustBefore t s

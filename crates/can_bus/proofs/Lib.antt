@@ -5,7 +5,6 @@ pub mod ManagerLemmas
 pub mod NodeLemmas
 pub mod PowerLemmas
 pub mod InstantLemmas
-pub mod RunLemmas
 pub mod ReadLemmas
 pub mod ToldLemmas
 pub mod SettledLemmas
@@ -16,4 +15,3 @@ pub mod QuietLemmas
 pub mod AfterLemmas
 pub mod DueRunLemmas
 pub mod LeastLemmas
-pub mod TraceLemmas

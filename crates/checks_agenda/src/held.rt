@@ -5,7 +5,7 @@ use crate::marks::Marks;
 use crate::run::instant;
 use anyhow::Result;
 use can_bus::{BusState, Line, Lines, Parts};
-use co_depend::ProjectParts;
+use checks_layout::parts_of;
 use co_project::Project;
 use concise_dcf::Write as Written;
 use node_boot::{Note, NoteKind};
@@ -186,7 +186,7 @@ impl Held {
 
     /// What nodes hold in a run to the horizon: each as it has just been configured, and at the end.
     pub fn of(alloc: Global, project: &Project) -> Result<Held, AllocError> {
-        let mut parts = ProjectParts::new(alloc, project)?;
+        let mut parts = parts_of(alloc, project)?;
         let mut held = Held::none(alloc);
         held.run_parts(u64::from(project.horizon()), &mut parts)?;
         Ok(held)

@@ -3,7 +3,7 @@
 use crate::run::instant;
 use anyhow::Result;
 use can_bus::{BusState, Lines, Parts};
-use co_depend::ProjectParts;
+use checks_layout::parts_of;
 use co_parts::Part;
 use co_project::Project;
 use std::alloc::{AllocError, Global};
@@ -82,7 +82,7 @@ fn run_parts<P: Parts>(alloc: Global, parts: &mut P, end: u64) -> Result<Record,
 /// What a run of a project's network to its horizon reads.
 pub fn read_project(alloc: Global, project: &Project) -> Result<Record, AllocError> {
     let end = u64::from(project.horizon()) + 1;
-    let mut parts = ProjectParts::new(alloc, project)?;
+    let mut parts = parts_of(alloc, project)?;
     run_parts(alloc, &mut parts, end)
 }
 

@@ -2,7 +2,7 @@
 
 use crate::outcome::Outcome;
 use can_bus::{BusState, Lines, Parts};
-use co_depend::ProjectParts;
+use checks_layout::parts_of;
 use co_parts::END;
 use co_project::Project;
 use std::alloc::{AllocError, Global};
@@ -123,6 +123,6 @@ fn run_parts<P: Parts>(alloc: Global, parts: &mut P, end: u64) -> Result<Outcome
 /// Runs a project's network to its horizon.
 pub fn run_project(alloc: Global, project: &Project) -> Result<Outcome, AllocError> {
     let end = u64::from(project.horizon()) + 1;
-    let mut parts = ProjectParts::new(alloc, project)?;
+    let mut parts = parts_of(alloc, project)?;
     run_parts(alloc, &mut parts, end)
 }

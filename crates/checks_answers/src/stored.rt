@@ -5,6 +5,7 @@ ghost use Rattle.co_parts.specs.Images.{IsImage};
 
 use anyhow::Result;
 use can_bus::{Line, Parts, text};
+use checks_layout::parts_of;
 use co_depend::ProjectParts;
 use co_memo::Meter;
 use co_parts::END;
@@ -66,7 +67,7 @@ impl Stored {
 
     /// The trace of a project's network over the store, and the number of calls that asked for parts.
     fn trace(&mut self, project: &Project) -> Result<(Vec<Line>, u64), AllocError> {
-        let mut parts = ProjectParts::new(self.alloc, project)?;
+        let mut parts = parts_of(self.alloc, project)?;
         let lines = trace_parts(
             self.alloc,
             &mut self.store,

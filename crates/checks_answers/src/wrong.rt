@@ -2,17 +2,23 @@
 
 use anyhow::Result;
 use co_diag::diagnostics;
+use co_memo::{Meter, share_of};
 use co_project::Project;
 use diag_lines::Diag;
-use project_plan::{Library, plan};
+use kept_image::{ImagePart, KeptImage};
+use kept_parts::Part;
 use std::alloc::{AllocError, Global};
 use std::io::Write;
 
-/// All that is wrong with a project.
+/// All that is wrong with a project, by the plan that is kept of it.
 fn find_wrong(alloc: Global, project: &Project) -> Result<Vec<Diag>, AllocError> {
-    let mut library = Library::new(alloc, project);
-    let plan = plan(alloc, &mut library)?;
-    let list = diagnostics(alloc, project, &plan)?;
+    let mut image = KeptImage::new(alloc);
+    let mut meter = Meter::new();
+    image.refresh(&ImagePart::Kept(Part::Plan), project, &mut meter)?;
+    let Some(plan) = share_of(image.plan())? else {
+        unreachable!()
+    };
+    let list = diagnostics(alloc, project, plan.get())?;
     Ok(list)
 }
 

@@ -14,6 +14,7 @@ use Rattle.co_commands.specs.declared.query.Query.{Query}
 use Rattle.co_commands.specs.declared.query.Query.TheVariants.{Dcf, Cdcf, Diag, Trace, Project}
 use Rattle.kept_parts.specs.declared.part.Part.TheVariants as kind
 use Rattle.kept_image.specs.declared.image_part.ImagePart.TheVariants as part
+use Rattle.kept_image.specs.Gone.{left_of, IsSwept}
 use Rattle.kept_image.specs.Kept.{for_plan, given, held, reached, reached_by_trace, same_part, IsOf}
 use Rattle.kept_image.specs.declared.kept_image.KeptImage.{KeptImage}
 use Rattle.kept_image.specs.declared.image_part.ImagePart.{ImagePart}
@@ -44,38 +45,40 @@ store_capacity = 2048
 abbrev pub no_segments : Held
 no_segments = record { capacity = store_capacity; segments = [] }
 
--- what is kept is of the project, and the store holds as many segments as a workbench's
+-- what is kept is of the project, nothing is held of what is gone where that is known, and the store holds as many
+-- segments as a workbench's
 abbrev pub IsKeptOf : Content → KeptImage → KeptDiagnostics → Held → Type 0
-IsKeptOf p image found store = IsOf p image × AreOf p found × (store.capacity ≡ store_capacity)
+IsKeptOf p image found store = IsOf p image × IsSwept p image × AreOf p found × (store.capacity ≡ store_capacity)
 
--- these parts are held as they are to be built from the project, the others and the diagnostics as they were, and no
--- more are counted than were stale
+-- what the project doesn't have is let go, these parts are held as they are to be built from it, the others and the
+-- diagnostics as they were, and no more are counted than were stale
 pub record Brings (parts : List ImagePart) (old new : Bench) : Type 0 where
-  pub image : AreBrought same_part (given old.project) parts (held old.image) (held new.image) old.work new.work
+  pub image : AreBrought same_part (given old.project) parts (left_of old.project old.image) (held new.image) old.work
+      new.work
   pub found : new.found.found.kept ≡ old.found.found.kept
   pub store : new.store ≡ old.store
 
--- the plan with all that it is built from is held as it is to be built from the project, and then the diagnostics; no
--- more are counted than were stale
+-- what the project doesn't have is let go, the plan with all that it is built from is held as it is to be built from
+-- the project, and then the diagnostics; no more are counted than were stale
 pub record BringsDiagnostics (old new : Bench) : Type 0 where
   pub between : Work
-  pub image : AreBrought same_part (given old.project) (for_plan old.project) (held old.image) (held new.image) old.work
-      between
+  pub image : AreBrought same_part (given old.project) (for_plan old.project) (left_of old.project old.image)
+      (held new.image) old.work between
   pub found : new.found.found.kept ≡ Some (from_project old.project)
   pub counted : Refreshes (old.found.found.kept ≡ Some (from_project old.project)) between new.work
   pub store : new.store ≡ old.store
 
--- what a simulation reads is held as it is to be built from the project, and then the segments up to the horizon are
--- used or run, one after another: each is used that serves, and each other one is run, counted and kept; the store
--- holds as many as before at most
+-- what the project doesn't have is let go, what a simulation reads is held as it is to be built from the project, and
+-- then the segments up to the horizon are used or run, one after another: each is used that serves, and each other one
+-- is run, counted and kept; the store holds as many as before at most
 pub record Traces (old new : Bench) : Type 0 where
   pub between : Work
   pub end : Bus
   pub told : List Line
   pub ran : ℕ
   pub read : ℕ
-  pub image : AreBrought same_part (given old.project) (reached_by_trace old.project) (held old.image) (held new.image)
-      old.work between
+  pub image : AreBrought same_part (given old.project) (reached_by_trace old.project) (left_of old.project old.image)
+      (held new.image) old.work between
   pub traced : Traced (image_of old.project) old.store.capacity old.store.segments (old.project.horizon / 10000 + 1) end
       new.store.segments told ran read
   pub run : HasRun ran between new.work

@@ -1,8 +1,10 @@
 //! The plan that is kept.
 ghost use Rattle.std.specs.Prelude.{◌≡◌, IfOk, OnOk};
 ghost use Rattle.co_memo.specs.Stale.{AreBrought};
+ghost use Rattle.kept_image.specs.Gone.{left_of, IsSwept};
 ghost use Rattle.kept_image.specs.Kept.{for_plan, given, held, same_part, IsOf};
 ghost use Rattle.project_plan.specs.Network.{plan_of_project};
+ghost use Rattle.co_memo.specs.Work.{Rises};
 
 use co_memo::{Meter, Shared, share_of};
 use co_project::Project;
@@ -18,11 +20,14 @@ pub(crate) fn plan_of_now(
     image: &mut KeptImage,
     meter: &mut Meter,
 ) -> Result<Shared<Plan>, AllocError>
-    requires { IsOf project.now image.old }
+    requires is_of { IsOf project.now image.old }
+    requires swept { IsSwept project.now image.old }
     ensures plan { IfOk result (λ plan. plan ≡ plan_of_project project.now) }
     ensures brings { OnOk result (AreBrought same_part (given project.now) (for_plan project.now)
-        (held image.old) (held image.new) meter.old meter.new) }
+        (left_of project.now image.old) (held image.new) meter.old meter.new) }
     ensures is_of { IsOf project.now image.new }
+    ensures swept { IsSwept project.now image.new }
+    ensures rises { Rises meter.old meter.new }
 {
     image.refresh(&ImagePart::Kept(Part::Plan), project, meter)?;
     let Some(plan) = share_of(image.plan())? else {

@@ -6,6 +6,7 @@ ghost use Rattle.co_segments.specs.Segments.{HasRun, Traced};
 ghost use Rattle.network_image.specs.Image.{image_of};
 ghost use Rattle.network_image.specs.Network.{image_held};
 ghost use Rattle.co_answers.specs.Queries.{trace_of};
+ghost use Rattle.co_memo.specs.Work.{Rises};
 
 use co_depend::ProjectParts;
 use co_memo::Meter;
@@ -32,6 +33,7 @@ pub(crate) fn traced(
         end store.new.segments all ran read
         × HasRun ran meter.old meter.new))))) }
     ensures capacity { store.new.capacity ≡ store.old.capacity }
+    ensures rises { Rises meter.old meter.new }
 {
     project.keeps_to_rules();
     let horizon = project.horizon();

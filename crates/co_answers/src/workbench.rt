@@ -9,7 +9,7 @@ ghost use Rattle.project_script.specs.Script.{script};
 ghost use Rattle.co_project.specs.Sound.{IsSound};
 ghost use Rattle.co_project.specs.Tables.{node_at};
 ghost use Rattle.can_bus.specs.Lines.{lines_text};
-ghost use Rattle.co_memo.specs.Work.{idle};
+ghost use Rattle.co_memo.specs.Work.{idle, Rises};
 ghost use Rattle.kept_image.specs.Kept.{held, reached};
 ghost use Rattle.co_answers.specs.Bench.{no_segments, Brings, BringsDiagnostics, Traces};
 ghost use Rattle.co_answers.specs.Queries.{or_unknown, dcf_of, concise_of, trace_of};
@@ -145,6 +145,7 @@ impl Workbench {
         // Then nothing is looked at.
         ensures unlooked { IsErrOf result EditFault.Unknown → self.new ≡ self.old }
         ensures same { self.new.project ≡ self.old.project }
+        ensures rises { Rises self.old.work self.new.work }
     {
         if self.project.node(node).is_none() {
             return Err(EditFault::Unknown);
@@ -165,6 +166,7 @@ impl Workbench {
         // Then nothing is looked at.
         ensures unlooked { IsErrOf result EditFault.Unknown → self.new ≡ self.old }
         ensures same { self.new.project ≡ self.old.project }
+        ensures rises { Rises self.old.work self.new.work }
     {
         let file = self.listed_dcf(node)?;
         let text = Vec::from_slice(self.alloc, file.get().text())?;
@@ -186,6 +188,7 @@ impl Workbench {
         // Then nothing is looked at.
         ensures unlooked { IsErrOf result EditFault.Unknown → self.new ≡ self.old }
         ensures same { self.new.project ≡ self.old.project }
+        ensures rises { Rises self.old.work self.new.work }
     {
         if self.project.node(node).is_none() {
             return Err(EditFault::Unknown);
@@ -207,6 +210,7 @@ impl Workbench {
         // Then nothing is looked at.
         ensures unlooked { IsErrOf result EditFault.Unknown → self.new ≡ self.old }
         ensures same { self.new.project ≡ self.old.project }
+        ensures rises { Rises self.old.work self.new.work }
     {
         let file = self.listed_concise(node)?;
         let bytes = Vec::from_slice(self.alloc, file.get().bytes())?;
@@ -223,6 +227,7 @@ impl Workbench {
         ensures list { IfOk result (λ list. list ≡ diagnostics_of self.old.project) }
         ensures brings { OnOk result (BringsDiagnostics self.old self.new) }
         ensures same { self.new.project ≡ self.old.project }
+        ensures rises { Rises self.old.work self.new.work }
     {
         let plan = plan_of_now(&self.project, &mut self.image, &mut self.meter)?;
         let found = self.found.refresh(
@@ -241,6 +246,7 @@ impl Workbench {
         ensures lines { IfOk result (λ told. told ≡ trace_of self.old.project) }
         ensures traces { OnOk result (Traces self.old self.new) }
         ensures same { self.new.project ≡ self.old.project }
+        ensures rises { Rises self.old.work self.new.work }
     {
         self.image.refresh_all(&self.project, &mut self.meter)?;
         let network = self.image.network(&self.project)?;
@@ -268,6 +274,7 @@ impl Workbench {
         ensures lines { IfOk result (λ lines. lines.items ≡ trace_of self.old.project) }
         ensures traces { OnOk result (Traces self.old self.new) }
         ensures same { self.new.project ≡ self.old.project }
+        ensures rises { Rises self.old.work self.new.work }
     {
         let told = self.told()?;
         let lines = told.lines()?;
@@ -280,6 +287,7 @@ impl Workbench {
         ensures text { IfOk result (λ text. text ≡ lines_text (trace_of self.old.project)) }
         ensures traces { OnOk result (Traces self.old self.new) }
         ensures same { self.new.project ≡ self.old.project }
+        ensures rises { Rises self.old.work self.new.work }
     {
         let shown = self.told()?;
         let text = shown.listed()?;

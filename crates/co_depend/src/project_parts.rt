@@ -1,7 +1,5 @@
 //! What hands out the parts of a project.
-ghost use Rattle.std.specs.Prelude.{◌≡◌, [], IfOk};
-ghost use Rattle.co_parts.specs.Images.{IsCoherent, IsImage};
-ghost use Rattle.network_image.specs.Image.{image_of};
+ghost use Rattle.std.specs.Prelude.{◌≡◌, []};
 ghost use Rattle.network_image.specs.Network.{image_held};
 ghost use Rattle.co_depend.specs.Supply.{seen_of};
 
@@ -10,17 +8,15 @@ use asking::Asked;
 use can_bus::Parts;
 use co_dict::{Dict, Shape};
 use co_parts::{Identity, Part, PartContent, Read, Roster, Window};
-use co_project::Project;
 use concise_dcf::Write;
 use device_objects::Shapes;
 use network_image::NetworkParts;
 use node_boot::Boots;
-use project_plan::Library;
 use std::alloc::{AllocError, Global};
 use std::marker::Model;
 use std::rc::Rc;
 
-/// Hands out the parts of a project, made once, and records what was asked.
+/// Hands out the parts of a project, and records what was asked.
 ///
 /// A call takes time by the logarithm of the number of nodes or of windows, and memory for the record alone; the parts
 /// that it hands out are shared.
@@ -56,23 +52,6 @@ impl ProjectParts {
             asked: Vec::new(alloc),
             asks: 0,
         }
-    }
-
-    /// Makes the parts of a project. Want of memory is the only error.
-    ///
-    /// Reads the text of each EDS that a node has once, and plans the messages once; else takes the time
-    /// of `NetworkParts::of`.
-    pub fn new(alloc: Global, project: &Project) -> Result<ProjectParts, AllocError>
-        ensures seen { IfOk result (λ parts. seen_of parts ≡ record { image = image_of project.now; asked = [] }) }
-        ensures asks { IfOk result (λ parts. parts.asks ≡ 0) }
-        ensures image { IfOk result (λ parts. IsImage (seen_of parts).image) }
-        ensures coherent { IfOk result (λ parts. IsCoherent (seen_of parts).image) }
-    {
-        let mut library = Library::new(alloc, project);
-        let plan = project_plan::plan(alloc, &mut library)?;
-        let parts = NetworkParts::of(alloc, &mut library, &plan)?;
-        let handed = ProjectParts::of(alloc, parts);
-        Ok(handed)
     }
 }
 

@@ -7,7 +7,7 @@ use Rattle.std.specs.List.{list_any}
 use Rattle.std.specs.Option.{option_map}
 use Rattle.std.proofs.lemmas.List.Folds.{list_any-append}
 use Rattle.co_memo.specs.At.{at}
-use Rattle.co_memo.specs.Work.{Work, Refreshes}
+use Rattle.co_memo.specs.Work.{Work, Refreshes, Rises}
 use Rattle.co_memo.specs.Stale.{settled, Counts, IsOneMore, AreBrought}
 
 one_more_of : (P : Type 0) (k n m : ℕ) → IsOneMore P k n → IsOneMore P (k + m) (n + m)
@@ -48,6 +48,7 @@ module _ {N V : Type 0} (same : N → N → Bool) (now : N → V) where
       record {
         settled_is = y.settled_is ∙ ap (settled same now qs) x.settled_is ∙ sym (settled-append ps qs a);
         segments_stay = y.segments_stay ∙ x.segments_stay;
+        parts_rise = omega (arith, x.parts_rise, y.parts_rise);
         counted = (
           x.counted.0 + y.counted.0,
           counts-append ps qs a x.counted.0 y.counted.0 x.counted.1
@@ -58,7 +59,7 @@ module _ {N V : Type 0} (same : N → N → Bool) (now : N → V) where
 
   -- no parts
   pub none : (a : N → V) (m : Work) → AreBrought same now [] a a m m
-  none a m = record { settled_is = refl; segments_stay = refl; counted = (0, refl, omega arith) }
+  none a m = record { settled_is = refl; segments_stay = refl; parts_rise = omega arith; counted = (0, refl, omega arith) }
 
   or_false : (b : Bool) (x y : V) → (if b || false then x else y) ≡ (if b then x else y)
   or_false true x y = refl
@@ -71,7 +72,8 @@ module _ {N V : Type 0} (same : N → N → Bool) (now : N → V) where
       record {
         settled_is = λ i q. (stands q ∙ sym (or_false (same q p) (now q) (a q))) i;
         segments_stay = refreshes.0;
-        counted = elim refreshes.1 [
+        parts_rise = refreshes.1;
+        counted = elim refreshes.2 [
           | inl current ↦ (0, (0, inl (current.0, refl), refl), omega (arith, current.1))
           | inr stale ↦ (1, (0, inr (stale.0, refl), refl), stale.1)
         ];
@@ -80,7 +82,7 @@ module _ {N V : Type 0} (same : N → N → Bool) (now : N → V) where
 -- the same is counted where two facts say that a part is current
 pub refreshes_as : (P Q : Type 0) (m n : Work) → (P → Q) → (Q → P) → Refreshes P m n → Refreshes Q m n
 refreshes_as P Q m n to from r =
-    (r.0, elim r.1 [ inl x ↦ inl (to x.0, x.1) | inr x ↦ inr (λ q. x.0 (from q), x.1) ])
+    (r.0, r.1, elim r.2 [ inl x ↦ inl (to x.0, x.1) | inr x ↦ inr (λ q. x.0 (from q), x.1) ])
 
 pub option_map_back : {X G : Type 0} (make : X → G) → ((x y : X) → make x ≡ make y → x ≡ y) → (a b : Option X)
     → option_map make a ≡ option_map make b → a ≡ b
@@ -114,14 +116,16 @@ one_at_most m = omega arith
 
 -- of one that is current
 pub refreshes_none : (P : Type 0) (m : Work) → P → Refreshes P m m
-refreshes_none P m current = (refl, inl (current, omega arith))
+refreshes_none P m current = (refl, omega arith, inl (current, omega arith))
 
 -- and of one that isn't, where it is built from inputs, or let go where there are none
 pub refreshes_built : {O : Type 0} (P : Type 0) (now : Option O) (m n : Work) → (P → ⊥)
-    → IfSome now (λ _. n ≡ record m { parts = min (m.parts + 1) (2 ^ 64 - 1) }) → IfNone now (n ≡ m) → Refreshes P m n
-refreshes_built P None m n stale built same =
-    (ap (λ (w : Work). w.segments) same, inr (stale, let e = ap (λ (w : Work). w.parts) same in omega (arith, e)))
-refreshes_built P (Some o) m n stale built same =
+    → IfSome now (λ _. n ≡ record m { parts = min (m.parts + 1) (2 ^ 64 - 1) }) → IfNone now (n ≡ m) → Rises m n
+    → Refreshes P m n
+refreshes_built P None m n stale built same rises =
+    let e = ap (λ (w : Work). w.parts) same in
+    (ap (λ (w : Work). w.segments) same, rises.1, inr (stale, omega (arith, e)))
+refreshes_built P (Some o) m n stale built same rises =
     let e = ap (λ (w : Work). w.parts) built in
     let most = one_at_most m.parts in
-    (ap (λ (w : Work). w.segments) built, inr (stale, omega (arith, e, most)))
+    (ap (λ (w : Work). w.segments) built, rises.1, inr (stale, omega (arith, e, most)))

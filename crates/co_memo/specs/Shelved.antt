@@ -7,6 +7,10 @@ pub record Shelved (I : Type 0) : Type 0 where
   pub kept : List (ℕ × I)
   pub fresh : List Bool
 
+-- a number is flagged
+abbrev pub is_flagged : List Bool → ℕ → Bool
+is_flagged flags n = slice_index_or flags n false
+
 module _ {I : Type 0} where
   -- the inputs at a number
   abbrev pub kept_at : Shelved I → ℕ → Option I

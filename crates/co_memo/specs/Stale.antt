@@ -1,12 +1,16 @@
 -- What bringing parts up to date does, and how many of them are stale as they are reached. A part has a name, and is
 -- held with what it was built from.
-use Rattle.std.specs.Prelude.{◌≡◌, ℕ, ◌+◌, ◌≤◌, ◌⊎◌, Bool, List, [], ◌∷◌, if◌then◌else◌}
+use Rattle.std.specs.Prelude.{◌≡◌, ℕ, ◌+◌, ◌≤◌, ◌⊎◌, Bool, List, [], ◌∷◌, Option, None, if◌then◌else◌}
 use Rattle.std.specs.List.{list_any}
 use Rattle.co_memo.specs.Work.{Work}
 
 -- one more where it is stale
 abbrev pub IsOneMore : Type 0 → ℕ → ℕ → Type 0
 IsOneMore IsCurrent m n = (IsCurrent × (n ≡ m)) ⊎ ((IsCurrent → ⊥) × (n ≡ m + 1))
+
+-- what is held, but of parts that are gone
+abbrev pub without : {N V : Type 0} → (N → Bool) → (N → Option V) → N → Option V
+without gone held q = if gone q then None else held q
 
 module _ {N V : Type 0} (same : N → N → Bool) (now : N → V) where
   -- these parts as they are now, and the others as they were
@@ -18,8 +22,9 @@ module _ {N V : Type 0} (same : N → N → Bool) (now : N → V) where
   Counts [] held n = n ≡ 0
   Counts (p ∷ ps) held n = (m : ℕ) × IsOneMore (held p ≡ now p) m n × Counts ps (settled (p ∷ []) held) m
 
-  -- the parts are brought up to date, and no more of them are counted than were stale
+  -- the parts are brought up to date, and no more of them are counted than were stale; the count never becomes less
   pub record AreBrought (parts : List N) (old new : N → V) (before after : Work) : Type 0 where
     pub settled_is : new ≡ settled parts old
     pub segments_stay : after.segments ≡ before.segments
+    pub parts_rise : before.parts ≤ after.parts
     pub counted : (n : ℕ) × Counts parts old n × (after.parts ≤ before.parts + n)

@@ -10,9 +10,13 @@ pub record Work : Type 0 where
 abbrev pub idle : Work
 idle = record { segments = 0; parts = 0 }
 
--- nothing is counted, or one part that is not current
+-- what is counted never becomes less
+abbrev pub Rises : Work → Work → Type 0
+Rises old new = (old.segments ≤ new.segments) × (old.parts ≤ new.parts)
+
+-- nothing is counted, or at most one part, that is not current
 abbrev pub Refreshes : Type 0 → Work → Work → Type 0
-Refreshes IsCurrent old new = (new.segments ≡ old.segments)
+Refreshes IsCurrent old new = (new.segments ≡ old.segments) × (old.parts ≤ new.parts)
     × ((IsCurrent × (new.parts ≤ old.parts)) ⊎ ((IsCurrent → ⊥) × (new.parts ≤ old.parts + 1)))
 
 -- nothing is counted where the part is current, and else exactly one part, up to 2^64 - 1

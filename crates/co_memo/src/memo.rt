@@ -2,7 +2,7 @@
 ghost use Rattle.std.specs.Prelude.{◌≡◌, ◌↔◌, ◌+◌, ◌-◌, ◌^◌, min, true, false, None, Some, IsTrue, OnOk, OnErr};
 ghost use Rattle.std.specs.Bool.{IsFalse};
 ghost use Rattle.std.specs.Option.{option_map, option_copied};
-ghost use Rattle.co_memo.specs.Work.{Builds, Refreshes};
+ghost use Rattle.co_memo.specs.Work.{Builds, Refreshes, Rises};
 
 use crate::kept::Kept;
 use crate::makes::{Makes, Offers};
@@ -122,6 +122,7 @@ impl<I: Makes<T> + Drop, T: Drop> Memo<I, T> {
         ensures counted { OnOk result
             (meter.new ≡ record meter.old { parts = min (meter.old.parts + 1) (2 ^ 64 - 1) }) }
         ensures uncounted { OnErr result (meter.new ≡ meter.old) }
+        ensures rises { Rises meter.old meter.new }
     {
         let kept = Kept::build(alloc, &now)?;
         self.kept = Some(kept);
@@ -149,6 +150,7 @@ impl<I: Makes<T> + Drop, T: Drop> Memo<I, T> {
         ensures counted { OnOk result (Refreshes (self.old.kept ≡ Some (O.offered now)) meter.old meter.new) }
         ensures built { OnOk result (Builds (self.old.kept ≡ Some (O.offered now)) meter.old meter.new) }
         ensures uncounted { OnErr result (meter.new ≡ meter.old) }
+        ensures rises { Rises meter.old meter.new }
     {
         if self.settle(&now) {
             return Ok(());

@@ -1,6 +1,6 @@
 //! What work was done.
 ghost use Rattle.std.specs.Prelude.{◌≡◌, ◌+◌, ◌-◌, ◌^◌, min};
-ghost use Rattle.co_memo.specs.Work.{idle};
+ghost use Rattle.co_memo.specs.Work.{idle, Rises};
 
 use std::marker::Model;
 
@@ -48,14 +48,16 @@ impl Meter {
 
     /// Counts one more segment that was run.
     pub fn ran(&mut self)
-        ensures { self.new ≡ record self.old { segments = min (self.old.segments + 1) (2 ^ 64 - 1) } }
+        ensures counted { self.new ≡ record self.old { segments = min (self.old.segments + 1) (2 ^ 64 - 1) } }
+        ensures rises { Rises self.old self.new }
     {
         self.segments = self.segments.saturating_add(1);
     }
 
     /// Counts one more part that was built anew.
     pub fn refreshed(&mut self)
-        ensures { self.new ≡ record self.old { parts = min (self.old.parts + 1) (2 ^ 64 - 1) } }
+        ensures counted { self.new ≡ record self.old { parts = min (self.old.parts + 1) (2 ^ 64 - 1) } }
+        ensures rises { Rises self.old self.new }
     {
         self.parts = self.parts.saturating_add(1);
     }

@@ -3,8 +3,9 @@ ghost use Rattle.std.specs.Bool.{IsFalse};
 ghost use Rattle.std.specs.Prelude.{◌≡◌, ◌↔◌, ◌==◌, ◌||◌, ◌&&◌, ◌+◌, ◌-◌, ◌^◌, min, not, ℕ, true, false, None, Some};
 ghost use Rattle.std.specs.Prelude.{if◌then◌else◌, IsTrue, IfNone, IfSome, OnOk, OnErr};
 ghost use Rattle.std.specs.Option.{option_map, option_copied};
-ghost use Rattle.co_memo.specs.Shelved.{is_fresh, kept_at};
-ghost use Rattle.co_memo.specs.Work.{Builds, Refreshes};
+ghost use Rattle.co_memo.specs.At.{at};
+ghost use Rattle.co_memo.specs.Shelved.{is_flagged, is_fresh, kept_at};
+ghost use Rattle.co_memo.specs.Work.{Builds, Refreshes, Rises};
 
 use crate::kept::Kept;
 use crate::makes::{Makes, Offers};
@@ -32,6 +33,13 @@ impl<I: Makes<T>, T> Model for Shelf<I, T> {
     ghost Value = { Shelved I };
 
     ghost view = { λ s. record { kept = s.kept.entries; fresh = s.fresh } };
+}
+
+/// Lets go what stands at the numbers without a flag.
+fn keep_flagged<V: Drop>(kept: &mut BTreeMap<u8, V>, flags: &[bool; 256])
+    ensures { (q : ℕ) → at kept.new.entries q ≡ (if is_flagged flags.now q then at kept.old.entries q else None) }
+{
+    kept.retain(|number, _value| flags[usize::from(*number)]);
 }
 
 impl<I: Makes<T> + Drop, T: Drop> Shelf<I, T> {
@@ -109,6 +117,16 @@ impl<I: Makes<T> + Drop, T: Drop> Shelf<I, T> {
         self.kept.remove(&key);
     }
 
+    /// Lets go what is kept at the numbers without a flag. The marks stay. Takes time by the number of kept
+    /// values.
+    pub fn keep_flagged(&mut self, flags: &[bool; 256])
+        ensures kept { (q : ℕ) → kept_at self.new q
+            ≡ (if is_flagged flags.now q then kept_at self.old q else None) }
+        ensures fresh { self.new.fresh ≡ self.old.fresh }
+    {
+        keep_flagged(&mut self.kept, flags);
+    }
+
     /// Keeps a value at a number, in place of any that is kept there. Want of memory changes nothing.
     fn insert(&mut self, key: u8, kept: Kept<I, T>) -> Result<(), AllocError>
         ensures ok { OnOk result ((q : ℕ)
@@ -174,6 +192,7 @@ impl<I: Makes<T> + Drop, T: Drop> Shelf<I, T> {
             meter.new ≡ record meter.old { parts = min (meter.old.parts + 1) (2 ^ 64 - 1) })) }
         ensures nothing_built { OnOk result (IfNone now (meter.new ≡ meter.old)) }
         ensures uncounted { OnErr result (meter.new ≡ meter.old) }
+        ensures rises { Rises meter.old meter.new }
     {
         let Some(now) = now else {
             self.remove(key);
@@ -213,6 +232,7 @@ impl<I: Makes<T> + Drop, T: Drop> Shelf<I, T> {
             (IfSome now (λ o. Builds (kept_at self.old key ≡ Some (O.offered o)) meter.old meter.new)) }
         ensures nothing_built { OnOk result (IfNone now (meter.new ≡ meter.old)) }
         ensures uncounted { OnErr result (meter.new ≡ meter.old) }
+        ensures rises { Rises meter.old meter.new }
     {
         if self.settle(key, &now) {
             return Ok(());

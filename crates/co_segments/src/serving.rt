@@ -15,6 +15,7 @@ ghost use Rattle.co_segments.specs.Placed.{AreNamed, AreSegments, IsNew, IsReach
 ghost use Rattle.co_segments.specs.Segments.{HasRun, IsServed, IsStale, Kept, Serves, recorded_of};
 ghost use Rattle.co_segments.specs.Sights.{AreSightsOf};
 ghost use Rattle.recorded_spans.specs.Spans.{IsReady};
+ghost use Rattle.co_memo.specs.Work.{Rises};
 
 use crate::finding::find;
 use crate::given::Given;
@@ -242,6 +243,7 @@ fn search<P: Parts>(
     ensures turn { OnOk result (shelf.new.turn ≡ number + 1) }
     ensures capacity { shelf.new.capacity ≡ shelf.old.capacity }
     ensures kept { (P.seen parts.new).image ≡ (P.seen parts.old).image }
+    ensures rises { Rises meter.old meter.new }
 {
     let _count = shelf.len();
     let found = find(alloc, shelf, now, given, number, from, &here, parts)?;
@@ -298,6 +300,7 @@ fn pass_on<P: Parts>(
     ensures turn { OnOk result (shelf.new.turn ≡ number + 1) }
     ensures capacity { shelf.new.capacity ≡ shelf.old.capacity }
     ensures kept { (P.seen parts.new).image ≡ (P.seen parts.old).image }
+    ensures rises { Rises meter.old meter.new }
 {
     shelf.settle()?;
     let end = search(
@@ -338,6 +341,7 @@ pub(crate) fn advance<P: Parts>(
     ensures turn { OnOk result (shelf.new.turn ≡ number + 1) }
     ensures capacity { shelf.new.capacity ≡ shelf.old.capacity }
     ensures kept { (P.seen parts.new).image ≡ (P.seen parts.old).image }
+    ensures rises { Rises meter.old meter.new }
 {
     let _count = shelf.len();
     let ahead = look_ahead(alloc, shelf, now, given, number, &here, parts)?;

@@ -8,6 +8,7 @@ ghost use Rattle.co_parts.specs.Images.{IsImage};
 ghost use Rattle.co_segments.specs.Placed.{AreSegments, kept_of};
 ghost use Rattle.co_segments.specs.Segments.{HasRun, IsSound, Kept, Traced, recorded_from};
 ghost use Rattle.recorded_spans.specs.Spans.{lines_of_spans};
+ghost use Rattle.co_memo.specs.Work.{Rises};
 
 use crate::given::Given;
 use crate::reached::Reached;
@@ -87,6 +88,7 @@ fn trace_spans<P: Parts>(
     ensures segments { AreSegments shelf.new.entries given.new }
     ensures capacity { shelf.new.capacity ≡ shelf.old.capacity }
     ensures kept { (P.seen parts.new).image ≡ (P.seen parts.old).image }
+    ensures rises { Rises meter.old meter.new }
 {
     shelf.begin()?;
     let mut told = TraceText::new(alloc);
@@ -126,9 +128,9 @@ impl Store {
     /// The trace up to the horizon, a moment in microseconds, of the network whose parts are handed out, with
     /// its text: whatever was traced before. A segment that serves is used, each other one is run and kept.
     ///
-    /// Takes the time of the segments that are run, as `can_bus::trace` takes it, and for each other one
-    /// that of comparing its reads: only segments of its number are looked at. Want of memory is the only
-    /// error: other segments may then be held, each of them valid.
+    /// A segment that is run takes time at each due moment by the devices that have to run there, and by an
+    /// eighth of all; each other one that of comparing its reads: only segments of its number are looked at.
+    /// Want of memory is the only error: other segments may then be held, each of them valid.
     pub fn trace_text<P: Parts>(
         &mut self,
         parts: &mut P,
@@ -145,6 +147,7 @@ impl Store {
             × (P.asks parts.new ≤ P.asks parts.old + recorded_from 0 self.old.segments + read)))))) }
         ensures capacity { self.new.capacity ≡ self.old.capacity }
         ensures kept { (P.seen parts.new).image ≡ (P.seen parts.old).image }
+        ensures rises { Rises meter.old meter.new }
     {
         let count = u64::from(horizon / WINDOW) + 1;
         let mut told = trace_spans(
@@ -179,6 +182,7 @@ impl Store {
             × (P.asks parts.new ≤ P.asks parts.old + recorded_from 0 self.old.segments + read)))))) }
         ensures capacity { self.new.capacity ≡ self.old.capacity }
         ensures kept { (P.seen parts.new).image ≡ (P.seen parts.old).image }
+        ensures rises { Rises meter.old meter.new }
     {
         let told = self.trace_text(parts, horizon, meter)?;
         told.lines()

@@ -1,2 +1,2 @@
-pub mod ConfiguredLemmas
+pub mod WrittenLemmas
 pub mod WantedLemmas

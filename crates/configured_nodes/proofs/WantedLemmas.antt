@@ -43,7 +43,7 @@ use Rattle.pdo_links.proofs.Numbered.{Sends, Takes, sends, takes}
 use Rattle.configured_nodes.specs.Values.{after_writes, number_among}
 use Rattle.configured_nodes.specs.Wanted.{cob_id_of, is_wanted, parameter_value, value_given, values_given, wanted_value}
 use Rattle.configured_nodes.specs.Wanted.{with_tpdo, with_tpdos}
-use Rattle.configured_nodes.proofs.ConfiguredLemmas.{same_after, written-append}
+use Rattle.configured_nodes.proofs.WrittenLemmas.{same_after, written-append}
 
 -- ---- places
 

@@ -1,4 +1,3 @@
 pub mod Values
-pub mod Configured
 pub mod Doubtful
 pub mod Wanted

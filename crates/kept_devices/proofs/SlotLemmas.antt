@@ -1,12 +1,15 @@
 -- The slots that a tree by names makes, where one is put or marked.
 use Rattle.std.proofs.Common.{◌≡◌, ℕ, Vec, List, Bool, true, false, Option, Some, None, IsSome, option_map, cond, refl}
 use Rattle.std.proofs.Common.{sym, ap, subst, ◌∙◌}
-use Rattle.std.specs.BTreeMap.{BTreeMap, Updates, WritesThrough}
-use Rattle.std.specs.FinMap.{get, get-insert, get-remove, insert, remove, same_map}
+use Rattle.std.specs.BTreeMap.{is_at, BTreeMap, Updates, WritesThrough}
+use Rattle.std.specs.FinMap.{get, get-insert, get-remove, get-retain_keys, insert, remove, retain_keys, same_map}
+use Rattle.std.specs.List.{filter}
 use Rattle.std.specs.Option.{option_map_or}
 use Rattle.std.specs.Ordering.{eq_by_cmp}
 use Rattle.std.proofs.lemmas.Cmp.{nat_list_cmp_total}
+use Rattle.std.proofs.lemmas.Map.Entries.{lookup-filter-keys}
 use Rattle.std.proofs.lemmas.Map.Lookups.{exact_bytes}
+use Rattle.std.proofs.lemmas.Map.Views.{tells_apart}
 use Rattle.co_base.proofs.TableLemmas.{alike}
 use Rattle.co_messages.specs.Messages.{name_cmp}
 use Rattle.co_messages.proofs.NameLemmas.{key_cmp, made, value_changed, value_found, value_in, value_put}
@@ -119,3 +122,17 @@ module _ (slots : Slots) (name : List ℕ) where
           let e : s.kept ≡ text = cc in
           subst (λ (k : List ℕ). StandsAt (insert slots name (record s { fresh = true })) (Some (fresh_slot k))) e
           (put_stands (record s { fresh = true }))
+
+-- ---- what is let go
+
+-- the map of the slots whose names pass
+pub names_kept : {A : Type 0} (known : List ℕ → Bool) (es kept : List (Vec ℕ A × DeviceSlot))
+    → kept ≡ filter (λ e. known e.0.items) es → made kept ≡ retain_keys (made es) known
+names_kept {A} known es kept left =
+    same_map nat_list_cmp_total exact_bytes _ _ (λ q.
+    value_found kept q
+    ∙ ap (λ (fs : List (Vec ℕ A × DeviceSlot)). value_in fs q) left
+    ∙ lookup-filter-keys (λ (k : Vec ℕ A). is_at (name_cmp q) k.items) (λ (k : Vec ℕ A). known k.items) (known q)
+    (λ k t. ap known (sym (tells_apart exact_bytes q k.items t))) es
+    ∙ ap (λ o. cond (known q) o None) (sym (value_found es q))
+    ∙ sym (get-retain_keys (made es) known q (λ x t. ap known (sym (exact_bytes q x t)))))

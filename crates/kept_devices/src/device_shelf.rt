@@ -5,9 +5,9 @@ ghost use Rattle.std.specs.FinMap as map;
 ghost use Rattle.std.specs.Ordering.{eq_by_cmp};
 ghost use Rattle.eds_device.specs.Faults.{device_of};
 ghost use Rattle.ini_text.specs.Content.{content_of};
-ghost use Rattle.co_messages.specs.Messages.{name_cmp};
+ghost use Rattle.co_messages.specs.Messages.{by_name, name_cmp};
 ghost use Rattle.co_project.specs.Tables.{text_at};
-ghost use Rattle.co_memo.specs.Work.{Refreshes};
+ghost use Rattle.co_memo.specs.Work.{Refreshes, Rises};
 ghost use Rattle.kept_devices.specs.Slots.{fresh_at, fresh_slot, text_kept, with_fresh};
 
 use crate::eds_text::keep_device;
@@ -40,6 +40,14 @@ impl Model for DeviceShelf {
     ghost view = { λ s. map.from_entries (by_name s.slots.entries) };
 }
 
+/// Lets go the devices of names under which a project has no text.
+fn keep_named(slots: &mut BTreeMap<Vec<u8>, Seat>, project: &Project)
+    ensures { map.from_entries {R = name_cmp} (by_name slots.new.entries)
+        ≡ map.retain_keys (map.from_entries (by_name slots.old.entries)) (map.contains_key project.now.texts) }
+{
+    slots.retain(|name, _seat| project.text(name).is_some());
+}
+
 impl DeviceShelf {
     pub fn new(alloc: Global) -> DeviceShelf
         ensures { result ≡ map.empty }
@@ -67,6 +75,14 @@ impl DeviceShelf {
         ensures { self.new ≡ map.remove self.old name.now }
     {
         self.slots.remove(name);
+    }
+
+    /// Lets go the devices of names under which a project has no text. Takes time by the number of names, with
+    /// its logarithm.
+    pub fn let_go(&mut self, project: &Project)
+        ensures { self.new ≡ map.retain_keys self.old (map.contains_key project.now.texts) }
+    {
+        keep_named(&mut self.slots, project);
     }
 
     /// Sets or takes the mark of a name, if a text is kept under it.
@@ -181,6 +197,7 @@ impl DeviceShelf {
         ensures err { OnErr result (self.new ≡ self.old) }
         ensures counted { OnOk result (Refreshes
             (text_kept self.old name.now ≡ text_at project.now.texts name.now) meter.old meter.new) }
+        ensures rises { Rises meter.old meter.new }
     {
         if self.is_fresh(name) {
             return Ok(());

@@ -4,8 +4,10 @@
 mod device_shelf;
 mod device_slot;
 mod eds_text;
+mod numbers;
 mod seat;
 
 pub use device_shelf::DeviceShelf;
 pub use device_slot::DeviceSlot;
 pub use eds_text::EdsText;
+pub use numbers::node_flags;

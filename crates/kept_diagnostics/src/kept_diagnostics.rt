@@ -1,7 +1,7 @@
 //! Diagnostics that are kept.
 ghost use Rattle.std.specs.Prelude.{◌≡◌, true, IfOk, IfSome, OnOk, Some, is_some};
 ghost use Rattle.co_diag.specs.Found.{diagnostics_of};
-ghost use Rattle.co_memo.specs.Work.{Refreshes};
+ghost use Rattle.co_memo.specs.Work.{Refreshes, Rises};
 ghost use Rattle.co_project.specs.Project.{Content};
 ghost use Rattle.project_plan.specs.Network.{plan_of_project};
 ghost use Rattle.kept_image.specs.Kept.{IsOf};
@@ -81,6 +81,7 @@ impl KeptDiagnostics {
         ensures kept { OnOk result (self.new.found.kept ≡ Some (from_project project.now)) }
         ensures counted { OnOk result (Refreshes (self.old.found.kept ≡ Some (from_project project.now))
             meter.old meter.new) }
+        ensures rises { Rises meter.old meter.new }
     {
         let found = match self.current(project)? {
             Some(found) => found,

@@ -18,11 +18,13 @@ use Rattle.co_project.specs.Project.{Content as Project}
 use Rattle.co_project.specs.Tables.{node_at, text_at}
 use Rattle.kept_devices.specs.Slots.{text_kept}
 use Rattle.kept_parts.specs.Kept as parts
+use Rattle.kept_parts.specs.declared.kept_parts.KeptParts.{KeptParts}
 use Rattle.kept_parts.specs.declared.part.Part.{Part}
 use Rattle.kept_parts.specs.declared.part.Part.TheVariants as part
 use Rattle.kept_image.specs.Kept.{behind, for_plan, given, held, of_node, of_nodes, reached, reached_by_trace}
 use Rattle.kept_image.specs.Kept.{same_part}
-use Rattle.kept_image.specs.Kept.{windows_below, AreHeld, HoldsDevices, IsOf, OfKept}
+use Rattle.kept_image.specs.Kept.{windows_below, AreHeld, IsOf, OfKept}
+use Rattle.network_image.specs.Devices.{HoldsDevices}
 use Rattle.kept_image.specs.declared.image_part.ImagePart.{ImagePart}
 use Rattle.kept_image.specs.declared.image_part.ImagePart.TheVariants as image
 use Rattle.kept_image.specs.declared.kept_image.KeptImage.{KeptImage}
@@ -91,7 +93,7 @@ module _ (p : Project) where
 
   pub holds_by : (k : KeptImage) → ((n : ℕ) (node : Node) → node_at p.nodes n ≡ Some node
       → held k (image.Kept (part.Device node.eds)) ≡ given p (image.Kept (part.Device node.eds)))
-      → HoldsDevices p k.parts
+      → HoldsDevices p k.parts.devices
   holds_by k are n node there =
       option_map_back parts.OfDevice (λ x y e. cc) (text_kept k.parts.devices node.eds) (text_at p.texts node.eds)
       (option_map_back OfKept (λ x y e. cc) (parts.held k.parts (part.Device node.eds))
@@ -106,13 +108,13 @@ module _ (p : Project) where
       (ap is_eq (tied_itself nat_list_cmp_total node.eds))
 
   pub holds_brought : (a b : KeptImage) (m n : Work)
-      → Brings (map image.Kept (map parts.of_node (entries p.nodes))) a b m n → HoldsDevices p b.parts
+      → Brings (map image.Kept (map parts.of_node (entries p.nodes))) a b m n → HoldsDevices p b.parts.devices
   holds_brought a b m n x =
       holds_by b (λ id node there.
       brought_now same_part (given p) (map image.Kept (map parts.of_node (entries p.nodes))) (held a) (held b) m n x
       (image.Kept (part.Device node.eds)) (device_among id node there))
 
-  pub holds_planned : (k : KeptImage) → AreHeld p (for_plan p) k → HoldsDevices p k.parts
+  pub holds_planned : (k : KeptImage) → AreHeld p (for_plan p) k → HoldsDevices p k.parts.devices
   unfolding AreHeld
   holds_planned k are =
       holds_by k (λ id node there.
@@ -222,10 +224,10 @@ nodes_brought p a b k m s =
 
 pub record WindowsSoFar (p : Project) (i : ℕ) (a b : KeptImage) (k m : Work) : Type 0 where
   pub brought : Brings p (windows_below i) a b k m
-  pub holds : HoldsDevices p b.parts
+  pub holds : HoldsDevices p b.parts.devices
   pub is : IsOf p b
 
-pub windows_start : (p : Project) (a : KeptImage) (k : Work) → HoldsDevices p a.parts → IsOf p a
+pub windows_start : (p : Project) (a : KeptImage) (k : Work) → HoldsDevices p a.parts.devices → IsOf p a
     → WindowsSoFar p 0 a a k k
 unfolding windows_below
 windows_start p a k holds is =
@@ -241,7 +243,7 @@ windows_more p i a b c k m n s x same is =
           subst (λ (j : ℕ). Brings p (windows_below j) a c k n) next
           (both same_part (given p) (windows_below i) (image.Events i ∷ []) (held a) (held b) (held c)
           k m n s.brought x);
-      holds = subst (λ ps. HoldsDevices p ps) (sym same) s.holds;
+      holds = subst (λ (ps : KeptParts). HoldsDevices p ps.devices) (sym same) s.holds;
       is = is;
     }
 

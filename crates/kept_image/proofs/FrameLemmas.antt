@@ -25,6 +25,7 @@ use Rattle.network_image.specs.Steps.{steps_in}
 use Rattle.project_plan.specs.Events.{shape_of_node, Shapes}
 use Rattle.kept_image.specs.Kept.{device_from, device_of_node, roster_from}
 use Rattle.kept_image.specs.Made.{shape_made}
+use Rattle.project_parts.specs.Touch.{touch_of}
 use Rattle.kept_image.specs.Touched.{is_window_at, is_window_of, touches_node, touches_roster, touches_window}
 use Rattle.kept_image.specs.declared.device_at.DeviceAt.{DeviceAt}
 use Rattle.kept_image.specs.declared.roster_from.RosterFrom.{RosterFrom}
@@ -105,7 +106,7 @@ module _ (p : Project) where
       (same_mandatory p.nodes id change (get p.nodes id) refl)
       ∙ ap (roster_with (mandatory_of p.nodes)) (same_numbers p.nodes id change (get p.nodes id) refl)
 
-  pub roster_left : (e : Edit) → touches_roster e ≡ false → roster_from (made p e) ≡ roster_from p
+  pub roster_left : (e : Edit) → touches_roster (touch_of e) ≡ false → roster_from (made p e) ≡ roster_from p
   unfolding roster_of_project
   roster_left (edit.Version version) h = cc
   roster_left (edit.Bitrate rate) h = cc
@@ -156,7 +157,7 @@ module _ (p : Project) where
       → device_by n (get (with_params p.nodes id change (get p.nodes id)) n) ≡ device_by n (get p.nodes n)
   params_left id change n = node_left id (other_params change) (λ node. refl) n (get p.nodes id) refl
 
-  pub device_left : (e : Edit) (n : ℕ) → touches_node e n ≡ false → device_from (made p e) n ≡ device_from p n
+  pub device_left : (e : Edit) (n : ℕ) → touches_node (touch_of e) n ≡ false → device_from (made p e) n ≡ device_from p n
   device_left (edit.Version version) n h = refl
   device_left (edit.Bitrate rate) n h = refl
   device_left (edit.Horizon time) n h = refl
@@ -186,14 +187,14 @@ module _ (p : Project) where
 
   -- ---- the windows
 
-  shapes_left : (e : Edit) → ((n : ℕ) → touches_node e n ≡ false) → shape_of_node (made p e) ≡ shape_of_node p
+  shapes_left : (e : Edit) → ((n : ℕ) → touches_node (touch_of e) n ≡ false) → shape_of_node (made p e) ≡ shape_of_node p
   shapes_left e h = λ i n. by n i
     where
       by : (n : ℕ) → shape_of_node (made p e) n ≡ shape_of_node p n
       by n = shapes_are (made p e) n ∙ ap (option_map shape_made) (device_left e n (h n)) ∙ sym (shapes_are p n)
 
   module _ (i : ℕ) where
-    steps_by : (e : Edit) → ((n : ℕ) → touches_node e n ≡ false)
+    steps_by : (e : Edit) → ((n : ℕ) → touches_node (touch_of e) n ≡ false)
         → steps_in (shape_of_node p) (made p e).events i ≡ steps_in (shape_of_node p) p.events i
         → window_steps (made p e) i ≡ window_steps p i
     unfolding window_steps
@@ -202,7 +203,7 @@ module _ (p : Project) where
     abbrev lies : Option TimedEvent → Bool
     lies o = option_map_or (λ (e : TimedEvent). is_window_of i e.time) o false
 
-    pub window_left : (e : Edit) → touches_window p.events e i ≡ false → window_steps (made p e) i ≡ window_steps p i
+    pub window_left : (e : Edit) → touches_window p.events (touch_of e) i ≡ false → window_steps (made p e) i ≡ window_steps p i
     window_left (edit.Version version) h = steps_by (edit.Version version) (λ n. refl) refl
     window_left (edit.Bitrate rate) h = steps_by (edit.Bitrate rate) (λ n. refl) refl
     window_left (edit.Horizon time) h = steps_by (edit.Horizon time) (λ n. refl) refl

@@ -212,7 +212,7 @@ module _ (p : Project) where
     pub window_stays : (i : ℕ) → is_fresh h.windows i ≡ true → (m : Work)
         → AreBrought same_part (given p) (image.Events i ∷ []) (held h) (held h) m m
     window_stays i unmarked m =
-        one same_part (given p) (image.Events i) (held h) (held h) m m stands (refl, inl (current, omega arith))
+        one same_part (given p) (image.Events i) (held h) (held h) m m stands (refl, omega arith, inl (current, omega arith))
       where
         current : held h (image.Events i) ≡ given p (image.Events i)
         current = ap (option_map OfEvents) (window_now i unmarked)

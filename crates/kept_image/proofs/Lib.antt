@@ -11,5 +11,5 @@ pub mod EventLemmas
 pub mod FrameLemmas
 pub mod TouchLemmas
 pub mod NetworkLemmas
-pub mod DeviceLemmas
-pub mod WalkLemmas
+pub mod DropLemmas
+pub mod GoneLemmas

@@ -94,6 +94,7 @@ module _ (p : Project) where
         record {
           settled_is = λ i q. settles (λ r. ap (λ f. f r) x.settled_is) q i;
           segments_stay = x.segments_stay;
+          parts_rise = x.parts_rise;
           counted = (
             x.counted.0,
             counts_shown ps (parts.held h.parts) (held h) (λ q. refl) x.counted.0 x.counted.1,

@@ -63,5 +63,6 @@ module _ {N V : Type 0} (same : N → N → Bool) (now : N → V) where
           settled_is = x.settled_is ∙ settled-append same now ds qs a
               ∙ ap (settled same now qs) (settled_stays ds a are);
           segments_stay = x.segments_stay;
+          parts_rise = x.parts_rise;
           counted = (x.counted.0, counts_without ds qs a x.counted.0 are x.counted.1, x.counted.2);
         }

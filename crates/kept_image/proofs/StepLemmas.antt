@@ -9,7 +9,7 @@ use Rattle.co_project.specs.Project.{Content as Project}
 use Rattle.co_project.specs.Tables.{node_at}
 use Rattle.co_memo.specs.At.{at}
 use Rattle.co_memo.specs.Shelved.{kept_at, Shelved}
-use Rattle.co_memo.specs.Work.{Refreshes, Work}
+use Rattle.co_memo.specs.Work.{Refreshes, Rises, Work}
 use Rattle.co_memo.proofs.Brought.{refreshes_built}
 use Rattle.kept_parts.specs.Kept as parts
 use Rattle.kept_parts.proofs.KindLemmas.{KeptAt}
@@ -73,7 +73,7 @@ other_kept first last now from result is settled stale same e =
 -- what wasn't is built
 pub built : (p : Project) (key : ℕ) (kept now offered : Option DeviceAt) (m n : Work) → offered ≡ device_from p key
     → (kept ≡ device_from p key → ⊥)
-    → IfSome now (λ _. n ≡ record m { parts = min (m.parts + 1) (2 ^ 64 - 1) }) → IfNone now (n ≡ m)
+    → IfSome now (λ _. n ≡ record m { parts = min (m.parts + 1) (2 ^ 64 - 1) }) → IfNone now (n ≡ m) → Rises m n
     → Refreshes (kept ≡ offered) m n
-built p key kept now offered m n is stale counted nothing =
-    refreshes_built (kept ≡ offered) now m n (λ e. stale (e ∙ is)) counted nothing
+built p key kept now offered m n is stale counted nothing rises =
+    refreshes_built (kept ≡ offered) now m n (λ e. stale (e ∙ is)) counted nothing rises

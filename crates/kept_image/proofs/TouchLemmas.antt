@@ -11,6 +11,7 @@ use Rattle.network_image.specs.Image.{window_steps}
 use Rattle.kept_image.specs.Kept.{device_from, held, roster_from, AreOfNow, IsOf, OfDefaults, OfEvents, OfExpect}
 use Rattle.kept_image.specs.Kept.{OfKept, OfRoster, OfShape}
 use Rattle.kept_image.specs.Marks.{MarksAt, MarksOne}
+use Rattle.project_parts.specs.Touch.{touch_of}
 use Rattle.kept_image.specs.Touched.{touches_node, touches_roster, touches_window}
 use Rattle.kept_image.specs.declared.device_at.DeviceAt.{DeviceAt}
 use Rattle.kept_image.specs.declared.roster_from.RosterFrom.{RosterFrom}
@@ -23,9 +24,9 @@ use Rattle.kept_image.proofs.KindLemmas.{parts_of}
 
 module _ (p : Project) (e : Edit) (old new : KeptImage)
     (kept : (q : Part) → parts.held new.parts q ≡ parts.held old.parts q)
-    (r : MarksOne (touches_roster e) old.roster new.roster) (d : MarksAt (touches_node e) old.defaults new.defaults)
-    (s : MarksAt (touches_node e) old.shapes new.shapes) (x : MarksAt (touches_node e) old.expects new.expects)
-    (w : MarksAt (touches_window p.events e) old.windows new.windows) where
+    (r : MarksOne (touches_roster (touch_of e)) old.roster new.roster) (d : MarksAt (touches_node (touch_of e)) old.defaults new.defaults)
+    (s : MarksAt (touches_node (touch_of e)) old.shapes new.shapes) (x : MarksAt (touches_node (touch_of e)) old.expects new.expects)
+    (w : MarksAt (touches_window p.events (touch_of e)) old.windows new.windows) where
   -- nothing that is held changes
   pub held_still : (q : ImagePart) → held new q ≡ held old q
   held_still (image.Kept q) = ap (option_map OfKept) (kept q)

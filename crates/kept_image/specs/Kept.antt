@@ -8,11 +8,9 @@ use Rattle.std.specs.List.{list_any}
 use Rattle.co_memo.specs.Shelved.{is_fresh, kept_at}
 use Rattle.co_project.specs.declared.node.Node.{Node}
 use Rattle.co_project.specs.Project.{Content as Project}
-use Rattle.co_project.specs.Tables.{node_at, text_at}
+use Rattle.co_project.specs.Tables.{node_at}
 use Rattle.co_scenario.specs.declared.timed_step.TimedStep.{TimedStep}
-use Rattle.kept_devices.specs.Slots.{text_kept}
 use Rattle.kept_parts.specs.Kept as parts
-use Rattle.kept_parts.specs.declared.kept_parts.KeptParts.{KeptParts}
 use Rattle.kept_parts.specs.declared.part.Part.{Part}
 use Rattle.kept_parts.specs.declared.part.Part.TheVariants as part
 use Rattle.network_image.specs.Held.{AllHeld, Held}
@@ -141,11 +139,6 @@ AreHeld p ps k = (q : ImagePart) → list_any (same_part q) ps ≡ true → held
 -- all parts that a simulation reads
 abbrev pub IsCurrent : Project → KeptImage → Type 0
 IsCurrent p k = AreHeld p (reached_by_trace p) k
-
--- the devices of the nodes
-abbrev pub HoldsDevices : Project → KeptParts → Type 0
-HoldsDevices p k = (n : ℕ) (node : Node) → node_at p.nodes n ≡ Some node
-    → text_kept k.devices node.eds ≡ text_at p.texts node.eds
 
 -- a node with its parts, if it has any
 abbrev pub with_parts : ℕ → Option Held → AllHeld → AllHeld

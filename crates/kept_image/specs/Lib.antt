@@ -3,3 +3,4 @@ pub mod Kept
 pub mod Touched
 pub mod Marks
 pub mod Busy
+pub mod Gone

@@ -3,7 +3,9 @@ ghost use Rattle.std.specs.Prelude.{OnOk};
 ghost use Rattle.std.specs.FinMap.{entries};
 ghost use Rattle.co_memo.specs.Stale.{AreBrought};
 ghost use Rattle.kept_image.specs.Kept.{for_plan, given, held, of_node, of_nodes, reached_by_trace, same_part};
-ghost use Rattle.kept_image.specs.Kept.{windows_below, AreHeld, HoldsDevices, IsOf};
+ghost use Rattle.kept_image.specs.Kept.{windows_below, AreHeld, IsOf};
+ghost use Rattle.network_image.specs.Devices.{HoldsDevices};
+ghost use Rattle.co_memo.specs.Work.{Rises};
 
 use crate::kept_image::KeptImage;
 use co_memo::Meter;
@@ -26,6 +28,7 @@ impl KeptImage {
         ensures brings { OnOk result (AreBrought same_part (given project.now) (of_node node)
             (held self.old) (held self.new) meter.old meter.new) }
         ensures plan { OnOk result (AreHeld project.now (for_plan project.now) self.new) }
+        ensures rises { Rises meter.old meter.new }
     {
         self.bring_defaults(project, node, meter)?;
         self.bring_shape(project, node, meter)?;
@@ -41,7 +44,8 @@ impl KeptImage {
         ensures is_of { IsOf project.now self.new }
         ensures brings { OnOk result (AreBrought same_part (given project.now) (of_nodes (entries project.now.nodes))
             (held self.old) (held self.new) meter.old meter.new) }
-        ensures devices { OnOk result (HoldsDevices project.now self.new.parts) }
+        ensures devices { OnOk result (HoldsDevices project.now self.new.parts.devices) }
+        ensures rises { Rises meter.old meter.new }
     {
         for (number, _node) in project.nodes() {
             self.bring_node(project, *number, meter)?;
@@ -52,10 +56,11 @@ impl KeptImage {
     /// Brings all windows up to date, where the devices of all nodes are. Walks the events once.
     fn bring_windows(&mut self, project: &Project, meter: &mut Meter) -> Result<(), AllocError>
         requires is_of { IsOf project.now self.old }
-        requires devices { HoldsDevices project.now self.old.parts }
+        requires devices { HoldsDevices project.now self.old.parts.devices }
         ensures is_of { IsOf project.now self.new }
         ensures brings { OnOk result (AreBrought same_part (given project.now) (windows_below 1001)
             (held self.old) (held self.new) meter.old meter.new) }
+        ensures rises { Rises meter.old meter.new }
     {
         let script = project.events();
         let moments = script.events_between(self.alloc, 0, LAST_TIME)?;
@@ -78,6 +83,7 @@ impl KeptImage {
         ensures is_of { IsOf project.now self.new }
         ensures brings { OnOk result (AreBrought same_part (given project.now) (reached_by_trace project.now)
             (held self.old) (held self.new) meter.old meter.new) }
+        ensures rises { Rises meter.old meter.new }
     {
         self.bring_kept(&Part::Plan, project, meter)?;
         self.bring_roster(project, meter)?;

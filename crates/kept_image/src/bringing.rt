@@ -4,10 +4,11 @@ ghost use Rattle.std.specs.FinMap.{entries};
 ghost use Rattle.co_memo.specs.Stale.{AreBrought};
 ghost use Rattle.co_scenario.specs.Scenario.{events_between};
 ghost use Rattle.kept_parts.specs.Kept as parts;
-ghost use Rattle.kept_image.specs.Kept.{device_from, given, held, reached, same_part, HoldsDevices, IsOf, IsPart};
+ghost use Rattle.kept_image.specs.Kept.{device_from, given, held, reached, same_part, IsOf, IsPart};
+ghost use Rattle.network_image.specs.Devices.{HoldsDevices};
+ghost use Rattle.co_memo.specs.Work.{Rises};
 
 use crate::device_at::DeviceAt;
-use crate::devices_now::steps_now;
 use crate::image_part::ImagePart;
 use crate::kept_image::KeptImage;
 use crate::roster_now::RosterNow;
@@ -15,6 +16,7 @@ use co_memo::{Meter, Shared};
 use co_project::Project;
 use eds_device::Device;
 use kept_parts::Part;
+use network_image::{WINDOW, window_steps};
 use std::alloc::AllocError;
 
 /// A device with the number of its node.
@@ -37,6 +39,7 @@ impl KeptImage {
         ensures is_of { IsOf project.now self.new }
         ensures brings { OnOk result (AreBrought same_part (given project.now)
             (reached project.now (ImagePart.Kept part.now)) (held self.old) (held self.new) meter.old meter.new) }
+        ensures rises { Rises meter.old meter.new }
     {
         self.parts.refresh(part, project, meter)?;
         Ok(())
@@ -52,6 +55,7 @@ impl KeptImage {
         ensures is_of { IsOf project.now self.new }
         ensures brings { OnOk result (AreBrought same_part (given project.now) (ImagePart.Roster ∷ [])
             (held self.old) (held self.new) meter.old meter.new) }
+        ensures rises { Rises meter.old meter.new }
     {
         self.roster.bring(self.alloc, RosterNow { project }, meter)?;
         Ok(())
@@ -70,6 +74,7 @@ impl KeptImage {
             (map ImagePart.Kept (parts.own_device project.now node))
             (held self.old) (held self.new) meter.old meter.new) }
         ensures value { IfOk result (λ d. d ≡ device_from project.now node) }
+        ensures rises { Rises meter.old meter.new }
     {
         let device = self.parts.bring_own_device(project, node, meter)?;
         Ok(device_at(device, node))
@@ -106,6 +111,7 @@ impl KeptImage {
         ensures is_of { IsOf project.now self.new }
         ensures brings { OnOk result (AreBrought same_part (given project.now)
             (reached project.now (ImagePart.Defaults node)) (held self.old) (held self.new) meter.old meter.new) }
+        ensures rises { Rises meter.old meter.new }
     {
         let now = self.bring_device(project, node, meter)?;
         if self.defaults.settle(node, &now) {
@@ -127,6 +133,7 @@ impl KeptImage {
         ensures is_of { IsOf project.now self.new }
         ensures brings { OnOk result (AreBrought same_part (given project.now)
             (reached project.now (ImagePart.Shape node)) (held self.old) (held self.new) meter.old meter.new) }
+        ensures rises { Rises meter.old meter.new }
     {
         let now = self.bring_device(project, node, meter)?;
         if self.shapes.settle(node, &now) {
@@ -148,6 +155,7 @@ impl KeptImage {
         ensures is_of { IsOf project.now self.new }
         ensures brings { OnOk result (AreBrought same_part (given project.now)
             (reached project.now (ImagePart.Expect node)) (held self.old) (held self.new) meter.old meter.new) }
+        ensures rises { Rises meter.old meter.new }
     {
         let now = self.bring_device(project, node, meter)?;
         self.expects.bring(self.alloc, node, now, meter)?;
@@ -161,7 +169,8 @@ impl KeptImage {
         ensures brings { OnOk result (AreBrought same_part (given project.now)
             (map ImagePart.Kept (map parts.of_node (entries project.now.nodes)))
             (held self.old) (held self.new) meter.old meter.new) }
-        ensures devices { OnOk result (HoldsDevices project.now self.new.parts) }
+        ensures devices { OnOk result (HoldsDevices project.now self.new.parts.devices) }
+        ensures rises { Rises meter.old meter.new }
     {
         self.parts.bring_devices(project, meter)?;
         Ok(())
@@ -177,17 +186,18 @@ impl KeptImage {
     ) -> Result<(), AllocError>
         requires is_of { IsOf project.now self.old }
         requires number { i ≤ 1000 }
-        requires devices { HoldsDevices project.now self.old.parts }
+        requires devices { HoldsDevices project.now self.old.parts.devices }
         requires moments { moments.now ≡ events_between (10000 * i) (10000 * i + 9999) project.now.events }
         ensures is_of { IsOf project.now self.new }
         ensures brings { OnOk result (AreBrought same_part (given project.now) (ImagePart.Events i ∷ [])
             (held self.old) (held self.new) meter.old meter.new) }
         ensures parts { self.new.parts ≡ self.old.parts }
+        ensures rises { Rises meter.old meter.new }
     {
         if self.windows.is_fresh(i) {
             return Ok(());
         }
-        let steps = steps_now(self.alloc, &self.parts, project, i, moments)?;
+        let steps = window_steps(self.alloc, self.parts.devices(), project, i, moments)?;
         self.windows.keep(self.alloc, i, steps, meter)?;
         Ok(())
     }
@@ -201,15 +211,16 @@ impl KeptImage {
     ) -> Result<(), AllocError>
         requires is_of { IsOf project.now self.old }
         requires number { i ≤ 1000 }
-        requires devices { HoldsDevices project.now self.old.parts }
+        requires devices { HoldsDevices project.now self.old.parts.devices }
         ensures is_of { IsOf project.now self.new }
         ensures brings { OnOk result (AreBrought same_part (given project.now) (ImagePart.Events i ∷ [])
             (held self.old) (held self.new) meter.old meter.new) }
+        ensures rises { Rises meter.old meter.new }
     {
         if self.windows.is_fresh(i) {
             return Ok(());
         }
-        let first = 10_000 * u32::from(i);
+        let first = WINDOW * u32::from(i);
         let moments = project
             .events()
             .events_between(self.alloc, first, first + 9999)?;
@@ -229,6 +240,7 @@ impl KeptImage {
         ensures is_of { IsOf project.now self.new }
         ensures brings { OnOk result (AreBrought same_part (given project.now)
             (reached project.now (ImagePart.Events i)) (held self.old) (held self.new) meter.old meter.new) }
+        ensures rises { Rises meter.old meter.new }
     {
         self.bring_devices(project, meter)?;
         self.bring_own_window(project, i, meter)?;
@@ -247,6 +259,7 @@ impl KeptImage {
         ensures is_of { IsOf project.now self.new }
         ensures brings { OnOk result (AreBrought same_part (given project.now) (reached project.now part.now)
             (held self.old) (held self.new) meter.old meter.new) }
+        ensures rises { Rises meter.old meter.new }
     {
         match part {
             ImagePart::Kept(part) => self.bring_kept(part, project, meter),

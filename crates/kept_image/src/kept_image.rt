@@ -1,5 +1,5 @@
 //! The parts that a simulation reads, kept with what they were built from.
-ghost use Rattle.std.specs.Prelude.{◌≡◌, ◌∷◌, [], OnOk, IfOk, IfSome, Some, option_copied, option_map};
+ghost use Rattle.std.specs.Prelude.{◌≡◌, OnOk, IfOk, IfSome, Some, option_copied, option_map};
 ghost use Rattle.co_memo.specs.Shelved.{kept_at};
 ghost use Rattle.co_memo.specs.Stale.{AreBrought};
 ghost use Rattle.co_project.specs.Project.{Content};
@@ -7,7 +7,9 @@ ghost use Rattle.kept_parts.specs.Kept.{device_at};
 ghost use Rattle.kept_parts.specs.Made.{concise_made, dcf_made, plan_made};
 ghost use Rattle.network_image.specs.Image.{image_of};
 ghost use Rattle.network_image.specs.Network.{image_held};
+ghost use Rattle.kept_image.specs.Gone.{left_of, IsSwept};
 ghost use Rattle.kept_image.specs.Kept.{given, held, reached, reached_by_trace, same_part, IsCurrent, IsOf, IsPart};
+ghost use Rattle.co_memo.specs.Work.{Rises};
 
 use crate::device_at::DeviceAt;
 use crate::image_part::ImagePart;
@@ -18,7 +20,7 @@ use co_memo::{Memo, Meter, Shared, Shelf};
 use co_parts::{Identity, Roster};
 use co_project::Project;
 use eds_device::Device;
-use kept_parts::{KeptParts, Part};
+use kept_parts::KeptParts;
 use listed_text::{ListedBytes, ListedText};
 use network_image::NetworkParts;
 use pdo_plan::Plan;
@@ -35,12 +37,16 @@ pub struct KeptImage {
     pub(crate) shapes: Shelf<DeviceAt, Shared<Shape>>,
     pub(crate) expects: Shelf<DeviceAt, Shared<Identity>>,
     pub(crate) windows: WindowShelf,
+
+    /// Whether it is known that nothing is held of what the project doesn't have.
+    pub(crate) swept: bool,
 }
 
 impl KeptImage {
     /// Nothing is kept: so it is of each project.
     pub fn new(alloc: Global) -> KeptImage
-        ensures { (p : Content) → IsOf p result }
+        ensures is_of { (p : Content) → IsOf p result }
+        ensures swept { (p : Content) → IsSwept p result }
     {
         KeptImage {
             alloc,
@@ -50,12 +56,13 @@ impl KeptImage {
             shapes: Shelf::new(alloc),
             expects: Shelf::new(alloc),
             windows: WindowShelf::new(alloc),
+            swept: false,
         }
     }
 
-    /// Brings a part, and all that it is built from, up to date: a part whose inputs are others now is
-    /// built anew, one whose subject is gone is let go, and the others stay. Want of memory is the
-    /// only error; what is kept is then still of the project.
+    /// Lets go what is kept of names of EDS and of numbers of nodes that the project doesn't have. Then brings a
+    /// part, and all that it is built from, up to date: a part whose inputs are others now is built anew, and the
+    /// others stay. Want of memory is the only error; what is kept is then still of the project.
     ///
     /// A part without a mark costs the logarithm of the number of its kind, and what it is built from the
     /// same again. A marked one is compared with its inputs of now, without memory, and costs what building
@@ -67,29 +74,39 @@ impl KeptImage {
         meter: &mut Meter,
     ) -> Result<(), AllocError>
         requires is_of { IsOf project.now self.old }
+        requires swept { IsSwept project.now self.old }
         requires part { IsPart part.now }
         ensures is_of { IsOf project.now self.new }
+        ensures swept { IsSwept project.now self.new }
 
         // These parts are held as they are to be built now, and at most those that weren't are counted.
         ensures brings { OnOk result (AreBrought same_part (given project.now) (reached project.now part.now)
-            (held self.old) (held self.new) meter.old meter.new) }
+            (left_of project.now self.old) (held self.new) meter.old meter.new) }
         ensures current { OnOk result (held self.new part.now ≡ given project.now part.now) }
+        ensures rises { Rises meter.old meter.new }
     {
-        self.bring(part, project, meter)?;
-        Ok(())
+        self.let_go(project);
+        let brought = self.bring(part, project, meter);
+        self.swept = brought.is_ok();
+        brought
     }
 
-    /// Brings all parts that a simulation reads up to date, as `refresh` does each. Want of memory is the
-    /// only error; what is kept is then still of the project.
+    /// Lets go what the project doesn't have, and brings all parts that a simulation reads up to date, as
+    /// `refresh` does each. Want of memory is the only error; what is kept is then still of the project.
     pub fn refresh_all(&mut self, project: &Project, meter: &mut Meter) -> Result<(), AllocError>
-        requires { IsOf project.now self.old }
+        requires is_of { IsOf project.now self.old }
+        requires swept { IsSwept project.now self.old }
         ensures is_of { IsOf project.now self.new }
+        ensures swept { IsSwept project.now self.new }
         ensures brings { OnOk result (AreBrought same_part (given project.now) (reached_by_trace project.now)
-            (held self.old) (held self.new) meter.old meter.new) }
+            (left_of project.now self.old) (held self.new) meter.old meter.new) }
         ensures current { OnOk result (IsCurrent project.now self.new) }
+        ensures rises { Rises meter.old meter.new }
     {
-        self.bring_all(project, meter)?;
-        Ok(())
+        self.let_go(project);
+        let brought = self.bring_all(project, meter);
+        self.swept = brought.is_ok();
+        brought
     }
 
     /// The network of a project, by pointers to what is kept of it: all parts that a simulation reads must
@@ -101,22 +118,6 @@ impl KeptImage {
         ensures { IfOk result (λ n. image_held n ≡ image_of project.now) }
     {
         self.network_parts(project)
-    }
-
-    /// Brings the device of an EDS up to date, as `refresh` does. Want of memory is the only error.
-    pub fn refresh_device(
-        &mut self,
-        project: &Project,
-        name: &[u8],
-        meter: &mut Meter,
-    ) -> Result<(), AllocError>
-        requires { IsOf project.now self.old }
-        ensures is_of { IsOf project.now self.new }
-        ensures brings { OnOk result (AreBrought same_part (given project.now)
-            (ImagePart.Kept (Part.Device name.now) ∷ []) (held self.old) (held self.new) meter.old meter.new) }
-    {
-        self.parts.refresh_device(project, name, meter)?;
-        Ok(())
     }
 
     /// The device of an EDS, shared, where it is kept and has no mark: so it is what the project's text

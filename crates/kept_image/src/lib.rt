@@ -5,10 +5,10 @@
 mod all;
 mod bringing;
 mod device_at;
-mod devices_now;
 mod image_part;
 mod kept_image;
 pub mod laws;
+mod leaving;
 mod network;
 mod roster_from;
 mod roster_now;

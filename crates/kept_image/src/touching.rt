@@ -1,12 +1,15 @@
 //! Marks of what edits may leave with other inputs.
 ghost use Rattle.std.specs.Prelude.{◌≡◌, ◌||◌, Ok};
 ghost use Rattle.co_project.specs.Project.{accept, Content};
+ghost use Rattle.kept_image.specs.Gone.{IsSwept};
 ghost use Rattle.kept_image.specs.Kept.{held, IsOf};
 ghost use Rattle.kept_image.specs.Marks.{MarksAt, MarksOne};
+ghost use Rattle.project_parts.specs.Touch.{shown};
 ghost use Rattle.kept_image.specs.Touched.{is_window_at, is_window_of, touches_node, touches_roster, touches_window};
 
 use crate::image_part::ImagePart;
 use crate::kept_image::KeptImage;
+use crate::leaving::stays_swept;
 use crate::roster_from::RosterFrom;
 use crate::window_shelf::WindowShelf;
 use co_edits::Edit;
@@ -14,35 +17,28 @@ use co_memo::{Makes, Memo, Shared, Shelf};
 use co_parts::Roster;
 use co_project::Project;
 use co_scenario::Script;
-
-/// The microseconds of a window.
-const WINDOW: u32 = 10_000;
+use network_image::WINDOW;
+use project_parts::{Touch, touch_of};
 
 /// Marks the roster, where an edit may leave it with other inputs.
-fn mark_roster(roster: &mut Memo<RosterFrom, Shared<Roster>>, edit: &Edit)
-    ensures { MarksOne (touches_roster edit.now) roster.old roster.new }
+fn mark_roster(roster: &mut Memo<RosterFrom, Shared<Roster>>, touch: Touch<'_>)
+    ensures { MarksOne (touches_roster (shown touch.entry)) roster.old roster.new }
 {
-    match edit {
-        Edit::Version(_) => roster.mark(),
-        Edit::Bitrate(_) => roster.mark(),
-        Edit::Manager(_) => roster.mark(),
-        Edit::SyncCounter(_) => roster.mark(),
-        Edit::Node { .. } => roster.mark(),
-        Edit::Need { .. } => roster.mark(),
-        Edit::DropNode { .. } => roster.mark(),
+    match touch {
+        Touch::Rate => roster.mark(),
+        Touch::Roster => roster.mark(),
+        Touch::Node(_) => roster.mark(),
         _ => (),
     }
 }
 
 /// Marks what is built from the device of a node, where an edit may leave it with other inputs.
-fn mark_nodes<I: Makes<T> + Drop, T: Drop>(shelf: &mut Shelf<I, T>, edit: &Edit)
-    ensures { MarksAt (touches_node edit.now) shelf.old shelf.new }
+fn mark_nodes<I: Makes<T> + Drop, T: Drop>(shelf: &mut Shelf<I, T>, touch: Touch<'_>)
+    ensures { MarksAt (touches_node (shown touch.entry)) shelf.old shelf.new }
 {
-    match edit {
-        Edit::Eds { .. } => shelf.mark_all(),
-        Edit::DropEds { .. } => shelf.mark_all(),
-        Edit::Node { id, .. } => shelf.mark(*id),
-        Edit::DropNode { id } => shelf.mark(*id),
+    match touch {
+        Touch::Sheet(_) => shelf.mark_all(),
+        Touch::Node(id) => shelf.mark(id),
         _ => (),
     }
 }
@@ -77,16 +73,14 @@ fn mark_moved(windows: &mut WindowShelf, events: &Script, number: u16, time: u32
 }
 
 /// Marks the windows that an edit may leave with other steps.
-fn mark_windows(windows: &mut WindowShelf, events: &Script, edit: &Edit)
-    ensures { MarksAt (touches_window events.now edit.now) windows.old windows.new }
+fn mark_windows(windows: &mut WindowShelf, events: &Script, touch: Touch<'_>)
+    ensures { MarksAt (touches_window events.now (shown touch.entry)) windows.old windows.new }
 {
-    match edit {
-        Edit::Eds { .. } => windows.mark_all(),
-        Edit::DropEds { .. } => windows.mark_all(),
-        Edit::Node { .. } => windows.mark_all(),
-        Edit::DropNode { .. } => windows.mark_all(),
-        Edit::Event { number, event } => mark_moved(windows, events, *number, event.time),
-        Edit::DropEvent { number } => mark_event(windows, events, *number),
+    match touch {
+        Touch::Sheet(_) => windows.mark_all(),
+        Touch::Node(_) => windows.mark_all(),
+        Touch::Event(number, time) => mark_moved(windows, events, number, time),
+        Touch::NoEvent(number) => mark_event(windows, events, number),
         _ => (),
     }
 }
@@ -102,12 +96,19 @@ impl KeptImage {
         ensures same { IsOf project.now self.old → IsOf project.now self.new }
         ensures follows { (q : Content) → IsOf project.now self.old → accept project.now edit.now ≡ Ok q
             → IsOf q self.new }
+
+        // What is known to be let go is so still, and of the project that the edit makes, unless it drops something.
+        ensures still_swept { IsSwept project.now self.old → IsSwept project.now self.new }
+        ensures swept_after { (q : Content) → IsSwept project.now self.old → accept project.now edit.now ≡ Ok q
+            → IsSwept q self.new }
     {
         self.parts.touch(edit);
-        mark_roster(&mut self.roster, edit);
-        mark_nodes(&mut self.defaults, edit);
-        mark_nodes(&mut self.shapes, edit);
-        mark_nodes(&mut self.expects, edit);
-        mark_windows(&mut self.windows, project.events(), edit);
+        let touch = touch_of(edit);
+        mark_roster(&mut self.roster, touch);
+        mark_nodes(&mut self.defaults, touch);
+        mark_nodes(&mut self.shapes, touch);
+        mark_nodes(&mut self.expects, touch);
+        mark_windows(&mut self.windows, project.events(), touch);
+        self.swept = stays_swept(self.swept, edit);
     }
 }

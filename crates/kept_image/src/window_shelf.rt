@@ -2,7 +2,7 @@
 ghost use Rattle.std.specs.Prelude.{◌≡◌, ◌↔◌, ◌==◌, ◌||◌, ◌&&◌, ◌<◌, not, ℕ, false, None, Some, OnOk, OnErr};
 ghost use Rattle.std.specs.Prelude.{if◌then◌else◌, IsTrue, option_copied};
 ghost use Rattle.co_memo.specs.Shelved.{is_fresh, kept_at};
-ghost use Rattle.co_memo.specs.Work.{Builds, Refreshes};
+ghost use Rattle.co_memo.specs.Work.{Builds, Refreshes, Rises};
 ghost use Rattle.kept_image.specs.Busy.{has_steps};
 
 use co_memo::{Meter, Shared};
@@ -141,6 +141,7 @@ impl WindowShelf {
         ensures counted { OnOk result (Refreshes (kept_at self.old i ≡ Some steps.items) meter.old meter.new) }
         ensures built { OnOk result (Builds (kept_at self.old i ≡ Some steps.items) meter.old meter.new) }
         ensures uncounted { OnErr result (meter.new ≡ meter.old) }
+        ensures rises { Rises meter.old meter.new }
     {
         if self.has(i, &steps) {
             self.clear(i);

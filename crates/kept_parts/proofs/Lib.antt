@@ -8,3 +8,4 @@ pub mod EntriesAlike
 pub mod FrameLemmas
 pub mod MarkLemmas
 pub mod PlanLemmas
+pub mod GoneLemmas

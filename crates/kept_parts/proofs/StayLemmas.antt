@@ -27,7 +27,7 @@ module _ (p : Project) (h : KeptParts) (is : IsOf p h) (m : Work) where
   one_stays name u =
       let now = device_now p h is name u in
       device_brought p h is name h.devices (fresh_stands h.devices name (text_at p.texts name) u now) m m
-      (refl, inl (now, omega arith))
+      (refl, omega arith, inl (now, omega arith))
 
   all_stay : (es : List (ℕ × Node)) → HaveNoMark h (map of_node es) → Stay (map of_node es)
   all_stay [] all = none same_part (given p) (held h) m
@@ -48,4 +48,4 @@ module _ (p : Project) (h : KeptParts) (is : IsOf p h) (m : Work) where
       (all_stay (entries p.nodes) (closed p h is u))
       (plan_brought p h is h.plan (plan_from p)
       (ap (λ k. single k h.plan.fresh) now ∙ ap (single (Some (plan_from p))) u) refl m m
-      (refl, inl (now, omega arith)))
+      (refl, omega arith, inl (now, omega arith)))

@@ -9,7 +9,7 @@ use Rattle.co_project.specs.declared.node.Node.{Node}
 use Rattle.co_project.specs.Project.{Content as Project}
 use Rattle.co_project.specs.Tables.{node_at}
 use Rattle.co_memo.specs.Shelved.{Single}
-use Rattle.co_memo.specs.Work.{Refreshes, Work}
+use Rattle.co_memo.specs.Work.{Refreshes, Rises, Work}
 use Rattle.co_memo.specs.Stale.{AreBrought}
 use Rattle.co_memo.proofs.Brought.{refreshes_built}
 use Rattle.kept_devices.specs.Slots.{Slots}
@@ -50,10 +50,10 @@ both_are p devices messages d m =
 
 -- a plan of other inputs is built
 pub plan_built : (p : Project) (old : Option PlanFrom) (now : PlanFrom) (m n : Work) → now ≡ plan_from p
-    → (old ≡ Some (plan_from p) → ⊥) → n ≡ record m { parts = min (m.parts + 1) (2 ^ 64 - 1) }
+    → (old ≡ Some (plan_from p) → ⊥) → n ≡ record m { parts = min (m.parts + 1) (2 ^ 64 - 1) } → Rises m n
     → Refreshes (old ≡ Some now) m n
-plan_built p old now m n is stale counted =
-    refreshes_built (old ≡ Some now) (Some now) m n (λ e. stale (e ∙ ap Some is)) counted tt
+plan_built p old now m n is stale counted rises =
+    refreshes_built (old ≡ Some now) (Some now) m n (λ e. stale (e ∙ ap Some is)) counted tt rises
 
 single : Option PlanFrom → Bool → Single PlanFrom
 single k f = record { kept = k; fresh = f }

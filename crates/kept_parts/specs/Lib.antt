@@ -4,3 +4,4 @@ pub mod Kept
 pub mod Offered
 pub mod Touched
 pub mod Marks
+pub mod Gone

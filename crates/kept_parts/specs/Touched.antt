@@ -2,8 +2,8 @@
 use Rattle.std.specs.Prelude.{ℕ, Bool, true, false, ◌==◌, List}
 use Rattle.std.specs.Ordering.{eq_by_cmp}
 use Rattle.co_edits.specs.declared.edit.Edit.{Edit}
-use Rattle.co_edits.specs.declared.edit.Edit.TheVariants as edit
 use Rattle.co_messages.specs.Messages.{name_cmp}
+use Rattle.project_parts.specs.Touch.{Event, Messages, NoEvent, Node, Nothing, Parameters, Rate, Roster, Sheet, Touch, touch_of}
 use Rattle.kept_parts.specs.declared.part.Part.{Part}
 use Rattle.kept_parts.specs.declared.part.Part.TheVariants as part
 
@@ -29,25 +29,17 @@ abbrev pub is_dcf : Part → Bool
 is_dcf (part.Dcf n) = true
 is_dcf others = false
 
+-- what is made from inputs that change so
+abbrev pub touches : Touch → Part → Bool
+touches Nothing q = false
+touches Rate q = is_dcf q
+touches Roster q = false
+touches (Sheet name) q = is_of_text name q
+touches (Node id) q = is_planned q
+touches (Parameters id) q = is_of_node id q
+touches Messages q = is_planned q
+touches (Event number time) q = false
+touches (NoEvent number) q = false
+
 abbrev pub touched : Edit → Part → Bool
-touched (edit.Version version) q = false
-touched (edit.Bitrate rate) q = is_dcf q
-touched (edit.Horizon time) q = false
-touched (edit.Manager m) q = false
-touched (edit.SyncCounter n) q = false
-touched (edit.Eds name text) q = is_of_text name q
-touched (edit.DropEds name) q = is_of_text name q
-touched (edit.Node id name eds) q = is_planned q
-touched (edit.Need id mandatory) q = false
-touched (edit.DropNode id) q = is_planned q
-touched (edit.Param id index sub text) q = is_of_node id q
-touched (edit.Unparam id index sub) q = is_of_node id q
-touched (edit.Message name m) q = is_planned q
-touched (edit.Start name n) q = is_planned q
-touched (edit.DropMessage name) q = is_planned q
-touched (edit.Source name position index sub) q = is_planned q
-touched (edit.Unsource name position) q = is_planned q
-touched (edit.Sink name position node index sub) q = is_planned q
-touched (edit.Unsink name position node) q = is_planned q
-touched (edit.Event number e) q = false
-touched (edit.DropEvent number) q = false
+touched e q = touches (touch_of e) q

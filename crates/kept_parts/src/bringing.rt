@@ -7,6 +7,7 @@ ghost use Rattle.co_project.specs.Tables.{node_at, text_at};
 ghost use Rattle.kept_parts.specs.Kept.{device_at, for_plan, for_writes, fresh, given, held, numbered, of_node};
 ghost use Rattle.kept_parts.specs.Kept.{own_device, plan_from, reached, same_part, writes_from, HaveNoMark, IsOf};
 ghost use Rattle.kept_parts.specs.Made.{plan_made, written_made};
+ghost use Rattle.co_memo.specs.Work.{Rises};
 
 use crate::concise_now::ConciseNow;
 use crate::dcf_now::DcfNow;
@@ -39,6 +40,7 @@ impl KeptParts {
         ensures unmarked { OnOk result (fresh self.new (Part.Device name.now)
             ≡ is_some (text_at project.now.texts name.now)) }
         ensures stays { (q : Part) → fresh self.old q ≡ true → fresh self.new q ≡ true }
+        ensures rises { Rises meter.old meter.new }
     {
         self.devices.bring(self.alloc, project, name, meter)?;
         let device = share_of(self.devices.value(name))?;
@@ -59,6 +61,7 @@ impl KeptParts {
             (held self.old) (held self.new) meter.old meter.new) }
         ensures value { IfOk result (λ d. d ≡ filter_map (numbered project.now) (finmap.entries project.now.nodes)) }
         ensures unmarked { OnOk result (HaveNoMark self.new (map of_node (finmap.entries project.now.nodes))) }
+        ensures rises { Rises meter.old meter.new }
     {
         project.keeps_to_rules();
         let mut devices = NodeDevices::new(self.alloc);
@@ -97,6 +100,7 @@ impl KeptParts {
         ensures brings { OnOk result (AreBrought same_part (given project.now) (Part.Plan ∷ [])
             (held self.old) (held self.new) meter.old meter.new) }
         ensures kept { OnOk result (self.new.plan.kept ≡ Some (plan_from project.now)) }
+        ensures rises { Rises meter.old meter.new }
     {
         let devices = self.devices_for_plan(project)?;
         let messages = project.messages();
@@ -112,6 +116,7 @@ impl KeptParts {
         ensures brings { OnOk result (AreBrought same_part (given project.now) (for_plan project.now)
             (held self.old) (held self.new) meter.old meter.new) }
         ensures kept { OnOk result (self.new.plan.kept ≡ Some (plan_from project.now)) }
+        ensures rises { Rises meter.old meter.new }
     {
         if self.plan.is_fresh() {
             return Ok(());
@@ -137,6 +142,7 @@ impl KeptParts {
         ensures brings { OnOk result (AreBrought same_part (given project.now) (for_plan project.now)
             (held self.old) (held self.new) meter.old meter.new) }
         ensures value { IfOk result (λ p. p ≡ plan_made (plan_from project.now)) }
+        ensures rises { Rises meter.old meter.new }
     {
         self.settle_plan(project, meter)?;
         let Some(plan) = share_of(self.plan.value())? else {
@@ -159,6 +165,7 @@ impl KeptParts {
             (held self.old) (held self.new) meter.old meter.new) }
         ensures value { IfOk result (λ d. d
             ≡ option_and_then (λ n. device_at project.now n.eds) (node_at project.now.nodes node)) }
+        ensures rises { Rises meter.old meter.new }
     {
         match project.node(node) {
             Some(known) => {
@@ -181,6 +188,7 @@ impl KeptParts {
         ensures brings { OnOk result (AreBrought same_part (given project.now) (for_writes project.now node)
             (held self.old) (held self.new) meter.old meter.new) }
         ensures value { IfOk result (λ w. w ≡ option_map written_made (writes_from project.now node)) }
+        ensures rises { Rises meter.old meter.new }
     {
         let plan = self.bring_plan(project, meter)?;
         let device = self.bring_own_device(project, node, meter)?;
@@ -201,6 +209,7 @@ impl KeptParts {
         ensures is_of { IsOf project.now self.new }
         ensures brings { OnOk result (AreBrought same_part (given project.now) (reached project.now (Part.Concise node))
             (held self.old) (held self.new) meter.old meter.new) }
+        ensures rises { Rises meter.old meter.new }
     {
         let written = self.bring_writes(project, node, meter)?;
         let now = ConciseNow::of(written);
@@ -219,6 +228,7 @@ impl KeptParts {
         ensures is_of { IsOf project.now self.new }
         ensures brings { OnOk result (AreBrought same_part (given project.now) (reached project.now (Part.Dcf node))
             (held self.old) (held self.new) meter.old meter.new) }
+        ensures rises { Rises meter.old meter.new }
     {
         let written = self.bring_writes(project, node, meter)?;
         let now = DcfNow::of(project, node, written);
@@ -237,6 +247,7 @@ impl KeptParts {
         ensures is_of { IsOf project.now self.new }
         ensures brings { OnOk result (AreBrought same_part (given project.now) (reached project.now part.now)
             (held self.old) (held self.new) meter.old meter.new) }
+        ensures rises { Rises meter.old meter.new }
     {
         match part {
             Part::Device(name) => {

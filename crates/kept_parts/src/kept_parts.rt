@@ -1,12 +1,11 @@
 //! The parts that are kept.
 ghost use Rattle.std.specs.Prelude.{◌≡◌, OnOk, option_copied, option_map};
-ghost use Rattle.ini_text.specs.Content.{content_of};
 ghost use Rattle.co_memo.specs.Shelved.{kept_at};
 ghost use Rattle.co_memo.specs.Stale.{AreBrought};
 ghost use Rattle.co_project.specs.Project.{Content};
 ghost use Rattle.kept_parts.specs.Kept.{given, held, reached, same_part, IsOf};
 ghost use Rattle.kept_parts.specs.Made.{concise_made, dcf_made, plan_made, writes_made};
-ghost use Rattle.kept_devices.specs.Slots.{text_kept};
+ghost use Rattle.co_memo.specs.Work.{Rises};
 
 use crate::concise_from::ConciseFrom;
 use crate::dcf_from::DcfFrom;
@@ -16,7 +15,6 @@ use crate::plan_from::PlanFrom;
 use crate::writes_from::WritesFrom;
 use co_memo::{Memo, Meter, Shared, Shelf};
 use co_project::Project;
-use eds_device::Device;
 use kept_devices::DeviceShelf;
 use listed_text::{ListedBytes, ListedText};
 use pdo_plan::Plan;
@@ -70,16 +68,17 @@ impl KeptParts {
         ensures brings { OnOk result (AreBrought same_part (given project.now) (reached project.now part.now)
             (held self.old) (held self.new) meter.old meter.new) }
         ensures current { OnOk result (held self.new part.now ≡ given project.now part.now) }
+        ensures rises { Rises meter.old meter.new }
     {
         self.bring(part, project, meter)?;
         Ok(())
     }
 
-    /// The device of an EDS that is kept.
-    pub fn device(&self, name: &[u8]) -> Option<&Shared<Device>>
-        ensures { option_copied result ≡ option_map content_of (text_kept self.now.devices name.now) }
+    /// The devices of EDS that are kept.
+    pub fn devices(&self) -> &DeviceShelf
+        ensures { result.now ≡ self.now.devices }
     {
-        self.devices.value(name)
+        &self.devices
     }
 
     /// The plan of messages that is kept.

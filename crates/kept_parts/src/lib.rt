@@ -9,6 +9,7 @@ mod dcf_now;
 mod device_writes;
 mod kept_parts;
 pub mod laws;
+mod leaving;
 mod node_devices;
 mod of_now;
 mod part;

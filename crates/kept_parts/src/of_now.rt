@@ -1,32 +1,14 @@
 //! Devices that are kept, for those who read the devices of a project.
-ghost use Rattle.std.specs.Prelude.{◌≡◌, ◌∷◌, [], IfOk, IfSome, OnOk, Some};
-ghost use Rattle.co_memo.specs.Stale.{AreBrought};
-ghost use Rattle.kept_parts.specs.Kept.{device_at, given, held, same_part, IsOf};
+ghost use Rattle.std.specs.Prelude.{◌≡◌, IfOk, IfSome, Some};
+ghost use Rattle.kept_parts.specs.Kept.{device_at, IsOf};
 
 use crate::kept_parts::KeptParts;
-use crate::part::Part;
-use co_memo::{Meter, Shared, share_of};
+use co_memo::{Shared, share_of};
 use co_project::Project;
 use eds_device::Device;
 use std::alloc::AllocError;
 
 impl KeptParts {
-    /// Brings the device of an EDS up to date, as `refresh` does. Want of memory is the only error.
-    pub fn refresh_device(
-        &mut self,
-        project: &Project,
-        name: &[u8],
-        meter: &mut Meter,
-    ) -> Result<(), AllocError>
-        requires { IsOf project.now self.old }
-        ensures is_of { IsOf project.now self.new }
-        ensures brings { OnOk result (AreBrought same_part (given project.now) (Part.Device name.now ∷ [])
-            (held self.old) (held self.new) meter.old meter.new) }
-    {
-        self.bring_device(project, name, meter)?;
-        Ok(())
-    }
-
     /// The device of an EDS, shared, where it is kept and has no mark: so it is what the project's text
     /// describes now. Looks at nothing else, and reads nothing.
     pub fn device_of_now(

@@ -3,11 +3,13 @@ ghost use Rattle.std.specs.Prelude.{◌≡◌};
 ghost use Rattle.co_project.specs.Project.{Content as Project};
 ghost use Rattle.kept_parts.specs.Kept.{held, IsOf};
 ghost use Rattle.kept_parts.specs.Marks.{Follows, Marks};
-ghost use Rattle.kept_parts.specs.Touched.{is_dcf, is_of_node, is_of_text, is_planned, touched};
+ghost use Rattle.kept_parts.specs.Touched.{is_dcf, is_of_node, is_of_text, is_planned, touched, touches};
+ghost use Rattle.project_parts.specs.Touch.{shown};
 
 use crate::kept_parts::KeptParts;
 use crate::part::Part;
 use co_edits::Edit;
+use project_parts::{Touch, touch_of};
 
 impl KeptParts {
     /// Marks what says the bit rate.
@@ -45,31 +47,19 @@ impl KeptParts {
     }
 
     #[tactic(auto, using(crate::proofs::MarkLemmas::no_marks))]
-    fn mark(&mut self, edit: &Edit)
-        ensures { Marks (touched edit.now) self.old self.new }
+    fn mark(&mut self, touch: Touch<'_>)
+        ensures { Marks (touches (shown touch.entry)) self.old self.new }
     {
-        match edit {
-            Edit::Version(_) => (),
-            Edit::Bitrate(_) => self.touch_rate(),
-            Edit::Horizon(_) => (),
-            Edit::Manager(_) => (),
-            Edit::SyncCounter(_) => (),
-            Edit::Eds { name, .. } => self.touch_text(name.as_slice()),
-            Edit::DropEds { name } => self.touch_text(name.as_slice()),
-            Edit::Node { .. } => self.touch_plan(),
-            Edit::Need { .. } => (),
-            Edit::DropNode { .. } => self.touch_plan(),
-            Edit::Param { id, .. } => self.touch_node(*id),
-            Edit::Unparam { id, .. } => self.touch_node(*id),
-            Edit::Message { .. } => self.touch_plan(),
-            Edit::Start { .. } => self.touch_plan(),
-            Edit::DropMessage { .. } => self.touch_plan(),
-            Edit::Source { .. } => self.touch_plan(),
-            Edit::Unsource { .. } => self.touch_plan(),
-            Edit::Sink { .. } => self.touch_plan(),
-            Edit::Unsink { .. } => self.touch_plan(),
-            Edit::Event { .. } => (),
-            Edit::DropEvent { .. } => (),
+        match touch {
+            Touch::Nothing => (),
+            Touch::Rate => self.touch_rate(),
+            Touch::Roster => (),
+            Touch::Sheet(name) => self.touch_text(name),
+            Touch::Node(_) => self.touch_plan(),
+            Touch::Parameters(id) => self.touch_node(id),
+            Touch::Messages => self.touch_plan(),
+            Touch::Event(..) => (),
+            Touch::NoEvent(_) => (),
         }
     }
 
@@ -86,6 +76,6 @@ impl KeptParts {
         ensures same { (p : Project) → IsOf p self.old → IsOf p self.new }
         ensures follows { Follows edit.now self.old self.new }
     {
-        self.mark(edit);
+        self.mark(touch_of(edit));
     }
 }

@@ -1,5 +1,6 @@
 pub mod CoherentLemmas
 pub mod CountLemmas
+pub mod DeviceLemmas
 pub mod HeldLemmas
 pub mod PartsLemmas
 pub mod PointerLemmas

@@ -10,7 +10,10 @@ use Rattle.std.proofs.Math.Seq.{drop-append_seam, take-append_seam}
 use Rattle.pdo_plan.proofs.LimitLemmas.{between}
 use Rattle.co_scenario.specs.Scenario.{events_between, Events, HasEventBetween}
 use Rattle.co_scenario.proofs.PieceLemmas.{pieces}
-use Rattle.project_plan.specs.Events.{Shapes}
+use Rattle.co_scenario.specs.declared.timed_step.TimedStep.{TimedStep}
+use Rattle.co_project.specs.Project.{Content as Project}
+use Rattle.project_plan.specs.Events.{shape_of_node}
+use Rattle.network_image.specs.Image.{window_steps}
 use Rattle.network_image.specs.Steps.{steps_in, timed_step_of}
 use Rattle.network_image.proofs.StepLemmas.{moments_have_events, weaker}
 
@@ -99,10 +102,11 @@ module _ (events : Events) (i : ℕ) (small : i ≤ 1000) where
         ap (λ (k : ℕ). drop k moments) n_is ∙ ap (drop (length own)) (are ∙ both) ∙ drop-append_seam own after
 
 -- what the events of a window do are its steps
-pub window_made : (shapes : Shapes) (events own : Events) (i : ℕ) (moments : List (ℕ × ℕ)) → own ≡ events
-    → moments ≡ events_between (10000 * i) (10000 * i + 9999) own
-    → filter_map (timed_step_of shapes own) moments ≡ steps_in shapes events i
-unfolding steps_in
-window_made shapes events own i moments same are =
-    ap (filter_map (timed_step_of shapes own)) are ∙ ap (λ (es : Events). filter_map (timed_step_of shapes es)
-    (events_between (10000 * i) (10000 * i + 9999) es)) same
+pub steps_are : (p : Project) (i : ℕ) (events : Events) (moments : List (ℕ × ℕ)) (steps : List TimedStep)
+    → events ≡ p.events → moments ≡ events_between (10000 * i) (10000 * i + 9999) p.events
+    → steps ≡ filter_map (timed_step_of (shape_of_node p) events) moments → steps ≡ window_steps p i
+unfolding window_steps steps_in
+steps_are p i events moments steps same are is =
+    is ∙ ap (filter_map (timed_step_of (shape_of_node p) events)) are
+    ∙ ap (λ (e : Events). filter_map (timed_step_of (shape_of_node p) e)
+    (events_between (10000 * i) (10000 * i + 9999) p.events)) same

@@ -1,6 +1,6 @@
 -- The steps of windows: within their window, in order of time, and of the lengths of their entries' types.
-use Rattle.std.proofs.Common.{◌≡◌, ℕ, ◌+◌, ◌*◌, ◌≤◌, not, Bool, true, false, List, [], ◌∷◌, Option, Some, None, Result}
-use Rattle.std.proofs.Common.{Ok, Err, IfOk, Contains, length, option_map, option_and_then, filter_map, refl, sym, ap}
+use Rattle.std.proofs.Common.{◌≡◌, ℕ, ◌+◌, ◌*◌, ◌≤◌, not, Bool, true, false, List, [], ◌∷◌, Option, Some, None}
+use Rattle.std.proofs.Common.{Ok, Err, Contains, length, option_map, option_and_then, filter_map, refl, sym, ap}
 use Rattle.std.proofs.Common.{subst, ◌∙◌, ◌<◌, ◌⊎◌, inl, inr, arith}
 use Rattle.std.specs.Prelude.{if◌then◌else◌, MatchOption, ◌↔◌, unwrap_or}
 use Rattle.std.specs.FinMap.{get}
@@ -43,7 +43,7 @@ use Rattle.co_scenario.specs.declared.timed_event.TimedEvent.{TimedEvent}
 use Rattle.co_scenario.specs.declared.timed_step.TimedStep.{TimedStep}
 use Rattle.co_parts.specs.Contents.{no_shape}
 use Rattle.co_parts.specs.Images.{AreInOrder, ComesBefore, FitsShape, IsFree, IsWithin}
-use Rattle.network_image.specs.Held.{shapes_held, AllHeld, Held, IsWindow}
+use Rattle.network_image.specs.Held.{IsWindow}
 use Rattle.project_plan.specs.Events.{bytes_set, set_step, shape_of_node, step_of, Shapes}
 use Rattle.network_image.specs.Image.{image_of, window_steps}
 use Rattle.network_image.specs.Steps.{IsStepIn, at_moment, steps_in, timed_step_of, unless_none}
@@ -357,40 +357,6 @@ none_behind shapes p sound i late = empty (steps_in shapes p.events i) (each_ste
         let range = between (10000 * i) (10000 * i + 9999) e.time lies in
         let early = between 0 10000000 e.time is.1 in
         omega (arith, range.0, early.1, late)
-
-module _ (nodes : AllHeld) (node index sub : ℕ) (text : List ℕ) where
-  abbrev at_entry : Option Held → Option Entry
-  at_entry o = option_and_then (λ (h : Held). get h.shape.entries (index, sub)) o
-
-  abbrev bytes_in : Option Held → Option (List ℕ)
-  bytes_in o = option_and_then (λ (shape : Shaped). result_ok (set_bytes (get shape.entries (index, sub)) text node))
-      (option_map (λ (h : Held). h.shape) o)
-
-  pub bytes_there : (entry : Entry) → Some entry ≡ at_entry (get nodes node)
-      → value entry.kind text node ≡ bytes_set (shapes_held nodes) node index sub text
-  unfolding set_bytes
-  bytes_there entry there = by (get nodes node) there
-    where
-      by : (o : Option Held) → Some entry ≡ at_entry o → value entry.kind text node ≡ bytes_in o
-      by None there = cc
-      by (Some h) there = sym (set_value entry text node)
-          ∙ ap (λ (o : Option Entry). result_ok (set_bytes o text node)) there
-
-  pub none_there : None ≡ at_entry (get nodes node) → None ≡ bytes_set (shapes_held nodes) node index sub text
-  unfolding set_bytes
-  none_there there = by (get nodes node) there
-    where
-      by : (o : Option Held) → None ≡ at_entry o → None ≡ bytes_in o
-      by None there = refl
-      by (Some h) there = ap (λ (o : Option Entry). result_ok (set_bytes o text node)) there
-
-  -- so far as memory goes
-  pub read_there : {E : Type 0} (result : Result (Option (List ℕ)) E) (entry : Entry)
-      → Some entry ≡ at_entry (get nodes node)
-      → IfOk result (λ bytes. bytes ≡ value entry.kind text node)
-      → IfOk result (λ bytes. bytes ≡ bytes_set (shapes_held nodes) node index sub text)
-  read_there (Ok bytes) entry there is = is ∙ bytes_there entry there
-  read_there (Err e) entry there is = tt
 
 -- ---- a value has the length of its entry's type
 

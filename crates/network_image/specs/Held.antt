@@ -1,20 +1,17 @@
 -- What the program holds of a node: the same for each, whichever part is asked for.
-use Rattle.std.specs.Prelude.{ℕ, List, [], ◌∷◌, option_map, refl}
+use Rattle.std.specs.Prelude.{ℕ, List, [], ◌∷◌, refl}
 use Rattle.std.specs.Coded.{Coded, code_by, coded×, coded_list}
-use Rattle.std.specs.FinMap.{FinMap, get, insert}
-use Rattle.std.specs.Option.{option_map_or}
+use Rattle.std.specs.FinMap.{FinMap, insert}
 use Rattle.std.specs.Ordering.{nat_cmp}
 use Rattle.concise_dcf.specs.declared.write.Write.{Write}
 use Rattle.co_dict.specs.Shapes.{Shaped}
 use Rattle.co_dict.specs.Values.{Values}
-use Rattle.project_plan.specs.Network.{with_sections, writes_of, Member}
-use Rattle.co_project.specs.declared.node.Node.{Node}
+use Rattle.project_plan.specs.Network.{writes_of, Member}
 use Rattle.co_project.specs.Project.{Content as Project}
 use Rattle.std.specs.List.{AllByRecursion}
 use Rattle.co_parts.specs.Images.{AreInOrder, IsWithin}
 use Rattle.co_parts.specs.declared.identity.Identity.{Identity}
 use Rattle.co_scenario.specs.declared.timed_step.TimedStep.{TimedStep}
-use Rattle.project_plan.specs.Events.{Shapes}
 use Rattle.eds_device.specs.Entries.{defaults_of, shape_of}
 use Rattle.eds_device.specs.Identity.{identity}
 
@@ -37,10 +34,6 @@ held_code values_code shape_code identity_code write_code =
 abbrev pub AllHeld : Type 0
 AllHeld = FinMap nat_cmp Held
 
--- their entries
-abbrev pub shapes_held : AllHeld → Shapes
-shapes_held nodes node = option_map (λ (h : Held). h.shape) (get nodes node)
-
 -- the steps of the windows that have any
 abbrev pub Windows : Type 0
 Windows = FinMap nat_cmp (List TimedStep)
@@ -62,7 +55,3 @@ held_of project node m = record {
   expect = record { numbers = identity m.sections node };
   writes = writes_of project m node;
 }
-
--- a node with its parts, where its EDS is there
-abbrev pub with_held : Project → ℕ × Node → AllHeld → AllHeld
-with_held project e held = option_map_or (λ m. insert held e.0 (held_of project e.0 m)) (with_sections project e.1) held

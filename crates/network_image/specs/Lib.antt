@@ -3,3 +3,4 @@ pub mod Parts
 pub mod Held
 pub mod Network
 pub mod Steps
+pub mod Devices

@@ -4,12 +4,11 @@ ghost use Rattle.co_parts.specs.Shared.{shared};
 
 use crate::pointer::some_pointer;
 use co_parts::Window;
-use co_scenario::TimedStep;
-use std::alloc::{AllocError, Global};
+use std::alloc::AllocError;
 use std::marker::Model;
 use std::rc::Rc;
 
-/// The steps of a window, made once and shared.
+/// The steps of a window, shared.
 #[derive(Drop)]
 pub(crate) struct HeldWindow {
     window: Rc<Window>,
@@ -25,14 +24,6 @@ impl Model for HeldWindow {
 }
 
 impl HeldWindow {
-    /// The window of these steps.
-    pub fn new(alloc: Global, steps: Vec<TimedStep>) -> Result<HeldWindow, AllocError>
-        ensures { IfOk result (λ window. window ≡ steps.items) }
-    {
-        let window = Rc::new(alloc, Window::new(steps))?;
-        Ok(HeldWindow { window })
-    }
-
     /// This window.
     pub fn of(window: Rc<Window>) -> HeldWindow
         ensures { result ≡ window.value }

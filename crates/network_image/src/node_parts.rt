@@ -1,20 +1,12 @@
 //! The parts of a node.
-ghost use Rattle.std.specs.Prelude.{◌≡◌, ◌<◌, IfOk, IfSome, option_copied, slice_get};
-ghost use Rattle.std.specs.FinMap as map;
-ghost use Rattle.eds_device.specs.Entries.{defaults_of, shape_of};
-ghost use Rattle.eds_device.specs.Identity.{identity};
-ghost use Rattle.pdo_links.specs.Writes.{node_writes};
+ghost use Rattle.std.specs.Prelude.{◌≡◌, ◌<◌, IfOk, IfSome, slice_get};
 ghost use Rattle.co_parts.specs.Images.{greatest_place, IsBootWrite};
 ghost use Rattle.co_parts.specs.Shared.{shared};
 
-use crate::made::{make_defaults, make_expect, make_shape, make_writes};
 use crate::pointer::some_pointer;
-use co_dict::{Dict, Entry, Shape};
+use co_dict::{Dict, Shape};
 use co_parts::Identity;
-use co_project::Params;
 use concise_dcf::Write;
-use eds_device::Device;
-use pdo_links::Plan;
 use project_plan::NodeWrites;
 use std::alloc::{AllocError, Global};
 use std::marker::Model;
@@ -29,7 +21,7 @@ fn copied(alloc: Global, write: &Write) -> Result<Rc<Write>, AllocError>
     Ok(copy)
 }
 
-/// The parts of a node, each made once.
+/// The parts of a node, each shared.
 #[derive(Drop)]
 pub struct NodeParts {
     defaults: Rc<Dict>,
@@ -83,29 +75,6 @@ impl NodeParts {
         }
     }
 
-    /// The parts of a node with these parameters and this device.
-    pub(crate) fn new(
-        alloc: Global,
-        plan: &Plan,
-        params: &Params,
-        device: &Device,
-        node: u8,
-    ) -> Result<NodeParts, AllocError>
-        ensures { IfOk result (λ parts. parts ≡ record {
-          defaults = defaults_of device.now.sections node;
-          shape = shape_of device.now.sections node;
-          expect = record { numbers = identity device.now.sections node };
-          writes = node_writes plan.now params.now device.now.sections node;
-        }) }
-    {
-        Ok(NodeParts {
-            defaults: make_defaults(alloc, device, node)?,
-            shape: make_shape(alloc, device, node)?,
-            expect: make_expect(alloc, device, node)?,
-            writes: make_writes(alloc, plan, params, device, node)?,
-        })
-    }
-
     pub(crate) fn defaults(&self) -> Result<Option<Rc<Dict>>, AllocError>
         ensures { IfOk result (λ values. shared values ≡ Some self.now.defaults) }
     {
@@ -116,13 +85,6 @@ impl NodeParts {
         ensures { IfOk result (λ shape. shared shape ≡ Some self.now.shape) }
     {
         some_pointer(&self.shape)
-    }
-
-    /// The entry at an index and sub, if there is one.
-    pub(crate) fn entry(&self, index: u16, sub: u8) -> Option<&Entry>
-        ensures { option_copied result ≡ map.get self.now.shape.entries (index, sub) }
-    {
-        self.shape.entry(index, sub)
     }
 
     pub(crate) fn expect(&self) -> Result<Option<Rc<Identity>>, AllocError>

@@ -7,7 +7,7 @@ ghost use Rattle.co_parts.specs.Images.{greatest_place, IsBootWrite};
 ghost use Rattle.co_parts.specs.Shared.{shared};
 
 use crate::node_parts::NodeParts;
-use co_dict::{Dict, Entry, Shape};
+use co_dict::{Dict, Shape};
 use co_parts::Identity;
 use concise_dcf::Write;
 use std::alloc::{AllocError, Global};
@@ -75,14 +75,6 @@ impl NodeTable {
             Some(parts) => parts.shape(),
             None => Ok(None),
         }
-    }
-
-    /// The entry of a node at an index and sub, if there is one.
-    pub(crate) fn entry(&self, id: u8, index: u16, sub: u8) -> Option<&Entry>
-        ensures { option_copied result ≡ option_and_then (λ (h : Held). map.get h.shape.entries (index, sub))
-            (map.get self.now id) }
-    {
-        self.get(id)?.entry(index, sub)
     }
 
     pub(crate) fn expect(&self, id: u8) -> Result<Option<Rc<Identity>>, AllocError>

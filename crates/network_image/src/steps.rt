@@ -1,53 +1,20 @@
 //! What the events of a scenario do.
-ghost use Rattle.std.specs.Prelude.{◌≡◌, IfOk, filter_map};
-ghost use Rattle.co_values.specs.Values.{value};
-ghost use Rattle.network_image.specs.Held.{shapes_held};
+ghost use Rattle.std.specs.Prelude.{◌≡◌, ◌+◌, ◌*◌, IfOk, filter_map};
+ghost use Rattle.co_scenario.specs.Scenario.{events_between};
+ghost use Rattle.project_plan.specs.Events.{shape_of_node, step_of};
+ghost use Rattle.network_image.specs.Devices.{HoldsDevices};
+ghost use Rattle.network_image.specs.Image.{window_steps};
 ghost use Rattle.network_image.specs.Steps.{timed_step_of};
-ghost use Rattle.project_plan.specs.Events.{step_of};
 
-use crate::node_table::NodeTable;
-use crate::settable::Settable;
-use co_base::Octets;
+use crate::devices_now::DevicesNow;
+use co_project::Project;
 use co_scenario::{Event, Script, Step, TimedStep};
-use co_values::{DataType, value_of};
+use kept_devices::DeviceShelf;
 use std::alloc::{AllocError, Global};
 
-/// The bytes that a text spells as a value of a type at a node.
-fn read_value(
-    alloc: Global,
-    kind: DataType,
-    text: &[u8],
-    node: u8,
-) -> Result<Option<Octets>, AllocError>
-    ensures { IfOk result (λ bytes. bytes ≡ value kind text.now node) }
-{
-    match value_of(alloc, kind, text, node)? {
-        Some(value) => Ok(Some(value.bytes)),
-        None => Ok(None),
-    }
-}
-
-impl Settable for NodeTable {
-    ghost shapes = { shapes_held };
-
-    fn bytes_set(
-        &self,
-        alloc: Global,
-        node: u8,
-        index: u16,
-        sub: u8,
-        text: &[u8],
-    ) -> Result<Option<Octets>, AllocError> {
-        match self.entry(node, index, sub) {
-            Some(entry) => read_value(alloc, entry.kind, text, node),
-            None => Ok(None),
-        }
-    }
-}
-
 /// What an event does: none where it sets no value.
-fn step_of<N: Settable>(alloc: Global, nodes: &N, event: &Event) -> Result<Option<Step>, AllocError>
-    ensures { IfOk result (λ step. step ≡ step_of (N.shapes nodes.now) event.now) }
+fn step_of(alloc: Global, nodes: &DevicesNow<'_>, event: &Event) -> Result<Option<Step>, AllocError>
+    ensures { IfOk result (λ step. step ≡ step_of (shape_of_node nodes.now.project.now) event.now) }
 {
     match event {
         Event::Set {
@@ -77,13 +44,13 @@ fn step_of<N: Settable>(alloc: Global, nodes: &N, event: &Event) -> Result<Optio
 
 /// What the event of a time and a number does.
 #[tactic(auto, unfolding(crate::specs::Steps::timed_step_of))]
-fn timed_step_of<N: Settable>(
+fn timed_step_of(
     alloc: Global,
-    nodes: &N,
+    nodes: &DevicesNow<'_>,
     script: &Script,
     moment: (u32, u16),
 ) -> Result<Option<TimedStep>, AllocError>
-    ensures { IfOk result (λ step. step ≡ timed_step_of (N.shapes nodes.now) script.now moment) }
+    ensures { IfOk result (λ step. step ≡ timed_step_of (shape_of_node nodes.now.project.now) script.now moment) }
 {
     let (time, number) = moment;
     let Some(timed) = script.get(number) else {
@@ -95,16 +62,15 @@ fn timed_step_of<N: Settable>(
     }
 }
 
-/// What the events of these times and numbers do. Takes time by their number, and for each by its text and the
-/// logarithms of the numbers of events and entries.
-pub fn steps_of<N: Settable>(
+/// What the events of these times and numbers do.
+fn steps_of(
     alloc: Global,
-    nodes: &N,
+    nodes: &DevicesNow<'_>,
     script: &Script,
     moments: &[(u32, u16)],
 ) -> Result<Vec<TimedStep>, AllocError>
     ensures { IfOk result (λ steps. steps.items
-        ≡ filter_map (timed_step_of (N.shapes nodes.now) script.now) moments.now) }
+        ≡ filter_map (timed_step_of (shape_of_node nodes.now.project.now) script.now) moments.now) }
 {
     let mut steps = Vec::new(alloc);
     for moment in moments {
@@ -112,5 +78,25 @@ pub fn steps_of<N: Settable>(
             steps.push(step)?;
         }
     }
+    Ok(steps)
+}
+
+/// The steps of window i of a project, 0 to 1000, of whose events these are the times and numbers: by the
+/// devices of its nodes as they are now. Takes time by the number of these events, and for each by its text
+/// and the logarithms of the numbers of events and entries.
+pub fn window_steps(
+    alloc: Global,
+    devices: &DeviceShelf,
+    project: &Project,
+    i: u16,
+    moments: &[(u32, u16)],
+) -> Result<Vec<TimedStep>, AllocError>
+    requires devices { HoldsDevices project.now devices.now }
+    requires moments { moments.now ≡ events_between (10000 * i) (10000 * i + 9999) project.now.events }
+    ensures { IfOk result (λ steps. steps.items ≡ window_steps project.now i) }
+{
+    let _ = i;
+    let nodes = DevicesNow { devices, project };
+    let steps = steps_of(alloc, &nodes, project.events(), moments)?;
     Ok(steps)
 }

@@ -6,13 +6,10 @@ ghost use Rattle.co_scenario.specs.Scenario.{events_between};
 use co_scenario::Script;
 
 /// The microseconds of a window.
-const WINDOW: u32 = 10_000;
+pub const WINDOW: u32 = 10_000;
 
-/// The last window in which events can lie: that of the greatest time of an event, 10,000,000
-/// microseconds.
-pub const LAST_WINDOW: u32 = 1000;
-
-/// The last microsecond of that window.
+/// The last microsecond of the last window in which events can lie: window 1000, that of the greatest time
+/// of an event, 10,000,000 microseconds.
 pub const LAST_TIME: u32 = 10_009_999;
 
 /// How many of these come before a time, up to the first that doesn't.

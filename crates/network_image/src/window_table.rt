@@ -8,7 +8,6 @@ ghost use Rattle.co_parts.specs.Shared.{shared};
 
 use crate::held_window::HeldWindow;
 use co_parts::Window;
-use co_scenario::TimedStep;
 use std::alloc::{AllocError, Global};
 use std::collections::BTreeMap;
 use std::marker::Model;
@@ -66,23 +65,6 @@ impl WindowTable {
             return Ok(());
         }
         self.insert(i, HeldWindow::of(window))
-    }
-
-    /// Adds a window, where it has steps: each with its time there, in order of time.
-    pub(crate) fn add(
-        &mut self,
-        alloc: Global,
-        i: u32,
-        steps: Vec<TimedStep>,
-    ) -> Result<(), AllocError>
-        requires { IsWindow i steps.items }
-        ensures { OnOk result (self.new ≡ with_window i steps.items self.old) }
-    {
-        if steps.is_empty() {
-            return Ok(());
-        }
-        let window = HeldWindow::new(alloc, steps)?;
-        self.insert(i, window)
     }
 
     fn get(&self, i: u32) -> Option<&HeldWindow>

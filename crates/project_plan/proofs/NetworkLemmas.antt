@@ -1,9 +1,9 @@
--- The plan of a project over the devices of the nodes that its messages name, and whom it is made for.
+-- Whom the plan of a project is made for.
 use Rattle.std.proofs.Common.{◌≡◌, ◌∙◌, ℕ, ◌==◌, Bool, true, false, cond, List, [], ◌∷◌, filter_map, Option, Some, None}
-use Rattle.std.proofs.Common.{option_map, option_and_then, refl, sym, ap, subst}
+use Rattle.std.proofs.Common.{option_map, option_and_then, refl, sym, ap}
 use Rattle.std.specs.FinMap.{entries, find, get, get-entries}
 use Rattle.std.specs.Cmp.{tied_itself}
-use Rattle.std.specs.List.{All, cons_option}
+use Rattle.std.specs.List.{cons_option}
 use Rattle.std.specs.Map.{lookup}
 use Rattle.std.specs.Ordering.{eq_by_cmp, is_eq, nat_cmp}
 use Rattle.std.proofs.lemmas.Bool.{eq-eqb, eqb-true}
@@ -11,48 +11,13 @@ use Rattle.std.proofs.lemmas.Cmp.{nat_cmp_total}
 use Rattle.std.proofs.lemmas.Map.Lookups.{exact_unsigned}
 use Rattle.ini_text.specs.Content.{Section, content_of}
 use Rattle.co_base.proofs.TableLemmas.{alike}
-use Rattle.co_messages.specs.Messages.{is_of_messages, Named}
 use Rattle.co_project.specs.declared.node.Node.{Node}
 use Rattle.co_project.specs.Project.{Content}
 use Rattle.co_project.specs.Tables.{node_at, text_at}
 use Rattle.pdo_plan.proofs.MadeLemmas.{made_for}
-use Rattle.pdo_plan.proofs.NamedLemmas.{named_alike}
-use Rattle.pdo_stations.specs.Devices.{devices_of}
-use Rattle.pdo_plan.specs.Plan.{plan_of, IsMadeFor}
-use Rattle.project_plan.specs.Library.{Read}
-use Rattle.project_plan.specs.Named.{is_flagged, member_if_read, IsReadIf}
+use Rattle.pdo_plan.specs.Plan.{IsMadeFor}
 use Rattle.project_plan.specs.Network.{members_of, member_at, member_of, plan_of_project, with_sections, Member}
-use Rattle.project_plan.proofs.NamedLemmas.{in_text, shelf_alike}
-
--- the plan over the devices that were read is that over all
-pub planned_over : (read : Read) (flags : List Bool)
-    → ((node : ℕ) → is_flagged flags node ≡ is_of_messages node read.project.messages)
-    → All (IsReadIf flags read) (entries read.project.nodes)
-    → plan_of (devices_of (filter_map (member_if_read flags read.devices) (entries read.project.nodes)))
-    (entries read.project.messages) ≡ plan_of_project read.project
-unfolding plan_of_project members_of
-planned_over read flags named all =
-    named_alike (filter_map (member_if_read flags read.devices) (entries read.project.nodes))
-    (members_of read.project) read.project.messages
-    (λ node concerned. shelf_alike flags read node (named node ∙ concerned) (entries read.project.nodes) all)
-
--- as a library has them, and another that says the same of the project
-pub planned_with : (old read : Read) (flags : List Bool) (ms : Named) (nodes : List (ℕ × List Section))
-    → read.project ≡ old.project → ms ≡ old.project.messages
-    → ((node : ℕ) → is_flagged flags node ≡ is_of_messages node ms)
-    → All (IsReadIf flags read) (entries old.project.nodes)
-    → nodes ≡ filter_map (member_if_read flags read.devices) (entries read.project.nodes)
-    → plan_of (devices_of nodes) (entries ms) ≡ plan_of_project old.project
-planned_with old read flags ms nodes same are named all is =
-    let messages : ms ≡ read.project.messages = are ∙ ap (λ (p : Content). p.messages) (sym same) in
-    ap (λ (ns : List (ℕ × List Section)). plan_of (devices_of ns) (entries ms)) is
-    ∙ ap (λ (m : Named). plan_of (devices_of (filter_map (member_if_read flags read.devices)
-    (entries read.project.nodes))) (entries m)) messages
-    ∙ planned_over read flags (λ node. named node ∙ ap (is_of_messages node) messages)
-    (subst (λ (p : Content). All (IsReadIf flags read) (entries p.nodes)) (sym same) all)
-    ∙ ap plan_of_project same
-
--- ---- whom the plan is made for
+use Rattle.project_plan.proofs.NamedLemmas.{in_text}
 
 pub eq_by_cmp_same : (a b : ℕ) → a ≡ b → eq_by_cmp nat_cmp b a ≡ true
 eq_by_cmp_same a b same = ap (λ n. eq_by_cmp nat_cmp b n) same ∙ ap is_eq (tied_itself nat_cmp_total b)

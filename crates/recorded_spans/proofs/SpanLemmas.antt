@@ -11,9 +11,8 @@ use Rattle.co_parts.specs.declared.part.Part.{Part}
 use Rattle.can_bus.specs.Bus.{Bus, instant, power_on}
 use Rattle.can_bus.specs.Dues.{IsJustBefore, next_due}
 use Rattle.can_bus.proofs.DueLemmas.{from_due, parts_from}
-use Rattle.can_bus.proofs.DueRunLemmas.{before_first, before_next}
+use Rattle.can_bus.proofs.DueRunLemmas.{before_first, before_next, due_ahead}
 use Rattle.can_bus.proofs.QuietLemmas.{quiet}
-use Rattle.can_bus.proofs.TraceLemmas.{due_ahead}
 use Rattle.bus_laws.specs.Spans.{span}
 use Rattle.recorded_spans.specs.Spans.{IsReady}
 

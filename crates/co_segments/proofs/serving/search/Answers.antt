@@ -145,7 +145,7 @@ returns-in_ok-reached-in-None-clause-served g c =
               facts.1,
               facts.6,
               held,
-              (rw c.ran.ensures (omega arith), rw c.ran.ensures refl),
+              (rw c.ran.ensures.counted (omega arith), rw c.ran.ensures.counted refl),
               omega (arith, counted, c.in_ok-found.ensures.counted),
             ),
           ),

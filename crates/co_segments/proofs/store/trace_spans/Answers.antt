@@ -33,6 +33,7 @@ loop-number-init g c =
       turn = begun.ok.1;
       capacity = begun.capacity;
       kept = refl;
+      rises = (omega arith, omega arith);
     }
 
 pub loop-number-preserved : goal.loop-number-preserved
@@ -71,6 +72,7 @@ loop-number-preserved g c =
       turn = e.turn;
       capacity = e.capacity ∙ old.capacity;
       kept = c.let_go.ensures.image ∙ e.kept ∙ old.kept;
+      rises = (omega (arith, old.rises.0, e.rises.0), omega (arith, old.rises.1, e.rises.1));
     }
 
 pub returns-clause-lines : goal.returns-clause-lines

@@ -3,6 +3,7 @@ use Rattle.asking.specs.Asking.{outcome, turns}
 use Rattle.co_segments.specs.Placed.{IsNew, IsTold, kept_of}
 use Rattle.co_segments.specs.Segments.{HasRun, Traced, recorded_from}
 use Rattle.bus_laws.specs.Spans.{span}
+use Rattle.co_memo.specs.Work.{Rises}
 use Rattle.recorded_spans.specs.Spans.{IsReady, lines_of_spans}
 use Rattle.co_segments.proofs.store.trace_spans.Given as goal
 
@@ -19,4 +20,5 @@ invariant-loop-number g l =
       turn : l.shelf.turn ≡ l.number;
       capacity : l.shelf.capacity ≡ l.fn.shelf.capacity;
       kept : (g.P.Asked.seen l.parts).image ≡ image;
+      rises : Rises l.fn.meter l.meter;
     }

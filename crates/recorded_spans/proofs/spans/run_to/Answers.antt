@@ -3,8 +3,7 @@ use Rattle.std.proofs.lemmas.List.{append-nil}
 use Rattle.asking.proofs.LoopLemmas.{turned_state, turned_told, turned_noted, turned_counted}
 use Rattle.can_bus.specs.Bus.{instant}
 use Rattle.can_bus.specs.Dues.{IsJustBefore, next_due}
-use Rattle.can_bus.proofs.DueRunLemmas.{before_next}
-use Rattle.can_bus.proofs.TraceLemmas.{due_ahead}
+use Rattle.can_bus.proofs.DueRunLemmas.{before_next, due_ahead}
 use Rattle.recorded_spans.proofs.SpanLemmas.{at_moment, ended, ended_seen, ended_reads, skipped, skipped_seen, skipped_reads}
 use Rattle.recorded_spans.proofs.spans.run_to.Goals as goal
 

@@ -89,4 +89,4 @@ returns-clause-brings c =
     (defaults_brought p last (subst (IsOf p) (sym same) c.in_ok-now.ensures.is_of) key c.build.new.self now is
     c.in_ok-build.ensures.ok c.in_ok-build.ensures.fresh first.meter n
     (built p key (kept_at last.defaults key) c.in_ok-now-2.now now first.meter n is stale c.in_ok-build.ensures.counted
-    c.in_ok-build.ensures.nothing_built)))
+    c.in_ok-build.ensures.nothing_built c.build.ensures.rises)))

@@ -44,4 +44,5 @@ returns-clause-brings c =
     (held (with_plan last c.build.new.self)) m n)
     c.devices_for_plan.ensures.same
     (plan_brought p last (subst (IsOf p) same c.requires.is_of) c.build.new.self now c.in_ok-build.ensures.ok is m n
-    (plan_built p last.plan.kept now m n is stale c.in_ok-build.ensures.counted))
+    (plan_built p last.plan.kept now m n is stale c.in_ok-build.ensures.counted
+    c.build.ensures.rises))

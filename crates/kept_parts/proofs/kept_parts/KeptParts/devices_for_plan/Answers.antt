@@ -1,9 +1,9 @@
-use Rattle.std.proofs.Common.{arith, refl, sym, ap, option_map, ◌≡◌, ◌∙◌, ◌∷◌, ◌++◌, ℕ, List, Option, subst, true}
+use Rattle.std.proofs.Common.{arith, refl, ap, option_map, ◌≡◌, ◌∙◌, ◌∷◌, ◌++◌, ℕ, List, Option, subst}
 use Rattle.std.proofs.lemmas.Grind.{common_steps}
 use Rattle.std.specs.Option.{option_to_list}
 use Rattle.ini_text.specs.Content.{Content as Device, content_of}
 use Rattle.co_project.specs.declared.node.Node.{Node}
-use Rattle.kept_devices.specs.Slots.{text_kept, Slots}
+use Rattle.kept_devices.specs.Slots.{text_kept}
 use Rattle.kept_parts.specs.Kept.{device_at}
 use Rattle.kept_parts.specs.declared.kept_parts.KeptParts.{KeptParts}
 use Rattle.kept_parts.proofs.KindLemmas.{device_now}

@@ -1,0 +1,55 @@
+-- What an edit changes of the inputs of a project's parts.
+use Rattle.std.specs.Prelude.{ℕ, List}
+use Rattle.co_edits.specs.declared.edit.Edit.{Edit}
+use Rattle.co_edits.specs.declared.edit.Edit.TheVariants as edit
+use Rattle.project_parts.specs.declared.touch.Touch.{Touch as TheTouch}
+use Rattle.project_parts.specs.declared.touch.Touch.TheVariants as touch
+
+-- nothing; the bit rate; what else the manager is told; the text of the EDS of a name; the node of a number; its
+-- parameters; the messages; the event of a number that comes to a time, or that goes
+pub data Touch : Type 0 where
+  Nothing : Touch
+  Rate : Touch
+  Roster : Touch
+  Sheet : List ℕ → Touch
+  Node : ℕ → Touch
+  Parameters : ℕ → Touch
+  Messages : Touch
+  Event : ℕ → ℕ → Touch
+  NoEvent : ℕ → Touch
+
+-- THE TABLE: what an edit changes, from which all marks follow
+abbrev pub touch_of : Edit → Touch
+touch_of (edit.Version version) = Roster
+touch_of (edit.Bitrate rate) = Rate
+touch_of (edit.Horizon time) = Nothing
+touch_of (edit.Manager m) = Roster
+touch_of (edit.SyncCounter n) = Roster
+touch_of (edit.Eds name text) = Sheet name
+touch_of (edit.DropEds name) = Sheet name
+touch_of (edit.Node id name eds) = Node id
+touch_of (edit.Need id mandatory) = Roster
+touch_of (edit.DropNode id) = Node id
+touch_of (edit.Param id index sub text) = Parameters id
+touch_of (edit.Unparam id index sub) = Parameters id
+touch_of (edit.Message name m) = Messages
+touch_of (edit.Start name n) = Messages
+touch_of (edit.DropMessage name) = Messages
+touch_of (edit.Source name position index sub) = Messages
+touch_of (edit.Unsource name position) = Messages
+touch_of (edit.Sink name position node index sub) = Messages
+touch_of (edit.Unsink name position node) = Messages
+touch_of (edit.Event number e) = Event number e.time
+touch_of (edit.DropEvent number) = NoEvent number
+
+-- what the program's own value says
+abbrev pub shown : TheTouch → Touch
+shown touch.Nothing = Nothing
+shown touch.Rate = Rate
+shown touch.Roster = Roster
+shown (touch.Sheet name) = Sheet name.now
+shown (touch.Node id) = Node id
+shown (touch.Parameters id) = Parameters id
+shown touch.Messages = Messages
+shown (touch.Event number time) = Event number time
+shown (touch.NoEvent number) = NoEvent number
