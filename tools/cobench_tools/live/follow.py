@@ -17,6 +17,7 @@ from . import watch
 
 QUIET = {b"trace", b"diag", b"project"}     # queries that are never refused, and change nothing
 RESTS = 1.0         # seconds behind a save, where nothing comes, until memory is looked through for what isn't used any more
+SHORT = 200         # so many windows of a run are drawn before the eye sees that they come behind the rest
 MOST_EDITS = 1      # so many edits are sent before the files have stood still: a script that is half written mostly makes more
 
 
@@ -128,7 +129,7 @@ class Follower:
 
     def lead(self, save, pairs, new, why):
         """Has the open cobench make a project: by edits, or afresh where that isn't possible."""
-        self.answered = None
+        self.answered, self.programs.is_long = None, len(self.run.windows) > SHORT
         if self.programs.opened and not why:
             try:
                 if self.send_edits(save, pairs, new):
@@ -172,9 +173,10 @@ class Follower:
             answers = self.answers.copy()
             evidence = answers.evidence(answered)
             items = answers.take(answered, evidence, self.is_first)
-        if not self.programs.opened.is_answering():
+        if self.programs.is_long or not self.programs.opened.is_answering():
             self.tell(answers, items)
             self.say("working", "the script was saved", "trace")
+            items = {}
         with save.step("trace"):
             text = self.programs.opened.take_text()
         with save.step("picture"):

@@ -38,12 +38,14 @@ class Programs:
 
     opened   the open one, and `made` the project that it was led to
     work     what the last one that was ended says it has made anew, in words
+    is_long  whether the run takes long enough that the replies before it are waited for apart: what a cobench
+             reads at once it answers at once
     """
 
     def __init__(self, words):
-        self.words, self.opened, self.made, self.work = words, None, None, ""
+        self.words, self.opened, self.made, self.work, self.is_long = words, None, None, "", False
         self._spare, self._past = None, []
-        self._replies, self._current, self._asked = {}, set(), []
+        self._replies, self._current, self._asked, self._behind = {}, set(), [], []
 
     # The one apart.
 
@@ -83,12 +85,14 @@ class Programs:
         nodes = nodes_of_files(commands)
         self._current = set() if nodes is None else self._current.difference(queries_of(nodes))
         self.made, self._asked = new, [query for query in queries_of(new.nodes()) if query not in self._current]
-        queries = [b"project"] + self._asked + [b"trace"]
+        queries, self._behind = [b"project"] + self._asked + [b"trace"], []
+        if self.is_long:
+            self._behind = [queries.pop()]
         self.opened.send(b"".join(commands + [query + b"\n" for query in queries]), len(commands) + len(queries))
 
     def is_led(self):
         """Whether its project is now the one that it was led to."""
-        self.opened.take(self.opened.due - len(self._asked) - 2)
+        self.opened.take(self.opened.due - len(self._asked) - 2 + len(self._behind))
         return self.opened.take_reply(self.made.reply) is self.made.reply
 
     def answers(self):
@@ -99,6 +103,8 @@ class Programs:
             if not known or known.text is not text:
                 self._replies[query] = Reply(text)
             self._current.add(query)
+        for query in self._behind:
+            self.opened.send(query + b"\n", 1)
         return {tool.shown(query): self._replies[query].lines for query in queries_of(self.made.nodes())}
 
     def why_ended(self):
