@@ -9,12 +9,9 @@ use crate::bus_state::BusState;
 use crate::parts::Parts;
 use bus_devices::Devices;
 use bus_events::{StepsLeft, run_events};
-use co_parts::END;
+use co_parts::{END, WINDOW};
 use std::alloc::AllocError;
 use std::mem::replace;
-
-/// The time that a window takes, in microseconds.
-const WINDOW: u64 = 10_000;
 
 /// Asks for the events of the window that starts at the moment t, if one does.
 #[tactic(auto, using(crate::proofs::WindowLemmas::free_window), unfolding(crate::specs::Bus::after_window_start))]

@@ -3,11 +3,11 @@
 use crate::stored::Stored;
 use anyhow::{Result, bail};
 use checks_layout::Layout;
-use co_answers::{Answer, Work, Workbench, answer};
 use co_commands::{Query, Request};
 use co_project::{EditFault, Project};
 use std::alloc::Global;
 use std::io::Write;
+use workbench::{Answer, Work, Workbench, answer};
 
 /// A workbench, what takes the lines of its edits, and a store if there is one.
 #[derive(Drop)]

@@ -1,13 +1,13 @@
 -- Parts that are brought up to date one after another.
 use Rattle.std.proofs.Common.{◌≡◌, ℕ, ◌+◌, inl, inr, Bool, true, false, ◌||◌, List, [], ◌∷◌, ◌++◌, Option, Some, None}
 use Rattle.std.proofs.Common.{if◌then◌else◌, ◌==◌, refl, sym, ap, ◌∙◌, subst, arith, zero-add, ◌-◌, ◌^◌, ◌≤◌, min}
-use Rattle.std.specs.Prelude.{IfSome, IfNone}
+use Rattle.std.specs.Prelude.{IfSome, IfNone, is_some}
 use borrow.Author.Tests.{eqb-true}
 use Rattle.std.specs.List.{list_any}
 use Rattle.std.specs.Option.{option_map}
 use Rattle.std.proofs.lemmas.List.Folds.{list_any-append}
 use Rattle.co_memo.specs.At.{at}
-use Rattle.co_memo.specs.Work.{Work, Refreshes, Rises}
+use Rattle.co_memo.specs.Work.{IsMoreBy, IsToMake, Work, Refreshes, Rises}
 use Rattle.co_memo.specs.Stale.{settled, Counts, IsOneMore, AreBrought}
 
 one_more_of : (P : Type 0) (k n m : ℕ) → IsOneMore P k n → IsOneMore P (k + m) (n + m)
@@ -16,15 +16,28 @@ one_more_of P k n m h = elim h [
   | inr x ↦ inr (x.0, omega (arith, x.1))
 ]
 
-module _ {N V : Type 0} (same : N → N → Bool) (now : N → V) where
-  chosen_twice : (s t : Bool) (x y : V) → (if s || t then x else y) ≡ (if t then x else if s then x else y)
+more_twice : (n m a b c : ℕ) → IsMoreBy n a b → IsMoreBy m b c → IsMoreBy (n + m) a c
+more_twice n m a b c x y = (omega (arith, x.0, y.0), omega (arith, x.1, y.1))
+
+none_more : (m : ℕ) → IsMoreBy 0 m m
+none_more m = (omega arith, omega arith)
+
+-- what a part adds
+one_counted : (m n : Work) → n ≡ record m { parts = min (m.parts + 1) (2 ^ 64 - 1) } → IsMoreBy 1 m.parts n.parts
+one_counted m n is = let e = ap (λ (w : Work). w.parts) is in (omega (arith, e), omega (arith, e))
+
+none_counted : (m n : Work) → n ≡ m → IsMoreBy 0 m.parts n.parts
+none_counted m n is = let e = ap (λ (w : Work). w.parts) is in (omega (arith, e), omega (arith, e))
+
+module _ {N V : Type 0} (same : N → N → Bool) (now : N → Option V) where
+  chosen_twice : (s t : Bool) (x y : Option V) → (if s || t then x else y) ≡ (if t then x else if s then x else y)
   chosen_twice true true x y = refl
   chosen_twice true false x y = refl
   chosen_twice false true x y = refl
   chosen_twice false false x y = refl
 
   -- parts and then further ones are all of them
-  pub settled-append : (ps qs : List N) (held : N → V)
+  pub settled-append : (ps qs : List N) (held : N → Option V)
       → settled same now (ps ++ qs) held ≡ settled same now qs (settled same now ps held)
   settled-append ps qs held = λ i q.
       let e : (if list_any (same q) (ps ++ qs) then now q else held q)
@@ -33,16 +46,16 @@ module _ {N V : Type 0} (same : N → N → Bool) (now : N → V) where
       ∙ chosen_twice (list_any (same q) ps) (list_any (same q) qs) (now q) (held q) in
       e i
 
-  pub counts-append : (ps qs : List N) (held : N → V) (n m : ℕ) → Counts same now ps held n
+  pub counts-append : (ps qs : List N) (held : N → Option V) (n m : ℕ) → Counts same now ps held n
       → Counts same now qs (settled same now ps held) m → Counts same now (ps ++ qs) held (n + m)
   counts-append [] qs held n m a b =
       subst (Counts same now qs held) (sym (zero-add m) ∙ ap (λ k. k + m) (sym a)) b
   counts-append (p ∷ ps) qs held n m a b =
       let here = settled same now (p ∷ []) held in
-      let rest = subst (λ (h : N → V). Counts same now qs h m) (settled-append (p ∷ []) ps held) b in
-      (a.0 + m, one_more_of (held p ≡ now p) a.0 n m a.1, counts-append ps qs here a.0 m a.2 rest)
+      let rest = subst (λ (h : N → Option V). Counts same now qs h m) (settled-append (p ∷ []) ps held) b in
+      (a.0 + m, one_more_of (IsToMake (held p) (now p)) a.0 n m a.1, counts-append ps qs here a.0 m a.2 rest)
 
-  pub both : (ps qs : List N) (a b c : N → V) (k m n : Work) → AreBrought same now ps a b k m
+  pub both : (ps qs : List N) (a b c : N → Option V) (k m n : Work) → AreBrought same now ps a b k m
       → AreBrought same now qs b c m n → AreBrought same now (ps ++ qs) a c k n
   both ps qs a b c k m n x y =
       record {
@@ -52,37 +65,45 @@ module _ {N V : Type 0} (same : N → N → Bool) (now : N → V) where
         counted = (
           x.counted.0 + y.counted.0,
           counts-append ps qs a x.counted.0 y.counted.0 x.counted.1
-              (subst (λ (h : N → V). Counts same now qs h y.counted.0) x.settled_is y.counted.1),
-          omega (arith, x.counted.2, y.counted.2),
+              (subst (λ (h : N → Option V). Counts same now qs h y.counted.0) x.settled_is y.counted.1),
+          more_twice x.counted.0 y.counted.0 k.parts m.parts n.parts x.counted.2 y.counted.2,
         );
       }
 
   -- no parts
-  pub none : (a : N → V) (m : Work) → AreBrought same now [] a a m m
-  none a m = record { settled_is = refl; segments_stay = refl; parts_rise = omega arith; counted = (0, refl, omega arith) }
+  pub none : (a : N → Option V) (m : Work) → AreBrought same now [] a a m m
+  none a m = record { settled_is = refl; segments_stay = refl; parts_rise = omega arith; counted = (0, refl, none_more m.parts) }
 
-  or_false : (b : Bool) (x y : V) → (if b || false then x else y) ≡ (if b then x else y)
+  or_false : (b : Bool) (x y : Option V) → (if b || false then x else y) ≡ (if b then x else y)
   or_false true x y = refl
   or_false false x y = refl
 
   -- one part
-  pub one : (p : N) (a b : N → V) (m n : Work) → ((q : N) → b q ≡ (if same q p then now q else a q))
-      → Refreshes (a p ≡ now p) m n → AreBrought same now (p ∷ []) a b m n
+  pub one : (p : N) (a b : N → Option V) (m n : Work) → ((q : N) → b q ≡ (if same q p then now q else a q))
+      → Refreshes (a p) (now p) m n → AreBrought same now (p ∷ []) a b m n
   one p a b m n stands refreshes =
       record {
         settled_is = λ i q. (stands q ∙ sym (or_false (same q p) (now q) (a q))) i;
-        segments_stay = refreshes.0;
-        parts_rise = refreshes.1;
-        counted = elim refreshes.2 [
-          | inl current ↦ (0, (0, inl (current.0, refl), refl), omega (arith, current.1))
-          | inr stale ↦ (1, (0, inr (stale.0, refl), refl), stale.1)
+        segments_stay = elim refreshes.1 [
+          | inl made ↦ ap (λ (w : Work). w.segments) made.1
+          | inr kept ↦ ap (λ (w : Work). w.segments) kept.1
+        ];
+        parts_rise = refreshes.0;
+        counted = elim refreshes.1 [
+          | inl made ↦ (1, (0, inl (made.0, refl), refl), one_counted m n made.1)
+          | inr kept ↦ (0, (0, inr (kept.0, refl), refl), none_counted m n kept.1)
         ];
       }
 
--- the same is counted where two facts say that a part is current
-pub refreshes_as : (P Q : Type 0) (m n : Work) → (P → Q) → (Q → P) → Refreshes P m n → Refreshes Q m n
-refreshes_as P Q m n to from r =
-    (r.0, r.1, elim r.2 [ inl x ↦ inl (to x.0, x.1) | inr x ↦ inr (λ q. x.0 (from q), x.1) ])
+-- the same is counted where two say that a part is to be made
+pub refreshes_as : {V W : Type 0} (a b : Option V) (c d : Option W) (m n : Work) → (IsToMake a b → IsToMake c d)
+    → (IsToMake c d → IsToMake a b) → Refreshes a b m n → Refreshes c d m n
+refreshes_as a b c d m n to from r =
+    (r.0, elim r.1 [ inl x ↦ inl (to x.0, x.1) | inr x ↦ inr (λ q. x.0 (from q), x.1) ])
+
+pub is_there : {X G : Type 0} (make : X → G) (o : Option X) → is_some (option_map make o) ≡ is_some o
+is_there make None = refl
+is_there make (Some x) = refl
 
 pub option_map_back : {X G : Type 0} (make : X → G) → ((x y : X) → make x ≡ make y → x ≡ y) → (a b : Option X)
     → option_map make a ≡ option_map make b → a ≡ b
@@ -91,11 +112,17 @@ option_map_back make inj None (Some y) e = cc
 option_map_back make inj (Some x) None e = cc
 option_map_back make inj (Some x) (Some y) e = let f : make x ≡ make y = cc in ap Some (inj x y f)
 
--- the same is counted of what is held by its kind
-pub refreshes_kind : {X G : Type 0} (make : X → G) → ((x y : X) → make x ≡ make y → x ≡ y) → (a b : Option X)
-    (m n : Work) → Refreshes (a ≡ b) m n → Refreshes (option_map make a ≡ option_map make b) m n
-refreshes_kind make inj a b m n r = refreshes_as (a ≡ b) (option_map make a ≡ option_map make b) m n
-    (λ e. ap (option_map make) e) (option_map_back make inj a b) r
+module _ {X G : Type 0} (make : X → G) (inj : (x y : X) → make x ≡ make y → x ≡ y) (a b : Option X) where
+  -- what is to be made is so by its kind
+  pub to_make_kind : IsToMake a b → IsToMake (option_map make a) (option_map make b)
+  to_make_kind s = (λ e. s.0 (option_map_back make inj a b e), is_there make b ∙ s.1)
+
+  pub to_make_back : IsToMake (option_map make a) (option_map make b) → IsToMake a b
+  to_make_back s = (λ e. s.0 (ap (option_map make) e), sym (is_there make b) ∙ s.1)
+
+  -- the same is counted of it
+  pub refreshes_kind : (m n : Work) → Refreshes a b m n → Refreshes (option_map make a) (option_map make b) m n
+  refreshes_kind m n r = refreshes_as a b (option_map make a) (option_map make b) m n to_make_kind to_make_back r
 
 chosen_at : {X G : Type 0} (make : X → G) (b : Bool) (x y z : Option X) → (b ≡ true → x ≡ y)
     → option_map make (if b then x else z) ≡ (if b then option_map make y else option_map make z)
@@ -111,21 +138,14 @@ shelf_stands make key now old new h q = ap (option_map make) (h q)
 
 -- ---- what is counted of one part
 
-one_at_most : (m : ℕ) → min (m + 1) (2 ^ 64 - 1) ≤ m + 1
-one_at_most m = omega arith
+-- of one that is held as it is to be made now
+pub refreshes_none : {V : Type 0} (held now : Option V) (m : Work) → held ≡ now → Refreshes held now m m
+refreshes_none held now m current = (omega arith, inr (λ s. s.0 current, refl))
 
--- of one that is current
-pub refreshes_none : (P : Type 0) (m : Work) → P → Refreshes P m m
-refreshes_none P m current = (refl, omega arith, inl (current, omega arith))
-
--- and of one that isn't, where it is built from inputs, or let go where there are none
-pub refreshes_built : {O : Type 0} (P : Type 0) (now : Option O) (m n : Work) → (P → ⊥)
-    → IfSome now (λ _. n ≡ record m { parts = min (m.parts + 1) (2 ^ 64 - 1) }) → IfNone now (n ≡ m) → Rises m n
-    → Refreshes P m n
-refreshes_built P None m n stale built same rises =
-    let e = ap (λ (w : Work). w.parts) same in
-    (ap (λ (w : Work). w.segments) same, rises.1, inr (stale, omega (arith, e)))
-refreshes_built P (Some o) m n stale built same rises =
-    let e = ap (λ (w : Work). w.parts) built in
-    let most = one_at_most m.parts in
-    (ap (λ (w : Work). w.segments) built, rises.1, inr (stale, omega (arith, e, most)))
+-- and of one that isn't, where it is made, or let go where there is nothing to make it from
+pub refreshes_built : {O V : Type 0} (held from : Option V) (now : Option O) (m n : Work) → (held ≡ from → ⊥)
+    → is_some from ≡ is_some now → IfSome now (λ _. n ≡ record m { parts = min (m.parts + 1) (2 ^ 64 - 1) })
+    → IfNone now (n ≡ m) → Rises m n → Refreshes held from m n
+refreshes_built held from None m n other there built same rises =
+    (rises.1, inr (λ s. let none : false ≡ true = sym there ∙ s.1 in cc, same))
+refreshes_built held from (Some o) m n other there built same rises = (rises.1, inl ((other, there), built))

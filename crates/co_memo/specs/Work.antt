@@ -1,7 +1,7 @@
 -- What a meter counts.
-use Rattle.std.specs.Prelude.{◌≡◌, ℕ, ◌+◌, ◌-◌, ◌^◌, ◌≤◌, ◌⊎◌, min}
+use Rattle.std.specs.Prelude.{◌≡◌, ℕ, ◌+◌, ◌-◌, ◌^◌, ◌≤◌, ◌⊎◌, min, true, Option, is_some}
 
--- the segments that were run, and the parts that were built anew
+-- the segments that were run, and the parts that were made
 pub record Work : Type 0 where
   pub segments : ℕ
   pub parts : ℕ
@@ -14,12 +14,16 @@ idle = record { segments = 0; parts = 0 }
 abbrev pub Rises : Work → Work → Type 0
 Rises old new = (old.segments ≤ new.segments) × (old.parts ≤ new.parts)
 
--- nothing is counted, or at most one part, that is not current
-abbrev pub Refreshes : Type 0 → Work → Work → Type 0
-Refreshes IsCurrent old new = (new.segments ≡ old.segments) × (old.parts ≤ new.parts)
-    × ((IsCurrent × (new.parts ≤ old.parts)) ⊎ ((IsCurrent → ⊥) × (new.parts ≤ old.parts + 1)))
+-- n more, of a count that stops at 2^64 - 1
+abbrev pub IsMoreBy : ℕ → ℕ → ℕ → Type 0
+IsMoreBy n before after = (min (before + n) (2 ^ 64 - 1) ≤ after) × (after ≤ before + n)
 
--- nothing is counted where the part is current, and else exactly one part, up to 2^64 - 1
-abbrev pub Builds : Type 0 → Work → Work → Type 0
-Builds IsCurrent old new = (IsCurrent × (new ≡ old))
-    ⊎ ((IsCurrent → ⊥) × (new ≡ record old { parts = min (old.parts + 1) (2 ^ 64 - 1) }))
+-- a part is to be made: it is to be there, and isn't held as it is to be made now
+abbrev pub IsToMake : {V : Type 0} → Option V → Option V → Type 0
+IsToMake held now = (held ≡ now → ⊥) × (is_some now ≡ true)
+
+-- of a part that is to be made exactly one is counted, up to 2^64 - 1, and else nothing; the count never becomes less
+abbrev pub Refreshes : {V : Type 0} → Option V → Option V → Work → Work → Type 0
+Refreshes held now old new = (old.parts ≤ new.parts)
+    × ((IsToMake held now × (new ≡ record old { parts = min (old.parts + 1) (2 ^ 64 - 1) }))
+    ⊎ ((IsToMake held now → ⊥) × (new ≡ old)))

@@ -2,7 +2,7 @@
 ghost use Rattle.std.specs.Prelude.{◌≡◌, ◌↔◌, ◌+◌, ◌-◌, ◌^◌, min, true, false, None, Some, IsTrue, OnOk, OnErr};
 ghost use Rattle.std.specs.Bool.{IsFalse};
 ghost use Rattle.std.specs.Option.{option_map, option_copied};
-ghost use Rattle.co_memo.specs.Work.{Builds, Refreshes, Rises};
+ghost use Rattle.co_memo.specs.Work.{Refreshes, Rises};
 
 use crate::kept::Kept;
 use crate::makes::{Makes, Offers};
@@ -147,8 +147,7 @@ impl<I: Makes<T> + Drop, T: Drop> Memo<I, T> {
         requires { self.old.fresh ≡ true → self.old.kept ≡ Some (O.offered now) }
         ensures ok { OnOk result (self.new ≡ record { kept = Some (O.offered now); fresh = true }) }
         ensures err { OnErr result (self.new ≡ self.old) }
-        ensures counted { OnOk result (Refreshes (self.old.kept ≡ Some (O.offered now)) meter.old meter.new) }
-        ensures built { OnOk result (Builds (self.old.kept ≡ Some (O.offered now)) meter.old meter.new) }
+        ensures counted { OnOk result (Refreshes self.old.kept (Some (O.offered now)) meter.old meter.new) }
         ensures uncounted { OnErr result (meter.new ≡ meter.old) }
         ensures rises { Rises meter.old meter.new }
     {

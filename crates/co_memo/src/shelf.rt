@@ -5,7 +5,7 @@ ghost use Rattle.std.specs.Prelude.{if◌then◌else◌, IsTrue, IfNone, IfSome,
 ghost use Rattle.std.specs.Option.{option_map, option_copied};
 ghost use Rattle.co_memo.specs.At.{at};
 ghost use Rattle.co_memo.specs.Shelved.{is_flagged, is_fresh, kept_at};
-ghost use Rattle.co_memo.specs.Work.{Builds, Refreshes, Rises};
+ghost use Rattle.co_memo.specs.Work.{Refreshes, Rises};
 
 use crate::kept::Kept;
 use crate::makes::{Makes, Offers};
@@ -226,11 +226,7 @@ impl<I: Makes<T> + Drop, T: Drop> Shelf<I, T> {
             → kept_at self.new q ≡ (if q == key then option_map O.offered now else kept_at self.old q)) }
         ensures fresh { OnOk result ((q : ℕ) → is_fresh self.new q ≡ (q == key || is_fresh self.old q)) }
         ensures err { OnErr result (self.new ≡ self.old) }
-        ensures counted { OnOk result
-            (Refreshes (kept_at self.old key ≡ option_map O.offered now) meter.old meter.new) }
-        ensures built { OnOk result
-            (IfSome now (λ o. Builds (kept_at self.old key ≡ Some (O.offered o)) meter.old meter.new)) }
-        ensures nothing_built { OnOk result (IfNone now (meter.new ≡ meter.old)) }
+        ensures counted { OnOk result (Refreshes (kept_at self.old key) (option_map O.offered now) meter.old meter.new) }
         ensures uncounted { OnErr result (meter.new ≡ meter.old) }
         ensures rises { Rises meter.old meter.new }
     {

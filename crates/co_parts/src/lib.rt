@@ -16,4 +16,4 @@ pub use part::Part;
 pub use read::Read;
 pub use roster::Roster;
 pub use start_mode::StartMode;
-pub use window::{END, Window};
+pub use window::{END, WINDOW, Window};

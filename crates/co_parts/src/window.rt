@@ -5,6 +5,9 @@ ghost use Rattle.std.specs.Prelude.{◌≡◌, ◌↔◌, IsTrue};
 use co_scenario::{TimedStep, same_steps};
 use std::marker::Model;
 
+/// The time that a window takes, in microseconds.
+pub const WINDOW: u64 = 10_000;
+
 /// The moment after the last that a simulation reaches, in microseconds from the power-on of the network: the
 /// end of the window in which the greatest horizon lies.
 pub const END: u64 = 10_010_000;

@@ -3,7 +3,7 @@ use Rattle.std.specs.Prelude.{◌≡◌, ℕ, zero, suc, ◌+◌, ◌≤◌, ◌
 use Rattle.std.specs.Prelude.{Contains, take, nat_le, if◌then◌else◌, ◌==◌, refl}
 use Rattle.std.specs.Coded.{Coded, code_by, coded×, coded_list, coded_ℕ}
 use Rattle.asking.specs.Asking.{outcome, reads, Agrees}
-use Rattle.co_memo.specs.Work.{Work}
+use Rattle.co_memo.specs.Work.{IsMoreBy, Work}
 use Rattle.co_parts.specs.Contents.{Content, Image}
 use Rattle.co_parts.specs.declared.part.Part.{Part}
 use Rattle.can_bus.specs.Bus.{Bus, blank_bus}
@@ -112,6 +112,6 @@ Traced image capacity held₀ zero s held told ran read = (s ≡ blank_bus) × (
 Traced image capacity held₀ (suc count) s held told ran read =
     Further image capacity count (Traced image capacity held₀ count) s held told ran read
 
--- at most that many more segments were counted, and no part
+-- exactly that many more segments were counted, up to 2^64 - 1, and no part
 abbrev pub HasRun : ℕ → Work → Work → Type 0
-HasRun ran old new = (new.segments ≤ old.segments + ran) × (new.parts ≡ old.parts)
+HasRun ran old new = IsMoreBy ran old.segments new.segments × (new.parts ≡ old.parts)

@@ -1,18 +1,17 @@
 //! One segment of a trace.
 
-ghost use Rattle.std.specs.Prelude.{◌≡◌, ◌≤◌, ◌+◌, ◌++◌, ◌∷◌, ◌↔◌, ℕ, [], Contains, IfOk, IsTrue, MatchOption, None, OnOk, OnErr, List, Some, nat_eq, drop, length, slice_get, take};
+ghost use Rattle.std.specs.Prelude.{◌≡◌, ◌≤◌, ◌+◌, ◌++◌, ◌↔◌, ℕ, [], Contains, IfOk, IsTrue, MatchOption, None, OnOk, OnErr, Some, nat_eq, drop, length, slice_get};
 ghost use Rattle.std.specs.Map.{lookup};
-ghost use Rattle.asking.specs.Asking.{outcome, reads};
+ghost use Rattle.asking.specs.Asking.{reads};
 ghost use Rattle.bus_laws.specs.Spans.{span};
 ghost use Rattle.co_parts.specs.Contents.{Content};
 ghost use Rattle.co_parts.specs.Images.{IsImage};
 ghost use Rattle.kept_reads.specs.Numbers.{StandsFor};
-ghost use Rattle.kept_reads.specs.Reads.{AreKnown, AreMarked, Extends, Recorded, plain};
-ghost use Rattle.kept_reads.specs.Records.{IsRecordOf};
-ghost use Rattle.kept_shelf.specs.Shelves.{HasNumber};
-ghost use Rattle.lru.specs.LruCache.{promoted};
+ghost use Rattle.kept_reads.specs.Reads.{AreKnown, AreMarked, Extends};
+ghost use Rattle.kept_shelf.specs.Shelves.{HasNumber, use_first};
+ghost use Rattle.co_segments.specs.Advances.{Advances, Runs, progress};
 ghost use Rattle.co_segments.specs.Placed.{AreNamed, AreSegments, IsNew, IsReached, IsTold, Meaning, Placed, kept_of, numbered};
-ghost use Rattle.co_segments.specs.Segments.{HasRun, IsServed, IsStale, Kept, Serves, recorded_of};
+ghost use Rattle.co_segments.specs.Segments.{IsStale, Serves};
 ghost use Rattle.co_segments.specs.Sights.{AreSightsOf};
 ghost use Rattle.recorded_spans.specs.Spans.{IsReady};
 ghost use Rattle.co_memo.specs.Work.{Rises};
@@ -71,12 +70,8 @@ fn follow(shelf: &mut Shelf<Segment>, told: &mut TraceText) -> Result<NumberedBu
     requires { (e : ℕ × Placed) × (slice_get shelf.old.ahead 0 ≡ Some e) }
     ensures used { IfOk result (λ end. (e : ℕ × Placed) × ((slice_get shelf.old.ahead 0 ≡ Some e)
         × (end ≡ record { number = e.1.end; bus = e.1.kept.end }) × (told.new ≡ told.old ++ e.1.kept.lines))) }
-    ensures first { OnOk result ((e : ℕ × Placed) → slice_get shelf.old.ahead 0 ≡ Some e → shelf.new
-        ≡ record shelf.old {
-          entries = promoted (nat_eq e.0) shelf.old.entries;
-          turn = shelf.old.turn + 1;
-          ahead = drop 1 shelf.old.ahead;
-        }) }
+    ensures first { OnOk result ((e : ℕ × Placed) → slice_get shelf.old.ahead 0 ≡ Some e
+        → shelf.new ≡ record (use_first e.0 shelf.old) { ahead = drop 1 shelf.old.ahead }) }
     ensures err { OnErr result (shelf.new ≡ shelf.old) }
 {
     let end = match shelf.next() {
@@ -97,10 +92,7 @@ fn use_held(
     requires turn { HasNumber (λ (s : Placed). s.kept.number) key shelf.old.turn shelf.old.entries }
     ensures used { IfOk result (λ end. (s : Placed) × ((lookup (nat_eq key) shelf.old.entries ≡ Some s)
         × (end ≡ record { number = s.end; bus = s.kept.end }) × (told.new ≡ told.old ++ s.kept.lines))) }
-    ensures first { OnOk result (shelf.new ≡ record shelf.old {
-      entries = promoted (nat_eq key) shelf.old.entries;
-      turn = shelf.old.turn + 1;
-    }) }
+    ensures first { OnOk result (shelf.new ≡ use_first key shelf.old) }
     ensures err { OnErr result (shelf.new ≡ shelf.old) }
 {
     let end = match shelf.get(key) {
@@ -129,23 +121,8 @@ fn run_new<P: Parts>(
     requires image { IsImage (P.seen parts.now).image }
     requires ready { IsReady number state.bus }
     requires known { (contents : ℕ → Content) × AreKnown (P.seen parts.now).image contents given.now.contents now.now.reads }
-    ensures ran { IfOk result (λ end. (kept : Kept) × ((marked : List Recorded) × (
-        (shelf.new ≡ record {
-          capacity = shelf.old.capacity;
-          entries = take shelf.old.capacity
-              ((shelf.old.given, record { kept = kept; start = state.number; reads = marked; end = end.state.number }) ∷ shelf.old.entries);
-          given = shelf.old.given + 1;
-          turn = shelf.old.turn + 1;
-          ahead = [];
-        })
-        × (end.state.bus ≡ kept.end)
-        × (kept.number ≡ number) × (kept.start ≡ state.bus)
-        × IsRecordOf (reads (span number state.bus) (P.seen parts.old).image) kept.reads
-        × (outcome (span number state.bus) (P.seen parts.old).image ≡ (kept.end, kept.lines))
-        × (told.new ≡ told.old ++ kept.lines)
-        × ((contents : ℕ → Content) → AreKnown (P.seen parts.old).image contents given.old.contents now.old.reads
-        → (e : Extends (P.seen parts.old).image contents given.old.contents given.new.contents now.new.reads)
-        × AreMarked e.meaning given.new.contents marked)))) }
+    ensures ran { IfOk result (λ end. Runs (P.seen parts.old).image number state shelf.old shelf.new told.old told.new
+        given.old.contents given.new.contents now.old.reads now.new.reads end.state) }
     ensures reached { IfOk result (λ end. IsReached shelf.old.entries given.old.buses given.new.buses end.state.bus end.state) }
     ensures new { IfOk result (λ end. IsTrue end.is_new → IsNew shelf.new.entries (number + 1) end.state.bus) }
     ensures err { OnErr result (shelf.new ≡ shelf.old) }
@@ -230,13 +207,10 @@ fn search<P: Parts>(
     requires ready { IsReady number here.state.bus }
     requires told { IsTold (P.seen parts.now).image shelf.old.entries given.old now.old.reads here.state }
     requires new { IsTrue here.is_new → IsNew shelf.old.entries number here.state.bus }
-    ensures served { IfOk result (λ end. (kept : Kept) × ((rest : List Kept) × ((ran : ℕ) × ((read : ℕ) × (
-        IsServed (P.seen parts.old).image (kept_of shelf.old.entries) number here.state.bus kept rest ran read
-        × (end.state.bus ≡ kept.end)
-        × (told.new ≡ told.old ++ kept.lines)
-        × (kept_of shelf.new.entries ≡ take shelf.old.capacity (kept ∷ rest))
-        × HasRun ran meter.old meter.new
-        × (P.asks parts.new ≤ P.asks parts.old + recorded_of number (kept_of (drop from (numbered number shelf.old.entries))) + read)))))) }
+    ensures served { IfOk result (λ end. Advances (P.seen parts.old).image shelf.old.capacity number here.state.bus
+        (kept_of (drop from (numbered number shelf.old.entries)))
+        (progress shelf.old.entries told.old meter.old (P.asks parts.old))
+        (progress shelf.new.entries told.new meter.new (P.asks parts.new)) end.state.bus) }
     ensures told { IfOk result (λ end. IsTold (P.seen parts.old).image shelf.new.entries given.new now.new.reads end.state) }
     ensures new { IfOk result (λ end. IsTrue end.is_new → IsNew shelf.new.entries (number + 1) end.state.bus) }
     ensures segments { AreSegments shelf.new.entries given.new }
@@ -287,13 +261,10 @@ fn pass_on<P: Parts>(
     requires ready { IsReady number here.state.bus }
     requires told { IsTold (P.seen parts.now).image shelf.old.entries given.old now.old.reads here.state }
     requires new { IsTrue here.is_new → IsNew shelf.old.entries number here.state.bus }
-    ensures served { IfOk result (λ end. (kept : Kept) × ((rest : List Kept) × ((ran : ℕ) × ((read : ℕ) × (
-        IsServed (P.seen parts.old).image (kept_of shelf.old.entries) number here.state.bus kept rest ran read
-        × (end.state.bus ≡ kept.end)
-        × (told.new ≡ told.old ++ kept.lines)
-        × (kept_of shelf.new.entries ≡ take shelf.old.capacity (kept ∷ rest))
-        × HasRun ran meter.old meter.new
-        × (P.asks parts.new ≤ P.asks parts.old + recorded_of number (kept_of (drop from (numbered number shelf.old.entries))) + read)))))) }
+    ensures served { IfOk result (λ end. Advances (P.seen parts.old).image shelf.old.capacity number here.state.bus
+        (kept_of (drop from (numbered number shelf.old.entries)))
+        (progress shelf.old.entries told.old meter.old (P.asks parts.old))
+        (progress shelf.new.entries told.new meter.new (P.asks parts.new)) end.state.bus) }
     ensures told { IfOk result (λ end. IsTold (P.seen parts.old).image shelf.new.entries given.new now.new.reads end.state) }
     ensures new { IfOk result (λ end. IsTrue end.is_new → IsNew shelf.new.entries (number + 1) end.state.bus) }
     ensures segments { AreSegments shelf.new.entries given.new }
@@ -328,13 +299,10 @@ pub(crate) fn advance<P: Parts>(
     requires ready { IsReady number here.state.bus }
     requires told { IsTold (P.seen parts.now).image shelf.old.entries given.old now.old.reads here.state }
     requires new { IsTrue here.is_new → IsNew shelf.old.entries number here.state.bus }
-    ensures served { IfOk result (λ end. (kept : Kept) × ((rest : List Kept) × ((ran : ℕ) × ((read : ℕ) × (
-        IsServed (P.seen parts.old).image (kept_of shelf.old.entries) number here.state.bus kept rest ran read
-        × (end.state.bus ≡ kept.end)
-        × (told.new ≡ told.old ++ kept.lines)
-        × (kept_of shelf.new.entries ≡ take shelf.old.capacity (kept ∷ rest))
-        × HasRun ran meter.old meter.new
-        × (P.asks parts.new ≤ P.asks parts.old + recorded_of number (kept_of shelf.old.entries) + read)))))) }
+    ensures served { IfOk result (λ end. Advances (P.seen parts.old).image shelf.old.capacity number here.state.bus
+        (kept_of shelf.old.entries)
+        (progress shelf.old.entries told.old meter.old (P.asks parts.old))
+        (progress shelf.new.entries told.new meter.new (P.asks parts.new)) end.state.bus) }
     ensures told { IfOk result (λ end. IsTold (P.seen parts.old).image shelf.new.entries given.new now.new.reads end.state) }
     ensures new { IfOk result (λ end. IsTrue end.is_new → IsNew shelf.new.entries (number + 1) end.state.bus) }
     ensures segments { AreSegments shelf.new.entries given.new }

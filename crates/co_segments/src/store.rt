@@ -1,6 +1,6 @@
 //! A store of segments.
 
-ghost use Rattle.std.specs.Prelude.{◌≡◌, ◌≤◌, ◌<◌, ◌+◌, ◌/◌, ℕ, [], Contains, IfOk, List, filter, length};
+ghost use Rattle.std.specs.Prelude.{◌≡◌, ◌≤◌, ◌<◌, ◌+◌, ◌/◌, ℕ, [], Contains, IfOk, List, OnOk, filter, length};
 ghost use Rattle.can_bus.specs.Bus.{Bus};
 ghost use Rattle.can_bus.specs.Runs.{is_shown, trace as trace_of};
 ghost use Rattle.can_bus.specs.declared.line.Line.{Line as Told};
@@ -16,15 +16,12 @@ use crate::segment::Segment;
 use crate::serving::{advance, give};
 use can_bus::{BusState, Line, Parts};
 use co_memo::Meter;
-use co_parts::END;
+use co_parts::{END, WINDOW};
 use kept_shelf::Shelf;
 use recorded_spans::Look;
 use std::alloc::{AllocError, Global};
 use std::marker::Model;
 use trace_text::TraceText;
-
-/// The time that a window takes, in microseconds.
-const WINDOW: u32 = 10_000;
 
 /// The number of windows for which the record of what was asked is kept.
 const RECORDED: u64 = 64;
@@ -131,6 +128,9 @@ impl Store {
     /// A segment that is run takes time at each due moment by the devices that have to run there, and by an
     /// eighth of all; each other one that of comparing its reads: only segments of its number are looked at.
     /// Want of memory is the only error: other segments may then be held, each of them valid.
+    ///
+    /// What the parts recorded of earlier asking is let go, and so is the record of the trace's own: it is empty
+    /// afterwards. Who wants it takes it before. Where memory runs out, a part of the trace's may stand there.
     pub fn trace_text<P: Parts>(
         &mut self,
         parts: &mut P,
@@ -147,9 +147,10 @@ impl Store {
             × (P.asks parts.new ≤ P.asks parts.old + recorded_from 0 self.old.segments + read)))))) }
         ensures capacity { self.new.capacity ≡ self.old.capacity }
         ensures kept { (P.seen parts.new).image ≡ (P.seen parts.old).image }
+        ensures asked { OnOk result ((P.seen parts.new).asked ≡ []) }
         ensures rises { Rises meter.old meter.new }
     {
-        let count = u64::from(horizon / WINDOW) + 1;
+        let count = u64::from(horizon) / WINDOW + 1;
         let mut told = trace_spans(
             self.alloc,
             &mut self.shelf,
@@ -158,6 +159,7 @@ impl Store {
             count,
             meter,
         )?;
+        let _asked = parts.take_asked();
         told.keep_shown(horizon)?;
         Ok(told)
     }
@@ -182,6 +184,7 @@ impl Store {
             × (P.asks parts.new ≤ P.asks parts.old + recorded_from 0 self.old.segments + read)))))) }
         ensures capacity { self.new.capacity ≡ self.old.capacity }
         ensures kept { (P.seen parts.new).image ≡ (P.seen parts.old).image }
+        ensures asked { OnOk result ((P.seen parts.new).asked ≡ []) }
         ensures rises { Rises meter.old meter.new }
     {
         let told = self.trace_text(parts, horizon, meter)?;

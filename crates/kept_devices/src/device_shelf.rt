@@ -196,7 +196,7 @@ impl DeviceShelf {
             (option_map fresh_slot (text_at project.now.texts name.now)) (map.get self.old q)) }
         ensures err { OnErr result (self.new ≡ self.old) }
         ensures counted { OnOk result (Refreshes
-            (text_kept self.old name.now ≡ text_at project.now.texts name.now) meter.old meter.new) }
+            (text_kept self.old name.now) (text_at project.now.texts name.now) meter.old meter.new) }
         ensures rises { Rises meter.old meter.new }
     {
         if self.is_fresh(name) {

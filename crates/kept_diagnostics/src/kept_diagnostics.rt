@@ -79,7 +79,7 @@ impl KeptDiagnostics {
         ensures are_of { AreOf project.now self.new }
         ensures list { IfOk result (λ d. d ≡ diagnostics_of project.now) }
         ensures kept { OnOk result (self.new.found.kept ≡ Some (from_project project.now)) }
-        ensures counted { OnOk result (Refreshes (self.old.found.kept ≡ Some (from_project project.now))
+        ensures counted { OnOk result (Refreshes self.old.found.kept (Some (from_project project.now))
             meter.old meter.new) }
         ensures rises { Rises meter.old meter.new }
     {

@@ -155,31 +155,19 @@ module _ (p : Project) where
       ∙ both_in_plan (λ s. same_part r (image.Kept s)) n (sym (any_mapped (same_part r) before) ∙ there)))
       (subst (λ (ps : List ImagePart). Brings ps a b k m) (map-append image.Kept before (part.Writes n ∷ [])) x)
 
-  module _ (n : ℕ) (a b c d e : KeptImage) (k l m o q : Work) (plan : AreHeld p (for_plan p) a)
-      (one : Brings (reached p (image.Defaults n)) a b k l) (two : Brings (reached p (image.Shape n)) b c l m)
-      (three : Brings (reached p (image.Expect n)) c d m o)
-      (four : Brings (reached p (image.Kept (part.Writes n))) d e o q) where
+  module _ (n : ℕ) (a b c : KeptImage) (k l m : Work) (plan : AreHeld p (for_plan p) a)
+      (one : Brings (reached p (image.Node n)) a b k l)
+      (two : Brings (reached p (image.Kept (part.Writes n))) b c l m) where
     plan_b : AreHeld p (for_plan p) b
-    plan_b = still_held (reached p (image.Defaults n)) (for_plan p) a b k l one plan
+    plan_b = still_held (reached p (image.Node n)) (for_plan p) a b k l one plan
 
-    plan_c : AreHeld p (for_plan p) c
-    plan_c = still_held (reached p (image.Shape n)) (for_plan p) b c l m two plan_b
+    pub plan_still : AreHeld p (for_plan p) c
+    plan_still = still_held (reached p (image.Kept (part.Writes n))) (for_plan p) b c l m two plan_b
 
-    plan_d : AreHeld p (for_plan p) d
-    plan_d = still_held (reached p (image.Expect n)) (for_plan p) c d m o three plan_c
-
-    pub plan_still : AreHeld p (for_plan p) e
-    plan_still = still_held (reached p (image.Kept (part.Writes n))) (for_plan p) d e o q four plan_d
-
-    pub node_brought : Brings (of_node n) a e k q
+    pub node_brought : Brings (of_node n) a c k m
     node_brought =
-        both same_part (given p) (image.Defaults n ∷ [])
-        (image.Shape n ∷ image.Expect n ∷ image.Kept (part.Writes n) ∷ []) (held a) (held b) (held e) k l q
-        (own_without n (image.Defaults n) a b k l plan one)
-        (both same_part (given p) (image.Shape n ∷ []) (image.Expect n ∷ image.Kept (part.Writes n) ∷ []) (held b)
-        (held c) (held e) l m q (own_without n (image.Shape n) b c l m plan_b two)
-        (both same_part (given p) (image.Expect n ∷ []) (image.Kept (part.Writes n) ∷ []) (held c) (held d) (held e)
-        m o q (own_without n (image.Expect n) c d m o plan_c three) (writes_without n d e o q plan_d four)))
+        both same_part (given p) (image.Node n ∷ []) (image.Kept (part.Writes n) ∷ []) (held a) (held b) (held c) k l m
+        (own_without n (image.Node n) a b k l plan one) (writes_without n b c l m plan_b two)
 
 -- ---- node after node
 

@@ -41,9 +41,7 @@ kept_itself (part.Dcf n) = eq-eqb n n refl
 pub itself : (q : ImagePart) → same_part q q ≡ true
 itself (image.Kept q) = kept_itself q
 itself image.Roster = refl
-itself (image.Defaults n) = eq-eqb n n refl
-itself (image.Shape n) = eq-eqb n n refl
-itself (image.Expect n) = eq-eqb n n refl
+itself (image.Node n) = eq-eqb n n refl
 itself (image.Events i) = eq-eqb i i refl
 
 module _ (p : Project) where
@@ -60,11 +58,7 @@ module _ (p : Project) where
   pub reaches : (q : ImagePart) → list_any (same_part q) (reached p q) ≡ true
   reaches (image.Kept q) = among q (parts.reached p q) ∙ reaches_kept q
   reaches image.Roster = refl
-  reaches (image.Defaults n) =
-      any_last same_part (map image.Kept (parts.own_device p n)) (image.Defaults n) (eq-eqb n n refl)
-  reaches (image.Shape n) = any_last same_part (map image.Kept (parts.own_device p n)) (image.Shape n) (eq-eqb n n refl)
-  reaches (image.Expect n) =
-      any_last same_part (map image.Kept (parts.own_device p n)) (image.Expect n) (eq-eqb n n refl)
+  reaches (image.Node n) = any_last same_part (map image.Kept (parts.own_device p n)) (image.Node n) (eq-eqb n n refl)
   reaches (image.Events i) =
       any_last same_part (map image.Kept (map parts.of_node (entries p.nodes))) (image.Events i) (eq-eqb i i refl)
 

@@ -99,9 +99,7 @@ kept_gone p q all (part.Dcf n) none = gone (contains_key p.nodes n) (contains_ke
 was_gone : (p q : Project) → HasAllOf p q → (a : ImagePart) → is_gone q a ≡ true → is_gone p a ≡ true
 was_gone p q all (image.Kept a) none = kept_gone p q all a none
 was_gone p q all image.Roster none = cc
-was_gone p q all (image.Defaults n) none = gone (contains_key p.nodes n) (contains_key q.nodes n) (all.nodes n) none
-was_gone p q all (image.Shape n) none = gone (contains_key p.nodes n) (contains_key q.nodes n) (all.nodes n) none
-was_gone p q all (image.Expect n) none = gone (contains_key p.nodes n) (contains_key q.nodes n) (all.nodes n) none
+was_gone p q all (image.Node n) none = gone (contains_key p.nodes n) (contains_key q.nodes n) (all.nodes n) none
 was_gone p q all (image.Events i) none = cc
 
 -- what the project hasn't after an edit that drops nothing, it hadn't before

@@ -24,7 +24,7 @@ use Rattle.network_image.specs.Image.{mandatory_of, roster_of_project, start_mod
 use Rattle.network_image.specs.Steps.{steps_in}
 use Rattle.project_plan.specs.Events.{shape_of_node, Shapes}
 use Rattle.kept_image.specs.Kept.{device_from, device_of_node, roster_from}
-use Rattle.kept_image.specs.Made.{shape_made}
+use Rattle.kept_image.specs.Made.{device_parts}
 use Rattle.project_parts.specs.Touch.{touch_of}
 use Rattle.kept_image.specs.Touched.{is_window_at, is_window_of, touches_node, touches_roster, touches_window}
 use Rattle.kept_image.specs.declared.device_at.DeviceAt.{DeviceAt}
@@ -191,7 +191,7 @@ module _ (p : Project) where
   shapes_left e h = λ i n. by n i
     where
       by : (n : ℕ) → shape_of_node (made p e) n ≡ shape_of_node p n
-      by n = shapes_are (made p e) n ∙ ap (option_map shape_made) (device_left e n (h n)) ∙ sym (shapes_are p n)
+      by n = shapes_are (made p e) n ∙ ap (option_map (λ d. (device_parts d).shape)) (device_left e n (h n)) ∙ sym (shapes_are p n)
 
   module _ (i : ℕ) where
     steps_by : (e : Edit) → ((n : ℕ) → touches_node (touch_of e) n ≡ false)

@@ -17,8 +17,8 @@ use Rattle.kept_parts.specs.declared.part.Part.{Part}
 use Rattle.kept_parts.proofs.GoneLemmas as parts_lemmas
 use Rattle.kept_parts.proofs.GoneLemmas.{no_node, number_left, AreLeft}
 use Rattle.kept_image.specs.Gone.{drops, is_gone, left_of, HoldsNoneGone, IsSwept}
-use Rattle.kept_image.specs.Kept.{device_of_node, fresh, given, held, same_part, AreHeld, AreOfNow, Given, IsOf, OfDefaults, OfEvents}
-use Rattle.kept_image.specs.Kept.{OfExpect, OfKept, OfRoster, OfShape}
+use Rattle.kept_image.specs.Kept.{device_of_node, fresh, given, held, same_part, AreHeld, AreOfNow, Given, IsOf, OfEvents}
+use Rattle.kept_image.specs.Kept.{OfKept, OfNode, OfRoster}
 use Rattle.kept_image.specs.declared.roster_from.RosterFrom.{RosterFrom}
 use Rattle.kept_image.specs.declared.image_part.ImagePart.{ImagePart}
 use Rattle.kept_image.specs.declared.image_part.ImagePart.TheVariants as image
@@ -30,10 +30,7 @@ module _ (p : Project) where
   pub given_none : (q : ImagePart) → is_gone p q ≡ true → given p q ≡ None
   given_none (image.Kept q) gone = ap (option_map OfKept) (parts_lemmas.given_none p q gone)
   given_none image.Roster gone = cc
-  given_none (image.Defaults n) gone =
-      ap (option_map OfDefaults) (no_node (device_of_node p n) (node_at p.nodes n) gone)
-  given_none (image.Shape n) gone = ap (option_map OfShape) (no_node (device_of_node p n) (node_at p.nodes n) gone)
-  given_none (image.Expect n) gone = ap (option_map OfExpect) (no_node (device_of_node p n) (node_at p.nodes n) gone)
+  given_none (image.Node n) gone = ap (option_map OfNode) (no_node (device_of_node p n) (node_at p.nodes n) gone)
   given_none (image.Events i) gone = cc
 
   -- ---- what is left once it is let go
@@ -41,8 +38,7 @@ module _ (p : Project) where
   module _ (old new : KeptImage)
       (kept : (q : Part) → parts.held new.parts q ≡ without (parts_gone.is_gone p) (parts.held old.parts) q)
       (flags : List Bool) (nodes : (q : ℕ) → is_flagged flags q ≡ contains_key p.nodes q)
-      (roster : new.roster ≡ old.roster) (defaults : AreLeft flags old.defaults new.defaults)
-      (shapes : AreLeft flags old.shapes new.shapes) (expects : AreLeft flags old.expects new.expects)
+      (roster : new.roster ≡ old.roster) (device_parts : AreLeft flags old.nodes new.nodes)
       (windows : new.windows ≡ old.windows) where
     pub left : (q : ImagePart) → held new q ≡ left_of p old q
     left (image.Kept q) = ap (option_map OfKept) (kept q) ∙ by (parts_gone.is_gone p q)
@@ -52,19 +48,16 @@ module _ (p : Project) where
         by true = refl
         by false = refl
     left image.Roster = ap (λ (s : Single RosterFrom). option_map OfRoster s.kept) roster
-    left (image.Defaults n) = number_left p flags nodes OfDefaults old.defaults new.defaults defaults n
-    left (image.Shape n) = number_left p flags nodes OfShape old.shapes new.shapes shapes n
-    left (image.Expect n) = number_left p flags nodes OfExpect old.expects new.expects expects n
+    left (image.Node n) = number_left p flags nodes OfNode old.nodes new.nodes device_parts n
     left (image.Events i) = ap (λ (s : Shelved (List TimedStep)). held_window s i) windows
       where
         held_window : Shelved (List TimedStep) → ℕ → Option Given
         held_window s i = option_map OfEvents (kept_at s i)
 
     -- it is of the project still
-    pub left_is_of : new.defaults.fresh ≡ old.defaults.fresh → new.shapes.fresh ≡ old.shapes.fresh
-        → new.expects.fresh ≡ old.expects.fresh → parts.IsOf p new.parts → IsOf p old → IsOf p new
+    pub left_is_of : new.nodes.fresh ≡ old.nodes.fresh → parts.IsOf p new.parts → IsOf p old → IsOf p new
     unfolding IsOf parts.IsOf
-    left_is_of same_defaults same_shapes same_expects are is = (all, are.1)
+    left_is_of same_fresh are is = (all, are.1)
       where
         other : (q : ImagePart) → fresh old q ≡ true → held new q ≡ given p q
         other q unmarked = left q ∙ by (is_gone p q) refl
@@ -77,12 +70,8 @@ module _ (p : Project) where
         all (image.Kept q) unmarked = ap (option_map OfKept) (are.0 q unmarked)
         all image.Roster unmarked =
             other image.Roster (sym (ap (λ (s : Single RosterFrom). s.fresh) roster) ∙ unmarked)
-        all (image.Defaults n) unmarked =
-            other (image.Defaults n) (sym (ap (λ (fs : List Bool). is_flagged fs n) same_defaults) ∙ unmarked)
-        all (image.Shape n) unmarked =
-            other (image.Shape n) (sym (ap (λ (fs : List Bool). is_flagged fs n) same_shapes) ∙ unmarked)
-        all (image.Expect n) unmarked =
-            other (image.Expect n) (sym (ap (λ (fs : List Bool). is_flagged fs n) same_expects) ∙ unmarked)
+        all (image.Node n) unmarked =
+            other (image.Node n) (sym (ap (λ (fs : List Bool). is_flagged fs n) same_fresh) ∙ unmarked)
         all (image.Events i) unmarked =
             other (image.Events i) (sym (ap (λ (s : Shelved (List TimedStep)). is_fresh s i) windows) ∙ unmarked)
 
@@ -101,17 +90,13 @@ module _ (p : Project) where
   pub held_known : (k : KeptImage) (known : Bool) (q : ImagePart) → held (record k { swept = known }) q ≡ held k q
   held_known k known (image.Kept q) = refl
   held_known k known image.Roster = refl
-  held_known k known (image.Defaults n) = refl
-  held_known k known (image.Shape n) = refl
-  held_known k known (image.Expect n) = refl
+  held_known k known (image.Node n) = refl
   held_known k known (image.Events i) = refl
 
   fresh_known : (k : KeptImage) (known : Bool) (q : ImagePart) → fresh (record k { swept = known }) q ≡ fresh k q
   fresh_known k known (image.Kept q) = refl
   fresh_known k known image.Roster = refl
-  fresh_known k known (image.Defaults n) = refl
-  fresh_known k known (image.Shape n) = refl
-  fresh_known k known (image.Expect n) = refl
+  fresh_known k known (image.Node n) = refl
   fresh_known k known (image.Events i) = refl
 
   pub known_is_of : (k : KeptImage) (known : Bool) → IsOf p k → IsOf p (record k { swept = known })

@@ -6,14 +6,14 @@ use Rattle.co_project.specs.Project.{Content as Project}
 use Rattle.co_memo.specs.Work.{Work, Refreshes}
 use Rattle.co_memo.specs.Shelved.{is_fresh, kept_at, Shelved, Single}
 use Rattle.co_memo.specs.Stale.{AreBrought}
-use Rattle.co_memo.proofs.Brought.{one, option_map_back, refreshes_kind, shelf_stands}
+use Rattle.co_memo.proofs.Brought.{one, option_map_back, refreshes_kind, refreshes_none, shelf_stands}
 use Rattle.co_scenario.specs.declared.timed_step.TimedStep.{TimedStep}
 use Rattle.kept_parts.proofs.KindLemmas.{FreshAt, KeptAt}
 use Rattle.kept_parts.specs.Kept as parts
 use Rattle.kept_parts.specs.declared.kept_parts.KeptParts.{KeptParts}
 use Rattle.network_image.specs.Image.{window_steps}
 use Rattle.kept_image.specs.Kept.{device_from, fresh, given, held, roster_from, same_part, AreOfNow, IsOf}
-use Rattle.kept_image.specs.Kept.{OfDefaults, OfEvents, OfExpect, OfKept, OfRoster, OfShape}
+use Rattle.kept_image.specs.Kept.{OfEvents, OfKept, OfNode, OfRoster}
 use Rattle.kept_image.specs.declared.device_at.DeviceAt.{DeviceAt}
 use Rattle.kept_image.specs.declared.roster_from.RosterFrom.{RosterFrom}
 use Rattle.kept_image.specs.declared.image_part.ImagePart.{ImagePart}
@@ -76,9 +76,7 @@ module _ (p : Project) where
         all : AreOfNow p (record h { parts = new })
         all (image.Kept q) unmarked = ap (option_map OfKept) (are.0 q unmarked)
         all image.Roster unmarked = is.0 image.Roster unmarked
-        all (image.Defaults n) unmarked = is.0 (image.Defaults n) unmarked
-        all (image.Shape n) unmarked = is.0 (image.Shape n) unmarked
-        all (image.Expect n) unmarked = is.0 (image.Expect n) unmarked
+        all (image.Node n) unmarked = is.0 (image.Node n) unmarked
         all (image.Events i) unmarked = is.0 (image.Events i) unmarked
 
     -- ---- the roster
@@ -102,105 +100,43 @@ module _ (p : Project) where
       pub roster_is_of : IsOf p with_roster
       roster_is_of = is_of_after image.Roster h with_roster is roster_stands roster_other (closed h is)
 
-      pub roster_brought : (m n : Work) → Refreshes (h.roster.kept ≡ Some (roster_from p)) m n
+      pub roster_brought : (m n : Work) → Refreshes h.roster.kept (Some (roster_from p)) m n
           → AreBrought same_part (given p) (image.Roster ∷ []) (held h) (held with_roster) m n
       roster_brought m n r =
           one same_part (given p) image.Roster (held h) (held with_roster) m n roster_stands
           (refreshes_kind OfRoster (λ x y e. cc) h.roster.kept (Some (roster_from p)) m n r)
 
-    -- ---- the defaults of a node
+    -- ---- what a node has by its device
 
-    pub defaults_now : (n : ℕ) → is_fresh h.defaults n ≡ true → kept_at h.defaults n ≡ device_from p n
-    defaults_now n unmarked =
-        option_map_back OfDefaults (λ x y e. cc) (kept_at h.defaults n) (device_from p n)
-        (of_now h is (image.Defaults n) unmarked)
-
-    module _ (key : ℕ) (new : Shelved DeviceAt) (now : Option DeviceAt) (e : now ≡ device_from p key)
-        (s : KeptAt key now h.defaults new) (f : FreshAt key h.defaults new) where
-      abbrev with_defaults : KeptImage
-      with_defaults = record h { defaults = new }
-
-      defaults_stands : Stands (image.Defaults key) h with_defaults
-      defaults_stands (image.Defaults q) =
-          shelf_stands OfDefaults key (device_from p) h.defaults.kept new.kept
-          (subst (λ (x : Option DeviceAt). KeptAt key x h.defaults new) e s) q
-      defaults_stands q = refl
-
-      defaults_other : NoOther (image.Defaults key) h with_defaults
-      defaults_other (image.Defaults q) unmarked = or_true (q == key) (is_fresh h.defaults q) (sym (f q) ∙ unmarked)
-      defaults_other q unmarked = inr unmarked
-
-      pub defaults_is_of : IsOf p with_defaults
-      defaults_is_of = is_of_after (image.Defaults key) h with_defaults is defaults_stands defaults_other (closed h is)
-
-      pub defaults_brought : (m n : Work) → Refreshes (kept_at h.defaults key ≡ now) m n
-          → AreBrought same_part (given p) (image.Defaults key ∷ []) (held h) (held with_defaults) m n
-      defaults_brought m n r =
-          one same_part (given p) (image.Defaults key) (held h) (held with_defaults) m n defaults_stands
-          (refreshes_kind OfDefaults (λ x y e. cc) (kept_at h.defaults key) (device_from p key) m n
-          (subst (λ (x : Option DeviceAt). Refreshes (kept_at h.defaults key ≡ x) m n) e r))
-
-    -- ---- the entries of a node
-
-    pub shape_now : (n : ℕ) → is_fresh h.shapes n ≡ true → kept_at h.shapes n ≡ device_from p n
-    shape_now n unmarked =
-        option_map_back OfShape (λ x y e. cc) (kept_at h.shapes n) (device_from p n) (of_now h is (image.Shape n) unmarked)
+    pub node_now : (n : ℕ) → is_fresh h.nodes n ≡ true → kept_at h.nodes n ≡ device_from p n
+    node_now n unmarked =
+        option_map_back OfNode (λ x y e. cc) (kept_at h.nodes n) (device_from p n)
+        (of_now h is (image.Node n) unmarked)
 
     module _ (key : ℕ) (new : Shelved DeviceAt) (now : Option DeviceAt) (e : now ≡ device_from p key)
-        (s : KeptAt key now h.shapes new) (f : FreshAt key h.shapes new) where
-      abbrev with_shape : KeptImage
-      with_shape = record h { shapes = new }
+        (s : KeptAt key now h.nodes new) (f : FreshAt key h.nodes new) where
+      abbrev with_nodes : KeptImage
+      with_nodes = record h { nodes = new }
 
-      shape_stands : Stands (image.Shape key) h with_shape
-      shape_stands (image.Shape q) =
-          shelf_stands OfShape key (device_from p) h.shapes.kept new.kept
-          (subst (λ (x : Option DeviceAt). KeptAt key x h.shapes new) e s) q
-      shape_stands q = refl
+      node_stands : Stands (image.Node key) h with_nodes
+      node_stands (image.Node q) =
+          shelf_stands OfNode key (device_from p) h.nodes.kept new.kept
+          (subst (λ (x : Option DeviceAt). KeptAt key x h.nodes new) e s) q
+      node_stands q = refl
 
-      shape_other : NoOther (image.Shape key) h with_shape
-      shape_other (image.Shape q) unmarked = or_true (q == key) (is_fresh h.shapes q) (sym (f q) ∙ unmarked)
-      shape_other q unmarked = inr unmarked
+      node_other : NoOther (image.Node key) h with_nodes
+      node_other (image.Node q) unmarked = or_true (q == key) (is_fresh h.nodes q) (sym (f q) ∙ unmarked)
+      node_other q unmarked = inr unmarked
 
-      pub shape_is_of : IsOf p with_shape
-      shape_is_of = is_of_after (image.Shape key) h with_shape is shape_stands shape_other (closed h is)
+      pub node_is_of : IsOf p with_nodes
+      node_is_of = is_of_after (image.Node key) h with_nodes is node_stands node_other (closed h is)
 
-      pub shape_brought : (m n : Work) → Refreshes (kept_at h.shapes key ≡ now) m n
-          → AreBrought same_part (given p) (image.Shape key ∷ []) (held h) (held with_shape) m n
-      shape_brought m n r =
-          one same_part (given p) (image.Shape key) (held h) (held with_shape) m n shape_stands
-          (refreshes_kind OfShape (λ x y e. cc) (kept_at h.shapes key) (device_from p key) m n
-          (subst (λ (x : Option DeviceAt). Refreshes (kept_at h.shapes key ≡ x) m n) e r))
-
-    -- ---- what is expected of a node
-
-    pub expect_now : (n : ℕ) → is_fresh h.expects n ≡ true → kept_at h.expects n ≡ device_from p n
-    expect_now n unmarked =
-        option_map_back OfExpect (λ x y e. cc) (kept_at h.expects n) (device_from p n) (of_now h is (image.Expect n) unmarked)
-
-    module _ (key : ℕ) (new : Shelved DeviceAt) (now : Option DeviceAt) (e : now ≡ device_from p key)
-        (s : KeptAt key now h.expects new) (f : FreshAt key h.expects new) where
-      abbrev with_expect : KeptImage
-      with_expect = record h { expects = new }
-
-      expect_stands : Stands (image.Expect key) h with_expect
-      expect_stands (image.Expect q) =
-          shelf_stands OfExpect key (device_from p) h.expects.kept new.kept
-          (subst (λ (x : Option DeviceAt). KeptAt key x h.expects new) e s) q
-      expect_stands q = refl
-
-      expect_other : NoOther (image.Expect key) h with_expect
-      expect_other (image.Expect q) unmarked = or_true (q == key) (is_fresh h.expects q) (sym (f q) ∙ unmarked)
-      expect_other q unmarked = inr unmarked
-
-      pub expect_is_of : IsOf p with_expect
-      expect_is_of = is_of_after (image.Expect key) h with_expect is expect_stands expect_other (closed h is)
-
-      pub expect_brought : (m n : Work) → Refreshes (kept_at h.expects key ≡ now) m n
-          → AreBrought same_part (given p) (image.Expect key ∷ []) (held h) (held with_expect) m n
-      expect_brought m n r =
-          one same_part (given p) (image.Expect key) (held h) (held with_expect) m n expect_stands
-          (refreshes_kind OfExpect (λ x y e. cc) (kept_at h.expects key) (device_from p key) m n
-          (subst (λ (x : Option DeviceAt). Refreshes (kept_at h.expects key ≡ x) m n) e r))
+      pub node_brought : (m n : Work) → Refreshes (kept_at h.nodes key) now m n
+          → AreBrought same_part (given p) (image.Node key ∷ []) (held h) (held with_nodes) m n
+      node_brought m n r =
+          one same_part (given p) (image.Node key) (held h) (held with_nodes) m n node_stands
+          (refreshes_kind OfNode (λ x y e. cc) (kept_at h.nodes key) (device_from p key) m n
+          (subst (λ (x : Option DeviceAt). Refreshes (kept_at h.nodes key) x m n) e r))
 
     -- ---- a window
 
@@ -212,7 +148,7 @@ module _ (p : Project) where
     pub window_stays : (i : ℕ) → is_fresh h.windows i ≡ true → (m : Work)
         → AreBrought same_part (given p) (image.Events i ∷ []) (held h) (held h) m m
     window_stays i unmarked m =
-        one same_part (given p) (image.Events i) (held h) (held h) m m stands (refl, omega arith, inl (current, omega arith))
+        one same_part (given p) (image.Events i) (held h) (held h) m m stands (refreshes_none (held h (image.Events i)) (given p (image.Events i)) m current)
       where
         current : held h (image.Events i) ≡ given p (image.Events i)
         current = ap (option_map OfEvents) (window_now i unmarked)
@@ -246,9 +182,9 @@ module _ (p : Project) where
       pub window_is_of : IsOf p with_window
       window_is_of = is_of_after (image.Events key) h with_window is window_stands window_other (closed h is)
 
-      pub window_brought : (m n : Work) → Refreshes (kept_at h.windows key ≡ now) m n
+      pub window_brought : (m n : Work) → Refreshes (kept_at h.windows key) now m n
           → AreBrought same_part (given p) (image.Events key ∷ []) (held h) (held with_window) m n
       window_brought m n r =
           one same_part (given p) (image.Events key) (held h) (held with_window) m n window_stands
           (refreshes_kind OfEvents (λ x y e. cc) (kept_at h.windows key) (window_from p key) m n
-          (subst (λ (x : Option (List TimedStep)). Refreshes (kept_at h.windows key ≡ x) m n) e r))
+          (subst (λ (x : Option (List TimedStep)). Refreshes (kept_at h.windows key) x m n) e r))

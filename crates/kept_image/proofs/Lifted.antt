@@ -1,10 +1,10 @@
 -- Parts that the files are made of, brought up to date among the others.
 use Rattle.std.proofs.Common.{◌≡◌, ◌∙◌, ℕ, inl, inr, Bool, true, false, ◌||◌, List, [], ◌∷◌, map, Option, option_map}
-use Rattle.std.proofs.Common.{if◌then◌else◌, refl, sym, ap}
+use Rattle.std.proofs.Common.{if◌then◌else◌, refl, sym, ap, subst}
 use Rattle.std.specs.List.{list_any}
-use Rattle.co_memo.specs.Work.{Work}
+use Rattle.co_memo.specs.Work.{IsToMake, Work}
 use Rattle.co_memo.specs.Stale.{settled, Counts, IsOneMore, AreBrought}
-use Rattle.co_memo.proofs.Brought.{option_map_back}
+use Rattle.co_memo.proofs.Brought.{to_make_back, to_make_kind}
 use Rattle.co_project.specs.Project.{Content as Project}
 use Rattle.kept_parts.specs.Kept as parts
 use Rattle.kept_parts.specs.declared.kept_parts.KeptParts.{KeptParts}
@@ -52,9 +52,11 @@ module _ (p : Project) where
   counts_shown [] a b shown n c = c
   counts_shown (q ∷ ps) a b shown n c = (
     c.0,
-    one_more_as (a q ≡ parts.given p q) (b (image.Kept q) ≡ given p (image.Kept q)) c.0 n
-        (λ e. shown q ∙ ap (option_map OfKept) e)
-        (λ e. option_map_back OfKept (λ x y e. cc) (a q) (parts.given p q) (sym (shown q) ∙ e)) c.1,
+    one_more_as (IsToMake (a q) (parts.given p q)) (IsToMake (b (image.Kept q)) (given p (image.Kept q))) c.0 n
+        (λ s. subst (λ (o : Option Given). IsToMake o (given p (image.Kept q))) (sym (shown q))
+        (to_make_kind OfKept (λ x y e. cc) (a q) (parts.given p q) s))
+        (λ s. to_make_back OfKept (λ x y e. cc) (a q) (parts.given p q)
+        (subst (λ (o : Option Given). IsToMake o (given p (image.Kept q))) (shown q) s)) c.1,
     counts_shown ps _ (one_settled q b) (next q a b shown) c.0 c.2,
   )
 
@@ -81,9 +83,7 @@ module _ (p : Project) where
         (given p (image.Kept q)) (held h (image.Kept q)) refl refl)
         ∙ ap (λ t. if t then given p (image.Kept q) else held h (image.Kept q)) (sym (among q ps))
     settles s image.Roster = other image.Roster (λ a. refl) refl
-    settles s (image.Defaults n) = other (image.Defaults n) (λ a. refl) refl
-    settles s (image.Shape n) = other (image.Shape n) (λ a. refl) refl
-    settles s (image.Expect n) = other (image.Expect n) (λ a. refl) refl
+    settles s (image.Node n) = other (image.Node n) (λ a. refl) refl
     settles s (image.Events i) = other (image.Events i) (λ a. refl) refl
 
     -- parts that the files are made of, brought up to date

@@ -15,8 +15,17 @@ use Rattle.project_plan.specs.Events.{shape_of_node}
 use Rattle.project_plan.specs.Network.{member_at, with_sections, writes_of, Member}
 use Rattle.network_image.specs.Image.{defaults_of_node, identity_of_node, write_of_node}
 use Rattle.kept_image.specs.Kept.{device_from, device_of_node}
-use Rattle.kept_image.specs.Made.{defaults_made, expect_made, shape_made}
+use Rattle.kept_image.specs.Made.{device_parts}
 use Rattle.kept_image.specs.declared.device_at.DeviceAt.{DeviceAt}
+use Rattle.kept_image.specs.declared.device_parts.DeviceParts.{DeviceParts}
+
+-- what a member has by its EDS
+abbrev pub own_parts : ℕ → Member → DeviceParts
+own_parts n m = record {
+  defaults = defaults_of m.sections n;
+  shape = shape_of m.sections n;
+  expect = record { numbers = identity m.sections n };
+}
 
 module _ (p : Project) (n : ℕ) where
   abbrev member : Node → List ℕ → Member
@@ -41,33 +50,22 @@ module _ (p : Project) (n : ℕ) where
       by None = refl
       by (Some node) = one node (text_at p.texts node.eds)
 
-  pub defaults_by : option_map defaults_made (device_from p n)
-      ≡ option_map (λ (m : Member). defaults_of m.sections n) (member_at p n)
-  unfolding defaults_made
-  defaults_by = by_sections defaults_made (λ (m : Member). defaults_of m.sections n) (λ node text. refl)
+  pub parts_by : option_map device_parts (device_from p n) ≡ option_map (own_parts n) (member_at p n)
+  unfolding device_parts
+  parts_by = by_sections device_parts (own_parts n) (λ node text. refl)
 
-  pub shape_by : option_map shape_made (device_from p n)
-      ≡ option_map (λ (m : Member). shape_of m.sections n) (member_at p n)
-  unfolding shape_made
-  shape_by = by_sections shape_made (λ (m : Member). shape_of m.sections n) (λ node text. refl)
+  pub defaults_are : defaults_of_node p n ≡ option_map (λ d. (device_parts d).defaults) (device_from p n)
+  unfolding defaults_of_node device_parts
+  defaults_are =
+      sym (by_sections (λ d. (device_parts d).defaults) (λ m. (own_parts n m).defaults) (λ node text. refl))
 
-  pub expect_by : option_map expect_made (device_from p n)
-      ≡ option_map (λ (m : Member). record { numbers = identity m.sections n }) (member_at p n)
-  unfolding expect_made
-  expect_by =
-      by_sections expect_made (λ (m : Member). record { numbers = identity m.sections n }) (λ node text. refl)
+  pub shapes_are : shape_of_node p n ≡ option_map (λ d. (device_parts d).shape) (device_from p n)
+  unfolding shape_of_node device_parts
+  shapes_are = sym (by_sections (λ d. (device_parts d).shape) (λ m. (own_parts n m).shape) (λ node text. refl))
 
-  pub defaults_are : defaults_of_node p n ≡ option_map defaults_made (device_from p n)
-  unfolding defaults_of_node
-  defaults_are = sym defaults_by
-
-  pub shapes_are : shape_of_node p n ≡ option_map shape_made (device_from p n)
-  unfolding shape_of_node
-  shapes_are = sym shape_by
-
-  pub expects_are : identity_of_node p n ≡ option_map expect_made (device_from p n)
-  unfolding identity_of_node
-  expects_are = sym expect_by
+  pub expects_are : identity_of_node p n ≡ option_map (λ d. (device_parts d).expect) (device_from p n)
+  unfolding identity_of_node device_parts
+  expects_are = sym (by_sections (λ d. (device_parts d).expect) (λ m. (own_parts n m).expect) (λ node text. refl))
 
   pub writes_are : (place : ℕ) → write_of_node p n place
       ≡ option_and_then (λ ws. slice_get ws place) (option_map writes_made (writes_from p n))

@@ -12,11 +12,8 @@ use Rattle.std.proofs.lemmas.List.Folds.{list_any-append}
 use Rattle.std.proofs.lemmas.Map.Lookups.{exact_unsigned}
 use Rattle.concise_dcf.specs.declared.write.Write.{Write}
 use Rattle.co_base.proofs.TableLemmas.{alike}
-use Rattle.co_dict.specs.Shapes.{Shaped}
-use Rattle.co_dict.specs.Values.{Values}
 use Rattle.co_memo.specs.Shelved.{kept_at}
 use Rattle.co_memo.proofs.Brought.{option_map_back}
-use Rattle.co_parts.specs.declared.identity.Identity.{Identity}
 use Rattle.co_project.specs.declared.node.Node.{Node}
 use Rattle.co_project.specs.Project.{Content as Project}
 use Rattle.eds_device.specs.Entries.{defaults_of, shape_of}
@@ -29,15 +26,15 @@ use Rattle.network_image.specs.Held.{held_of, AllHeld, Held}
 use Rattle.network_image.specs.Image.{window_steps}
 use Rattle.project_plan.specs.Network.{member_at, with_sections, writes_of, Member}
 use Rattle.kept_image.specs.Kept.{device_from, of_node, of_nodes, reached_by_trace, roster_from, same_part}
-use Rattle.kept_image.specs.Kept.{for_plan, windows_below, with_parts, AreHeld, IsCurrent, OfDefaults, OfEvents}
-use Rattle.kept_image.specs.Kept.{OfExpect}
-use Rattle.kept_image.specs.Kept.{OfKept, OfRoster, OfShape}
-use Rattle.kept_image.specs.Made.{defaults_made, expect_made, shape_made}
+use Rattle.kept_image.specs.Kept.{for_plan, windows_below, with_parts, AreHeld, IsCurrent, OfEvents}
+use Rattle.kept_image.specs.Kept.{OfKept, OfNode, OfRoster}
+use Rattle.kept_image.specs.Made.{device_parts}
+use Rattle.kept_image.specs.declared.device_parts.DeviceParts.{DeviceParts}
 use Rattle.kept_image.specs.declared.image_part.ImagePart.{ImagePart}
 use Rattle.kept_image.specs.declared.image_part.ImagePart.TheVariants as image
 use Rattle.kept_image.specs.declared.kept_image.KeptImage.{KeptImage}
 use Rattle.kept_image.proofs.AllLemmas.{of_nodes-append, or_left, or_none, or_right}
-use Rattle.kept_image.proofs.MadeLemmas.{defaults_by, expect_by, shape_by}
+use Rattle.kept_image.proofs.MadeLemmas.{own_parts, parts_by}
 
 pub some_none : {X : Type 0} {x : X} → Some x ≡ None → ⊥
 some_none e = cc
@@ -61,32 +58,13 @@ module _ (p : Project) (k : KeptImage) where
       (are (image.Events i) (ap (λ t. t || false) (eq-eqb i i refl)))
 
   module _ (n : ℕ) (are : AreHeld p (of_node n) k) where
-    pub defaults_held : option_map defaults_made (kept_at k.defaults n)
-        ≡ option_map (λ (m : Member). defaults_of m.sections n) (member_at p n)
+    pub node_held : option_map device_parts (kept_at k.nodes n) ≡ option_map (own_parts n) (member_at p n)
     unfolding AreHeld
-    defaults_held =
-        ap (option_map defaults_made)
-        (option_map_back OfDefaults (λ x y e. cc) (kept_at k.defaults n) (device_from p n)
-        (are (image.Defaults n) (or_left _ _ (eq-eqb n n refl))))
-        ∙ defaults_by p n
-
-    pub shape_held : option_map shape_made (kept_at k.shapes n)
-        ≡ option_map (λ (m : Member). shape_of m.sections n) (member_at p n)
-    unfolding AreHeld
-    shape_held =
-        ap (option_map shape_made)
-        (option_map_back OfShape (λ x y e. cc) (kept_at k.shapes n) (device_from p n)
-        (are (image.Shape n) (or_left _ _ (eq-eqb n n refl))))
-        ∙ shape_by p n
-
-    pub expect_held : option_map expect_made (kept_at k.expects n)
-        ≡ option_map (λ (m : Member). record { numbers = identity m.sections n }) (member_at p n)
-    unfolding AreHeld
-    expect_held =
-        ap (option_map expect_made)
-        (option_map_back OfExpect (λ x y e. cc) (kept_at k.expects n) (device_from p n)
-        (are (image.Expect n) (or_left _ _ (eq-eqb n n refl))))
-        ∙ expect_by p n
+    node_held =
+        ap (option_map device_parts)
+        (option_map_back OfNode (λ x y e. cc) (kept_at k.nodes n) (device_from p n)
+        (are (image.Node n) (or_left _ _ (eq-eqb n n refl))))
+        ∙ parts_by p n
 
     pub writes_held : option_map writes_made (kept_at k.parts.writes n)
         ≡ option_map (λ (m : Member). writes_of p m n) (member_at p n)
@@ -98,7 +76,7 @@ module _ (p : Project) (k : KeptImage) where
         (are (image.Kept (part.Writes n)) (or_left _ _ (eq-eqb n n refl)))))
         ∙ writes_are_of p n
 
-  -- a node that has one of its parts has all of them
+  -- a node that has a part has all of them
   module _ (n : ℕ) where
     pub no_parts : {X : Type 0} (f : Member → X) → None ≡ option_map f (member_at p n)
         → None ≡ option_map (held_of p n) (member_at p n)
@@ -108,37 +86,26 @@ module _ (p : Project) (k : KeptImage) where
         by None none = refl
         by (Some m) none = cc
 
-    pub all_parts : (d : Values) (s : Shaped) (x : Identity) (w : List Write)
-        → Some d ≡ option_map (λ (m : Member). defaults_of m.sections n) (member_at p n)
-        → Some s ≡ option_map (λ (m : Member). shape_of m.sections n) (member_at p n)
-        → Some x ≡ option_map (λ (m : Member). record { numbers = identity m.sections n }) (member_at p n)
+    pub all_parts : (d : DeviceParts) (w : List Write) → Some d ≡ option_map (own_parts n) (member_at p n)
         → Some w ≡ option_map (λ (m : Member). writes_of p m n) (member_at p n)
-        → Some (record { defaults = d; shape = s; expect = x; writes = w }) ≡ option_map (held_of p n) (member_at p n)
-    all_parts d s x w = by (member_at p n)
+        → Some (record { defaults = d.defaults; shape = d.shape; expect = d.expect; writes = w })
+        ≡ option_map (held_of p n) (member_at p n)
+    all_parts d w = by (member_at p n)
       where
-        by : (o : Option Member)
-            → Some d ≡ option_map (λ (m : Member). defaults_of m.sections n) o
-            → Some s ≡ option_map (λ (m : Member). shape_of m.sections n) o
-            → Some x ≡ option_map (λ (m : Member). record { numbers = identity m.sections n }) o
+        by : (o : Option Member) → Some d ≡ option_map (own_parts n) o
             → Some w ≡ option_map (λ (m : Member). writes_of p m n) o
-            → Some (record { defaults = d; shape = s; expect = x; writes = w }) ≡ option_map (held_of p n) o
-        by None a b c e = cc
-        by (Some m) a b c e =
-            ap (λ v. Some (record { defaults = v; shape = s; expect = x; writes = w })) (same_some a)
-            ∙ ap (λ v. Some (record { defaults = defaults_of m.sections n; shape = v; expect = x; writes = w }))
-            (same_some b)
-            ∙ ap (λ v. Some (record {
-              defaults = defaults_of m.sections n;
-              shape = shape_of m.sections n;
-              expect = v;
-              writes = w;
-            })) (same_some c)
-            ∙ ap (λ v. Some (record {
+            → Some (record { defaults = d.defaults; shape = d.shape; expect = d.expect; writes = w })
+            ≡ option_map (held_of p n) o
+        by None own written = cc
+        by (Some m) own written =
+            ap (λ (v : DeviceParts).
+            Some (record { defaults = v.defaults; shape = v.shape; expect = v.expect; writes = w })) (same_some own)
+            ∙ ap (λ (v : List Write). Some (record {
               defaults = defaults_of m.sections n;
               shape = shape_of m.sections n;
               expect = record { numbers = identity m.sections n };
               writes = v;
-            })) (same_some e)
+            })) (same_some written)
 
 -- ---- the table of nodes
 

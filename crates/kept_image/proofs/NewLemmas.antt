@@ -9,16 +9,13 @@ use Rattle.kept_image.specs.declared.kept_image.KeptImage.{KeptImage}
 
 -- where each part has a mark
 pub all_marked : (h : KeptImage) → ((p : Project) → parts.IsOf p h.parts) → h.roster.fresh ≡ false
-    → ((q : ℕ) → is_fresh h.defaults q ≡ false) → ((q : ℕ) → is_fresh h.shapes q ≡ false)
-    → ((q : ℕ) → is_fresh h.expects q ≡ false) → ((q : ℕ) → is_fresh h.windows q ≡ false)
+    → ((q : ℕ) → is_fresh h.nodes q ≡ false) → ((q : ℕ) → is_fresh h.windows q ≡ false)
     → (p : Project) → IsOf p h
 unfolding IsOf parts.IsOf
-all_marked h k r d s e w p = (all, (k p).1)
+all_marked h k r n w p = (all, (k p).1)
   where
     all : AreOfNow p h
     all (image.Kept q) u = ap (option_map OfKept) ((k p).0 q u)
     all image.Roster u = cc
-    all (image.Defaults n) u = let none : is_fresh h.defaults n ≡ false = d n in cc
-    all (image.Shape n) u = let none : is_fresh h.shapes n ≡ false = s n in cc
-    all (image.Expect n) u = let none : is_fresh h.expects n ≡ false = e n in cc
+    all (image.Node id) u = let none : is_fresh h.nodes id ≡ false = n id in cc
     all (image.Events i) u = let none : is_fresh h.windows i ≡ false = w i in cc

@@ -10,7 +10,7 @@ use Rattle.co_project.specs.Tables.{node_at}
 use Rattle.co_memo.specs.At.{at}
 use Rattle.co_memo.specs.Shelved.{kept_at, Shelved}
 use Rattle.co_memo.specs.Work.{Refreshes, Rises, Work}
-use Rattle.co_memo.proofs.Brought.{refreshes_built}
+use Rattle.co_memo.proofs.Brought.{is_there, refreshes_built}
 use Rattle.kept_parts.specs.Kept as parts
 use Rattle.kept_parts.proofs.KindLemmas.{KeptAt}
 use Rattle.kept_image.specs.Kept.{device_from, device_of_node}
@@ -47,11 +47,8 @@ module _ (p : Project) (n : ℕ) where
 
 -- ---- what is kept at a number
 
-abbrev pub with_defaults : KeptImage → Shelved DeviceAt → KeptImage
-with_defaults k shelf = record k { defaults = shelf }
-
-abbrev pub with_shapes : KeptImage → Shelved DeviceAt → KeptImage
-with_shapes k shelf = record k { shapes = shelf }
+abbrev pub with_nodes : KeptImage → Shelved DeviceAt → KeptImage
+with_nodes k shelf = record k { nodes = shelf }
 
 -- what is of now already
 pub settled_kept : {X : Type 0} (key : ℕ) (now : Option X) (old new : Shelved X) → new.kept ≡ old.kept
@@ -71,9 +68,10 @@ other_kept first last now from result is settled stale same e =
     cc
 
 -- what wasn't is built
-pub built : (p : Project) (key : ℕ) (kept now offered : Option DeviceAt) (m n : Work) → offered ≡ device_from p key
-    → (kept ≡ device_from p key → ⊥)
+pub built : (p : Project) (key : ℕ) (kept now : Option DeviceAt) (m n : Work)
+    → option_map (λ d. d) now ≡ device_from p key → (kept ≡ device_from p key → ⊥)
     → IfSome now (λ _. n ≡ record m { parts = min (m.parts + 1) (2 ^ 64 - 1) }) → IfNone now (n ≡ m) → Rises m n
-    → Refreshes (kept ≡ offered) m n
-built p key kept now offered m n is stale counted nothing rises =
-    refreshes_built (kept ≡ offered) now m n (λ e. stale (e ∙ is)) counted nothing rises
+    → Refreshes kept (option_map (λ d. d) now) m n
+built p key kept now m n is stale counted nothing rises =
+    refreshes_built kept (option_map (λ d. d) now) now m n (λ e. stale (e ∙ is)) (is_there (λ d. d) now) counted nothing
+    rises

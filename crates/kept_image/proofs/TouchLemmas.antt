@@ -8,8 +8,8 @@ use Rattle.kept_parts.specs.Kept as parts
 use Rattle.kept_parts.specs.Marks as marks
 use Rattle.kept_parts.specs.declared.part.Part.{Part}
 use Rattle.network_image.specs.Image.{window_steps}
-use Rattle.kept_image.specs.Kept.{device_from, held, roster_from, AreOfNow, IsOf, OfDefaults, OfEvents, OfExpect}
-use Rattle.kept_image.specs.Kept.{OfKept, OfRoster, OfShape}
+use Rattle.kept_image.specs.Kept.{device_from, held, roster_from, AreOfNow, IsOf, OfEvents}
+use Rattle.kept_image.specs.Kept.{OfKept, OfNode, OfRoster}
 use Rattle.kept_image.specs.Marks.{MarksAt, MarksOne}
 use Rattle.project_parts.specs.Touch.{touch_of}
 use Rattle.kept_image.specs.Touched.{touches_node, touches_roster, touches_window}
@@ -24,16 +24,14 @@ use Rattle.kept_image.proofs.KindLemmas.{parts_of}
 
 module _ (p : Project) (e : Edit) (old new : KeptImage)
     (kept : (q : Part) → parts.held new.parts q ≡ parts.held old.parts q)
-    (r : MarksOne (touches_roster (touch_of e)) old.roster new.roster) (d : MarksAt (touches_node (touch_of e)) old.defaults new.defaults)
-    (s : MarksAt (touches_node (touch_of e)) old.shapes new.shapes) (x : MarksAt (touches_node (touch_of e)) old.expects new.expects)
+    (r : MarksOne (touches_roster (touch_of e)) old.roster new.roster)
+    (d : MarksAt (touches_node (touch_of e)) old.nodes new.nodes)
     (w : MarksAt (touches_window p.events (touch_of e)) old.windows new.windows) where
   -- nothing that is held changes
   pub held_still : (q : ImagePart) → held new q ≡ held old q
   held_still (image.Kept q) = ap (option_map OfKept) (kept q)
   held_still image.Roster = ap (option_map OfRoster) r.kept
-  held_still (image.Defaults n) = ap (λ (es : List (ℕ × DeviceAt)). option_map OfDefaults (at es n)) d.kept
-  held_still (image.Shape n) = ap (λ (es : List (ℕ × DeviceAt)). option_map OfShape (at es n)) s.kept
-  held_still (image.Expect n) = ap (λ (es : List (ℕ × DeviceAt)). option_map OfExpect (at es n)) x.kept
+  held_still (image.Node n) = ap (λ (es : List (ℕ × DeviceAt)). option_map OfNode (at es n)) d.kept
   held_still (image.Events i) = ap (λ (es : List (ℕ × List TimedStep)). option_map OfEvents (at es i)) w.kept
 
   -- what is held of the project is held of it still
@@ -44,9 +42,7 @@ module _ (p : Project) (e : Edit) (old new : KeptImage)
       all : AreOfNow p new
       all (image.Kept q) u = ap (option_map OfKept) ((same (parts_of p old is)).0 q u)
       all image.Roster u = held_still image.Roster ∙ is.0 image.Roster (r.unmarked u).0
-      all (image.Defaults n) u = held_still (image.Defaults n) ∙ is.0 (image.Defaults n) (d.unmarked n u).0
-      all (image.Shape n) u = held_still (image.Shape n) ∙ is.0 (image.Shape n) (s.unmarked n u).0
-      all (image.Expect n) u = held_still (image.Expect n) ∙ is.0 (image.Expect n) (x.unmarked n u).0
+      all (image.Node n) u = held_still (image.Node n) ∙ is.0 (image.Node n) (d.unmarked n u).0
       all (image.Events i) u = held_still (image.Events i) ∙ is.0 (image.Events i) (w.unmarked i u).0
 
   -- and of the project that the edit makes
@@ -60,18 +56,10 @@ module _ (p : Project) (e : Edit) (old new : KeptImage)
           held_still image.Roster ∙ is.0 image.Roster (r.unmarked u).0
           ∙ ap (λ (f : RosterFrom). Some (OfRoster f))
           (sym (roster_left p e (r.unmarked u).1) ∙ ap roster_from (taken_as p q e taken))
-      all (image.Defaults n) u =
-          held_still (image.Defaults n) ∙ is.0 (image.Defaults n) (d.unmarked n u).0
-          ∙ ap (option_map OfDefaults)
+      all (image.Node n) u =
+          held_still (image.Node n) ∙ is.0 (image.Node n) (d.unmarked n u).0
+          ∙ ap (option_map OfNode)
           (sym (device_left p e n (d.unmarked n u).1) ∙ ap (λ (r : Project). device_from r n) (taken_as p q e taken))
-      all (image.Shape n) u =
-          held_still (image.Shape n) ∙ is.0 (image.Shape n) (s.unmarked n u).0
-          ∙ ap (option_map OfShape)
-          (sym (device_left p e n (s.unmarked n u).1) ∙ ap (λ (r : Project). device_from r n) (taken_as p q e taken))
-      all (image.Expect n) u =
-          held_still (image.Expect n) ∙ is.0 (image.Expect n) (x.unmarked n u).0
-          ∙ ap (option_map OfExpect)
-          (sym (device_left p e n (x.unmarked n u).1) ∙ ap (λ (r : Project). device_from r n) (taken_as p q e taken))
       all (image.Events i) u =
           held_still (image.Events i) ∙ is.0 (image.Events i) (w.unmarked i u).0
           ∙ ap (λ (steps : List TimedStep). Some (OfEvents steps))

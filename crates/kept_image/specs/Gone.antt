@@ -16,9 +16,7 @@ use Rattle.kept_image.specs.declared.kept_image.KeptImage.{KeptImage}
 abbrev pub is_gone : Project → ImagePart → Bool
 is_gone p (image.Kept q) = parts.is_gone p q
 is_gone p image.Roster = false
-is_gone p (image.Defaults n) = not (contains_key p.nodes n)
-is_gone p (image.Shape n) = not (contains_key p.nodes n)
-is_gone p (image.Expect n) = not (contains_key p.nodes n)
+is_gone p (image.Node n) = not (contains_key p.nodes n)
 is_gone p (image.Events i) = false
 
 -- what is held, but of what is gone

@@ -24,9 +24,7 @@ use Rattle.kept_image.specs.declared.kept_image.KeptImage.{KeptImage}
 abbrev pub same_part : ImagePart → ImagePart → Bool
 same_part (image.Kept a) (image.Kept b) = parts.same_part a b
 same_part image.Roster image.Roster = true
-same_part (image.Defaults a) (image.Defaults b) = a == b
-same_part (image.Shape a) (image.Shape b) = a == b
-same_part (image.Expect a) (image.Expect b) = a == b
+same_part (image.Node a) (image.Node b) = a == b
 same_part (image.Events a) (image.Events b) = a == b
 same_part p q = false
 
@@ -34,9 +32,7 @@ same_part p q = false
 pub data Given : Type 0 where
   OfKept : parts.Given → Given
   OfRoster : RosterFrom → Given
-  OfDefaults : DeviceAt → Given
-  OfShape : DeviceAt → Given
-  OfExpect : DeviceAt → Given
+  OfNode : DeviceAt → Given
   OfEvents : List TimedStep → Given
 
 -- ---- the inputs of now
@@ -55,9 +51,7 @@ device_from p n = option_and_then (device_of_node p n) (node_at p.nodes n)
 abbrev pub given : Project → ImagePart → Option Given
 given p (image.Kept q) = option_map OfKept (parts.given p q)
 given p image.Roster = Some (OfRoster (roster_from p))
-given p (image.Defaults n) = option_map OfDefaults (device_from p n)
-given p (image.Shape n) = option_map OfShape (device_from p n)
-given p (image.Expect n) = option_map OfExpect (device_from p n)
+given p (image.Node n) = option_map OfNode (device_from p n)
 given p (image.Events i) = Some (OfEvents (window_steps p i))
 
 -- ---- what is held
@@ -66,18 +60,14 @@ given p (image.Events i) = Some (OfEvents (window_steps p i))
 abbrev pub held : KeptImage → ImagePart → Option Given
 held k (image.Kept q) = option_map OfKept (parts.held k.parts q)
 held k image.Roster = option_map OfRoster k.roster.kept
-held k (image.Defaults n) = option_map OfDefaults (kept_at k.defaults n)
-held k (image.Shape n) = option_map OfShape (kept_at k.shapes n)
-held k (image.Expect n) = option_map OfExpect (kept_at k.expects n)
+held k (image.Node n) = option_map OfNode (kept_at k.nodes n)
 held k (image.Events i) = option_map OfEvents (kept_at k.windows i)
 
 -- a part has no mark
 abbrev pub fresh : KeptImage → ImagePart → Bool
 fresh k (image.Kept q) = parts.fresh k.parts q
 fresh k image.Roster = k.roster.fresh
-fresh k (image.Defaults n) = is_fresh k.defaults n
-fresh k (image.Shape n) = is_fresh k.shapes n
-fresh k (image.Expect n) = is_fresh k.expects n
+fresh k (image.Node n) = is_fresh k.nodes n
 fresh k (image.Events i) = is_fresh k.windows i
 
 -- each part without a mark is held as it is to be built from the project's inputs of now
@@ -104,14 +94,12 @@ behind ps q = map image.Kept ps ++ q ∷ []
 abbrev pub reached : Project → ImagePart → List ImagePart
 reached p (image.Kept q) = map image.Kept (parts.reached p q)
 reached p image.Roster = image.Roster ∷ []
-reached p (image.Defaults n) = behind (parts.own_device p n) (image.Defaults n)
-reached p (image.Shape n) = behind (parts.own_device p n) (image.Shape n)
-reached p (image.Expect n) = behind (parts.own_device p n) (image.Expect n)
+reached p (image.Node n) = behind (parts.own_device p n) (image.Node n)
 reached p (image.Events i) = behind (map parts.of_node (entries p.nodes)) (image.Events i)
 
 -- the parts of the node of a number
 abbrev pub of_node : ℕ → List ImagePart
-of_node n = image.Defaults n ∷ image.Shape n ∷ image.Expect n ∷ image.Kept (part.Writes n) ∷ []
+of_node n = image.Node n ∷ image.Kept (part.Writes n) ∷ []
 
 abbrev pub of_nodes : List (ℕ × Node) → List ImagePart
 of_nodes [] = []

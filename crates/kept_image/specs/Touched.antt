@@ -42,7 +42,5 @@ touches_window events others i = false
 abbrev pub touched : Project → Edit → ImagePart → Bool
 touched p e (image.Kept q) = parts.touched e q
 touched p e image.Roster = touches_roster (touch_of e)
-touched p e (image.Defaults n) = touches_node (touch_of e) n
-touched p e (image.Shape n) = touches_node (touch_of e) n
-touched p e (image.Expect n) = touches_node (touch_of e) n
+touched p e (image.Node n) = touches_node (touch_of e) n
 touched p e (image.Events i) = touches_window p.events (touch_of e) i

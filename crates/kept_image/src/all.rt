@@ -30,9 +30,7 @@ impl KeptImage {
         ensures plan { OnOk result (AreHeld project.now (for_plan project.now) self.new) }
         ensures rises { Rises meter.old meter.new }
     {
-        self.bring_defaults(project, node, meter)?;
-        self.bring_shape(project, node, meter)?;
-        self.bring_expect(project, node, meter)?;
+        self.bring_device_parts(project, node, meter)?;
         self.bring_kept(&Part::Writes(node), project, meter)?;
         Ok(())
     }

@@ -13,10 +13,11 @@ use crate::image_part::ImagePart;
 use crate::kept_image::KeptImage;
 use crate::roster_now::RosterNow;
 use co_memo::{Meter, Shared};
+use co_parts::WINDOW;
 use co_project::Project;
 use eds_device::Device;
 use kept_parts::Part;
-use network_image::{WINDOW, window_steps};
+use network_image::window_steps;
 use std::alloc::AllocError;
 
 /// A device with the number of its node.
@@ -100,8 +101,8 @@ impl KeptImage {
         Ok(device_at(found, node).or(now))
     }
 
-    /// Brings the values of a node by its device up to date.
-    pub(crate) fn bring_defaults(
+    /// Brings what a node has by its device up to date.
+    pub(crate) fn bring_device_parts(
         &mut self,
         project: &Project,
         node: u8,
@@ -110,55 +111,15 @@ impl KeptImage {
         requires { IsOf project.now self.old }
         ensures is_of { IsOf project.now self.new }
         ensures brings { OnOk result (AreBrought same_part (given project.now)
-            (reached project.now (ImagePart.Defaults node)) (held self.old) (held self.new) meter.old meter.new) }
+            (reached project.now (ImagePart.Node node)) (held self.old) (held self.new) meter.old meter.new) }
         ensures rises { Rises meter.old meter.new }
     {
         let now = self.bring_device(project, node, meter)?;
-        if self.defaults.settle(node, &now) {
+        if self.nodes.settle(node, &now) {
             return Ok(());
         }
         let now = self.with_common(project, node, now)?;
-        self.defaults.build(self.alloc, node, now, meter)?;
-        Ok(())
-    }
-
-    /// Brings the entries of a node up to date.
-    pub(crate) fn bring_shape(
-        &mut self,
-        project: &Project,
-        node: u8,
-        meter: &mut Meter,
-    ) -> Result<(), AllocError>
-        requires { IsOf project.now self.old }
-        ensures is_of { IsOf project.now self.new }
-        ensures brings { OnOk result (AreBrought same_part (given project.now)
-            (reached project.now (ImagePart.Shape node)) (held self.old) (held self.new) meter.old meter.new) }
-        ensures rises { Rises meter.old meter.new }
-    {
-        let now = self.bring_device(project, node, meter)?;
-        if self.shapes.settle(node, &now) {
-            return Ok(());
-        }
-        let now = self.with_common(project, node, now)?;
-        self.shapes.build(self.alloc, node, now, meter)?;
-        Ok(())
-    }
-
-    /// Brings what is expected of a node up to date.
-    pub(crate) fn bring_expect(
-        &mut self,
-        project: &Project,
-        node: u8,
-        meter: &mut Meter,
-    ) -> Result<(), AllocError>
-        requires { IsOf project.now self.old }
-        ensures is_of { IsOf project.now self.new }
-        ensures brings { OnOk result (AreBrought same_part (given project.now)
-            (reached project.now (ImagePart.Expect node)) (held self.old) (held self.new) meter.old meter.new) }
-        ensures rises { Rises meter.old meter.new }
-    {
-        let now = self.bring_device(project, node, meter)?;
-        self.expects.bring(self.alloc, node, now, meter)?;
+        self.nodes.build(self.alloc, node, now, meter)?;
         Ok(())
     }
 
@@ -220,7 +181,7 @@ impl KeptImage {
         if self.windows.is_fresh(i) {
             return Ok(());
         }
-        let first = WINDOW * u32::from(i);
+        let first = WINDOW as u32 * u32::from(i);
         let moments = project
             .events()
             .events_between(self.alloc, first, first + 9999)?;
@@ -264,9 +225,7 @@ impl KeptImage {
         match part {
             ImagePart::Kept(part) => self.bring_kept(part, project, meter),
             ImagePart::Roster => self.bring_roster(project, meter),
-            ImagePart::Defaults(node) => self.bring_defaults(project, *node, meter),
-            ImagePart::Shape(node) => self.bring_shape(project, *node, meter),
-            ImagePart::Expect(node) => self.bring_expect(project, *node, meter),
+            ImagePart::Node(node) => self.bring_device_parts(project, *node, meter),
             ImagePart::Events(i) => self.bring_window(project, *i, meter),
         }
     }

@@ -1,7 +1,7 @@
 //! What the parts of a node are built from.
 ghost use Rattle.std.specs.Prelude.{◌≡◌, ◌↔◌, IfOk, IsTrue};
 
-use co_dict::{Dict, Shape};
+use crate::device_parts::DeviceParts;
 use co_memo::{Makes, Offers, Shared};
 use co_parts::Identity;
 use eds_device::Device;
@@ -37,25 +37,13 @@ impl DeviceAt {
     }
 }
 
-impl Makes<Shared<Dict>> for DeviceAt {
-    ghost use Rattle.kept_image.specs.Made.{defaults_made};
+impl Makes<DeviceParts> for DeviceAt {
+    ghost use Rattle.kept_image.specs.Made.{device_parts};
 
-    ghost made = { defaults_made };
+    ghost made = { device_parts };
 }
 
-impl Makes<Shared<Shape>> for DeviceAt {
-    ghost use Rattle.kept_image.specs.Made.{shape_made};
-
-    ghost made = { shape_made };
-}
-
-impl Makes<Shared<Identity>> for DeviceAt {
-    ghost use Rattle.kept_image.specs.Made.{expect_made};
-
-    ghost made = { expect_made };
-}
-
-impl Offers<DeviceAt, Shared<Dict>> for DeviceAt {
+impl Offers<DeviceAt, DeviceParts> for DeviceAt {
     ghost offered = { λ d. d };
 
     fn same(&self, kept: &DeviceAt) -> bool {
@@ -66,45 +54,12 @@ impl Offers<DeviceAt, Shared<Dict>> for DeviceAt {
         self.share()
     }
 
-    #[tactic(auto, unfolding(crate::specs::Made::defaults_made))]
-    fn make(&self, alloc: Global) -> Result<Shared<Dict>, AllocError> {
-        let values = self.device.get().defaults(self.node)?;
-        Shared::new(alloc, values)
-    }
-}
-
-impl Offers<DeviceAt, Shared<Shape>> for DeviceAt {
-    ghost offered = { λ d. d };
-
-    fn same(&self, kept: &DeviceAt) -> bool {
-        kept.is_same(self)
-    }
-
-    fn copy(&self, _alloc: Global) -> Result<DeviceAt, AllocError> {
-        self.share()
-    }
-
-    #[tactic(auto, unfolding(crate::specs::Made::shape_made))]
-    fn make(&self, alloc: Global) -> Result<Shared<Shape>, AllocError> {
-        let shape = self.device.get().shared_shape(self.node)?;
-        Shared::new(alloc, shape)
-    }
-}
-
-impl Offers<DeviceAt, Shared<Identity>> for DeviceAt {
-    ghost offered = { λ d. d };
-
-    fn same(&self, kept: &DeviceAt) -> bool {
-        kept.is_same(self)
-    }
-
-    fn copy(&self, _alloc: Global) -> Result<DeviceAt, AllocError> {
-        self.share()
-    }
-
-    #[tactic(auto, unfolding(crate::specs::Made::expect_made))]
-    fn make(&self, alloc: Global) -> Result<Shared<Identity>, AllocError> {
-        let numbers = self.device.get().identity(self.node);
-        Shared::new(alloc, Identity { numbers })
+    #[tactic(auto, unfolding(crate::specs::Made::device_parts))]
+    fn make(&self, alloc: Global) -> Result<DeviceParts, AllocError> {
+        let device = self.device.get();
+        let defaults = device.defaults(self.node)?;
+        let shape = device.shared_shape(self.node)?;
+        let numbers = device.identity(self.node);
+        DeviceParts::new(alloc, defaults, shape, Identity { numbers })
     }
 }

@@ -9,12 +9,9 @@ pub enum ImagePart {
     Kept(Part),
     /// The bit rate, the manager and the numbers of the nodes.
     Roster,
-    /// The values that the entries of the node of a number have by its device.
-    Defaults(u8),
-    /// The entries of the node of a number.
-    Shape(u8),
-    /// The device type and the identity that are expected of the node of a number.
-    Expect(u8),
+    /// What the node of a number has by its device: its entries with their values, and the device type and the
+    /// identity that are expected of it.
+    Node(u8),
     /// The events of a window of 10,000 microseconds: of window i, 0 to 1000, those from 10,000 i on.
     Events(u16),
 }

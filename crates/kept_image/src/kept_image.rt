@@ -12,12 +12,12 @@ ghost use Rattle.kept_image.specs.Kept.{given, held, reached, reached_by_trace, 
 ghost use Rattle.co_memo.specs.Work.{Rises};
 
 use crate::device_at::DeviceAt;
+use crate::device_parts::DeviceParts;
 use crate::image_part::ImagePart;
 use crate::roster_from::RosterFrom;
 use crate::window_shelf::WindowShelf;
-use co_dict::{Dict, Shape};
 use co_memo::{Memo, Meter, Shared, Shelf};
-use co_parts::{Identity, Roster};
+use co_parts::Roster;
 use co_project::Project;
 use eds_device::Device;
 use kept_parts::KeptParts;
@@ -33,9 +33,7 @@ pub struct KeptImage {
     pub(crate) alloc: Global,
     pub(crate) parts: KeptParts,
     pub(crate) roster: Memo<RosterFrom, Shared<Roster>>,
-    pub(crate) defaults: Shelf<DeviceAt, Shared<Dict>>,
-    pub(crate) shapes: Shelf<DeviceAt, Shared<Shape>>,
-    pub(crate) expects: Shelf<DeviceAt, Shared<Identity>>,
+    pub(crate) nodes: Shelf<DeviceAt, DeviceParts>,
     pub(crate) windows: WindowShelf,
 
     /// Whether it is known that nothing is held of what the project doesn't have.
@@ -52,9 +50,7 @@ impl KeptImage {
             alloc,
             parts: KeptParts::new(alloc),
             roster: Memo::new(),
-            defaults: Shelf::new(alloc),
-            shapes: Shelf::new(alloc),
-            expects: Shelf::new(alloc),
+            nodes: Shelf::new(alloc),
             windows: WindowShelf::new(alloc),
             swept: false,
         }
@@ -79,7 +75,7 @@ impl KeptImage {
         ensures is_of { IsOf project.now self.new }
         ensures swept { IsSwept project.now self.new }
 
-        // These parts are held as they are to be built now, and at most those that weren't are counted.
+        // These parts are held as they are to be built now, and exactly those are counted that were to be made.
         ensures brings { OnOk result (AreBrought same_part (given project.now) (reached project.now part.now)
             (left_of project.now self.old) (held self.new) meter.old meter.new) }
         ensures current { OnOk result (held self.new part.now ≡ given project.now part.now) }

@@ -9,22 +9,16 @@ use co_edits::Edit;
 use co_project::Project;
 use kept_devices::node_flags;
 
-/// Whether an edit drops an EDS or a node.
-fn drops(edit: &Edit) -> bool
-    ensures { result ≡ drops edit.now }
-{
-    match edit {
-        Edit::DropEds { .. } => true,
-        Edit::DropNode { .. } => true,
-        _ => false,
-    }
-}
-
-/// Whether it is known still after an edit that nothing is held of what the project doesn't have.
+/// Whether it is known still after an edit that nothing is held of what the project doesn't have: not where an
+/// EDS or a node is dropped.
 pub(crate) fn stays_swept(swept: bool, edit: &Edit) -> bool
     ensures { result ≡ (swept && not (drops edit.now)) }
 {
-    swept && !drops(edit)
+    match edit {
+        Edit::DropEds { .. } => false,
+        Edit::DropNode { .. } => false,
+        _ => swept,
+    }
 }
 
 impl KeptImage {
@@ -36,9 +30,7 @@ impl KeptImage {
     {
         let nodes = node_flags(project);
         self.parts.let_go(project);
-        self.defaults.keep_flagged(&nodes);
-        self.shapes.keep_flagged(&nodes);
-        self.expects.keep_flagged(&nodes);
+        self.nodes.keep_flagged(&nodes);
     }
 
     /// Lets go what is kept of names of EDS and of numbers of nodes that a project doesn't have, where that isn't

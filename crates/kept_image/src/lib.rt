@@ -5,6 +5,7 @@
 mod all;
 mod bringing;
 mod device_at;
+mod device_parts;
 mod image_part;
 mod kept_image;
 pub mod laws;
@@ -16,6 +17,7 @@ mod touching;
 mod window_shelf;
 
 pub use device_at::DeviceAt;
+pub use device_parts::DeviceParts;
 pub use image_part::ImagePart;
 pub use kept_image::KeptImage;
 pub use roster_from::RosterFrom;

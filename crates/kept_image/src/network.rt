@@ -23,21 +23,15 @@ impl KeptImage {
         ensures { IfOk result (λ parts. parts ≡ option_map (held_of project.now id) (member_at project.now id)) }
     {
         let _ = project;
-        let Some(defaults) = self.defaults.value(id) else {
-            return Ok(None);
-        };
-        let Some(shape) = self.shapes.value(id) else {
-            return Ok(None);
-        };
-        let Some(expect) = self.expects.value(id) else {
+        let Some(node) = self.nodes.value(id) else {
             return Ok(None);
         };
         let Some(writes) = self.parts.writes(id) else {
             return Ok(None);
         };
-        let defaults = defaults.pointer()?;
-        let shape = shape.pointer()?;
-        let expect = expect.pointer()?;
+        let defaults = node.defaults.pointer()?;
+        let shape = node.shape.pointer()?;
+        let expect = node.expect.pointer()?;
         let writes = writes.pointer()?;
         Ok(Some(NodeParts::from_shared(defaults, shape, expect, writes)))
     }

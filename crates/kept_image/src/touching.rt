@@ -7,17 +7,18 @@ ghost use Rattle.kept_image.specs.Marks.{MarksAt, MarksOne};
 ghost use Rattle.project_parts.specs.Touch.{shown};
 ghost use Rattle.kept_image.specs.Touched.{is_window_at, is_window_of, touches_node, touches_roster, touches_window};
 
+use crate::device_at::DeviceAt;
+use crate::device_parts::DeviceParts;
 use crate::image_part::ImagePart;
 use crate::kept_image::KeptImage;
 use crate::leaving::stays_swept;
 use crate::roster_from::RosterFrom;
 use crate::window_shelf::WindowShelf;
 use co_edits::Edit;
-use co_memo::{Makes, Memo, Shared, Shelf};
-use co_parts::Roster;
+use co_memo::{Memo, Shared, Shelf};
+use co_parts::{Roster, WINDOW};
 use co_project::Project;
 use co_scenario::Script;
-use network_image::WINDOW;
 use project_parts::{Touch, touch_of};
 
 /// Marks the roster, where an edit may leave it with other inputs.
@@ -33,12 +34,12 @@ fn mark_roster(roster: &mut Memo<RosterFrom, Shared<Roster>>, touch: Touch<'_>)
 }
 
 /// Marks what is built from the device of a node, where an edit may leave it with other inputs.
-fn mark_nodes<I: Makes<T> + Drop, T: Drop>(shelf: &mut Shelf<I, T>, touch: Touch<'_>)
-    ensures { MarksAt (touches_node (shown touch.entry)) shelf.old shelf.new }
+fn mark_nodes(nodes: &mut Shelf<DeviceAt, DeviceParts>, touch: Touch<'_>)
+    ensures { MarksAt (touches_node (shown touch.entry)) nodes.old nodes.new }
 {
     match touch {
-        Touch::Sheet(_) => shelf.mark_all(),
-        Touch::Node(id) => shelf.mark(id),
+        Touch::Sheet(_) => nodes.mark_all(),
+        Touch::Node(id) => nodes.mark(id),
         _ => (),
     }
 }
@@ -47,7 +48,7 @@ fn mark_nodes<I: Makes<T> + Drop, T: Drop>(shelf: &mut Shelf<I, T>, touch: Touch
 fn mark_time(windows: &mut WindowShelf, time: u32)
     ensures { MarksAt (λ i. is_window_of i time) windows.old windows.new }
 {
-    let i = time / WINDOW;
+    let i = u64::from(time) / WINDOW;
     if i < 1024 {
         windows.mark(i as u16);
     } else {
@@ -105,9 +106,7 @@ impl KeptImage {
         self.parts.touch(edit);
         let touch = touch_of(edit);
         mark_roster(&mut self.roster, touch);
-        mark_nodes(&mut self.defaults, touch);
-        mark_nodes(&mut self.shapes, touch);
-        mark_nodes(&mut self.expects, touch);
+        mark_nodes(&mut self.nodes, touch);
         mark_windows(&mut self.windows, project.events(), touch);
         self.swept = stays_swept(self.swept, edit);
     }

@@ -2,7 +2,7 @@
 ghost use Rattle.std.specs.Prelude.{◌≡◌, ◌↔◌, ◌==◌, ◌||◌, ◌&&◌, ◌<◌, not, ℕ, false, None, Some, OnOk, OnErr};
 ghost use Rattle.std.specs.Prelude.{if◌then◌else◌, IsTrue, option_copied};
 ghost use Rattle.co_memo.specs.Shelved.{is_fresh, kept_at};
-ghost use Rattle.co_memo.specs.Work.{Builds, Refreshes, Rises};
+ghost use Rattle.co_memo.specs.Work.{Refreshes, Rises};
 ghost use Rattle.kept_image.specs.Busy.{has_steps};
 
 use co_memo::{Meter, Shared};
@@ -138,8 +138,7 @@ impl WindowShelf {
             → kept_at self.new q ≡ (if q == i then Some steps.items else kept_at self.old q)) }
         ensures fresh { OnOk result ((q : ℕ) → is_fresh self.new q ≡ (q == i || is_fresh self.old q)) }
         ensures err { OnErr result (self.new ≡ self.old) }
-        ensures counted { OnOk result (Refreshes (kept_at self.old i ≡ Some steps.items) meter.old meter.new) }
-        ensures built { OnOk result (Builds (kept_at self.old i ≡ Some steps.items) meter.old meter.new) }
+        ensures counted { OnOk result (Refreshes (kept_at self.old i) (Some steps.items) meter.old meter.new) }
         ensures uncounted { OnErr result (meter.new ≡ meter.old) }
         ensures rises { Rises meter.old meter.new }
     {

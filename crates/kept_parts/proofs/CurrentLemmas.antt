@@ -1,5 +1,5 @@
 -- What is held after a refresh, and where nothing is kept.
-use Rattle.std.proofs.Common.{◌≡◌, ◌∙◌, ℕ, Bool, true, false, ◌||◌, if◌then◌else◌, List, [], ◌∷◌, ◌++◌, map}
+use Rattle.std.proofs.Common.{◌≡◌, ◌∙◌, ℕ, Bool, true, false, ◌||◌, if◌then◌else◌, List, [], ◌∷◌, ◌++◌, map, Option}
 use Rattle.std.proofs.Common.{refl, ap}
 use Rattle.std.specs.Cmp.{tied_itself}
 use Rattle.std.specs.List.{list_any}
@@ -23,7 +23,7 @@ use Rattle.kept_parts.specs.declared.part.Part.TheVariants as part
 use Rattle.kept_parts.specs.declared.kept_parts.KeptParts.{KeptParts}
 
 -- the last that was brought is as it is now
-last_now : {N V : Type 0} (same : N → N → Bool) (now : N → V) (ps : List N) (q : N) (a b : N → V) (m n : Work)
+last_now : {N V : Type 0} (same : N → N → Bool) (now : N → Option V) (ps : List N) (q : N) (a b : N → Option V) (m n : Work)
     → same q q ≡ true → AreBrought same now (ps ++ q ∷ []) a b m n → b q ≡ now q
 last_now same now ps q a b m n itself brought =
     ap (λ f. f q) brought.settled_is

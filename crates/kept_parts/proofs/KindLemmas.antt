@@ -203,7 +203,7 @@ module _ (p : Project) where
       pub device_is_of : IsOf p with_devices
       device_is_of = is_of_after (part.Device name) h with_devices is device_stands device_other device_closed
 
-      pub device_brought : (m n : Work) → Refreshes (text_kept h.devices name ≡ text_at p.texts name) m n
+      pub device_brought : (m n : Work) → Refreshes (text_kept h.devices name) (text_at p.texts name) m n
           → AreBrought same_part (given p) (part.Device name ∷ []) (held h) (held with_devices) m n
       device_brought m n r =
           one same_part (given p) (part.Device name) (held h) (held with_devices) m n device_stands
@@ -238,12 +238,12 @@ module _ (p : Project) where
       plan_is_of none = is_of_after part.Plan h with_plan is plan_stands plan_other
           (λ unmarked. same_devices h with_plan refl (entries p.nodes) none)
 
-      pub plan_brought : (m n : Work) → Refreshes (h.plan.kept ≡ Some now) m n
+      pub plan_brought : (m n : Work) → Refreshes h.plan.kept (Some now) m n
           → AreBrought same_part (given p) (part.Plan ∷ []) (held h) (held with_plan) m n
       plan_brought m n r =
           one same_part (given p) part.Plan (held h) (held with_plan) m n plan_stands
           (refreshes_kind OfPlan (λ x y e. cc) h.plan.kept (Some (plan_from p)) m n
-          (subst (λ (x : PlanFrom). Refreshes (h.plan.kept ≡ Some x) m n) e r))
+          (subst (λ (x : PlanFrom). Refreshes h.plan.kept (Some x) m n) e r))
 
     -- ---- the writes of a node
 
@@ -266,12 +266,12 @@ module _ (p : Project) where
       writes_is_of = is_of_after (part.Writes key) h with_writes is writes_stands writes_other
           (λ unmarked. same_devices h with_writes refl (entries p.nodes) (closed h is unmarked))
 
-      pub writes_brought : (m n : Work) → Refreshes (kept_at h.writes key ≡ now) m n
+      pub writes_brought : (m n : Work) → Refreshes (kept_at h.writes key) now m n
           → AreBrought same_part (given p) (part.Writes key ∷ []) (held h) (held with_writes) m n
       writes_brought m n r =
           one same_part (given p) (part.Writes key) (held h) (held with_writes) m n writes_stands
           (refreshes_kind OfWrites (λ x y e. cc) (kept_at h.writes key) (writes_from p key) m n
-          (subst (λ (x : Option WritesFrom). Refreshes (kept_at h.writes key ≡ x) m n) e r))
+          (subst (λ (x : Option WritesFrom). Refreshes (kept_at h.writes key) x m n) e r))
 
     -- ---- the concise DCF of a node
 
@@ -294,12 +294,12 @@ module _ (p : Project) where
       concise_is_of = is_of_after (part.Concise key) h with_concise is concise_stands concise_other
           (λ unmarked. same_devices h with_concise refl (entries p.nodes) (closed h is unmarked))
 
-      pub concise_brought : (m n : Work) → Refreshes (kept_at h.concise key ≡ now) m n
+      pub concise_brought : (m n : Work) → Refreshes (kept_at h.concise key) now m n
           → AreBrought same_part (given p) (part.Concise key ∷ []) (held h) (held with_concise) m n
       concise_brought m n r =
           one same_part (given p) (part.Concise key) (held h) (held with_concise) m n concise_stands
           (refreshes_kind OfConcise (λ x y e. cc) (kept_at h.concise key) (concise_from p key) m n
-          (subst (λ (x : Option ConciseFrom). Refreshes (kept_at h.concise key ≡ x) m n) e r))
+          (subst (λ (x : Option ConciseFrom). Refreshes (kept_at h.concise key) x m n) e r))
 
     -- ---- the DCF of a node
 
@@ -322,9 +322,9 @@ module _ (p : Project) where
       dcf_is_of = is_of_after (part.Dcf key) h with_dcf is dcf_stands dcf_other
           (λ unmarked. same_devices h with_dcf refl (entries p.nodes) (closed h is unmarked))
 
-      pub dcf_brought : (m n : Work) → Refreshes (kept_at h.dcf key ≡ now) m n
+      pub dcf_brought : (m n : Work) → Refreshes (kept_at h.dcf key) now m n
           → AreBrought same_part (given p) (part.Dcf key ∷ []) (held h) (held with_dcf) m n
       dcf_brought m n r =
           one same_part (given p) (part.Dcf key) (held h) (held with_dcf) m n dcf_stands
           (refreshes_kind OfDcf (λ x y e. cc) (kept_at h.dcf key) (dcf_from p key) m n
-          (subst (λ (x : Option DcfFrom). Refreshes (kept_at h.dcf key ≡ x) m n) e r))
+          (subst (λ (x : Option DcfFrom). Refreshes (kept_at h.dcf key) x m n) e r))

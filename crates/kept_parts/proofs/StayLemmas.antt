@@ -1,15 +1,15 @@
 -- Parts without a mark, taken as they are.
-use Rattle.std.proofs.Common.{◌≡◌, ◌∙◌, ℕ, inl, true, Bool, List, [], ◌∷◌, map, Option, Some, refl, ap, arith}
+use Rattle.std.proofs.Common.{◌≡◌, ◌∙◌, ℕ, true, Bool, List, [], ◌∷◌, map, Option, Some, refl, ap}
 use Rattle.std.specs.FinMap.{entries}
 use Rattle.std.proofs.lemmas.List.Elements.{All-head, All-tail}
 use Rattle.co_memo.specs.Shelved.{Single}
 use Rattle.co_memo.specs.Stale.{AreBrought}
 use Rattle.co_memo.specs.Work.{Work}
-use Rattle.co_memo.proofs.Brought.{both, none}
+use Rattle.co_memo.proofs.Brought.{both, none, refreshes_none}
 use Rattle.co_project.specs.declared.node.Node.{Node}
 use Rattle.co_project.specs.Project.{Content as Project}
 use Rattle.co_project.specs.Tables.{text_at}
-use Rattle.kept_devices.specs.Slots.{fresh_at}
+use Rattle.kept_devices.specs.Slots.{fresh_at, text_kept}
 use Rattle.kept_devices.proofs.SlotLemmas.{fresh_stands}
 use Rattle.kept_parts.specs.Kept.{for_plan, fresh, given, held, of_node, plan_from, same_part, HaveNoMark, IsOf}
 use Rattle.kept_parts.specs.declared.plan_from.PlanFrom.{PlanFrom}
@@ -27,7 +27,7 @@ module _ (p : Project) (h : KeptParts) (is : IsOf p h) (m : Work) where
   one_stays name u =
       let now = device_now p h is name u in
       device_brought p h is name h.devices (fresh_stands h.devices name (text_at p.texts name) u now) m m
-      (refl, omega arith, inl (now, omega arith))
+      (refreshes_none (text_kept h.devices name) (text_at p.texts name) m now)
 
   all_stay : (es : List (ℕ × Node)) → HaveNoMark h (map of_node es) → Stay (map of_node es)
   all_stay [] all = none same_part (given p) (held h) m
@@ -48,4 +48,4 @@ module _ (p : Project) (h : KeptParts) (is : IsOf p h) (m : Work) where
       (all_stay (entries p.nodes) (closed p h is u))
       (plan_brought p h is h.plan (plan_from p)
       (ap (λ k. single k h.plan.fresh) now ∙ ap (single (Some (plan_from p))) u) refl m m
-      (refl, omega arith, inl (now, omega arith)))
+      (refreshes_none h.plan.kept (Some (plan_from p)) m now))

@@ -51,9 +51,9 @@ both_are p devices messages d m =
 -- a plan of other inputs is built
 pub plan_built : (p : Project) (old : Option PlanFrom) (now : PlanFrom) (m n : Work) → now ≡ plan_from p
     → (old ≡ Some (plan_from p) → ⊥) → n ≡ record m { parts = min (m.parts + 1) (2 ^ 64 - 1) } → Rises m n
-    → Refreshes (old ≡ Some now) m n
+    → Refreshes old (Some now) m n
 plan_built p old now m n is stale counted rises =
-    refreshes_built (old ≡ Some now) (Some now) m n (λ e. stale (e ∙ ap Some is)) counted tt rises
+    refreshes_built old (Some now) (Some now) m n (λ e. stale (e ∙ ap Some is)) refl counted tt rises
 
 single : Option PlanFrom → Bool → Single PlanFrom
 single k f = record { kept = k; fresh = f }

@@ -64,7 +64,7 @@ impl KeptParts {
         requires { IsOf project.now self.old }
         ensures is_of { IsOf project.now self.new }
 
-        // These parts are held as they are to be built now, and at most those that weren't are counted.
+        // These parts are held as they are to be built now, and exactly those are counted that were to be made.
         ensures brings { OnOk result (AreBrought same_part (given project.now) (reached project.now part.now)
             (held self.old) (held self.new) meter.old meter.new) }
         ensures current { OnOk result (held self.new part.now ≡ given project.now part.now) }

@@ -1,12 +1,11 @@
 //! A bounded shelf of values.
 
-ghost use Rattle.std.specs.Prelude.{◌≡◌, ℕ, ◌≤◌, ◌+◌, ◌∷◌, [], Contains, Some, nat_eq, drop, length, slice_get, take};
+ghost use Rattle.std.specs.Prelude.{◌≡◌, ℕ, ◌≤◌, [], Contains, Some, nat_eq, drop, length, slice_get};
 ghost use Rattle.std.specs.Prelude.{option_copied, option_map, IfOk, IfSome, OnOk, OnErr};
 ghost use Rattle.std.specs.List.{IsDistinct};
 ghost use Rattle.std.specs.Map.{keys_of, lookup};
-ghost use Rattle.lru.specs.LruCache.{promoted};
 ghost use Rattle.kept_shelf.specs.Numbers.{of_number};
-ghost use Rattle.kept_shelf.specs.Shelves.{AreGiven, HasNumber};
+ghost use Rattle.kept_shelf.specs.Shelves.{AreGiven, HasNumber, put_first, use_first};
 
 use crate::numbered::Numbered;
 use crate::rest::Rest;
@@ -119,11 +118,8 @@ impl<V: Numbered + Drop> Shelf<V> {
     /// Uses the value that lies ahead next: it goes first. Takes constant time.
     pub fn use_next(&mut self)
         requires { (e : ℕ × V) × (slice_get self.old.ahead 0 ≡ Some e) }
-        ensures { (e : ℕ × V) → slice_get self.old.ahead 0 ≡ Some e → self.new ≡ record self.old {
-          entries = promoted (nat_eq e.0) self.old.entries;
-          turn = self.old.turn + 1;
-          ahead = drop 1 self.old.ahead;
-        } }
+        ensures { (e : ℕ × V) → slice_get self.old.ahead 0 ≡ Some e
+            → self.new ≡ record (use_first e.0 self.old) { ahead = drop 1 self.old.ahead } }
     {
         self.used += 1;
     }
@@ -163,10 +159,7 @@ impl<V: Numbered + Drop> Shelf<V> {
     pub fn use_again(&mut self, key: u64) -> Result<(), AllocError>
         requires settled { self.old.ahead ≡ [] }
         requires turn { HasNumber V.number_of key self.old.turn self.old.entries }
-        ensures ok { OnOk result (self.new ≡ record self.old {
-          entries = promoted (nat_eq key) self.old.entries;
-          turn = self.old.turn + 1;
-        }) }
+        ensures ok { OnOk result (self.new ≡ use_first key self.old) }
         ensures err { OnErr result (self.new ≡ self.old) }
     {
         bring(&mut self.row, &mut self.rest, key)?;
@@ -180,13 +173,7 @@ impl<V: Numbered + Drop> Shelf<V> {
     pub fn add(&mut self, value: V) -> Result<(), AllocError>
         requires settled { self.old.ahead ≡ [] }
         requires turn { V.number_of value ≡ self.old.turn }
-        ensures ok { OnOk result (self.new ≡ record {
-          capacity = self.old.capacity;
-          entries = take self.old.capacity ((self.old.given, value) ∷ self.old.entries);
-          given = self.old.given + 1;
-          turn = self.old.turn + 1;
-          ahead = [];
-        }) }
+        ensures ok { OnOk result (self.new ≡ put_first value self.old) }
         ensures err { OnErr result (self.new ≡ self.old) }
     {
         let number = value.number();

@@ -19,5 +19,5 @@ pub use node_parts::NodeParts;
 pub use node_table::NodeTable;
 pub use roster::{is_roster, make_roster};
 pub use steps::window_steps;
-pub use window_events::{LAST_TIME, WINDOW, window_split};
+pub use window_events::{LAST_TIME, window_split};
 pub use window_table::WindowTable;

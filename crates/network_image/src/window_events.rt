@@ -3,10 +3,8 @@ ghost use Rattle.std.specs.Prelude.{◌≡◌, ◌≤◌, ◌+◌, ◌*◌, nat_
 ghost use Rattle.std.specs.List.{prefix_len};
 ghost use Rattle.co_scenario.specs.Scenario.{events_between};
 
+use co_parts::WINDOW;
 use co_scenario::Script;
-
-/// The microseconds of a window.
-pub const WINDOW: u32 = 10_000;
 
 /// The last microsecond of the last window in which events can lie: window 1000, that of the greatest time
 /// of an event, 10,000,000 microseconds.
@@ -32,5 +30,5 @@ pub fn window_split<'a>(
     ensures after { result.1.now ≡ events_between (10000 * (i + 1)) 10009999 script.now }
 {
     let _ = script;
-    moments.split_at(count_before(moments, WINDOW * (i + 1)))
+    moments.split_at(count_before(moments, WINDOW as u32 * (i + 1)))
 }

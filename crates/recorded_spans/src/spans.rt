@@ -9,11 +9,8 @@ ghost use Rattle.bus_laws.specs.Spans.{span};
 ghost use Rattle.recorded_spans.specs.Spans.{IsReady};
 
 use can_bus::{BusState, Lines, Parts};
-use co_parts::END;
+use co_parts::{END, WINDOW};
 use std::alloc::{AllocError, Global};
-
-/// The time that a window takes, in microseconds.
-const WINDOW: u64 = 10_000;
 
 /// The instants from a moment on before the end.
 fn run_to<P: Parts>(

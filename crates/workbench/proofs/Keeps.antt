@@ -10,7 +10,7 @@ use Rattle.co_commands.specs.declared.request.Request.{Request}
 use Rattle.co_commands.specs.declared.request.Request.TheVariants.{Edit as EditAsked, Query as QueryAsked, Block}
 use Rattle.co_commands.specs.Requests.{request}
 use Rattle.co_project.specs.Project.{Content, accept}
-use Rattle.co_answers.specs.Queries.{answer}
+use Rattle.workbench.specs.Queries.{answer}
 use Rattle.workbench.specs.Replies.{OpenBlock, State, After, ok_reply, without_reply, after_verdict, after_edit}
 use Rattle.workbench.specs.Replies.{after_query, block_edit, in_block, after_request, is_skipped, after_command_line}
 use Rattle.workbench.specs.Replies.{after_line}

@@ -1,6 +1,11 @@
+pub mod KeptFiles
+pub mod Plans
 pub mod Runs
 pub mod Bytewise
 pub mod Ends
+pub mod PutReplies
+pub mod PutEnd
+pub mod Sessions
 pub mod Lines
 pub mod Keeps
 pub mod LineEnds

@@ -1,5 +1,9 @@
+pub mod Bench
+pub mod Queries
+pub mod Texts
 pub mod Replies
 pub mod Lines
 pub mod Written
+pub mod Session
 pub mod Machine
 pub mod Views

@@ -14,7 +14,7 @@ use Rattle.co_commands.specs.Requests.{request}
 use Rattle.co_edits.specs.Eds.{eds_edit}
 use Rattle.co_project.specs.Project.{Content, first, accept}
 use Rattle.listed_text.specs.Replies.{lines_reply}
-use Rattle.co_answers.specs.Queries.{answer}
+use Rattle.workbench.specs.Queries.{answer}
 
 -- an `eds` command whose block isn't complete: its name (none where its line wasn't of its form; then the command is
 -- refused once its lines have come), how many lines are to come, those that came

@@ -6,7 +6,7 @@ use Rattle.co_edits.specs.Eds.{block_lines}
 use Rattle.co_edits.specs.Faults.{refusal_text}
 use Rattle.co_project.specs.Project.{Content}
 use Rattle.listed_text.specs.Replies.{lines_reply}
-use Rattle.co_answers.specs.Texts.{text_of}
+use Rattle.workbench.specs.Texts.{text_of}
 use Rattle.workbench.specs.declared.cursor.Cursor.{Cursor as TheCursor}
 use Rattle.workbench.specs.declared.open_block.OpenBlock.{OpenBlock as TheBlock}
 use Rattle.workbench.specs.declared.reply.Reply.{Reply}

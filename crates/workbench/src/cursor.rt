@@ -1,13 +1,15 @@
 //! Where a session is in its input.
 ghost use Rattle.std.specs.Prelude.{◌≡◌, ◌++◌, [], IfOk, None};
-ghost use Rattle.workbench.specs.Replies.{after_line};
-ghost use Rattle.workbench.specs.Machine.{first_cursor, at_break};
-ghost use Rattle.workbench.specs.Views.{cursor_of, ended_at};
+ghost use Rattle.workbench.specs.Replies.{after_line, cut_off};
+ghost use Rattle.workbench.specs.Machine.{first_cursor, at_break, last_line};
+ghost use Rattle.workbench.specs.Views.{cursor_of, ended_at, replies_of};
 
 use crate::open_block::OpenBlock;
 use crate::reply::Reply;
 use crate::turns::{take_command, take_line};
-use co_answers::{Work, Workbench};
+use crate::work::Work;
+use crate::workbench::Workbench;
+use co_project::{EditFault, refusal};
 use std::alloc::{AllocError, Global};
 
 #[derive(Drop)]
@@ -42,6 +44,26 @@ impl Cursor {
         self.block = block;
         self.line.clear();
         Ok(reply)
+    }
+
+    /// Takes the line so far as the last one, where the end of the input ends it: not an empty one.
+    pub fn end_last_line(&mut self) -> Result<Reply, AllocError>
+        ensures { IfOk result (λ reply. ended_at self.new reply ≡ last_line (cursor_of self.old)) }
+    {
+        if self.line.is_empty() {
+            return Ok(Reply::Nothing);
+        }
+        self.end_line()
+    }
+
+    /// What is written where the input ends in a block that isn't complete.
+    pub fn cut_off(&self) -> Reply
+        ensures { replies_of result ≡ cut_off (cursor_of self.now).state.block }
+    {
+        if self.block.is_none() {
+            return Reply::Nothing;
+        }
+        Reply::Fixed(refusal(EditFault::Truncated))
     }
 
     /// Takes a line of which nothing came before, where no block is open: it is read where it stands.

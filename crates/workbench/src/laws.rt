@@ -1,15 +1,38 @@
-//! Laws of the replies, each in the words of inputs and lines.
-ghost use Rattle.std.specs.Prelude.{◌≡◌, ◌≢◌, ◌++◌, ◌∷◌, [], ℕ, List, None, false, map};
+//! Laws of answers, and of replies in the words of inputs and lines.
+ghost use Rattle.std.specs.Prelude.{◌≡◌, ◌≢◌, ◌++◌, ◌∷◌, [], ℕ, List, None, Some, false, map};
 ghost use Rattle.co_text.specs.Lines.{lines_of};
 ghost use Rattle.co_project.specs.Project.{Content};
 ghost use Rattle.project_script.specs.Script.{edits, script};
 ghost use Rattle.co_project.specs.Sound.{IsSound};
+ghost use Rattle.file_laws.specs.Files.{dcf_text};
+ghost use Rattle.file_laws.specs.Nodes.{IsSoundNode};
+ghost use Rattle.project_plan.specs.Network.{Member};
+ghost use Rattle.kept_image.specs.Gone.{HoldsNoneGone};
+ghost use Rattle.kept_image.specs.declared.image_part.ImagePart.{ImagePart};
+ghost use Rattle.workbench.specs.Bench.{Bench, Brings, BringsDiagnostics, Traces};
+ghost use Rattle.workbench.specs.Queries.{dcf_of};
 ghost use Rattle.workbench.specs.Lines.{AreLines, has_break, with_breaks, if_some};
 ghost use Rattle.workbench.specs.Replies.{State, start, ok_reply, after_line, after_lines, replies, replies_to_lines};
 ghost use Rattle.workbench.specs.Replies.{complete_replies};
 
 use co_commands::laws::{printed_blocks_are_read, printed_edits_are_lines, printed_lines_are_read};
 use project_script::laws::{script_has_edits, script_makes_the_project_again};
+
+/// What `dcf` prints of a node of a sound project is the text of which the laws of `file_laws` speak.
+#[tactic(auto, using(crate::proofs::Plans::is_its_text))]
+pub fn dcf_prints_the_text_of_its_node()
+    ensures { (project : Content) (id : ℕ) (m : Member) → IsSoundNode project id m
+        → dcf_of project id ≡ Some (dcf_text project id m) }
+{}
+
+/// After a file, diagnostics or a trace was answered nothing is held of a name of an EDS, nor of a number of a node,
+/// that the project doesn't have.
+pub fn nothing_is_held_of_what_is_gone()
+    ensures file { (parts : List ImagePart) (old new : Bench) → Brings parts old new
+        → HoldsNoneGone old.project new.image }
+    ensures diagnostics { (old new : Bench) → BringsDiagnostics old new → HoldsNoneGone old.project new.image }
+    ensures trace { (old new : Bench) → Traces old new → HoldsNoneGone old.project new.image }
+{}
 
 /// An input that is made of lines, each ended by LF, and of a last one that its end ends, has the
 /// replies to these lines, taken one after the other.

@@ -1,13 +1,24 @@
-//! Commands in, replies out: a session over one project of a CANopen network.
+//! Commands in, replies out: a project of a CANopen network with what is kept of it, its answers to queries, and a
+//! session over it.
 #![tactic(auto)]
 
+mod answers;
 mod cursor;
+mod files;
 pub mod laws;
 mod open_block;
+mod planning;
+mod queries;
 mod reply;
 mod serving;
+mod tracing;
 mod turns;
+mod work;
+mod workbench;
 
-pub use co_answers::{Work, Workbench};
+pub use answers::Answer;
 pub use co_streams::{Counted, Intake, Outlet, SessionFault};
+pub use queries::answer;
 pub use serving::{LIMIT, session, session_of_process};
+pub use work::Work;
+pub use workbench::Workbench;

@@ -3,7 +3,7 @@ ghost use Rattle.std.specs.Prelude.{◌≡◌};
 ghost use Rattle.std.specs.List.{concat};
 ghost use Rattle.workbench.specs.Views.{replies_of};
 
-use co_answers::Answer;
+use crate::answers::Answer;
 
 #[derive(Drop)]
 pub enum Reply {

@@ -1,20 +1,15 @@
 //! From a reader to a writer.
-ghost use Rattle.std.specs.Prelude.{◌≡◌, [], ◌≢◌, ◌<◌, ◌≤◌, ◌+◌, ◌++◌, ◌⊎◌, ℕ, List, length, take, true, OnOk, OnErr};
-ghost use Rattle.std.specs.Prelude.{IfOk, IfSome, IsErrOf, Err};
-ghost use Rattle.std.specs.Io.KnownBytes.{Consumes, IsAtEnd};
-ghost use Rattle.std.specs.List.{concat};
+ghost use Rattle.std.specs.Prelude.{◌≡◌, [], OnOk, IfOk, IfSome, IsErrOf};
 ghost use Rattle.std.specs.Option.{option_map};
-ghost use Rattle.co_streams.specs.Streams.{OneFailed};
-ghost use Rattle.co_streams.specs.Written.{Took, Posts};
-ghost use Rattle.workbench.specs.Replies.{replies, complete_replies, cut_off};
-ghost use Rattle.workbench.specs.Machine.{after, at_end, first_cursor, given, last_line};
+ghost use Rattle.co_streams.specs.Written.{Posts};
+ghost use Rattle.workbench.specs.Machine.{after, at_end, first_cursor, given};
+ghost use Rattle.workbench.specs.Session.{Serves};
 ghost use Rattle.workbench.specs.Views.{cursor_of, replies_of};
-ghost use Rattle.workbench.specs.Written.{WroteAll, WroteFirst, WroteFront, WroteAtLeast, PostsFirst};
+ghost use Rattle.workbench.specs.Written.{Puts};
 
 use crate::cursor::Cursor;
 use crate::reply::Reply;
-use co_answers::Work;
-use co_project::{EditFault, refusal};
+use crate::work::Work;
 use co_streams::{Intake, Outbox, Outlet, SessionFault};
 use co_text::split_once;
 use std::alloc::Global;
@@ -29,15 +24,11 @@ fn put_reply<W: Outlet>(
     writer: &mut W,
     reply: Reply,
 ) -> Result<(), SessionFault>
-    ensures ok { OnOk result (Posts (W.contents writer.old) outbox.old (W.contents writer.new) outbox.new
-        (concat (replies_of reply))) }
+    ensures puts { Puts W.Outlet writer.old outbox.old writer.new outbox.new (replies_of reply) result }
+
+    // Where memory runs out, nothing of it.
     ensures memory { IsErrOf result SessionFault.Memory
         → Posts (W.contents writer.old) outbox.old (W.contents writer.new) outbox.new [] }
-    ensures write { IsErrOf result SessionFault.Write → OneFailed (W.failures writer.old) (W.failures writer.new)
-        × Took (W.contents writer.old) (W.contents writer.new) (outbox.old ++ concat (replies_of reply)) }
-    ensures quiet { result ≢ Err SessionFault.Write → W.failures writer.new ≡ W.failures writer.old }
-    ensures flushed { result ≢ Err SessionFault.Write → W.flushed writer.old ≡ true → W.flushed writer.new ≡ true }
-    ensures never_read { result ≢ Err SessionFault.Read }
 {
     outbox.put(writer, reply.text())
 }
@@ -50,17 +41,8 @@ fn put_lines<W: Outlet>(
     piece: &[u8],
 ) -> Result<(), SessionFault>
     ensures cursor { OnOk result (cursor_of cursor.new ≡ (after (cursor_of cursor.old) piece.now).state) }
-    ensures ok { OnOk result (Posts (W.contents writer.old) outbox.old (W.contents writer.new) outbox.new
-        (concat (after (cursor_of cursor.old) piece.now).replies)) }
-    ensures memory { IsErrOf result SessionFault.Memory
-        → PostsFirst (W.contents writer.old) outbox.old (W.contents writer.new) outbox.new
-        (after (cursor_of cursor.old) piece.now).replies }
-    ensures write { IsErrOf result SessionFault.Write → OneFailed (W.failures writer.old) (W.failures writer.new)
-        × Took (W.contents writer.old) (W.contents writer.new)
-        (outbox.old ++ concat (after (cursor_of cursor.old) piece.now).replies) }
-    ensures quiet { result ≢ Err SessionFault.Write → W.failures writer.new ≡ W.failures writer.old }
-    ensures flushed { result ≢ Err SessionFault.Write → W.flushed writer.old ≡ true → W.flushed writer.new ≡ true }
-    ensures never_read { result ≢ Err SessionFault.Read }
+    ensures puts { Puts W.Outlet writer.old outbox.old writer.new outbox.new
+        (after (cursor_of cursor.old) piece.now).replies result }
 {
     let mut rest = piece;
     'lines: while let Some((line, after)) = split_once(rest, b'\n') {
@@ -72,54 +54,6 @@ fn put_lines<W: Outlet>(
     Ok(())
 }
 
-/// Ends a last line that has no LF.
-fn put_last_line<W: Outlet>(
-    cursor: &mut Cursor,
-    outbox: &mut Outbox,
-    writer: &mut W,
-) -> Result<(), SessionFault>
-    ensures cursor { OnOk result (cursor_of cursor.new ≡ (last_line (cursor_of cursor.old)).state) }
-    ensures ok { OnOk result (Posts (W.contents writer.old) outbox.old (W.contents writer.new) outbox.new
-        (concat (last_line (cursor_of cursor.old)).replies)) }
-    ensures memory { IsErrOf result SessionFault.Memory
-        → Posts (W.contents writer.old) outbox.old (W.contents writer.new) outbox.new [] }
-    ensures write { IsErrOf result SessionFault.Write → OneFailed (W.failures writer.old) (W.failures writer.new)
-        × Took (W.contents writer.old) (W.contents writer.new)
-        (outbox.old ++ concat (last_line (cursor_of cursor.old)).replies) }
-    ensures quiet { result ≢ Err SessionFault.Write → W.failures writer.new ≡ W.failures writer.old }
-    ensures flushed { result ≢ Err SessionFault.Write → W.flushed writer.old ≡ true → W.flushed writer.new ≡ true }
-    ensures never_read { result ≢ Err SessionFault.Read }
-{
-    if cursor.line.is_empty() {
-        return Ok(());
-    }
-    let reply = cursor.end_line()?;
-    put_reply(outbox, writer, reply)
-}
-
-/// Cuts off a block that isn't complete.
-fn put_cut_off<W: Outlet>(
-    cursor: &Cursor,
-    outbox: &mut Outbox,
-    writer: &mut W,
-) -> Result<(), SessionFault>
-    ensures ok { OnOk result (Posts (W.contents writer.old) outbox.old (W.contents writer.new) outbox.new
-        (concat (cut_off (cursor_of cursor.now).state.block))) }
-    ensures memory { IsErrOf result SessionFault.Memory
-        → Posts (W.contents writer.old) outbox.old (W.contents writer.new) outbox.new [] }
-    ensures write { IsErrOf result SessionFault.Write → OneFailed (W.failures writer.old) (W.failures writer.new)
-        × Took (W.contents writer.old) (W.contents writer.new)
-        (outbox.old ++ concat (cut_off (cursor_of cursor.now).state.block)) }
-    ensures quiet { result ≢ Err SessionFault.Write → W.failures writer.new ≡ W.failures writer.old }
-    ensures flushed { result ≢ Err SessionFault.Write → W.flushed writer.old ≡ true → W.flushed writer.new ≡ true }
-    ensures never_read { result ≢ Err SessionFault.Read }
-{
-    if cursor.block.is_some() {
-        return outbox.put(writer, refusal(EditFault::Truncated));
-    }
-    Ok(())
-}
-
 /// Takes the end of the input: ends a last line that has no LF, and cuts off a block that isn't
 /// complete. The replies go out or wait.
 fn put_end<W: Outlet>(
@@ -127,19 +61,11 @@ fn put_end<W: Outlet>(
     outbox: &mut Outbox,
     writer: &mut W,
 ) -> Result<(), SessionFault>
-    ensures ok { OnOk result (Posts (W.contents writer.old) outbox.old (W.contents writer.new) outbox.new
-        (concat (at_end (cursor_of cursor.old)))) }
-    ensures memory { IsErrOf result SessionFault.Memory
-        → PostsFirst (W.contents writer.old) outbox.old (W.contents writer.new) outbox.new
-        (at_end (cursor_of cursor.old)) }
-    ensures write { IsErrOf result SessionFault.Write → OneFailed (W.failures writer.old) (W.failures writer.new)
-        × Took (W.contents writer.old) (W.contents writer.new) (outbox.old ++ concat (at_end (cursor_of cursor.old))) }
-    ensures quiet { result ≢ Err SessionFault.Write → W.failures writer.new ≡ W.failures writer.old }
-    ensures flushed { result ≢ Err SessionFault.Write → W.flushed writer.old ≡ true → W.flushed writer.new ≡ true }
-    ensures never_read { result ≢ Err SessionFault.Read }
+    ensures puts { Puts W.Outlet writer.old outbox.old writer.new outbox.new (at_end (cursor_of cursor.old)) result }
 {
-    put_last_line(cursor, outbox, writer)?;
-    put_cut_off(cursor, outbox, writer)
+    let last = cursor.end_last_line()?;
+    put_reply(outbox, writer, last)?;
+    put_reply(outbox, writer, cursor.cut_off())
 }
 
 /// Takes the next piece of the input, or its end where there is none.
@@ -151,17 +77,8 @@ fn put_turn<W: Outlet>(
 ) -> Result<(), SessionFault>
     ensures cursor { OnOk result (IfSome piece.entry (λ p. cursor_of cursor.new
         ≡ (after (cursor_of cursor.old) p.now).state)) }
-    ensures ok { OnOk result (Posts (W.contents writer.old) outbox.old (W.contents writer.new) outbox.new
-        (concat (given (cursor_of cursor.old) (option_map (λ p. p.now) piece.entry)))) }
-    ensures memory { IsErrOf result SessionFault.Memory
-        → PostsFirst (W.contents writer.old) outbox.old (W.contents writer.new) outbox.new
-        (given (cursor_of cursor.old) (option_map (λ p. p.now) piece.entry)) }
-    ensures write { IsErrOf result SessionFault.Write → OneFailed (W.failures writer.old) (W.failures writer.new)
-        × Took (W.contents writer.old) (W.contents writer.new)
-        (outbox.old ++ concat (given (cursor_of cursor.old) (option_map (λ p. p.now) piece.entry))) }
-    ensures quiet { result ≢ Err SessionFault.Write → W.failures writer.new ≡ W.failures writer.old }
-    ensures flushed { result ≢ Err SessionFault.Write → W.flushed writer.old ≡ true → W.flushed writer.new ≡ true }
-    ensures never_read { result ≢ Err SessionFault.Read }
+    ensures puts { Puts W.Outlet writer.old outbox.old writer.new outbox.new
+        (given (cursor_of cursor.old) (option_map (λ p. p.now) piece.entry)) result }
 {
     match piece {
         Some(piece) => put_lines(cursor, outbox, writer, piece),
@@ -180,17 +97,10 @@ fn take_turn<W: Outlet>(
     ensures cursor { OnOk result (IfSome piece.entry (λ p. cursor_of cursor.new
         ≡ (after (cursor_of cursor.old) p.now).state)) }
     ensures empty { OnOk result (outbox.new ≡ []) }
-    ensures ok { OnOk result (WroteAll (W.contents writer.old) (W.contents writer.new)
-        (given (cursor_of cursor.old) (option_map (λ p. p.now) piece.entry))) }
-    ensures memory { IsErrOf result SessionFault.Memory
-        → WroteFirst (W.contents writer.old) (W.contents writer.new)
-        (given (cursor_of cursor.old) (option_map (λ p. p.now) piece.entry)) }
-    ensures write { IsErrOf result SessionFault.Write → OneFailed (W.failures writer.old) (W.failures writer.new)
-        × WroteFront (W.contents writer.old) (W.contents writer.new)
-        (given (cursor_of cursor.old) (option_map (λ p. p.now) piece.entry)) }
-    ensures quiet { result ≢ Err SessionFault.Write → W.failures writer.new ≡ W.failures writer.old }
-    ensures flushed { result ≢ Err SessionFault.Write → W.flushed writer.old ≡ true → W.flushed writer.new ≡ true }
-    ensures never_read { result ≢ Err SessionFault.Read }
+
+    // None of them waits then.
+    ensures puts { Puts W.Outlet writer.old [] writer.new []
+        (given (cursor_of cursor.old) (option_map (λ p. p.now) piece.entry)) result }
 {
     match put_turn(cursor, outbox, writer, piece) {
         Ok(()) => outbox.send(writer),
@@ -198,7 +108,8 @@ fn take_turn<W: Outlet>(
             outbox.send(writer)?;
             Err(SessionFault::Memory)
         }
-        Err(fault) => Err(fault),
+        Err(SessionFault::Read) => Err(SessionFault::Read),
+        Err(SessionFault::Write) => Err(SessionFault::Write),
     }
 }
 
@@ -210,30 +121,9 @@ fn converse<R: Intake, W: Outlet>(
     writer: &mut W,
 ) -> Result<Work, SessionFault>
     requires { cursor_of cursor.old ≡ first_cursor }
-    ensures replies { OnOk result (IfSome (R.remaining reader.old) (λ input.
-        WroteAll (W.contents writer.old) (W.contents writer.new) (replies input))) }
-    ensures ended { OnOk result (IsAtEnd (R.remaining reader.new)) }
-    ensures limit { OnOk result (IfSome (R.remaining reader.old) (λ input. length input ≤ LIMIT)) }
+    ensures serves { Serves R.Intake W.Outlet reader.old reader.new writer.old writer.new result }
     ensures segments { IfOk result (λ work. work.segments ≡ cursor.new.workbench.work.segments) }
     ensures parts { IfOk result (λ work. work.parts ≡ cursor.new.workbench.work.parts) }
-    ensures memory { IsErrOf result SessionFault.Memory → IfSome (R.remaining reader.old) (λ input.
-        WroteFirst (W.contents writer.old) (W.contents writer.new) (replies input)) }
-    ensures due { IsErrOf result SessionFault.Memory → (bytes last : List ℕ)
-        × Consumes (R.remaining reader.old) (R.remaining reader.new) (bytes ++ last)
-        × (length last ≤ 4096)
-        × WroteAtLeast (W.contents writer.old) (W.contents writer.new) (complete_replies bytes) }
-    ensures read { IsErrOf result SessionFault.Read → (bytes : List ℕ)
-        × Consumes (R.remaining reader.old) (R.remaining reader.new) bytes
-        × (OneFailed (R.failures reader.old) (R.failures reader.new)
-        ⊎ ((LIMIT < length bytes) × (R.failures reader.new ≡ R.failures reader.old)))
-        × WroteAll (W.contents writer.old) (W.contents writer.new) (complete_replies (take LIMIT bytes)) }
-    ensures write { IsErrOf result SessionFault.Write → OneFailed (W.failures writer.old) (W.failures writer.new) }
-    ensures taken { IsErrOf result SessionFault.Write → IfSome (R.remaining reader.old) (λ input.
-        WroteFront (W.contents writer.old) (W.contents writer.new) (replies input)) }
-    ensures reads { R.reads reader.new ≤ R.reads reader.old + (LIMIT + 1) }
-    ensures reader_quiet { result ≢ Err SessionFault.Read → R.failures reader.new ≡ R.failures reader.old }
-    ensures writer_quiet { result ≢ Err SessionFault.Write → W.failures writer.new ≡ W.failures writer.old }
-    ensures flushed { result ≢ Err SessionFault.Write → W.flushed writer.old ≡ true → W.flushed writer.new ≡ true }
 {
     let mut outbox = Outbox::new(alloc)?;
     let mut buffer = [0; 4096];
@@ -278,45 +168,7 @@ pub fn session<R: Intake, W: Outlet>(
     reader: &mut R,
     writer: &mut W,
 ) -> Result<Work, SessionFault>
-    // The replies to all of the input, and nothing else.
-    ensures replies { OnOk result (IfSome (R.remaining reader.old) (λ input.
-        WroteAll (W.contents writer.old) (W.contents writer.new) (replies input))) }
-
-    // All of the input was read, and it is within the limit.
-    ensures ended { OnOk result (IsAtEnd (R.remaining reader.new)) }
-    ensures limit { OnOk result (IfSome (R.remaining reader.old) (λ input. length input ≤ LIMIT)) }
-
-    // Where memory runs out, the first of the replies, each whole.
-    ensures memory { IsErrOf result SessionFault.Memory → IfSome (R.remaining reader.old) (λ input.
-        WroteFirst (W.contents writer.old) (W.contents writer.new) (replies input)) }
-
-    // Among them those that were due before the last read.
-    ensures due { IsErrOf result SessionFault.Memory → (bytes last : List ℕ)
-        × Consumes (R.remaining reader.old) (R.remaining reader.new) (bytes ++ last)
-        × (length last ≤ 4096)
-        × WroteAtLeast (W.contents writer.old) (W.contents writer.new) (complete_replies bytes) }
-
-    // Where reading stops, the replies to the commands that are complete in what was read.
-    ensures read { IsErrOf result SessionFault.Read → (bytes : List ℕ)
-        × Consumes (R.remaining reader.old) (R.remaining reader.new) bytes
-        × (OneFailed (R.failures reader.old) (R.failures reader.new)
-        ⊎ ((LIMIT < length bytes) × (R.failures reader.new ≡ R.failures reader.old)))
-        × WroteAll (W.contents writer.old) (W.contents writer.new) (complete_replies (take LIMIT bytes)) }
-
-    // Where writing stops, a front of the replies.
-    ensures write { IsErrOf result SessionFault.Write → OneFailed (W.failures writer.old) (W.failures writer.new) }
-    ensures taken { IsErrOf result SessionFault.Write → IfSome (R.remaining reader.old) (λ input.
-        WroteFront (W.contents writer.old) (W.contents writer.new) (replies input)) }
-
-    // It makes at most 67,108,865 reads.
-    ensures reads { R.reads reader.new ≤ R.reads reader.old + (LIMIT + 1) }
-
-    // No failure is passed over: the reader fails with Read alone, and the writer with Write alone.
-    ensures reader_quiet { result ≢ Err SessionFault.Read → R.failures reader.new ≡ R.failures reader.old }
-    ensures writer_quiet { result ≢ Err SessionFault.Write → W.failures writer.new ≡ W.failures writer.old }
-
-    // But for Write, what was written has also been flushed.
-    ensures flushed { result ≢ Err SessionFault.Write → W.flushed writer.old ≡ true → W.flushed writer.new ≡ true }
+    ensures serves { Serves R.Intake W.Outlet reader.old reader.new writer.old writer.new result }
 {
     let mut cursor = Cursor::new(alloc)?;
     converse(alloc, &mut cursor, reader, writer)
@@ -329,28 +181,7 @@ pub fn session_of_process<R: Intake, W: Outlet>(
     reader: &mut R,
     writer: &mut W,
 ) -> Result<Work, SessionFault>
-    ensures replies { OnOk result (IfSome (R.remaining reader.old) (λ input.
-        WroteAll (W.contents writer.old) (W.contents writer.new) (replies input))) }
-    ensures ended { OnOk result (IsAtEnd (R.remaining reader.new)) }
-    ensures limit { OnOk result (IfSome (R.remaining reader.old) (λ input. length input ≤ LIMIT)) }
-    ensures memory { IsErrOf result SessionFault.Memory → IfSome (R.remaining reader.old) (λ input.
-        WroteFirst (W.contents writer.old) (W.contents writer.new) (replies input)) }
-    ensures due { IsErrOf result SessionFault.Memory → (bytes last : List ℕ)
-        × Consumes (R.remaining reader.old) (R.remaining reader.new) (bytes ++ last)
-        × (length last ≤ 4096)
-        × WroteAtLeast (W.contents writer.old) (W.contents writer.new) (complete_replies bytes) }
-    ensures read { IsErrOf result SessionFault.Read → (bytes : List ℕ)
-        × Consumes (R.remaining reader.old) (R.remaining reader.new) bytes
-        × (OneFailed (R.failures reader.old) (R.failures reader.new)
-        ⊎ ((LIMIT < length bytes) × (R.failures reader.new ≡ R.failures reader.old)))
-        × WroteAll (W.contents writer.old) (W.contents writer.new) (complete_replies (take LIMIT bytes)) }
-    ensures write { IsErrOf result SessionFault.Write → OneFailed (W.failures writer.old) (W.failures writer.new) }
-    ensures taken { IsErrOf result SessionFault.Write → IfSome (R.remaining reader.old) (λ input.
-        WroteFront (W.contents writer.old) (W.contents writer.new) (replies input)) }
-    ensures reads { R.reads reader.new ≤ R.reads reader.old + (LIMIT + 1) }
-    ensures reader_quiet { result ≢ Err SessionFault.Read → R.failures reader.new ≡ R.failures reader.old }
-    ensures writer_quiet { result ≢ Err SessionFault.Write → W.failures writer.new ≡ W.failures writer.old }
-    ensures flushed { result ≢ Err SessionFault.Write → W.flushed writer.old ≡ true → W.flushed writer.new ≡ true }
+    ensures serves { Serves R.Intake W.Outlet reader.old reader.new writer.old writer.new result }
 {
     let cursor = Cursor::new(alloc)?;
     let mut cursor = ManuallyDrop::new(cursor);

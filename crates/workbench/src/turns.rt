@@ -3,13 +3,14 @@ ghost use Rattle.std.specs.Prelude.{◌≡◌, IfOk, None};
 ghost use Rattle.co_commands.specs.Requests.{request};
 ghost use Rattle.co_edits.specs.Eds.{block_lines};
 ghost use Rattle.co_project.specs.Project.{accept};
-ghost use Rattle.co_answers.specs.Queries.{answer};
+ghost use Rattle.workbench.specs.Queries.{answer};
 ghost use Rattle.workbench.specs.Replies.{after_line, after_request, in_block, after_verdict, after_query, is_skipped};
 ghost use Rattle.workbench.specs.Views.{taken_at, block_of, Refuses};
 
 use crate::open_block::OpenBlock;
+use crate::queries::answer;
 use crate::reply::Reply;
-use co_answers::{Workbench, answer};
+use crate::workbench::Workbench;
 use co_base::Octets;
 use co_commands::Query;
 use co_project::{Command, EditFault, Request, refusal};

@@ -2,7 +2,7 @@ use Rattle.std.proofs.Common.{◌≡◌, ◌∙◌, Some, option_map, rules}
 use Rattle.project_plan.specs.Network.{plan_of_project}
 use Rattle.kept_parts.specs.Made.{plan_made}
 use Rattle.kept_parts.specs.declared.part.Part.TheVariants as part
-use Rattle.co_answers.proofs.KeptFiles.{kept_now, one_is, plan_now}
+use Rattle.workbench.proofs.KeptFiles.{kept_now, one_is, plan_now}
 use Rattle.checks_answers.proofs.wrong.find_wrong.Goals as goal
 
 pub diagnostics-requires : goal.diagnostics-requires

@@ -67,26 +67,19 @@ returns-in_ok-state-in-Some-true-clause-served g c =
     subst (λ (x : ℕ × Placed). Serves image c.args.number c.args.here.state.bus x.1.kept) same (a.1.3.0 c.in-Some-true.field-0-test) in
     let f = first_from_lookup e.0 es e.1 found in
     let held = ap (λ (x : Shelved Placed). kept_of x.entries) (c.in_ok-state-in-Some-true.ensures.first e u.1.0)
-    ∙ promoted_fits e.0 es e.1 f c.args.shelf.now.capacity c.len-count.ensures.fits in (
-      e.1.kept,
-      (
-        f.rest,
-        (
-          0,
-          (
-            0,
-            (
-              used_served image es c.args.number e.0 c.args.here.state.bus e.1 e.1 c.requires.told.sound found serves found,
-              ap (λ (n : Numbered). n.bus) u.1.1,
-              u.1.2,
-              held,
-              (omega arith, refl),
-              omega (arith, a.1.4, first_recorded c.args.number es a.0 a.1.2),
-            ),
-          ),
-        ),
-      ),
-    )
+    ∙ promoted_fits e.0 es e.1 f c.args.shelf.now.capacity c.len-count.ensures.fits in
+    record {
+      kept = e.1.kept;
+      rest = f.rest;
+      ran = 0;
+      read = 0;
+      served = used_served image es c.args.number e.0 c.args.here.state.bus e.1 e.1 c.requires.told.sound found serves found;
+      end_is = ap (λ (n : Numbered). n.bus) u.1.1;
+      told_is = u.1.2;
+      held_is = held;
+      run = ((omega arith, omega arith), refl);
+      asked = omega (arith, a.1.4, first_recorded c.args.number es a.0 a.1.2);
+    }
 
 pub returns-in_ok-state-in-Some-true-clause-told : goal.returns-in_ok-state-in-Some-true-clause-told
 returns-in_ok-state-in-Some-true-clause-told g c =
@@ -135,50 +128,34 @@ pub returns-in_ok-end-in-Some-false-clause-served : goal.returns-in_ok-end-in-So
 returns-in_ok-end-in-Some-false-clause-served g c =
     let l = c.in_ok-ahead.ensures in
     let a = rw c.in-Some-false.is at l.answer in
-    let v = rw l.kept at c.in_ok-end-in-Some-false.ensures.served in
-    let x = v.1.1.1.1 in (
-      v.0,
-      (
-        v.1.0,
-        (
-          v.1.1.0,
-          (
-            v.1.1.1.0,
-            (
-              x.0,
-              x.1,
-              x.2,
-              x.3,
-              x.4,
-              omega (arith, x.5, a.1.4, first_recorded c.args.number c.args.shelf.now.entries a.0 a.1.2),
-            ),
-          ),
-        ),
-      ),
-    )
+    let v = c.in_ok-end-in-Some-false.ensures.served in
+    record {
+      kept = v.kept;
+      rest = v.rest;
+      ran = v.ran;
+      read = v.read;
+      served = rw l.kept at v.served;
+      end_is = v.end_is;
+      told_is = v.told_is;
+      held_is = v.held_is;
+      run = v.run;
+      asked = omega (arith, v.asked, a.1.4, first_recorded c.args.number c.args.shelf.now.entries a.0 a.1.2);
+    }
 
 pub returns-in_ok-end-in-None-clause-served : goal.returns-in_ok-end-in-None-clause-served
 returns-in_ok-end-in-None-clause-served g c =
     let l = c.in_ok-ahead.ensures in
     let a = rw c.in-None.is at l.answer in
-    let v = rw l.kept at c.in_ok-end-in-None.ensures.served in
-    let x = v.1.1.1.1 in (
-      v.0,
-      (
-        v.1.0,
-        (
-          v.1.1.0,
-          (
-            v.1.1.1.0,
-            (
-              x.0,
-              x.1,
-              x.2,
-              x.3,
-              x.4,
-              omega (arith, x.5, a.1, numbered_recorded c.args.number c.args.shelf.now.entries),
-            ),
-          ),
-        ),
-      ),
-    )
+    let v = c.in_ok-end-in-None.ensures.served in
+    record {
+      kept = v.kept;
+      rest = v.rest;
+      ran = v.ran;
+      read = v.read;
+      served = rw l.kept at v.served;
+      end_is = v.end_is;
+      told_is = v.told_is;
+      held_is = v.held_is;
+      run = v.run;
+      asked = omega (arith, v.asked, a.1, numbered_recorded c.args.number c.args.shelf.now.entries);
+    }

@@ -29,22 +29,19 @@ returns-clause-ran g c =
     let placed : c.new-2.result ≡ made end.state ran.told = c.new-2.ensures ∙ ap (λ (n : Numbered). made n c.in_ok-lines.lines) c.in_ok-copy.ensures
     ∙ ap (made end.state) lines in
     let bus : end.state.bus ≡ ran.end = reached_bus _ _ _ ran.end end.state c.in_ok-end.ensures.reached in
-    let told = rw (c.in_ok-share.ensures, lines) at c.in_ok-add.ensures.added in (
-      kept,
-      (
-        ran.reads.items,
-        (
-          rw placed at c.in_ok-add-2.ensures.ok,
-          refl,
-          refl,
-          refl,
-          rw c.bus.ensures at c.in_ok-ran.ensures.recorded,
-          rw bus (rw c.bus.ensures at c.in_ok-ran.ensures.gives),
-          told,
-          (λ contents h. c.in_ok-ran.ensures.known contents h),
-        ),
-      ),
-    )
+    let told = rw (c.in_ok-share.ensures, lines) at c.in_ok-add.ensures.added in
+    record {
+      kept = kept;
+      marked = ran.reads.items;
+      first = rw placed at c.in_ok-add-2.ensures.ok;
+      end_is = refl;
+      number_is = refl;
+      start_is = refl;
+      recorded = rw c.bus.ensures at c.in_ok-ran.ensures.recorded;
+      gives = rw bus (rw c.bus.ensures at c.in_ok-ran.ensures.gives);
+      told_is = told;
+      extends = λ contents h. c.in_ok-ran.ensures.known contents h;
+    }
 
 pub returns-clause-reached : goal.returns-clause-reached
 returns-clause-reached g c =

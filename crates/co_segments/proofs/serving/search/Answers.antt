@@ -58,26 +58,19 @@ returns-in_ok-state-in-Some-clause-served g c =
     let served = used_served image es c.args.number c.in-Some.key c.args.here.state.bus found.0 s c.requires.told.sound
     found.1.0 found.1.1 facts.0 in
     let held = ap (λ (x : Shelved Placed). kept_of x.entries) e.first
-    ∙ promoted_fits c.in-Some.key es s f c.args.shelf.now.capacity c.len-count.ensures.fits in (
-      s.kept,
-      (
-        f.rest,
-        (
-          0,
-          (
-            0,
-            (
-              served,
-              ap (λ (n : Numbered). n.bus) facts.1,
-              facts.2,
-              held,
-              (omega arith, refl),
-              omega (arith, c.in_ok-found.ensures.counted),
-            ),
-          ),
-        ),
-      ),
-    )
+    ∙ promoted_fits c.in-Some.key es s f c.args.shelf.now.capacity c.len-count.ensures.fits in
+    record {
+      kept = s.kept;
+      rest = f.rest;
+      ran = 0;
+      read = 0;
+      served = served;
+      end_is = ap (λ (n : Numbered). n.bus) facts.1;
+      told_is = facts.2;
+      held_is = held;
+      run = ((omega arith, omega arith), refl);
+      asked = omega (arith, c.in_ok-found.ensures.counted);
+    }
 
 pub returns-in_ok-state-in-Some-clause-told : goal.returns-in_ok-state-in-Some-clause-told
 returns-in_ok-state-in-Some-clause-told g c =
@@ -118,40 +111,32 @@ returns-in_ok-reached-in-None-clause-served g c =
     let shelf = c.args.shelf.now in
     let same = c.in_ok-found.ensures.kept in
     let e = c.in_ok-reached-in-None.ensures in
-    let kept = e.ran.0 in
-    let facts = e.ran.1.1 in
+    let ran = e.ran in
     let stale = rw c.in-None.is at c.in_ok-found.ensures.found in
-    let gives = rw same at facts.5 in
-    let recorded = rw same at facts.4 in
+    let gives = rw same at ran.gives in
+    let recorded = rw same at ran.recorded in
     let counted = rw same at e.counted in
     let placed : Placed = record {
-      kept = kept;
+      kept = ran.kept;
       start = c.args.here.state.number;
-      reads = e.ran.1.0;
+      reads = ran.marked;
       end = c.in_ok-reached-in-None.reached.state.number;
     } in
-    let held = ap (λ (x : Shelved Placed). kept_of x.entries) facts.0
-    ∙ kept_added shelf.capacity shelf.given placed es in (
-      kept,
-      (
-        kept_of es,
-        (
-          1,
-          (
-            length (reads (span c.args.number c.args.here.state.bus) image),
-            (
-              ran_served image (kept_of es) c.args.number c.args.here.state.bus kept stale facts.2 facts.3 gives
-                  recorded,
-              facts.1,
-              facts.6,
-              held,
-              (rw c.ran.ensures.counted (omega arith), rw c.ran.ensures.counted refl),
-              omega (arith, counted, c.in_ok-found.ensures.counted),
-            ),
-          ),
-        ),
-      ),
-    )
+    let held = ap (λ (x : Shelved Placed). kept_of x.entries) ran.first
+    ∙ kept_added shelf.capacity shelf.given placed es in
+    record {
+      kept = ran.kept;
+      rest = kept_of es;
+      ran = 1;
+      read = length (reads (span c.args.number c.args.here.state.bus) image);
+      served = ran_served image (kept_of es) c.args.number c.args.here.state.bus ran.kept stale ran.number_is ran.start_is
+          gives recorded;
+      end_is = ran.end_is;
+      told_is = ran.told_is;
+      held_is = held;
+      run = ((rw c.ran.ensures.counted (omega arith), rw c.ran.ensures.counted (omega arith)), rw c.ran.ensures.counted refl);
+      asked = omega (arith, counted, c.in_ok-found.ensures.counted);
+    }
 
 pub returns-in_ok-reached-in-None-clause-told : goal.returns-in_ok-reached-in-None-clause-told
 returns-in_ok-reached-in-None-clause-told g c =
@@ -161,14 +146,15 @@ returns-in_ok-reached-in-None-clause-told g c =
     let h = c.requires.told in
     let f = c.in_ok-found.ensures in
     let e = c.in_ok-reached-in-None.ensures in
-    let kept = e.ran.0 in
-    let facts = rw f.kept at e.ran.1.1 in
+    let ran = e.ran in
+    let extends = rw f.kept at ran.extends in
     let told = told_known image es c.args.given.now c.find.new.given c.args.now.now.reads c.find.new.now.reads c.args.here.state h f.buses
     (f.known h.meaning.contents h.known (λ x k. (h.named x k).reads)) in
-    let sound = sound_from_run image c.args.number c.args.here.state.bus kept facts.2 facts.3 facts.4 facts.5 in
-    rw facts.0 (told_reached image es c.find.new.given c.run_new.new.given c.find.new.now.reads c.run_new.new.now.reads c.args.here.state
-    c.in_ok-reached-in-None.reached.state shelf.capacity shelf.given kept e.ran.1.0 told sound facts.3 facts.1
-    (facts.7 told.meaning.contents told.known) e.reached)
+    let sound = sound_from_run image c.args.number c.args.here.state.bus ran.kept ran.number_is ran.start_is (rw f.kept at ran.recorded)
+    (rw f.kept at ran.gives) in
+    rw ran.first (told_reached image es c.find.new.given c.run_new.new.given c.find.new.now.reads c.run_new.new.now.reads c.args.here.state
+    c.in_ok-reached-in-None.reached.state shelf.capacity shelf.given ran.kept ran.marked told sound ran.start_is ran.end_is
+    (extends told.meaning.contents told.known) e.reached)
 
 pub returns-in_ok-reached-in-None-clause-segments : goal.returns-in_ok-reached-in-None-clause-segments
 returns-in_ok-reached-in-None-clause-segments g c =
@@ -178,12 +164,13 @@ returns-in_ok-reached-in-None-clause-segments g c =
     let h = c.requires.told in
     let f = c.in_ok-found.ensures in
     let e = c.in_ok-reached-in-None.ensures in
-    let kept = e.ran.0 in
-    let facts = rw f.kept at e.ran.1.1 in
+    let ran = e.ran in
+    let extends = rw f.kept at ran.extends in
     let told = told_known image es c.args.given.now c.find.new.given c.args.now.now.reads c.find.new.now.reads c.args.here.state h f.buses
     (f.known h.meaning.contents h.known (λ x k. (h.named x k).reads)) in
-    let sound = sound_from_run image c.args.number c.args.here.state.bus kept facts.2 facts.3 facts.4 facts.5 in
-    rw facts.0 (segments_from_told image _ c.run_new.new.given c.run_new.new.now.reads c.in_ok-reached-in-None.reached.state
+    let sound = sound_from_run image c.args.number c.args.here.state.bus ran.kept ran.number_is ran.start_is (rw f.kept at ran.recorded)
+    (rw f.kept at ran.gives) in
+    rw ran.first (segments_from_told image _ c.run_new.new.given c.run_new.new.now.reads c.in_ok-reached-in-None.reached.state
     (told_reached image es c.find.new.given c.run_new.new.given c.find.new.now.reads c.run_new.new.now.reads c.args.here.state
-    c.in_ok-reached-in-None.reached.state shelf.capacity shelf.given kept e.ran.1.0 told sound facts.3 facts.1
-    (facts.7 told.meaning.contents told.known) e.reached))
+    c.in_ok-reached-in-None.reached.state shelf.capacity shelf.given ran.kept ran.marked told sound ran.start_is ran.end_is
+    (extends told.meaning.contents told.known) e.reached))

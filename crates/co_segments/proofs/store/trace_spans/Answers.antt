@@ -26,7 +26,7 @@ loop-number-init g c =
     let whole : c.args.count - 0 ≡ c.args.count = omega arith in
     record {
       lines = rw (none, bus, whole) refl;
-      traced = rw entries (0, (0, (bus, refl, none, refl, refl), (omega arith, refl), omega arith));
+      traced = rw entries (0, (0, (bus, refl, none, refl, refl), ((omega arith, omega arith), refl), omega arith));
       ready = λ h. absurd (omega (arith, h));
       new = λ h. absurd (false≢true h);
       named = rw (entries, c.in_ok-state.ensures.is, c.new-now.ensures) (told_new image c.args.shelf.now.entries c.args.given.now _ c.new.result c.requires.segments c.in_ok-state.ensures.ok refl);
@@ -42,19 +42,18 @@ loop-number-preserved g c =
     let old = c.loop-number.invariant in
     let number = c.loop-number.number in
     let e = c.in_ok-end.ensures in
-    let served = rw old.kept at e.served in
-    let kept = served.0 in
-    let rest = served.1.0 in
-    let ran = served.1.1.0 in
-    let read = served.1.1.1.0 in
-    let facts = served.1.1.1.1 in
-    let is = facts.0 in
+    let served = e.served in
+    let kept = served.kept in
+    let rest = served.rest in
+    let ran = served.ran in
+    let read = served.read in
+    let is = rw old.kept at served.served in
     let gives = is.gives in
     let within : number < c.args.count = omega arith in
     let after = c.in_ok-end.end.state.bus in
-    let end : after ≡ kept.end = facts.1 in
-    let told : c.advance.new.told ≡ c.loop-number.told ++ kept.lines = facts.2 in
-    let held : kept_of c.advance.new.shelf.entries ≡ take c.args.shelf.now.capacity (kept ∷ rest) = rw old.capacity at facts.3 in
+    let end : after ≡ kept.end = served.end_is in
+    let told : c.advance.new.told ≡ c.loop-number.told ++ kept.lines = served.told_is in
+    let held : kept_of c.advance.new.shelf.entries ≡ take c.args.shelf.now.capacity (kept ∷ rest) = rw old.capacity at served.held_is in
     record {
       lines = turned_told span number c.args.count c.loop-number.here.state.bus after image within (end ∙ sym (ap (λ r. r.0) gives)) c.loop-number.told c.advance.new.told (told ∙ ap (λ r. c.loop-number.told ++ r.1) (sym gives)) ∙ old.lines;
       traced = (
@@ -62,8 +61,11 @@ loop-number-preserved g c =
         (
           old.traced.1.0 + read,
           traced_more image c.args.shelf.now.capacity (kept_of c.args.shelf.now.entries) number c.loop-number.here.state.bus after (kept_of c.loop-number.shelf.entries) (kept_of c.advance.new.shelf.entries) c.loop-number.told c.advance.new.told old.traced.0 old.traced.1.0 kept rest ran read old.traced.1.1 is end held told,
-          (omega (arith, old.traced.1.2.0, facts.4.0), facts.4.1 ∙ old.traced.1.2.1),
-          rw held (omega (arith, old.traced.1.3, facts.5, c.let_go.ensures.asks, recorded_served image (kept_of c.loop-number.shelf.entries) number c.loop-number.here.state.bus kept rest ran read c.args.shelf.now.capacity is)),
+          (
+            (omega (arith, old.traced.1.2.0.0, served.run.0.0), omega (arith, old.traced.1.2.0.1, served.run.0.1)),
+            served.run.1 ∙ old.traced.1.2.1,
+          ),
+          rw held (omega (arith, old.traced.1.3, served.asked, c.let_go.ensures.asks, recorded_served image (kept_of c.loop-number.shelf.entries) number c.loop-number.here.state.bus kept rest ran read c.args.shelf.now.capacity is)),
         ),
       );
       ready = λ h. rw (end ∙ sym (ap (λ r. r.0) gives)) (span_ready image c.requires.image number c.loop-number.here.state.bus old.ready);

@@ -3,16 +3,22 @@ use Rattle.can_bus.specs.Runs.{is_shown}
 use Rattle.co_segments.proofs.WindowLemmas.{spans_show_trace}
 use Rattle.co_segments.proofs.store.Store.trace_text.Goals as goal
 
+-- as many windows
+windows : {m n : ℕ} → m ≡ n → m / 10000 + 1 ≡ n / 10000 + 1
+windows e = ap (λ (k : ℕ). k / 10000 + 1) e
+
 pub returns-clause-lines : goal.returns-clause-lines
 returns-clause-lines g c =
     let image = (g.P.Asked.seen c.args.parts.now).image in
-    let count : c.from-count.result + 1 ≡ c.args.horizon / 10000 + 1 = ap (λ (n : ℕ). n + 1) c.from-count.ensures in
+    let count : c.from.result / 10000 + 1 ≡ c.args.horizon / 10000 + 1 = windows c.from.ensures in
     c.in_ok-keep_shown.ensures
     ∙ ap (filter (is_shown c.args.horizon)) c.in_ok-told.ensures.lines
-    ∙ spans_show_trace image c.args.horizon (c.from-count.result + 1) count
+    ∙ spans_show_trace image c.args.horizon (c.from.result / 10000 + 1) count
 
 pub returns-clause-traced : goal.returns-clause-traced
 returns-clause-traced g c =
     let t = c.in_ok-told.ensures.traced in
-    let count : c.from-count.result + 1 ≡ c.args.horizon / 10000 + 1 = ap (λ (n : ℕ). n + 1) c.from-count.ensures in
-    rw (← c.self.view_is) (t.0, (c.in_ok-told.told, (t.1.0, (t.1.1.0, rw count at t.1.1.1))))
+    let count : c.from.result / 10000 + 1 ≡ c.args.horizon / 10000 + 1 = windows c.from.ensures in
+    let traced = rw count at t.1.1.1 in
+    rw (← c.self.view_is)
+    (t.0, (c.in_ok-told.told, (t.1.0, (t.1.1.0, (traced.0, traced.1, rw c.take_asked-asked.ensures.asks traced.2)))))

@@ -8,14 +8,8 @@ returns-in-Kept-clause-brings c = rw c.in-Kept.is c.bring_kept.ensures.brings
 pub returns-in-Roster-clause-brings : goal.returns-in-Roster-clause-brings
 returns-in-Roster-clause-brings c = rw c.in-Roster.is c.bring_roster.ensures.brings
 
-pub returns-in-Defaults-clause-brings : goal.returns-in-Defaults-clause-brings
-returns-in-Defaults-clause-brings c = rw c.in-Defaults.is c.bring_defaults.ensures.brings
-
-pub returns-in-Shape-clause-brings : goal.returns-in-Shape-clause-brings
-returns-in-Shape-clause-brings c = rw c.in-Shape.is c.bring_shape.ensures.brings
-
-pub returns-in-Expect-clause-brings : goal.returns-in-Expect-clause-brings
-returns-in-Expect-clause-brings c = rw c.in-Expect.is c.bring_expect.ensures.brings
+pub returns-in-Node-clause-brings : goal.returns-in-Node-clause-brings
+returns-in-Node-clause-brings c = rw c.in-Node.is c.bring_device_parts.ensures.brings
 
 pub returns-in-Events-clause-brings : goal.returns-in-Events-clause-brings
 returns-in-Events-clause-brings c = rw c.in-Events.is c.bring_window.ensures.brings

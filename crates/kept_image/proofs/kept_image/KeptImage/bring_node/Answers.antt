@@ -3,14 +3,12 @@ use Rattle.kept_image.proofs.kept_image.KeptImage.bring_node.Goals as goal
 
 pub returns-clause-brings : goal.returns-clause-brings
 returns-clause-brings c =
-    node_brought c.args.project.now c.args.node c.args.self.now c.bring_defaults.new.self c.bring_shape.new.self
-    c.bring_expect.new.self c.bring_kept.new.self c.args.meter.now c.bring_defaults.new.meter c.bring_shape.new.meter
-    c.bring_expect.new.meter c.bring_kept.new.meter c.requires.plan c.in_ok-bring_defaults.ensures.brings
-    c.in_ok-bring_shape.ensures.brings c.in_ok-bring_expect.ensures.brings c.in_ok-bring_kept.ensures.brings
+    node_brought c.args.project.now c.args.node c.args.self.now c.bring_device_parts.new.self c.bring_kept.new.self
+    c.args.meter.now c.bring_device_parts.new.meter c.bring_kept.new.meter c.requires.plan
+    c.in_ok-bring_device_parts.ensures.brings c.in_ok-bring_kept.ensures.brings
 
 pub returns-clause-plan : goal.returns-clause-plan
 returns-clause-plan c =
-    plan_still c.args.project.now c.args.node c.args.self.now c.bring_defaults.new.self c.bring_shape.new.self
-    c.bring_expect.new.self c.bring_kept.new.self c.args.meter.now c.bring_defaults.new.meter c.bring_shape.new.meter
-    c.bring_expect.new.meter c.bring_kept.new.meter c.requires.plan c.in_ok-bring_defaults.ensures.brings
-    c.in_ok-bring_shape.ensures.brings c.in_ok-bring_expect.ensures.brings c.in_ok-bring_kept.ensures.brings
+    plan_still c.args.project.now c.args.node c.args.self.now c.bring_device_parts.new.self c.bring_kept.new.self
+    c.args.meter.now c.bring_device_parts.new.meter c.bring_kept.new.meter c.requires.plan
+    c.in_ok-bring_device_parts.ensures.brings c.in_ok-bring_kept.ensures.brings

@@ -5,8 +5,7 @@ use Rattle.kept_image.proofs.kept_image.KeptImage.new.Goals as goal
 
 pub returns-clause-is_of : goal.returns-clause-is_of
 returns-clause-is_of c =
-    all_marked _ c.new.ensures c.new-2.ensures.fresh c.new-3.ensures.fresh c.new-4.ensures.fresh c.new-5.ensures.fresh
-    c.new-6.ensures.fresh
+    all_marked _ c.new.ensures c.new-2.ensures.fresh c.new-3.ensures.fresh c.new-4.ensures.fresh
 
 pub returns-clause-swept : goal.returns-clause-swept
 returns-clause-swept c = λ p. unknown p _ refl

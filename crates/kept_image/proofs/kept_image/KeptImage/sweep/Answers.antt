@@ -10,15 +10,12 @@ pub returns-clause-left : goal.returns-clause-left
 returns-clause-left c =
     left c.args.project.now c.args.self.now (record c.args.self.now {
       parts = c.let_go.new.self;
-      defaults = c.keep_flagged.new.self;
-      shapes = c.keep_flagged-2.new.self;
-      expects = c.keep_flagged-3.new.self;
+      nodes = c.keep_flagged.new.self;
     }) c.let_go.ensures.left c.node_flags-nodes.result c.node_flags-nodes.ensures
-    refl c.keep_flagged.ensures.kept c.keep_flagged-2.ensures.kept c.keep_flagged-3.ensures.kept refl
+    refl c.keep_flagged.ensures.kept refl
 
 pub returns-clause-is_of : goal.returns-clause-is_of
 returns-clause-is_of c =
     left_is_of c.args.project.now c.args.self.now _ c.let_go.ensures.left c.node_flags-nodes.result
-    c.node_flags-nodes.ensures refl c.keep_flagged.ensures.kept c.keep_flagged-2.ensures.kept
-    c.keep_flagged-3.ensures.kept refl c.keep_flagged.ensures.fresh c.keep_flagged-2.ensures.fresh
-    c.keep_flagged-3.ensures.fresh c.let_go.ensures.is_of c.requires
+    c.node_flags-nodes.ensures refl c.keep_flagged.ensures.kept refl c.keep_flagged.ensures.fresh
+    c.let_go.ensures.is_of c.requires

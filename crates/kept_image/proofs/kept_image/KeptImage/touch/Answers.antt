@@ -15,26 +15,19 @@ returns-clause-same c =
     let new : KeptImage = record old {
       parts = c.touch.new.self;
       roster = c.mark_roster.new.roster;
-      defaults = c.mark_nodes.new.shelf;
-      shapes = c.mark_nodes-2.new.shelf;
-      expects = c.mark_nodes-3.new.shelf;
+      nodes = c.mark_nodes.new.nodes;
       windows = c.mark_windows.new.windows;
       swept = c.stays_swept-self.result;
     } in
     let roster =
     subst (λ (t : Touch). MarksOne (touches_roster t) old.roster new.roster) is c.mark_roster.ensures in
-    let defaults =
-    subst (λ (t : Touch). MarksAt (touches_node t) old.defaults new.defaults) is c.mark_nodes.ensures in
-    let shapes =
-    subst (λ (t : Touch). MarksAt (touches_node t) old.shapes new.shapes) is c.mark_nodes-2.ensures in
-    let expects =
-    subst (λ (t : Touch). MarksAt (touches_node t) old.expects new.expects) is c.mark_nodes-3.ensures in
+    let nodes = subst (λ (t : Touch). MarksAt (touches_node t) old.nodes new.nodes) is c.mark_nodes.ensures in
     let windows =
     subst (λ (events : Events). MarksAt (touches_window events (touch_of c.args.edit.now)) old.windows new.windows)
     c.events.ensures
     (subst (λ (t : Touch). MarksAt (touches_window c.events.result.now t) old.windows new.windows) is
     c.mark_windows.ensures) in
-    still_of c.args.project.now c.args.edit.now old new c.touch.ensures.held roster defaults shapes expects windows
+    still_of c.args.project.now c.args.edit.now old new c.touch.ensures.held roster nodes windows
     (c.touch.ensures.same c.args.project.now)
 
 pub returns-clause-follows : goal.returns-clause-follows
@@ -44,26 +37,19 @@ returns-clause-follows c =
     let new : KeptImage = record old {
       parts = c.touch.new.self;
       roster = c.mark_roster.new.roster;
-      defaults = c.mark_nodes.new.shelf;
-      shapes = c.mark_nodes-2.new.shelf;
-      expects = c.mark_nodes-3.new.shelf;
+      nodes = c.mark_nodes.new.nodes;
       windows = c.mark_windows.new.windows;
       swept = c.stays_swept-self.result;
     } in
     let roster =
     subst (λ (t : Touch). MarksOne (touches_roster t) old.roster new.roster) is c.mark_roster.ensures in
-    let defaults =
-    subst (λ (t : Touch). MarksAt (touches_node t) old.defaults new.defaults) is c.mark_nodes.ensures in
-    let shapes =
-    subst (λ (t : Touch). MarksAt (touches_node t) old.shapes new.shapes) is c.mark_nodes-2.ensures in
-    let expects =
-    subst (λ (t : Touch). MarksAt (touches_node t) old.expects new.expects) is c.mark_nodes-3.ensures in
+    let nodes = subst (λ (t : Touch). MarksAt (touches_node t) old.nodes new.nodes) is c.mark_nodes.ensures in
     let windows =
     subst (λ (events : Events). MarksAt (touches_window events (touch_of c.args.edit.now)) old.windows new.windows)
     c.events.ensures
     (subst (λ (t : Touch). MarksAt (touches_window c.events.result.now t) old.windows new.windows) is
     c.mark_windows.ensures) in
-    follows c.args.project.now c.args.edit.now old new c.touch.ensures.held roster defaults shapes expects windows
+    follows c.args.project.now c.args.edit.now old new c.touch.ensures.held roster nodes windows
     c.touch.ensures.follows
 
 pub returns-clause-still_swept : goal.returns-clause-still_swept
@@ -73,27 +59,20 @@ returns-clause-still_swept c =
     let new : KeptImage = record old {
       parts = c.touch.new.self;
       roster = c.mark_roster.new.roster;
-      defaults = c.mark_nodes.new.shelf;
-      shapes = c.mark_nodes-2.new.shelf;
-      expects = c.mark_nodes-3.new.shelf;
+      nodes = c.mark_nodes.new.nodes;
       windows = c.mark_windows.new.windows;
       swept = c.stays_swept-self.result;
     } in
     let roster =
     subst (λ (t : Touch). MarksOne (touches_roster t) old.roster new.roster) is c.mark_roster.ensures in
-    let defaults =
-    subst (λ (t : Touch). MarksAt (touches_node t) old.defaults new.defaults) is c.mark_nodes.ensures in
-    let shapes =
-    subst (λ (t : Touch). MarksAt (touches_node t) old.shapes new.shapes) is c.mark_nodes-2.ensures in
-    let expects =
-    subst (λ (t : Touch). MarksAt (touches_node t) old.expects new.expects) is c.mark_nodes-3.ensures in
+    let nodes = subst (λ (t : Touch). MarksAt (touches_node t) old.nodes new.nodes) is c.mark_nodes.ensures in
     let windows =
     subst (λ (events : Events). MarksAt (touches_window events (touch_of c.args.edit.now)) old.windows new.windows)
     c.events.ensures
     (subst (λ (t : Touch). MarksAt (touches_window c.events.result.now t) old.windows new.windows) is
     c.mark_windows.ensures) in
     still_swept c.args.project.now c.args.edit.now old new
-    (held_still c.args.project.now c.args.edit.now old new c.touch.ensures.held roster defaults shapes expects windows) c.stays_swept-self.ensures
+    (held_still c.args.project.now c.args.edit.now old new c.touch.ensures.held roster nodes windows) c.stays_swept-self.ensures
 
 pub returns-clause-swept_after : goal.returns-clause-swept_after
 returns-clause-swept_after c =
@@ -102,24 +81,17 @@ returns-clause-swept_after c =
     let new : KeptImage = record old {
       parts = c.touch.new.self;
       roster = c.mark_roster.new.roster;
-      defaults = c.mark_nodes.new.shelf;
-      shapes = c.mark_nodes-2.new.shelf;
-      expects = c.mark_nodes-3.new.shelf;
+      nodes = c.mark_nodes.new.nodes;
       windows = c.mark_windows.new.windows;
       swept = c.stays_swept-self.result;
     } in
     let roster =
     subst (λ (t : Touch). MarksOne (touches_roster t) old.roster new.roster) is c.mark_roster.ensures in
-    let defaults =
-    subst (λ (t : Touch). MarksAt (touches_node t) old.defaults new.defaults) is c.mark_nodes.ensures in
-    let shapes =
-    subst (λ (t : Touch). MarksAt (touches_node t) old.shapes new.shapes) is c.mark_nodes-2.ensures in
-    let expects =
-    subst (λ (t : Touch). MarksAt (touches_node t) old.expects new.expects) is c.mark_nodes-3.ensures in
+    let nodes = subst (λ (t : Touch). MarksAt (touches_node t) old.nodes new.nodes) is c.mark_nodes.ensures in
     let windows =
     subst (λ (events : Events). MarksAt (touches_window events (touch_of c.args.edit.now)) old.windows new.windows)
     c.events.ensures
     (subst (λ (t : Touch). MarksAt (touches_window c.events.result.now t) old.windows new.windows) is
     c.mark_windows.ensures) in
     swept_after c.args.project.now c.args.edit.now old new
-    (held_still c.args.project.now c.args.edit.now old new c.touch.ensures.held roster defaults shapes expects windows) c.stays_swept-self.ensures
+    (held_still c.args.project.now c.args.edit.now old new c.touch.ensures.held roster nodes windows) c.stays_swept-self.ensures

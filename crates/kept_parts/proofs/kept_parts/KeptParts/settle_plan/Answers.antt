@@ -58,7 +58,7 @@ returns-then-settle-clause-brings c =
     (plan_settled first.self.plan c.settle.new.self now current (c.settle.ensures.settled c.if-settle.true))
     (both_are p c.in_ok-devices.devices c.messages-messages.result.now c.in_ok-devices.ensures.value
     c.messages-messages.ensures)
-    first.meter first.meter (refreshes_none (first.self.plan.kept ≡ Some now) first.meter current))
+    first.meter first.meter (refreshes_none first.self.plan.kept (Some now) first.meter current))
 
 -- ---- or of others
 

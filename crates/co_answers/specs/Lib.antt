@@ -1,3 +1,0 @@
-pub mod Bench
-pub mod Queries
-pub mod Texts

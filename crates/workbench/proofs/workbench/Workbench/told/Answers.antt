@@ -1,0 +1,18 @@
+use Rattle.std.proofs.Common.{refl}
+use Rattle.workbench.proofs.workbench.Workbench.told.Goals as goal
+
+pub returns-clause-traces : goal.returns-clause-traces
+returns-clause-traces c =
+    let traced = c.in_ok-told.ensures.traced in
+    rw (← c.self.view_is) record {
+      between = c.refresh_all.new.meter;
+      end = traced.0;
+      told = traced.1.0;
+      ran = traced.1.1.0;
+      read = traced.1.1.1.0;
+      image = c.in_ok-refresh_all.ensures.brings;
+      traced = traced.1.1.1.1.0;
+      run = traced.1.1.1.1.1;
+      found = refl;
+      capacity = c.traced.ensures.capacity;
+    }

@@ -1,0 +1,69 @@
+//! The files of a node.
+ghost use Rattle.std.specs.Prelude.{◌≡◌, IfOk, IsTrue, OnOk, Some, is_some};
+ghost use Rattle.co_memo.specs.Stale.{AreBrought};
+ghost use Rattle.project_plan.specs.Network.{member_at};
+ghost use Rattle.kept_image.specs.Gone.{left_of, IsSwept};
+ghost use Rattle.kept_image.specs.Kept.{given, held, reached, same_part, IsOf};
+ghost use Rattle.workbench.specs.Queries.{concise_of, dcf_of};
+ghost use Rattle.co_memo.specs.Work.{Rises};
+
+use co_memo::{Meter, Shared};
+use co_project::Project;
+use kept_image::{ImagePart, KeptImage};
+use kept_parts::Part;
+use listed_text::{ListedBytes, ListedText};
+use std::alloc::AllocError;
+
+/// The DCF of a node: the one that is kept, which is first brought up to date. Want of memory is the only
+/// error; what is kept is then still of the project.
+pub(crate) fn dcf(
+    project: &Project,
+    image: &mut KeptImage,
+    meter: &mut Meter,
+    node: u8,
+) -> Result<Shared<ListedText>, AllocError>
+    requires is_of { IsOf project.now image.old }
+    requires swept { IsSwept project.now image.old }
+    requires node { IsTrue (is_some (member_at project.now node)) }
+    ensures file { IfOk result (λ text. dcf_of project.now node ≡ Some text) }
+    ensures brings { OnOk result (AreBrought same_part (given project.now)
+        (reached project.now (ImagePart.Kept (Part.Dcf node)))
+        (left_of project.now image.old) (held image.new) meter.old meter.new) }
+    ensures is_of { IsOf project.now image.new }
+    ensures swept { IsSwept project.now image.new }
+    ensures rises { Rises meter.old meter.new }
+{
+    image.refresh(&ImagePart::Kept(Part::Dcf(node)), project, meter)?;
+    let Some(kept) = image.dcf(node) else {
+        unreachable!()
+    };
+    let text = kept.share()?;
+    Ok(text)
+}
+
+/// The concise DCF of a node: the one that is kept, which is first brought up to date. Want of memory is
+/// the only error; what is kept is then still of the project.
+pub(crate) fn concise(
+    project: &Project,
+    image: &mut KeptImage,
+    meter: &mut Meter,
+    node: u8,
+) -> Result<Shared<ListedBytes>, AllocError>
+    requires is_of { IsOf project.now image.old }
+    requires swept { IsSwept project.now image.old }
+    requires node { IsTrue (is_some (member_at project.now node)) }
+    ensures file { IfOk result (λ bytes. concise_of project.now node ≡ Some bytes) }
+    ensures brings { OnOk result (AreBrought same_part (given project.now)
+        (reached project.now (ImagePart.Kept (Part.Concise node)))
+        (left_of project.now image.old) (held image.new) meter.old meter.new) }
+    ensures is_of { IsOf project.now image.new }
+    ensures swept { IsSwept project.now image.new }
+    ensures rises { Rises meter.old meter.new }
+{
+    image.refresh(&ImagePart::Kept(Part::Concise(node)), project, meter)?;
+    let Some(kept) = image.concise(node) else {
+        unreachable!()
+    };
+    let bytes = kept.share()?;
+    Ok(bytes)
+}

@@ -1,0 +1,43 @@
+//! The trace of a project.
+ghost use Rattle.std.specs.Prelude.{◌≡◌, ◌+◌, ◌/◌, ℕ, IfOk, List};
+ghost use Rattle.can_bus.specs.Bus.{Bus};
+ghost use Rattle.can_bus.specs.declared.line.Line.{Line as Told};
+ghost use Rattle.co_segments.specs.Segments.{HasRun, Traced};
+ghost use Rattle.network_image.specs.Image.{image_of};
+ghost use Rattle.network_image.specs.Network.{image_held};
+ghost use Rattle.workbench.specs.Queries.{trace_of};
+ghost use Rattle.co_memo.specs.Work.{Rises};
+
+use co_depend::ProjectParts;
+use co_memo::Meter;
+use co_project::Project;
+use co_segments::Store;
+use network_image::NetworkParts;
+use std::alloc::{AllocError, Global};
+use trace_text::TraceText;
+
+/// The trace of the network of a project with its text, by its parts and the segments that are kept. Want of memory is the
+/// only error; other segments may then be held, each of them valid.
+#[tactic(auto, unfolding(crate::specs::Queries::trace_of))]
+pub(crate) fn traced(
+    alloc: Global,
+    project: &Project,
+    network: NetworkParts,
+    store: &mut Store,
+    meter: &mut Meter,
+) -> Result<TraceText, AllocError>
+    requires { image_held network ≡ image_of project.now }
+    ensures lines { IfOk result (λ told. told ≡ trace_of project.now) }
+    ensures traced { IfOk result (λ told. (end : Bus) × ((all : List Told) × ((ran : ℕ) × ((read : ℕ) × (
+        Traced (image_of project.now) store.old.capacity store.old.segments (project.now.horizon / 10000 + 1)
+        end store.new.segments all ran read
+        × HasRun ran meter.old meter.new))))) }
+    ensures capacity { store.new.capacity ≡ store.old.capacity }
+    ensures rises { Rises meter.old meter.new }
+{
+    project.keeps_to_rules();
+    let horizon = project.horizon();
+    let mut parts = ProjectParts::of(alloc, network);
+    let told = store.trace_text(&mut parts, horizon, meter)?;
+    Ok(told)
+}
