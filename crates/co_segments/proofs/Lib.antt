@@ -3,3 +3,5 @@ pub mod RecordedLemmas
 pub mod ValidLemmas
 pub mod PlacedLemmas
 pub mod NumberedLemmas
+pub mod StockLemmas
+pub mod AdvanceLemmas

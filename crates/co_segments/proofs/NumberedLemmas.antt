@@ -1,5 +1,6 @@
 -- Segments of a number.
-use Rattle.std.proofs.Common.{◌≡◌, ℕ, zero, suc, ◌+◌, ◌<◌, ◌≤◌, Bool, true, false, List, [], ◌∷◌, drop, length, None, Some, nat_eq, refl, sym, ap, ◌∙◌, arith}
+use Rattle.std.proofs.Common.{◌≡◌, ℕ, zero, suc, ◌+◌, ◌<◌, ◌≤◌, Bool, true, false, List, [], ◌∷◌, drop, length, None}
+use Rattle.std.proofs.Common.{Some, nat_eq, refl, sym, ap, ◌∙◌, arith}
 use Rattle.std.specs.Prelude.{if◌then◌else◌, slice_get}
 use Rattle.std.proofs.lemmas.Bool.{false≢true}
 use Rattle.std.proofs.lemmas.Bool.Decides.{nat_tests}
@@ -16,29 +17,34 @@ has_number : (a b : ℕ) → a ≡ b → nat_eq a b ≡ true
 has_number a b h = grind (arith, nat_tests)
 
 -- where none of the number serves, none does
-pub all_stale : (image : Image) (number : ℕ) (start : Bus) (es : List (ℕ × Placed)) → IsStale image (kept_of (numbered number es)) number start → IsStale image (kept_of es) number start
+pub all_stale : (image : Image) (number : ℕ) (start : Bus) (es : List (ℕ × Placed))
+    → IsStale image (kept_of (numbered number es)) number start → IsStale image (kept_of es) number start
 all_stale image number start [] h = h
-all_stale image number start (e ∷ es) h = (elim (nat_eq e.1.kept.number number) as (λ t. nat_eq e.1.kept.number number ≡ t → IsStale image (kept_of (e ∷ es)) number start) [
-  | true ↦ λ t.
-      let of = rw t at h in
-      one_stale image number start e es (λ s. of e.1.kept (head_in e.1.kept (kept_of (numbered number es))) s)
-      (all_stale image number start es (λ k c s. of k (tail_in e.1.kept (kept_of (numbered number es)) k c) s))
-  | false ↦ λ t.
-      one_stale image number start e es (λ s. false≢true (sym t ∙ has_number e.1.kept.number number s.0))
-      (all_stale image number start es (rw t at h))
-]) refl
+all_stale image number start (e ∷ es) h = (elim (nat_eq e.1.kept.number number) as
+    (λ t. nat_eq e.1.kept.number number ≡ t → IsStale image (kept_of (e ∷ es)) number start) [
+      | true ↦ λ t.
+          let of = rw t at h in
+          one_stale image number start e es (λ s. of e.1.kept (head_in e.1.kept (kept_of (numbered number es))) s)
+          (all_stale image number start es (λ k c s. of k (tail_in e.1.kept (kept_of (numbered number es)) k c) s))
+      | false ↦ λ t.
+          one_stale image number start e es (λ s. false≢true (sym t ∙ has_number e.1.kept.number number s.0))
+          (all_stale image number start es (rw t at h))
+    ]) refl
 
 -- those of the number have all its reads
-pub numbered_recorded : (number : ℕ) (es : List (ℕ × Placed)) → recorded_of number (kept_of (numbered number es)) ≤ recorded_of number (kept_of es)
+pub numbered_recorded : (number : ℕ) (es : List (ℕ × Placed))
+    → recorded_of number (kept_of (numbered number es)) ≤ recorded_of number (kept_of es)
 numbered_recorded number [] = omega arith
-numbered_recorded number (e ∷ es) = (elim (nat_eq e.1.kept.number number) as (λ t. nat_eq e.1.kept.number number ≡ t → recorded_of number (kept_of (numbered number (e ∷ es))) ≤ recorded_of number (kept_of (e ∷ es))) [
-  | true ↦ λ t. rw (t, t) (omega (arith, numbered_recorded number es))
-  | false ↦ λ t. rw t (omega (arith, numbered_recorded number es))
-]) refl
+numbered_recorded number (e ∷ es) = (elim (nat_eq e.1.kept.number number) as (λ t. nat_eq e.1.kept.number number ≡ t
+    → recorded_of number (kept_of (numbered number (e ∷ es))) ≤ recorded_of number (kept_of (e ∷ es))) [
+      | true ↦ λ t. rw (t, t) (omega (arith, numbered_recorded number es))
+      | false ↦ λ t. rw t (omega (arith, numbered_recorded number es))
+    ]) refl
 
 -- the rest from a place on
 pub rest_at : {X : Type 0} (xs : List X) (i : ℕ) (x : X) → slice_get xs i ≡ Some x → drop i xs ≡ x ∷ drop (i + 1) xs
-rest_at xs i x h = drop_more xs i x (slice_get_within xs i x h) ∙ ap (λ y. y ∷ drop (i + 1) xs) (get_or_from_slice_get xs i x x h)
+rest_at xs i x h = drop_more xs i x (slice_get_within xs i x h)
+    ∙ ap (λ y. y ∷ drop (i + 1) xs) (get_or_from_slice_get xs i x x h)
 
 -- within the list something stands at a place
 pub none_there : {X : Type 0} (xs : List X) (i : ℕ) → i < length xs → slice_get xs i ≡ None → ⊥
@@ -67,14 +73,16 @@ is_number : (a b : ℕ) → nat_eq a b ≡ true → a ≡ b
 is_number a b h = grind (arith, nat_tests)
 
 -- the first of a number has it
-first_number : (number : ℕ) (es : List (ℕ × Placed)) (e : ℕ × Placed) → slice_get (numbered number es) 0 ≡ Some e → e.1.kept.number ≡ number
+first_number : (number : ℕ) (es : List (ℕ × Placed)) (e : ℕ × Placed) → slice_get (numbered number es) 0 ≡ Some e
+    → e.1.kept.number ≡ number
 first_number number [] e h = absurd (none-some e h)
-first_number number (f ∷ es) e h = (elim (nat_eq f.1.kept.number number) as (λ t. nat_eq f.1.kept.number number ≡ t → e.1.kept.number ≡ number) [
-  | true ↦ λ t.
-      let same = same_Some f e (rw t at h) in
-      sym (ap (λ (x : ℕ × Placed). x.1.kept.number) same) ∙ is_number f.1.kept.number number t
-  | false ↦ λ t. first_number number es e (rw t at h)
-]) refl
+first_number number (f ∷ es) e h = (elim (nat_eq f.1.kept.number number) as
+    (λ t. nat_eq f.1.kept.number number ≡ t → e.1.kept.number ≡ number) [
+      | true ↦ λ t.
+          let same = same_Some f e (rw t at h) in
+          sym (ap (λ (x : ℕ × Placed). x.1.kept.number) same) ∙ is_number f.1.kept.number number t
+      | false ↦ λ t. first_number number es e (rw t at h)
+    ]) refl
 
 if_of : (b : Bool) (n : ℕ) → b ≡ true → (if b then n else 0) ≡ n
 if_of true n h = refl
@@ -87,8 +95,10 @@ if_most false n = omega arith
 
 -- the reads of the first of a number, and those of the others
 pub first_recorded : (number : ℕ) (es : List (ℕ × Placed)) (e : ℕ × Placed) → slice_get (numbered number es) 0 ≡ Some e
-    → length e.1.kept.reads + recorded_of number (kept_of (drop 1 (numbered number es))) ≤ recorded_of number (kept_of es)
+    → length e.1.kept.reads + recorded_of number (kept_of (drop 1 (numbered number es)))
+    ≤ recorded_of number (kept_of es)
 first_recorded number es e h =
-    let own = if_of (nat_eq e.1.kept.number number) (length e.1.kept.reads) (has_number e.1.kept.number number (first_number number es e h)) in
+    let own = if_of (nat_eq e.1.kept.number number) (length e.1.kept.reads)
+    (has_number e.1.kept.number number (first_number number es e h)) in
     let all = rw (rest_at (numbered number es) 0 e h) at (numbered_recorded number es) in
     omega (arith, own, all)

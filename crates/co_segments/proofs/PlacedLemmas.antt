@@ -1,29 +1,28 @@
 -- Segments with numbers of their states.
-use Rattle.std.proofs.Common.{◌≡◌, ℕ, zero, suc, ◌+◌, ◌≤◌, true, false, ◌⊎◌, inl, inr, List, [], ◌∷◌, ◌++◌, take, length, Contains, Option, Some, None, nat_eq, refl, sym, ap, subst, ◌∙◌, arith, length-append}
+use Rattle.std.proofs.Common.{◌≡◌, ℕ, zero, suc, ◌≤◌, true, false, ◌⊎◌, inl, inr, List, [], ◌∷◌, ◌++◌, take, length}
+use Rattle.std.proofs.Common.{Contains, Option, Some, None, nat_eq, refl, sym, ap, subst, ◌∙◌, arith, length-append}
 use Rattle.std.specs.Map.{lookup, lookup_entry, remove_entry}
 use Rattle.std.proofs.lemmas.List.{take_all}
 use Rattle.lru.specs.LruCache.{promoted}
 use Rattle.lru.proofs.CallerLemmas.{Contains-take, Contains-promoted}
 use Rattle.kept_shelf.proofs.EntryLemmas.{head_in, tail_in, in_cons, none_in}
-use Rattle.can_bus.specs.Bus.{Bus, blank_bus}
-use Rattle.co_segments.specs.Placed.{AreNamed, AreSegments, AreSound, IsLater, IsNamed, IsNew, IsReached, IsTold}
+use Rattle.can_bus.specs.Bus.{Bus}
+use Rattle.co_segments.specs.Placed.{AreNamed, AreSound, IsLater, IsNamed, IsNew, IsReached}
 use Rattle.co_segments.specs.Placed.{Meaning, Numbered, Placed, kept_of}
 use Rattle.co_segments.specs.declared.given.Given.{Given}
-use Rattle.co_parts.specs.declared.part.Part.{Part}
-use Rattle.kept_reads.specs.Reads.{AreMarked, Extends, Known, Recorded}
 use Rattle.kept_reads.specs.Records.{IsRecordOf}
 use Rattle.kept_reads.proofs.KnownLemmas.{all_marked_later}
-use Rattle.kept_reads.specs.Numbers.{KeepsMeaning, StandsFor, with_meaning}
-use Rattle.kept_reads.proofs.NumberLemmas.{given_keeps, given_stands, keeps_all, stands_later}
+use Rattle.kept_reads.proofs.NumberLemmas.{stands_later}
 use Rattle.asking.specs.Asking.{outcome, reads}
-use Rattle.co_parts.specs.Contents.{Image, RosterIs}
+use Rattle.co_parts.specs.Contents.{Image}
 use Rattle.co_segments.specs.Segments.{IsServed, IsSound, IsStale, IsTaken, Kept, Serves}
 use Rattle.bus_laws.specs.Spans.{span}
 use Rattle.co_segments.proofs.ValidLemmas.{gives_from_serves, valid_from_sound}
 
 -- ---- what a look-up finds
 
-pub in_lookup : (key : ℕ) (es : List (ℕ × Placed)) (s : Placed) → lookup (nat_eq key) es ≡ Some s → (k : ℕ) × Contains es (k, s)
+pub in_lookup : (key : ℕ) (es : List (ℕ × Placed)) (s : Placed) → lookup (nat_eq key) es ≡ Some s
+    → (k : ℕ) × Contains es (k, s)
 in_lookup key [] s h = cc
 in_lookup key (e ∷ es) s h = (elim (nat_eq key e.0) as (λ t. nat_eq key e.0 ≡ t → (k : ℕ) × Contains (e ∷ es) (k, s)) [
   | true ↦ λ t.
@@ -46,7 +45,8 @@ pub record IsFirst (key : ℕ) (es : List (ℕ × Placed)) (s : Placed) : Type 0
 none_some : (s : Placed) → None ≡ Some s → ⊥
 none_some s e = cc
 
-pub first_from_lookup : (key : ℕ) (es : List (ℕ × Placed)) (s : Placed) → lookup (nat_eq key) es ≡ Some s → IsFirst key es s
+pub first_from_lookup : (key : ℕ) (es : List (ℕ × Placed)) (s : Placed) → lookup (nat_eq key) es ≡ Some s
+    → IsFirst key es s
 first_from_lookup key [] s h = absurd (none_some s h)
 first_from_lookup key (e ∷ es) s h = (elim (nat_eq key e.0) as (λ t. nat_eq key e.0 ≡ t → IsFirst key (e ∷ es) s) [
   | true ↦ λ t.
@@ -54,7 +54,12 @@ first_from_lookup key (e ∷ es) s h = (elim (nat_eq key e.0) as (λ t. nat_eq k
       let same : e.1 ≡ s = cc in
       record {
         rest = kept_of es;
-        taken = record { before = []; after = kept_of es; held_is = ap (λ (p : Placed). p.kept ∷ kept_of es) same; rest_is = refl };
+        taken = record {
+          before = [];
+          after = kept_of es;
+          held_is = ap (λ (p : Placed). p.kept ∷ kept_of es) same;
+          rest_is = refl;
+        };
         others = rw t refl;
         key_found = e.0;
         found = rw t (ap (λ (p : Placed). Some (e.0, p)) same);
@@ -75,7 +80,8 @@ first_from_lookup key (e ∷ es) s h = (elim (nat_eq key e.0) as (λ t. nat_eq k
       }
 ]) refl
 
-pub kept_promoted : (key : ℕ) (es : List (ℕ × Placed)) (s : Placed) (f : IsFirst key es s) → kept_of (promoted (nat_eq key) es) ≡ s.kept ∷ f.rest
+pub kept_promoted : (key : ℕ) (es : List (ℕ × Placed)) (s : Placed) (f : IsFirst key es s)
+    → kept_of (promoted (nat_eq key) es) ≡ s.kept ∷ f.rest
 kept_promoted key es s f = rw f.found (ap (λ ks. s.kept ∷ ks) f.others)
 
 length_kept : (es : List (ℕ × Placed)) → length (kept_of es) ≡ length es
@@ -83,23 +89,34 @@ length_kept [] = refl
 length_kept (e ∷ es) = omega (arith, length_kept es)
 
 -- a held segment that goes first pushes none out
-pub promoted_fits : (key : ℕ) (es : List (ℕ × Placed)) (s : Placed) (f : IsFirst key es s) (capacity : ℕ) → length es ≤ capacity → kept_of (promoted (nat_eq key) es) ≡ take capacity (s.kept ∷ f.rest)
+pub promoted_fits : (key : ℕ) (es : List (ℕ × Placed)) (s : Placed) (f : IsFirst key es s) (capacity : ℕ)
+    → length es ≤ capacity → kept_of (promoted (nat_eq key) es) ≡ take capacity (s.kept ∷ f.rest)
 promoted_fits key es s f capacity fits =
     let all : length (kept_of es) ≡ length (f.taken.before ++ s.kept ∷ f.taken.after) = ap length f.taken.held_is in
     let some : length f.rest ≡ length (f.taken.before ++ f.taken.after) = ap length f.taken.rest_is in
     kept_promoted key es s f
-    ∙ sym (take_all capacity (s.kept ∷ f.rest) (omega (arith, fits, length_kept es, all, some, length-append f.taken.before (s.kept ∷ f.taken.after), length-append f.taken.before f.taken.after)))
+    ∙ sym (take_all capacity (s.kept ∷ f.rest) (omega (
+      arith,
+      fits,
+      length_kept es,
+      all,
+      some,
+      length-append f.taken.before (s.kept ∷ f.taken.after),
+      length-append f.taken.before f.taken.after,
+    )))
 
 kept_take : (n : ℕ) (es : List (ℕ × Placed)) → kept_of (take n es) ≡ take n (kept_of es)
 kept_take zero es = refl
 kept_take (suc n) [] = refl
 kept_take (suc n) (e ∷ es) = ap (λ ks. e.1.kept ∷ ks) (kept_take n es)
 
-pub kept_added : (n key : ℕ) (s : Placed) (es : List (ℕ × Placed)) → kept_of (take n ((key, s) ∷ es)) ≡ take n (s.kept ∷ kept_of es)
+pub kept_added : (n key : ℕ) (s : Placed) (es : List (ℕ × Placed))
+    → kept_of (take n ((key, s) ∷ es)) ≡ take n (s.kept ∷ kept_of es)
 kept_added n key s es = kept_take n ((key, s) ∷ es)
 
 -- a kept segment is that of an entry
-pub in_kept : (es : List (ℕ × Placed)) (k : Kept) → Contains (kept_of es) k → (e : ℕ × Placed) × (Contains es e × (e.1.kept ≡ k))
+pub in_kept : (es : List (ℕ × Placed)) (k : Kept) → Contains (kept_of es) k
+    → (e : ℕ × Placed) × (Contains es e × (e.1.kept ≡ k))
 in_kept [] k c = absurd (none_in k c)
 in_kept (e ∷ es) k c = elim (in_cons e.1.kept (kept_of es) k c) [
   | inl is ↦ (e, (head_in e es, is))
@@ -115,7 +132,8 @@ pub named_promoted : (m : Meaning) (given : Given) (key : ℕ) (es : List (ℕ �
     → AreNamed m given (promoted (nat_eq key) es)
 named_promoted m given key es h = λ e c. h e (Contains-promoted (nat_eq key) es e c)
 
-pub sound_added : (n key : ℕ) (s : Placed) (es : List (ℕ × Placed)) → IsSound s.kept → AreSound es → AreSound (take n ((key, s) ∷ es))
+pub sound_added : (n key : ℕ) (s : Placed) (es : List (ℕ × Placed)) → IsSound s.kept → AreSound es
+    → AreSound (take n ((key, s) ∷ es))
 sound_added n key s es sound h = λ e c. by e (in_cons (key, s) es e (Contains-take n ((key, s) ∷ es) e c))
   where
     by : (e : ℕ × Placed) → ((key, s) ≡ e) ⊎ Contains es e → IsSound e.1.kept
@@ -145,152 +163,6 @@ module _ (old new : Meaning) (given later : Given) (grows : IsLater old given ne
   pub all_later : (es : List (ℕ × Placed)) → AreNamed old given es → AreNamed new later es
   all_later es h = λ e c. one_later e.1 (h e c)
 
--- none at all
-pub no_segments : (es : List (ℕ × Placed)) (given : Given) → es ≡ [] → AreSegments es given
-no_segments [] given e = record {
-  sound = λ f k. absurd (none_in f k);
-  meaning = record { buses = λ n. blank_bus; contents = λ n. RosterIs None };
-  named = λ f k. absurd (none_in f k);
-}
-no_segments (f ∷ es) given e = cc
-
--- numbers that were given for nothing
-pub segments_later : (es : List (ℕ × Placed)) (given later : Given) → AreSegments es given → given.buses ≤ later.buses
-    → given.contents ≤ later.contents → AreSegments es later
-segments_later es given later h buses contents = record {
-  sound = h.sound;
-  meaning = h.meaning;
-  named = all_later h.meaning h.meaning given later (record {
-    more_buses = buses;
-    buses = keeps_all h.meaning.buses given.buses;
-    more_contents = contents;
-    contents = keeps_all h.meaning.contents given.contents;
-  }) es h.named;
-}
-
--- some of them
-pub segments_fewer : (es fs : List (ℕ × Placed)) (given : Given) → ((e : ℕ × Placed) → Contains fs e → Contains es e)
-    → AreSegments es given → AreSegments fs given
-segments_fewer es fs given fewer h = record {
-  sound = λ e c. h.sound e (fewer e c);
-  meaning = h.meaning;
-  named = λ e c. h.named e (fewer e c);
-}
-
-module _ (image : Image) where
-  -- the segments stand without the bus reached
-  pub segments_from_told : (es : List (ℕ × Placed)) (given : Given) (known : List (Part × Known)) (here : Numbered)
-      → IsTold image es given known here → AreSegments es given
-  segments_from_told es given known here h = record { sound = h.sound; meaning = h.meaning; named = h.named }
-
-  none_known : (k : Known) → None ≡ Some k → ⊥
-  none_known k e = cc
-
-  -- a new bus, where nothing is known of the image yet
-  pub told_new : (es : List (ℕ × Placed)) (given later : Given) (bus : Bus) → AreSegments es given
-      → later.buses ≡ given.buses + 1 → later.contents ≡ given.contents
-      → IsTold image es later [] (record { number = given.buses; bus = bus })
-  told_new es given later bus h e f =
-      let buses = with_meaning h.meaning.buses given.buses bus in
-      let m : Meaning = record { buses = buses; contents = h.meaning.contents } in
-      record {
-        sound = h.sound;
-        meaning = m;
-        named = all_later h.meaning m given later (record {
-          more_buses = omega (arith, e);
-          buses = given_keeps h.meaning.buses given.buses bus;
-          more_contents = omega (arith, f);
-          contents = keeps_all h.meaning.contents given.contents;
-        }) es h.named;
-        state = rw e (given_stands h.meaning.buses given.buses bus);
-        known = λ part k is. absurd (none_known k is);
-      }
-
-  -- more is known of the image
-  pub told_known : (es : List (ℕ × Placed)) (given later : Given) (known more : List (Part × Known)) (here : Numbered)
-      → (h : IsTold image es given known here) → later.buses ≡ given.buses
-      → Extends image h.meaning.contents given.contents later.contents more → IsTold image es later more here
-  told_known es given later known more here h same e =
-      let m : Meaning = record { buses = h.meaning.buses; contents = e.meaning } in
-      record {
-        sound = h.sound;
-        meaning = m;
-        named = all_later h.meaning m given later (record {
-          more_buses = omega (arith, same);
-          buses = keeps_all h.meaning.buses given.buses;
-          more_contents = e.more;
-          contents = e.keeps;
-        }) es h.named;
-        state = rw same h.state;
-        known = e.known;
-      }
-
-  -- one that is used goes first, and its end is reached
-  pub told_used : (es : List (ℕ × Placed)) (given : Given) (known : List (Part × Known)) (here : Numbered) (key : ℕ)
-      (s : Placed) → IsTold image es given known here → lookup (nat_eq key) es ≡ Some s
-      → IsTold image (promoted (nat_eq key) es) given known (record { number = s.end; bus = s.kept.end })
-  told_used es given known here key s h found =
-      let c = in_lookup key es s found in
-      record {
-        sound = sound_promoted key es h.sound;
-        meaning = h.meaning;
-        named = named_promoted h.meaning given key es h.named;
-        state = (h.named (c.0, s) c.1).end;
-        known = h.known;
-      }
-
-  -- one that was run goes first, and its end is reached: with a new number, or with that of a held segment's start
-  module _ (es : List (ℕ × Placed)) (given later : Given) (known more : List (Part × Known)) (here n : Numbered)
-      (capacity key : ℕ) (kept : Kept) (marked : List Recorded) (h : IsTold image es given known here)
-      (sound : IsSound kept) (start : kept.start ≡ here.bus) (same : n.bus ≡ kept.end)
-      (e : (x : Extends image h.meaning.contents given.contents later.contents more)
-      × AreMarked x.meaning later.contents marked) where
-    abbrev placed : Placed
-    placed = record { kept = kept; start = here.number; reads = marked; end = n.number }
-
-    told_by : (buses : ℕ → Bus) → KeepsMeaning given.buses h.meaning.buses buses → given.buses ≤ later.buses
-        → StandsFor buses later.buses n.number n.bus → IsTold image (take capacity ((key, placed) ∷ es)) later more n
-    told_by buses keeps grows end =
-        let m : Meaning = record { buses = buses; contents = e.0.meaning } in
-        let first : StandsFor buses later.buses here.number kept.start =
-        rw start (stands_later h.meaning.buses buses given.buses later.buses here.number here.bus keeps grows h.state) in
-        let last : StandsFor buses later.buses n.number kept.end =
-        subst (λ (b : Bus). StandsFor buses later.buses n.number b) same end in
-        record {
-          sound = sound_added capacity key placed es sound h.sound;
-          meaning = m;
-          named = named_added m later capacity key placed es (record { start = first; end = last; reads = e.1 })
-              (all_later h.meaning m given later (record {
-                more_buses = grows;
-                buses = keeps;
-                more_contents = e.0.more;
-                contents = e.0.keeps;
-              }) es h.named);
-          state = end;
-          known = e.0.known;
-        }
-
-    pub told_reached : IsReached es given.buses later.buses n.bus n
-        → IsTold image (take capacity ((key, placed) ∷ es)) later more n
-    told_reached how = elim how [
-      | inl new ↦ (
-          let number : n.number ≡ given.buses = ap (λ (x : Numbered). x.number) new.0 in
-          told_by (with_meaning h.meaning.buses given.buses n.bus) (given_keeps h.meaning.buses given.buses n.bus)
-          (omega (arith, new.1)) (rw (number, new.1) (given_stands h.meaning.buses given.buses n.bus))
-          )
-      | inr held ↦ (
-          let f = held.0.0 in
-          let is = held.0.1.1.0 in
-          let stands = (h.named f held.0.1.0).start in
-          let number : f.1.start ≡ n.number = sym (ap (λ (x : Numbered). x.number) is) in
-          let bus : f.1.kept.start ≡ n.bus = sym (ap (λ (x : Numbered). x.bus) is) in
-          told_by h.meaning.buses (keeps_all h.meaning.buses given.buses) (omega (arith, held.1)) (
-          subst (λ (b : Bus). StandsFor h.meaning.buses later.buses n.number b) bus
-          (subst (λ (i : ℕ). StandsFor h.meaning.buses later.buses i f.1.kept.start) number (rw held.1 stands))
-          )
-          )
-    ]
-
 pub reached_bus : (es : List (ℕ × Placed)) (given later : ℕ) (bus : Bus) (n : Numbered) → IsReached es given later bus n
     → n.bus ≡ bus
 reached_bus es given later bus n how = elim how [
@@ -300,11 +172,14 @@ reached_bus es given later bus n how = elim how [
 
 -- ---- which segment is of use
 
-pub none_stale : (image : Image) (number : ℕ) (start : Bus) (es : List (ℕ × Placed)) → length es ≡ 0 → IsStale image (kept_of es) number start
+pub none_stale : (image : Image) (number : ℕ) (start : Bus) (es : List (ℕ × Placed)) → length es ≡ 0
+    → IsStale image (kept_of es) number start
 none_stale image number start [] h = λ k c s. none_in k c
 none_stale image number start (e ∷ es) h = absurd (omega (arith, h))
 
-pub one_stale : (image : Image) (number : ℕ) (start : Bus) (e : ℕ × Placed) (es : List (ℕ × Placed)) → (Serves image number start e.1.kept → ⊥) → IsStale image (kept_of es) number start → IsStale image (kept_of (e ∷ es)) number start
+pub one_stale : (image : Image) (number : ℕ) (start : Bus) (e : ℕ × Placed) (es : List (ℕ × Placed))
+    → (Serves image number start e.1.kept → ⊥) → IsStale image (kept_of es) number start
+    → IsStale image (kept_of (e ∷ es)) number start
 one_stale image number start e es not rest = λ k c s. by k s (in_cons e.1.kept (kept_of es) k c)
   where
     by : (k : Kept) → Serves image number start k → (e.1.kept ≡ k) ⊎ Contains (kept_of es) k → ⊥
@@ -312,7 +187,8 @@ one_stale image number start e es not rest = λ k c s. by k s (in_cons e.1.kept 
     by k s (inr c) = rest k c s
 
 -- one of another number more, and those of a front of all
-pub new_added : (n key : ℕ) (s : Placed) (es : List (ℕ × Placed)) (number : ℕ) (bus : Bus) → (s.kept.number ≡ number → ⊥)
+pub new_added : (n key : ℕ) (s : Placed) (es : List (ℕ × Placed)) (number : ℕ) (bus : Bus)
+    → (s.kept.number ≡ number → ⊥)
     → IsNew es number bus → IsNew (take n ((key, s) ∷ es)) number bus
 new_added n key s es number bus other h = λ image k c serves.
     one_stale image number bus (key, s) es (λ x. other x.0) (h image) k
@@ -333,7 +209,8 @@ pub used_served : (image : Image) (es : List (ℕ × Placed)) (number key : ℕ)
     → IsServed image (kept_of es) number start s'.kept (first_from_lookup key es s' found).rest 0 0
 used_served image es number key start s s' h found serves found' =
     let same : s ≡ s' = some_same s s' (sym found ∙ found') in
-    let serves' : Serves image number start s'.kept = subst (λ (x : Placed). Serves image number start x.kept) same serves
+    let serves' : Serves image number start s'.kept =
+    subst (λ (x : Placed). Serves image number start x.kept) same serves
     in
     let c = in_lookup key es s' found' in
     record {

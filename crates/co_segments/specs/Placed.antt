@@ -2,11 +2,12 @@
 use Rattle.std.specs.Prelude.{Contains, List, map, refl, ℕ, ◌+◌, ◌≡◌, ◌≤◌, ◌⊎◌}
 use Rattle.std.specs.Coded.{Coded, code_by, coded×, coded_list, coded_ℕ}
 use Rattle.can_bus.specs.Bus.{Bus}
+use Rattle.can_bus.specs.declared.line.Line.{Line}
 use Rattle.co_parts.specs.Contents.{Content, Image}
 use Rattle.co_parts.specs.declared.part.Part.{Part}
 use Rattle.kept_shelf.specs.Numbers.{of_number}
 use Rattle.kept_reads.specs.Numbers.{KeepsMeaning, StandsFor}
-use Rattle.kept_reads.specs.Reads.{AreKnown, AreMarked, Known, Recorded}
+use Rattle.kept_reads.specs.Reads.{AreKnown, AreMarked, Extends, Known, Recorded, plain}
 use Rattle.co_segments.specs.declared.given.Given.{Given}
 use Rattle.co_segments.specs.Segments.{IsSound, IsStale, Kept}
 
@@ -28,9 +29,19 @@ pub record Placed : Type 0 where
 
 abbrev pub placed_code : Coded Kept → Coded Recorded → Coded Placed
 placed_code segment_code read_code =
-    code_by (Kept × (ℕ × (List Recorded × ℕ))) (coded× segment_code (coded× coded_ℕ (coded× (coded_list read_code) coded_ℕ)))
+    code_by (Kept × (ℕ × (List Recorded × ℕ)))
+    (coded× segment_code (coded× coded_ℕ (coded× (coded_list read_code) coded_ℕ)))
     (λ p. (p.kept, (p.start, (p.reads, p.end))))
     (λ p. record { kept = p.0; start = p.1.0; reads = p.1.1.0; end = p.1.1.1 }) (λ _. refl)
+
+-- the segment of a number from a bus on, by what was read and told, and the bus at its end
+abbrev pub placed_of : ℕ → Numbered → List Recorded → List Line → Numbered → Placed
+placed_of number start reads lines end = record {
+  kept = record { number = number; start = start.bus; reads = plain reads; lines = lines; end = end.bus };
+  start = start.number;
+  reads = reads;
+  end = end.number;
+}
 
 -- it is the bus that the segment starts from, with its number, and equal to a bus
 abbrev pub IsStart : Placed → Numbered → Bus → Type 0
@@ -52,6 +63,10 @@ IsNew entries number bus = (image : Image) → IsStale image (kept_of entries) n
 pub record Meaning : Type 0 where
   pub buses : ℕ → Bus
   pub contents : ℕ → Content
+
+-- as many numbers were given, or more
+abbrev pub IsMore : Given → Given → Type 0
+IsMore given later = (given.buses ≤ later.buses) × (given.contents ≤ later.contents)
 
 -- more numbers were given: those before stand for what they stood for
 pub record IsLater (old : Meaning) (given : Given) (new : Meaning) (later : Given) : Type 0 where
@@ -77,17 +92,17 @@ AreNamed m given entries = (e : ℕ × Placed) → Contains entries e → IsName
 abbrev pub AreSound : List (ℕ × Placed) → Type 0
 AreSound entries = (e : ℕ × Placed) → Contains entries e → IsSound e.1.kept
 
--- what holds of the segments of a store: each is valid, and NO NUMBER STANDS FOR TWO BUSES, or for two contents
-pub record AreSegments (entries : List (ℕ × Placed)) (given : Given) : Type 0 where
-  pub sound : AreSound entries
+-- the numbers of a segment, of a bus and of what is known of an image have one meaning: so the segment can be compared
+-- with the bus and the image
+pub record AreComparable (image : Image) (given : Given) (s : Placed) (here : Numbered)
+    (now : List (Part × Known)) : Type 0 where
   pub meaning : Meaning
-  pub named : AreNamed meaning given entries
-
--- the same, with the bus that a trace has reached, and what it knows of its image
-pub record IsTold (image : Image) (entries : List (ℕ × Placed)) (given : Given) (now : List (Part × Known))
-    (here : Numbered) : Type 0 where
-  pub sound : AreSound entries
-  pub meaning : Meaning
-  pub named : AreNamed meaning given entries
+  pub named : IsNamed meaning given s
   pub state : StandsFor meaning.buses given.buses here.number here.bus
   pub known : AreKnown image meaning.contents given.contents now
+
+-- more is known of an image once it was compared with what was read, and more numbers may be given: those before stand
+-- for what they stood for
+abbrev pub Learns : Image → List Recorded → Given → Given → List (Part × Known) → List (Part × Known) → Type 0
+Learns image reads given later now after = (contents : ℕ → Content) → AreKnown image contents given.contents now
+    → AreMarked contents given.contents reads → Extends image contents given.contents later.contents after

@@ -1,5 +1,5 @@
 -- Kept segments of a run.
-use Rattle.std.specs.Prelude.{◌≡◌, ℕ, zero, suc, ◌+◌, ◌≤◌, ◌⊎◌, List, [], ◌++◌, ◌∷◌, length}
+use Rattle.std.specs.Prelude.{◌≡◌, ℕ, zero, suc, ◌+◌, ◌⊎◌, List, [], ◌++◌, ◌∷◌, length}
 use Rattle.std.specs.Prelude.{Contains, take, nat_le, if◌then◌else◌, ◌==◌, refl}
 use Rattle.std.specs.Coded.{Coded, code_by, coded×, coded_list, coded_ℕ}
 use Rattle.asking.specs.Asking.{outcome, reads, Agrees}

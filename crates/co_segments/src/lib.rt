@@ -13,6 +13,8 @@ mod rejoining;
 mod segment;
 mod serving;
 mod sight;
+mod stock;
 mod store;
+mod telling;
 
 pub use store::Store;

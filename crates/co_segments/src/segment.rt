@@ -1,10 +1,8 @@
 //! A segment of a run.
 
-ghost use Rattle.std.specs.Prelude.{◌≡◌, ◌≤◌, ◌+◌, ◌↔◌, ℕ, length, if◌then◌else◌, ◌==◌, IfOk, MatchOption, OnOk, IsTrue};
-ghost use Rattle.co_parts.specs.Contents.{Content, Image};
-ghost use Rattle.kept_reads.specs.Numbers.{StandsFor};
-ghost use Rattle.kept_reads.specs.Reads.{AreKnown, AreMarked, Extends, plain};
-ghost use Rattle.co_segments.specs.Placed.{IsNamed, IsStart, Meaning};
+ghost use Rattle.std.specs.Prelude.{◌≡◌, ◌≤◌, ◌+◌, ◌↔◌, length, if◌then◌else◌, ◌==◌, IfOk, MatchOption, OnOk, IsTrue};
+ghost use Rattle.co_parts.specs.Contents.{Image};
+ghost use Rattle.co_segments.specs.Placed.{AreComparable, IsStart, Learns, placed_of};
 ghost use Rattle.co_segments.specs.Segments.{Serves};
 ghost use Rattle.co_segments.specs.Sights.{AreSightsOf};
 
@@ -36,26 +34,15 @@ impl Model for Segment {
     ghost use Rattle.can_bus.specs.contracts.line.Line as line;
     ghost use Rattle.co_parts.specs.contracts.read.Read as noted;
     ghost use Rattle.kept_reads.specs.contracts.kept_read.KeptRead as marked;
-    ghost use Rattle.kept_reads.specs.Reads.{plain};
-    ghost use Rattle.co_segments.specs.Placed.{Placed, placed_code};
+    ghost use Rattle.co_segments.specs.Placed.{Placed, placed_code, placed_of};
     ghost use Rattle.co_segments.specs.Segments.{kept_code};
 
     ghost Value = { Placed };
 
-    ghost coded = { placed_code (kept_code bus_state.the_row.coded noted.the_row.coded line.the_row.coded) marked.the_row.coded };
+    ghost coded = { placed_code
+        (kept_code bus_state.the_row.coded noted.the_row.coded line.the_row.coded) marked.the_row.coded };
 
-    ghost view = { λ a. record {
-      kept = record {
-        number = a.number;
-        start = a.start.bus;
-        reads = plain a.reads.items;
-        lines = a.told;
-        end = a.end.bus;
-      };
-      start = a.start.number;
-      reads = a.reads.items;
-      end = a.end.number;
-    } };
+    ghost view = { λ a. placed_of a.number a.start a.reads.items a.told a.end };
 }
 
 impl Numbered for Segment {
@@ -90,18 +77,7 @@ impl Segment {
         told: Shared<Passage>,
         end: NumberedBus,
     ) -> Segment
-        ensures { result ≡ record {
-          kept = record {
-            number = number;
-            start = start.bus;
-            reads = plain reads.items;
-            lines = told;
-            end = end.bus;
-          };
-          start = start.number;
-          reads = reads.items;
-          end = end.number;
-        } }
+        ensures { result ≡ placed_of number start reads.items told end }
     {
         Segment {
             number,
@@ -171,21 +147,17 @@ impl Segment {
     pub fn serves<P: Parts>(
         &self,
         alloc: Global,
-        now: &mut Look,
+        look: &mut Look,
         given: &mut Given,
         number: u64,
         state: &NumberedBus,
         parts: &mut P,
     ) -> Result<bool, AllocError>
-        requires { (m : Meaning) × (IsNamed m given.now self.now
-            × (StandsFor m.buses given.now.buses state.now.number state.now.bus
-            × AreKnown (P.seen parts.now).image m.contents given.now.contents now.now.reads)) }
+        requires { AreComparable (P.seen parts.now).image given.now self.now state.now look.now.reads }
         ensures answer { IfOk result (λ b. IsTrue b
             ↔ Serves (P.seen parts.old).image number state.now.bus self.now.kept) }
-        ensures known { OnOk result ((contents : ℕ → Content)
-            → AreKnown (P.seen parts.old).image contents given.old.contents now.old.reads
-            → AreMarked contents given.old.contents self.now.reads
-            → Extends (P.seen parts.old).image contents given.old.contents given.new.contents now.new.reads) }
+        ensures known { OnOk result (Learns (P.seen parts.old).image self.now.reads given.old given.new
+            look.old.reads look.new.reads) }
         ensures more { given.old.contents ≤ given.new.contents }
         ensures buses { given.new.buses ≡ given.old.buses }
         ensures counted { OnOk result (P.asks parts.new ≤ P.asks parts.old
@@ -198,7 +170,7 @@ impl Segment {
         if !self.start.same(state) {
             return Ok(false);
         }
-        let same = matches(alloc, now, &mut given.contents, parts, &self.reads)?;
+        let same = matches(alloc, look, &mut given.contents, parts, &self.reads)?;
         Ok(same)
     }
 }

@@ -1,28 +1,23 @@
 //! One segment of a trace.
 
-ghost use Rattle.std.specs.Prelude.{◌≡◌, ◌≤◌, ◌+◌, ◌++◌, ◌↔◌, ℕ, [], Contains, IfOk, IsTrue, MatchOption, None, OnOk, OnErr, Some, nat_eq, drop, length, slice_get};
+ghost use Rattle.std.specs.Prelude.{◌≡◌, ◌≤◌, ◌+◌, ℕ, [], IfOk, OnErr, OnOk, Some, drop, length, nat_eq, slice_get};
 ghost use Rattle.std.specs.Map.{lookup};
 ghost use Rattle.asking.specs.Asking.{reads};
 ghost use Rattle.bus_laws.specs.Spans.{span};
-ghost use Rattle.co_parts.specs.Contents.{Content};
-ghost use Rattle.co_parts.specs.Images.{IsImage};
-ghost use Rattle.kept_reads.specs.Numbers.{StandsFor};
-ghost use Rattle.kept_reads.specs.Reads.{AreKnown, AreMarked, Extends};
 ghost use Rattle.kept_shelf.specs.Shelves.{HasNumber, use_first};
-ghost use Rattle.co_segments.specs.Advances.{Advances, Runs, progress};
-ghost use Rattle.co_segments.specs.Placed.{AreNamed, AreSegments, IsNew, IsReached, IsTold, Meaning, Placed, kept_of, numbered};
-ghost use Rattle.co_segments.specs.Segments.{IsStale, Serves};
+ghost use Rattle.co_segments.specs.Advances.{CanRun, Goes, IsUsed, Runs, progress};
+ghost use Rattle.co_segments.specs.Placed.{IsMore, Placed};
 ghost use Rattle.co_segments.specs.Sights.{AreSightsOf};
-ghost use Rattle.recorded_spans.specs.Spans.{IsReady};
-ghost use Rattle.co_memo.specs.Work.{Rises};
+ghost use Rattle.co_segments.specs.Stocks.{ArePassed, AreSegments, LooksAhead, StandsAt, held_in, left_from};
 
 use crate::finding::find;
-use crate::given::Given;
 use crate::numbered_bus::NumberedBus;
 use crate::reached::Reached;
 use crate::rejoining::reach;
 use crate::segment::Segment;
 use crate::sight::Sight;
+use crate::stock::Stock;
+use crate::telling::Telling;
 use can_bus::{BusState, Parts};
 use co_memo::{Meter, Shared};
 use kept_shelf::Shelf;
@@ -57,8 +52,7 @@ pub(crate) fn give(
 
 /// Tells what a segment told, and gives the bus at its end.
 fn tell(segment: &Segment, told: &mut TraceText) -> Result<NumberedBus, AllocError>
-    ensures end { IfOk result (λ end. end ≡ record { number = segment.now.end; bus = segment.now.kept.end }) }
-    ensures told { OnOk result (told.new ≡ told.old ++ segment.now.kept.lines) }
+    ensures { IfOk result (λ end. IsUsed segment.now told.old told.new end) }
 {
     let lines = segment.told()?;
     told.add(lines)?;
@@ -68,8 +62,8 @@ fn tell(segment: &Segment, told: &mut TraceText) -> Result<NumberedBus, AllocErr
 /// Uses the segment that lies ahead, and puts it first.
 fn follow(shelf: &mut Shelf<Segment>, told: &mut TraceText) -> Result<NumberedBus, AllocError>
     requires { (e : ℕ × Placed) × (slice_get shelf.old.ahead 0 ≡ Some e) }
-    ensures used { IfOk result (λ end. (e : ℕ × Placed) × ((slice_get shelf.old.ahead 0 ≡ Some e)
-        × (end ≡ record { number = e.1.end; bus = e.1.kept.end }) × (told.new ≡ told.old ++ e.1.kept.lines))) }
+    ensures used { IfOk result (λ end. (e : ℕ × Placed)
+        × ((slice_get shelf.old.ahead 0 ≡ Some e) × IsUsed e.1 told.old told.new end)) }
     ensures first { OnOk result ((e : ℕ × Placed) → slice_get shelf.old.ahead 0 ≡ Some e
         → shelf.new ≡ record (use_first e.0 shelf.old) { ahead = drop 1 shelf.old.ahead }) }
     ensures err { OnErr result (shelf.new ≡ shelf.old) }
@@ -90,8 +84,8 @@ fn use_held(
 ) -> Result<NumberedBus, AllocError>
     requires settled { shelf.old.ahead ≡ [] }
     requires turn { HasNumber (λ (s : Placed). s.kept.number) key shelf.old.turn shelf.old.entries }
-    ensures used { IfOk result (λ end. (s : Placed) × ((lookup (nat_eq key) shelf.old.entries ≡ Some s)
-        × (end ≡ record { number = s.end; bus = s.kept.end }) × (told.new ≡ told.old ++ s.kept.lines))) }
+    ensures used { IfOk result (λ end. (s : Placed)
+        × ((lookup (nat_eq key) shelf.old.entries ≡ Some s) × IsUsed s told.old told.new end)) }
     ensures first { OnOk result (shelf.new ≡ use_first key shelf.old) }
     ensures err { OnErr result (shelf.new ≡ shelf.old) }
 {
@@ -105,80 +99,77 @@ fn use_held(
 
 /// Runs a segment, and puts it first.
 fn run_new<P: Parts>(
-    alloc: Global,
-    shelf: &mut Shelf<Segment>,
-    now: &mut Look,
-    given: &mut Given,
+    stock: &mut Stock,
+    telling: &mut Telling,
     number: u64,
-    state: NumberedBus,
-    apart: Option<usize>,
+    here: Reached,
     parts: &mut P,
-    told: &mut TraceText,
 ) -> Result<Reached, AllocError>
-    requires within { number ≤ 1000 }
-    requires settled { shelf.old.ahead ≡ [] }
-    requires turn { shelf.old.turn ≡ number }
-    requires image { IsImage (P.seen parts.now).image }
-    requires ready { IsReady number state.bus }
-    requires known { (contents : ℕ → Content) × AreKnown (P.seen parts.now).image contents given.now.contents now.now.reads }
-    ensures ran { IfOk result (λ end. Runs (P.seen parts.old).image number state shelf.old shelf.new told.old told.new
-        given.old.contents given.new.contents now.old.reads now.new.reads end.state) }
-    ensures reached { IfOk result (λ end. IsReached shelf.old.entries given.old.buses given.new.buses end.state.bus end.state) }
-    ensures new { IfOk result (λ end. IsTrue end.is_new → IsNew shelf.new.entries (number + 1) end.state.bus) }
-    ensures err { OnErr result (shelf.new ≡ shelf.old) }
-    ensures more { (given.old.buses ≤ given.new.buses) × (given.old.contents ≤ given.new.contents) }
+    requires settled { stock.old.shelf.ahead ≡ [] }
+    requires can { CanRun (P.seen parts.now).image number here.state.bus }
+    requires stands { StandsAt (P.seen parts.now).image number stock.old telling.old.look here }
+    ensures ran { IfOk result (λ end. Runs (P.seen parts.old).image number here.state.bus
+        stock.old stock.new telling.old telling.new end.state.bus) }
+    ensures stands { IfOk result (λ end. StandsAt (P.seen parts.old).image (number + 1)
+        stock.new telling.new.look end) }
+    ensures err { OnErr result (stock.new.shelf ≡ stock.old.shelf) }
+    ensures more { IsMore stock.old.given stock.new.given }
     ensures counted { OnOk result (P.asks parts.new ≤ P.asks parts.old
-        + length (reads (span number state.bus) (P.seen parts.old).image)) }
+        + length (reads (span number here.state.bus) (P.seen parts.old).image)) }
     ensures kept { (P.seen parts.new).image ≡ (P.seen parts.old).image }
 {
-    let ran = run(alloc, now, &mut given.contents, number, state.bus(), parts)?;
-    let lines = Shared::new(alloc, ran.told)?;
-    told.add(lines.share()?)?;
+    let ran = run(
+        stock.alloc,
+        &mut telling.look,
+        &mut stock.given.contents,
+        number,
+        here.state.bus(),
+        parts,
+    )?;
+    let lines = Shared::new(stock.alloc, ran.told)?;
+    telling.told.add(lines.share()?)?;
     let end = reach(
-        alloc,
-        shelf,
-        &mut given.buses,
+        stock.alloc,
+        &stock.shelf,
+        &mut stock.given.buses,
         number + 1,
         ran.end,
-        now.place,
-        apart,
+        telling.look.place,
+        here.apart,
     )?;
     let copy = end.state.share()?;
-    shelf.add(Segment::new(number, state, ran.reads, lines, copy))?;
+    let segment = Segment::new(number, here.state, ran.reads, lines, copy);
+    stock.shelf.add(segment)?;
     Ok(end)
 }
 
 /// Whether the segment that lies ahead serves, if one does: the first of its number.
 fn look_ahead<P: Parts>(
-    alloc: Global,
-    shelf: &Shelf<Segment>,
-    now: &mut Look,
-    given: &mut Given,
+    stock: &mut Stock,
+    look: &mut Look,
     number: u64,
     here: &Reached,
     parts: &mut P,
 ) -> Result<Option<bool>, AllocError>
-    requires turn { shelf.now.turn ≡ number }
-    requires named { (m : Meaning) × (AreNamed m given.now shelf.now.entries
-        × (StandsFor m.buses given.now.buses here.now.state.number here.now.state.bus
-        × AreKnown (P.seen parts.now).image m.contents given.now.contents now.now.reads)) }
-    ensures answer { IfOk result (λ answer. MatchOption answer ((slice_get shelf.now.ahead 0 ≡ None) × (P.asks parts.new ≡ P.asks parts.old)) (λ serves. (e : ℕ × Placed)
-        × ((slice_get shelf.now.ahead 0 ≡ Some e) × (lookup (nat_eq e.0) shelf.now.entries ≡ Some e.1)
-        × (slice_get (numbered number shelf.now.entries) 0 ≡ Some e)
-        × (IsTrue serves ↔ Serves (P.seen parts.old).image number here.now.state.bus e.1.kept)
-        × (P.asks parts.new ≤ P.asks parts.old + length e.1.kept.reads)))) }
-    ensures known { OnOk result ((contents : ℕ → Content)
-        → AreKnown (P.seen parts.old).image contents given.old.contents now.old.reads
-        → ((e : ℕ × Placed) → Contains shelf.now.entries e → AreMarked contents given.old.contents e.1.reads)
-        → Extends (P.seen parts.old).image contents given.old.contents given.new.contents now.new.reads) }
-    ensures more { given.old.contents ≤ given.new.contents }
-    ensures buses { given.new.buses ≡ given.old.buses }
+    requires { StandsAt (P.seen parts.now).image number stock.old look.old here.now }
+    ensures answer { IfOk result (λ answer. LooksAhead (P.seen parts.old).image number stock.old
+        here.now.state.bus answer (P.asks parts.old) (P.asks parts.new)) }
+    ensures stands { OnOk result (StandsAt (P.seen parts.old).image number stock.new look.new here.now) }
+    ensures segments { AreSegments stock.new }
+    ensures shelf { stock.new.shelf ≡ stock.old.shelf }
     ensures kept { (P.seen parts.new).image ≡ (P.seen parts.old).image }
 {
-    match shelf.next() {
+    match stock.shelf.next() {
         None => Ok(None),
         Some((_key, segment)) => {
-            let serves = segment.serves(alloc, now, given, number, &here.state, parts)?;
+            let serves = segment.serves(
+                stock.alloc,
+                look,
+                &mut stock.given,
+                number,
+                &here.state,
+                parts,
+            )?;
             Ok(Some(serves))
         }
     }
@@ -187,43 +178,27 @@ fn look_ahead<P: Parts>(
 /// The next segment of a trace: one that is held, from a place on among those of its number before which none
 /// serves, or else it is run. It is put first.
 fn search<P: Parts>(
-    alloc: Global,
-    shelf: &mut Shelf<Segment>,
-    now: &mut Look,
-    given: &mut Given,
+    stock: &mut Stock,
+    telling: &mut Telling,
     number: u64,
     from: usize,
     here: Reached,
     parts: &mut P,
     meter: &mut Meter,
-    told: &mut TraceText,
 ) -> Result<Reached, AllocError>
-    requires within { number ≤ 1000 }
-    requires settled { shelf.old.ahead ≡ [] }
-    requires turn { shelf.old.turn ≡ number }
-    requires passed { IsStale (P.seen parts.now).image (kept_of (drop from (numbered number shelf.old.entries))) number here.state.bus
-        → IsStale (P.seen parts.now).image (kept_of shelf.old.entries) number here.state.bus }
-    requires image { IsImage (P.seen parts.now).image }
-    requires ready { IsReady number here.state.bus }
-    requires told { IsTold (P.seen parts.now).image shelf.old.entries given.old now.old.reads here.state }
-    requires new { IsTrue here.is_new → IsNew shelf.old.entries number here.state.bus }
-    ensures served { IfOk result (λ end. Advances (P.seen parts.old).image shelf.old.capacity number here.state.bus
-        (kept_of (drop from (numbered number shelf.old.entries)))
-        (progress shelf.old.entries told.old meter.old (P.asks parts.old))
-        (progress shelf.new.entries told.new meter.new (P.asks parts.new)) end.state.bus) }
-    ensures told { IfOk result (λ end. IsTold (P.seen parts.old).image shelf.new.entries given.new now.new.reads end.state) }
-    ensures new { IfOk result (λ end. IsTrue end.is_new → IsNew shelf.new.entries (number + 1) end.state.bus) }
-    ensures segments { AreSegments shelf.new.entries given.new }
-    ensures turn { OnOk result (shelf.new.turn ≡ number + 1) }
-    ensures capacity { shelf.new.capacity ≡ shelf.old.capacity }
-    ensures kept { (P.seen parts.new).image ≡ (P.seen parts.old).image }
-    ensures rises { Rises meter.old meter.new }
+    requires settled { stock.old.shelf.ahead ≡ [] }
+    requires passed { ArePassed (P.seen parts.now).image number from stock.old here.state.bus }
+    requires can { CanRun (P.seen parts.now).image number here.state.bus }
+    requires stands { StandsAt (P.seen parts.now).image number stock.old telling.old.look here }
+    ensures { Goes P.Asked number here.state.bus (left_from number from stock.old)
+        (progress stock.old telling.old meter.old parts.old)
+        (progress stock.new telling.new meter.new parts.new) result }
 {
-    let _count = shelf.len();
-    let found = find(alloc, shelf, now, given, number, from, &here, parts)?;
+    let _count = stock.shelf.len();
+    let found = find(stock, &mut telling.look, number, from, &here, parts)?;
     match found {
         Some(key) => {
-            let state = use_held(shelf, key, told)?;
+            let state = use_held(&mut stock.shelf, key, &mut telling.told)?;
             Ok(Reached {
                 state,
                 is_new: false,
@@ -232,9 +207,7 @@ fn search<P: Parts>(
         }
         None => {
             meter.ran();
-            let reached = run_new(
-                alloc, shelf, now, given, number, here.state, here.apart, parts, told,
-            )?;
+            let reached = run_new(stock, telling, number, here, parts)?;
             Ok(reached)
         }
     }
@@ -242,80 +215,47 @@ fn search<P: Parts>(
 
 /// The same, once nothing lies ahead any more.
 fn pass_on<P: Parts>(
-    alloc: Global,
-    shelf: &mut Shelf<Segment>,
-    now: &mut Look,
-    given: &mut Given,
+    stock: &mut Stock,
+    telling: &mut Telling,
     number: u64,
     from: usize,
     here: Reached,
     parts: &mut P,
     meter: &mut Meter,
-    told: &mut TraceText,
 ) -> Result<Reached, AllocError>
-    requires within { number ≤ 1000 }
-    requires turn { shelf.old.turn ≡ number }
-    requires passed { IsStale (P.seen parts.now).image (kept_of (drop from (numbered number shelf.old.entries))) number here.state.bus
-        → IsStale (P.seen parts.now).image (kept_of shelf.old.entries) number here.state.bus }
-    requires image { IsImage (P.seen parts.now).image }
-    requires ready { IsReady number here.state.bus }
-    requires told { IsTold (P.seen parts.now).image shelf.old.entries given.old now.old.reads here.state }
-    requires new { IsTrue here.is_new → IsNew shelf.old.entries number here.state.bus }
-    ensures served { IfOk result (λ end. Advances (P.seen parts.old).image shelf.old.capacity number here.state.bus
-        (kept_of (drop from (numbered number shelf.old.entries)))
-        (progress shelf.old.entries told.old meter.old (P.asks parts.old))
-        (progress shelf.new.entries told.new meter.new (P.asks parts.new)) end.state.bus) }
-    ensures told { IfOk result (λ end. IsTold (P.seen parts.old).image shelf.new.entries given.new now.new.reads end.state) }
-    ensures new { IfOk result (λ end. IsTrue end.is_new → IsNew shelf.new.entries (number + 1) end.state.bus) }
-    ensures segments { AreSegments shelf.new.entries given.new }
-    ensures turn { OnOk result (shelf.new.turn ≡ number + 1) }
-    ensures capacity { shelf.new.capacity ≡ shelf.old.capacity }
-    ensures kept { (P.seen parts.new).image ≡ (P.seen parts.old).image }
-    ensures rises { Rises meter.old meter.new }
+    requires passed { ArePassed (P.seen parts.now).image number from stock.old here.state.bus }
+    requires can { CanRun (P.seen parts.now).image number here.state.bus }
+    requires stands { StandsAt (P.seen parts.now).image number stock.old telling.old.look here }
+    ensures { Goes P.Asked number here.state.bus (left_from number from stock.old)
+        (progress stock.old telling.old meter.old parts.old)
+        (progress stock.new telling.new meter.new parts.new) result }
 {
-    shelf.settle()?;
-    let end = search(
-        alloc, shelf, now, given, number, from, here, parts, meter, told,
-    )?;
+    stock.shelf.settle()?;
+    let end = search(stock, telling, number, from, here, parts, meter)?;
     Ok(end)
 }
 
 /// The next segment of a trace: one that is held, or else it is run. It is put first. What the trace before
 /// used lies ahead, and is looked at first.
 pub(crate) fn advance<P: Parts>(
-    alloc: Global,
-    shelf: &mut Shelf<Segment>,
-    now: &mut Look,
-    given: &mut Given,
+    stock: &mut Stock,
+    telling: &mut Telling,
     number: u64,
     here: Reached,
     parts: &mut P,
     meter: &mut Meter,
-    told: &mut TraceText,
 ) -> Result<Reached, AllocError>
-    requires within { number ≤ 1000 }
-    requires turn { shelf.old.turn ≡ number }
-    requires image { IsImage (P.seen parts.now).image }
-    requires ready { IsReady number here.state.bus }
-    requires told { IsTold (P.seen parts.now).image shelf.old.entries given.old now.old.reads here.state }
-    requires new { IsTrue here.is_new → IsNew shelf.old.entries number here.state.bus }
-    ensures served { IfOk result (λ end. Advances (P.seen parts.old).image shelf.old.capacity number here.state.bus
-        (kept_of shelf.old.entries)
-        (progress shelf.old.entries told.old meter.old (P.asks parts.old))
-        (progress shelf.new.entries told.new meter.new (P.asks parts.new)) end.state.bus) }
-    ensures told { IfOk result (λ end. IsTold (P.seen parts.old).image shelf.new.entries given.new now.new.reads end.state) }
-    ensures new { IfOk result (λ end. IsTrue end.is_new → IsNew shelf.new.entries (number + 1) end.state.bus) }
-    ensures segments { AreSegments shelf.new.entries given.new }
-    ensures turn { OnOk result (shelf.new.turn ≡ number + 1) }
-    ensures capacity { shelf.new.capacity ≡ shelf.old.capacity }
-    ensures kept { (P.seen parts.new).image ≡ (P.seen parts.old).image }
-    ensures rises { Rises meter.old meter.new }
+    requires can { CanRun (P.seen parts.now).image number here.state.bus }
+    requires stands { StandsAt (P.seen parts.now).image number stock.old telling.old.look here }
+    ensures { Goes P.Asked number here.state.bus (held_in stock.old)
+        (progress stock.old telling.old meter.old parts.old)
+        (progress stock.new telling.new meter.new parts.new) result }
 {
-    let _count = shelf.len();
-    let ahead = look_ahead(alloc, shelf, now, given, number, &here, parts)?;
+    let _count = stock.shelf.len();
+    let ahead = look_ahead(stock, &mut telling.look, number, &here, parts)?;
     match ahead {
         Some(true) => {
-            let state = follow(shelf, told)?;
+            let state = follow(&mut stock.shelf, &mut telling.told)?;
             Ok(Reached {
                 state,
                 is_new: false,
@@ -323,15 +263,11 @@ pub(crate) fn advance<P: Parts>(
             })
         }
         Some(false) => {
-            let end = pass_on(
-                alloc, shelf, now, given, number, 1, here, parts, meter, told,
-            )?;
+            let end = pass_on(stock, telling, number, 1, here, parts, meter)?;
             Ok(end)
         }
         None => {
-            let end = pass_on(
-                alloc, shelf, now, given, number, 0, here, parts, meter, told,
-            )?;
+            let end = pass_on(stock, telling, number, 0, here, parts, meter)?;
             Ok(end)
         }
     }

@@ -5,20 +5,21 @@ ghost use Rattle.can_bus.specs.Bus.{Bus};
 ghost use Rattle.can_bus.specs.Runs.{is_shown, trace as trace_of};
 ghost use Rattle.can_bus.specs.declared.line.Line.{Line as Told};
 ghost use Rattle.co_parts.specs.Images.{IsImage};
-ghost use Rattle.co_segments.specs.Placed.{AreSegments, kept_of};
+ghost use Rattle.co_segments.specs.Advances.{Traces};
 ghost use Rattle.co_segments.specs.Segments.{HasRun, IsSound, Kept, Traced, recorded_from};
+ghost use Rattle.co_segments.specs.Stocks.{AreSegments};
 ghost use Rattle.recorded_spans.specs.Spans.{lines_of_spans};
 ghost use Rattle.co_memo.specs.Work.{Rises};
 
 use crate::given::Given;
 use crate::reached::Reached;
-use crate::segment::Segment;
 use crate::serving::{advance, give};
+use crate::stock::Stock;
+use crate::telling::Telling;
 use can_bus::{BusState, Line, Parts};
 use co_memo::Meter;
 use co_parts::{END, WINDOW};
 use kept_shelf::Shelf;
-use recorded_spans::Look;
 use std::alloc::{AllocError, Global};
 use std::marker::Model;
 use trace_text::TraceText;
@@ -32,25 +33,23 @@ const RECORDED: u64 = 64;
 /// those of its span. So it is of use for any image, whatever was traced before.
 #[derive(Drop)]
 pub struct Store {
-    alloc: Global,
-    shelf: Shelf<Segment>,
-    given: Given,
+    stock: Stock,
 }
 
 impl Model for Store {
     ghost use Rattle.can_bus.specs.contracts.bus_state.BusState as bus_state;
     ghost use Rattle.can_bus.specs.contracts.line.Line as told;
     ghost use Rattle.co_parts.specs.contracts.read.Read as noted;
-    ghost use Rattle.co_segments.specs.Placed.{AreSegments, kept_of};
     ghost use Rattle.co_segments.specs.Segments.{Held, held_code, kept_code};
+    ghost use Rattle.co_segments.specs.Stocks.{AreSegments, held_in};
 
     ghost Value = { Held };
 
     ghost coded = { held_code (kept_code bus_state.the_row.coded noted.the_row.coded told.the_row.coded) };
 
-    ghost view = { λ a. record { capacity = a.shelf.capacity; segments = kept_of a.shelf.entries } };
+    ghost view = { λ a. record { capacity = a.stock.shelf.capacity; segments = held_in a.stock } };
 
-    ghost invariant = { λ a. AreSegments a.shelf.entries a.given };
+    ghost invariant = { λ a. AreSegments a.stock };
 }
 
 /// At each 64th window, lets go of the record of what was asked: windows that are used need none, and so it
@@ -66,44 +65,37 @@ fn let_go<P: Parts>(parts: &mut P, number: u64)
 
 /// What the first `count` spans tell.
 fn trace_spans<P: Parts>(
-    alloc: Global,
-    shelf: &mut Shelf<Segment>,
-    given: &mut Given,
+    stock: &mut Stock,
     parts: &mut P,
     count: u64,
     meter: &mut Meter,
 ) -> Result<TraceText, AllocError>
     requires within { count ≤ 1001 }
     requires image { IsImage (P.seen parts.now).image }
-    requires segments { AreSegments shelf.old.entries given.old }
+    requires segments { AreSegments stock.old }
     ensures lines { IfOk result (λ told. told ≡ lines_of_spans (P.seen parts.old).image count) }
-    ensures traced { IfOk result (λ told. (end : Bus) × ((ran : ℕ) × ((read : ℕ) × (
-        Traced (P.seen parts.old).image shelf.old.capacity (kept_of shelf.old.entries) count
-        end (kept_of shelf.new.entries) told ran read
-        × HasRun ran meter.old meter.new
-        × (P.asks parts.new ≤ P.asks parts.old + recorded_from 0 (kept_of shelf.old.entries) + read))))) }
-    ensures segments { AreSegments shelf.new.entries given.new }
-    ensures capacity { shelf.new.capacity ≡ shelf.old.capacity }
+    ensures traces { IfOk result (λ told. Traces P.Asked count stock.old stock.new meter.old meter.new
+        parts.old parts.new told) }
+    ensures segments { AreSegments stock.new }
+    ensures capacity { stock.new.shelf.capacity ≡ stock.old.shelf.capacity }
     ensures kept { (P.seen parts.new).image ≡ (P.seen parts.old).image }
     ensures rises { Rises meter.old meter.new }
 {
-    shelf.begin()?;
-    let mut told = TraceText::new(alloc);
-    let mut now = Look::new(alloc);
-    let state = give(alloc, &mut given.buses, BusState::new(alloc), None)?;
+    stock.shelf.begin()?;
+    let mut telling = Telling::new(stock.alloc);
+    let bus = BusState::new(stock.alloc);
+    let state = give(stock.alloc, &mut stock.given.buses, bus, None)?;
     let mut here = Reached {
         state,
         is_new: false,
         apart: None,
     };
     for number in 0..count {
-        let end = advance(
-            alloc, shelf, &mut now, given, number, here, parts, meter, &mut told,
-        )?;
+        let end = advance(stock, &mut telling, number, here, parts, meter)?;
         here = end;
         let_go(parts, number);
     }
-    Ok(told)
+    Ok(telling.told)
 }
 
 impl Store {
@@ -113,11 +105,13 @@ impl Store {
     {
         let shelf = Shelf::new(alloc, capacity)?;
         Ok(Store {
-            alloc,
-            shelf,
-            given: Given {
-                buses: 0,
-                contents: 0,
+            stock: Stock {
+                alloc,
+                shelf,
+                given: Given {
+                    buses: 0,
+                    contents: 0,
+                },
             },
         })
     }
@@ -151,14 +145,7 @@ impl Store {
         ensures rises { Rises meter.old meter.new }
     {
         let count = u64::from(horizon) / WINDOW + 1;
-        let mut told = trace_spans(
-            self.alloc,
-            &mut self.shelf,
-            &mut self.given,
-            parts,
-            count,
-            meter,
-        )?;
+        let mut told = trace_spans(&mut self.stock, parts, count, meter)?;
         let _asked = parts.take_asked();
         told.keep_shown(horizon)?;
         Ok(told)
@@ -196,6 +183,6 @@ impl Store {
         ensures count { result ≡ length self.now.segments }
         ensures sound { (kept : Kept) → Contains self.now.segments kept → IsSound kept }
     {
-        self.shelf.len()
+        self.stock.shelf.len()
     }
 }

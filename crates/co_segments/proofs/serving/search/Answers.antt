@@ -1,176 +1,148 @@
-use Rattle.std.proofs.Common.{length, refl, ap, ◌∙◌, arith}
+use Rattle.std.proofs.Common.{◌≡◌, ◌+◌, Some, false, length, nat_eq, refl, ap, ◌∙◌, arith}
+use Rattle.std.specs.Map.{lookup}
 use Rattle.asking.specs.Asking.{reads}
 use Rattle.bus_laws.specs.Spans.{span}
-use Rattle.kept_shelf.specs.Shelves.{Shelved}
+use Rattle.kept_shelf.specs.Shelves.{Shelved, use_first}
+use Rattle.co_segments.specs.declared.reached.Reached.{Reached}
+use Rattle.co_segments.specs.declared.stock.Stock.{Stock}
+use Rattle.co_segments.specs.declared.telling.Telling.{Telling}
+use Rattle.co_segments.specs.Advances.{progress}
 use Rattle.co_segments.specs.Placed.{Numbered, Placed, kept_of}
-use Rattle.co_segments.proofs.PlacedLemmas.{first_from_lookup, kept_added, promoted_fits, ran_served, segments_from_told}
-use Rattle.co_segments.proofs.PlacedLemmas.{segments_later, told_known, told_reached, told_used, used_served}
-use Rattle.co_segments.proofs.ValidLemmas.{sound_from_run}
+use Rattle.co_segments.specs.Stocks.{StandsAt}
+use Rattle.co_segments.proofs.AdvanceLemmas.{goes_wrong}
+use Rattle.co_segments.proofs.PlacedLemmas.{first_from_lookup, kept_added, promoted_fits, ran_served, used_served}
+use Rattle.co_segments.proofs.StockLemmas.{segments_from_told, segments_later, stands_used}
 use Rattle.co_segments.proofs.serving.search.Goals as goal
 
-pub find-requires : goal.find-requires
-find-requires g c =
-    let h = c.requires.told in
-    record {
-      named = (h.meaning, (h.named, (h.state, h.known)));
-      settled = c.requires.settled;
-      later = omega (arith, c.requires.turn);
-      passed = c.requires.passed;
-      new = c.requires.new;
-    }
-
-pub returns-in_err-found-clause-segments : goal.returns-in_err-found-clause-segments
-returns-in_err-found-clause-segments g c =
-    let image = (g.P.Asked.seen c.args.parts.now).image in
-    let es = c.args.shelf.now.entries in
+pub returns-in_err-found : goal.returns-in_err-found
+returns-in_err-found g c =
     let f = c.in_err-found.ensures in
-    segments_later es c.args.given.now c.find.new.given
-    (segments_from_told image es c.args.given.now c.args.now.now.reads c.args.here.state c.requires.told) (omega (arith, f.buses)) f.more
+    let telling : Telling = record c.args.telling.now { look = c.find.new.look } in
+    let new = progress c.find.new.stock telling c.args.meter.now c.find.new.parts in
+    goes_wrong {new = new} c.from_residual.ensures.0 f.segments (ap (λ (x : Shelved Placed). x.capacity) f.shelf) f.kept
+    (omega arith, omega arith)
 
-pub returns-in_err-state-in-Some-clause-segments : goal.returns-in_err-state-in-Some-clause-segments
-returns-in_err-state-in-Some-clause-segments g c =
-    let image = (g.P.Asked.seen c.args.parts.now).image in
-    let es = c.args.shelf.now.entries in
+pub use_held-requires-clause-settled : goal.use_held-requires-clause-settled
+use_held-requires-clause-settled g c = rw c.in_ok-found.ensures.shelf c.requires.settled
+
+pub use_held-requires-clause-turn : goal.use_held-requires-clause-turn
+use_held-requires-clause-turn g c =
     let f = c.in_ok-found.ensures in
-    rw c.in_err-state-in-Some.ensures.err (segments_later es c.args.given.now c.find.new.given
-    (segments_from_told image es c.args.given.now c.args.now.now.reads c.args.here.state c.requires.told) (omega (arith, f.buses))
-    f.more)
+    let found = rw c.in-Some.is at f.found in
+    rw f.shelf (found.0, (found.1.0, omega (arith, found.1.1.0, c.requires.stands.turn)))
 
-pub returns-in_err-reached-in-None-clause-segments : goal.returns-in_err-reached-in-None-clause-segments
-returns-in_err-reached-in-None-clause-segments g c =
-    let image = (g.P.Asked.seen c.args.parts.now).image in
-    let es = c.args.shelf.now.entries in
+pub returns-in_err-state-in-Some : goal.returns-in_err-state-in-Some
+returns-in_err-state-in-Some g c =
     let f = c.in_ok-found.ensures in
-    let e = c.in_err-reached-in-None.ensures in
-    rw e.err (segments_later es c.args.given.now c.run_new.new.given
-    (segments_from_told image es c.args.given.now c.args.now.now.reads c.args.here.state c.requires.told)
-    (omega (arith, f.buses, e.more.0)) (omega (arith, f.more, e.more.1)))
+    let same = c.in_err-state-in-Some.ensures.err in
+    let before : Stock = c.find.new.stock in
+    let after : Stock = record before { shelf = c.use_held.new.shelf } in
+    let segments =
+    segments_later before after (ap (λ (x : Shelved Placed). x.entries) same) (omega arith, omega arith) f.segments in
+    let telling : Telling = record { look = c.find.new.look; told = c.use_held.new.told } in
+    let new = progress after telling c.args.meter.now c.find.new.parts in
+    goes_wrong {new = new} c.from_residual-in_err-state-in-Some.ensures.0 segments
+    (ap (λ (x : Shelved Placed). x.capacity) (same ∙ f.shelf)) f.kept (omega arith, omega arith)
 
-pub returns-in_ok-state-in-Some-clause-served : goal.returns-in_ok-state-in-Some-clause-served
-returns-in_ok-state-in-Some-clause-served g c =
+pub returns-in_ok-state-in-Some : goal.returns-in_ok-state-in-Some
+returns-in_ok-state-in-Some g c =
     let image = (g.P.Asked.seen c.args.parts.now).image in
-    let es = c.args.shelf.now.entries in
-    let found = rw c.in-Some.is at c.in_ok-found.ensures.found in
+    let old = c.args.stock.now.shelf in
+    let number = c.args.number in
+    let key = c.in-Some.key in
+    let here = c.args.here.state.bus in
+    let f = c.in_ok-found.ensures in
+    let found = rw c.in-Some.is at f.found in
     let e = c.in_ok-state-in-Some.ensures in
     let s = e.used.0 in
-    let facts = e.used.1 in
-    let f = first_from_lookup c.in-Some.key es s facts.0 in
-    let served = used_served image es c.args.number c.in-Some.key c.args.here.state.bus found.0 s c.requires.told.sound
-    found.1.0 found.1.1 facts.0 in
-    let held = ap (λ (x : Shelved Placed). kept_of x.entries) e.first
-    ∙ promoted_fits c.in-Some.key es s f c.args.shelf.now.capacity c.len-count.ensures.fits in
+    let used = e.used.1.1 in
+    let held : lookup (nat_eq key) old.entries ≡ Some s = rw f.shelf at e.used.1.0 in
+    let first : c.use_held.new.shelf ≡ use_first key old = rw f.shelf at e.first in
+    let among = first_from_lookup key old.entries s held in
+    let before : Stock = c.find.new.stock in
+    let after : Stock = record before { shelf = c.use_held.new.shelf } in
+    let end : Reached = record { state = c.in_ok-state-in-Some.state; is_new = false; apart = c.args.here.apart } in
+    let stands : StandsAt image (number + 1) after c.find.new.look end =
+    stands_used image before after number c.find.new.look c.args.here end key s f.stands e.used.1.0
+    (ap (λ (x : Shelved Placed). x.entries) e.first) (ap (λ (x : Shelved Placed). x.turn) e.first) refl used.end_is
+    refl in
     record {
-      kept = s.kept;
-      rest = f.rest;
-      ran = 0;
-      read = 0;
-      served = served;
-      end_is = ap (λ (n : Numbered). n.bus) facts.1;
-      told_is = facts.2;
-      held_is = held;
-      run = ((omega arith, omega arith), refl);
-      asked = omega (arith, c.in_ok-found.ensures.counted);
+      advances = record {
+        kept = s.kept;
+        rest = among.rest;
+        ran = 0;
+        read = 0;
+        served = used_served image old.entries number key here found.0 s c.requires.stands.told.sound found.1.0
+            found.1.1 held;
+        end_is = ap (λ (n : Numbered). n.bus) used.end_is;
+        told_is = used.told_is;
+        held_is = ap (λ (x : Shelved Placed). kept_of x.entries) first
+            ∙ promoted_fits key old.entries s among old.capacity c.len-count.ensures.fits;
+        run = ((omega arith, omega arith), refl);
+        counted = omega (arith, f.counted);
+      };
+      stands = stands;
+      segments = segments_from_told image after c.find.new.look end.state stands.told;
+      capacity = ap (λ (x : Shelved Placed). x.capacity) first;
+      kept = f.kept;
+      rises = (omega arith, omega arith);
     }
 
-pub returns-in_ok-state-in-Some-clause-told : goal.returns-in_ok-state-in-Some-clause-told
-returns-in_ok-state-in-Some-clause-told g c =
-    let image = (g.P.Asked.seen c.args.parts.now).image in
-    let es = c.args.shelf.now.entries in
-    let h = c.requires.told in
+pub run_new-requires : goal.run_new-requires
+run_new-requires g c =
     let f = c.in_ok-found.ensures in
-    let e = c.in_ok-state-in-Some.ensures in
-    let told = told_known image es c.args.given.now c.find.new.given c.args.now.now.reads c.find.new.now.reads c.args.here.state h f.buses
-    (f.known h.meaning.contents h.known (λ x k. (h.named x k).reads)) in
-    rw (e.first, e.used.1.1)
-    (told_used image es c.find.new.given c.find.new.now.reads c.args.here.state c.in-Some.key e.used.0 told e.used.1.0)
-
-pub returns-in_ok-state-in-Some-clause-segments : goal.returns-in_ok-state-in-Some-clause-segments
-returns-in_ok-state-in-Some-clause-segments g c =
-    let image = (g.P.Asked.seen c.args.parts.now).image in
-    let es = c.args.shelf.now.entries in
-    let h = c.requires.told in
-    let f = c.in_ok-found.ensures in
-    let e = c.in_ok-state-in-Some.ensures in
-    let told = told_known image es c.args.given.now c.find.new.given c.args.now.now.reads c.find.new.now.reads c.args.here.state h f.buses
-    (f.known h.meaning.contents h.known (λ x k. (h.named x k).reads)) in
-    let used : Numbered = record { number = e.used.0.end; bus = e.used.0.kept.end } in
-    rw e.first (segments_from_told image _ c.find.new.given c.find.new.now.reads used
-    (told_used image es c.find.new.given c.find.new.now.reads c.args.here.state c.in-Some.key e.used.0 told e.used.1.0))
-
-pub run_new-requires-clause-known : goal.run_new-requires-clause-known
-run_new-requires-clause-known g c =
-    let h = c.requires.told in
-    let f = c.in_ok-found.ensures in
-    let e = f.known h.meaning.contents h.known (λ x k. (h.named x k).reads) in
-    (e.meaning, rw f.kept e.known)
-
-pub returns-in_ok-reached-in-None-clause-served : goal.returns-in_ok-reached-in-None-clause-served
-returns-in_ok-reached-in-None-clause-served g c =
-    let image = (g.P.Asked.seen c.args.parts.now).image in
-    let es = c.args.shelf.now.entries in
-    let shelf = c.args.shelf.now in
-    let same = c.in_ok-found.ensures.kept in
-    let e = c.in_ok-reached-in-None.ensures in
-    let ran = e.ran in
-    let stale = rw c.in-None.is at c.in_ok-found.ensures.found in
-    let gives = rw same at ran.gives in
-    let recorded = rw same at ran.recorded in
-    let counted = rw same at e.counted in
-    let placed : Placed = record {
-      kept = ran.kept;
-      start = c.args.here.state.number;
-      reads = ran.marked;
-      end = c.in_ok-reached-in-None.reached.state.number;
-    } in
-    let held = ap (λ (x : Shelved Placed). kept_of x.entries) ran.first
-    ∙ kept_added shelf.capacity shelf.given placed es in
     record {
-      kept = ran.kept;
-      rest = kept_of es;
-      ran = 1;
-      read = length (reads (span c.args.number c.args.here.state.bus) image);
-      served = ran_served image (kept_of es) c.args.number c.args.here.state.bus ran.kept stale ran.number_is ran.start_is
-          gives recorded;
-      end_is = ran.end_is;
-      told_is = ran.told_is;
-      held_is = held;
-      run = ((rw c.ran.ensures.counted (omega arith), rw c.ran.ensures.counted (omega arith)), rw c.ran.ensures.counted refl);
-      asked = omega (arith, counted, c.in_ok-found.ensures.counted);
+      settled = rw f.shelf c.requires.settled;
+      can = rw f.kept c.requires.can;
+      stands = rw f.kept f.stands;
     }
 
-pub returns-in_ok-reached-in-None-clause-told : goal.returns-in_ok-reached-in-None-clause-told
-returns-in_ok-reached-in-None-clause-told g c =
-    let image = (g.P.Asked.seen c.args.parts.now).image in
-    let es = c.args.shelf.now.entries in
-    let shelf = c.args.shelf.now in
-    let h = c.requires.told in
+pub returns-in_err-reached-in-None : goal.returns-in_err-reached-in-None
+returns-in_err-reached-in-None g c =
     let f = c.in_ok-found.ensures in
-    let e = c.in_ok-reached-in-None.ensures in
-    let ran = e.ran in
-    let extends = rw f.kept at ran.extends in
-    let told = told_known image es c.args.given.now c.find.new.given c.args.now.now.reads c.find.new.now.reads c.args.here.state h f.buses
-    (f.known h.meaning.contents h.known (λ x k. (h.named x k).reads)) in
-    let sound = sound_from_run image c.args.number c.args.here.state.bus ran.kept ran.number_is ran.start_is (rw f.kept at ran.recorded)
-    (rw f.kept at ran.gives) in
-    rw ran.first (told_reached image es c.find.new.given c.run_new.new.given c.find.new.now.reads c.run_new.new.now.reads c.args.here.state
-    c.in_ok-reached-in-None.reached.state shelf.capacity shelf.given ran.kept ran.marked told sound ran.start_is ran.end_is
-    (extends told.meaning.contents told.known) e.reached)
+    let e = c.in_err-reached-in-None.ensures in
+    let same : c.run_new.new.stock.shelf ≡ c.find.new.stock.shelf = e.err in
+    let segments =
+    segments_later c.find.new.stock c.run_new.new.stock (ap (λ (x : Shelved Placed). x.entries) same) e.more f.segments
+    in
+    let new = progress c.run_new.new.stock c.run_new.new.telling c.ran.new.self c.run_new.new.parts in
+    goes_wrong {new = new} c.from_residual-in_err-reached-in-None.ensures.0 segments
+    (ap (λ (x : Shelved Placed). x.capacity) (same ∙ f.shelf)) (rw e.kept f.kept) c.ran.ensures.rises
 
-pub returns-in_ok-reached-in-None-clause-segments : goal.returns-in_ok-reached-in-None-clause-segments
-returns-in_ok-reached-in-None-clause-segments g c =
+pub returns-in_ok-reached-in-None : goal.returns-in_ok-reached-in-None
+returns-in_ok-reached-in-None g c =
     let image = (g.P.Asked.seen c.args.parts.now).image in
-    let es = c.args.shelf.now.entries in
-    let shelf = c.args.shelf.now in
-    let h = c.requires.told in
+    let old = c.args.stock.now.shelf in
+    let number = c.args.number in
+    let here = c.args.here.state.bus in
     let f = c.in_ok-found.ensures in
     let e = c.in_ok-reached-in-None.ensures in
     let ran = e.ran in
-    let extends = rw f.kept at ran.extends in
-    let told = told_known image es c.args.given.now c.find.new.given c.args.now.now.reads c.find.new.now.reads c.args.here.state h f.buses
-    (f.known h.meaning.contents h.known (λ x k. (h.named x k).reads)) in
-    let sound = sound_from_run image c.args.number c.args.here.state.bus ran.kept ran.number_is ran.start_is (rw f.kept at ran.recorded)
-    (rw f.kept at ran.gives) in
-    rw ran.first (segments_from_told image _ c.run_new.new.given c.run_new.new.now.reads c.in_ok-reached-in-None.reached.state
-    (told_reached image es c.find.new.given c.run_new.new.given c.find.new.now.reads c.run_new.new.now.reads c.args.here.state
-    c.in_ok-reached-in-None.reached.state shelf.capacity shelf.given ran.kept ran.marked told sound ran.start_is ran.end_is
-    (extends told.meaning.contents told.known) e.reached))
+    let stale = rw c.in-None.is at f.found in
+    let gives = rw f.kept at ran.gives in
+    let recorded = rw f.kept at ran.recorded in
+    let counted = rw f.kept at e.counted in
+    let first = rw f.shelf at ran.first in
+    let stands = rw f.kept at e.stands in
+    record {
+      advances = record {
+        kept = ran.placed.kept;
+        rest = kept_of old.entries;
+        ran = 1;
+        read = length (reads (span number here) image);
+        served = ran_served image (kept_of old.entries) number here ran.placed.kept stale ran.number_is ran.start_is
+            gives recorded;
+        end_is = ran.end_is;
+        told_is = ran.told_is;
+        held_is = ap (λ (x : Shelved Placed). kept_of x.entries) first
+            ∙ kept_added old.capacity old.given ran.placed old.entries;
+        run = rw c.ran.ensures.counted ((omega arith, omega arith), refl);
+        counted = omega (arith, counted, f.counted);
+      };
+      stands = stands;
+      segments = segments_from_told image c.run_new.new.stock c.run_new.new.telling.look
+          c.in_ok-reached-in-None.reached.state stands.told;
+      capacity = ap (λ (x : Shelved Placed). x.capacity) first;
+      kept = rw e.kept f.kept;
+      rises = c.ran.ensures.rises;
+    }

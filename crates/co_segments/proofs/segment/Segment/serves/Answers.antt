@@ -3,14 +3,14 @@ use Rattle.co_segments.proofs.segment.Segment.serves.Goals as goal
 pub same-requires : goal.same-requires
 same-requires g c =
     let r = c.requires in
-    let named = rw (← c.self.view_is) at r.1.0 in
-    (r.0.buses, (c.args.given.now.buses, (named.start, r.1.1.0)))
+    let named = rw (← c.self.view_is) at r.named in
+    (r.meaning.buses, (c.args.given.now.buses, (named.start, r.state)))
 
 pub matches-requires : goal.matches-requires
 matches-requires g c =
     let r = c.requires in
-    let named = rw (← c.self.view_is) at r.1.0 in
-    (r.0.contents, (r.1.1.1, rw c.deref.ensures.value named.reads))
+    let named = rw (← c.self.view_is) at r.named in
+    (r.meaning.contents, (r.known, rw c.deref.ensures.value named.reads))
 
 pub returns-clause-known : goal.returns-clause-known
 returns-clause-known g c contents h m =
