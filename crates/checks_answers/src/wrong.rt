@@ -5,17 +5,17 @@ use co_diag::diagnostics;
 use co_memo::{Meter, share_of};
 use co_project::Project;
 use diag_lines::Diag;
-use kept_image::{ImagePart, KeptImage};
-use kept_parts::Part;
+use kept_parts::KeptParts;
+use project_parts::Part;
 use std::alloc::{AllocError, Global};
 use std::io::Write;
 
 /// All that is wrong with a project, by the plan that is kept of it.
 fn find_wrong(alloc: Global, project: &Project) -> Result<Vec<Diag>, AllocError> {
-    let mut image = KeptImage::new(alloc);
+    let mut kept = KeptParts::new(alloc);
     let mut meter = Meter::new();
-    image.refresh(&ImagePart::Kept(Part::Plan), project, &mut meter)?;
-    let Some(plan) = share_of(image.plan())? else {
+    kept.refresh(&Part::Plan, project, &mut meter)?;
+    let Some(plan) = share_of(kept.plan())? else {
         unreachable!()
     };
     let list = diagnostics(alloc, project, plan.get())?;

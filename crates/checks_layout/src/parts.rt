@@ -8,7 +8,7 @@ ghost use Rattle.network_image.specs.Image.{image_of};
 use co_depend::ProjectParts;
 use co_memo::Meter;
 use co_project::Project;
-use kept_image::KeptImage;
+use kept_parts::KeptParts;
 use std::alloc::{AllocError, Global};
 
 /// The parts of a project's network, made as a workbench makes those of a new project, of which nothing was asked
@@ -21,10 +21,10 @@ pub fn parts_of(alloc: Global, project: &Project) -> Result<ProjectParts, AllocE
     ensures image { IfOk result (λ parts. IsImage (seen_of parts).image) }
 {
     project.keeps_to_rules();
-    let mut image = KeptImage::new(alloc);
+    let mut kept = KeptParts::new(alloc);
     let mut meter = Meter::new();
-    image.refresh_all(project, &mut meter)?;
-    let network = image.network(project)?;
+    kept.refresh_all(project, &mut meter)?;
+    let network = kept.network(project)?;
     let parts = ProjectParts::of(alloc, network);
     Ok(parts)
 }

@@ -1,13 +1,13 @@
 -- Parts that are brought up to date one after another.
 use Rattle.std.proofs.Common.{◌≡◌, ℕ, ◌+◌, inl, inr, Bool, true, false, ◌||◌, List, [], ◌∷◌, ◌++◌, Option, Some, None}
-use Rattle.std.proofs.Common.{if◌then◌else◌, ◌==◌, refl, sym, ap, ◌∙◌, subst, arith, zero-add, ◌-◌, ◌^◌, ◌≤◌, min}
+use Rattle.std.proofs.Common.{if◌then◌else◌, ◌==◌, refl, sym, ap, ◌∙◌, subst, arith, zero-add, ◌-◌, ◌^◌, min}
 use Rattle.std.specs.Prelude.{IfSome, IfNone, is_some}
 use borrow.Author.Tests.{eqb-true}
 use Rattle.std.specs.List.{list_any}
 use Rattle.std.specs.Option.{option_map}
 use Rattle.std.proofs.lemmas.List.Folds.{list_any-append}
 use Rattle.co_memo.specs.At.{at}
-use Rattle.co_memo.specs.Work.{IsMoreBy, IsToMake, Work, Refreshes, Rises}
+use Rattle.co_memo.specs.Work.{IsMoreBy, IsToMake, NeedsNone, Work, Refreshes, Rises}
 use Rattle.co_memo.specs.Stale.{settled, Counts, IsOneMore, AreBrought}
 
 one_more_of : (P : Type 0) (k n m : ℕ) → IsOneMore P k n → IsOneMore P (k + m) (n + m)
@@ -28,6 +28,10 @@ one_counted m n is = let e = ap (λ (w : Work). w.parts) is in (omega (arith, e)
 
 none_counted : (m n : Work) → n ≡ m → IsMoreBy 0 m.parts n.parts
 none_counted m n is = let e = ap (λ (w : Work). w.parts) is in (omega (arith, e), omega (arith, e))
+
+-- what needs no making isn't to be made
+none_to_make : {V : Type 0} (a b : Option V) → NeedsNone a b → IsToMake a b → ⊥
+none_to_make a b needs s = elim needs [ inl same ↦ s.0 same | inr gone ↦ let e : false ≡ true = sym gone ∙ s.1 in cc ]
 
 module _ {N V : Type 0} (same : N → N → Bool) (now : N → Option V) where
   chosen_twice : (s t : Bool) (x y : Option V) → (if s || t then x else y) ≡ (if t then x else if s then x else y)
@@ -91,15 +95,9 @@ module _ {N V : Type 0} (same : N → N → Bool) (now : N → Option V) where
         parts_rise = refreshes.0;
         counted = elim refreshes.1 [
           | inl made ↦ (1, (0, inl (made.0, refl), refl), one_counted m n made.1)
-          | inr kept ↦ (0, (0, inr (kept.0, refl), refl), none_counted m n kept.1)
+          | inr kept ↦ (0, (0, inr (none_to_make (a p) (now p) kept.0, refl), refl), none_counted m n kept.1)
         ];
       }
-
--- the same is counted where two say that a part is to be made
-pub refreshes_as : {V W : Type 0} (a b : Option V) (c d : Option W) (m n : Work) → (IsToMake a b → IsToMake c d)
-    → (IsToMake c d → IsToMake a b) → Refreshes a b m n → Refreshes c d m n
-refreshes_as a b c d m n to from r =
-    (r.0, elim r.1 [ inl x ↦ inl (to x.0, x.1) | inr x ↦ inr (λ q. x.0 (from q), x.1) ])
 
 pub is_there : {X G : Type 0} (make : X → G) (o : Option X) → is_some (option_map make o) ≡ is_some o
 is_there make None = refl
@@ -120,9 +118,16 @@ module _ {X G : Type 0} (make : X → G) (inj : (x y : X) → make x ≡ make y 
   pub to_make_back : IsToMake (option_map make a) (option_map make b) → IsToMake a b
   to_make_back s = (λ e. s.0 (ap (option_map make) e), sym (is_there make b) ∙ s.1)
 
+  needs_kind : NeedsNone a b → NeedsNone (option_map make a) (option_map make b)
+  needs_kind needs = elim needs [
+    | inl same ↦ inl (ap (option_map make) same)
+    | inr gone ↦ inr (is_there make b ∙ gone)
+  ]
+
   -- the same is counted of it
   pub refreshes_kind : (m n : Work) → Refreshes a b m n → Refreshes (option_map make a) (option_map make b) m n
-  refreshes_kind m n r = refreshes_as a b (option_map make a) (option_map make b) m n to_make_kind to_make_back r
+  refreshes_kind m n r =
+      (r.0, elim r.1 [ inl x ↦ inl (to_make_kind x.0, x.1) | inr x ↦ inr (needs_kind x.0, x.1) ])
 
 chosen_at : {X G : Type 0} (make : X → G) (b : Bool) (x y z : Option X) → (b ≡ true → x ≡ y)
     → option_map make (if b then x else z) ≡ (if b then option_map make y else option_map make z)
@@ -140,12 +145,12 @@ shelf_stands make key now old new h q = ap (option_map make) (h q)
 
 -- of one that is held as it is to be made now
 pub refreshes_none : {V : Type 0} (held now : Option V) (m : Work) → held ≡ now → Refreshes held now m m
-refreshes_none held now m current = (omega arith, inr (λ s. s.0 current, refl))
+refreshes_none held now m current = (omega arith, inr (inl current, refl))
 
 -- and of one that isn't, where it is made, or let go where there is nothing to make it from
 pub refreshes_built : {O V : Type 0} (held from : Option V) (now : Option O) (m n : Work) → (held ≡ from → ⊥)
     → is_some from ≡ is_some now → IfSome now (λ _. n ≡ record m { parts = min (m.parts + 1) (2 ^ 64 - 1) })
     → IfNone now (n ≡ m) → Rises m n → Refreshes held from m n
 refreshes_built held from None m n other there built same rises =
-    (rises.1, inr (λ s. let none : false ≡ true = sym there ∙ s.1 in cc, same))
+    (rises.1, inr (inr there, same))
 refreshes_built held from (Some o) m n other there built same rises = (rises.1, inl ((other, there), built))

@@ -1,5 +1,5 @@
 -- What a meter counts.
-use Rattle.std.specs.Prelude.{◌≡◌, ℕ, ◌+◌, ◌-◌, ◌^◌, ◌≤◌, ◌⊎◌, min, true, Option, is_some}
+use Rattle.std.specs.Prelude.{◌≡◌, ℕ, ◌+◌, ◌-◌, ◌^◌, ◌≤◌, ◌⊎◌, min, true, false, Option, is_some}
 
 -- the segments that were run, and the parts that were made
 pub record Work : Type 0 where
@@ -22,8 +22,13 @@ IsMoreBy n before after = (min (before + n) (2 ^ 64 - 1) ≤ after) × (after �
 abbrev pub IsToMake : {V : Type 0} → Option V → Option V → Type 0
 IsToMake held now = (held ≡ now → ⊥) × (is_some now ≡ true)
 
--- of a part that is to be made exactly one is counted, up to 2^64 - 1, and else nothing; the count never becomes less
+-- a part needs no making: it is held as it is to be made now, or isn't to be there
+abbrev pub NeedsNone : {V : Type 0} → Option V → Option V → Type 0
+NeedsNone held now = (held ≡ now) ⊎ (is_some now ≡ false)
+
+-- of a part that is to be made exactly one is counted, up to 2^64 - 1, and of one that needs no making nothing; the
+-- count never becomes less
 abbrev pub Refreshes : {V : Type 0} → Option V → Option V → Work → Work → Type 0
 Refreshes held now old new = (old.parts ≤ new.parts)
     × ((IsToMake held now × (new ≡ record old { parts = min (old.parts + 1) (2 ^ 64 - 1) }))
-    ⊎ ((IsToMake held now → ⊥) × (new ≡ old)))
+    ⊎ (NeedsNone held now × (new ≡ old)))

@@ -54,6 +54,14 @@ impl<I: Makes<T>, T> Memo<I, T> {
         self.fresh = false;
     }
 
+    /// Takes the mark away: whoever does it knows that the value is built from the inputs of now. Takes constant
+    /// time.
+    pub fn unmark(&mut self)
+        ensures { self.new ≡ record self.old { fresh = true } }
+    {
+        self.fresh = true;
+    }
+
     /// The inputs that the value was built from, if one is kept. Takes constant time.
     pub fn inputs(&self) -> Option<&I>
         ensures { option_copied result ≡ self.now.kept }

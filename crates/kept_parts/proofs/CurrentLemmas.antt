@@ -1,9 +1,8 @@
 -- What is held after a refresh, and where nothing is kept.
-use Rattle.std.proofs.Common.{◌≡◌, ◌∙◌, ℕ, Bool, true, false, ◌||◌, if◌then◌else◌, List, [], ◌∷◌, ◌++◌, map, Option}
-use Rattle.std.proofs.Common.{refl, ap}
+use Rattle.std.proofs.Common.{◌≡◌, ◌∙◌, ℕ, Bool, true, false, ◌||◌, if◌then◌else◌, List, [], ◌∷◌, ◌++◌, refl, ap}
 use Rattle.std.specs.Cmp.{tied_itself}
 use Rattle.std.specs.List.{list_any}
-use Rattle.std.specs.FinMap.{empty, entries, get-empty}
+use Rattle.std.specs.FinMap.{empty, get-empty}
 use Rattle.std.specs.Option.{option_map_or}
 use Rattle.std.specs.Ordering.{is_eq}
 use Rattle.std.proofs.lemmas.Bool.{eq-eqb}
@@ -14,56 +13,78 @@ use Rattle.co_project.specs.Project.{Content as Project}
 use Rattle.co_memo.specs.Shelved.{is_fresh}
 use Rattle.co_memo.specs.Stale.{AreBrought}
 use Rattle.co_memo.specs.Work.{Work}
-use Rattle.kept_parts.specs.Kept.{for_plan, for_writes, fresh, given, held, of_node, own_device}
-use Rattle.kept_parts.specs.Kept.{reached, same_part, IsOf}
-use Rattle.kept_devices.specs.Slots.{fresh_at, Slots}
-use Rattle.kept_devices.specs.declared.device_slot.DeviceSlot.{DeviceSlot}
-use Rattle.kept_parts.specs.declared.part.Part.{Part}
-use Rattle.kept_parts.specs.declared.part.Part.TheVariants as part
+use Rattle.project_parts.specs.Given.{given, same_part}
+use Rattle.project_parts.specs.Reached.{for_plan, for_writes, of_nodes, own_device, reached}
+use Rattle.kept_parts.specs.Kept.{fresh, held, IsOf}
+use Rattle.part_shelves.specs.Slots.{fresh_at, Slots}
+use Rattle.part_shelves.specs.declared.device_slot.DeviceSlot.{DeviceSlot}
+use Rattle.project_parts.specs.declared.part.Part.{Part}
+use Rattle.project_parts.specs.declared.part.Part.TheVariants as part
 use Rattle.kept_parts.specs.declared.kept_parts.KeptParts.{KeptParts}
 
--- the last that was brought is as it is now
-last_now : {N V : Type 0} (same : N → N → Bool) (now : N → Option V) (ps : List N) (q : N) (a b : N → Option V) (m n : Work)
-    → same q q ≡ true → AreBrought same now (ps ++ q ∷ []) a b m n → b q ≡ now q
-last_now same now ps q a b m n itself brought =
-    ap (λ f. f q) brought.settled_is
-    ∙ ap (λ t. if t then now q else a q)
-    (list_any-append (same q) ps (q ∷ []) ∙ ap (λ t. list_any (same q) ps || (t || false)) itself
-    ∙ or_one (list_any (same q) ps))
+-- the last is among all
+any_last : {N : Type 0} (same : N → N → Bool) (ps : List N) (q : N) → same q q ≡ true
+    → list_any (same q) (ps ++ q ∷ []) ≡ true
+any_last same ps q itself =
+    list_any-append (same q) ps (q ∷ []) ∙ ap (λ t. list_any (same q) ps || (t || false)) itself
+    ∙ or_one (list_any (same q) ps)
   where
     or_one : (t : Bool) → (t || true) ≡ true
     or_one true = refl
     or_one false = refl
 
-module _ (p : Project) (a b : KeptParts) (k m : Work) where
-  -- a part that was brought with all that it is built from is held as it is to be built now
-  pub is_current : (q : Part) → AreBrought same_part (given p) (reached p q) (held a) (held b) k m
+pub itself : (q : Part) → same_part q q ≡ true
+itself (part.Device name) = ap is_eq (tied_itself nat_list_cmp_total name)
+itself part.Plan = refl
+itself (part.Writes n) = eq-eqb n n refl
+itself (part.Concise n) = eq-eqb n n refl
+itself (part.Dcf n) = eq-eqb n n refl
+itself part.Roster = refl
+itself (part.Node n) = eq-eqb n n refl
+itself (part.Window i) = eq-eqb i i refl
+itself part.Diagnostics = refl
+
+module _ (p : Project) where
+  last : (ps : List Part) (q : Part) → list_any (same_part q) (ps ++ q ∷ []) ≡ true
+  last ps q = any_last same_part ps q (itself q)
+
+  -- a part is among those that are reached for it
+  pub reaches : (q : Part) → list_any (same_part q) (reached p q) ≡ true
+  reaches (part.Device name) = last [] (part.Device name)
+  reaches part.Plan = last (of_nodes p) part.Plan
+  reaches (part.Writes n) = last (for_plan p ++ own_device p n) (part.Writes n)
+  reaches (part.Concise n) = last (for_writes p n) (part.Concise n)
+  reaches (part.Dcf n) = last (for_writes p n) (part.Dcf n)
+  reaches part.Roster = refl
+  reaches (part.Node n) = last (own_device p n) (part.Node n)
+  reaches (part.Window i) = last (of_nodes p) (part.Window i)
+  reaches part.Diagnostics = last (for_plan p) part.Diagnostics
+
+  -- a part that was brought is held as it is to be made now
+  pub is_current : (ps : List Part) (a b : KeptParts) (m n : Work)
+      → AreBrought same_part (given p) ps (held a) (held b) m n → (q : Part) → list_any (same_part q) ps ≡ true
       → held b q ≡ given p q
-  is_current (part.Device name) brought =
-      last_now same_part (given p) [] (part.Device name) (held a) (held b) k m
-      (ap is_eq (tied_itself nat_list_cmp_total name)) brought
-  is_current part.Plan brought =
-      last_now same_part (given p) (map of_node (entries p.nodes)) part.Plan (held a) (held b) k m refl brought
-  is_current (part.Writes n) brought =
-      last_now same_part (given p) (for_plan p ++ own_device p n) (part.Writes n) (held a) (held b) k m
-      (eq-eqb n n refl) brought
-  is_current (part.Concise n) brought =
-      last_now same_part (given p) (for_writes p n) (part.Concise n) (held a) (held b) k m (eq-eqb n n refl) brought
-  is_current (part.Dcf n) brought =
-      last_now same_part (given p) (for_writes p n) (part.Dcf n) (held a) (held b) k m (eq-eqb n n refl) brought
+  is_current ps a b m n brought q there =
+      ap (λ f. f q) brought.settled_is ∙ ap (λ t. if t then given p q else held a q) there
 
 -- where each part has a mark
 module _ (h : KeptParts) (d : h.devices ≡ empty) (pl : h.plan.fresh ≡ false)
     (w : (q : ℕ) → is_fresh h.writes q ≡ false) (c : (q : ℕ) → is_fresh h.concise q ≡ false)
-    (f : (q : ℕ) → is_fresh h.dcf q ≡ false) where
+    (f : (q : ℕ) → is_fresh h.dcf q ≡ false) (r : h.roster.fresh ≡ false)
+    (n : (q : ℕ) → is_fresh h.nodes q ≡ false) (s : (q : ℕ) → is_fresh h.windows q ≡ false)
+    (wrong : h.found.fresh ≡ false) where
   none_fresh : (q : Part) → fresh h q ≡ false
   none_fresh (part.Device e) =
       ap (λ (s : Slots). fresh_at s e) d
       ∙ ap (λ o. option_map_or (λ (s : DeviceSlot). s.fresh) o false) (get-empty name_cmp e)
   none_fresh part.Plan = pl
-  none_fresh (part.Writes n) = w n
-  none_fresh (part.Concise n) = c n
-  none_fresh (part.Dcf n) = f n
+  none_fresh (part.Writes id) = w id
+  none_fresh (part.Concise id) = c id
+  none_fresh (part.Dcf id) = f id
+  none_fresh part.Roster = r
+  none_fresh (part.Node id) = n id
+  none_fresh (part.Window i) = s i
+  none_fresh part.Diagnostics = wrong
 
   pub all_marked : (p : Project) → IsOf p h
   unfolding IsOf

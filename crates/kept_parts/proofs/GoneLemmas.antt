@@ -1,27 +1,36 @@
 -- What is let go.
-use Rattle.std.proofs.Common.{◌≡◌, ◌∙◌, ℕ, Bool, true, false, not, List, [], ◌∷◌, map, Option, Some, None, is_some, refl, sym}
-use Rattle.std.proofs.Common.{ap, cond, if◌then◌else◌, option_map, option_and_then}
+use Rattle.std.proofs.Common.{◌≡◌, ◌∙◌, ℕ, Bool, true, false, not, ◌&&◌, List, [], ◌∷◌, map, Option, Some, None, is_some}
+use Rattle.std.proofs.Common.{refl, sym, ap, cond, if◌then◌else◌, option_map, subst, Result, Ok, Err, OnOk}
 use Rattle.std.specs.FinMap.{contains_key, entries, get, get-retain_keys, retain_keys}
+use Rattle.std.specs.List.{list_any}
 use Rattle.std.specs.Option.{option_map_or}
-use Rattle.std.proofs.lemmas.List.Elements.{All-cons, All-head, All-nil, All-tail}
+use Rattle.std.specs.Result.{is_ok}
+use Rattle.std.proofs.lemmas.List.Elements.{All-cons, All-head, All-nil, All-tail, All-weaker}
 use Rattle.std.proofs.lemmas.Map.Lookups.{exact_bytes}
-use Rattle.co_memo.specs.Shelved.{is_flagged, kept_at, Shelved, Single}
-use Rattle.co_memo.specs.Stale.{without}
+use Rattle.co_edits.specs.declared.edit.Edit.{Edit}
+use Rattle.co_memo.specs.Shelved.{is_flagged, is_fresh, kept_at, Shelved, Single}
+use Rattle.co_memo.specs.Stale.{without, AreBrought}
+use Rattle.co_memo.specs.Work.{Work}
 use Rattle.co_memo.proofs.Brought.{option_map_back}
 use Rattle.co_project.specs.declared.node.Node.{Node}
-use Rattle.co_project.specs.Project.{Content as Project}
-use Rattle.co_project.specs.Tables.{node_at, text_at}
-use Rattle.kept_devices.specs.Slots.{fresh_at, text_kept, Slots}
-use Rattle.kept_devices.specs.declared.device_slot.DeviceSlot.{DeviceSlot}
-use Rattle.kept_parts.specs.Gone.{is_gone}
-use Rattle.kept_parts.specs.Kept.{dcf_of_node, fresh, given, held, of_node, writes_of_node, AreOfNow}
-use Rattle.kept_parts.specs.Kept.{HaveNoMark, IsOf, OfConcise, OfDcf, OfDevice, OfPlan, OfWrites}
-use Rattle.kept_parts.specs.Made.{writes_made}
-use Rattle.kept_parts.specs.declared.concise_from.ConciseFrom.{ConciseFrom}
-use Rattle.kept_parts.specs.declared.plan_from.PlanFrom.{PlanFrom}
-use Rattle.kept_parts.specs.declared.writes_from.WritesFrom.{WritesFrom}
-use Rattle.kept_parts.specs.declared.part.Part.{Part}
-use Rattle.kept_parts.specs.declared.part.Part.TheVariants as part
+use Rattle.co_project.specs.Project.{accept, Content as Project}
+use Rattle.co_project.specs.Tables.{text_at}
+use Rattle.co_scenario.specs.declared.timed_step.TimedStep.{TimedStep}
+use Rattle.part_shelves.specs.Slots.{fresh_at, text_kept, Slots}
+use Rattle.part_shelves.specs.declared.device_slot.DeviceSlot.{DeviceSlot}
+use Rattle.project_parts.specs.Given.{given, same_part, Given, OfConcise, OfDcf, OfDevice, OfDiagnostics, OfNode, OfPlan}
+use Rattle.project_parts.specs.Given.{OfRoster, OfWindow, OfWrites}
+use Rattle.project_parts.specs.declared.diagnostics_from.DiagnosticsFrom.{DiagnosticsFrom}
+use Rattle.project_parts.specs.Gone.{drops, is_gone}
+use Rattle.project_parts.specs.Reached.{of_node}
+use Rattle.project_parts.specs.declared.plan_from.PlanFrom.{PlanFrom}
+use Rattle.project_parts.specs.declared.roster_from.RosterFrom.{RosterFrom}
+use Rattle.project_parts.specs.declared.part.Part.{Part}
+use Rattle.project_parts.specs.declared.part.Part.TheVariants as part
+use Rattle.project_parts.proofs.DropLemmas.{gone_before}
+use Rattle.project_parts.proofs.GoneLemmas.{given_none}
+use Rattle.kept_parts.specs.Kept.{fresh, held, AreHeld, AreOfNow, HaveNoMark, IsOf}
+use Rattle.kept_parts.specs.Left.{left_of, HoldsNoneGone, IsSwept}
 use Rattle.kept_parts.specs.declared.kept_parts.KeptParts.{KeptParts}
 
 -- what is kept at flagged numbers alone
@@ -33,9 +42,6 @@ slot_text o = option_map (λ (s : DeviceSlot). s.kept) o
 
 abbrev slot_fresh : Option DeviceSlot → Bool
 slot_fresh o = option_map_or (λ (s : DeviceSlot). s.fresh) o false
-
-abbrev concise_by_writes : Option WritesFrom → Option ConciseFrom
-concise_by_writes o = option_map (λ w. record { writes = writes_made w }) o
 
 -- at a number that no node has nothing is left
 pub number_left : (p : Project) (flags : List Bool) → ((q : ℕ) → is_flagged flags q ≡ contains_key p.nodes q)
@@ -51,27 +57,7 @@ number_left p flags nodes make old new left n =
     by true false e = cc
     by false true e = cc
 
--- where there is no node, nothing of one is to be built
-pub no_node : {X : Type 0} (make : Node → Option X) (o : Option Node) → not (is_some o) ≡ true
-    → option_and_then make o ≡ None
-no_node make None gone = refl
-no_node make (Some node) gone = cc
-
 module _ (p : Project) where
-  -- what a project doesn't have isn't to be built
-  pub given_none : (q : Part) → is_gone p q ≡ true → given p q ≡ None
-  given_none (part.Device name) gone = by (text_at p.texts name) gone
-    where
-      by : (o : Option (List ℕ)) → not (is_some o) ≡ true → option_map OfDevice o ≡ None
-      by None gone = refl
-      by (Some text) gone = cc
-  given_none part.Plan gone = cc
-  given_none (part.Writes n) gone = ap (option_map OfWrites) (no_node (writes_of_node p n) (node_at p.nodes n) gone)
-  given_none (part.Concise n) gone =
-      ap (λ (o : Option WritesFrom). option_map OfConcise (concise_by_writes o))
-      (no_node (writes_of_node p n) (node_at p.nodes n) gone)
-  given_none (part.Dcf n) gone = ap (option_map OfDcf) (no_node (dcf_of_node p n) (node_at p.nodes n) gone)
-
   module _ (old new : KeptParts) (devices : new.devices ≡ retain_keys old.devices (contains_key p.texts)) where
     -- the slot of a name
     slot_left : (name : List ℕ) → get new.devices name ≡ cond (contains_key p.texts name) (get old.devices name) None
@@ -110,23 +96,33 @@ module _ (p : Project) where
 
     module _ (flags : List Bool) (nodes : (q : ℕ) → is_flagged flags q ≡ contains_key p.nodes q)
         (plan : new.plan ≡ old.plan) (writes : AreLeft flags old.writes new.writes)
-        (concise : AreLeft flags old.concise new.concise) (dcf : AreLeft flags old.dcf new.dcf) where
+        (concise : AreLeft flags old.concise new.concise) (dcf : AreLeft flags old.dcf new.dcf)
+        (roster : new.roster ≡ old.roster) (device_parts : AreLeft flags old.nodes new.nodes)
+        (windows : new.windows ≡ old.windows) (found : new.found ≡ old.found) where
       -- what is held is what was, but for what is gone
-      pub left : (q : Part) → held new q ≡ without (is_gone p) (held old) q
+      pub left : (q : Part) → held new q ≡ left_of p old q
       left (part.Device name) = device_left name
       left part.Plan = ap (λ (s : Single PlanFrom). option_map OfPlan s.kept) plan
       left (part.Writes n) = number_left p flags nodes OfWrites old.writes new.writes writes n
       left (part.Concise n) = number_left p flags nodes OfConcise old.concise new.concise concise n
       left (part.Dcf n) = number_left p flags nodes OfDcf old.dcf new.dcf dcf n
+      left part.Roster = ap (λ (s : Single RosterFrom). option_map OfRoster s.kept) roster
+      left (part.Node n) = number_left p flags nodes OfNode old.nodes new.nodes device_parts n
+      left (part.Window i) = ap (λ (s : Shelved (List TimedStep)). option_map OfWindow (kept_at s i)) windows
+      left part.Diagnostics = ap (λ (s : Single DiagnosticsFrom). option_map OfDiagnostics s.kept) found
 
       module _ (same_writes : new.writes.fresh ≡ old.writes.fresh) (same_concise : new.concise.fresh ≡ old.concise.fresh)
-          (same_dcf : new.dcf.fresh ≡ old.dcf.fresh) where
+          (same_dcf : new.dcf.fresh ≡ old.dcf.fresh) (same_nodes : new.nodes.fresh ≡ old.nodes.fresh) where
         still_marked : (q : Part) → fresh new q ≡ true → fresh old q ≡ true
         still_marked (part.Device name) unmarked = device_marked name unmarked
         still_marked part.Plan unmarked = sym (ap (λ (s : Single PlanFrom). s.fresh) plan) ∙ unmarked
         still_marked (part.Writes n) unmarked = sym (ap (λ (fs : List Bool). is_flagged fs n) same_writes) ∙ unmarked
         still_marked (part.Concise n) unmarked = sym (ap (λ (fs : List Bool). is_flagged fs n) same_concise) ∙ unmarked
         still_marked (part.Dcf n) unmarked = sym (ap (λ (fs : List Bool). is_flagged fs n) same_dcf) ∙ unmarked
+        still_marked part.Roster unmarked = sym (ap (λ (s : Single RosterFrom). s.fresh) roster) ∙ unmarked
+        still_marked (part.Node n) unmarked = sym (ap (λ (fs : List Bool). is_flagged fs n) same_nodes) ∙ unmarked
+        still_marked (part.Window i) unmarked = sym (ap (λ (s : Shelved (List TimedStep)). is_fresh s i) windows) ∙ unmarked
+        still_marked part.Diagnostics unmarked = sym (ap (λ (s : Single DiagnosticsFrom). s.fresh) found) ∙ unmarked
 
         -- it is of the project still
         pub left_is_of : IsOf p old → IsOf p new
@@ -137,7 +133,7 @@ module _ (p : Project) where
             all q unmarked = left q ∙ by (is_gone p q) refl
               where
                 by : (t : Bool) → is_gone p q ≡ t → (if t then None else held old q) ≡ given p q
-                by true gone = sym (given_none q gone)
+                by true gone = sym (given_none p q gone)
                 by false there = is.0 q (still_marked q unmarked)
 
             one : (name : List ℕ) → fresh old (part.Device name) ≡ true → fresh new (part.Device name) ≡ true
@@ -152,3 +148,120 @@ module _ (p : Project) where
                 All-cons (λ q. fresh new q ≡ true) (of_node e) (map of_node es)
                 (one e.1.eds (All-head (λ q. fresh old q ≡ true) (of_node e) (map of_node es) none))
                 (below es (All-tail (λ q. fresh old q ≡ true) (of_node e) (map of_node es) none))
+
+-- ---- what is known of it
+
+-- it says nothing of what is held
+pub held_known : (k : KeptParts) (known : Bool) (q : Part) → held (record k { swept = known }) q ≡ held k q
+held_known k known (part.Device name) = refl
+held_known k known part.Plan = refl
+held_known k known (part.Writes n) = refl
+held_known k known (part.Concise n) = refl
+held_known k known (part.Dcf n) = refl
+held_known k known part.Roster = refl
+held_known k known (part.Node n) = refl
+held_known k known (part.Window i) = refl
+held_known k known part.Diagnostics = refl
+
+pub fresh_known : (k : KeptParts) (known : Bool) (q : Part) → fresh (record k { swept = known }) q ≡ fresh k q
+fresh_known k known (part.Device name) = refl
+fresh_known k known part.Plan = refl
+fresh_known k known (part.Writes n) = refl
+fresh_known k known (part.Concise n) = refl
+fresh_known k known (part.Dcf n) = refl
+fresh_known k known part.Roster = refl
+fresh_known k known (part.Node n) = refl
+fresh_known k known (part.Window i) = refl
+fresh_known k known part.Diagnostics = refl
+
+module _ (p : Project) where
+  -- where nothing is held of what is gone, all is left
+  pub all_left : (k : KeptParts) → k.swept ≡ true → IsSwept p k → (q : Part) → held k q ≡ left_of p k q
+  unfolding IsSwept
+  all_left k known swept q = by (is_gone p q) refl
+    where
+      by : (t : Bool) → is_gone p q ≡ t → held k q ≡ (if t then None else held k q)
+      by true gone = swept known q gone
+      by false there = refl
+
+  pub known_is_of : (k : KeptParts) (known : Bool) → IsOf p k → IsOf p (record k { swept = known })
+  unfolding IsOf
+  known_is_of k known is = (
+    λ q unmarked. held_known k known q ∙ is.0 q (sym (fresh_known k known q) ∙ unmarked),
+    λ unmarked. below (entries p.nodes) (is.1 unmarked),
+  )
+    where
+      below : (es : List (ℕ × Node)) → HaveNoMark k (map of_node es) → HaveNoMark (record k { swept = known }) (map of_node es)
+      below es none = All-weaker (λ q. fresh k q ≡ true) (λ q. fresh (record k { swept = known }) q ≡ true)
+          (λ q u. fresh_known k known q ∙ u) (map of_node es) none
+
+  -- nothing is known
+  pub unknown : (k : KeptParts) → k.swept ≡ false → IsSwept p k
+  unfolding IsSwept
+  unknown k none = λ known. cc
+
+  -- where parts are brought up to date once what is gone is let go, nothing is held of it
+  pub none_gone : (ps : List Part) (old new : KeptParts) (m n : Work)
+      → AreBrought same_part (given p) ps (left_of p old) (held new) m n → HoldsNoneGone p new
+  none_gone ps old new m n brought q gone =
+      ap (λ f. f q) brought.settled_is ∙ by (list_any (same_part q) ps) (is_gone p q) gone
+    where
+      by : (s t : Bool) → t ≡ true → (if s then given p q else if t then None else held old q) ≡ None
+      by true t none = given_none p q gone
+      by false true none = refl
+      by false false none = cc
+
+  module _ (ps : List Part) (old middle new : KeptParts) (m n : Work)
+      (gone : (q : Part) → held middle q ≡ left_of p old q)
+      (brought : AreBrought same_part (given p) ps (held middle) (held new) m n) where
+    -- parts that are brought up to date once what is gone is let go
+    pub brought_left : (known : Bool)
+        → AreBrought same_part (given p) ps (left_of p old) (held (record new { swept = known })) m n
+    brought_left known =
+        subst (λ (h : Part → Option Given). AreBrought same_part (given p) ps h
+        (held (record new { swept = known })) m n) (λ i q. gone q i)
+        (subst (λ (h : Part → Option Given). AreBrought same_part (given p) ps (held middle) h m n)
+        (λ i q. sym (held_known new known q) i) brought)
+
+    -- nothing is held of what is gone then
+    pub brought_swept : (known : Bool) → IsSwept p (record new { swept = known })
+    unfolding IsSwept
+    brought_swept known e = none_gone ps old (record new { swept = known }) m n (brought_left known)
+
+-- ---- where it succeeded
+
+pub on_ok : {X E P Q : Type 0} → (P → Q) → (r : Result X E) → OnOk r P → OnOk r Q
+on_ok to (Ok x) p = to p
+on_ok to (Err e) p = tt
+
+module _ (p : Project) where
+  -- all that was brought is held
+  pub known_held : (ps : List Part) (k : KeptParts) (known : Bool) → AreHeld p ps k
+      → AreHeld p ps (record k { swept = known })
+  unfolding AreHeld
+  known_held ps k known held q there = held_known k known q ∙ held q there
+
+  -- nothing is known where it failed
+  pub swept_if : {X E : Type 0} (r : Result X E) (known : Bool) → known ≡ is_ok r → (k : KeptParts)
+      → OnOk r (IsSwept p (record k { swept = known })) → IsSwept p (record k { swept = known })
+  swept_if (Ok x) known is k swept = swept
+  swept_if (Err e) known is k swept = unknown p (record k { swept = known }) is
+
+-- ---- after an edit
+
+both_true : (s t : Bool) → (s && not t) ≡ true → (s ≡ true) × (t ≡ false)
+both_true true true h = cc
+both_true true false h = (refl, refl)
+both_true false t h = cc
+
+module _ (p : Project) (e : Edit) (old new : KeptParts) (same : (q : Part) → held new q ≡ held old q)
+    (known : new.swept ≡ (old.swept && not (drops e))) where
+  pub still_swept : IsSwept p old → IsSwept p new
+  unfolding IsSwept
+  still_swept swept is q gone = same q ∙ swept (both_true old.swept (drops e) (sym known ∙ is)).0 q gone
+
+  pub swept_after : (q : Project) → IsSwept p old → accept p e ≡ Ok q → IsSwept q new
+  unfolding IsSwept
+  swept_after q swept taken is a gone =
+      let was = both_true old.swept (drops e) (sym known ∙ is) in
+      same a ∙ swept was.0 a (gone_before p q e taken was.1 a gone)

@@ -5,6 +5,7 @@ use Rattle.std.specs.FinMap.{entries, get}
 use Rattle.std.specs.Option.{option_map_or}
 use Rattle.std.specs.Cmp.{tied_itself}
 use Rattle.std.specs.Ordering.{eq_by_cmp, is_eq}
+use Rattle.std.proofs.lemmas.Bool.{eqb-true}
 use Rattle.std.proofs.lemmas.Cmp.{nat_list_cmp_total}
 use Rattle.std.proofs.lemmas.List.Elements.{All-cons, All-head, All-nil, All-tail, All-weaker}
 use Rattle.std.proofs.lemmas.Map.Lookups.{exact_bytes}
@@ -16,19 +17,27 @@ use Rattle.co_project.specs.Tables.{text_at}
 use Rattle.co_memo.specs.Work.{Work, Refreshes}
 use Rattle.co_memo.specs.Shelved.{is_fresh, kept_at, Shelved, Single}
 use Rattle.co_memo.specs.Stale.{AreBrought}
-use Rattle.co_memo.proofs.Brought.{one, option_map_back, refreshes_kind, shelf_stands}
-use Rattle.kept_devices.specs.Slots.{fresh_at, fresh_slot, text_kept, Slots}
-use Rattle.kept_parts.specs.Kept.{concise_from, dcf_from, fresh, given, held, of_node, plan_from, same_part, writes_from}
-use Rattle.kept_parts.specs.Kept.{AreOfNow, HaveNoMark, IsClosed, IsOf, OfConcise, OfDcf, OfDevice, OfPlan, OfWrites}
-use Rattle.kept_devices.specs.declared.device_slot.DeviceSlot.{DeviceSlot}
-use Rattle.kept_parts.specs.declared.plan_from.PlanFrom.{PlanFrom}
-use Rattle.kept_parts.specs.declared.writes_from.WritesFrom.{WritesFrom}
-use Rattle.kept_parts.specs.declared.concise_from.ConciseFrom.{ConciseFrom}
-use Rattle.kept_parts.specs.declared.dcf_from.DcfFrom.{DcfFrom}
-use Rattle.kept_parts.specs.declared.part.Part.{Part}
-use Rattle.kept_parts.specs.declared.part.Part.TheVariants as part
+use Rattle.co_memo.proofs.Brought.{one, option_map_back, refreshes_kind, refreshes_none, shelf_stands}
+use Rattle.part_shelves.specs.Slots.{fresh_at, fresh_slot, text_kept, Slots}
+use Rattle.kept_parts.specs.Kept.{fresh, held, AreOfNow, HaveNoMark, IsClosed, IsOf}
+use Rattle.co_scenario.specs.declared.timed_step.TimedStep.{TimedStep}
+use Rattle.network_image.specs.Image.{window_steps}
+use Rattle.project_parts.specs.Given.{concise_from, dcf_from, device_from, given, plan_from, roster_from, same_part}
+use Rattle.project_parts.specs.Given.{whole, writes_from, OfConcise, OfDcf, OfDevice, OfDiagnostics, OfNode, OfPlan, OfRoster}
+use Rattle.project_parts.specs.Given.{OfWindow, OfWrites}
+use Rattle.project_parts.specs.declared.diagnostics_from.DiagnosticsFrom.{DiagnosticsFrom}
+use Rattle.project_parts.specs.Reached.{of_node, of_nodes}
+use Rattle.part_shelves.specs.declared.device_slot.DeviceSlot.{DeviceSlot}
+use Rattle.project_parts.specs.declared.plan_from.PlanFrom.{PlanFrom}
+use Rattle.project_parts.specs.declared.writes_from.WritesFrom.{WritesFrom}
+use Rattle.project_parts.specs.declared.concise_from.ConciseFrom.{ConciseFrom}
+use Rattle.project_parts.specs.declared.dcf_from.DcfFrom.{DcfFrom}
+use Rattle.project_parts.specs.declared.device_at.DeviceAt.{DeviceAt}
+use Rattle.project_parts.specs.declared.roster_from.RosterFrom.{RosterFrom}
+use Rattle.project_parts.specs.declared.part.Part.{Part}
+use Rattle.project_parts.specs.declared.part.Part.TheVariants as part
 use Rattle.kept_parts.specs.declared.kept_parts.KeptParts.{KeptParts}
-use Rattle.kept_devices.proofs.SlotLemmas.{StandsAt}
+use Rattle.part_shelves.proofs.SlotLemmas.{StandsAt}
 
 or_true : (s t : Bool) → (s || t) ≡ true → (s ≡ true) ⊎ (t ≡ true)
 or_true true t h = inl refl
@@ -40,6 +49,9 @@ KeptAt key now old new = (q : ℕ) → kept_at new q ≡ (if q == key then now e
 
 abbrev pub FreshAt : {X : Type 0} → ℕ → Shelved X → Shelved X → Type 0
 FreshAt key old new = (q : ℕ) → is_fresh new q ≡ (q == key || is_fresh old q)
+
+abbrev pub window_from : Project → ℕ → Option (List TimedStep)
+window_from p i = Some (window_steps p i)
 
 module _ (p : Project) where
   -- one part is brought up to date, and no other loses its mark
@@ -182,6 +194,10 @@ module _ (p : Project) where
       device_stays (part.Writes n) unmarked = unmarked
       device_stays (part.Concise n) unmarked = unmarked
       device_stays (part.Dcf n) unmarked = unmarked
+      device_stays part.Roster unmarked = unmarked
+      device_stays (part.Node n) unmarked = unmarked
+      device_stays (part.Window i) unmarked = unmarked
+      device_stays part.Diagnostics unmarked = unmarked
 
       fresh_there : (o : Option (List ℕ)) → slot_fresh (option_map fresh_slot o) ≡ is_some o
       fresh_there None = refl
@@ -198,7 +214,7 @@ module _ (p : Project) where
       device_closed : IsClosed p with_devices
       device_closed unmarked =
           All-weaker (λ q. fresh h q ≡ true) (λ q. fresh with_devices q ≡ true) device_stays
-          (map of_node (entries p.nodes)) (closed h is unmarked)
+          (of_nodes p) (closed h is unmarked)
 
       pub device_is_of : IsOf p with_devices
       device_is_of = is_of_after (part.Device name) h with_devices is device_stands device_other device_closed
@@ -234,7 +250,7 @@ module _ (p : Project) where
       plan_other part.Plan unmarked = inl refl
       plan_other q unmarked = inr unmarked
 
-      pub plan_is_of : HaveNoMark h (map of_node (entries p.nodes)) → IsOf p with_plan
+      pub plan_is_of : HaveNoMark h (of_nodes p) → IsOf p with_plan
       plan_is_of none = is_of_after part.Plan h with_plan is plan_stands plan_other
           (λ unmarked. same_devices h with_plan refl (entries p.nodes) none)
 
@@ -328,3 +344,144 @@ module _ (p : Project) where
           one same_part (given p) (part.Dcf key) (held h) (held with_dcf) m n dcf_stands
           (refreshes_kind OfDcf (λ x y e. cc) (kept_at h.dcf key) (dcf_from p key) m n
           (subst (λ (x : Option DcfFrom). Refreshes (kept_at h.dcf key) x m n) e r))
+
+    -- ---- the roster
+
+    pub roster_now : h.roster.fresh ≡ true → h.roster.kept ≡ Some (roster_from p)
+    roster_now unmarked =
+        option_map_back OfRoster (λ x y e. cc) h.roster.kept (Some (roster_from p)) (of_now h is part.Roster unmarked)
+
+    module _ (new : Single RosterFrom) (s : new ≡ record { kept = Some (roster_from p); fresh = true }) where
+      abbrev with_roster : KeptParts
+      with_roster = record h { roster = new }
+
+      roster_stands : Stands part.Roster h with_roster
+      roster_stands part.Roster = ap (λ (x : Single RosterFrom). option_map OfRoster x.kept) s
+      roster_stands q = refl
+
+      roster_other : NoOther part.Roster h with_roster
+      roster_other part.Roster unmarked = inl refl
+      roster_other q unmarked = inr unmarked
+
+      pub roster_is_of : IsOf p with_roster
+      roster_is_of = is_of_after part.Roster h with_roster is roster_stands roster_other
+          (λ unmarked. same_devices h with_roster refl (entries p.nodes) (closed h is unmarked))
+
+      pub roster_brought : (m n : Work) → Refreshes h.roster.kept (Some (roster_from p)) m n
+          → AreBrought same_part (given p) (part.Roster ∷ []) (held h) (held with_roster) m n
+      roster_brought m n r =
+          one same_part (given p) part.Roster (held h) (held with_roster) m n roster_stands
+          (refreshes_kind OfRoster (λ x y e. cc) h.roster.kept (Some (roster_from p)) m n r)
+
+    -- ---- what a node has by its device
+
+    pub node_now : (n : ℕ) → is_fresh h.nodes n ≡ true → kept_at h.nodes n ≡ device_from p n
+    node_now n unmarked =
+        option_map_back OfNode (λ x y e. cc) (kept_at h.nodes n) (device_from p n)
+        (of_now h is (part.Node n) unmarked)
+
+    module _ (key : ℕ) (new : Shelved DeviceAt) (now : Option DeviceAt) (e : now ≡ device_from p key)
+        (s : KeptAt key now h.nodes new) (f : FreshAt key h.nodes new) where
+      abbrev with_nodes : KeptParts
+      with_nodes = record h { nodes = new }
+
+      node_stands : Stands (part.Node key) h with_nodes
+      node_stands (part.Node q) =
+          shelf_stands OfNode key (device_from p) h.nodes.kept new.kept
+          (subst (λ (x : Option DeviceAt). KeptAt key x h.nodes new) e s) q
+      node_stands q = refl
+
+      node_other : NoOther (part.Node key) h with_nodes
+      node_other (part.Node q) unmarked = or_true (q == key) (is_fresh h.nodes q) (sym (f q) ∙ unmarked)
+      node_other q unmarked = inr unmarked
+
+      pub node_is_of : IsOf p with_nodes
+      node_is_of = is_of_after (part.Node key) h with_nodes is node_stands node_other
+          (λ unmarked. same_devices h with_nodes refl (entries p.nodes) (closed h is unmarked))
+
+      pub node_brought : (m n : Work) → Refreshes (kept_at h.nodes key) now m n
+          → AreBrought same_part (given p) (part.Node key ∷ []) (held h) (held with_nodes) m n
+      node_brought m n r =
+          one same_part (given p) (part.Node key) (held h) (held with_nodes) m n node_stands
+          (refreshes_kind OfNode (λ x y e. cc) (kept_at h.nodes key) (device_from p key) m n
+          (subst (λ (x : Option DeviceAt). Refreshes (kept_at h.nodes key) x m n) e r))
+
+    -- ---- a window
+
+    pub window_now : (n : ℕ) → is_fresh h.windows n ≡ true → kept_at h.windows n ≡ window_from p n
+    window_now n unmarked =
+        option_map_back OfWindow (λ x y e. cc) (kept_at h.windows n) (window_from p n) (of_now h is (part.Window n) unmarked)
+
+    -- a window without a mark needs no look
+    pub window_stays : (i : ℕ) → is_fresh h.windows i ≡ true → (m : Work)
+        → AreBrought same_part (given p) (part.Window i ∷ []) (held h) (held h) m m
+    window_stays i unmarked m =
+        one same_part (given p) (part.Window i) (held h) (held h) m m stands (refreshes_none (held h (part.Window i)) (given p (part.Window i)) m current)
+      where
+        current : held h (part.Window i) ≡ given p (part.Window i)
+        current = ap (option_map OfWindow) (window_now i unmarked)
+
+        by : (j : ℕ) (t : Bool) → (j == i) ≡ t
+            → held h (part.Window j) ≡ (if t then given p (part.Window j) else held h (part.Window j))
+        by j true same =
+            let one : j ≡ i = eqb-true j i same in
+            ap (λ k. held h (part.Window k)) one ∙ current ∙ sym (ap (λ k. given p (part.Window k)) one)
+        by j false other = refl
+
+        stands : Stands (part.Window i) h h
+        stands (part.Window j) = by j (j == i) refl
+        stands q = refl
+
+    module _ (key : ℕ) (new : Shelved (List TimedStep)) (now : Option (List TimedStep)) (e : now ≡ window_from p key)
+        (s : KeptAt key now h.windows new) (f : FreshAt key h.windows new) where
+      abbrev with_window : KeptParts
+      with_window = record h { windows = new }
+
+      window_stands : Stands (part.Window key) h with_window
+      window_stands (part.Window q) =
+          shelf_stands OfWindow key (window_from p) h.windows.kept new.kept
+          (subst (λ (x : Option (List TimedStep)). KeptAt key x h.windows new) e s) q
+      window_stands q = refl
+
+      window_other : NoOther (part.Window key) h with_window
+      window_other (part.Window q) unmarked = or_true (q == key) (is_fresh h.windows q) (sym (f q) ∙ unmarked)
+      window_other q unmarked = inr unmarked
+
+      pub window_is_of : IsOf p with_window
+      window_is_of = is_of_after (part.Window key) h with_window is window_stands window_other
+          (λ unmarked. same_devices h with_window refl (entries p.nodes) (closed h is unmarked))
+
+      pub window_brought : (m n : Work) → Refreshes (kept_at h.windows key) now m n
+          → AreBrought same_part (given p) (part.Window key ∷ []) (held h) (held with_window) m n
+      window_brought m n r =
+          one same_part (given p) (part.Window key) (held h) (held with_window) m n window_stands
+          (refreshes_kind OfWindow (λ x y e. cc) (kept_at h.windows key) (window_from p key) m n
+          (subst (λ (x : Option (List TimedStep)). Refreshes (kept_at h.windows key) x m n) e r))
+
+    -- ---- the diagnostics
+
+    pub found_now : h.found.fresh ≡ true → h.found.kept ≡ Some (whole p)
+    found_now unmarked =
+        option_map_back OfDiagnostics (λ x y e. cc) h.found.kept (Some (whole p)) (of_now h is part.Diagnostics unmarked)
+
+    module _ (new : Single DiagnosticsFrom) (s : new ≡ record { kept = Some (whole p); fresh = true }) where
+      abbrev with_found : KeptParts
+      with_found = record h { found = new }
+
+      found_stands : Stands part.Diagnostics h with_found
+      found_stands part.Diagnostics = ap (λ (x : Single DiagnosticsFrom). option_map OfDiagnostics x.kept) s
+      found_stands q = refl
+
+      found_other : NoOther part.Diagnostics h with_found
+      found_other part.Diagnostics unmarked = inl refl
+      found_other q unmarked = inr unmarked
+
+      pub found_is_of : IsOf p with_found
+      found_is_of = is_of_after part.Diagnostics h with_found is found_stands found_other
+          (λ unmarked. same_devices h with_found refl (entries p.nodes) (closed h is unmarked))
+
+      pub found_brought : (m n : Work) → Refreshes h.found.kept (Some (whole p)) m n
+          → AreBrought same_part (given p) (part.Diagnostics ∷ []) (held h) (held with_found) m n
+      found_brought m n r =
+          one same_part (given p) part.Diagnostics (held h) (held with_found) m n found_stands
+          (refreshes_kind OfDiagnostics (λ x y e. cc) h.found.kept (Some (whole p)) m n r)

@@ -1,11 +1,11 @@
+pub mod GoneLemmas
 pub mod KindLemmas
-pub mod NamedLemmas
-pub mod NodeLemmas
 pub mod StayLemmas
 pub mod StepLemmas
+pub mod SimulationLemmas
 pub mod CurrentLemmas
-pub mod EntriesAlike
-pub mod FrameLemmas
+pub mod NodeLemmas
+pub mod Stays
+pub mod AllLemmas
 pub mod MarkLemmas
-pub mod PlanLemmas
-pub mod GoneLemmas
+pub mod NetworkLemmas

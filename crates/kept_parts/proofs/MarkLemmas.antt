@@ -1,6 +1,6 @@
 -- Marks.
-use Rattle.std.proofs.Common.{◌≡◌, ◌∙◌, ℕ, Bool, true, false, ◌&&◌, not, cond, List, [], ◌∷◌, map, Option, Some, None}
-use Rattle.std.proofs.Common.{option_map, refl, sym, ap, subst}
+use Rattle.std.proofs.Common.{◌≡◌, ◌∙◌, ℕ, Bool, true, false, ◌&&◌, ◌||◌, ◌==◌, not, cond, List, [], ◌∷◌, map, Option, Some, None}
+use Rattle.std.proofs.Common.{option_map, refl, sym, ap, subst, Ok}
 use Rattle.std.specs.FinMap.{entries, get, get-insert, insert}
 use Rattle.std.specs.Option.{option_map_or}
 use Rattle.std.specs.Ordering.{eq_by_cmp}
@@ -12,16 +12,26 @@ use Rattle.co_edits.specs.declared.edit.Edit.{Edit}
 use Rattle.co_edits.specs.declared.edit.Edit.TheVariants as edit
 use Rattle.co_messages.specs.Messages.{name_cmp}
 use Rattle.co_project.specs.declared.node.Node.{Node}
-use Rattle.co_project.specs.Project.{Content as Project}
-use Rattle.kept_devices.specs.Slots.{fresh_at, text_kept, with_fresh, Slots}
-use Rattle.kept_parts.specs.Kept.{fresh, held, of_node, HaveNoMark, IsOf, OfDevice}
-use Rattle.kept_parts.specs.Marks.{Follows, Marks}
-use Rattle.kept_parts.specs.Touched.{is_of_text, is_planned, touched}
-use Rattle.kept_devices.specs.declared.device_slot.DeviceSlot.{DeviceSlot}
-use Rattle.kept_parts.specs.declared.part.Part.{Part}
-use Rattle.kept_parts.specs.declared.part.Part.TheVariants as part
+use Rattle.co_project.specs.Project.{accept, Content as Project}
+use Rattle.part_shelves.specs.Slots.{fresh_at, text_kept, with_fresh, Slots}
+use Rattle.kept_parts.specs.Kept.{fresh, held, HaveNoMark, IsOf}
+use Rattle.kept_parts.specs.Marks.{Marks}
+use Rattle.co_memo.specs.At.{at}
+use Rattle.co_memo.specs.Shelved.{is_fresh, Shelved, Single}
+use Rattle.co_scenario.specs.declared.timed_step.TimedStep.{TimedStep}
+use Rattle.project_parts.specs.declared.device_at.DeviceAt.{DeviceAt}
+use Rattle.project_parts.specs.Given.{OfDevice, OfNode, OfRoster, OfWindow}
+use Rattle.project_parts.specs.declared.roster_from.RosterFrom.{RosterFrom}
+use Rattle.project_parts.specs.Reached.{of_node, of_nodes}
+use Rattle.project_parts.specs.Touched.{is_of_network, is_of_text, is_planned, is_window, touched}
+use Rattle.part_shelves.specs.declared.device_slot.DeviceSlot.{DeviceSlot}
+use Rattle.project_parts.specs.declared.part.Part.{Part}
+use Rattle.project_parts.specs.declared.part.Part.TheVariants as part
 use Rattle.kept_parts.specs.declared.kept_parts.KeptParts.{KeptParts}
-use Rattle.kept_parts.proofs.FrameLemmas.{frame, nodes_left}
+use Rattle.project_parts.proofs.EditLemmas.{taken_as}
+use Rattle.project_parts.proofs.FileLemmas.{nodes_left}
+use Rattle.project_parts.proofs.FrameLemmas.{frame}
+use Rattle.kept_parts.proofs.GoneLemmas.{fresh_known, held_known}
 
 -- ---- the mark of a text
 
@@ -74,83 +84,181 @@ module _ (slots : Slots) (name : List ℕ) where
           ap slot_fresh (get-insert nat_list_cmp_total slots name (record s { fresh = false }) q)
           ∙ at s (eq_by_cmp name_cmp q name)
 
--- ---- marks of parts
-
-module _ (h : KeptParts) where
-  -- the device of an EDS, with the plan and what is built from it
-  pub text_marks : (name : List ℕ) (new : KeptParts)
-      → Marks is_planned (record h { devices = with_fresh h.devices name false }) new → Marks (is_of_text name) h new
-  text_marks name new m = record { kept = same; marked = less }
-    where
-      middle : KeptParts
-      middle = record h { devices = with_fresh h.devices name false }
-
-      before : (q : Part) → held middle q ≡ held h q
-      before (part.Device e) = ap (option_map OfDevice) (marked_kept h.devices name e)
-      before part.Plan = refl
-      before (part.Writes n) = refl
-      before (part.Concise n) = refl
-      before (part.Dcf n) = refl
-
-      same : (q : Part) → held new q ≡ held h q
-      same q = m.kept q ∙ before q
-
-      less : (q : Part) → fresh new q ≡ (not (is_of_text name q) && fresh h q)
-      less (part.Device e) = m.marked (part.Device e) ∙ fresh_at_mark h.devices name e
-      less part.Plan = m.marked part.Plan
-      less (part.Writes n) = m.marked (part.Writes n)
-      less (part.Concise n) = m.marked (part.Concise n)
-      less (part.Dcf n) = m.marked (part.Dcf n)
-
--- nothing is marked
-pub no_marks : (h : KeptParts) → Marks (λ q. false) h h
-no_marks h = record { kept = λ q. refl; marked = λ q. refl }
-
--- ---- what is held after an edit
-
 unasked : (asked was : Bool) → (not asked && was) ≡ true → (was ≡ true) × (asked ≡ false)
 unasked true was h = cc
 unasked false was h = (h, refl)
 
-module _ (asked : Part → Bool) (old new : KeptParts) (m : Marks asked old new) where
-  -- what has no mark had none, and wasn't asked for
-  unmarked : (q : Part) → fresh new q ≡ true → (fresh old q ≡ true) × (asked q ≡ false)
-  unmarked q u = unasked (asked q) (fresh old q) (sym (m.marked q) ∙ u)
+-- ---- marks of parts
 
-  stays : (q : Part) → asked q ≡ false → fresh old q ≡ true → fresh new q ≡ true
-  stays q other u = m.marked q ∙ ap (λ t. not t && fresh old q) other ∙ u
+neither : (s t : Bool) → (s || t) ≡ false → (s ≡ false) × (t ≡ false)
+neither true t h = cc
+neither false t h = (refl, h)
+
+module _ (h : KeptParts) (name : List ℕ) where
+  abbrev with_text : KeptParts
+  with_text = record h { devices = with_fresh h.devices name false }
+
+  -- the device of an EDS, with the plan and what is made from it, what nodes have by their devices, and the windows
+  pub text_marks : (middle : KeptParts) (nodes : Shelved DeviceAt) (windows : Shelved (List TimedStep))
+      → Marks is_planned with_text middle → nodes.kept ≡ middle.nodes.kept
+      → ((q : ℕ) → is_fresh nodes q ≡ false) → windows.kept ≡ middle.windows.kept
+      → ((q : ℕ) → is_fresh windows q ≡ false)
+      → Marks (is_of_text name) h (record middle { nodes = nodes; windows = windows })
+  text_marks middle nodes windows m same_nodes no_node same_windows no_window =
+      record { kept = same; unmarked = less; others = others }
+    where
+      after : KeptParts
+      after = record middle { nodes = nodes; windows = windows }
+
+      same : (q : Part) → held after q ≡ held h q
+      same (part.Device e) = m.kept (part.Device e) ∙ ap (option_map OfDevice) (marked_kept h.devices name e)
+      same part.Plan = m.kept part.Plan
+      same (part.Writes n) = m.kept (part.Writes n)
+      same (part.Concise n) = m.kept (part.Concise n)
+      same (part.Dcf n) = m.kept (part.Dcf n)
+      same part.Roster = m.kept part.Roster
+      same (part.Node n) =
+          ap (λ (es : List (ℕ × DeviceAt)). option_map OfNode (at es n)) same_nodes ∙ m.kept (part.Node n)
+      same (part.Window i) =
+          ap (λ (es : List (ℕ × List TimedStep)). option_map OfWindow (at es i)) same_windows ∙ m.kept (part.Window i)
+      same part.Diagnostics = m.kept part.Diagnostics
+
+      less : (q : Part) → fresh after q ≡ true → (fresh h q ≡ true) × (is_of_text name q ≡ false)
+      less (part.Device e) u =
+          unasked (eq_by_cmp name_cmp e name) (fresh_at h.devices e)
+          (sym (fresh_at_mark h.devices name e) ∙ (m.unmarked (part.Device e) u).0)
+      less part.Plan u = m.unmarked part.Plan u
+      less (part.Writes n) u = m.unmarked (part.Writes n) u
+      less (part.Concise n) u = m.unmarked (part.Concise n) u
+      less (part.Dcf n) u = m.unmarked (part.Dcf n) u
+      less part.Roster u = m.unmarked part.Roster u
+      less (part.Node n) u = let none : is_fresh nodes n ≡ false = no_node n in cc
+      less (part.Window i) u = let none : is_fresh windows i ≡ false = no_window i in cc
+      less part.Diagnostics u = m.unmarked part.Diagnostics u
+
+      others : (q : Part) → is_of_text name q ≡ false → is_window (λ i. true) q ≡ false → fresh h q ≡ true
+          → fresh after q ≡ true
+      others (part.Device e) other window u =
+          m.others (part.Device e) refl refl
+          (fresh_at_mark h.devices name e ∙ ap (λ t. not t && fresh_at h.devices e) other ∙ u)
+      others part.Roster other window u = m.others part.Roster refl refl u
+      others part.Diagnostics other window u = m.others part.Diagnostics refl refl u
+      others part.Plan other window u = cc
+      others (part.Writes n) other window u = cc
+      others (part.Concise n) other window u = cc
+      others (part.Dcf n) other window u = cc
+      others (part.Node n) other window u = cc
+      others (part.Window i) other window u = cc
+
+-- the plan and what is made from it, with the roster, what the node of a number has by its device, and the windows
+pub network_marks : (h : KeptParts) (id : ℕ) (middle : KeptParts) (roster : Single RosterFrom) (nodes : Shelved DeviceAt)
+    (windows : Shelved (List TimedStep)) → Marks is_planned h middle → roster ≡ record middle.roster { fresh = false }
+    → nodes.kept ≡ middle.nodes.kept → ((q : ℕ) → is_fresh nodes q ≡ (not (q == id) && is_fresh middle.nodes q))
+    → windows.kept ≡ middle.windows.kept → ((q : ℕ) → is_fresh windows q ≡ false)
+    → Marks (is_of_network id) h (record middle { roster = roster; nodes = nodes; windows = windows })
+network_marks h id middle roster nodes windows m is_roster same_nodes no_node same_windows no_window =
+    record { kept = same; unmarked = less; others = others }
+  where
+    after : KeptParts
+    after = record middle { roster = roster; nodes = nodes; windows = windows }
+
+    same : (q : Part) → held after q ≡ held h q
+    same (part.Device e) = m.kept (part.Device e)
+    same part.Plan = m.kept part.Plan
+    same (part.Writes n) = m.kept (part.Writes n)
+    same (part.Concise n) = m.kept (part.Concise n)
+    same (part.Dcf n) = m.kept (part.Dcf n)
+    same part.Roster = ap (λ (s : Single RosterFrom). option_map OfRoster s.kept) is_roster ∙ m.kept part.Roster
+    same (part.Node n) =
+        ap (λ (es : List (ℕ × DeviceAt)). option_map OfNode (at es n)) same_nodes ∙ m.kept (part.Node n)
+    same (part.Window i) =
+        ap (λ (es : List (ℕ × List TimedStep)). option_map OfWindow (at es i)) same_windows ∙ m.kept (part.Window i)
+    same part.Diagnostics = m.kept part.Diagnostics
+
+    less : (q : Part) → fresh after q ≡ true → (fresh h q ≡ true) × (is_of_network id q ≡ false)
+    less (part.Device e) u = m.unmarked (part.Device e) u
+    less part.Plan u = m.unmarked part.Plan u
+    less (part.Writes n) u = m.unmarked (part.Writes n) u
+    less (part.Concise n) u = m.unmarked (part.Concise n) u
+    less (part.Dcf n) u = m.unmarked (part.Dcf n) u
+    less part.Roster u = let none = ap (λ (s : Single RosterFrom). s.fresh) is_roster in cc
+    less (part.Node n) u =
+        let was = unasked (n == id) (is_fresh middle.nodes n) (sym (no_node n) ∙ u) in
+        ((m.unmarked (part.Node n) was.0).0, was.1)
+    less (part.Window i) u = let none : is_fresh windows i ≡ false = no_window i in cc
+    less part.Diagnostics u = m.unmarked part.Diagnostics u
+
+    others : (q : Part) → is_of_network id q ≡ false → is_window (λ i. true) q ≡ false → fresh h q ≡ true
+        → fresh after q ≡ true
+    others (part.Device e) other window u = m.others (part.Device e) refl refl u
+    others part.Plan other window u = cc
+    others (part.Writes n) other window u = cc
+    others (part.Concise n) other window u = cc
+    others (part.Dcf n) other window u = cc
+    others part.Roster other window u = cc
+    others (part.Node n) other window u =
+        no_node n ∙ ap (λ t. not t && is_fresh middle.nodes n) other ∙ m.others (part.Node n) refl refl u
+    others (part.Window i) other window u = cc
+    others part.Diagnostics other window u = m.others part.Diagnostics refl refl u
+
+-- marks, and then others
+pub both_marks : (a b : Part → Bool) (old middle new : KeptParts) → Marks a old middle → Marks b middle new
+    → Marks (λ q. a q || b q) old new
+both_marks a b old middle new x y = record {
+  kept = λ q. y.kept q ∙ x.kept q;
+  unmarked = λ q u. let then_so = y.unmarked q u in
+      let was = x.unmarked q then_so.0 in (was.0, ap (λ t. t || b q) was.1 ∙ then_so.1);
+  others = λ q other window u. let apart = neither (a q) (b q) other in
+      y.others q apart.1 window (x.others q apart.0 window u);
+}
+
+-- nothing is marked
+pub no_marks : (h : KeptParts) → Marks (λ q. false) h h
+no_marks h = record { kept = λ q. refl; unmarked = λ q u. (u, refl); others = λ q other window u. u }
+
+-- what is known of what is let go is no mark
+pub known_marks : (asked : Part → Bool) (old new : KeptParts) (known : Bool) → Marks asked old new
+    → Marks asked old (record new { swept = known })
+known_marks asked old new known m = record {
+  kept = λ q. held_known new known q ∙ m.kept q;
+  unmarked = λ q u. m.unmarked q (sym (fresh_known new known q) ∙ u);
+  others = λ q other window u. fresh_known new known q ∙ m.others q other window u;
+}
+
+-- ---- what is held after an edit
 
 -- where the plan isn't touched, no device is
-pub plan_below : (e : Edit) (name : List ℕ) → touched e part.Plan ≡ false → touched e (part.Device name) ≡ false
-plan_below (edit.Version version) name h = refl
-plan_below (edit.Bitrate rate) name h = refl
-plan_below (edit.Horizon time) name h = refl
-plan_below (edit.Manager m) name h = refl
-plan_below (edit.SyncCounter n) name h = refl
-plan_below (edit.Eds other text) name h = cc
-plan_below (edit.DropEds other) name h = cc
-plan_below (edit.Node id node eds) name h = refl
-plan_below (edit.Need id mandatory) name h = refl
-plan_below (edit.DropNode id) name h = refl
-plan_below (edit.Param id index sub text) name h = refl
-plan_below (edit.Unparam id index sub) name h = refl
-plan_below (edit.Message message m) name h = refl
-plan_below (edit.Start message n) name h = refl
-plan_below (edit.DropMessage message) name h = refl
-plan_below (edit.Source message position index sub) name h = refl
-plan_below (edit.Unsource message position) name h = refl
-plan_below (edit.Sink message position node index sub) name h = refl
-plan_below (edit.Unsink message position node) name h = refl
-plan_below (edit.Event number e) name h = refl
-plan_below (edit.DropEvent number) name h = refl
+pub plan_below : (p : Project) (e : Edit) (name : List ℕ) → touched p e part.Plan ≡ false
+    → touched p e (part.Device name) ≡ false
+plan_below p (edit.Version version) name h = refl
+plan_below p (edit.Bitrate rate) name h = refl
+plan_below p (edit.Horizon time) name h = refl
+plan_below p (edit.Manager m) name h = refl
+plan_below p (edit.SyncCounter n) name h = refl
+plan_below p (edit.Eds other text) name h = cc
+plan_below p (edit.DropEds other) name h = cc
+plan_below p (edit.Node id node eds) name h = refl
+plan_below p (edit.Need id mandatory) name h = refl
+plan_below p (edit.DropNode id) name h = refl
+plan_below p (edit.Param id index sub text) name h = refl
+plan_below p (edit.Unparam id index sub) name h = refl
+plan_below p (edit.Message message m) name h = refl
+plan_below p (edit.Start message n) name h = refl
+plan_below p (edit.DropMessage message) name h = refl
+plan_below p (edit.Source message position index sub) name h = refl
+plan_below p (edit.Unsource message position) name h = refl
+plan_below p (edit.Sink message position node index sub) name h = refl
+plan_below p (edit.Unsink message position node) name h = refl
+plan_below p (edit.Event number e) name h = refl
+plan_below p (edit.DropEvent number) name h = refl
 
 module _ (old new : KeptParts) where
   pub still_of : (asked : Part → Bool) (p : Project) → ((q : List ℕ) → asked part.Plan ≡ false
       → asked (part.Device q) ≡ false) → Marks asked old new → IsOf p old → IsOf p new
   unfolding IsOf
   still_of asked p apart m is = (
-    λ q u. m.kept q ∙ is.0 q (unmarked asked old new m q u).0,
-    λ u. let was = unmarked asked old new m part.Plan u in
+    λ q u. m.kept q ∙ is.0 q (m.unmarked q u).0,
+    λ u. let was = m.unmarked part.Plan u in
         below (λ name. apart name was.1) (entries p.nodes) (is.1 was.0),
   )
     where
@@ -159,16 +267,17 @@ module _ (old new : KeptParts) where
       below other [] all = All-nil (λ q. fresh new q ≡ true)
       below other (e ∷ es) all =
           All-cons (λ q. fresh new q ≡ true) (of_node e) (map of_node es)
-          (stays asked old new m (of_node e) (other e.1.eds)
+          (m.others (of_node e) (other e.1.eds) refl
           (All-head (λ q. fresh old q ≡ true) (of_node e) (map of_node es) all))
           (below other es (All-tail (λ q. fresh old q ≡ true) (of_node e) (map of_node es) all))
 
-  pub follows : (e : Edit) → Marks (touched e) old new → Follows e old new
+  pub follows : (e : Edit) (p after : Project) → Marks (touched p e) old new → IsOf p old → accept p e ≡ Ok after
+      → IsOf after new
   unfolding IsOf
-  follows e m p after is taken = (
-    λ q u. let was = unmarked (touched e) old new m q u in
-        m.kept q ∙ is.0 q was.0 ∙ sym (frame p after q e taken was.1),
-    λ u. let was = unmarked (touched e) old new m part.Plan u in
-        subst (HaveNoMark new) (sym (nodes_left p after e taken was.1))
-        ((still_of (touched e) p (λ name. plan_below e name) m is).1 u),
+  follows e p after m is taken = (
+    λ q u. let was = m.unmarked q u in
+        m.kept q ∙ is.0 q was.0 ∙ sym (frame p after e q taken was.1),
+    λ u. let was = m.unmarked part.Plan u in
+        subst (HaveNoMark new) (sym (ap of_nodes (sym (taken_as p after e taken)) ∙ nodes_left p e was.1))
+        ((still_of (touched p e) p (λ name. plan_below p e name) m is).1 u),
   )

@@ -18,8 +18,10 @@ use Rattle.co_project.specs.Tables.{text_at}
 use Rattle.co_memo.specs.Work.{Work}
 use Rattle.co_memo.specs.Stale.{AreBrought}
 use Rattle.co_memo.proofs.Brought.{both, none}
-use Rattle.kept_parts.specs.Kept.{fresh, given, held, numbered, of_node, same_part, HaveNoMark, IsOf}
-use Rattle.kept_parts.specs.declared.part.Part.{Part}
+use Rattle.kept_parts.specs.Kept.{fresh, held, HaveNoMark, IsOf}
+use Rattle.project_parts.specs.Given.{given, numbered, same_part}
+use Rattle.project_parts.specs.Reached.{of_node}
+use Rattle.project_parts.specs.declared.part.Part.{Part}
 use Rattle.kept_parts.specs.declared.kept_parts.KeptParts.{KeptParts}
 
 -- the nodes before the rest are done

@@ -9,12 +9,14 @@ use Rattle.co_memo.proofs.Brought.{both, none, refreshes_none}
 use Rattle.co_project.specs.declared.node.Node.{Node}
 use Rattle.co_project.specs.Project.{Content as Project}
 use Rattle.co_project.specs.Tables.{text_at}
-use Rattle.kept_devices.specs.Slots.{fresh_at, text_kept}
-use Rattle.kept_devices.proofs.SlotLemmas.{fresh_stands}
-use Rattle.kept_parts.specs.Kept.{for_plan, fresh, given, held, of_node, plan_from, same_part, HaveNoMark, IsOf}
-use Rattle.kept_parts.specs.declared.plan_from.PlanFrom.{PlanFrom}
-use Rattle.kept_parts.specs.declared.part.Part.{Part}
-use Rattle.kept_parts.specs.declared.part.Part.TheVariants as part
+use Rattle.part_shelves.specs.Slots.{fresh_at, text_kept}
+use Rattle.part_shelves.proofs.SlotLemmas.{fresh_stands}
+use Rattle.kept_parts.specs.Kept.{fresh, held, HaveNoMark, IsOf}
+use Rattle.project_parts.specs.Given.{given, plan_from, same_part}
+use Rattle.project_parts.specs.Reached.{for_plan, of_node}
+use Rattle.project_parts.specs.declared.plan_from.PlanFrom.{PlanFrom}
+use Rattle.project_parts.specs.declared.part.Part.{Part}
+use Rattle.project_parts.specs.declared.part.Part.TheVariants as part
 use Rattle.kept_parts.specs.declared.kept_parts.KeptParts.{KeptParts}
 use Rattle.kept_parts.proofs.KindLemmas.{closed, device_brought, device_now, plan_brought, plan_now}
 

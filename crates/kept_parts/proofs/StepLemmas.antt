@@ -2,7 +2,6 @@
 use Rattle.std.proofs.Common.{◌≡◌, ℕ, List, [], ◌∷◌, Option, Some, None, refl, sym, ap, ◌∙◌, subst, option_map}
 use Rattle.std.proofs.Common.{IfSome, Bool, true, ◌+◌, ◌-◌, ◌^◌, min}
 use Rattle.std.specs.Option.{option_map_or}
-use Rattle.concise_dcf.specs.declared.write.Write.{Write}
 use Rattle.ini_text.specs.Content.{Content as Device}
 use Rattle.co_messages.specs.Messages.{Named}
 use Rattle.co_project.specs.declared.node.Node.{Node}
@@ -12,16 +11,18 @@ use Rattle.co_memo.specs.Shelved.{Single}
 use Rattle.co_memo.specs.Work.{Refreshes, Rises, Work}
 use Rattle.co_memo.specs.Stale.{AreBrought}
 use Rattle.co_memo.proofs.Brought.{refreshes_built}
-use Rattle.kept_devices.specs.Slots.{Slots}
-use Rattle.kept_parts.specs.Written.{AreValuesOf, Written}
-use Rattle.kept_parts.specs.Made.{writes_made, written_made}
-use Rattle.kept_parts.specs.Offered.{concise_by}
-use Rattle.kept_parts.specs.Kept.{concise_from, given, held, own_device, plan_from, same_part, writes_from}
-use Rattle.kept_parts.specs.declared.plan_from.PlanFrom.{PlanFrom}
-use Rattle.kept_parts.specs.declared.concise_from.ConciseFrom.{ConciseFrom}
-use Rattle.kept_parts.specs.declared.writes_from.WritesFrom.{WritesFrom}
-use Rattle.kept_parts.specs.declared.part.Part.{Part}
-use Rattle.kept_parts.specs.declared.part.Part.TheVariants as part
+use Rattle.part_shelves.specs.Slots.{Slots}
+use Rattle.project_parts.specs.Written.{Written}
+use Rattle.project_parts.specs.Made.{writes_made, written_made}
+use Rattle.project_parts.specs.Offered.{concise_by}
+use Rattle.kept_parts.specs.Kept.{held}
+use Rattle.project_parts.specs.Given.{concise_from, given, plan_from, same_part, writes_from}
+use Rattle.project_parts.specs.Reached.{own_device}
+use Rattle.project_parts.specs.declared.plan_from.PlanFrom.{PlanFrom}
+use Rattle.project_parts.specs.declared.concise_from.ConciseFrom.{ConciseFrom}
+use Rattle.project_parts.specs.declared.writes_from.WritesFrom.{WritesFrom}
+use Rattle.project_parts.specs.declared.part.Part.{Part}
+use Rattle.project_parts.specs.declared.part.Part.TheVariants as part
 use Rattle.kept_parts.specs.declared.kept_parts.KeptParts.{KeptParts}
 
 module _ (p : Project) (a b : KeptParts) (m n : Work) where
@@ -68,11 +69,6 @@ abbrev pub with_plan : KeptParts → Single PlanFrom → KeptParts
 with_plan k plan = record k { plan = plan }
 
 -- ---- the writes of a node
-
--- writes that are values of the entries of one device are such of the same device
-pub values_of : (d e : Device) (ws vs : List Write) → d ≡ e → ws ≡ vs → AreValuesOf d ws → AreValuesOf e vs
-values_of d e ws vs same alike are =
-    subst (λ (ws : List Write). AreValuesOf e ws) alike (subst (λ (d : Device). AreValuesOf d ws) same are)
 
 -- what is shown of writes that are kept with their device
 pub writes_shown : (from : Option WritesFrom) (written : Option Written) → written ≡ option_map written_made from

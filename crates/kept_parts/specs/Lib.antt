@@ -1,7 +1,3 @@
-pub mod Written
-pub mod Made
 pub mod Kept
-pub mod Offered
-pub mod Touched
 pub mod Marks
-pub mod Gone
+pub mod Left

@@ -1,26 +1,23 @@
-//! Parts that are brought up to date, one after what it is built from.
-ghost use Rattle.std.specs.Prelude.{◌≡◌, ◌∷◌, [], true, OnOk, IfOk, Some, is_some, map, option_map, option_and_then};
+//! What the files are made of, brought up to date, each part after what it is made from.
+ghost use Rattle.std.specs.Prelude.{◌≡◌, ◌∷◌, [], true, OnOk, IfOk, Some, is_some, option_map, option_and_then};
 ghost use Rattle.std.specs.Prelude.{filter_map};
 ghost use Rattle.std.specs.FinMap as finmap;
 ghost use Rattle.co_memo.specs.Stale.{AreBrought};
-ghost use Rattle.co_project.specs.Tables.{node_at, text_at};
-ghost use Rattle.kept_parts.specs.Kept.{device_at, for_plan, for_writes, fresh, given, held, numbered, of_node};
-ghost use Rattle.kept_parts.specs.Kept.{own_device, plan_from, reached, same_part, writes_from, HaveNoMark, IsOf};
-ghost use Rattle.kept_parts.specs.Made.{plan_made, written_made};
 ghost use Rattle.co_memo.specs.Work.{Rises};
+ghost use Rattle.co_project.specs.Tables.{node_at, text_at};
+ghost use Rattle.project_parts.specs.Given.{device_at, given, numbered, plan_from, same_part, writes_from};
+ghost use Rattle.project_parts.specs.Made.{plan_made, written_made};
+ghost use Rattle.project_parts.specs.Reached.{for_plan, for_writes, of_nodes, own_device, reached};
+ghost use Rattle.kept_parts.specs.Kept.{fresh, held, HaveNoMark, IsOf};
 
-use crate::concise_now::ConciseNow;
-use crate::dcf_now::DcfNow;
-use crate::device_writes::{DeviceWrites, share_written};
 use crate::kept_parts::KeptParts;
-use crate::node_devices::NodeDevices;
-use crate::part::Part;
-use crate::plan_now::PlanNow;
-use crate::writes_now::WritesNow;
 use co_memo::{Meter, Shared, share_of};
 use co_project::Project;
 use eds_device::Device;
 use pdo_plan::Plan;
+use project_parts::{
+    ConciseNow, DcfNow, DeviceWrites, NodeDevices, Part, PlanNow, WritesNow, share_written,
+};
 use project_plan::Named;
 use std::alloc::AllocError;
 
@@ -47,9 +44,9 @@ impl KeptParts {
         Ok(device)
     }
 
-    /// Brings the devices of all nodes up to date, as `refresh` does each, and lists them. Takes memory by
+    /// Brings the devices of all nodes up to date, and lists them. Takes memory by
     /// their number; want of memory is the only error.
-    pub fn bring_devices(
+    pub(crate) fn bring_devices(
         &mut self,
         project: &Project,
         meter: &mut Meter,
@@ -57,10 +54,10 @@ impl KeptParts {
         requires { IsOf project.now self.old }
         ensures is_of { IsOf project.now self.new }
         ensures brings { OnOk result (AreBrought same_part (given project.now)
-            (map of_node (finmap.entries project.now.nodes))
+            (of_nodes project.now)
             (held self.old) (held self.new) meter.old meter.new) }
         ensures value { IfOk result (λ d. d ≡ filter_map (numbered project.now) (finmap.entries project.now.nodes)) }
-        ensures unmarked { OnOk result (HaveNoMark self.new (map of_node (finmap.entries project.now.nodes))) }
+        ensures unmarked { OnOk result (HaveNoMark self.new (of_nodes project.now)) }
         ensures rises { Rises meter.old meter.new }
     {
         project.keeps_to_rules();
@@ -76,7 +73,7 @@ impl KeptParts {
     /// have alike at every node.
     fn devices_for_plan(&mut self, project: &Project) -> Result<NodeDevices, AllocError>
         requires is_of { IsOf project.now self.old }
-        requires unmarked { HaveNoMark self.old (map of_node (finmap.entries project.now.nodes)) }
+        requires unmarked { HaveNoMark self.old (of_nodes project.now) }
         ensures same { self.new ≡ self.old }
         ensures value { IfOk result (λ d. d ≡ filter_map (numbered project.now) (finmap.entries project.now.nodes)) }
     {
@@ -94,7 +91,7 @@ impl KeptParts {
     /// Builds the plan anew, where the devices of all nodes have no mark.
     fn build_plan(&mut self, project: &Project, meter: &mut Meter) -> Result<(), AllocError>
         requires is_of { IsOf project.now self.old }
-        requires unmarked { HaveNoMark self.old (map of_node (finmap.entries project.now.nodes)) }
+        requires unmarked { HaveNoMark self.old (of_nodes project.now) }
         requires stale { self.old.plan.kept ≡ Some (plan_from project.now) → ⊥ }
         ensures is_of { IsOf project.now self.new }
         ensures brings { OnOk result (AreBrought same_part (given project.now) (Part.Plan ∷ [])
@@ -132,7 +129,7 @@ impl KeptParts {
     }
 
     /// Brings the plan up to date, and shares it.
-    fn bring_plan(
+    pub(crate) fn bring_plan(
         &mut self,
         project: &Project,
         meter: &mut Meter,
@@ -151,9 +148,9 @@ impl KeptParts {
         Ok(plan)
     }
 
-    /// Brings the device of a node up to date, as `refresh` does, and shares it. Want of memory is the only
+    /// Brings the device of a node up to date, and shares it. Want of memory is the only
     /// error.
-    pub fn bring_own_device(
+    pub(crate) fn bring_own_device(
         &mut self,
         project: &Project,
         node: u8,
@@ -177,7 +174,7 @@ impl KeptParts {
     }
 
     /// Brings the writes of a node up to date, and shares them with its device.
-    fn bring_writes(
+    pub(crate) fn bring_writes(
         &mut self,
         project: &Project,
         node: u8,
@@ -199,7 +196,7 @@ impl KeptParts {
     }
 
     /// Brings the concise DCF of a node up to date.
-    fn bring_concise(
+    pub(crate) fn bring_concise(
         &mut self,
         project: &Project,
         node: u8,
@@ -218,7 +215,7 @@ impl KeptParts {
     }
 
     /// Brings the DCF of a node up to date.
-    fn bring_dcf(
+    pub(crate) fn bring_dcf(
         &mut self,
         project: &Project,
         node: u8,
@@ -234,36 +231,5 @@ impl KeptParts {
         let now = DcfNow::of(project, node, written);
         self.dcf.bring(self.alloc, node, now, meter)?;
         Ok(())
-    }
-
-    /// Brings a part, and all that it is built from, up to date.
-    pub(crate) fn bring(
-        &mut self,
-        part: &Part,
-        project: &Project,
-        meter: &mut Meter,
-    ) -> Result<(), AllocError>
-        requires { IsOf project.now self.old }
-        ensures is_of { IsOf project.now self.new }
-        ensures brings { OnOk result (AreBrought same_part (given project.now) (reached project.now part.now)
-            (held self.old) (held self.new) meter.old meter.new) }
-        ensures rises { Rises meter.old meter.new }
-    {
-        match part {
-            Part::Device(name) => {
-                self.bring_device(project, name.as_slice(), meter)?;
-                Ok(())
-            }
-            Part::Plan => {
-                self.bring_plan(project, meter)?;
-                Ok(())
-            }
-            Part::Writes(node) => {
-                self.bring_writes(project, *node, meter)?;
-                Ok(())
-            }
-            Part::Concise(node) => self.bring_concise(project, *node, meter),
-            Part::Dcf(node) => self.bring_dcf(project, *node, meter),
-        }
     }
 }

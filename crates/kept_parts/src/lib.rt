@@ -1,29 +1,15 @@
-//! The parts of a project that its files are made of, kept with what they were built from.
+//! The parts of a project, kept with what they were made from: brought up to date as they are asked for, marked by
+//! edits, and let go with what they are of.
 #![tactic(auto)]
 
+mod all;
 mod bringing;
-mod concise_from;
-mod concise_now;
-mod dcf_from;
-mod dcf_now;
-mod device_writes;
+mod diagnosing;
 mod kept_parts;
-pub mod laws;
 mod leaving;
-mod node_devices;
+mod network;
 mod of_now;
-mod part;
-mod plan_from;
-mod plan_now;
+mod simulation;
 mod touching;
-mod writes_from;
-mod writes_now;
 
-pub use concise_from::ConciseFrom;
-pub use dcf_from::DcfFrom;
-pub use device_writes::DeviceWrites;
 pub use kept_parts::KeptParts;
-pub use node_devices::NodeDevices;
-pub use part::Part;
-pub use plan_from::PlanFrom;
-pub use writes_from::WritesFrom;

@@ -1,6 +1,7 @@
 //! Devices that are kept, for those who read the devices of a project.
 ghost use Rattle.std.specs.Prelude.{◌≡◌, IfOk, IfSome, Some};
-ghost use Rattle.kept_parts.specs.Kept.{device_at, IsOf};
+ghost use Rattle.project_parts.specs.Given.{device_at};
+ghost use Rattle.kept_parts.specs.Kept.{IsOf};
 
 use crate::kept_parts::KeptParts;
 use co_memo::{Shared, share_of};
@@ -29,7 +30,7 @@ impl KeptParts {
 
     /// The device of an EDS as `device_of_now` gives it, with what it has alike at every node: that is found
     /// at the first asking, by the number of entries and its logarithm, and kept till the EDS is marked.
-    pub fn common_device_of_now(
+    pub(crate) fn common_device_of_now(
         &mut self,
         project: &Project,
         name: &[u8],

@@ -1,26 +1,39 @@
 //! Marks of what edits may leave with other inputs.
-ghost use Rattle.std.specs.Prelude.{◌≡◌};
-ghost use Rattle.co_project.specs.Project.{Content as Project};
-ghost use Rattle.kept_parts.specs.Kept.{held, IsOf};
-ghost use Rattle.kept_parts.specs.Marks.{Follows, Marks};
-ghost use Rattle.kept_parts.specs.Touched.{is_dcf, is_of_node, is_of_text, is_planned, touched, touches};
+ghost use Rattle.std.specs.Prelude.{◌≡◌, ◌||◌, Ok};
+ghost use Rattle.co_project.specs.Project.{accept, Content};
 ghost use Rattle.project_parts.specs.Touch.{shown};
+ghost use Rattle.project_parts.specs.Touched.{is_of_network, is_of_node, is_of_text, is_planned, is_roster, is_window};
+ghost use Rattle.project_parts.specs.Touched.{goes_into, is_window_at, is_window_of, is_wrong, says_rate, touched};
+ghost use Rattle.kept_parts.specs.Kept.{held, IsOf};
+ghost use Rattle.kept_parts.specs.Left.{IsSwept};
+ghost use Rattle.kept_parts.specs.Marks.{Marks};
 
 use crate::kept_parts::KeptParts;
-use crate::part::Part;
+use crate::leaving::stays_swept;
 use co_edits::Edit;
-use project_parts::{Touch, touch_of};
+use co_parts::WINDOW;
+use co_project::Project;
+use co_scenario::Script;
+use project_parts::{Part, Touch, touch_of};
 
 impl KeptParts {
     /// Marks what says the bit rate.
     fn touch_rate(&mut self)
-        ensures { Marks is_dcf self.old self.new }
+        ensures { Marks says_rate self.old self.new }
     {
         self.dcf.mark_all();
+        self.roster.mark();
     }
 
-    /// Marks what is built from the parameters of a node.
-    fn touch_node(&mut self, id: u8)
+    /// Marks the roster.
+    fn touch_roster(&mut self)
+        ensures { Marks is_roster self.old self.new }
+    {
+        self.roster.mark();
+    }
+
+    /// Marks what is made from the parameters of a node.
+    fn touch_parameters(&mut self, id: u8)
         ensures { Marks (is_of_node id) self.old self.new }
     {
         self.writes.mark(id);
@@ -28,7 +41,7 @@ impl KeptParts {
         self.dcf.mark(id);
     }
 
-    /// Marks the plan and what is built from it.
+    /// Marks the plan and what is made from it.
     fn touch_plan(&mut self)
         ensures { Marks is_planned self.old self.new }
     {
@@ -38,44 +51,101 @@ impl KeptParts {
         self.dcf.mark_all();
     }
 
-    /// Marks what is built from the text of an EDS.
+    /// Marks what a node goes into.
+    fn touch_network(&mut self, id: u8)
+        ensures { Marks (is_of_network id) self.old self.new }
+    {
+        self.touch_plan();
+        self.roster.mark();
+        self.nodes.mark(id);
+        self.windows.mark_all();
+    }
+
+    /// Marks what is made from the text of an EDS.
     fn touch_text(&mut self, name: &[u8])
         ensures { Marks (is_of_text name.now) self.old self.new }
     {
         self.devices.mark(name);
         self.touch_plan();
+        self.nodes.mark_all();
+        self.windows.mark_all();
     }
 
-    #[tactic(auto, using(crate::proofs::MarkLemmas::no_marks))]
-    fn mark(&mut self, touch: Touch<'_>)
-        ensures { Marks (touches (shown touch.entry)) self.old self.new }
+    /// Marks the window in which a time in microseconds lies.
+    fn touch_time(&mut self, time: u32)
+        ensures { Marks (is_window (λ i. is_window_of i time)) self.old self.new }
+    {
+        let i = u64::from(time) / WINDOW;
+        if i < 1024 {
+            self.windows.mark(i as u16);
+        } else {
+            self.windows.mark_all();
+        }
+    }
+
+    /// Marks the window in which the event of a number lies.
+    fn touch_event(&mut self, events: &Script, number: u16)
+        ensures { Marks (is_window (is_window_at events.now number)) self.old self.new }
+    {
+        if let Some(timed) = events.get(number) {
+            self.touch_time(timed.time);
+        }
+    }
+
+    /// Marks the window in which the event of a number lies, and that of another time.
+    fn touch_moved(&mut self, events: &Script, number: u16, time: u32)
+        ensures { Marks (is_window (λ i. is_window_of i time || is_window_at events.now number i)) self.old self.new }
+    {
+        self.touch_time(time);
+        self.touch_event(events, number);
+    }
+
+    /// Marks the diagnostics.
+    fn touch_found(&mut self)
+        ensures { Marks is_wrong self.old self.new }
+    {
+        self.found.mark();
+    }
+
+    /// Marks what a change goes into, but for the diagnostics.
+    fn mark(&mut self, touch: Touch<'_>, events: &Script)
+        ensures { Marks (goes_into events.now (shown touch.entry)) self.old self.new }
     {
         match touch {
             Touch::Nothing => (),
             Touch::Rate => self.touch_rate(),
-            Touch::Roster => (),
+            Touch::Roster => self.touch_roster(),
             Touch::Sheet(name) => self.touch_text(name),
-            Touch::Node(_) => self.touch_plan(),
-            Touch::Parameters(id) => self.touch_node(id),
+            Touch::Node(id) => self.touch_network(id),
+            Touch::Parameters(id) => self.touch_parameters(id),
             Touch::Messages => self.touch_plan(),
-            Touch::Event(..) => (),
-            Touch::NoEvent(_) => (),
+            Touch::Event(number, time) => self.touch_moved(events, number, time),
+            Touch::NoEvent(number) => self.touch_event(events, number),
         }
     }
 
-    /// Marks what an edit may leave with other inputs. Takes no memory, and constant time but for the
-    /// logarithm of the number of EDS. A mark too many does no harm: so it may come before the edit is
-    /// taken or refused.
-    pub fn touch(&mut self, edit: &Edit)
+    /// Marks what an edit of a project may leave with other inputs. Takes no memory, and constant time but
+    /// for the logarithms of the numbers of EDS and of events. A mark too many does no harm: so it may come
+    /// before the edit is taken or refused.
+    pub fn touch(&mut self, edit: &Edit, project: &Project)
         ensures held { (q : Part) → held self.new q ≡ held self.old q }
 
-        // These have a mark afterwards, and those that had one; no other has.
-        ensures marks { Marks (touched edit.now) self.old self.new }
+        // These have a mark afterwards, and those that had one; no other has, but windows may.
+        ensures marks { Marks (touched project.now edit.now) self.old self.new }
 
-        // What is held of a project is held of it still, and of the project that the edit makes of it.
-        ensures same { (p : Project) → IsOf p self.old → IsOf p self.new }
-        ensures follows { Follows edit.now self.old self.new }
+        // What is held of the project is held of it still, and of the project that the edit makes of it.
+        ensures same { IsOf project.now self.old → IsOf project.now self.new }
+        ensures follows { (q : Content) → IsOf project.now self.old → accept project.now edit.now ≡ Ok q
+            → IsOf q self.new }
+
+        // What is known to be let go is so still, and of the project that the edit makes, unless it drops something.
+        ensures still_swept { IsSwept project.now self.old → IsSwept project.now self.new }
+        ensures swept_after { (q : Content) → IsSwept project.now self.old → accept project.now edit.now ≡ Ok q
+            → IsSwept q self.new }
     {
-        self.mark(touch_of(edit));
+        let swept = stays_swept(self.swept, edit);
+        self.touch_found();
+        self.mark(touch_of(edit), project.events());
+        self.swept = swept;
     }
 }

@@ -11,7 +11,7 @@ use Rattle.co_project.specs.Project.{Content as Project}
 use Rattle.co_project.specs.Tables.{node_at, text_at}
 use Rattle.eds_device.specs.Entries.{entry_at, shape_of}
 use Rattle.eds_device.proofs.LawLemmas.{shape_at}
-use Rattle.kept_devices.specs.Slots.{text_kept, Slots}
+use Rattle.part_shelves.specs.Slots.{text_kept, Slots}
 use Rattle.project_plan.specs.Events.{bytes_set, shape_of_node}
 use Rattle.project_plan.specs.Network.{member_at, with_sections, Member}
 use Rattle.network_image.specs.Devices.{HoldsDevices}

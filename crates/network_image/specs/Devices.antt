@@ -3,7 +3,7 @@ use Rattle.std.specs.Prelude.{◌≡◌, ℕ, Some}
 use Rattle.co_project.specs.declared.node.Node.{Node}
 use Rattle.co_project.specs.Project.{Content as Project}
 use Rattle.co_project.specs.Tables.{node_at, text_at}
-use Rattle.kept_devices.specs.Slots.{text_kept, Slots}
+use Rattle.part_shelves.specs.Slots.{text_kept, Slots}
 
 -- they are those of now
 abbrev pub HoldsDevices : Project → Slots → Type 0

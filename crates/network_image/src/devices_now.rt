@@ -6,7 +6,7 @@ ghost use Rattle.network_image.specs.Devices.{HoldsDevices};
 use co_base::Octets;
 use co_params::judge_set;
 use co_project::Project;
-use kept_devices::DeviceShelf;
+use part_shelves::DeviceShelf;
 use std::alloc::{AllocError, Global};
 
 /// A project, and the devices of its nodes as they are now.

@@ -9,7 +9,7 @@ ghost use Rattle.network_image.specs.Steps.{timed_step_of};
 use crate::devices_now::DevicesNow;
 use co_project::Project;
 use co_scenario::{Event, Script, Step, TimedStep};
-use kept_devices::DeviceShelf;
+use part_shelves::DeviceShelf;
 use std::alloc::{AllocError, Global};
 
 /// What an event does: none where it sets no value.

@@ -13,23 +13,17 @@ use Rattle.ini_text.specs.Change.{text_of}
 use Rattle.concise_dcf.specs.Concise.{text_of as concise_text}
 use Rattle.eds_dcf.specs.Dcf.{dcf_sections}
 use Rattle.pdo_plan.specs.declared.planned_message.PlannedMessage.{PlannedMessage}
-use Rattle.kept_image.specs.Kept as image_parts
-use Rattle.kept_image.specs.Kept.{OfKept}
-use Rattle.kept_image.specs.declared.kept_image.KeptImage.{KeptImage}
-use Rattle.kept_image.specs.declared.image_part.ImagePart.TheVariants as image
-use Rattle.kept_parts.specs.Kept.{concise_from, dcf_from, given, held, plan_from}
-use Rattle.kept_parts.specs.Kept.{OfConcise, OfDcf, OfPlan}
-use Rattle.kept_parts.specs.Made.{concise_made, dcf_made, plan_made}
+use Rattle.kept_parts.specs.Kept.{held}
+use Rattle.project_parts.specs.Given.{concise_from, dcf_from, given, plan_from, whole, OfConcise, OfDcf}
+use Rattle.project_parts.specs.Given.{OfDiagnostics, OfPlan}
+use Rattle.project_parts.specs.declared.diagnostics_from.DiagnosticsFrom.{DiagnosticsFrom}
+use Rattle.co_diag.specs.Found.{diagnostics_of}
 use Rattle.kept_parts.specs.declared.kept_parts.KeptParts.{KeptParts}
-use Rattle.kept_parts.specs.declared.part.Part.{Part}
-use Rattle.kept_parts.specs.declared.part.Part.TheVariants as part
-use Rattle.kept_parts.proofs.PlanLemmas.{concise_is_of, dcf_is_of, plan_is}
+use Rattle.project_parts.specs.Made.{concise_made, dcf_made, plan_made}
+use Rattle.project_parts.specs.declared.part.Part.{Part}
+use Rattle.project_parts.specs.declared.part.Part.TheVariants as part
+use Rattle.project_parts.proofs.PlanLemmas.{concise_is_of, dcf_is_of, plan_is}
 use Rattle.workbench.specs.Queries.{concise_of, dcf_of}
-
--- a part that the files are made of, as it is held with the others
-pub kept_now : (p : Content) (k : KeptImage) (q : Part)
-    → image_parts.held k (image.Kept q) ≡ image_parts.given p (image.Kept q) → held k.parts q ≡ given p q
-kept_now p k q now = option_map_back OfKept (λ x y e. cc) (held k.parts q) (given p q) now
 
 module _ (p : Content) (k : KeptParts) where
   -- the plan is the project's
@@ -37,6 +31,13 @@ module _ (p : Content) (k : KeptParts) where
   plan_now now =
       ap (option_map plan_made) (option_map_back OfPlan (λ x y e. cc) k.plan.kept (Some (plan_from p)) now)
       ∙ ap Some (plan_is p)
+
+  -- the diagnostics are the project's
+  pub found_now : held k part.Diagnostics ≡ given p part.Diagnostics
+      → option_map (λ (f : DiagnosticsFrom). diagnostics_of f.project) k.found.kept ≡ Some (diagnostics_of p)
+  found_now now =
+      ap (option_map (λ (f : DiagnosticsFrom). diagnostics_of f.project))
+      (option_map_back OfDiagnostics (λ x y e. cc) k.found.kept (Some (whole p)) now)
 
   module _ (id : ℕ) where
     -- the concise DCF is that of the node

@@ -4,8 +4,8 @@ ghost use Rattle.listed_text.specs.Replies.{lines_reply};
 ghost use Rattle.workbench.specs.Texts.{text_of};
 
 use co_memo::Shared;
-use kept_diagnostics::Diagnostics;
 use listed_text::{ListedBytes, ListedText};
+use project_parts::Diagnostics;
 
 /// The answer to a query, with the reply that shows its lines. What is kept is shared, not copied.
 #[derive(Drop)]

@@ -2,39 +2,41 @@
 ghost use Rattle.std.specs.Prelude.{◌≡◌, IfOk, IsTrue, OnOk, Some, is_some};
 ghost use Rattle.co_memo.specs.Stale.{AreBrought};
 ghost use Rattle.project_plan.specs.Network.{member_at};
-ghost use Rattle.kept_image.specs.Gone.{left_of, IsSwept};
-ghost use Rattle.kept_image.specs.Kept.{given, held, reached, same_part, IsOf};
+ghost use Rattle.kept_parts.specs.Kept.{held, IsOf};
+ghost use Rattle.kept_parts.specs.Left.{left_of, IsSwept};
+ghost use Rattle.project_parts.specs.Given.{given, same_part};
+ghost use Rattle.project_parts.specs.Reached.{reached};
 ghost use Rattle.workbench.specs.Queries.{concise_of, dcf_of};
 ghost use Rattle.co_memo.specs.Work.{Rises};
 
 use co_memo::{Meter, Shared};
 use co_project::Project;
-use kept_image::{ImagePart, KeptImage};
-use kept_parts::Part;
+use kept_parts::KeptParts;
 use listed_text::{ListedBytes, ListedText};
+use project_parts::Part;
 use std::alloc::AllocError;
 
 /// The DCF of a node: the one that is kept, which is first brought up to date. Want of memory is the only
 /// error; what is kept is then still of the project.
 pub(crate) fn dcf(
     project: &Project,
-    image: &mut KeptImage,
+    parts: &mut KeptParts,
     meter: &mut Meter,
     node: u8,
 ) -> Result<Shared<ListedText>, AllocError>
-    requires is_of { IsOf project.now image.old }
-    requires swept { IsSwept project.now image.old }
+    requires is_of { IsOf project.now parts.old }
+    requires swept { IsSwept project.now parts.old }
     requires node { IsTrue (is_some (member_at project.now node)) }
     ensures file { IfOk result (λ text. dcf_of project.now node ≡ Some text) }
     ensures brings { OnOk result (AreBrought same_part (given project.now)
-        (reached project.now (ImagePart.Kept (Part.Dcf node)))
-        (left_of project.now image.old) (held image.new) meter.old meter.new) }
-    ensures is_of { IsOf project.now image.new }
-    ensures swept { IsSwept project.now image.new }
+        (reached project.now (Part.Dcf node))
+        (left_of project.now parts.old) (held parts.new) meter.old meter.new) }
+    ensures is_of { IsOf project.now parts.new }
+    ensures swept { IsSwept project.now parts.new }
     ensures rises { Rises meter.old meter.new }
 {
-    image.refresh(&ImagePart::Kept(Part::Dcf(node)), project, meter)?;
-    let Some(kept) = image.dcf(node) else {
+    parts.refresh(&Part::Dcf(node), project, meter)?;
+    let Some(kept) = parts.dcf(node) else {
         unreachable!()
     };
     let text = kept.share()?;
@@ -45,23 +47,23 @@ pub(crate) fn dcf(
 /// the only error; what is kept is then still of the project.
 pub(crate) fn concise(
     project: &Project,
-    image: &mut KeptImage,
+    parts: &mut KeptParts,
     meter: &mut Meter,
     node: u8,
 ) -> Result<Shared<ListedBytes>, AllocError>
-    requires is_of { IsOf project.now image.old }
-    requires swept { IsSwept project.now image.old }
+    requires is_of { IsOf project.now parts.old }
+    requires swept { IsSwept project.now parts.old }
     requires node { IsTrue (is_some (member_at project.now node)) }
     ensures file { IfOk result (λ bytes. concise_of project.now node ≡ Some bytes) }
     ensures brings { OnOk result (AreBrought same_part (given project.now)
-        (reached project.now (ImagePart.Kept (Part.Concise node)))
-        (left_of project.now image.old) (held image.new) meter.old meter.new) }
-    ensures is_of { IsOf project.now image.new }
-    ensures swept { IsSwept project.now image.new }
+        (reached project.now (Part.Concise node))
+        (left_of project.now parts.old) (held parts.new) meter.old meter.new) }
+    ensures is_of { IsOf project.now parts.new }
+    ensures swept { IsSwept project.now parts.new }
     ensures rises { Rises meter.old meter.new }
 {
-    image.refresh(&ImagePart::Kept(Part::Concise(node)), project, meter)?;
-    let Some(kept) = image.concise(node) else {
+    parts.refresh(&Part::Concise(node), project, meter)?;
+    let Some(kept) = parts.concise(node) else {
         unreachable!()
     };
     let bytes = kept.share()?;

@@ -7,9 +7,9 @@ ghost use Rattle.co_project.specs.Sound.{IsSound};
 ghost use Rattle.file_laws.specs.Files.{dcf_text};
 ghost use Rattle.file_laws.specs.Nodes.{IsSoundNode};
 ghost use Rattle.project_plan.specs.Network.{Member};
-ghost use Rattle.kept_image.specs.Gone.{HoldsNoneGone};
-ghost use Rattle.kept_image.specs.declared.image_part.ImagePart.{ImagePart};
-ghost use Rattle.workbench.specs.Bench.{Bench, Brings, BringsDiagnostics, Traces};
+ghost use Rattle.kept_parts.specs.Left.{HoldsNoneGone};
+ghost use Rattle.project_parts.specs.declared.part.Part.{Part};
+ghost use Rattle.workbench.specs.Bench.{Bench, Brings, Traces};
 ghost use Rattle.workbench.specs.Queries.{dcf_of};
 ghost use Rattle.workbench.specs.Lines.{AreLines, has_break, with_breaks, if_some};
 ghost use Rattle.workbench.specs.Replies.{State, start, ok_reply, after_line, after_lines, replies, replies_to_lines};
@@ -28,10 +28,8 @@ pub fn dcf_prints_the_text_of_its_node()
 /// After a file, diagnostics or a trace was answered nothing is held of a name of an EDS, nor of a number of a node,
 /// that the project doesn't have.
 pub fn nothing_is_held_of_what_is_gone()
-    ensures file { (parts : List ImagePart) (old new : Bench) → Brings parts old new
-        → HoldsNoneGone old.project new.image }
-    ensures diagnostics { (old new : Bench) → BringsDiagnostics old new → HoldsNoneGone old.project new.image }
-    ensures trace { (old new : Bench) → Traces old new → HoldsNoneGone old.project new.image }
+    ensures parts { (named : List Part) (old new : Bench) → Brings named old new → HoldsNoneGone old.project new.parts }
+    ensures trace { (old new : Bench) → Traces old new → HoldsNoneGone old.project new.parts }
 {}
 
 /// An input that is made of lines, each ended by LF, and of a last one that its end ends, has the

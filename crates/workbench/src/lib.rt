@@ -7,7 +7,6 @@ mod cursor;
 mod files;
 pub mod laws;
 mod open_block;
-mod planning;
 mod queries;
 mod reply;
 mod serving;
@@ -15,6 +14,7 @@ mod tracing;
 mod turns;
 mod work;
 mod workbench;
+mod wrong;
 
 pub use answers::Answer;
 pub use co_streams::{Counted, Intake, Outlet, SessionFault};

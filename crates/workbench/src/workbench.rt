@@ -10,22 +10,22 @@ ghost use Rattle.co_project.specs.Sound.{IsSound};
 ghost use Rattle.co_project.specs.Tables.{node_at};
 ghost use Rattle.can_bus.specs.Lines.{lines_text};
 ghost use Rattle.co_memo.specs.Work.{idle, Rises};
-ghost use Rattle.kept_image.specs.Kept.{held, reached};
-ghost use Rattle.workbench.specs.Bench.{no_segments, Brings, BringsDiagnostics, Traces};
+ghost use Rattle.kept_parts.specs.Kept.{held};
+ghost use Rattle.project_parts.specs.Reached.{reached};
+ghost use Rattle.workbench.specs.Bench.{no_segments, Brings, Traces};
 ghost use Rattle.workbench.specs.Queries.{or_unknown, dcf_of, concise_of, trace_of};
 
 use crate::files::{concise, dcf};
-use crate::planning::plan_of_now;
 use crate::tracing::traced;
 use crate::work::Work;
+use crate::wrong::diagnostics;
 use can_bus::Line;
 use co_memo::{Meter, Shared};
 use co_project::{Command, EditFault, Project};
 use co_segments::Store;
-use kept_diagnostics::{Diagnostics, KeptDiagnostics};
-use kept_image::{ImagePart, KeptImage};
-use kept_parts::Part;
+use kept_parts::KeptParts;
 use listed_text::{ListedBytes, ListedText};
+use project_parts::{Diagnostics, Part};
 use project_script::script_text;
 use std::alloc::{AllocError, Global};
 use std::marker::Model;
@@ -46,8 +46,7 @@ const CAPACITY: usize = 2048;
 pub struct Workbench {
     alloc: Global,
     project: Project,
-    image: KeptImage,
-    found: KeptDiagnostics,
+    parts: KeptParts,
     store: Store,
     meter: Meter,
 }
@@ -57,24 +56,21 @@ impl Model for Workbench {
     ghost use Rattle.workbench.specs.Bench.{Bench, bench_code};
     ghost use Rattle.co_memo.specs.contracts.meter.Meter as counted;
     ghost use Rattle.workbench.specs.Bench.{IsKeptOf};
-    ghost use Rattle.kept_diagnostics.specs.contracts.kept_diagnostics.KeptDiagnostics as wrong;
     ghost use Rattle.co_segments.specs.contracts.store.Store as traces;
-    ghost use Rattle.kept_image.specs.contracts.kept_image.KeptImage as kept;
+    ghost use Rattle.kept_parts.specs.contracts.kept_parts.KeptParts as kept;
 
     ghost Value = { Bench };
 
-    ghost coded = { bench_code held.the_row.coded kept.the_row.coded wrong.the_row.coded traces.the_row.coded
-        counted.the_row.coded };
+    ghost coded = { bench_code held.the_row.coded kept.the_row.coded traces.the_row.coded counted.the_row.coded };
 
     ghost view = { λ w. record {
       project = w.project;
-      image = w.image;
-      found = w.found;
+      parts = w.parts;
       store = w.store;
       work = w.meter;
     } };
 
-    ghost invariant = { λ w. IsKeptOf w.project w.image w.found w.store };
+    ghost invariant = { λ w. IsKeptOf w.project w.parts w.store };
 }
 
 impl Workbench {
@@ -88,8 +84,7 @@ impl Workbench {
         Ok(Workbench {
             alloc,
             project: Project::new(alloc),
-            image: KeptImage::new(alloc),
-            found: KeptDiagnostics::new(),
+            parts: KeptParts::new(alloc),
             store,
             meter: Meter::new(),
         })
@@ -102,16 +97,14 @@ impl Workbench {
         ensures accepts { Accepts self.old.project self.new.project result (accept self.old.project command) }
 
         // Nothing that is kept changes, and nothing is counted.
-        ensures held { (q : ImagePart) → held self.new.image q ≡ held self.old.image q }
-        ensures found { self.new.found.found.kept ≡ self.old.found.found.kept }
+        ensures held { (q : Part) → held self.new.parts q ≡ held self.old.parts q }
         ensures store { self.new.store ≡ self.old.store }
         ensures work { self.new.work ≡ self.old.work }
 
         // Memory comes only of edits that add something.
         ensures memory { IsErrOf result EditFault.Memory → IsTrue (adds self.old.project command) }
     {
-        self.image.touch(command.edit(), &self.project);
-        self.found.mark();
+        self.parts.touch(command.edit(), &self.project);
         self.project.accept(command)?;
         Ok(())
     }
@@ -138,7 +131,7 @@ impl Workbench {
     #[tactic(auto, unfolding(crate::specs::Queries::dcf_of, project_plan::specs::Network::member_at))]
     pub fn listed_dcf(&mut self, node: u8) -> Result<Shared<ListedText>, EditFault>
         ensures file { Gives is_memory (λ text. text) result (or_unknown (dcf_of self.old.project node)) }
-        ensures brings { OnOk result (Brings (reached self.old.project (ImagePart.Kept (Part.Dcf node)))
+        ensures brings { OnOk result (Brings (reached self.old.project (Part.Dcf node))
             self.old self.new) }
         ensures unknown { IsErrOf result EditFault.Unknown ↔ (node_at self.old.project.nodes node ≡ None) }
 
@@ -150,7 +143,7 @@ impl Workbench {
         if self.project.node(node).is_none() {
             return Err(EditFault::Unknown);
         }
-        let text = dcf(&self.project, &mut self.image, &mut self.meter, node)?;
+        let text = dcf(&self.project, &mut self.parts, &mut self.meter, node)?;
         Ok(text)
     }
 
@@ -159,7 +152,7 @@ impl Workbench {
     /// Unknown: the number isn't a node's. Memory can come in place of the file.
     pub fn dcf(&mut self, node: u8) -> Result<Vec<u8>, EditFault>
         ensures file { Gives is_memory (λ v. v.items) result (or_unknown (dcf_of self.old.project node)) }
-        ensures brings { OnOk result (Brings (reached self.old.project (ImagePart.Kept (Part.Dcf node)))
+        ensures brings { OnOk result (Brings (reached self.old.project (Part.Dcf node))
             self.old self.new) }
         ensures unknown { IsErrOf result EditFault.Unknown ↔ (node_at self.old.project.nodes node ≡ None) }
 
@@ -181,7 +174,7 @@ impl Workbench {
     #[tactic(auto, unfolding(crate::specs::Queries::concise_of, project_plan::specs::Network::member_at))]
     pub fn listed_concise(&mut self, node: u8) -> Result<Shared<ListedBytes>, EditFault>
         ensures file { Gives is_memory (λ bytes. bytes) result (or_unknown (concise_of self.old.project node)) }
-        ensures brings { OnOk result (Brings (reached self.old.project (ImagePart.Kept (Part.Concise node)))
+        ensures brings { OnOk result (Brings (reached self.old.project (Part.Concise node))
             self.old self.new) }
         ensures unknown { IsErrOf result EditFault.Unknown ↔ (node_at self.old.project.nodes node ≡ None) }
 
@@ -193,7 +186,7 @@ impl Workbench {
         if self.project.node(node).is_none() {
             return Err(EditFault::Unknown);
         }
-        let bytes = concise(&self.project, &mut self.image, &mut self.meter, node)?;
+        let bytes = concise(&self.project, &mut self.parts, &mut self.meter, node)?;
         Ok(bytes)
     }
 
@@ -203,7 +196,7 @@ impl Workbench {
     /// Unknown: the number isn't a node's. Memory can come in place of the file.
     pub fn concise(&mut self, node: u8) -> Result<Vec<u8>, EditFault>
         ensures file { Gives is_memory (λ v. v.items) result (or_unknown (concise_of self.old.project node)) }
-        ensures brings { OnOk result (Brings (reached self.old.project (ImagePart.Kept (Part.Concise node)))
+        ensures brings { OnOk result (Brings (reached self.old.project (Part.Concise node))
             self.old self.new) }
         ensures unknown { IsErrOf result EditFault.Unknown ↔ (node_at self.old.project.nodes node ≡ None) }
 
@@ -225,18 +218,11 @@ impl Workbench {
     /// text that no node is made from is read again then.
     pub fn diagnostics(&mut self) -> Result<Shared<Diagnostics>, AllocError>
         ensures list { IfOk result (λ list. list ≡ diagnostics_of self.old.project) }
-        ensures brings { OnOk result (BringsDiagnostics self.old self.new) }
+        ensures brings { OnOk result (Brings (reached self.old.project Part.Diagnostics) self.old self.new) }
         ensures same { self.new.project ≡ self.old.project }
         ensures rises { Rises self.old.work self.new.work }
     {
-        let plan = plan_of_now(&self.project, &mut self.image, &mut self.meter)?;
-        let found = self.found.refresh(
-            self.alloc,
-            &self.project,
-            &self.image,
-            plan,
-            &mut self.meter,
-        )?;
+        let found = diagnostics(&self.project, &mut self.parts, &mut self.meter)?;
         Ok(found)
     }
 
@@ -248,8 +234,8 @@ impl Workbench {
         ensures same { self.new.project ≡ self.old.project }
         ensures rises { Rises self.old.work self.new.work }
     {
-        self.image.refresh_all(&self.project, &mut self.meter)?;
-        let network = self.image.network(&self.project)?;
+        self.parts.refresh_all(&self.project, &mut self.meter)?;
+        let network = self.parts.network(&self.project)?;
         let told = traced(
             self.alloc,
             &self.project,

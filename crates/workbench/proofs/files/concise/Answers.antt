@@ -1,18 +1,18 @@
 use Rattle.std.proofs.Common.{◌≡◌, ◌∙◌, Some, option_copied, ap, sym, rules}
-use Rattle.kept_parts.specs.declared.part.Part.TheVariants as part
-use Rattle.workbench.proofs.KeptFiles.{concise_there, concise_now, kept_now}
+use Rattle.project_parts.specs.declared.part.Part.TheVariants as part
+use Rattle.workbench.proofs.KeptFiles.{concise_there, concise_now}
 use Rattle.workbench.proofs.files.concise.Goals as goal
 
 pub unreachable-requires : goal.unreachable-requires
 unreachable-requires c =
     concise_there c.args.project.now c.args.node c.requires.node
     (ap option_copied (sym c.in_default.is) ∙ c.concise.ensures
-    ∙ concise_now c.args.project.now c.refresh.new.self.parts c.args.node
-    (kept_now c.args.project.now c.refresh.new.self (part.Concise c.args.node) c.in_ok-refresh.ensures.current))
+    ∙ concise_now c.args.project.now c.refresh.new.self c.args.node
+    c.in_ok-refresh.ensures.current)
 
 pub returns-clause-file : goal.returns-clause-file
 returns-clause-file c =
     let same : c.in_ok-bytes.bytes ≡ c.in-Some.kept.now = search rules in
-    sym (concise_now c.args.project.now c.refresh.new.self.parts c.args.node
-    (kept_now c.args.project.now c.refresh.new.self (part.Concise c.args.node) c.in_ok-refresh.ensures.current))
+    sym (concise_now c.args.project.now c.refresh.new.self c.args.node
+    c.in_ok-refresh.ensures.current)
     ∙ sym c.in-Some.ensures ∙ ap Some (sym same)

@@ -1,8 +1,10 @@
 use Rattle.std.proofs.Common.{[], ◌∷◌, option_map, sym, ◌∙◌}
 use Rattle.co_memo.proofs.Brought.{both}
-use Rattle.kept_parts.specs.Kept.{for_writes, given, held, same_part}
-use Rattle.kept_parts.specs.Offered.{offered_dcf}
-use Rattle.kept_parts.specs.declared.part.Part.TheVariants as part
+use Rattle.kept_parts.specs.Kept.{held}
+use Rattle.project_parts.specs.Given.{given, same_part}
+use Rattle.project_parts.specs.Reached.{for_writes}
+use Rattle.project_parts.specs.Offered.{offered_dcf}
+use Rattle.project_parts.specs.declared.part.Part.TheVariants as part
 use Rattle.kept_parts.proofs.KindLemmas.{dcf_brought, dcf_is_of, dcf_now}
 use Rattle.kept_parts.proofs.kept_parts.KeptParts.bring_dcf.Goals as goal
 

@@ -5,7 +5,7 @@ use Rattle.co_project.specs.Project.{Content as Project}
 use Rattle.co_project.specs.Tables.{text_at}
 use Rattle.kept_parts.specs.Kept.{fresh}
 use Rattle.kept_parts.specs.declared.kept_parts.KeptParts.{KeptParts}
-use Rattle.kept_parts.specs.declared.part.Part.TheVariants as part
+use Rattle.project_parts.specs.declared.part.Part.TheVariants as part
 use Rattle.kept_parts.proofs.NodeLemmas.{SoFar, eds_there, so_far_start, so_far_more, so_far_brought, so_far_unmarked}
 use Rattle.kept_parts.proofs.NodeLemmas.{so_far_value}
 use Rattle.kept_parts.proofs.StepLemmas.{named_so}

@@ -1,8 +1,10 @@
 use Rattle.std.proofs.Common.{[], ◌∷◌, ◌++◌, option_map, sym, ◌∙◌}
 use Rattle.co_memo.proofs.Brought.{both}
-use Rattle.kept_parts.specs.Kept.{for_plan, given, held, own_device, same_part}
-use Rattle.kept_parts.specs.Offered.{offered_writes}
-use Rattle.kept_parts.specs.declared.part.Part.TheVariants as part
+use Rattle.kept_parts.specs.Kept.{held}
+use Rattle.project_parts.specs.Given.{given, same_part}
+use Rattle.project_parts.specs.Reached.{for_plan, own_device}
+use Rattle.project_parts.specs.Offered.{offered_writes}
+use Rattle.project_parts.specs.declared.part.Part.TheVariants as part
 use Rattle.kept_parts.proofs.KindLemmas.{writes_brought, writes_is_of, writes_now}
 use Rattle.kept_parts.proofs.kept_parts.KeptParts.bring_writes.Goals as goal
 

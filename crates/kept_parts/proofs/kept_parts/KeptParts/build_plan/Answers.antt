@@ -1,11 +1,12 @@
-use Rattle.std.proofs.Common.{◌≡◌, [], ◌∷◌, Some, ap, map, sym, subst, ◌∙◌}
-use Rattle.std.specs.FinMap.{entries}
+use Rattle.std.proofs.Common.{◌≡◌, [], ◌∷◌, Some, ap, sym, subst, ◌∙◌}
 use Rattle.co_memo.specs.Shelved.{Single}
 use Rattle.co_memo.specs.Stale.{AreBrought}
-use Rattle.kept_parts.specs.Kept.{given, held, of_node, plan_from, same_part, HaveNoMark, IsOf}
-use Rattle.kept_parts.specs.declared.part.Part.TheVariants as part
+use Rattle.kept_parts.specs.Kept.{held, HaveNoMark, IsOf}
+use Rattle.project_parts.specs.Given.{given, plan_from, same_part}
+use Rattle.project_parts.specs.Reached.{of_nodes}
+use Rattle.project_parts.specs.declared.part.Part.TheVariants as part
 use Rattle.kept_parts.specs.declared.kept_parts.KeptParts.{KeptParts}
-use Rattle.kept_parts.specs.declared.plan_from.PlanFrom.{PlanFrom}
+use Rattle.project_parts.specs.declared.plan_from.PlanFrom.{PlanFrom}
 use Rattle.kept_parts.proofs.KindLemmas.{plan_brought, plan_is_of}
 use Rattle.kept_parts.proofs.StepLemmas.{both_are, from_both, plan_built, with_plan}
 use Rattle.kept_parts.proofs.kept_parts.KeptParts.build_plan.Goals as goal
@@ -20,7 +21,7 @@ returns-clause-is_of c =
     plan_is_of p last (subst (IsOf p) same c.requires.is_of) c.build.new.self (from_both devices messages)
     c.in_ok-build.ensures.ok
     (both_are p devices messages c.in_ok-devices.ensures.value c.messages-messages.ensures)
-    (subst (λ (k : KeptParts). HaveNoMark k (map of_node (entries p.nodes))) same c.requires.unmarked)
+    (subst (λ (k : KeptParts). HaveNoMark k (of_nodes p)) same c.requires.unmarked)
 
 pub returns-clause-kept : goal.returns-clause-kept
 returns-clause-kept c =

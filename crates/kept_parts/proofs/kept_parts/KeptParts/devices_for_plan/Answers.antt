@@ -3,8 +3,8 @@ use Rattle.std.proofs.lemmas.Grind.{common_steps}
 use Rattle.std.specs.Option.{option_to_list}
 use Rattle.ini_text.specs.Content.{Content as Device, content_of}
 use Rattle.co_project.specs.declared.node.Node.{Node}
-use Rattle.kept_devices.specs.Slots.{text_kept}
-use Rattle.kept_parts.specs.Kept.{device_at}
+use Rattle.part_shelves.specs.Slots.{text_kept}
+use Rattle.project_parts.specs.Given.{device_at}
 use Rattle.kept_parts.specs.declared.kept_parts.KeptParts.{KeptParts}
 use Rattle.kept_parts.proofs.KindLemmas.{device_now}
 use Rattle.kept_parts.proofs.NodeLemmas.{Gathered, gathered_all, gathered_more, gathered_next, gathered_none}

@@ -1,11 +1,12 @@
-use Rattle.std.proofs.Common.{◌≡◌, [], ◌∷◌, Some, ap, sym, subst, map, ◌∙◌}
-use Rattle.std.specs.FinMap.{entries}
+use Rattle.std.proofs.Common.{[], ◌∷◌, Some, ap, sym, subst, ◌∙◌}
 use Rattle.co_memo.specs.Shelved.{Single}
 use Rattle.co_memo.specs.Stale.{AreBrought}
 use Rattle.co_memo.proofs.Brought.{both, refreshes_none}
-use Rattle.kept_parts.specs.Kept.{given, held, of_node, same_part, HaveNoMark, IsOf}
-use Rattle.kept_parts.specs.declared.part.Part.TheVariants as part
-use Rattle.kept_parts.specs.declared.plan_from.PlanFrom.{PlanFrom}
+use Rattle.kept_parts.specs.Kept.{held, HaveNoMark, IsOf}
+use Rattle.project_parts.specs.Given.{given, same_part}
+use Rattle.project_parts.specs.Reached.{of_nodes}
+use Rattle.project_parts.specs.declared.part.Part.TheVariants as part
+use Rattle.project_parts.specs.declared.plan_from.PlanFrom.{PlanFrom}
 use Rattle.kept_parts.proofs.KindLemmas.{plan_brought, plan_is_of, plan_now}
 use Rattle.kept_parts.proofs.StayLemmas.{plan_stays}
 use Rattle.kept_parts.proofs.StepLemmas.{both_are, from_both, plan_settled, with_plan}
@@ -52,7 +53,7 @@ returns-then-settle-clause-brings c =
     let first = c.bring_devices.new in
     let now = from_both c.in_ok-devices.devices c.messages-messages.result.now in
     let current = c.settle.ensures.same.0 c.if-settle.true in
-    both same_part (given p) (map of_node (entries p.nodes)) (part.Plan ∷ []) (held c.args.self.now) (held first.self) _
+    both same_part (given p) (of_nodes p) (part.Plan ∷ []) (held c.args.self.now) (held first.self) _
     c.args.meter.now first.meter first.meter c.in_ok-devices.ensures.brings
     (plan_brought p first.self c.in_ok-devices.ensures.is_of c.settle.new.self now
     (plan_settled first.self.plan c.settle.new.self now current (c.settle.ensures.settled c.if-settle.true))
@@ -70,7 +71,7 @@ build_plan-requires-clause-is_of c =
 pub build_plan-requires-clause-unmarked : goal.build_plan-requires-clause-unmarked
 build_plan-requires-clause-unmarked c =
     subst (λ (plan : Single PlanFrom). HaveNoMark (with_plan c.bring_devices.new.self plan)
-    (map of_node (entries c.args.project.now.nodes)))
+    (of_nodes c.args.project.now))
     (sym (c.settle.ensures.stale c.if-settle.false)) c.in_ok-devices.ensures.unmarked
 
 pub build_plan-requires-clause-stale : goal.build_plan-requires-clause-stale
@@ -86,7 +87,7 @@ pub returns-clause-brings : goal.returns-clause-brings
 returns-clause-brings c =
     let p = c.args.project.now in
     let first = c.bring_devices.new in
-    both same_part (given p) (map of_node (entries p.nodes)) (part.Plan ∷ []) (held c.args.self.now) (held first.self) _
+    both same_part (given p) (of_nodes p) (part.Plan ∷ []) (held c.args.self.now) (held first.self) _
     c.args.meter.now first.meter c.build_plan.new.meter c.in_ok-devices.ensures.brings
     (subst (λ (plan : Single PlanFrom). AreBrought same_part (given p) (part.Plan ∷ []) (held (with_plan first.self plan))
     (held c.build_plan.new.self) first.meter c.build_plan.new.meter)

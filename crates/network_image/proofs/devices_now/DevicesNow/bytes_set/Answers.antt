@@ -1,7 +1,7 @@
 use Rattle.std.proofs.Common.{◌∙◌, List, ℕ, Some, option_copied, option_map, sym, ap}
 use Rattle.std.specs.Result.{result_ok}
 use Rattle.ini_text.specs.Content.{content_of}
-use Rattle.kept_devices.specs.Slots.{text_kept}
+use Rattle.part_shelves.specs.Slots.{text_kept}
 use Rattle.network_image.proofs.DeviceLemmas.{device_set, none_set}
 use Rattle.network_image.proofs.devices_now.DevicesNow.bytes_set.Goals as goal
 

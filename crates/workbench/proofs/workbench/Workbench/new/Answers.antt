@@ -6,6 +6,5 @@ pub invariant_of-result : goal.invariant_of-result
 invariant_of-result c = (
   c.new-3.ensures.is_of c.new-2.result,
   c.new-3.ensures.swept c.new-2.result,
-  c.new-4.ensures c.new-2.result,
   ap (λ (h : Held). h.capacity) c.in_ok-store.ensures,
 )

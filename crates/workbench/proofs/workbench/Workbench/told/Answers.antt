@@ -10,9 +10,8 @@ returns-clause-traces c =
       told = traced.1.0;
       ran = traced.1.1.0;
       read = traced.1.1.1.0;
-      image = c.in_ok-refresh_all.ensures.brings;
+      parts = c.in_ok-refresh_all.ensures.brings;
       traced = traced.1.1.1.1.0;
       run = traced.1.1.1.1.1;
-      found = refl;
       capacity = c.traced.ensures.capacity;
     }

@@ -1,6 +1,0 @@
-use Rattle.std.proofs.Common.{◌∙◌}
-use Rattle.kept_devices.proofs.SlotLemmas.{slot_found}
-use Rattle.kept_devices.proofs.device_shelf.DeviceShelf.get.Goals as goal
-
-pub returns : goal.returns
-returns c = c.get.ensures.value ∙ slot_found c.self.inside.slots c.args.self.now c.self.view_is c.args.name.now

@@ -1,5 +1,0 @@
-use Rattle.kept_image.proofs.AllLemmas.{NodesSoFar}
-use Rattle.kept_image.proofs.kept_image.KeptImage.bring_nodes.Given as goal
-
-abbrev pub invariant-loop-number : goal.invariant-loop-number
-invariant-loop-number l = NodesSoFar l.project l.number-iterator l.fn.self l.self l.fn.meter l.meter

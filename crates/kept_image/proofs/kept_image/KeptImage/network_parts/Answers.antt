@@ -1,5 +1,0 @@
-use Rattle.kept_image.proofs.NetworkLemmas.{roster_current}
-use Rattle.kept_image.proofs.kept_image.KeptImage.network_parts.Goals as goal
-
-pub roster_pointer-requires : goal.roster_pointer-requires
-roster_pointer-requires c = roster_current c.args.project.now c.args.self.now c.requires

@@ -1,0 +1,21 @@
+use Rattle.std.proofs.Common.{[], ◌∷◌}
+use Rattle.co_memo.proofs.Brought.{both}
+use Rattle.kept_parts.specs.Kept.{held}
+use Rattle.project_parts.specs.Given.{given, same_part}
+use Rattle.project_parts.specs.Reached.{of_nodes}
+use Rattle.project_parts.specs.declared.part.Part.TheVariants as part
+use Rattle.kept_parts.proofs.AllLemmas.{holds_brought}
+use Rattle.kept_parts.proofs.kept_parts.KeptParts.bring_window.Goals as goal
+
+pub bring_own_window-requires-clause-devices : goal.bring_own_window-requires-clause-devices
+bring_own_window-requires-clause-devices c =
+    holds_brought c.args.project.now c.args.self.now c.bring_devices.new.self c.args.meter.now c.bring_devices.new.meter
+    c.in_ok-bring_devices.ensures.brings
+
+pub returns-clause-brings : goal.returns-clause-brings
+returns-clause-brings c =
+    let p = c.args.project.now in
+    both same_part (given p) (of_nodes p) (part.Window c.args.i ∷ [])
+    (held c.args.self.now) (held c.bring_devices.new.self) (held c.bring_own_window.new.self) c.args.meter.now
+    c.bring_devices.new.meter c.bring_own_window.new.meter c.in_ok-bring_devices.ensures.brings
+    c.in_ok-bring_own_window.ensures.brings

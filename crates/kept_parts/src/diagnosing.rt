@@ -1,0 +1,96 @@
+//! All that is wrong with a project, found by what is kept of it, and brought up to date.
+ghost use Rattle.std.specs.Prelude.{◌≡◌, ◌↔◌, IfOk, IsTrue, OnOk, Some};
+ghost use Rattle.co_diag.specs.Found.{diagnostics_of};
+ghost use Rattle.co_memo.specs.Stale.{AreBrought};
+ghost use Rattle.co_memo.specs.Work.{Rises};
+ghost use Rattle.project_parts.specs.Given.{given, same_part, whole};
+ghost use Rattle.project_parts.specs.Reached.{reached};
+ghost use Rattle.project_plan.specs.Network.{plan_of_project};
+ghost use Rattle.kept_parts.specs.Kept.{held, IsOf};
+
+use crate::kept_parts::KeptParts;
+use co_diag::diagnostics_by;
+use co_memo::{Meter, Shared};
+use co_project::Project;
+use pdo_plan::Plan;
+use project_parts::{Diagnostics, DiagnosticsNow, Part};
+use project_plan::Library;
+use std::alloc::AllocError;
+
+impl KeptParts {
+    /// Adds the device of an EDS to a library, where it is kept as it is now.
+    fn share_device(
+        &self,
+        library: &mut Library<'_>,
+        project: &Project,
+        name: &[u8],
+    ) -> Result<(), AllocError>
+        requires is_of { IsOf project.now self.now }
+        requires project { library.old.project ≡ project.now }
+        ensures { library.new.project ≡ project.now }
+    {
+        match self.device_of_now(project, name)? {
+            Some(device) => library.put(name, device),
+            None => Ok(()),
+        }
+    }
+
+    /// The library of a project with the devices that are kept as they are now: those it needn't read.
+    fn library<'a>(&self, project: &'a Project) -> Result<Library<'a>, AllocError>
+        requires { IsOf project.now self.now }
+        ensures { IfOk result (λ library. library.project ≡ project.now) }
+    {
+        let mut library = Library::new(self.alloc, project);
+        for (name, _text) in project.texts() {
+            self.share_device(&mut library, project, name)?;
+        }
+        Ok(library)
+    }
+
+    /// Finds the diagnostics of a project, by the plan of its messages and the devices that are kept of it.
+    fn find(&self, project: &Project, plan: &Plan) -> Result<Shared<Diagnostics>, AllocError>
+        requires is_of { IsOf project.now self.now }
+        requires plan { plan.now ≡ plan_of_project project.now }
+        ensures { IfOk result (λ d. d ≡ diagnostics_of project.now) }
+    {
+        let mut library = self.library(project)?;
+        let list = diagnostics_by(self.alloc, &mut library, plan)?;
+        let found = Diagnostics::new(self.alloc, list)?;
+        Shared::new(self.alloc, found)
+    }
+
+    /// Whether diagnostics of this project are kept: without a mark they are, else where the project that they are
+    /// of is equal.
+    fn has_diagnostics(&self, project: &Project) -> bool
+        requires { IsOf project.now self.now }
+        ensures { IsTrue result ↔ (self.now.found.kept ≡ Some (whole project.now)) }
+    {
+        let Some(kept) = self.found.inputs() else {
+            return false;
+        };
+        self.found.is_fresh() || kept.project.same(project)
+    }
+
+    /// Brings the diagnostics up to date, after the plan.
+    pub(crate) fn bring_diagnostics(
+        &mut self,
+        project: &Project,
+        meter: &mut Meter,
+    ) -> Result<(), AllocError>
+        requires { IsOf project.now self.old }
+        ensures is_of { IsOf project.now self.new }
+        ensures brings { OnOk result (AreBrought same_part (given project.now)
+            (reached project.now Part.Diagnostics) (held self.old) (held self.new) meter.old meter.new) }
+        ensures rises { Rises meter.old meter.new }
+    {
+        let plan = self.bring_plan(project, meter)?;
+        if self.has_diagnostics(project) {
+            self.found.unmark();
+            return Ok(());
+        }
+        let found = self.find(project, plan.get())?;
+        self.found
+            .build(self.alloc, DiagnosticsNow { project, found }, meter)?;
+        Ok(())
+    }
+}

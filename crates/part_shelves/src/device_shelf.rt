@@ -1,0 +1,217 @@
+//! The devices of EDS, by name.
+ghost use Rattle.std.specs.Prelude.{◌≡◌, ◌↔◌, ℕ, List, IsTrue, true, false, None, Some, Ok, IfOk, OnOk, OnErr, cond};
+ghost use Rattle.std.specs.Prelude.{option_copied, option_map};
+ghost use Rattle.std.specs.FinMap as map;
+ghost use Rattle.std.specs.Ordering.{eq_by_cmp};
+ghost use Rattle.eds_device.specs.Faults.{device_of};
+ghost use Rattle.ini_text.specs.Content.{content_of};
+ghost use Rattle.co_messages.specs.Messages.{by_name, name_cmp};
+ghost use Rattle.co_project.specs.Tables.{text_at};
+ghost use Rattle.co_memo.specs.Work.{Refreshes, Rises};
+ghost use Rattle.part_shelves.specs.Slots.{fresh_at, fresh_slot, text_kept, with_fresh};
+
+use crate::eds_text::keep_device;
+use crate::seat::Seat;
+use co_memo::{Meter, Shared, share_of};
+use co_project::Project;
+use eds_device::Device;
+use std::alloc::{AllocError, Global};
+use std::collections::BTreeMap;
+use std::marker::Model;
+
+/// The devices of EDS by the names of these, each with its text and a mark. A call takes time by the
+/// logarithm of their number.
+#[derive(Drop)]
+pub struct DeviceShelf {
+    slots: BTreeMap<Vec<u8>, Seat>,
+}
+
+impl Model for DeviceShelf {
+    ghost use Rattle.std.specs.Coded.{coded_ℕ, coded_list};
+    ghost use Rattle.std.specs.FinMap as map;
+    ghost use Rattle.co_messages.specs.Messages.{by_name};
+    ghost use Rattle.part_shelves.specs.Slots.{Slots};
+    ghost use Rattle.part_shelves.specs.contracts.device_slot.DeviceSlot as slot;
+
+    ghost Value = { Slots };
+
+    ghost coded = { map.code (coded_list coded_ℕ) slot.the_row.coded };
+
+    ghost view = { λ s. map.from_entries (by_name s.slots.entries) };
+}
+
+/// Lets go the devices of names under which a project has no text.
+fn keep_named(slots: &mut BTreeMap<Vec<u8>, Seat>, project: &Project)
+    ensures { map.from_entries {R = name_cmp} (by_name slots.new.entries)
+        ≡ map.retain_keys (map.from_entries (by_name slots.old.entries)) (map.contains_key project.now.texts) }
+{
+    slots.retain(|name, _seat| project.text(name).is_some());
+}
+
+impl DeviceShelf {
+    pub fn new(alloc: Global) -> DeviceShelf
+        ensures { result ≡ map.empty }
+    {
+        DeviceShelf {
+            slots: BTreeMap::new(alloc),
+        }
+    }
+
+    fn get(&self, name: &[u8]) -> Option<&Seat>
+        ensures { option_copied result ≡ map.get self.now name.now }
+    {
+        self.slots.get(name)
+    }
+
+    fn put(&mut self, name: Vec<u8>, seat: Seat) -> Result<(), AllocError>
+        ensures ok { OnOk result (self.new ≡ map.insert self.old name.items seat) }
+        ensures err { OnErr result (self.new ≡ self.old) }
+    {
+        self.slots.insert(name, seat)?;
+        Ok(())
+    }
+
+    fn remove(&mut self, name: &[u8])
+        ensures { self.new ≡ map.remove self.old name.now }
+    {
+        self.slots.remove(name);
+    }
+
+    /// Lets go the devices of names under which a project has no text. Takes time by the number of names, with
+    /// its logarithm.
+    pub fn let_go(&mut self, project: &Project)
+        ensures { self.new ≡ map.retain_keys self.old (map.contains_key project.now.texts) }
+    {
+        keep_named(&mut self.slots, project);
+    }
+
+    /// Sets or takes the mark of a name, if a text is kept under it.
+    fn set_fresh(&mut self, name: &[u8], fresh: bool)
+        ensures { self.new ≡ with_fresh self.old name.now fresh }
+    {
+        let Some(seat) = self.slots.get_mut(name) else {
+            return;
+        };
+        seat.set_fresh(fresh);
+    }
+
+    /// The text of a name may be another one now. What was found of its device for many nodes is let go.
+    pub fn mark(&mut self, name: &[u8])
+        ensures { self.new ≡ with_fresh self.old name.now false }
+    {
+        self.set_fresh(name, false);
+    }
+
+    /// The device of a name that is kept.
+    pub fn value(&self, name: &[u8]) -> Option<&Shared<Device>>
+        ensures { option_copied result ≡ option_map content_of (text_kept self.now name.now) }
+    {
+        match self.get(name) {
+            Some(seat) => Some(seat.device()),
+            None => None,
+        }
+    }
+
+    /// The device of a name that is kept, with what it has alike at every node: that is found at the first
+    /// asking, and kept till the name is marked. Takes time by the logarithm of the number of names, and at the
+    /// first asking time and memory by the number of entries, and time by its logarithm; want of memory is the
+    /// only error.
+    pub fn common(
+        &mut self,
+        alloc: Global,
+        name: &[u8],
+    ) -> Result<Option<Shared<Device>>, AllocError>
+        ensures same { self.new ≡ self.old }
+        ensures device { IfOk result (λ d. d ≡ option_map content_of (text_kept self.old name.now)) }
+    {
+        let Some(seat) = self.slots.get_mut(name) else {
+            return Ok(None);
+        };
+        let device = seat.common(alloc)?;
+        Ok(Some(device))
+    }
+
+    /// The device of a name that is kept, shared: where many build from it as `common` gives it, else as
+    /// `value`. Takes the time and the memory of these.
+    pub fn shared(
+        &mut self,
+        alloc: Global,
+        name: &[u8],
+        many: bool,
+    ) -> Result<Option<Shared<Device>>, AllocError>
+        ensures same { self.new ≡ self.old }
+        ensures device { IfOk result (λ d. d ≡ option_map content_of (text_kept self.old name.now)) }
+    {
+        if many {
+            let common = self.common(alloc, name)?;
+            return Ok(common);
+        }
+        let device = share_of(self.value(name))?;
+        Ok(device)
+    }
+
+    pub fn is_fresh(&self, name: &[u8]) -> bool
+        ensures { result ≡ fresh_at self.now name.now }
+    {
+        match self.get(name) {
+            Some(seat) => seat.is_fresh(),
+            None => false,
+        }
+    }
+
+    fn has_text(&self, name: &[u8], text: &[u8]) -> bool
+        ensures { IsTrue result ↔ (text_kept self.now name.now ≡ Some text.now) }
+    {
+        match self.get(name) {
+            Some(seat) => seat.text() == text,
+            None => false,
+        }
+    }
+
+    /// Reads the text of a name, and keeps its device.
+    fn read(&mut self, alloc: Global, name: &[u8], text: &[u8]) -> Result<(), AllocError>
+        requires { device_of text.now ≡ Ok (content_of text.now) }
+        ensures ok { OnOk result (self.new ≡ map.insert self.old name.now (fresh_slot text.now)) }
+        ensures err { OnErr result (self.new ≡ self.old) }
+    {
+        let kept = keep_device(alloc, text)?;
+        let name = Vec::from_slice(alloc, name)?;
+        self.put(name, Seat::new(kept))
+    }
+
+    /// Reads the text that a project has under a name anew if it is another one, and lets the device
+    /// go if there is none. A name without a mark takes no look at the text, the same text time by
+    /// its length, and another one time and memory by its length and its logarithm.
+    pub fn bring(
+        &mut self,
+        alloc: Global,
+        project: &Project,
+        name: &[u8],
+        meter: &mut Meter,
+    ) -> Result<(), AllocError>
+        requires { fresh_at self.old name.now ≡ true
+            → text_kept self.old name.now ≡ text_at project.now.texts name.now }
+        ensures ok { OnOk result ((q : List ℕ) → map.get self.new q
+            ≡ cond (eq_by_cmp name_cmp q name.now)
+            (option_map fresh_slot (text_at project.now.texts name.now)) (map.get self.old q)) }
+        ensures err { OnErr result (self.new ≡ self.old) }
+        ensures counted { OnOk result (Refreshes
+            (text_kept self.old name.now) (text_at project.now.texts name.now) meter.old meter.new) }
+        ensures rises { Rises meter.old meter.new }
+    {
+        if self.is_fresh(name) {
+            return Ok(());
+        }
+        let Some(text) = project.text(name) else {
+            self.remove(name);
+            return Ok(());
+        };
+        if self.has_text(name, text) {
+            self.set_fresh(name, true);
+            return Ok(());
+        }
+        self.read(alloc, name, text)?;
+        meter.refreshed();
+        Ok(())
+    }
+}

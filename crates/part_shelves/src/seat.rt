@@ -1,0 +1,90 @@
+//! A slot, with the device for many nodes.
+ghost use Rattle.std.specs.Prelude.{◌≡◌, IfOk, true};
+ghost use Rattle.ini_text.specs.Content.{content_of};
+ghost use Rattle.part_shelves.specs.Slots.{fresh_slot};
+
+use crate::device_slot::DeviceSlot;
+use crate::eds_text::EdsText;
+use co_memo::{Kept, Shared};
+use eds_device::Device;
+use std::alloc::{AllocError, Global};
+use std::marker::Model;
+
+/// A device that is kept. Once it was asked for, and until the text may be another one, the same device stands
+/// beside it with what it has alike at every node.
+#[derive(Drop)]
+pub struct Seat {
+    slot: DeviceSlot,
+    common: Option<Shared<Device>>,
+}
+
+impl Model for Seat {
+    ghost use Rattle.std.specs.Prelude.{◌≡◌, IfSome};
+    ghost use Rattle.ini_text.specs.Content.{content_of};
+    ghost use Rattle.part_shelves.specs.declared.device_slot.DeviceSlot.{DeviceSlot as Slot};
+
+    ghost Value = { Slot };
+
+    ghost view = { λ s. s.slot };
+
+    ghost invariant = { λ s. IfSome s.common (λ d. d ≡ content_of s.slot.kept) };
+}
+
+impl Seat {
+    /// A device of now.
+    pub fn new(kept: Kept<EdsText, Shared<Device>>) -> Seat
+        ensures { result ≡ fresh_slot kept }
+    {
+        Seat {
+            slot: DeviceSlot { kept, fresh: true },
+            common: None,
+        }
+    }
+
+    /// Whether it has no mark.
+    pub fn is_fresh(&self) -> bool
+        ensures { result ≡ self.now.fresh }
+    {
+        self.slot.fresh
+    }
+
+    /// The text.
+    pub fn text(&self) -> &[u8]
+        ensures { result.now ≡ self.now.kept }
+    {
+        self.slot.kept.inputs().as_slice()
+    }
+
+    /// The device.
+    pub fn device(&self) -> &Shared<Device>
+        ensures { result.now ≡ content_of self.now.kept }
+    {
+        self.slot.kept.value()
+    }
+
+    /// Sets or takes the mark. With a mark the device for many nodes goes.
+    pub fn set_fresh(&mut self, fresh: bool)
+        ensures { self.new ≡ record self.old { fresh = fresh } }
+    {
+        if !fresh {
+            self.common = None;
+        }
+        self.slot.fresh = fresh;
+    }
+
+    /// The device with what it has alike at every node, which is found at the first asking. Want of memory is
+    /// the only error.
+    pub fn common(&mut self, alloc: Global) -> Result<Shared<Device>, AllocError>
+        ensures same { self.new ≡ self.old }
+        ensures device { IfOk result (λ d. d ≡ content_of self.old.kept) }
+    {
+        if let Some(common) = &self.common {
+            return common.share();
+        }
+        let device = self.device().get().with_common()?;
+        let device = Shared::new(alloc, device)?;
+        let common = device.share()?;
+        self.common = Some(common);
+        Ok(device)
+    }
+}

@@ -1,0 +1,322 @@
+-- What edits leave of what the files are made of.
+use Rattle.std.proofs.Common.{◌≡◌, ℕ, Bool, true, false, cond, ◌==◌, List, [], ◌∷◌, map, filter_map, Option}
+use Rattle.std.proofs.Common.{Some, None, option_map, option_and_then, refl, sym, ap, ◌∙◌}
+use Rattle.std.specs.FinMap.{entries, get, get-insert, get-remove, insert, remove}
+use Rattle.std.specs.Ordering.{eq_by_cmp, nat_cmp}
+use Rattle.std.proofs.lemmas.Bool.{eq-eqb}
+use Rattle.std.proofs.lemmas.Cmp.{nat_cmp_total, nat_list_cmp_total}
+use Rattle.std.proofs.lemmas.Map.Lookups.{exact_unsigned}
+use Rattle.co_base.proofs.TableLemmas.{alike}
+use Rattle.ini_text.specs.Content.{Content as Device}
+use Rattle.co_edits.specs.declared.edit.Edit.{Edit}
+use Rattle.co_edits.specs.declared.edit.Edit.TheVariants as edit
+use Rattle.co_messages.specs.Messages.{name_cmp, Named}
+use Rattle.co_params.specs.Params.{Texts as Params}
+use Rattle.co_project.specs.declared.node.Node.{Node}
+use Rattle.co_project.specs.Project.{first, Content as Project}
+use Rattle.co_project.specs.Tables.{node_at, text_at, with_need, Nodes, Texts}
+use Rattle.project_parts.specs.Made.{plan_made, writes_made}
+use Rattle.project_parts.specs.Given.{dcf_of_node, device_at, given, plan_from, writes_from, writes_of_node}
+use Rattle.project_parts.specs.Reached.{of_node, of_nodes}
+use Rattle.project_parts.specs.Given.{OfConcise, OfDcf, OfDevice, OfPlan, OfWrites}
+use Rattle.project_parts.specs.Touched.{goes_into, is_of_network, is_of_node, is_of_text, is_planned, says_rate, touched}
+use Rattle.project_parts.specs.Touch.{touch_of}
+use Rattle.project_parts.specs.declared.dcf_from.DcfFrom.{DcfFrom}
+use Rattle.project_parts.specs.declared.plan_from.PlanFrom.{PlanFrom}
+use Rattle.project_parts.specs.declared.writes_from.WritesFrom.{WritesFrom}
+use Rattle.project_parts.specs.declared.part.Part.{Part}
+use Rattle.project_parts.specs.declared.part.Part.TheVariants as part
+use Rattle.project_parts.proofs.EditLemmas.{made, other_params, with_node, with_params}
+use Rattle.project_parts.proofs.EntriesAlike.{entries_alike, filter_shown, shown}
+
+-- what files are made of
+abbrev pub is_filed : Part → Bool
+is_filed part.Roster = false
+is_filed (part.Node n) = false
+is_filed (part.Window i) = false
+is_filed part.Diagnostics = false
+is_filed others = true
+
+-- ---- what of a project these are made from
+
+-- the bit rate, texts, nodes and messages alone
+abbrev core : ℕ → Texts → Nodes → Named → Project
+core rate t n m = record first { bitrate = rate; texts = t; nodes = n; messages = m }
+
+in_core : (p : Project) (q : Part) → is_filed q ≡ true → given p q ≡ given (core p.bitrate p.texts p.nodes p.messages) q
+in_core p (part.Device e) file = refl
+in_core p part.Plan file = refl
+in_core p (part.Writes n) file = refl
+in_core p (part.Concise n) file = refl
+in_core p (part.Dcf n) file = refl
+in_core p others file = cc
+
+-- what no bit rate changes
+any_rate : (rate other : ℕ) (t : Texts) (n : Nodes) (m : Named) (q : Part) → says_rate q ≡ false
+    → is_filed q ≡ true → given (core rate t n m) q ≡ given (core other t n m) q
+any_rate rate other t n m (part.Device e) h file = refl
+any_rate rate other t n m part.Plan h file = refl
+any_rate rate other t n m (part.Writes k) h file = refl
+any_rate rate other t n m (part.Concise k) h file = refl
+any_rate rate other t n m (part.Dcf k) h file = cc
+any_rate rate other t n m others h file = cc
+
+module _ (p new : Project) where
+  same_core : new.texts ≡ p.texts → new.nodes ≡ p.nodes → new.messages ≡ p.messages → (q : Part)
+      → given (core new.bitrate new.texts new.nodes new.messages) q
+      ≡ given (core new.bitrate p.texts p.nodes p.messages) q
+  same_core t n m q =
+      ap (λ (x : Texts). given (core new.bitrate x new.nodes new.messages) q) t
+      ∙ ap (λ (x : Nodes). given (core new.bitrate p.texts x new.messages) q) n
+      ∙ ap (λ (x : Named). given (core new.bitrate p.texts p.nodes x) q) m
+
+  pub settings_left : new.bitrate ≡ p.bitrate → new.texts ≡ p.texts → new.nodes ≡ p.nodes
+      → new.messages ≡ p.messages → (q : Part) → is_filed q ≡ true → given new q ≡ given p q
+  settings_left r t n m q file =
+      in_core new q file ∙ same_core t n m q ∙ ap (λ (x : ℕ). given (core x p.texts p.nodes p.messages) q) r
+      ∙ sym (in_core p q file)
+
+  -- what doesn't say the bit rate, where that is another
+  pub rate_left : new.texts ≡ p.texts → new.nodes ≡ p.nodes → new.messages ≡ p.messages → (q : Part)
+      → says_rate q ≡ false → is_filed q ≡ true → given new q ≡ given p q
+  rate_left t n m q h file =
+      in_core new q file ∙ same_core t n m q ∙ any_rate new.bitrate p.bitrate p.texts p.nodes p.messages q h file
+      ∙ sym (in_core p q file)
+
+  -- devices, where the texts are the same
+  pub devices_left : new.texts ≡ p.texts → (q : Part) → is_planned q ≡ false → is_filed q ≡ true
+      → given new q ≡ given p q
+  devices_left t (part.Device e) h file = ap (λ (x : Texts). option_map OfDevice (text_at x e)) t
+  devices_left t part.Plan h file = cc
+  devices_left t (part.Writes n) h file = cc
+  devices_left t (part.Concise n) h file = cc
+  devices_left t (part.Dcf n) h file = cc
+  devices_left t others h file = cc
+
+  -- other devices, where a text is another
+  pub texts_left : (name : List ℕ) (o : Option (List ℕ))
+      → ((e : List ℕ) → text_at new.texts e ≡ cond (eq_by_cmp name_cmp e name) o (text_at p.texts e))
+      → (q : Part) → is_of_text name q ≡ false → is_filed q ≡ true → given new q ≡ given p q
+  texts_left name o t (part.Device e) h file =
+      ap (option_map OfDevice) (t e ∙ ap (λ b. cond b o (text_at p.texts e)) h)
+  texts_left name o t part.Plan h file = cc
+  texts_left name o t (part.Writes n) h file = cc
+  texts_left name o t (part.Concise n) h file = cc
+  texts_left name o t (part.Dcf n) h file = cc
+  texts_left name o t others h file = cc
+
+-- ---- a node of the same EDS in the place of one
+
+module _ (p : Project) (id : ℕ) (node other : Node) (there : get p.nodes id ≡ Some node) (eds : other.eds ≡ node.eds) where
+  abbrev changed : Project
+  changed = record p { nodes = insert p.nodes id other }
+
+  abbrev by_eds : ℕ × List ℕ → Option (ℕ × Device)
+  by_eds e = option_map (λ d. (e.0, d)) (device_at p e.1)
+
+  abbrev plan_with : List (ℕ × Device) → PlanFrom
+  plan_with ds = record { devices = ds; messages = p.messages }
+
+  same_plan : plan_from changed ≡ plan_from p
+  same_plan =
+      ap (plan_with)
+      (filter_shown (λ (n : Node). n.eds) by_eds (entries (insert p.nodes id other))
+      ∙ ap (filter_map by_eds)
+      (entries_alike (λ (n : Node). n.eds) nat_cmp_total exact_unsigned p.nodes id node other there eds)
+      ∙ sym (filter_shown (λ (n : Node). n.eds) by_eds (entries p.nodes)))
+
+  other_node : (n : ℕ) → (n == id) ≡ false → node_at changed.nodes n ≡ node_at p.nodes n
+  other_node n apart = get-insert nat_cmp_total p.nodes id other n ∙ by (eq_by_cmp nat_cmp n id) refl
+    where
+      by : (t : Bool) → eq_by_cmp nat_cmp n id ≡ t → cond t (Some other) (get p.nodes n) ≡ get p.nodes n
+      by true same = let e : (n == id) ≡ true = eq-eqb n id (alike nat_cmp_total exact_unsigned n id same) in cc
+      by false others = refl
+
+  -- what is made of the node of a number, where it is made alike of both
+  made_alike : {X : Type 0} (make : Node → Option X) → make other ≡ make node → (n : ℕ)
+      → option_and_then make (node_at changed.nodes n) ≡ option_and_then make (node_at p.nodes n)
+  made_alike make same n =
+      ap (option_and_then make) (get-insert nat_cmp_total p.nodes id other n) ∙ by (eq_by_cmp nat_cmp n id) refl
+    where
+      by : (t : Bool) → eq_by_cmp nat_cmp n id ≡ t
+          → option_and_then make (cond t (Some other) (get p.nodes n)) ≡ option_and_then make (get p.nodes n)
+      by true one =
+          same
+          ∙ ap (option_and_then make) (sym (ap (get p.nodes) (alike nat_cmp_total exact_unsigned n id one) ∙ there))
+      by false others = refl
+
+  -- what the writes of a node are built from, with its node
+  abbrev writes_with : ℕ → PlanFrom → Node → Option WritesFrom
+  writes_with n f node =
+      option_map (λ d. record { plan = plan_made f; params = node.params; device = d; node = n })
+      (device_at p node.eds)
+
+  abbrev writes_by : ℕ → PlanFrom → Option WritesFrom
+  writes_by n f = option_and_then (writes_with n f) (node_at p.nodes n)
+
+  -- the writes of another node
+  same_writes : (n : ℕ) → (n == id) ≡ false → writes_from changed n ≡ writes_from p n
+  same_writes n apart =
+      ap (option_and_then (writes_of_node changed n)) (other_node n apart) ∙ ap (writes_by n) same_plan
+
+  abbrev dcf_by : ℕ → PlanFrom → Option DcfFrom
+  dcf_by n f =
+      option_and_then (λ (node : Node). option_map (λ (w : WritesFrom). record {
+        device = w.device;
+        name = node.name;
+        rate = p.bitrate;
+        writes = writes_made w;
+        node = n;
+      }) (writes_with n f node)) (node_at p.nodes n)
+
+  pub params_left : (q : Part) → is_of_node id q ≡ false → is_filed q ≡ true → given changed q ≡ given p q
+  params_left (part.Device e) h file = refl
+  params_left part.Plan h file = ap (λ f. Some (OfPlan f)) same_plan
+  params_left (part.Writes n) h file = ap (option_map OfWrites) (same_writes n h)
+  params_left (part.Concise n) h file =
+      ap (λ o. option_map OfConcise (option_map (λ w. record { writes = writes_made w }) o)) (same_writes n h)
+  params_left (part.Dcf n) h file =
+      ap (λ o. option_map OfDcf (option_and_then (dcf_of_node changed n) o)) (other_node n h)
+      ∙ ap (λ f. option_map OfDcf (dcf_by n f)) same_plan
+  params_left others h file = cc
+
+-- ---- whether a node is mandatory
+
+module _ (p : Project) (id : ℕ) (node : Node) (mandatory : Bool) (there : get p.nodes id ≡ Some node) where
+  abbrev needed_node : Node
+  needed_node = with_need mandatory node
+
+  abbrev needed : Project
+  needed = changed p id node needed_node there refl
+
+  needed_plan : plan_from needed ≡ plan_from p
+  needed_plan = same_plan p id node needed_node there refl
+
+  needed_writes : (n : ℕ) → writes_from needed n ≡ writes_from p n
+  needed_writes n =
+      made_alike p id node needed_node there refl (writes_of_node needed n) refl n
+      ∙ ap (writes_by p id node needed_node there refl n) needed_plan
+
+  pub need_left : (q : Part) → is_filed q ≡ true → given needed q ≡ given p q
+  need_left (part.Device e) file = refl
+  need_left part.Plan file = ap (λ f. Some (OfPlan f)) needed_plan
+  need_left (part.Writes n) file = ap (option_map OfWrites) (needed_writes n)
+  need_left (part.Concise n) file =
+      ap (λ o. option_map OfConcise (option_map (λ w. record { writes = writes_made w }) o)) (needed_writes n)
+  need_left (part.Dcf n) file =
+      ap (option_map OfDcf) (made_alike p id node needed_node there refl (dcf_of_node needed n) refl n)
+      ∙ ap (λ f. option_map OfDcf (dcf_by p id node needed_node there refl n f)) needed_plan
+  need_left others file = cc
+
+-- ---- an edit
+
+-- of the parts of files a node goes into those that are planned
+not_planned : (id : ℕ) (q : Part) → is_filed q ≡ true → is_of_network id q ≡ false → is_planned q ≡ false
+not_planned id (part.Device e) file h = refl
+not_planned id part.Plan file h = cc
+not_planned id (part.Writes n) file h = cc
+not_planned id (part.Concise n) file h = cc
+not_planned id (part.Dcf n) file h = cc
+not_planned id others file h = cc
+
+module _ (p : Project) (q : Part) (file : is_filed q ≡ true) where
+  params_as : (id : ℕ) (change : Params → Params) (o : Option Node) → get p.nodes id ≡ o → is_of_node id q ≡ false
+      → given (record p { nodes = with_params p.nodes id change o }) q ≡ given p q
+  params_as id change None none apart = refl
+  params_as id change (Some node) there apart =
+      params_left p id node (other_params change node) there refl q apart file
+
+  need_as : (id : ℕ) (mandatory : Bool) (o : Option Node) → get p.nodes id ≡ o
+      → given (record p { nodes = with_node p.nodes id (with_need mandatory) o }) q ≡ given p q
+  need_as id mandatory None none = refl
+  need_as id mandatory (Some node) there = need_left p id node mandatory there q file
+
+  -- neither bit rate, texts, nodes nor messages
+  nothing_left : (new : Project) → new.bitrate ≡ p.bitrate → new.texts ≡ p.texts → new.nodes ≡ p.nodes
+      → new.messages ≡ p.messages → given new q ≡ given p q
+  nothing_left new r t n m = settings_left p new r t n m q file
+
+  -- an edit leaves what it doesn't touch as it was
+  pub file_left : (e : Edit) → goes_into p.events (touch_of e) q ≡ false → given (made p e) q ≡ given p q
+  file_left (edit.Version version) h = nothing_left (made p (edit.Version version)) refl refl refl refl
+  file_left (edit.Bitrate rate) h = rate_left p (made p (edit.Bitrate rate)) refl refl refl q h file
+  file_left (edit.Horizon time) h = nothing_left (made p (edit.Horizon time)) refl refl refl refl
+  file_left (edit.Manager m) h = nothing_left (made p (edit.Manager m)) refl refl refl refl
+  file_left (edit.SyncCounter n) h = nothing_left (made p (edit.SyncCounter n)) refl refl refl refl
+  file_left (edit.Eds name text) h =
+      texts_left p (made p (edit.Eds name text)) name (Some text)
+      (λ e. get-insert nat_list_cmp_total p.texts name text e) q h file
+  file_left (edit.DropEds name) h =
+      texts_left p (made p (edit.DropEds name)) name None (λ e. get-remove nat_list_cmp_total p.texts name e) q h file
+  file_left (edit.Node id name eds) h =
+      devices_left p (made p (edit.Node id name eds)) refl q (not_planned id q file h) file
+  file_left (edit.Need id mandatory) h = need_as id mandatory (get p.nodes id) refl
+  file_left (edit.DropNode id) h = devices_left p (made p (edit.DropNode id)) refl q (not_planned id q file h) file
+  file_left (edit.Param id index sub text) h = params_as id (λ ps. insert ps (index, sub) text) (get p.nodes id) refl h
+  file_left (edit.Unparam id index sub) h = params_as id (λ ps. remove ps (index, sub)) (get p.nodes id) refl h
+  file_left (edit.Message name m) h = devices_left p (made p (edit.Message name m)) refl q h file
+  file_left (edit.Start name n) h = devices_left p (made p (edit.Start name n)) refl q h file
+  file_left (edit.DropMessage name) h = devices_left p (made p (edit.DropMessage name)) refl q h file
+  file_left (edit.Source name position index sub) h =
+      devices_left p (made p (edit.Source name position index sub)) refl q h file
+  file_left (edit.Unsource name position) h = devices_left p (made p (edit.Unsource name position)) refl q h file
+  file_left (edit.Sink name position node index sub) h =
+      devices_left p (made p (edit.Sink name position node index sub)) refl q h file
+  file_left (edit.Unsink name position node) h = devices_left p (made p (edit.Unsink name position node)) refl q h file
+  file_left (edit.Event number e) h = nothing_left (made p (edit.Event number e)) refl refl refl refl
+  file_left (edit.DropEvent number) h = nothing_left (made p (edit.DropEvent number)) refl refl refl refl
+
+-- ---- the devices of the nodes
+
+abbrev eds_of : ℕ × Node → ℕ × List ℕ
+eds_of = shown (λ (n : Node). n.eds)
+
+abbrev named : ℕ × List ℕ → Part
+named e = part.Device e.1
+
+of_shown : (es : List (ℕ × Node)) → map of_node es ≡ map named (map eds_of es)
+of_shown [] = refl
+of_shown (e ∷ es) = ap (λ qs. part.Device e.1.eds ∷ qs) (of_shown es)
+
+module _ (p : Project) where
+  abbrev SameNodes : Project → Type 0
+  SameNodes new = of_nodes new ≡ of_nodes p
+
+  changed_same : (id : ℕ) (node other : Node) (there : get p.nodes id ≡ Some node) (eds : other.eds ≡ node.eds)
+      → SameNodes (changed p id node other there eds)
+  changed_same id node other there eds =
+      of_shown (entries (insert p.nodes id other))
+      ∙ ap (map named)
+      (entries_alike (λ (n : Node). n.eds) nat_cmp_total exact_unsigned p.nodes id node other there eds)
+      ∙ sym (of_shown (entries p.nodes))
+
+  same_eds : (id : ℕ) (change : Node → Node) → ((node : Node) → (change node).eds ≡ node.eds) → (o : Option Node)
+      → get p.nodes id ≡ o → SameNodes (record p { nodes = with_node p.nodes id change o })
+  same_eds id change same None none = refl
+  same_eds id change same (Some node) there = changed_same id node (change node) there (same node)
+
+  -- an edit that doesn't touch the plan leaves the nodes with their EDS
+  pub nodes_left : (e : Edit) → touched p e part.Plan ≡ false → SameNodes (made p e)
+  nodes_left (edit.Version version) h = refl
+  nodes_left (edit.Bitrate rate) h = refl
+  nodes_left (edit.Horizon time) h = refl
+  nodes_left (edit.Manager m) h = refl
+  nodes_left (edit.SyncCounter n) h = refl
+  nodes_left (edit.Eds name text) h = cc
+  nodes_left (edit.DropEds name) h = cc
+  nodes_left (edit.Node id name eds) h = cc
+  nodes_left (edit.Need id mandatory) h = same_eds id (with_need mandatory) (λ node. refl) (get p.nodes id) refl
+  nodes_left (edit.DropNode id) h = cc
+  nodes_left (edit.Param id index sub text) h =
+      same_eds id (other_params (λ ps. insert ps (index, sub) text)) (λ node. refl) (get p.nodes id) refl
+  nodes_left (edit.Unparam id index sub) h =
+      same_eds id (other_params (λ ps. remove ps (index, sub))) (λ node. refl) (get p.nodes id) refl
+  nodes_left (edit.Message name m) h = cc
+  nodes_left (edit.Start name n) h = cc
+  nodes_left (edit.DropMessage name) h = cc
+  nodes_left (edit.Source name position index sub) h = cc
+  nodes_left (edit.Unsource name position) h = cc
+  nodes_left (edit.Sink name position node index sub) h = cc
+  nodes_left (edit.Unsink name position node) h = cc
+  nodes_left (edit.Event number e) h = refl
+  nodes_left (edit.DropEvent number) h = refl

@@ -1,0 +1,10 @@
+pub mod EntriesAlike
+pub mod NamedLemmas
+pub mod PlanLemmas
+pub mod MadeLemmas
+pub mod EditLemmas
+pub mod EventLemmas
+pub mod FileLemmas
+pub mod FrameLemmas
+pub mod DropLemmas
+pub mod GoneLemmas

@@ -1,0 +1,61 @@
+-- What parts are, by the inputs that they are built from.
+use Rattle.std.specs.Prelude.{ℕ, Bool, List, map, Option, Some, None, if◌then◌else◌}
+use Rattle.std.specs.FinMap.{entries}
+use Rattle.ini_text.specs.Change.{text_of}
+use Rattle.ini_text.specs.Content.{Content as Device, Section}
+use Rattle.concise_dcf.specs.declared.write.Write.{Write}
+use Rattle.concise_dcf.specs.Concise.{text_of as concise_text}
+use Rattle.eds_dcf.specs.Dcf.{dcf_sections}
+use Rattle.pdo_stations.specs.Devices.{devices_of}
+use Rattle.pdo_plan.specs.declared.planned_message.PlannedMessage.{PlannedMessage}
+use Rattle.pdo_plan.specs.Plan.{plan_of}
+use Rattle.pdo_links.specs.Writes.{node_writes}
+use Rattle.project_plan.specs.Named.{is_flagged}
+use Rattle.co_parts.specs.declared.roster.Roster.{Roster}
+use Rattle.eds_device.specs.Entries.{defaults_of, shape_of}
+use Rattle.eds_device.specs.Identity.{identity}
+use Rattle.project_parts.specs.declared.device_at.DeviceAt.{DeviceAt}
+use Rattle.project_parts.specs.declared.device_parts.DeviceParts.{DeviceParts}
+use Rattle.project_parts.specs.declared.plan_from.PlanFrom.{PlanFrom}
+use Rattle.project_parts.specs.declared.roster_from.RosterFrom.{RosterFrom}
+use Rattle.project_parts.specs.declared.writes_from.WritesFrom.{WritesFrom}
+use Rattle.project_parts.specs.declared.concise_from.ConciseFrom.{ConciseFrom}
+use Rattle.project_parts.specs.declared.dcf_from.DcfFrom.{DcfFrom}
+use Rattle.project_parts.specs.Written.{Written}
+
+-- the plan of the messages over the devices of the nodes
+unfoldable pub plan_made : PlanFrom → List PlannedMessage
+plan_made f = plan_of (devices_of (map (λ d. (d.0, d.1.sections)) f.devices)) (entries f.messages)
+
+-- a node that messages name, with the sections of its device
+abbrev pub sections_if : List Bool → ℕ × Device → Option (ℕ × List Section)
+sections_if flags d = if is_flagged flags d.0 then Some (d.0, d.1.sections) else None
+
+-- the writes of a node
+unfoldable pub writes_made : WritesFrom → List Write
+writes_made f = node_writes f.plan f.params f.device.sections f.node
+
+-- and its device with them
+abbrev pub written_made : WritesFrom → Written
+written_made f = record { device = f.device; writes = writes_made f }
+
+-- the concise DCF (CiA 302) of a node
+unfoldable pub concise_made : ConciseFrom → List ℕ
+concise_made f = concise_text f.writes
+
+-- the DCF (CiA 306) of a node
+unfoldable pub dcf_made : DcfFrom → List ℕ
+dcf_made f = text_of (dcf_sections f.device.sections f.node f.name f.rate f.writes)
+
+-- the roster is kept with itself
+abbrev pub roster_made : RosterFrom → Roster
+roster_made f = f.roster
+
+-- what a simulation reads of a node by its device: the values of its entries, the entries, and the device type and
+-- the identity that are expected of it
+unfoldable pub device_parts : DeviceAt → DeviceParts
+device_parts f = record {
+  defaults = defaults_of f.device.sections f.node;
+  shape = shape_of f.device.sections f.node;
+  expect = record { numbers = identity f.device.sections f.node };
+}

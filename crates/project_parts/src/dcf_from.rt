@@ -1,0 +1,28 @@
+//! What the DCF of a node is built from.
+
+use co_base::Octets;
+use co_memo::{Makes, Shared};
+use eds_device::Device;
+use listed_text::ListedText;
+use project_plan::NodeWrites;
+
+/// The device, the name, the writes and the number of a node, and the bit rate in kbit/s.
+#[derive(Drop)]
+pub struct DcfFrom {
+    /// The device of the node.
+    pub device: Shared<Device>,
+    /// Its name.
+    pub name: Octets,
+    /// The bit rate in kbit/s.
+    pub rate: u16,
+    /// Its writes in their order.
+    pub writes: Shared<NodeWrites>,
+    /// Its number.
+    pub node: u8,
+}
+
+impl Makes<Shared<ListedText>> for DcfFrom {
+    ghost use Rattle.project_parts.specs.Made.{dcf_made};
+
+    ghost made = { dcf_made };
+}

@@ -1,0 +1,26 @@
+//! What the writes of a node are built from.
+
+use crate::device_writes::DeviceWrites;
+use co_memo::{Makes, Shared};
+use co_params::Params;
+use eds_device::Device;
+use pdo_plan::Plan;
+
+/// The plan, and the parameters, the device and the number of a node.
+#[derive(Drop)]
+pub struct WritesFrom {
+    /// The plan of messages.
+    pub plan: Shared<Plan>,
+    /// The parameters of the node.
+    pub params: Params,
+    /// Its device.
+    pub device: Shared<Device>,
+    /// Its number.
+    pub node: u8,
+}
+
+impl Makes<DeviceWrites> for WritesFrom {
+    ghost use Rattle.project_parts.specs.Made.{written_made};
+
+    ghost made = { written_made };
+}
