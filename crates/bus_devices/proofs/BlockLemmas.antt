@@ -5,16 +5,16 @@ use Rattle.std.specs.Prelude.{min, OnOk, Result, Ok, Err}
 use Rattle.std.proofs.Math.ListN.{set}
 use Rattle.std.proofs.lemmas.List.{append-nil, drop_all, drop_at, drop_min, length-drop, length-take, take-append-drop}
 use Rattle.std.proofs.lemmas.List.{take_all, take_at, take_min, take_more}
-use Rattle.asking.proofs.RecordLemmas.{asked_in_turn}
-use Rattle.asking.specs.Asking.{Asking, Seen, outcome, reads}
-use Rattle.asking.specs.Record.{IsAsked}
+use Rattle.image_parts.proofs.RecordLemmas.{asked_in_turn}
+use Rattle.image_parts.specs.Asking.{Asking, Seen, outcome, reads}
+use Rattle.image_parts.specs.Record.{IsAsked}
 use Rattle.bus_devices.specs.Blocks.{AreBlocksOf, IsBlockOf}
 use Rattle.bus_devices.specs.declared.block.Block.{Block}
-use Rattle.asking.specs.Each.{each}
-use Rattle.asking.proofs.EachLemmas.{outcome_each, reads_each}
+use Rattle.image_parts.specs.Each.{each}
+use Rattle.image_parts.proofs.EachLemmas.{outcome_each, reads_each}
 use Rattle.co_device.specs.Device.{Device}
-use Rattle.co_parts.specs.Contents.{Content, Image}
-use Rattle.co_parts.specs.declared.part.Part.{Part}
+use Rattle.image_parts.specs.Contents.{Content, Image}
+use Rattle.image_parts.specs.declared.part.Part.{Part}
 use Rattle.device_agenda.specs.Agenda.{IsAgendaOf}
 use Rattle.device_agenda.specs.declared.agenda.Agenda.{Agenda}
 

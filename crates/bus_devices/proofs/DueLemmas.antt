@@ -2,8 +2,8 @@
 use Rattle.std.proofs.Common.{◌≡◌, ℕ, ◌+◌, ◌<◌, List, drop, flat_map, get_or}
 use Rattle.std.proofs.Common.{length, Option, ap, ◌∙◌}
 use Rattle.co_device.specs.Device.{Device, moments, next_due}
-use Rattle.co_base.specs.Moments.{earlier, earliest}
-use Rattle.co_base.proofs.EarliestLemmas.{one_more}
+use Rattle.base.specs.Moments.{earlier, earliest}
+use Rattle.base.proofs.EarliestLemmas.{one_more}
 
 -- of one device more
 pub device_more : (first next due : Option ℕ) (d : Device) (ds : List Device) (i : ℕ) → i < length ds

@@ -2,13 +2,13 @@
 use Rattle.std.proofs.Common.{◌≡◌, ℕ, ◌<◌, true, List, [], ◌∷◌, Option, refl, sym, ap, ◌∙◌}
 use Rattle.std.specs.Prelude.{IfSome}
 use Rattle.std.specs.List.{AllByRecursion}
-use Rattle.asking.proofs.RecordLemmas.{asked_none}
-use Rattle.asking.specs.Asking.{Asking, Answer, Seen, bind, outcome}
-use Rattle.asking.specs.Record.{IsAsked}
-use Rattle.asking.specs.Each.{each}
+use Rattle.image_parts.proofs.RecordLemmas.{asked_none}
+use Rattle.image_parts.specs.Asking.{Asking, Answer, Seen, bind, outcome}
+use Rattle.image_parts.specs.Record.{IsAsked}
+use Rattle.image_parts.specs.Each.{each}
 use Rattle.co_device.specs.Device.{Device}
-use Rattle.co_parts.specs.Contents.{Content, Image}
-use Rattle.co_parts.specs.declared.part.Part.{Part}
+use Rattle.image_parts.specs.Contents.{Content, Image}
+use Rattle.image_parts.specs.declared.part.Part.{Part}
 use Rattle.device_agenda.specs.Agenda.{IsAgendaOf, at_instant, sleeps_through}
 use Rattle.device_agenda.specs.Delivered.{Delivered}
 use Rattle.device_agenda.specs.declared.agenda.Agenda.{Agenda}

@@ -6,3 +6,7 @@ pub mod PassLemmas
 pub mod SenderLemmas
 pub mod SentLemmas
 pub mod StillLemmas
+pub mod EventLemmas
+pub mod OtherLemmas
+pub mod StepLemmas
+pub mod TimeLemmas

@@ -7,17 +7,17 @@ use Rattle.std.proofs.lemmas.List.{length-append, length-drop, drop_min, length-
 use Rattle.std.proofs.lemmas.List.{take_more}
 use Rattle.std.proofs.Math.Seq.{drop-nil, take-add}
 use Rattle.bus_devices.proofs.SentLemmas.{drop_later}
-use Rattle.asking.proofs.RecordLemmas.{asked_in_turn, asked_none}
-use Rattle.asking.specs.Asking.{Asking, Answer, Seen, outcome, reads}
-use Rattle.asking.specs.Record.{IsAsked}
-use Rattle.asking.specs.Each.{each}
+use Rattle.image_parts.proofs.RecordLemmas.{asked_in_turn, asked_none}
+use Rattle.image_parts.specs.Asking.{Asking, Answer, Seen, outcome, reads}
+use Rattle.image_parts.specs.Record.{IsAsked}
+use Rattle.image_parts.specs.Each.{each}
 use Rattle.bus_devices.specs.Blocks.{AreBlocksOf, IsBlockOf}
 use Rattle.bus_devices.specs.declared.block.Block.{Block}
 use Rattle.bus_devices.proofs.BlockLemmas.{both_of, length_each, outcome_append, reads_append}
 use Rattle.bus_devices.proofs.IdleLemmas.{idle}
 use Rattle.co_device.specs.Device.{Device}
-use Rattle.co_parts.specs.Contents.{Content, Image}
-use Rattle.co_parts.specs.declared.part.Part.{Part}
+use Rattle.image_parts.specs.Contents.{Content, Image}
+use Rattle.image_parts.specs.declared.part.Part.{Part}
 use Rattle.device_agenda.specs.Agenda.{at_instant, sleeps_through}
 use Rattle.device_agenda.specs.Delivered.{Delivered}
 use Rattle.device_agenda.proofs.SleepLemmas.{nothing_happens}

@@ -6,11 +6,11 @@ use Rattle.std.specs.List.{AllByRecursion}
 use Rattle.std.proofs.lemmas.List.{drop-set-add, drop-set-lt, get_or-drop, length-drop, length-set, take-set-le}
 use Rattle.std.proofs.lemmas.List.{take_at}
 use Rattle.std.proofs.Math.Seq.{drop-nil, take-set-lt}
-use Rattle.co_base.specs.Moments.{earliest}
+use Rattle.base.specs.Moments.{earliest}
 use Rattle.bus_devices.specs.Blocks.{AreAgendasOf, AreBlocksOf, IsBlockOf, IsDueAsBefore, WereBlocksOf, with_best}
 use Rattle.bus_devices.specs.declared.block.Block.{Block}
 use Rattle.bus_devices.proofs.SenderLemmas.{IsBest}
-use Rattle.bus_events.specs.Places.{device_at}
+use Rattle.bus_devices.specs.Places.{device_at}
 use Rattle.can_frame.specs.declared.contender.Contender.{Contender}
 use Rattle.can_frame.specs.declared.waiting.Waiting.{Waiting}
 use Rattle.co_device.specs.Device.{Device, moments, without_power}

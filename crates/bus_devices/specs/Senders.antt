@@ -1,7 +1,7 @@
 -- The devices that contend for a bus.
 use Rattle.std.specs.Prelude.{ℕ, ◌==◌, ◌&&◌, not, Bool, false, List, map, remove, slice_set, Option, Some, None}
 use Rattle.std.specs.List.{position}
-use Rattle.bus_events.specs.Places.{device_at}
+use Rattle.bus_devices.specs.Places.{device_at}
 use Rattle.can_frame.specs.Winner.{contenders_of, is_below, winner_of}
 use Rattle.can_frame.specs.declared.contender.Contender.{Contender}
 use Rattle.can_frame.specs.declared.waiting.Waiting.{Waiting}

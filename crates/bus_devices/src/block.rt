@@ -1,25 +1,25 @@
 //! What a few devices of a bus do, and what is known of them.
 
 ghost use Rattle.std.specs.Prelude.{◌≡◌, ◌<◌, ◌≤◌, ◌∷◌, [], false, length, option_copied, IfOk, OnOk};
-ghost use Rattle.asking.specs.Asking.{outcome};
-ghost use Rattle.asking.specs.Record.{IsAsked, Lasts};
+ghost use Rattle.image_parts.specs.Asking.{outcome};
+ghost use Rattle.image_parts.specs.Record.{IsAsked, Lasts};
 ghost use Rattle.bus_devices.specs.Blocks.{AreAgendasOf, IsBlockOf};
 ghost use Rattle.bus_devices.specs.Numbers.{device_of as first_of, values_of as first_values_of};
 ghost use Rattle.bus_devices.specs.Senders.{contends_with as contends, device_lists, is_contender, sender_place};
-ghost use Rattle.asking.specs.Each.{each};
+ghost use Rattle.image_parts.specs.Each.{each};
 ghost use Rattle.can_frame.specs.Winner.{contenders, IsWinner};
-ghost use Rattle.co_base.specs.Moments.{earliest};
+ghost use Rattle.base.specs.Moments.{earliest};
 ghost use Rattle.co_device.specs.Device.{moments};
 ghost use Rattle.std.specs.List.{flat_map};
 ghost use Rattle.device_agenda.specs.Agenda.{at_instant, IsAgendaOf};
 
 use crate::outlook::Outlook;
+use base::earlier;
 use can_frame::Contender;
-use co_base::earlier;
 use co_dict::Dict;
-use co_parts::END;
 use device_agenda::{Agenda, Delivery, SharedDevice};
 use device_objects::Shapes;
+use image_parts::END;
 use std::alloc::AllocError;
 
 /// The number of devices of a block; the last one may have fewer.

@@ -2,11 +2,11 @@
 
 ghost use Rattle.std.specs.Prelude.{◌≡◌, ◌<◌, ◌≤◌, ◌*◌, false, true, List, length, min, take, IfOk, IfSome, OnOk};
 ghost use Rattle.std.specs.List.{AllByRecursion};
-ghost use Rattle.asking.specs.Asking.{outcome};
-ghost use Rattle.asking.specs.Record.{IsAsked, Lasts};
+ghost use Rattle.image_parts.specs.Asking.{outcome};
+ghost use Rattle.image_parts.specs.Record.{IsAsked, Lasts};
 ghost use Rattle.bus_devices.specs.Blocks.{AreBlocksOf, IsBlockOf, IsOutlookOf, WereBlocksOf};
 ghost use Rattle.bus_devices.specs.Senders.{device_lists, may_wait_at, sender_place as place_of};
-ghost use Rattle.asking.specs.Each.{each};
+ghost use Rattle.image_parts.specs.Each.{each};
 ghost use Rattle.can_frame.specs.Winner.{contenders, IsWinner};
 ghost use Rattle.co_device.specs.Device.{Device};
 ghost use Rattle.device_agenda.specs.Agenda.{at_instant, sleeps_through, IsAgendaOf};
@@ -14,9 +14,9 @@ ghost use Rattle.device_agenda.specs.Agenda.{at_instant, sleeps_through, IsAgend
 use crate::block::{BLOCK, Block, place_of_sender, run_each, winner_of};
 use crate::outlook::Outlook;
 use can_frame::Contender;
-use co_parts::END;
 use device_agenda::{Delivery, SharedDevice};
 use device_objects::Shapes;
+use image_parts::END;
 use std::alloc::AllocError;
 
 /// The number of devices of the first block of so many.

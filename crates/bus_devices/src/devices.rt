@@ -3,16 +3,16 @@
 ghost use Rattle.std.specs.Prelude.{◌≡◌, ◌<◌, ◌↔◌, [], length, slice_get, Some, IfOk, IsTrue, OnOk};
 ghost use Rattle.std.specs.Prelude.{option_copied};
 ghost use Rattle.std.specs.List.{flat_map};
-ghost use Rattle.asking.specs.Asking.{outcome};
-ghost use Rattle.asking.specs.Record.{IsAsked, Lasts};
-ghost use Rattle.asking.specs.Each.{each};
+ghost use Rattle.image_parts.specs.Asking.{outcome};
+ghost use Rattle.image_parts.specs.Record.{IsAsked, Lasts};
+ghost use Rattle.image_parts.specs.Each.{each};
 ghost use Rattle.bus_devices.specs.Numbers.{values_of as first_values_of};
 ghost use Rattle.bus_devices.specs.Senders.{device_lists, sender_place as place_of, with_sent};
 ghost use Rattle.bus_devices.specs.Telling.{TellsApart};
-ghost use Rattle.bus_events.specs.Places.{device_at};
+ghost use Rattle.bus_devices.specs.Places.{device_at};
 ghost use Rattle.can_frame.specs.Winner.{contenders, IsWinner};
 ghost use Rattle.co_device.specs.Device.{moments};
-ghost use Rattle.co_base.specs.Moments.{earliest};
+ghost use Rattle.base.specs.Moments.{earliest};
 ghost use Rattle.device_agenda.specs.Agenda.{at_instant};
 
 use crate::apart::Apart;
@@ -22,9 +22,9 @@ use crate::lists::{copy_all, differ_at, tell_apart};
 use crate::outlook::Outlook;
 use can_frame::{Contender, Waiting};
 use co_dict::Dict;
-use co_parts::END;
 use device_agenda::{Delivery, SharedDevice};
 use device_objects::Shapes;
+use image_parts::END;
 use std::alloc::{AllocError, Global};
 use std::marker::Model;
 

@@ -1,13 +1,18 @@
-//! The devices of a bus, of which only those run that have to.
-#![tactic(auto, using(asking::proofs::RecordLemmas::record_laws))]
+//! The devices of a bus, of which only those run that have to, and what the events of a scenario do to them.
+#![tactic(auto, using(image_parts::proofs::RecordLemmas::record_laws))]
 
 mod apart;
 mod block;
 mod blocks;
 mod devices;
+pub mod event_laws;
+mod events;
 mod lists;
 mod outlook;
+mod steps_left;
 
 pub use apart::Apart;
 pub use devices::Devices;
+pub use events::run_events;
 pub use lists::{new_devices, power_all};
+pub use steps_left::StepsLeft;

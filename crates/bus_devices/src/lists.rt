@@ -1,9 +1,9 @@
 //! The devices of a network as the power comes on.
 
 ghost use Rattle.std.specs.Prelude.{◌≡◌, ◌↔◌, false, length, true, map, slice_get, IfOk, IfSome, IsTrue, OnOk};
-ghost use Rattle.asking.specs.Asking.{outcome};
-ghost use Rattle.asking.specs.Record.{IsAsked, Lasts};
-ghost use Rattle.asking.specs.Each.{each};
+ghost use Rattle.image_parts.specs.Asking.{outcome};
+ghost use Rattle.image_parts.specs.Record.{IsAsked, Lasts};
+ghost use Rattle.image_parts.specs.Each.{each};
 ghost use Rattle.bus_devices.specs.Telling.{TellsApart};
 ghost use Rattle.co_device.specs.Device.{after_power, without_power};
 

@@ -3,29 +3,29 @@ use Rattle.std.proofs.Common.{◌≡◌, ℕ, suc, ◌+◌, Bool, true, false, L
 use Rattle.std.proofs.Common.{inr, refl, sym, ap, ◌∙◌, subst, arith}
 use Rattle.std.specs.Prelude.{Contains, ◌==◌}
 use Rattle.std.proofs.lemmas.List.Elements.{All-from_recursion}
-use Rattle.asking.specs.Asking.{outcome, reads}
-use Rattle.asking.specs.Each.{each}
-use Rattle.bus_events.specs.Events.{after_events_at, after_event, after_power_at}
-use Rattle.bus_events.specs.Steps.{steps_due}
-use Rattle.asking.proofs.EachLemmas.{reads_each}
-use Rattle.bus_events.proofs.EventLemmas.{reads_events, reads_power}
+use Rattle.image_parts.specs.Asking.{outcome, reads}
+use Rattle.image_parts.specs.Each.{each}
+use Rattle.bus_devices.specs.Events.{after_events_at, after_event, after_power_at}
+use Rattle.bus_devices.specs.Steps.{steps_due}
+use Rattle.image_parts.proofs.EachLemmas.{reads_each}
+use Rattle.bus_devices.proofs.EventLemmas.{reads_events, reads_power}
 use Rattle.can_frame.specs.Identifiers.{error_control_id, sdo_answer_id}
 use Rattle.co_device.specs.Device.{Device, after_power, after_reset_node}
-use Rattle.co_parts.specs.Contents.{Content, Image, identity_of}
-use Rattle.co_parts.specs.declared.identity.Identity.{Identity}
-use Rattle.co_parts.specs.declared.part.Part.{Part}
-use Rattle.co_parts.specs.declared.part.Part.TheVariants.{Defaults, Expect, Shape}
+use Rattle.image_parts.specs.Contents.{Content, Image, identity_of}
+use Rattle.image_parts.specs.declared.identity.Identity.{Identity}
+use Rattle.image_parts.specs.declared.part.Part.{Part}
+use Rattle.image_parts.specs.declared.part.Part.TheVariants.{Defaults, Expect, Shape}
 use Rattle.co_scenario.specs.declared.step.Step.{Step}
 use Rattle.co_scenario.specs.declared.step.Step.TheVariants.{Nmt, Power, Set}
 use Rattle.co_scenario.specs.declared.timed_step.TimedStep.{TimedStep}
-use Rattle.co_sdo_client.specs.Client.{after_answer}
-use Rattle.co_sdo_client.specs.declared.progress.Progress.{Progress}
-use Rattle.co_sdo_client.specs.declared.progress.Progress.TheVariants as progress
-use Rattle.co_sdo_client.specs.declared.client_transfer.ClientTransfer.{ClientTransfer as Transfer}
+use Rattle.sdo_client.specs.Client.{after_answer}
+use Rattle.sdo_client.specs.declared.progress.Progress.{Progress}
+use Rattle.sdo_client.specs.declared.progress.Progress.TheVariants as progress
+use Rattle.sdo_client.specs.declared.client_transfer.ClientTransfer.{ClientTransfer as Transfer}
 use Rattle.device_agenda.specs.Agenda.{hears}
 use Rattle.nmt_boot.proofs.EventLemmas.{answered_reads, boots_reads}
 use Rattle.nmt_boot.specs.Manager.{Manager, after_boot_up, is_boot_up, after_frame, after_sdo_frame}
-use Rattle.boot_table.specs.Table.{node_at, place_of}
+use Rattle.manager_nodes.specs.Table.{node_at, place_of}
 use Rattle.node_boot.specs.Boot.{after_compare, after_write, boot_nmt_slave, check_identity, compared_next}
 use Rattle.node_boot.specs.Boot.{download_configuration, is_as_expected, next_compared, sdo_answer}
 use Rattle.node_boot.specs.declared.boot_stage.BootStage.{BootStage}

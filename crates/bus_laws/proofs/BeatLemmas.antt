@@ -1,14 +1,14 @@
 -- Heartbeat and SYNC of the manager, at each moment of a run.
 use Rattle.std.proofs.Common.{◌≡◌, ◌↔◌, ℕ, ◌+◌, ◌*◌, Bool, true, false, refl, subst}
 use Rattle.std.specs.Prelude.{if◌then◌else◌}
-use Rattle.asking.specs.Asking.{outcome}
+use Rattle.image_parts.specs.Asking.{outcome}
 use Rattle.can_frame.specs.Frames.{BaseFrame}
 use Rattle.can_frame.specs.WaitingFrames.{with_latest}
 use Rattle.can_frame.specs.declared.purpose.Purpose.TheVariants.{Heartbeat, Sync}
-use Rattle.co_parts.specs.Contents.{Image, roster_of}
-use Rattle.co_base.specs.Moments.{is_due, moment_after}
-use Rattle.co_parts.specs.declared.part.Part.TheVariants.{Roster}
-use Rattle.co_parts.specs.declared.roster.Roster.{Roster as Network}
+use Rattle.image_parts.specs.Contents.{Image, roster_of}
+use Rattle.base.specs.Moments.{is_due, moment_after}
+use Rattle.image_parts.specs.declared.part.Part.TheVariants.{Roster}
+use Rattle.image_parts.specs.declared.roster.Roster.{Roster as Network}
 use Rattle.nmt_boot.proofs.BeatLemmas.{beat_at_multiples, command_on_time, frame_on_time, on_time_first}
 use Rattle.nmt_boot.proofs.BeatLemmas.{sync_at_multiples, timers_on_time}
 use Rattle.nmt_boot.proofs.FrameLemmas.{received_holds}

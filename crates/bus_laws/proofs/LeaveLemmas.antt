@@ -4,22 +4,23 @@ use Rattle.std.proofs.Common.{Some, None, refl, sym, ap, ◌∙◌, subst, arith
 use Rattle.std.specs.Prelude.{Contains, remove, slice_get, slice_index_or, slice_set}
 use Rattle.std.proofs.lemmas.List.Quantifiers.{position-Some}
 use Rattle.std.proofs.lemmas.Option.{get_or_from_slice_get, none-some, same_Some, slice_get-get_or, slice_get_within}
-use Rattle.can_frame.specs.Winner.{contenders, contenders_of, winner_of, IsWinner}
+use Rattle.can_frame.specs.Winner.{contenders, winner_of, IsWinner}
 use Rattle.can_frame.specs.WaitingFrames.{waiting}
 use Rattle.can_frame.specs.declared.contender.Contender.{Contender}
 use Rattle.can_frame.specs.declared.purpose.Purpose.TheVariants.{Nmt}
 use Rattle.can_frame.specs.declared.waiting.Waiting.{Waiting}
-use Rattle.can_frame.proofs.WinnerLemmas.{contender_at, length-contenders_of, winner_of-wins}
+use Rattle.can_frame.proofs.WinnerLemmas.{winner_of-wins}
 use Rattle.co_device.specs.Device.{Device, without_power}
 use Rattle.nmt_boot.specs.Manager.{Manager}
 use Rattle.bus_devices.specs.Senders.{contends_with, sender_place}
-use Rattle.bus_events.specs.Places.{device_at}
+use Rattle.bus_devices.specs.Places.{device_at}
 use Rattle.can_bus.specs.Bus.{Bus, devices_without_winner, winning_frame, waiting_lists, manager_without_winner}
 use Rattle.can_bus.specs.Bus.{slot_of, after_arbitration, after_start_on, with_slot_of, winner}
 use Rattle.can_bus.specs.Runs.{StartsWith}
 use Rattle.can_bus.specs.declared.slot.Slot.{Slot}
 use Rattle.can_bus.proofs.ArbitrationLemmas.{contends_is, manager_contends, none_found, place_within}
 use Rattle.bus_laws.specs.Starts.{LeavesItsList, but_for_frames}
+use Rattle.can_bus.proofs.StartLemmas.{node_is}
 
 -- ---- the list of one node among the lists of all
 
@@ -67,17 +68,6 @@ module _ (last : ℕ × List Waiting) where
 
 abbrev waiting_at : List Waiting → ℕ → Waiting
 waiting_at frames place = slice_index_or frames place (waiting Nmt (record { id = 0; bytes = [] }))
-
--- the winner of a node's list is of that node
-node_is : (node : ℕ) (frames : List Waiting) (c : Contender) → winner_of (contenders_of (node, frames)) ≡ Some c
-    → c.node ≡ node
-node_is node frames c e =
-    let wins : IsWinner (contenders_of (node, frames))
-    (Some c) = rw e at (winner_of-wins (contenders_of (node, frames))) in
-    let k = wins.0.0 in
-    let many = length-contenders_of node frames in
-    let within : k < length frames = omega (arith, wins.0.1) in
-    ap (λ (d : Contender). d.node) (sym wins.0.2 ∙ contender_at node frames k c within)
 
 abbrev sent_waiting : Contender → Option ℕ → List Device → Manager → Waiting
 sent_waiting c None ds m = waiting_at m.waiting c.place

@@ -5,11 +5,11 @@ use Rattle.std.specs.Prelude.{◌==◌, All}
 use Rattle.std.specs.List.{AllByRecursion, prefix_len}
 use Rattle.std.proofs.lemmas.Bool.Decides.{nat_tests}
 use Rattle.std.proofs.lemmas.List.Elements.{All-head}
-use Rattle.asking.specs.Asking.{outcome}
-use Rattle.bus_events.specs.Steps.{has_time, steps_left}
-use Rattle.co_parts.specs.Contents.{Image, roster_of}
-use Rattle.co_parts.specs.Images.{IsImage, IsWithin}
-use Rattle.co_parts.specs.declared.part.Part.TheVariants.{Roster}
+use Rattle.image_parts.specs.Asking.{outcome}
+use Rattle.bus_devices.specs.Steps.{has_time, steps_left}
+use Rattle.image_parts.specs.Contents.{Image, roster_of}
+use Rattle.image_parts.specs.Images.{IsImage, IsWithin}
+use Rattle.image_parts.specs.declared.part.Part.TheVariants.{Roster}
 use Rattle.co_scenario.specs.declared.timed_step.TimedStep.{TimedStep}
 use Rattle.can_bus.specs.Bus.{Bus, instant, power_on, after_window_start}
 use Rattle.can_bus.specs.Runs.{IsInTime, IsNextWindow}

@@ -5,21 +5,21 @@ use Rattle.std.specs.Prelude.{if◌then◌else◌, ◌==◌, slice_index_or, sli
 use Rattle.std.specs.List.{AllByRecursion}
 use Rattle.std.proofs.lemmas.Bool.{false≢true}
 use Rattle.std.proofs.lemmas.Bool.Decides.{nat_tests}
-use Rattle.asking.specs.Asking.{Asking, outcome, reads}
-use Rattle.asking.proofs.QuestionLemmas.{reads_bind}
+use Rattle.image_parts.specs.Asking.{Asking, outcome, reads}
+use Rattle.image_parts.proofs.QuestionLemmas.{reads_bind}
 use Rattle.can_frame.specs.Frames.{BaseFrame}
 use Rattle.can_frame.specs.Identifiers.{nmt_id, sdo_request_id}
 use Rattle.co_device.specs.Device.{Device, is_addressed, is_error_control, is_in, nmt_service, reset_communication}
 use Rattle.co_device.specs.Device.{after_reset_node, after_sdo_request, with_emergency}
 use Rattle.co_device.specs.Receiving.{after_mapping, after_kept_frame, after_pdo, rpdo_places, after_frame, after_rpdo}
-use Rattle.co_pdos.specs.Sync.{sync_message}
+use Rattle.pdo_rules.specs.Sync.{sync_message}
 use Rattle.co_device.specs.Receiving.{after_sync_at, after_sync, after_receipt, walk}
-use Rattle.co_fields.specs.declared.nmt_state.NmtState.TheVariants.{Operational, Stopped}
-use Rattle.co_parts.specs.Contents.{Content, Image}
-use Rattle.co_parts.specs.declared.part.Part.{Part}
-use Rattle.co_parts.specs.declared.part.Part.TheVariants.{Defaults, Shape}
-use Rattle.co_pdos.specs.declared.receipt.Receipt.{Receipt}
-use Rattle.co_pdos.specs.declared.receipt.Receipt.TheVariants.{AtOnce, Ignored, Kept, Short}
+use Rattle.cia301.specs.declared.nmt_state.NmtState.TheVariants.{Operational, Stopped}
+use Rattle.image_parts.specs.Contents.{Content, Image}
+use Rattle.image_parts.specs.declared.part.Part.{Part}
+use Rattle.image_parts.specs.declared.part.Part.TheVariants.{Defaults, Shape}
+use Rattle.pdo_rules.specs.declared.receipt.Receipt.{Receipt}
+use Rattle.pdo_rules.specs.declared.receipt.Receipt.TheVariants.{AtOnce, Ignored, Kept, Short}
 use Rattle.can_frame.specs.WaitingFrames.{waiting}
 use Rattle.can_frame.specs.declared.purpose.Purpose.TheVariants.{Emergency}
 use Rattle.device_objects.specs.Profile.{emergency_frame, error_register, sync_identifier}

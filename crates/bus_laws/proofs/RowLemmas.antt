@@ -3,18 +3,18 @@ use Rattle.std.proofs.Common.{◌≡◌, ◌≢◌, ℕ, ◌+◌, Bool, true, fa
 use Rattle.std.proofs.Common.{arith}
 use Rattle.std.specs.Prelude.{if◌then◌else◌, ◌==◌}
 use Rattle.std.proofs.lemmas.Bool.Decides.{nat_tests}
-use Rattle.asking.specs.Asking.{Answer, reads}
+use Rattle.image_parts.specs.Asking.{Answer, reads}
 use Rattle.can_frame.specs.Frames.{BaseFrame}
 use Rattle.co_device.specs.Device.{Device, after_power, reset_communication, after_reset_node}
 use Rattle.co_device.specs.Receiving.{after_mapping, after_kept_frame, after_sync_at}
-use Rattle.co_parts.specs.Contents.{Content, Image, identity_of}
-use Rattle.co_parts.specs.declared.identity.Identity.{Identity}
-use Rattle.co_parts.specs.declared.part.Part.{Part}
-use Rattle.co_parts.specs.declared.part.Part.TheVariants.{Boot, Defaults, Expect, Shape}
-use Rattle.co_sdo_client.specs.Client.{after_answer}
-use Rattle.co_sdo_client.specs.declared.progress.Progress.{Progress}
-use Rattle.co_sdo_client.specs.declared.progress.Progress.TheVariants as progress
-use Rattle.co_sdo_client.specs.declared.client_transfer.ClientTransfer.{ClientTransfer as Transfer}
+use Rattle.image_parts.specs.Contents.{Content, Image, identity_of}
+use Rattle.image_parts.specs.declared.identity.Identity.{Identity}
+use Rattle.image_parts.specs.declared.part.Part.{Part}
+use Rattle.image_parts.specs.declared.part.Part.TheVariants.{Boot, Defaults, Expect, Shape}
+use Rattle.sdo_client.specs.Client.{after_answer}
+use Rattle.sdo_client.specs.declared.progress.Progress.{Progress}
+use Rattle.sdo_client.specs.declared.progress.Progress.TheVariants as progress
+use Rattle.sdo_client.specs.declared.client_transfer.ClientTransfer.{ClientTransfer as Transfer}
 use Rattle.device_pdos.specs.Rpdos.{rpdo_at}
 use Rattle.node_boot.specs.Boot.{after_compare, after_write, boot_nmt_slave, check_identity, compared_next}
 use Rattle.node_boot.specs.Boot.{download_configuration, boot_failed, is_as_expected, next_compared, sdo_answer}

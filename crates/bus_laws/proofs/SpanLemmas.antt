@@ -1,12 +1,12 @@
 -- Spans, one after another, are the run.
 use Rattle.std.proofs.Common.{◌≡◌, ℕ, zero, suc, ◌+◌, ◌*◌, List, [], ◌++◌, refl, sym, ap, ◌∙◌, append_assoc, add-zero}
 use Rattle.std.proofs.Common.{zero-add, arith}
-use Rattle.asking.specs.Agenda.{IsSameUnder}
-use Rattle.asking.specs.Asking.{Asking, bind, then_run, outcome, reads, turns}
-use Rattle.asking.proofs.BlockLemmas.{turns_add}
-use Rattle.asking.proofs.QuestionLemmas.{outcome_bind, outcome_turns, reads_bind, reads_turns}
-use Rattle.co_parts.specs.Contents.{Content, Image}
-use Rattle.co_parts.specs.declared.part.Part.{Part}
+use Rattle.image_parts.specs.Agenda.{IsSameUnder}
+use Rattle.image_parts.specs.Asking.{Asking, bind, then_run, outcome, reads, turns}
+use Rattle.image_parts.proofs.BlockLemmas.{turns_add}
+use Rattle.image_parts.proofs.QuestionLemmas.{outcome_bind, outcome_turns, reads_bind, reads_turns}
+use Rattle.image_parts.specs.Contents.{Content, Image}
+use Rattle.image_parts.specs.declared.part.Part.{Part}
 use Rattle.can_bus.specs.Bus.{Bus, instant, power_on}
 use Rattle.can_bus.specs.Runs.{run}
 use Rattle.can_bus.specs.declared.line.Line.{Line}

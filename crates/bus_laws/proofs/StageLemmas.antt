@@ -6,18 +6,18 @@ use Rattle.std.proofs.lemmas.Bool.{false≢true}
 use Rattle.std.proofs.lemmas.Bool.Decides.{nat_tests}
 use Rattle.std.proofs.lemmas.List.{get_or-set_other, get_or-set_same}
 use Rattle.std.proofs.lemmas.List.Quantifiers.{position-Some}
-use Rattle.asking.specs.Asking.{Answer, outcome}
+use Rattle.image_parts.specs.Asking.{Answer, outcome}
 use Rattle.can_frame.specs.WaitingFrames.{with_latest}
 use Rattle.can_frame.specs.declared.purpose.Purpose.TheVariants.{Heartbeat, Sync}
-use Rattle.co_base.specs.Moments.{is_due, moment_after}
+use Rattle.base.specs.Moments.{is_due, moment_after}
 use Rattle.can_frame.specs.Identifiers.{error_control_id, sdo_answer_id}
-use Rattle.co_parts.specs.Contents.{Image, identity_of, write_of}
-use Rattle.co_parts.specs.declared.identity.Identity.{Identity}
-use Rattle.co_parts.specs.declared.part.Part.TheVariants.{Boot, Expect}
-use Rattle.co_sdo_client.specs.Client.{after_answer}
-use Rattle.co_sdo_client.specs.declared.progress.Progress.{Progress}
-use Rattle.co_sdo_client.specs.declared.progress.Progress.TheVariants as progress
-use Rattle.co_sdo_client.specs.declared.client_transfer.ClientTransfer.{ClientTransfer as Transfer}
+use Rattle.image_parts.specs.Contents.{Image, identity_of, write_of}
+use Rattle.image_parts.specs.declared.identity.Identity.{Identity}
+use Rattle.image_parts.specs.declared.part.Part.TheVariants.{Boot, Expect}
+use Rattle.sdo_client.specs.Client.{after_answer}
+use Rattle.sdo_client.specs.declared.progress.Progress.{Progress}
+use Rattle.sdo_client.specs.declared.progress.Progress.TheVariants as progress
+use Rattle.sdo_client.specs.declared.client_transfer.ClientTransfer.{ClientTransfer as Transfer}
 use Rattle.concise_dcf.specs.declared.write.Write.{Write}
 use Rattle.node_boot.specs.Boot.{after_write, boot_nmt_slave, check_identity, comparison_started}
 use Rattle.node_boot.specs.Boot.{deadline_of, download_configuration, is_at, is_timed_out}
@@ -26,15 +26,16 @@ use Rattle.node_boot.specs.declared.boot_stage.BootStage.{BootStage}
 use Rattle.node_boot.specs.declared.boot_stage.BootStage.TheVariants.{Unseen, Comparing, Writing, Configured, Failed}
 use Rattle.nmt_boot.proofs.EventLemmas.{answered_outcome, boots_outcome}
 use Rattle.nmt_boot.specs.Manager.{Manager, after_boot_up, heartbeat_frame, is_boot_up}
-use Rattle.boot_table.specs.Table.{is_from, no_node, node_after}
+use Rattle.manager_nodes.specs.Table.{is_from, no_node, node_after}
 use Rattle.nmt_boot.specs.Manager.{after_frame, after_sdo_frame, sync_frame, timers, heartbeats}
-use Rattle.boot_table.specs.Table.{node_at, place_of}
+use Rattle.manager_nodes.specs.Table.{node_at, place_of}
 use Rattle.nmt_boot.specs.Manager.{syncs, time_outs}
-use Rattle.boot_table.specs.declared.booting.Booting.{Booting}
+use Rattle.manager_nodes.specs.declared.booting.Booting.{Booting}
 use Rattle.can_bus.specs.Bus.{Bus, ended_slot, instant, manager_after_slot}
 use Rattle.can_bus.specs.declared.slot.Slot.{Slot}
 use Rattle.bus_laws.specs.Boots.{FollowsWrite, IsBootUpOf, IsConfirmedBy}
 use Rattle.bus_laws.proofs.ThroughLemmas.{manager_through}
+use Rattle.nmt_boot.proofs.TableLemmas.{sum_is}
 
 -- ---- what the rules of a boot give
 
@@ -93,9 +94,6 @@ module _ (image : Image) (node : ℕ) (heard : Option Slot) (j : ℕ) (transfer 
   answer_follows deadline old left (Some (progress.Failed abort frame)) c = tt
 
 -- ---- the table of nodes
-
-sum_is : (a b c : ℕ) → (a + b == c) ≡ true → a + b ≡ c
-sum_is a b c e = grind (arith, nat_tests)
 
 -- the node that is found has the identifier
 module _ (base id : ℕ) (nodes : List Booting) (k : ℕ) (e : place_of base id nodes ≡ Some k) where

@@ -2,17 +2,17 @@
 use Rattle.std.proofs.Common.{◌≡◌, ℕ, zero, suc, ◌+◌, Bool, true, false, List, [], ◌∷◌, map, Option, Some, None}
 use Rattle.std.proofs.Common.{◌⊎◌, inl, inr, refl, sym, ◌∙◌, subst, arith}
 use Rattle.std.specs.Prelude.{◌==◌, ◌&&◌, ◌||◌, not, if◌then◌else◌}
-use Rattle.asking.specs.Asking.{Answer, outcome}
-use Rattle.boot_table.specs.Table.{all_configured, has_booted, is_configured, node_after}
-use Rattle.boot_table.specs.declared.booting.Booting.{Booting}
+use Rattle.image_parts.specs.Asking.{Answer, outcome}
+use Rattle.manager_nodes.specs.Table.{all_configured, has_booted, is_configured, node_after}
+use Rattle.manager_nodes.specs.declared.booting.Booting.{Booting}
 use Rattle.can_frame.specs.Frames.{BaseFrame}
 use Rattle.can_frame.specs.WaitingFrames.{with_latest}
 use Rattle.can_frame.specs.declared.purpose.Purpose.TheVariants.{Heartbeat, Sync}
-use Rattle.co_base.specs.Moments.{is_due, moment_after}
-use Rattle.co_parts.specs.Contents.{Image, roster_of}
-use Rattle.co_parts.specs.declared.part.Part.TheVariants.{Roster}
-use Rattle.co_parts.specs.declared.roster.Roster.{Roster as Network}
-use Rattle.co_parts.specs.declared.start_mode.StartMode.TheVariants.{EachNode}
+use Rattle.base.specs.Moments.{is_due, moment_after}
+use Rattle.image_parts.specs.Contents.{Image, roster_of}
+use Rattle.image_parts.specs.declared.part.Part.TheVariants.{Roster}
+use Rattle.image_parts.specs.declared.roster.Roster.{Roster as Network}
+use Rattle.image_parts.specs.declared.start_mode.StartMode.TheVariants.{EachNode}
 use Rattle.node_boot.specs.declared.boot_stage.BootStage.{BootStage}
 use Rattle.node_boot.specs.declared.boot_stage.BootStage.TheVariants.{Unseen, Comparing, Writing, Configured, Failed}
 use Rattle.node_boot.specs.declared.note_kind.NoteKind.{NoteKind}

@@ -2,14 +2,14 @@
 -- frame that starts.
 use Rattle.std.proofs.Common.{◌≡◌, ℕ, Bool, true, false, List, [], ◌∷◌, Option, Some, None, refl, ap, map, subst, sym}
 use Rattle.std.specs.Prelude.{◌==◌, if◌then◌else◌, remove}
-use Rattle.asking.specs.Asking.{Answer, outcome}
-use Rattle.bus_events.specs.Events.{after_events_at, after_event}
-use Rattle.bus_events.specs.Steps.{steps_due}
-use Rattle.bus_events.proofs.EventLemmas.{happens_nmt, happens_set, outcome_events, outcome_power}
+use Rattle.image_parts.specs.Asking.{Answer, outcome}
+use Rattle.bus_devices.specs.Events.{after_events_at, after_event}
+use Rattle.bus_devices.specs.Steps.{steps_due}
+use Rattle.bus_devices.proofs.EventLemmas.{happens_nmt, happens_set, outcome_events, outcome_power}
 use Rattle.can_frame.specs.declared.contender.Contender.{Contender}
 use Rattle.can_frame.specs.declared.waiting.Waiting.{Waiting}
 use Rattle.co_device.specs.Device.{Device, after_instant}
-use Rattle.co_parts.specs.Contents.{Image}
+use Rattle.image_parts.specs.Contents.{Image}
 use Rattle.co_scenario.specs.declared.nmt_command.NmtCommand.{NmtCommand}
 use Rattle.co_scenario.specs.declared.step.Step.{Step}
 use Rattle.co_scenario.specs.declared.step.Step.TheVariants.{Set, Power, Nmt}

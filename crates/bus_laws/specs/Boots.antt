@@ -1,19 +1,20 @@
 -- What can follow a stage of a node's boot.
-use Rattle.std.specs.Prelude.{◌≡◌, ℕ, ◌+◌, ◌⊎◌, [], ◌∷◌, Option, Some, None}
-use Rattle.can_frame.specs.Identifiers.{error_control_id, sdo_answer_id}
-use Rattle.co_parts.specs.Contents.{Image, write_of}
-use Rattle.co_parts.specs.declared.part.Part.TheVariants.{Boot}
-use Rattle.co_sdo_client.specs.Client.{after_answer}
-use Rattle.co_sdo_client.specs.declared.progress.Progress.TheVariants as progress
-use Rattle.co_sdo_client.specs.declared.client_transfer.ClientTransfer.{ClientTransfer as Transfer}
+use Rattle.std.specs.Prelude.{◌≡◌, ℕ, ◌+◌, ◌⊎◌, Option, Some, None}
+use Rattle.can_frame.specs.Identifiers.{sdo_answer_id}
+use Rattle.image_parts.specs.Contents.{Image, write_of}
+use Rattle.image_parts.specs.declared.part.Part.TheVariants.{Boot}
+use Rattle.sdo_client.specs.Client.{after_answer}
+use Rattle.sdo_client.specs.declared.progress.Progress.TheVariants as progress
+use Rattle.sdo_client.specs.declared.client_transfer.ClientTransfer.{ClientTransfer as Transfer}
 use Rattle.node_boot.specs.declared.boot_stage.BootStage.{BootStage}
 use Rattle.node_boot.specs.declared.boot_stage.BootStage.TheVariants.{Unseen, Comparing, Writing, Configured, Failed}
 use Rattle.can_bus.specs.declared.slot.Slot.{Slot}
+use Rattle.can_frame.specs.ErrorControl.{IsBootUp}
 
 -- the frame that was delivered is the boot-up message of the node
 abbrev pub IsBootUpOf : ℕ → Option Slot → Type 0
 IsBootUpOf node None = ⊥
-IsBootUpOf node (Some slot) = (slot.frame.id ≡ error_control_id node) × (slot.frame.bytes ≡ 0 ∷ [])
+IsBootUpOf node (Some slot) = IsBootUp node slot.frame
 
 -- the frame that was delivered is the node's SDO answer by which the download is confirmed
 abbrev pub IsConfirmedBy : ℕ → Transfer → Option Slot → Type 0

@@ -1,31 +1,31 @@
 -- Why an instant reads a part: the table of parts, row by row.
 use Rattle.std.specs.Prelude.{◌≡◌, ◌≢◌, ◌⊎◌, ℕ, ◌+◌, ◌/◌, true, false, Contains, List, length, slice_index_or, Option}
 use Rattle.std.specs.Prelude.{Some, None}
-use Rattle.asking.specs.Asking.{outcome}
-use Rattle.bus_events.specs.Steps.{steps_due}
+use Rattle.image_parts.specs.Asking.{outcome}
+use Rattle.bus_devices.specs.Steps.{steps_due}
 use Rattle.can_frame.specs.Frames.{BaseFrame}
 use Rattle.can_frame.specs.Identifiers.{nmt_id, sdo_answer_id, sdo_request_id}
 use Rattle.co_device.specs.Device.{Device, is_addressed, is_in}
-use Rattle.co_fields.specs.declared.nmt_state.NmtState.TheVariants.{Operational, Stopped}
-use Rattle.co_parts.specs.Contents.{Image, identity_of}
-use Rattle.co_parts.specs.declared.identity.Identity.{Identity}
-use Rattle.co_parts.specs.declared.part.Part.{Part}
-use Rattle.co_parts.specs.declared.part.Part.TheVariants.{Boot, Events, Expect, Shape}
-use Rattle.co_pdos.specs.declared.receipt.Receipt.TheVariants.{AtOnce}
+use Rattle.cia301.specs.declared.nmt_state.NmtState.TheVariants.{Operational, Stopped}
+use Rattle.image_parts.specs.Contents.{Image, identity_of}
+use Rattle.image_parts.specs.declared.identity.Identity.{Identity}
+use Rattle.image_parts.specs.declared.part.Part.{Part}
+use Rattle.image_parts.specs.declared.part.Part.TheVariants.{Boot, Events, Expect, Shape}
+use Rattle.pdo_rules.specs.declared.receipt.Receipt.TheVariants.{AtOnce}
 use Rattle.device_objects.specs.Profile.{sync_identifier}
 use Rattle.co_scenario.specs.Commands.{command_of}
 use Rattle.co_scenario.specs.declared.nmt_command.NmtCommand.{NmtCommand}
 use Rattle.co_scenario.specs.declared.nmt_command.NmtCommand.TheVariants.{ResetCommunication, ResetNode}
 use Rattle.co_scenario.specs.declared.step.Step.TheVariants.{Power}
 use Rattle.co_scenario.specs.declared.timed_step.TimedStep.{TimedStep}
-use Rattle.co_sdo_client.specs.Client.{after_answer}
-use Rattle.co_sdo_client.specs.declared.progress.Progress.TheVariants as progress
-use Rattle.co_sdo_client.specs.declared.client_transfer.ClientTransfer.{ClientTransfer as Transfer}
+use Rattle.sdo_client.specs.Client.{after_answer}
+use Rattle.sdo_client.specs.declared.progress.Progress.TheVariants as progress
+use Rattle.sdo_client.specs.declared.client_transfer.ClientTransfer.{ClientTransfer as Transfer}
 use Rattle.device_laws.specs.Ahead.{IsOwnPart}
 use Rattle.device_pdos.specs.Rpdos.{receipt_of, rpdo_at}
 use Rattle.nmt_boot.specs.Manager.{Manager}
-use Rattle.boot_table.specs.Table.{node_at}
-use Rattle.boot_table.specs.declared.booting.Booting.{Booting}
+use Rattle.manager_nodes.specs.Table.{node_at}
+use Rattle.manager_nodes.specs.declared.booting.Booting.{Booting}
 use Rattle.node_boot.specs.Boot.{is_as_expected, next_compared}
 use Rattle.node_boot.specs.declared.boot_stage.BootStage.{BootStage}
 use Rattle.node_boot.specs.declared.boot_stage.BootStage.TheVariants.{Unseen, Comparing, Writing, Configured, Failed}

@@ -1,8 +1,8 @@
 -- The spans of a run, and its moments.
 use Rattle.std.specs.Prelude.{ℕ, zero, suc, ◌*◌, List}
-use Rattle.asking.specs.Asking.{Asking, bind, outcome, turns}
-use Rattle.co_parts.specs.Contents.{Content, Image}
-use Rattle.co_parts.specs.declared.part.Part.{Part}
+use Rattle.image_parts.specs.Asking.{Asking, bind, outcome, turns}
+use Rattle.image_parts.specs.Contents.{Content, Image}
+use Rattle.image_parts.specs.declared.part.Part.{Part}
 use Rattle.can_bus.specs.Bus.{Bus, instant, power_on}
 use Rattle.can_bus.specs.Runs.{run}
 use Rattle.can_bus.specs.declared.line.Line.{Line}

@@ -1,11 +1,11 @@
 //! Laws of a bus, each a function whose contract is the law.
 
 ghost use Rattle.std.specs.Prelude.{◌≡◌, ◌≢◌, ◌↔◌, ◌<◌, ◌+◌, ◌*◌, ◌∷◌, [], ℕ, All, Some, None, filter};
-ghost use Rattle.asking.specs.Agenda.{IsSameUnder};
-ghost use Rattle.asking.specs.Alike.{AreAlike};
-ghost use Rattle.asking.specs.Asking.{Agrees, Answer, outcome, reads, turns};
+ghost use Rattle.image_parts.specs.Agenda.{IsSameUnder};
+ghost use Rattle.image_parts.specs.Alike.{AreAlike};
+ghost use Rattle.image_parts.specs.Asking.{Agrees, Answer, outcome, reads, turns};
 ghost use Rattle.bus_laws.specs.Spans.{span};
-ghost use Rattle.bus_events.specs.Steps.{has_time, steps_due, steps_left};
+ghost use Rattle.bus_devices.specs.Steps.{has_time, steps_due, steps_left};
 ghost use Rattle.can_bus.specs.Bus.{delivered_of, instant, power_on, after_arbitration, after_window_start, Bus};
 ghost use Rattle.can_bus.specs.Dues.{IsAtRest, IsJustBefore, due_run, moments, next_due};
 ghost use Rattle.can_bus.specs.Lines.{line_time};
@@ -16,15 +16,15 @@ ghost use Rattle.can_bus.specs.declared.slot.Slot.{Slot as Sent};
 ghost use Rattle.can_frame.specs.declared.contender.Contender.{Contender as Bid};
 ghost use Rattle.can_frame.specs.declared.waiting.Waiting.{Waiting as Queued};
 ghost use Rattle.co_device.specs.Device.{Device};
-ghost use Rattle.co_parts.specs.Contents.{Image};
-ghost use Rattle.co_parts.specs.Images.{IsImage};
-ghost use Rattle.co_parts.specs.declared.part.Part.TheVariants as part;
+ghost use Rattle.image_parts.specs.Contents.{Image};
+ghost use Rattle.image_parts.specs.Images.{IsImage};
+ghost use Rattle.image_parts.specs.declared.part.Part.TheVariants as part;
 ghost use Rattle.device_agenda.specs.Agenda.{hears};
 
 /// Under two images that agree on what an instant, a run, a span or the instants of a window read under the one, it is
 /// the same: the same end, the same lines and the same reads. Span i has the instants of window i, and span 0 begins
 /// with the power-on.
-#[tactic(auto, using(asking::proofs::QuestionLemmas::two_images))]
+#[tactic(auto, using(image_parts::proofs::QuestionLemmas::two_images))]
 pub fn two_images()
     ensures instants { (first second : Image) (t : ℕ) (s : Bus) → Agrees second (reads (instant t s) first)
         → AreAlike (instant t s) first second }

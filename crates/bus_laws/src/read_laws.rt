@@ -1,18 +1,18 @@
 //! Laws of what a bus reads of an image, each a function whose contract is the law.
 
 ghost use Rattle.std.specs.Prelude.{◌≡◌, ◌≢◌, ◌+◌, ◌∷◌, [], ℕ, All, List, Some, None, true, false};
-ghost use Rattle.asking.specs.Asking.{reads};
+ghost use Rattle.image_parts.specs.Asking.{reads};
 ghost use Rattle.bus_laws.specs.Reads.{IsReadAt};
 ghost use Rattle.can_bus.specs.Bus.{instant, Bus};
 ghost use Rattle.can_frame.specs.Frames.{BaseFrame};
 ghost use Rattle.co_device.specs.Device.{after_power, reset_communication, after_reset_node, Device};
 ghost use Rattle.co_device.specs.Receiving.{after_sync_at};
-ghost use Rattle.co_parts.specs.Contents.{identity_of, Image};
-ghost use Rattle.co_parts.specs.declared.identity.Identity.{Identity};
-ghost use Rattle.co_parts.specs.declared.part.Part.TheVariants as part;
-ghost use Rattle.co_sdo_client.specs.Client.{after_answer};
-ghost use Rattle.co_sdo_client.specs.declared.progress.Progress.TheVariants as progress;
-ghost use Rattle.co_sdo_client.specs.declared.client_transfer.ClientTransfer.{ClientTransfer as Transfer};
+ghost use Rattle.image_parts.specs.Contents.{identity_of, Image};
+ghost use Rattle.image_parts.specs.declared.identity.Identity.{Identity};
+ghost use Rattle.image_parts.specs.declared.part.Part.TheVariants as part;
+ghost use Rattle.sdo_client.specs.Client.{after_answer};
+ghost use Rattle.sdo_client.specs.declared.progress.Progress.TheVariants as progress;
+ghost use Rattle.sdo_client.specs.declared.client_transfer.ClientTransfer.{ClientTransfer as Transfer};
 ghost use Rattle.device_pdos.specs.Rpdos.{rpdo_at};
 ghost use Rattle.node_boot.specs.Boot.{boot_nmt_slave, is_as_expected, next_compared, sdo_answer};
 ghost use Rattle.node_boot.specs.declared.boot_stage.BootStage.TheVariants as stage;

@@ -1,8 +1,8 @@
 //! Laws of the runs of a bus, each a function whose contract is the law.
 
 ghost use Rattle.std.specs.Prelude.{◌≡◌, ◌⊎◌, ◌↔◌, ◌+◌, ◌*◌, ℕ, [], Some, None, true, false};
-ghost use Rattle.asking.specs.Agenda.{IsSameUnder};
-ghost use Rattle.asking.specs.Asking.{outcome, turns};
+ghost use Rattle.image_parts.specs.Agenda.{IsSameUnder};
+ghost use Rattle.image_parts.specs.Asking.{outcome, turns};
 ghost use Rattle.bus_laws.specs.Boots.{FollowsWrite, IsBootUpOf};
 ghost use Rattle.bus_laws.specs.Spans.{bus_at, span};
 ghost use Rattle.bus_laws.specs.Starts.{but_for_frames, LeavesItsList};
@@ -11,14 +11,14 @@ ghost use Rattle.can_bus.specs.Runs.{run, StartsWith};
 ghost use Rattle.can_bus.specs.declared.slot.Slot.{Slot as Sent};
 ghost use Rattle.can_frame.specs.declared.contender.Contender.{Contender as Bid};
 ghost use Rattle.can_frame.specs.declared.waiting.Waiting.{Waiting as Queued};
-ghost use Rattle.co_parts.specs.Contents.{roster_of, Image};
-ghost use Rattle.co_parts.specs.Images.{IsImage};
-ghost use Rattle.co_base.specs.Moments.{is_due};
-ghost use Rattle.co_parts.specs.declared.part.Part.TheVariants as part;
-ghost use Rattle.co_sdo_client.specs.declared.client_transfer.ClientTransfer.{ClientTransfer as Transfer};
+ghost use Rattle.image_parts.specs.Contents.{roster_of, Image};
+ghost use Rattle.image_parts.specs.Images.{IsImage};
+ghost use Rattle.base.specs.Moments.{is_due};
+ghost use Rattle.image_parts.specs.declared.part.Part.TheVariants as part;
+ghost use Rattle.sdo_client.specs.declared.client_transfer.ClientTransfer.{ClientTransfer as Transfer};
 ghost use Rattle.nmt_boot.specs.Beats.{IsMultiple};
-ghost use Rattle.boot_table.specs.Table.{all_configured, node_at};
-ghost use Rattle.co_parts.specs.declared.start_mode.StartMode.TheVariants.{EachNode};
+ghost use Rattle.manager_nodes.specs.Table.{all_configured, node_at};
+ghost use Rattle.image_parts.specs.declared.start_mode.StartMode.TheVariants.{EachNode};
 ghost use Rattle.node_boot.specs.Boot.{deadline_of};
 ghost use Rattle.node_boot.specs.declared.boot_stage.BootStage.TheVariants as stage;
 

@@ -5,20 +5,20 @@ use Rattle.std.specs.Prelude.{All, ◌==◌, if◌then◌else◌, remove, slice_
 use Rattle.std.specs.List.{AllByRecursion}
 use Rattle.std.proofs.lemmas.Bool.Decides.{nat_tests}
 use Rattle.std.proofs.lemmas.List.Elements.{All-cons, All-head, All-nil}
-use Rattle.asking.specs.Asking.{Asking, outcome}
-use Rattle.asking.specs.Each.{each}
-use Rattle.bus_events.specs.Events.{after_events_at, after_event, after_power_at, after_set_at}
-use Rattle.bus_events.specs.Steps.{steps_due}
-use Rattle.asking.proofs.EachLemmas.{outcome_each}
-use Rattle.bus_events.proofs.EventLemmas.{happens_nmt, happens_set, outcome_events, outcome_power}
+use Rattle.image_parts.specs.Asking.{Asking, outcome}
+use Rattle.image_parts.specs.Each.{each}
+use Rattle.bus_devices.specs.Events.{after_events_at, after_event, after_power_at, after_set_at}
+use Rattle.bus_devices.specs.Steps.{steps_due}
+use Rattle.image_parts.proofs.EachLemmas.{outcome_each}
+use Rattle.bus_devices.proofs.EventLemmas.{happens_nmt, happens_set, outcome_events, outcome_power}
 use Rattle.can_frame.specs.Frames.{slot_bits}
 use Rattle.can_frame.specs.declared.contender.Contender.{Contender}
 use Rattle.can_frame.specs.declared.waiting.Waiting.{Waiting}
 use Rattle.co_device.specs.Device as device
 use Rattle.co_device.specs.Device.{Device, after_instant}
-use Rattle.co_parts.specs.Contents.{Content, Image}
-use Rattle.co_base.specs.Moments.{moments_of}
-use Rattle.co_parts.specs.declared.part.Part.{Part}
+use Rattle.image_parts.specs.Contents.{Content, Image}
+use Rattle.base.specs.Moments.{moments_of}
+use Rattle.image_parts.specs.declared.part.Part.{Part}
 use Rattle.device_objects.specs.Consumers as consumers
 use Rattle.device_objects.specs.declared.consumer.Consumer.{Consumer}
 use Rattle.co_scenario.specs.declared.step.Step.{Step}
@@ -37,7 +37,7 @@ use Rattle.nmt_boot.specs.Manager as manager
 use Rattle.nmt_boot.specs.Manager.{Manager}
 use Rattle.node_boot.specs.declared.note.Note.{Note as Noted}
 use Rattle.bus_devices.specs.Senders.{sender_place}
-use Rattle.bus_events.specs.Places.{device_at}
+use Rattle.bus_devices.specs.Places.{device_at}
 use Rattle.can_bus.specs.Bus.{Bus, after_delivery, devices_without_winner, ended_slot, after_events, from_delivery_on}
 use Rattle.can_bus.specs.Bus.{winning_frame, delivered_of, instant, manager_after_delivery, manager_without_winner}
 use Rattle.can_bus.specs.Bus.{manager_after_slot, open_slot, after_arbitration, after_start_on, with_slot_of}

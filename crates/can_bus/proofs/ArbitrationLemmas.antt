@@ -19,7 +19,7 @@ use Rattle.can_frame.proofs.WinnerLemmas.{winner_of-wins}
 use Rattle.co_device.specs.Device.{Device, without_power}
 use Rattle.nmt_boot.specs.Manager.{Manager}
 use Rattle.bus_devices.specs.Senders.{contends_with, is_contender, sender_place}
-use Rattle.bus_events.specs.Places.{device_at}
+use Rattle.bus_devices.specs.Places.{device_at}
 use Rattle.can_bus.specs.Bus.{winning_frame, waiting_lists, winner}
 
 -- ---- who wins is who is found

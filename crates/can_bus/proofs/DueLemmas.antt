@@ -3,7 +3,7 @@ use Rattle.std.proofs.Common.{◌↔◌, ℕ, ◌+◌, ◌<◌, ◌≤◌, List,
 use Rattle.std.specs.Prelude.{All, flat_map}
 use Rattle.std.specs.List.{AllByRecursion}
 use Rattle.std.proofs.lemmas.List.Elements.{All-append, All-cons, All-head, All-nil, All-tail}
-use Rattle.bus_events.specs.Steps.{LieFrom}
+use Rattle.bus_devices.specs.Steps.{LieFrom}
 use Rattle.co_device.specs.Device as device
 use Rattle.co_device.specs.Device.{Device}
 use Rattle.co_scenario.specs.declared.timed_step.TimedStep.{TimedStep}

@@ -1,21 +1,22 @@
 -- The run over due moments is the run.
-use Rattle.asking.specs.Each.{each}
+use Rattle.image_parts.specs.Each.{each}
 use Rattle.std.proofs.Common.{true, ◌≡◌, ℕ, zero, suc, ◌+◌, ◌<◌, ◌≤◌, List, [], ◌∷◌, ◌++◌, length, get_or, refl, sym}
 use Rattle.std.proofs.Common.{ap, ◌∙◌, arith}
 use Rattle.std.specs.Prelude.{All}
 use Rattle.std.specs.List.{AllByRecursion}
 use Rattle.std.proofs.lemmas.List.Elements.{All-from_recursion}
-use Rattle.asking.specs.Agenda.{dues, IsSameUnder}
-use Rattle.asking.specs.Asking.{outcome, reads, turns}
-use Rattle.asking.proofs.DueLemmas.{dues_same}
-use Rattle.asking.proofs.QuestionLemmas.{outcome_bind, reads_bind}
+use Rattle.image_parts.specs.Agenda.{dues, IsSameUnder}
+use Rattle.image_parts.specs.Asking.{outcome, reads, turns}
+use Rattle.image_parts.proofs.DueLemmas.{dues_same}
+use Rattle.image_parts.proofs.QuestionLemmas.{outcome_bind, reads_bind}
 use Rattle.can_frame.specs.Frames.{bit_time}
 use Rattle.co_device.specs.Device as device
 use Rattle.co_device.specs.Device.{Device, after_instant}
-use Rattle.co_parts.specs.Contents.{Image, roster_of}
-use Rattle.co_parts.specs.Images.{IsImage, IsRoster, bit_rates}
-use Rattle.co_parts.specs.declared.part.Part.TheVariants.{Roster}
-use Rattle.co_parts.specs.declared.roster.Roster.{Roster as Network}
+use Rattle.image_parts.specs.Contents.{Image, roster_of}
+use Rattle.image_parts.specs.Images.{IsImage, IsRoster}
+use Rattle.cia301.specs.Limits.{bit_rates}
+use Rattle.image_parts.specs.declared.part.Part.TheVariants.{Roster}
+use Rattle.image_parts.specs.declared.roster.Roster.{Roster as Network}
 use Rattle.device_laws.specs.Rest.{Rests}
 use Rattle.can_bus.specs.Bus.{Bus, instant, power_on, bus_with_power, without_power}
 use Rattle.can_bus.specs.Dues.{IsAtRest, IsJustBefore, due_run, least, moments, next_due}

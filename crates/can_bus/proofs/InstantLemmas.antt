@@ -1,12 +1,12 @@
 -- An instant: the window, the events, what the nodes do, and what is on the wire.
 use Rattle.std.proofs.Common.{◌≡◌, ℕ, ◌++◌, List, Option, ap, ◌∙◌}
 use Rattle.std.proofs.lemmas.List.{append-nil}
-use Rattle.asking.specs.Asking.{Answer, Seen, outcome, reads, after_reads}
-use Rattle.asking.specs.Record.{IsAsked}
-use Rattle.asking.proofs.QuestionLemmas.{outcome_bind, reads_bind, followed_last}
-use Rattle.asking.proofs.RecordLemmas.{asked_bind}
-use Rattle.co_parts.specs.Contents.{Content, Image}
-use Rattle.co_parts.specs.declared.part.Part.{Part}
+use Rattle.image_parts.specs.Asking.{Answer, Seen, outcome, reads, after_reads}
+use Rattle.image_parts.specs.Record.{IsAsked}
+use Rattle.image_parts.proofs.QuestionLemmas.{outcome_bind, reads_bind, followed_last}
+use Rattle.image_parts.proofs.RecordLemmas.{asked_bind}
+use Rattle.image_parts.specs.Contents.{Content, Image}
+use Rattle.image_parts.specs.declared.part.Part.{Part}
 use Rattle.co_device.specs.Device.{Device}
 use Rattle.nmt_boot.specs.Manager.{Manager}
 use Rattle.can_bus.specs.Bus.{Bus, after_nodes, after_window, ended_slot, after_events, from_delivery_on, instant}

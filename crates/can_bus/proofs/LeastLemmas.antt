@@ -1,9 +1,9 @@
 -- The least due moment, part by part.
 use Rattle.std.proofs.Common.{◌≡◌, ℕ, List, [], ◌∷◌, ◌++◌, Option, Some, None, refl, sym, ap, ◌∙◌, arith}
 use Rattle.std.specs.Prelude.{flat_map, min}
-use Rattle.bus_events.specs.Steps.{times}
+use Rattle.bus_devices.specs.Steps.{times}
 use Rattle.co_device.specs.Device as device
-use Rattle.co_base.specs.Moments.{earlier, earliest, moments_of}
+use Rattle.base.specs.Moments.{earlier, earliest, moments_of}
 use Rattle.nmt_boot.specs.Manager as manager
 use Rattle.can_bus.specs.Bus.{Bus}
 use Rattle.can_bus.specs.Dues.{least, next_due, slot_moments, step_moments}

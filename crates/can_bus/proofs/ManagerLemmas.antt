@@ -1,10 +1,10 @@
 -- What the manager does with a delivered frame and then by its timers.
 use Rattle.std.proofs.Common.{◌≡◌, ℕ, List, ◌++◌, Option, ◌∙◌, ap, sym, append_assoc}
 use Rattle.std.proofs.lemmas.List.{append-nil}
-use Rattle.asking.specs.Asking.{Answer, Seen, outcome, reads, after_reads}
-use Rattle.asking.proofs.QuestionLemmas.{outcome_bind, reads_bind, followed_last}
-use Rattle.co_parts.specs.Contents.{Content, Image}
-use Rattle.co_parts.specs.declared.part.Part.{Part}
+use Rattle.image_parts.specs.Asking.{Answer, Seen, outcome, reads, after_reads}
+use Rattle.image_parts.proofs.QuestionLemmas.{outcome_bind, reads_bind, followed_last}
+use Rattle.image_parts.specs.Contents.{Content, Image}
+use Rattle.image_parts.specs.declared.part.Part.{Part}
 use Rattle.nmt_boot.specs.Manager.{Manager, timers}
 use Rattle.node_boot.specs.declared.note.Note.{Note}
 use Rattle.can_bus.specs.Bus.{manager_after_delivery, manager_after_slot, manager_after_timers}

@@ -1,16 +1,16 @@
 -- What the nodes do, one after another.
 use Rattle.std.proofs.Common.{◌≡◌, ℕ, List, [], ◌∷◌, ◌++◌, Option, Some, None, ◌∙◌, ap, sym, refl, map}
 use Rattle.std.proofs.lemmas.List.{append-nil}
-use Rattle.asking.specs.Asking.{Answer, Seen, outcome, reads}
-use Rattle.asking.specs.Record.{IsAsked}
-use Rattle.asking.proofs.QuestionLemmas.{outcome_bind, reads_bind}
-use Rattle.asking.proofs.RecordLemmas.{asked_in_turn}
-use Rattle.co_parts.specs.Contents.{Content, Image}
-use Rattle.co_parts.specs.declared.part.Part.{Part}
+use Rattle.image_parts.specs.Asking.{Answer, Seen, outcome, reads}
+use Rattle.image_parts.specs.Record.{IsAsked}
+use Rattle.image_parts.proofs.QuestionLemmas.{outcome_bind, reads_bind}
+use Rattle.image_parts.proofs.RecordLemmas.{asked_in_turn}
+use Rattle.image_parts.specs.Contents.{Content, Image}
+use Rattle.image_parts.specs.declared.part.Part.{Part}
 use Rattle.co_device.specs.Device.{Device, after_instant}
 use Rattle.nmt_boot.specs.Manager.{Manager}
-use Rattle.asking.specs.Each.{each}
-use Rattle.asking.proofs.EachLemmas.{outcome_each, reads_each}
+use Rattle.image_parts.specs.Each.{each}
+use Rattle.image_parts.proofs.EachLemmas.{outcome_each, reads_each}
 use Rattle.device_agenda.specs.Agenda.{at_instant, hears}
 use Rattle.can_bus.specs.Bus.{nodes_after_devices, after_delivery, delivered_of, delivery_of}
 use Rattle.can_bus.specs.Bus.{manager_after_delivery, nodes_after}

@@ -2,17 +2,18 @@
 use Rattle.std.proofs.Common.{◌≡◌, ℕ, zero, suc, ◌<◌, ◌≤◌, List, [], ◌∷◌, true, false, None, length, get_or, ◌∙◌, arith}
 use Rattle.std.specs.List.{AllByRecursion}
 use Rattle.std.proofs.lemmas.List.{append-nil}
-use Rattle.asking.specs.Asking.{Answer, Seen, outcome, reads, after_reads}
-use Rattle.asking.proofs.QuestionLemmas.{outcome_bind, reads_bind, followed_last}
-use Rattle.co_parts.specs.Contents.{Content, Image}
-use Rattle.co_parts.specs.Images.{bit_rates, IsRoster}
-use Rattle.co_parts.specs.declared.part.Part.{Part}
-use Rattle.co_parts.specs.declared.roster.Roster.{Roster}
+use Rattle.image_parts.specs.Asking.{Answer, Seen, outcome, reads, after_reads}
+use Rattle.image_parts.proofs.QuestionLemmas.{outcome_bind, reads_bind, followed_last}
+use Rattle.image_parts.specs.Contents.{Content, Image}
+use Rattle.image_parts.specs.Images.{IsRoster}
+use Rattle.cia301.specs.Limits.{bit_rates}
+use Rattle.image_parts.specs.declared.part.Part.{Part}
+use Rattle.image_parts.specs.declared.roster.Roster.{Roster}
 use Rattle.can_frame.specs.Frames.{bit_time}
 use Rattle.co_device.specs.Device.{Device, after_power}
 use Rattle.nmt_boot.specs.Manager.{Manager, manager_at_power_on}
 use Rattle.can_bus.specs.Bus.{Bus, power_on_of, bus_with_power, without_power}
-use Rattle.asking.specs.Each.{each}
+use Rattle.image_parts.specs.Each.{each}
 
 -- no bit rate is 0
 not_zero : (xs : List ℕ) (x k : ℕ) → AllByRecursion (λ b. 1 ≤ b) xs → k < length xs → get_or xs k x ≡ x → 1 ≤ x

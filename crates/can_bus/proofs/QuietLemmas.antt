@@ -4,9 +4,9 @@ use Rattle.std.specs.Prelude.{All, ◌==◌}
 use Rattle.std.specs.List.{AllByRecursion}
 use Rattle.std.proofs.lemmas.Bool.Decides.{nat_tests}
 use Rattle.std.proofs.lemmas.List.Elements.{All-head, All-tail}
-use Rattle.asking.specs.Asking.{Answer}
-use Rattle.bus_events.specs.Events.{after_events_at}
-use Rattle.bus_events.specs.Steps.{LieFrom, has_time, steps_due, steps_left}
+use Rattle.image_parts.specs.Asking.{Answer}
+use Rattle.bus_devices.specs.Events.{after_events_at}
+use Rattle.bus_devices.specs.Steps.{LieFrom, has_time, steps_due, steps_left}
 use Rattle.can_frame.specs.Winner.{contenders, contenders_of}
 use Rattle.can_frame.specs.declared.waiting.Waiting.{Waiting}
 use Rattle.co_device.specs.Device as device

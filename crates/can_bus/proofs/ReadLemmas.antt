@@ -2,18 +2,18 @@
 use Rattle.std.proofs.Common.{◌≡◌, ◌==◌, ℕ, List, [], ◌∷◌, true, false, refl, ap, ◌∙◌, arith}
 use Rattle.std.specs.List.{flat_map}
 use Rattle.std.proofs.lemmas.Bool.Decides.{nat_tests}
-use Rattle.asking.specs.Asking.{Answer, reads}
-use Rattle.co_parts.specs.Contents.{Content, Image, roster_of}
-use Rattle.co_parts.specs.declared.part.Part.{Part}
-use Rattle.co_parts.specs.declared.part.Part.TheVariants.{Defaults, Roster, Shape}
+use Rattle.image_parts.specs.Asking.{Answer, reads}
+use Rattle.image_parts.specs.Contents.{Content, Image, roster_of}
+use Rattle.image_parts.specs.declared.part.Part.{Part}
+use Rattle.image_parts.specs.declared.part.Part.TheVariants.{Defaults, Roster, Shape}
 use Rattle.co_device.specs.Device as device
 use Rattle.co_device.specs.Device.{Device, after_power, after_reset_node}
 use Rattle.can_bus.specs.Bus.{delivered_of, power_on, without_power}
-use Rattle.asking.specs.Each.{each}
+use Rattle.image_parts.specs.Each.{each}
 use Rattle.device_agenda.specs.Agenda.{hears}
 use Rattle.can_bus.specs.Runs.{power_on_reads}
 use Rattle.can_bus.specs.declared.slot.Slot.{Slot}
-use Rattle.asking.proofs.EachLemmas.{reads_each}
+use Rattle.image_parts.proofs.EachLemmas.{reads_each}
 use Rattle.can_bus.proofs.PowerLemmas.{reads_power_on_of}
 
 parts_of : Image → ℕ → List (Part × Content)

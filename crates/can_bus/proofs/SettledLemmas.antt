@@ -3,13 +3,13 @@ use Rattle.std.proofs.Common.{◌≡◌, ℕ, List, [], ◌∷◌, ◌++◌, len
 use Rattle.std.proofs.Common.{length-append}
 use Rattle.std.specs.Prelude.{All}
 use Rattle.std.proofs.lemmas.List.Elements.{All-cons, All-nil}
-use Rattle.asking.specs.Asking.{outcome}
+use Rattle.image_parts.specs.Asking.{outcome}
 use Rattle.can_frame.specs.Winner.{contenders, contenders_of}
 use Rattle.can_frame.specs.declared.contender.Contender.{Contender}
 use Rattle.can_frame.specs.declared.waiting.Waiting.{Waiting}
 use Rattle.can_frame.proofs.WinnerLemmas.{length-contenders_of, winner_of-wins}
 use Rattle.co_device.specs.Device.{Device}
-use Rattle.co_parts.specs.Contents.{Image}
+use Rattle.image_parts.specs.Contents.{Image}
 use Rattle.nmt_boot.specs.Manager.{Manager}
 use Rattle.can_bus.specs.Bus.{Bus, ended_slot, from_delivery_on, instant, waiting_lists, nodes_after, open_slot}
 use Rattle.can_bus.specs.Bus.{after_arbitration, after_start_on, with_slot_of, winner}

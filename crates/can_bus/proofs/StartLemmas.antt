@@ -13,7 +13,7 @@ use Rattle.can_frame.proofs.WinnerLemmas.{contender_at, length-contenders_of, wi
 use Rattle.co_device.specs.Device.{Device, without_power}
 use Rattle.nmt_boot.specs.Manager.{Manager}
 use Rattle.bus_devices.specs.Senders.{contends_with, sender_place}
-use Rattle.bus_events.specs.Places.{device_at}
+use Rattle.bus_devices.specs.Places.{device_at}
 use Rattle.can_bus.specs.Bus.{Bus, winning_frame, waiting_lists, slot_of, after_arbitration, after_start_on}
 use Rattle.can_bus.specs.Bus.{with_slot_of, winner}
 use Rattle.can_bus.specs.Runs.{StartsWith}
@@ -25,7 +25,7 @@ abbrev waiting_at : List Waiting → ℕ → Waiting
 waiting_at frames place = slice_index_or frames place (waiting Nmt (record { id = 0; bytes = [] }))
 
 -- the winner of a node's list is of that node
-node_is : (node : ℕ) (frames : List Waiting) (c : Contender) → winner_of (contenders_of (node, frames)) ≡ Some c
+pub node_is : (node : ℕ) (frames : List Waiting) (c : Contender) → winner_of (contenders_of (node, frames)) ≡ Some c
     → c.node ≡ node
 node_is node frames c e =
     let wins : IsWinner (contenders_of (node, frames))

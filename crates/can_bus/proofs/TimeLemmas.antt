@@ -5,13 +5,13 @@ use Rattle.std.specs.Prelude.{◌==◌}
 use Rattle.std.specs.List.{AllByRecursion}
 use Rattle.std.proofs.lemmas.Bool.Decides.{nat_tests}
 use Rattle.std.proofs.lemmas.List.Elements.{All-cons, All-nil}
-use Rattle.asking.specs.Asking.{Answer, outcome, reads}
-use Rattle.bus_events.specs.Steps.{LieFrom, has_time, steps_due, steps_from, steps_left}
-use Rattle.bus_events.proofs.StepLemmas.{all_stay, due_of_all, left_in_order, left_later, left_of_all}
+use Rattle.image_parts.specs.Asking.{Answer, outcome, reads}
+use Rattle.bus_devices.specs.Steps.{LieFrom, has_time, steps_due, steps_from, steps_left}
+use Rattle.bus_devices.proofs.StepLemmas.{all_stay, due_of_all, left_in_order, left_later, left_of_all}
 use Rattle.can_frame.specs.declared.contender.Contender.{Contender}
-use Rattle.co_parts.specs.Contents.{Image, roster_of, steps_of}
-use Rattle.co_parts.specs.Images.{AreInOrder, IsImage, IsWithin}
-use Rattle.co_parts.specs.declared.part.Part.TheVariants.{Events, Roster}
+use Rattle.image_parts.specs.Contents.{Image, roster_of, steps_of}
+use Rattle.image_parts.specs.Images.{AreInOrder, IsImage, IsWithin}
+use Rattle.image_parts.specs.declared.part.Part.TheVariants.{Events, Roster}
 use Rattle.co_scenario.specs.declared.timed_step.TimedStep.{TimedStep}
 use Rattle.can_bus.specs.Bus.{Bus, ended_slot, from_delivery_on, with_window, instant, nodes_after, open_slot, power_on}
 use Rattle.can_bus.specs.Bus.{after_arbitration, after_start_on, with_slot_of, after_window_start, winner}

@@ -4,10 +4,10 @@ use Rattle.std.proofs.Common.{refl, sym, ap, ◌∙◌, arith}
 use Rattle.std.specs.Prelude.{All, nat_le}
 use Rattle.std.proofs.lemmas.Bool.Decides.{nat_tests}
 use Rattle.std.proofs.lemmas.List.Elements.{All-append, All-cons, All-nil}
-use Rattle.asking.specs.Asking.{outcome, turns}
-use Rattle.asking.proofs.QuestionLemmas.{outcome_bind}
-use Rattle.asking.proofs.ToldLemmas.{told_to}
-use Rattle.co_parts.specs.Contents.{Image}
+use Rattle.image_parts.specs.Asking.{outcome, turns}
+use Rattle.image_parts.proofs.QuestionLemmas.{outcome_bind}
+use Rattle.image_parts.proofs.ToldLemmas.{told_to}
+use Rattle.image_parts.specs.Contents.{Image}
 use Rattle.node_boot.specs.declared.note.Note.{Note as Noted}
 use Rattle.can_bus.specs.Bus.{Bus, ended_slot, frame_lines, from_delivery_on, instant, nodes_after, note_lines}
 use Rattle.can_bus.specs.Bus.{power_on}

@@ -7,18 +7,18 @@ use Rattle.std.proofs.lemmas.Bool.Decides.{nat_tests}
 use Rattle.std.specs.List.{AllByRecursion}
 use Rattle.std.specs.declared.rc.Rc.{Rc}
 use Rattle.std.proofs.lemmas.List.{append-nil}
-use Rattle.asking.specs.Asking.{Answer, Seen, outcome, reads, after_reads}
-use Rattle.asking.proofs.QuestionLemmas.{outcome_bind, reads_bind, followed_last}
-use Rattle.asking.proofs.RecordLemmas.{asked_none}
-use Rattle.asking.specs.Record.{IsAsked}
-use Rattle.bus_events.proofs.StepLemmas.{all_of_them, free_within}
-use Rattle.bus_events.specs.Events.{after_events_at}
-use Rattle.bus_events.specs.Steps.{AreFree, in_window, steps_due, steps_left}
+use Rattle.image_parts.specs.Asking.{Answer, Seen, outcome, reads, after_reads}
+use Rattle.image_parts.proofs.QuestionLemmas.{outcome_bind, reads_bind, followed_last}
+use Rattle.image_parts.proofs.RecordLemmas.{asked_none}
+use Rattle.image_parts.specs.Record.{IsAsked}
+use Rattle.bus_devices.proofs.StepLemmas.{all_of_them, free_within}
+use Rattle.bus_devices.specs.Events.{after_events_at}
+use Rattle.bus_devices.specs.Steps.{AreFree, in_window, steps_due, steps_left}
 use Rattle.co_device.specs.Device.{Device}
-use Rattle.co_parts.specs.Contents.{Content, Image}
-use Rattle.co_parts.specs.Images.{IsWithin}
-use Rattle.co_parts.specs.Shared.{shared}
-use Rattle.co_parts.specs.declared.part.Part.{Part}
+use Rattle.image_parts.specs.Contents.{Content, Image}
+use Rattle.image_parts.specs.Images.{IsWithin}
+use Rattle.image_parts.specs.Shared.{shared}
+use Rattle.image_parts.specs.declared.part.Part.{Part}
 use Rattle.co_scenario.specs.declared.timed_step.TimedStep.{TimedStep}
 use Rattle.nmt_boot.specs.Manager.{Manager}
 use Rattle.can_bus.specs.Bus.{Bus, with_nodes, after_events}

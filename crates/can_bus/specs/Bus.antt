@@ -2,17 +2,17 @@
 -- network.
 use Rattle.std.specs.Prelude.{ℕ, ◌+◌, ◌*◌, ◌/◌, ◌==◌, Bool, false, true, List, [], ◌∷◌, ◌++◌, map, remove}
 use Rattle.std.specs.Prelude.{slice_index_or, Option, Some, None, if◌then◌else◌}
-use Rattle.asking.specs.Asking.{Asking, Answer, Ask, bind}
+use Rattle.image_parts.specs.Asking.{Asking, Answer, Ask, bind}
 use Rattle.can_frame.specs.Frames.{BaseFrame, bit_time, slot_bits}
 use Rattle.can_frame.specs.Winner.{contenders, winner_of}
 use Rattle.can_frame.specs.WaitingFrames.{waiting}
 use Rattle.can_frame.specs.declared.contender.Contender.{Contender}
 use Rattle.can_frame.specs.declared.purpose.Purpose.TheVariants.{Nmt}
 use Rattle.can_frame.specs.declared.waiting.Waiting.{Waiting}
-use Rattle.co_parts.specs.Contents.{Content, roster_of, steps_of}
-use Rattle.co_parts.specs.declared.part.Part.{Part}
-use Rattle.co_parts.specs.declared.part.Part.TheVariants.{Events, Roster}
-use Rattle.co_parts.specs.declared.roster.Roster.{Roster as Network}
+use Rattle.image_parts.specs.Contents.{Content, roster_of, steps_of}
+use Rattle.image_parts.specs.declared.part.Part.{Part}
+use Rattle.image_parts.specs.declared.part.Part.TheVariants.{Events, Roster}
+use Rattle.image_parts.specs.declared.roster.Roster.{Roster as Network}
 use Rattle.co_device.specs.Device as device
 use Rattle.co_device.specs.Device.{Device}
 use Rattle.co_scenario.specs.declared.timed_step.TimedStep.{TimedStep}
@@ -20,10 +20,10 @@ use Rattle.nmt_boot.specs.Manager as manager
 use Rattle.nmt_boot.specs.Manager.{Manager}
 use Rattle.node_boot.specs.declared.note.Note.{Note as Noted}
 use Rattle.bus_devices.specs.Senders.{device_lists, sender_place, with_sent}
-use Rattle.asking.specs.Each.{each}
-use Rattle.bus_events.specs.Events.{after_events_at}
-use Rattle.bus_events.specs.Places.{device_at}
-use Rattle.bus_events.specs.Steps.{steps_due, steps_left}
+use Rattle.image_parts.specs.Each.{each}
+use Rattle.bus_devices.specs.Events.{after_events_at}
+use Rattle.bus_devices.specs.Places.{device_at}
+use Rattle.bus_devices.specs.Steps.{steps_due, steps_left}
 use Rattle.device_agenda.specs.Agenda.{hears}
 use Rattle.device_agenda.specs.Delivered.{Delivered}
 use Rattle.can_bus.specs.declared.line.Line.{Line}

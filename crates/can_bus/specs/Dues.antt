@@ -1,9 +1,9 @@
 -- When a bus is due (this profile's own).
 use Rattle.std.specs.Prelude.{ℕ, ◌<◌, ◌≤◌, All, min, List, [], ◌∷◌, ◌++◌, flat_map, map, Option, Some, None}
-use Rattle.asking.specs.Agenda.{dues}
-use Rattle.asking.specs.Asking.{Asking, bind}
-use Rattle.co_parts.specs.Contents.{Content}
-use Rattle.co_parts.specs.declared.part.Part.{Part}
+use Rattle.image_parts.specs.Agenda.{dues}
+use Rattle.image_parts.specs.Asking.{Asking, bind}
+use Rattle.image_parts.specs.Contents.{Content}
+use Rattle.image_parts.specs.declared.part.Part.{Part}
 use Rattle.co_scenario.specs.declared.timed_step.TimedStep.{TimedStep}
 use Rattle.co_device.specs.Device as device
 use Rattle.nmt_boot.specs.Manager as manager

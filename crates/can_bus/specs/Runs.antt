@@ -2,15 +2,15 @@
 use Rattle.std.specs.Prelude.{◌≡◌, ℕ, ◌+◌, ◌*◌, ◌/◌, ◌<◌, ◌≤◌, nat_le, Bool, List, [], ◌∷◌, All, filter, Option, Some}
 use Rattle.std.specs.Prelude.{None}
 use Rattle.std.specs.List.{flat_map}
-use Rattle.asking.specs.Asking.{Asking, bind, outcome, turns}
+use Rattle.image_parts.specs.Asking.{Asking, bind, outcome, turns}
 use Rattle.can_frame.specs.Winner.{contenders, IsWinner, WaitsAt}
 use Rattle.can_frame.specs.declared.contender.Contender.{Contender}
 use Rattle.can_frame.specs.declared.waiting.Waiting.{Waiting}
-use Rattle.co_parts.specs.Contents.{Content, Image, roster_of, steps_of}
-use Rattle.co_parts.specs.Images.{AreInOrder}
-use Rattle.co_parts.specs.declared.part.Part.{Part}
-use Rattle.co_parts.specs.declared.part.Part.TheVariants.{Defaults, Events, Roster, Shape}
-use Rattle.bus_events.specs.Steps.{LieFrom, steps_from}
+use Rattle.image_parts.specs.Contents.{Content, Image, roster_of, steps_of}
+use Rattle.image_parts.specs.Images.{AreInOrder}
+use Rattle.image_parts.specs.declared.part.Part.{Part}
+use Rattle.image_parts.specs.declared.part.Part.TheVariants.{Defaults, Events, Roster, Shape}
+use Rattle.bus_devices.specs.Steps.{LieFrom, steps_from}
 use Rattle.can_bus.specs.Bus.{Bus, instant, waiting_lists, power_on, slot_of}
 use Rattle.co_scenario.specs.declared.timed_step.TimedStep.{TimedStep}
 use Rattle.can_bus.specs.Lines.{line_time}

@@ -2,15 +2,15 @@
 
 ghost use Rattle.std.specs.Prelude.{◌≡◌, ◌<◌, ◌≤◌, ◌+◌, ◌*◌, ◌++◌, ◌↔◌, IfOk, OnOk, OnErr, IsErr, IsTrue};
 ghost use Rattle.std.specs.Prelude.{option_copied};
-ghost use Rattle.asking.specs.Asking.{outcome};
-ghost use Rattle.asking.specs.Record.{BeginsWith, IsAsked, Lasts};
+ghost use Rattle.image_parts.specs.Asking.{outcome};
+ghost use Rattle.image_parts.specs.Record.{BeginsWith, IsAsked, Lasts};
 ghost use Rattle.bus_devices.specs.Numbers.{values_of};
 ghost use Rattle.can_bus.specs.Bus.{blank_bus, ended_slot, from_delivery_on, instant, open_slot, power_on, power_on_of};
 ghost use Rattle.can_bus.specs.Bus.{after_arbitration};
 ghost use Rattle.can_bus.specs.Dues.{next_due};
 ghost use Rattle.can_bus.specs.Telling.{TellsApart};
 ghost use Rattle.can_frame.specs.Frames.{slot_bits as bits_of};
-ghost use Rattle.co_parts.specs.Contents.{first_roster as roster_of_first};
+ghost use Rattle.image_parts.specs.Contents.{first_roster as roster_of_first};
 
 use crate::arbitration::{send, winner};
 use crate::due_moments::{before_end, sooner};
@@ -20,12 +20,11 @@ use crate::parts::Parts;
 use crate::slot::Slot;
 use crate::telling::tell;
 use crate::windows::{begin_window, run_due};
-use bus_devices::{Apart, Devices, new_devices, power_all};
-use bus_events::StepsLeft;
+use base::Octets;
+use bus_devices::{Apart, Devices, StepsLeft, new_devices, power_all};
 use can_frame::{Frame, bit_time, slot_bits};
-use co_base::Octets;
 use co_dict::Dict;
-use co_parts::{END, Roster, StartMode};
+use image_parts::{END, Roster, StartMode};
 use nmt_boot::Manager;
 use node_boot::Notes;
 use std::alloc::{AllocError, Global};

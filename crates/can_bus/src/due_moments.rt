@@ -2,7 +2,7 @@
 
 ghost use Rattle.std.specs.Prelude.{◌≡◌};
 ghost use Rattle.can_bus.specs.Dues.{least, slot_moments};
-ghost use Rattle.co_base.specs.Moments.{moments_of};
+ghost use Rattle.base.specs.Moments.{moments_of};
 
 use crate::slot::Slot;
 

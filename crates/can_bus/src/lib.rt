@@ -1,5 +1,5 @@
 //! One instant of a CAN bus with its devices and its manager.
-#![tactic(auto, using(asking::proofs::RecordLemmas::record_laws))]
+#![tactic(auto, using(image_parts::proofs::RecordLemmas::record_laws))]
 
 mod arbitration;
 mod bus_state;

@@ -1,12 +1,12 @@
 //! What the manager of a bus does in an instant.
 
 ghost use Rattle.std.specs.Prelude.{◌≡◌, ◌<◌, ◌++◌, OnOk};
-ghost use Rattle.asking.specs.Asking.{outcome};
-ghost use Rattle.asking.specs.Record.{BeginsWith, IsAsked, Lasts};
+ghost use Rattle.image_parts.specs.Asking.{outcome};
+ghost use Rattle.image_parts.specs.Record.{BeginsWith, IsAsked, Lasts};
 ghost use Rattle.can_bus.specs.Bus.{manager_after_delivery, manager_after_slot};
 
 use crate::slot::Slot;
-use co_parts::END;
+use image_parts::END;
 use nmt_boot::Manager;
 use node_boot::{Boots, Notes};
 use std::alloc::AllocError;

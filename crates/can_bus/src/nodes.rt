@@ -1,16 +1,16 @@
 //! What the nodes of a bus do in an instant.
 
 ghost use Rattle.std.specs.Prelude.{◌≡◌, ◌<◌, ◌++◌, OnOk};
-ghost use Rattle.asking.specs.Asking.{outcome};
-ghost use Rattle.asking.specs.Record.{BeginsWith, IsAsked, Lasts};
+ghost use Rattle.image_parts.specs.Asking.{outcome};
+ghost use Rattle.image_parts.specs.Record.{BeginsWith, IsAsked, Lasts};
 ghost use Rattle.can_bus.specs.Bus.{delivery_of as delivery_of_slot, nodes_after};
 
 use crate::managing::manage;
 use crate::parts::Parts;
 use crate::slot::Slot;
 use bus_devices::Devices;
-use co_parts::END;
 use device_agenda::Delivery;
+use image_parts::END;
 use nmt_boot::Manager;
 use node_boot::Notes;
 use std::alloc::AllocError;

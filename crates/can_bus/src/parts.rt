@@ -1,15 +1,15 @@
 //! The only way of a bus to an image.
 
 ghost use Rattle.std.specs.Prelude.{◌≡◌, ◌+◌, ◌-◌, ◌^◌, [], min, IfOk, IfSome, OnOk};
-ghost use Rattle.asking.specs.Asking.{after_ask};
-ghost use Rattle.asking.specs.Record.{Lasts};
-ghost use Rattle.co_parts.specs.Contents.{EventsAre, RosterIs};
-ghost use Rattle.co_parts.specs.Images.{AreInOrder, IsRoster, IsWithin};
-ghost use Rattle.co_parts.specs.Shared.{shared};
+ghost use Rattle.image_parts.specs.Asking.{after_ask};
+ghost use Rattle.image_parts.specs.Record.{Lasts};
+ghost use Rattle.image_parts.specs.Contents.{EventsAre, RosterIs};
+ghost use Rattle.image_parts.specs.Images.{AreInOrder, IsRoster, IsWithin};
+ghost use Rattle.image_parts.specs.Shared.{shared};
 ghost use Rattle.std.specs.List.{AllByRecursion};
 
-use co_parts::{Part, Read, Roster, Window};
 use device_objects::Shapes;
+use image_parts::{Part, Read, Roster, Window};
 use node_boot::Boots;
 use std::alloc::AllocError;
 use std::rc::Rc;

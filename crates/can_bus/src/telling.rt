@@ -1,7 +1,7 @@
 //! What an instant tells.
 
 ghost use Rattle.std.specs.Prelude.{◌≡◌, ◌++◌, OnOk};
-ghost use Rattle.asking.specs.Record.{BeginsWith};
+ghost use Rattle.image_parts.specs.Record.{BeginsWith};
 ghost use Rattle.can_bus.specs.Bus.{frame_lines, note_lines};
 
 use crate::line::Line;

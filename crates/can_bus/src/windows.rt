@@ -1,15 +1,14 @@
 //! The windows of a bus, and their events.
 
 ghost use Rattle.std.specs.Prelude.{◌≡◌, ◌<◌, OnOk};
-ghost use Rattle.asking.specs.Asking.{outcome};
-ghost use Rattle.asking.specs.Record.{IsAsked, Lasts};
+ghost use Rattle.image_parts.specs.Asking.{outcome};
+ghost use Rattle.image_parts.specs.Record.{IsAsked, Lasts};
 ghost use Rattle.can_bus.specs.Bus.{after_events, after_window_start};
 
 use crate::bus_state::BusState;
 use crate::parts::Parts;
-use bus_devices::Devices;
-use bus_events::{StepsLeft, run_events};
-use co_parts::{END, WINDOW};
+use bus_devices::{Devices, StepsLeft, run_events};
+use image_parts::{END, WINDOW};
 use std::alloc::AllocError;
 use std::mem::replace;
 

@@ -3,7 +3,7 @@ use Rattle.std.proofs.Common.{◌≡◌, ℕ, ◌-◌, ◌<◌, ◌≤◌, List,
 use Rattle.std.proofs.Math.Seq.{take-append_seam}
 use Rattle.std.proofs.lemmas.List.{drop-replicate}
 use Rattle.std.proofs.Math.ListN.{take}
-use Rattle.co_base.specs.Bytes.{AreBytes}
+use Rattle.base.specs.Bytes.{AreBytes}
 use Rattle.can_frame.specs.Frames.{IsStored}
 
 -- bytes that are written over the first of eight zeros

@@ -12,9 +12,9 @@ use Rattle.std.proofs.lemmas.Fmt.{decimal_digit, decimal_is_IsNumeral, decimal_s
 use Rattle.std.proofs.lemmas.List.{length-append, length-replicate, length-set, take_more, take_more_set}
 use Rattle.std.proofs.lemmas.List.Concat.{flat_map-append}
 use Rattle.std.proofs.lemmas.Option.{same_Some}
-use Rattle.co_base.specs.Bytes.{AreBytes}
-use Rattle.co_text.specs.Digits.{byte_digits, digits_number, identifier_digits}
-use Rattle.co_text.proofs.DigitLemmas.{byte_again, digit_value-glyph}
+use Rattle.base.specs.Bytes.{AreBytes}
+use Rattle.plain_text.specs.Digits.{byte_digits, digits_number, identifier_digits}
+use Rattle.plain_text.proofs.DigitLemmas.{byte_again, digit_value-glyph}
 use Rattle.can_frame.specs.Frames.{BaseFrame, IsFrame}
 use Rattle.can_frame.specs.TraceLines.{byte_count, frame_line, spaced_bytes, ten_digits}
 

@@ -1,7 +1,7 @@
 -- Frames of a CAN bus (ISO 11898-1), and the slots that they take.
-use Rattle.std.specs.Prelude.{◌≡◌, ℕ, ◌+◌, ◌*◌, ◌/◌, ◌-◌, ◌<◌, ◌≤◌, nat_lt, nat_le, ◌&&◌, if◌then◌else◌, List, ◌++◌}
-use Rattle.std.specs.Prelude.{length, replicate, Option, Some, None}
-use Rattle.co_base.specs.Bytes.{AreBytes}
+use Rattle.std.specs.Prelude.{◌≡◌, ℕ, ◌+◌, ◌*◌, ◌/◌, ◌-◌, ◌<◌, ◌≤◌, nat_lt, nat_le, ◌&&◌, if◌then◌else◌, List}
+use Rattle.std.specs.Prelude.{length, Option, Some, None}
+use Rattle.base.specs.Bytes.{AreBytes, filled_up}
 
 -- a base frame: its identifier and its bytes
 pub record BaseFrame : Type 0 where
@@ -34,10 +34,6 @@ abbrev pub slot_time : ℕ → BaseFrame → ℕ
 slot_time rate frame = slot_bits frame * bit_time rate
 
 -- ---- how a frame is stored
-
--- bytes, and 0 for each that eight lack
-abbrev pub filled_up : List ℕ → List ℕ
-filled_up bytes = bytes ++ replicate (8 - length bytes) 0
 
 -- the first `count` of eight bytes are those of the frame
 pub record IsStored (frame : BaseFrame) (bytes : List ℕ) (count : ℕ) : Type 0 where

@@ -1,3 +1,4 @@
+pub mod ErrorControl
 pub mod Frames
 pub mod Identifiers
 pub mod Least

@@ -18,7 +18,8 @@ pub struct Frame {
 
 impl Model for Frame {
     ghost use Rattle.std.specs.Prelude.{length, take};
-    ghost use Rattle.can_frame.specs.Frames.{BaseFrame, filled_up, IsStored};
+    ghost use Rattle.can_frame.specs.Frames.{BaseFrame, IsStored};
+    ghost use Rattle.base.specs.Bytes.{filled_up};
 
     ghost Value = { BaseFrame };
 

@@ -4,8 +4,8 @@ use crate::run::instant;
 use anyhow::Result;
 use can_bus::{BusState, Lines, Parts};
 use checks_layout::parts_of;
-use co_parts::Part;
 use co_project::Project;
+use image_parts::Part;
 use std::alloc::{AllocError, Global};
 use std::io::Write;
 

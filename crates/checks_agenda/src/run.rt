@@ -3,8 +3,8 @@
 use crate::outcome::Outcome;
 use can_bus::{BusState, Lines, Parts};
 use checks_layout::parts_of;
-use co_parts::END;
 use co_project::Project;
+use image_parts::END;
 use std::alloc::{AllocError, Global};
 
 /// The most turns of a run.

@@ -3,8 +3,8 @@
 use crate::stored::Stored;
 use anyhow::{Result, bail};
 use checks_layout::Layout;
-use co_commands::{Query, Request};
 use co_project::{EditFault, Project};
+use script_commands::{Query, Request};
 use std::alloc::Global;
 use std::io::Write;
 use workbench::{Answer, Work, Workbench, answer};

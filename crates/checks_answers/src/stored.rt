@@ -1,16 +1,16 @@
 //! A store of segments of traces beside the workbench.
 
 ghost use Rattle.co_depend.specs.Supply.{seen_of};
-ghost use Rattle.co_parts.specs.Images.{IsImage};
+ghost use Rattle.image_parts.specs.Images.{IsImage};
 
 use anyhow::Result;
 use can_bus::{Line, Parts, text};
 use checks_layout::parts_of;
 use co_depend::ProjectParts;
-use co_memo::Meter;
-use co_parts::END;
 use co_project::Project;
 use co_segments::Store;
+use image_parts::END;
+use kept_values::Meter;
 use std::alloc::{AllocError, Global};
 use std::io::Write;
 

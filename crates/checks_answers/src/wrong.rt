@@ -2,10 +2,10 @@
 
 use anyhow::Result;
 use co_diag::diagnostics;
-use co_memo::{Meter, share_of};
 use co_project::Project;
 use diag_lines::Diag;
 use kept_parts::KeptParts;
+use kept_values::{Meter, share_of};
 use project_parts::Part;
 use std::alloc::{AllocError, Global};
 use std::io::Write;

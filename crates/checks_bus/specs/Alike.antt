@@ -1,15 +1,15 @@
 -- The image of nodes that are all alike, and what was handed out of it.
 use Rattle.std.specs.Prelude.{◌&&◌, ℕ, nat_le, nat_lt, length, List, Option, Some, None, if◌then◌else◌}
 use Rattle.std.specs.Prelude.{option_and_then, slice_get}
-use Rattle.asking.specs.Asking.{Seen}
+use Rattle.image_parts.specs.Asking.{Seen}
 use Rattle.concise_dcf.specs.declared.write.Write.{Write}
 use Rattle.co_dict.specs.Shapes.{Shaped}
 use Rattle.co_dict.specs.Values.{Values}
-use Rattle.co_parts.specs.Contents.{Content, Image, RosterIs, DefaultsAre, ShapeIs, ExpectIs, BootIs, EventsAre}
-use Rattle.co_parts.specs.Images.{greatest_place}
-use Rattle.co_parts.specs.declared.identity.Identity.{Identity}
-use Rattle.co_parts.specs.declared.part.Part.{Part}
-use Rattle.co_parts.specs.declared.part.Part.TheVariants as part
+use Rattle.image_parts.specs.Contents.{Content, Image, RosterIs, DefaultsAre, ShapeIs, ExpectIs, BootIs, EventsAre}
+use Rattle.image_parts.specs.Images.{greatest_place}
+use Rattle.image_parts.specs.declared.identity.Identity.{Identity}
+use Rattle.image_parts.specs.declared.part.Part.{Part}
+use Rattle.image_parts.specs.declared.part.Part.TheVariants as part
 use Rattle.checks_bus.specs.declared.one_node.OneNode.{OneNode}
 
 -- a write of 1 to 512 bytes, whose number isn't the greatest

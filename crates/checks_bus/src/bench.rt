@@ -6,13 +6,13 @@ use crate::shown::{show_device, show_frame, show_left, show_manager, show_notes,
 use crate::step::Step;
 use crate::taken::{take_of_device, take_of_manager};
 use anyhow::Result;
+use base::Octets;
 use can_frame::{Frame, Waiting};
-use co_base::Octets;
 use co_device::DeviceState;
 use co_dict::{Access, is_of_pdos};
-use co_parts::{END, Identity, Roster, StartMode};
 use co_scenario::NmtCommand;
 use concise_dcf::Write as Written;
+use image_parts::{END, Identity, Roster, StartMode};
 use nmt_boot::Manager;
 use node_boot::Notes;
 use std::alloc::{AllocError, Global};

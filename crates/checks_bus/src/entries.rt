@@ -1,7 +1,7 @@
 //! The entries of the node.
 
 use crate::row::Row;
-use co_base::Octets;
+use base::Octets;
 use co_dict::{Access, Dict, Entry, Shape};
 use co_values::DataType;
 use std::alloc::{AllocError, Global};

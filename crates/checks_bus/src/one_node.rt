@@ -1,15 +1,15 @@
 //! The parts of nodes that are all alike.
 
 ghost use Rattle.std.specs.Prelude.{◌≡◌, ◌<◌, IfOk, IfSome, option_and_then, slice_get};
-ghost use Rattle.co_parts.specs.Images.{greatest_place, IsBootWrite};
-ghost use Rattle.co_parts.specs.Shared.{shared};
+ghost use Rattle.image_parts.specs.Images.{greatest_place};
+ghost use Rattle.concise_dcf.specs.Writes.{IsSized};
+ghost use Rattle.image_parts.specs.Shared.{shared};
 ghost use Rattle.checks_bus.specs.Alike.{fitting};
 
-use asking::Asked;
 use co_dict::{Dict, Shape};
-use co_parts::{Identity, Part, PartContent, Read};
 use concise_dcf::Write;
 use device_objects::Shapes;
+use image_parts::{Asked, Identity, Part, PartContent, Read};
 use node_boot::Boots;
 use std::alloc::{AllocError, Global};
 use std::rc::Rc;
@@ -40,7 +40,7 @@ const GREATEST_PLACE: u32 = 4_294_967_295;
 /// The write at a place, if it is there, has 1 to 512 bytes, and its number isn't the greatest.
 fn write_at(alloc: Global, writes: &[Write], place: u32) -> Result<Option<Rc<Write>>, AllocError>
     ensures write { IfOk result (λ write. shared write ≡ option_and_then (fitting place) (slice_get writes.now place)) }
-    ensures fits { IfOk result (λ write. IfSome (shared write) IsBootWrite) }
+    ensures fits { IfOk result (λ write. IfSome (shared write) IsSized) }
     ensures last { IfOk result (λ write. IfSome (shared write) (λ one. place < greatest_place)) }
 {
     match writes.get(place as usize) {
@@ -62,7 +62,7 @@ impl Asked<Part, PartContent> for OneNode {
 }
 
 impl Shapes for OneNode {
-    #[tactic(auto, using(asking::proofs::RecordLemmas::record_laws))]
+    #[tactic(auto, using(image_parts::proofs::RecordLemmas::record_laws))]
     fn defaults(&mut self, node: u8) -> Result<Option<Rc<Dict>>, AllocError> {
         self.asks = self.asks.saturating_add(1);
         let answer = pointer(&self.defaults)?;
@@ -71,7 +71,7 @@ impl Shapes for OneNode {
         Ok(answer)
     }
 
-    #[tactic(auto, using(asking::proofs::RecordLemmas::record_laws))]
+    #[tactic(auto, using(image_parts::proofs::RecordLemmas::record_laws))]
     fn shape(&mut self, node: u8) -> Result<Option<Rc<Shape>>, AllocError> {
         self.asks = self.asks.saturating_add(1);
         let answer = pointer(&self.shape)?;
@@ -83,7 +83,7 @@ impl Shapes for OneNode {
 }
 
 impl Boots for OneNode {
-    #[tactic(auto, using(asking::proofs::RecordLemmas::record_laws))]
+    #[tactic(auto, using(image_parts::proofs::RecordLemmas::record_laws))]
     fn expect(&mut self, node: u8) -> Result<Option<Rc<Identity>>, AllocError> {
         self.asks = self.asks.saturating_add(1);
         let answer = Some(Rc::new(self.alloc, self.expect)?);
@@ -92,7 +92,7 @@ impl Boots for OneNode {
         Ok(answer)
     }
 
-    #[tactic(auto, using(asking::proofs::RecordLemmas::record_laws))]
+    #[tactic(auto, using(image_parts::proofs::RecordLemmas::record_laws))]
     fn boot(&mut self, node: u8, place: u32) -> Result<Option<Rc<Write>>, AllocError> {
         self.asks = self.asks.saturating_add(1);
         let answer = write_at(self.alloc, &self.writes, place)?;

@@ -1,6 +1,6 @@
 //! An entry that a line of the input gives.
 
-use co_base::Octets;
+use base::Octets;
 use co_dict::Entry;
 
 /// What an entry of the node is, and its default.

@@ -3,8 +3,8 @@
 use crate::sheet::{NODE, Sheet};
 use crate::shown::{show_number, show_octets, show_text};
 use co_dict::Entry;
-use co_params::judge;
 use eds_device::{Device, Origin, Section};
+use node_parameters::judge;
 use std::io;
 use std::io::Write;
 

@@ -2,11 +2,11 @@
 
 use crate::sheet::NODE;
 use crate::shown::show_octets;
-use co_base::Octets;
-use co_params::{Params, writes};
+use base::Octets;
 use concise_dcf::Write as Entry;
 use eds_dcf::dcf_text;
 use eds_device::Device;
+use node_parameters::{Params, writes};
 use std::alloc::{AllocError, Global};
 use std::io;
 use std::io::Write;

@@ -1,10 +1,10 @@
 //! The messages of a network, as lines say.
 ghost use Rattle.std.specs.Prelude.{IfSome};
-ghost use Rattle.co_messages.specs.Messages.{IsMessage};
+ghost use Rattle.project_messages.specs.Messages.{IsMessage};
 
-use co_base::Octets;
-use co_messages::{Message, Messages};
-use co_text::{next_word, read_digits};
+use base::Octets;
+use plain_text::{next_word, read_digits};
+use project_messages::{Message, Messages};
 use std::alloc::{AllocError, Global};
 
 /// The numbers that words are, as hexadecimal digits: at most eight, and 0 where a word is none.
@@ -24,7 +24,7 @@ fn numbers(alloc: Global, words: &[u8]) -> Result<Vec<u16>, AllocError> {
 
 /// A message of a TPDO of a node, of a transmission type, with an inhibit and an event time, by an
 /// identifier or, for 0, an automatic one.
-#[tactic(auto, unfolding(co_messages::specs::Messages::IsMessage))]
+#[tactic(auto, unfolding(project_messages::specs::Messages::IsMessage))]
 fn sent(numbers: &[u16]) -> Option<Message>
     ensures { IfSome result IsMessage }
 {

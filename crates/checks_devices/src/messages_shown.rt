@@ -1,6 +1,6 @@
 //! What is shown of messages before they are planned.
 
-use co_messages::{Linked, Messages, Sinks, Sources};
+use project_messages::{Linked, Messages, Sinks, Sources};
 use std::io;
 use std::io::Write;
 

@@ -4,9 +4,9 @@ use crate::layouts::{change, fill};
 use crate::messages_shown::show_messages;
 use crate::plan_shown::show_plan;
 use crate::writes_shown::show_writes;
-use co_messages::Messages;
 use eds_device::Device;
 use pdo_links::{Plan, plan};
+use project_messages::Messages;
 use std::io;
 use std::io::Write;
 

@@ -1,8 +1,8 @@
 //! What is shown of a node's writes.
 
-use co_params::Params;
 use concise_dcf::encode;
 use eds_device::Device;
+use node_parameters::Params;
 use pdo_links::{Plan, writes};
 use std::io;
 

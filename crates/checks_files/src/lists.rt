@@ -3,7 +3,7 @@
 use crate::bytes::show_bytes;
 use crate::words::ListWord;
 use anyhow::Result;
-use co_base::Octets;
+use base::Octets;
 use concise_dcf::{Write as Entry, decode, encode};
 use std::alloc::{AllocError, Global};
 use std::io;

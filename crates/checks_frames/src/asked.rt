@@ -6,8 +6,8 @@ use crate::sheets::device;
 use crate::shown::{show_answer, show_frame, show_progress, show_reply};
 use anyhow::Result;
 use co_dict::{Dict, Shape};
-use co_sdo_client::Client;
 use eds_device::Device;
+use sdo_client::Client;
 use std::alloc::{AllocError, Global};
 use std::io;
 

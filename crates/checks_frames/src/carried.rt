@@ -1,9 +1,9 @@
 //! Values of a dictionary in a frame.
 
 use co_dict::{Access, Dict, Entry, Shape, check_mapping};
-use co_mapping::{pack, unpack};
 use co_values::DataType;
 use eds_device::Device;
+use pdo_rules::{pack, unpack};
 use std::alloc::{AllocError, Global};
 use std::io;
 

@@ -1,7 +1,7 @@
 //! An SDO server and a client.
 
 use co_sdo::Server;
-use co_sdo_client::Client;
+use sdo_client::Client;
 use std::alloc::{AllocError, Global};
 use std::io;
 

@@ -1,7 +1,7 @@
 //! How the answers of an SDO server and a client are shown.
 
 use co_sdo::Reply;
-use co_sdo_client::Progress;
+use sdo_client::Progress;
 use std::io;
 
 /// Shows bytes, two digits each, to the end of the line.

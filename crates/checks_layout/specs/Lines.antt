@@ -1,13 +1,13 @@
 -- The edits that lines lay out (this profile's own): as a session takes them, but that a query is a fault, and the
 -- first line of a data sheet without a name at once.
 use Rattle.std.specs.Prelude.{ℕ, zero, suc, ◌-◌, List, [], ◌∷◌, ◌++◌, Option, Some, None, Result, Ok, Err}
-use Rattle.co_edits.specs.declared.fault.EditFault.{EditFault}
-use Rattle.co_edits.specs.declared.fault.EditFault.TheVariants.{Syntax}
-use Rattle.co_edits.specs.declared.edit.Edit.{Edit}
-use Rattle.co_edits.specs.Eds.{block_lines, eds_edit}
-use Rattle.co_commands.specs.declared.request.Request.{Request}
-use Rattle.co_commands.specs.declared.request.Request.TheVariants.{Edit as EditAsked, Query as QueryAsked, Block}
-use Rattle.co_commands.specs.Requests.{request}
+use Rattle.project_edits.specs.declared.fault.EditFault.{EditFault}
+use Rattle.project_edits.specs.declared.fault.EditFault.TheVariants.{Syntax}
+use Rattle.project_edits.specs.declared.edit.Edit.{Edit}
+use Rattle.project_edits.specs.Eds.{block_lines, eds_edit}
+use Rattle.script_commands.specs.declared.request.Request.{Request}
+use Rattle.script_commands.specs.declared.request.Request.TheVariants.{Edit as EditAsked, Query as QueryAsked, Block}
+use Rattle.script_commands.specs.Requests.{request}
 use Rattle.checks_layout.specs.declared.step.Sheet.{Sheet}
 use Rattle.checks_layout.specs.declared.step.Step.{Step}
 

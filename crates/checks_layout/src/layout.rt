@@ -1,12 +1,12 @@
 //! The lines of edits.
 
 ghost use Rattle.std.specs.Prelude.{◌≡◌, ◌↔◌, IsTrue, IsSome, None, OnErr};
-ghost use Rattle.co_base.specs.Gives.{Gives};
-ghost use Rattle.co_edits.specs.Faults.{is_memory};
+ghost use Rattle.base.specs.Gives.{Gives};
+ghost use Rattle.project_edits.specs.Faults.{is_memory};
 ghost use Rattle.checks_layout.specs.Lines.{after_line, sheet_of};
 
 use crate::step::{Sheet, line_of_sheet, request};
-use co_commands::{Command, EditFault};
+use script_commands::{Command, EditFault};
 use std::alloc::Global;
 use std::marker::Model;
 

@@ -2,13 +2,13 @@
 
 ghost use Rattle.std.specs.Prelude.{◌≡◌, [], IfOk};
 ghost use Rattle.co_depend.specs.Supply.{seen_of};
-ghost use Rattle.co_parts.specs.Images.{IsImage};
+ghost use Rattle.image_parts.specs.Images.{IsImage};
 ghost use Rattle.network_image.specs.Image.{image_of};
 
 use co_depend::ProjectParts;
-use co_memo::Meter;
 use co_project::Project;
 use kept_parts::KeptParts;
+use kept_values::Meter;
 use std::alloc::{AllocError, Global};
 
 /// The parts of a project's network, made as a workbench makes those of a new project, of which nothing was asked

@@ -1,15 +1,15 @@
 //! What a line leads to.
 
 ghost use Rattle.std.specs.Prelude.{◌∷◌, ◌++◌, ◌-◌, [], Ok};
-ghost use Rattle.co_base.specs.Gives.{Gives};
-ghost use Rattle.co_edits.specs.Eds.{block_lines};
-ghost use Rattle.co_edits.specs.Faults.{is_memory};
-ghost use Rattle.co_commands.specs.declared.request.Request.TheVariants.{Block};
-ghost use Rattle.co_commands.specs.Requests.{request as request_of};
+ghost use Rattle.base.specs.Gives.{Gives};
+ghost use Rattle.project_edits.specs.Eds.{block_lines};
+ghost use Rattle.project_edits.specs.Faults.{is_memory};
+ghost use Rattle.script_commands.specs.declared.request.Request.TheVariants.{Block};
+ghost use Rattle.script_commands.specs.Requests.{request as request_of};
 ghost use Rattle.checks_layout.specs.Lines.{after_request, in_sheet, step_of};
 
-use co_base::Octets;
-use co_commands::{Command, EditFault, Request};
+use base::Octets;
+use script_commands::{Command, EditFault, Request};
 use std::alloc::Global;
 
 /// The name of a data sheet, the number of its lines that are to come, and those that came.

@@ -1,9 +1,9 @@
 -- What hands out the parts of a project, and the image that it hands out.
 use Rattle.std.specs.Prelude.{ℕ, List, refl}
 use Rattle.std.specs.Coded.{Coded, code_by, coded×, coded_ℕ, coded_list}
-use Rattle.asking.specs.Asking.{Seen}
-use Rattle.co_parts.specs.Contents.{Content}
-use Rattle.co_parts.specs.declared.part.Part.{Part}
+use Rattle.image_parts.specs.Asking.{Seen}
+use Rattle.image_parts.specs.Contents.{Content}
+use Rattle.image_parts.specs.declared.part.Part.{Part}
 use Rattle.network_image.specs.Network.{image_held, Network}
 
 -- the parts that are held, what was handed out since the record was taken, and the number of calls

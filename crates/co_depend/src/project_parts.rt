@@ -4,12 +4,11 @@ ghost use Rattle.network_image.specs.Network.{image_held};
 ghost use Rattle.co_depend.specs.Supply.{seen_of};
 
 use crate::pointer::pointer;
-use asking::Asked;
 use can_bus::Parts;
 use co_dict::{Dict, Shape};
-use co_parts::{Identity, Part, PartContent, Read, Roster, Window};
 use concise_dcf::Write;
 use device_objects::Shapes;
+use image_parts::{Asked, Identity, Part, PartContent, Read, Roster, Window};
 use network_image::NetworkParts;
 use node_boot::Boots;
 use std::alloc::{AllocError, Global};
@@ -29,7 +28,7 @@ pub struct ProjectParts {
 }
 
 impl Model for ProjectParts {
-    ghost use Rattle.co_parts.specs.contracts.read.Read as noted;
+    ghost use Rattle.image_parts.specs.contracts.read.Read as noted;
     ghost use Rattle.network_image.specs.contracts.network_parts.NetworkParts as network;
     ghost use Rattle.co_depend.specs.Supply.{supply_code, Supply};
 
@@ -64,7 +63,7 @@ impl Asked<Part, PartContent> for ProjectParts {
 }
 
 impl Shapes for ProjectParts {
-    #[tactic(auto, using(asking::proofs::RecordLemmas::record_laws))]
+    #[tactic(auto, using(image_parts::proofs::RecordLemmas::record_laws))]
     fn defaults(&mut self, node: u8) -> Result<Option<Rc<Dict>>, AllocError> {
         self.asks = self.asks.saturating_add(1);
         let answer = self.parts.defaults(node)?;
@@ -73,7 +72,7 @@ impl Shapes for ProjectParts {
         Ok(answer)
     }
 
-    #[tactic(auto, using(asking::proofs::RecordLemmas::record_laws))]
+    #[tactic(auto, using(image_parts::proofs::RecordLemmas::record_laws))]
     fn shape(&mut self, node: u8) -> Result<Option<Rc<Shape>>, AllocError> {
         self.asks = self.asks.saturating_add(1);
         let answer = self.parts.shape(node)?;
@@ -85,7 +84,7 @@ impl Shapes for ProjectParts {
 }
 
 impl Boots for ProjectParts {
-    #[tactic(auto, using(asking::proofs::RecordLemmas::record_laws))]
+    #[tactic(auto, using(image_parts::proofs::RecordLemmas::record_laws))]
     fn expect(&mut self, node: u8) -> Result<Option<Rc<Identity>>, AllocError> {
         self.asks = self.asks.saturating_add(1);
         let answer = self.parts.expect(node)?;
@@ -94,7 +93,7 @@ impl Boots for ProjectParts {
         Ok(answer)
     }
 
-    #[tactic(auto, using(asking::proofs::RecordLemmas::record_laws))]
+    #[tactic(auto, using(image_parts::proofs::RecordLemmas::record_laws))]
     fn boot(&mut self, node: u8, place: u32) -> Result<Option<Rc<Write>>, AllocError> {
         self.asks = self.asks.saturating_add(1);
         let answer = self.parts.write(self.alloc, node, place)?;
@@ -105,7 +104,7 @@ impl Boots for ProjectParts {
 }
 
 impl Parts for ProjectParts {
-    #[tactic(auto, using(asking::proofs::RecordLemmas::record_laws))]
+    #[tactic(auto, using(image_parts::proofs::RecordLemmas::record_laws))]
     fn roster(&mut self) -> Result<Option<Rc<Roster>>, AllocError> {
         self.asks = self.asks.saturating_add(1);
         let answer = self.parts.roster()?;
@@ -115,7 +114,7 @@ impl Parts for ProjectParts {
         Ok(answer)
     }
 
-    #[tactic(auto, using(asking::proofs::RecordLemmas::record_laws))]
+    #[tactic(auto, using(image_parts::proofs::RecordLemmas::record_laws))]
     fn events(&mut self, i: u32) -> Result<Option<Rc<Window>>, AllocError> {
         self.asks = self.asks.saturating_add(1);
         let answer = self.parts.window(i)?;

@@ -1,17 +1,17 @@
 -- What an abort of the client leaves, whatever entries the device has.
 use Rattle.std.proofs.Common.{◌≡◌, ℕ, false, List, None, append-nil, refl, ap, ◌∙◌}
-use Rattle.asking.specs.Asking.{outcome}
+use Rattle.image_parts.specs.Asking.{outcome}
 use Rattle.can_frame.specs.declared.waiting.Waiting.{Waiting}
 use Rattle.co_dict.specs.Shapes.{Shaped}
 use Rattle.co_dict.specs.Values.{Values}
-use Rattle.co_parts.specs.Contents.{Image, shape_of}
-use Rattle.co_parts.specs.declared.part.Part.TheVariants.{Shape}
+use Rattle.image_parts.specs.Contents.{Image, shape_of}
+use Rattle.image_parts.specs.declared.part.Part.TheVariants.{Shape}
 use Rattle.co_sdo.specs.Frames.{command}
 use Rattle.co_sdo.specs.Server.{AfterRequest, server_answer}
 use Rattle.co_sdo.specs.declared.transfer.Transfer.{Transfer}
 use Rattle.co_sdo.specs.declared.transfer.Transfer.TheVariants.{Idle}
 use Rattle.co_device.specs.Device.{Device, after_request, is_in, after_sdo_request}
-use Rattle.co_fields.specs.declared.nmt_state.NmtState.TheVariants.{Stopped}
+use Rattle.cia301.specs.declared.nmt_state.NmtState.TheVariants.{Stopped}
 
 abort_answered : (shape : Shaped) (values : Values) (transfer : Transfer) (request : List ℕ) → command request ≡ 0x80
     → server_answer shape values transfer request

@@ -3,22 +3,22 @@ use Rattle.std.proofs.Common.{◌≡◌, ℕ, ◌+◌, ◌==◌, Bool, true, fal
 use Rattle.std.proofs.Common.{length}
 use Rattle.std.specs.Prelude.{if◌then◌else◌}
 use Rattle.std.proofs.lemmas.List.{length-map, length-set}
-use Rattle.asking.specs.Asking.{outcome}
+use Rattle.image_parts.specs.Asking.{outcome}
 use Rattle.can_frame.specs.Frames.{BaseFrame}
 use Rattle.co_dict.specs.Mappings.{mapped_length, mapped_place}
 use Rattle.co_dict.specs.Shapes.{Shaped}
-use Rattle.co_mapping.specs.Packing.{after_entries, bits_for, frame_bits, takes, with_bits}
-use Rattle.co_parts.specs.Contents.{Image, shape_of}
-use Rattle.co_parts.specs.declared.part.Part.TheVariants.{Shape}
-use Rattle.co_pdos.specs.declared.receipt.Receipt.{Receipt}
-use Rattle.co_pdos.specs.declared.receipt.Receipt.TheVariants.{Short, Kept, AtOnce, Ignored}
-use Rattle.device_pdos.specs.Objects.{is_of_rpdos, is_of_tpdos}
+use Rattle.pdo_rules.specs.Packing.{after_entries, bits_for, frame_bits, takes, with_bits}
+use Rattle.image_parts.specs.Contents.{Image, shape_of}
+use Rattle.image_parts.specs.declared.part.Part.TheVariants.{Shape}
+use Rattle.pdo_rules.specs.declared.receipt.Receipt.{Receipt}
+use Rattle.pdo_rules.specs.declared.receipt.Receipt.TheVariants.{Short, Kept, AtOnce, Ignored}
+use Rattle.cia301.specs.PdoObjects.{is_of_tpdos, is_of_rpdos}
 use Rattle.device_pdos.specs.Rpdos.{receipt_of, rpdo_at, rpdos_after_write, with_kept}
 use Rattle.co_device.specs.Device.{Device, after_own_write, after_write, after_write_of_consumer, is_in}
 use Rattle.co_device.specs.Device.{is_producer_time, with_emergency, without_error_if}
 use Rattle.co_device.specs.Receiving.{after_mapping, after_entry, after_kept_frame, after_rpdo, after_sync_at}
 use Rattle.co_device.specs.Receiving.{after_receipt}
-use Rattle.co_fields.specs.declared.nmt_state.NmtState.TheVariants.{Stopped}
+use Rattle.cia301.specs.declared.nmt_state.NmtState.TheVariants.{Stopped}
 
 -- ---- as many RPDOs as before
 

@@ -2,10 +2,10 @@
 use Rattle.std.proofs.Common.{◌≡◌, ℕ, suc, ◌+◌, ◌-◌, ◌<◌, ◌≤◌, List, [], ◌∷◌, ◌++◌, sym, ap, ◌∙◌, length, arith}
 use Rattle.std.proofs.Common.{length-append}
 use Rattle.std.specs.List.{range_with_len}
-use Rattle.asking.specs.Asking.{Asking, Seen, outcome, reads, after_reads, bind}
-use Rattle.asking.proofs.QuestionLemmas.{outcome_bind, reads_bind, followed_bind}
-use Rattle.co_parts.specs.Contents.{Content, Image}
-use Rattle.co_parts.specs.declared.part.Part.{Part}
+use Rattle.image_parts.specs.Asking.{Asking, Seen, outcome, reads, after_reads, bind}
+use Rattle.image_parts.proofs.QuestionLemmas.{outcome_bind, reads_bind, followed_bind}
+use Rattle.image_parts.specs.Contents.{Content, Image}
+use Rattle.image_parts.specs.declared.part.Part.{Part}
 use Rattle.co_device.specs.Device.{Device}
 use Rattle.co_device.specs.Receiving.{walk}
 

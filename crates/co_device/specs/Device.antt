@@ -3,24 +3,24 @@
 use Rattle.std.specs.Prelude.{ℕ, ◌==◌, not, ◌&&◌, ◌||◌, nat_lt, Bool, true, false, List, [], ◌∷◌, ◌++◌, length, replicate}
 use Rattle.std.specs.Prelude.{slice_index_or, Option, Some, None, if◌then◌else◌}
 use Rattle.std.specs.FinMap as map
-use Rattle.asking.specs.Asking.{Asking, Answer, Ask}
+use Rattle.image_parts.specs.Asking.{Asking, Answer, Ask}
 use Rattle.can_frame.specs.Frames.{BaseFrame}
-use Rattle.can_frame.specs.Identifiers.{error_control_id, sdo_answer_id}
+use Rattle.can_frame.specs.Identifiers.{sdo_answer_id}
 use Rattle.can_frame.specs.WaitingFrames.{with_latest, waiting, without_unwanted}
 use Rattle.can_frame.specs.declared.purpose.Purpose.TheVariants.{BootUp, Emergency, Heartbeat, Sdo}
 use Rattle.can_frame.specs.declared.unwanted.Unwanted.TheVariants.{Emergencies, Sdos, Tpdos}
 use Rattle.can_frame.specs.declared.waiting.Waiting.{Waiting}
-use Rattle.co_base.specs.Ranges.{is_between}
-use Rattle.co_fields.specs.NmtStates.{state_byte}
+use Rattle.base.specs.Ranges.{is_between}
+use Rattle.cia301.specs.NmtStates.{state_byte}
 use Rattle.co_dict.specs.Restored.{with_restored}
 use Rattle.co_dict.specs.Shapes.{Shaped}
 use Rattle.co_dict.specs.Values.{Values}
-use Rattle.co_parts.specs.Contents.{Content, shape_of, values_of}
-use Rattle.co_base.specs.Moments.{earliest, is_due, moments_of}
-use Rattle.co_parts.specs.declared.part.Part.{Part}
-use Rattle.co_parts.specs.declared.part.Part.TheVariants.{Defaults, Shape}
-use Rattle.co_pdos.specs.declared.sync.SyncMessage.{SyncMessage}
-use Rattle.co_pdos.specs.declared.sync_seen.SyncSeen.{SyncSeen}
+use Rattle.image_parts.specs.Contents.{Content, shape_of, values_of}
+use Rattle.base.specs.Moments.{earliest, is_due, moments_of}
+use Rattle.image_parts.specs.declared.part.Part.{Part}
+use Rattle.image_parts.specs.declared.part.Part.TheVariants.{Defaults, Shape}
+use Rattle.pdo_rules.specs.declared.sync.SyncMessage.{SyncMessage}
+use Rattle.pdo_rules.specs.declared.sync_seen.SyncSeen.{SyncSeen}
 use Rattle.device_objects.specs.Consumers as consumers
 use Rattle.device_objects.specs.Profile.{emergency_frame, without_error_bits, error_register, with_error_bits}
 use Rattle.device_objects.specs.Profile.{counter_overflow, learnt_of, next_heartbeat}
@@ -32,15 +32,16 @@ use Rattle.co_scenario.specs.declared.nmt_command.NmtCommand.TheVariants.{ResetC
 use Rattle.co_sdo.specs.Server.{AfterRequest, server_answer}
 use Rattle.co_sdo.specs.declared.transfer.Transfer.{Transfer}
 use Rattle.co_sdo.specs.declared.transfer.Transfer.TheVariants.{Idle}
-use Rattle.device_pdos.specs.Objects.{is_of_rpdos, is_of_tpdos}
+use Rattle.cia301.specs.PdoObjects.{is_of_tpdos, is_of_rpdos}
 use Rattle.device_pdos.specs.Rpdos.{without_kept_frames, rpdos_of, rpdos_after_write}
 use Rattle.device_pdos.specs.Tpdos as tpdos
 use Rattle.device_pdos.specs.Tpdos.{without_memories, tpdos_after_inhibit, tpdos_after_turns, tpdos_of}
 use Rattle.device_pdos.specs.Tpdos.{tpdos_after_write, with_tpdos}
 use Rattle.device_pdos.specs.declared.rpdo_state.RpdoState.{RpdoState}
 use Rattle.device_pdos.specs.declared.tpdo_state.TpdoState.{TpdoState}
-use Rattle.co_fields.specs.declared.nmt_state.NmtState.{NmtState}
-use Rattle.co_fields.specs.declared.nmt_state.NmtState.TheVariants.{PreOperational, Operational, Stopped}
+use Rattle.cia301.specs.declared.nmt_state.NmtState.{NmtState}
+use Rattle.cia301.specs.declared.nmt_state.NmtState.TheVariants.{PreOperational, Operational, Stopped}
+use Rattle.can_frame.specs.ErrorControl.{boot_up_message, error_control_frame}
 
 -- its values by entry, its heartbeat consumers by sub-index, its PDOs by number; the SYNC of this instant, if one came;
 -- the moment of its next heartbeat; the frames that wait; the open transfer of its SDO server
@@ -92,7 +93,7 @@ without_power spent number = record {
 -- ---- NMT state Initialisation, which ends with the boot-up message in Pre-operational
 
 abbrev pub boot_up_frame : ℕ → Waiting
-boot_up_frame number = waiting BootUp (record { id = error_control_id number; bytes = 0 ∷ [] })
+boot_up_frame number = waiting BootUp (boot_up_message number)
 
 -- with these values; frames that waited, the open transfer, all moments, failures, and what PDOs remember and keep are
 -- dropped
@@ -291,7 +292,7 @@ after_consumers t d = if nat_lt 0 (consumers.failures_at t d.consumers)
     then after_failures t (consumers.failures_at t d.consumers) d else d
 
 abbrev pub heartbeat_frame : ℕ → NmtState → BaseFrame
-heartbeat_frame number state = record { id = error_control_id number; bytes = state_byte state ∷ [] }
+heartbeat_frame number state = error_control_frame number (state_byte state)
 
 -- a heartbeat takes the place of one that still waits, and the next is due a period later
 unfoldable pub after_heartbeat : ℕ → Device → Device

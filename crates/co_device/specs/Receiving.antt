@@ -2,25 +2,25 @@
 use Rattle.std.specs.Prelude.{ℕ, ◌-◌, ◌==◌, not, ◌&&◌, Bool, true, List, [], ◌∷◌, length, slice_index_or, Option}
 use Rattle.std.specs.Prelude.{Some, None, if◌then◌else◌}
 use Rattle.std.specs.List.{range_with_len}
-use Rattle.asking.specs.Asking.{Asking, Answer, Ask, bind}
+use Rattle.image_parts.specs.Asking.{Asking, Answer, Ask, bind}
 use Rattle.can_frame.specs.Frames.{BaseFrame}
 use Rattle.can_frame.specs.Identifiers.{error_control_id, nmt_id, sdo_request_id}
 use Rattle.co_dict.specs.Mappings.{mapped_place}
 use Rattle.co_dict.specs.Shapes.{Shaped}
-use Rattle.co_mapping.specs.Packing.{after_entries, frame_bits, takes, with_bits}
-use Rattle.co_parts.specs.Contents.{Content, shape_of}
-use Rattle.co_parts.specs.declared.part.Part.{Part}
-use Rattle.co_parts.specs.declared.part.Part.TheVariants.{Shape}
-use Rattle.co_pdos.specs.Sync.{sync_message}
-use Rattle.co_pdos.specs.declared.receipt.Receipt.{Receipt}
-use Rattle.co_pdos.specs.declared.receipt.Receipt.TheVariants.{Short, Kept, AtOnce, Ignored}
+use Rattle.pdo_rules.specs.Packing.{after_entries, frame_bits, takes, with_bits}
+use Rattle.image_parts.specs.Contents.{Content, shape_of}
+use Rattle.image_parts.specs.declared.part.Part.{Part}
+use Rattle.image_parts.specs.declared.part.Part.TheVariants.{Shape}
+use Rattle.pdo_rules.specs.Sync.{sync_message}
+use Rattle.pdo_rules.specs.declared.receipt.Receipt.{Receipt}
+use Rattle.pdo_rules.specs.declared.receipt.Receipt.TheVariants.{Short, Kept, AtOnce, Ignored}
 use Rattle.device_objects.specs.Consumers.{any_expects}
 use Rattle.device_objects.specs.Profile.{sync_identifier}
 use Rattle.co_scenario.specs.Commands.{command_of}
 use Rattle.device_pdos.specs.Rpdos.{any_has_identifier, mapping_of_rpdo, receipt_of, rpdo_at, with_kept}
 use Rattle.co_device.specs.Device.{Device, after_write, after_error_control, is_addressed, is_error_control, is_in}
 use Rattle.co_device.specs.Device.{nmt_service, after_sdo_request, with_emergency}
-use Rattle.co_fields.specs.declared.nmt_state.NmtState.TheVariants.{Operational, Stopped}
+use Rattle.cia301.specs.declared.nmt_state.NmtState.TheVariants.{Operational, Stopped}
 
 -- ---- a list of steps over one device, each on what the last one left
 

@@ -2,24 +2,24 @@
 
 ghost use Rattle.std.specs.Prelude.{◌≡◌, ◌↔◌, ◌<◌, ◌≤◌, Some, false, length, remove, slice_get, IfOk, OnOk, OnErr};
 ghost use Rattle.std.specs.Prelude.{IsErr, IsTrue};
-ghost use Rattle.asking.specs.Asking.{outcome};
-ghost use Rattle.asking.specs.Record.{IsAsked, Lasts};
+ghost use Rattle.image_parts.specs.Asking.{outcome};
+ghost use Rattle.image_parts.specs.Record.{IsAsked, Lasts};
 ghost use Rattle.can_frame.specs.Winner.{contenders_of, IsWinner};
-ghost use Rattle.co_base.specs.Ranges.{is_between};
 ghost use Rattle.co_values.specs.Values.{longest_value};
 ghost use Rattle.co_device.specs.Device.{is_in as is_in_state, next_due, after_power, after_instant, after_set};
 ghost use Rattle.co_device.specs.Device.{without_power};
 ghost use Rattle.co_device.specs.Receiving.{after_frame};
+ghost use Rattle.cia301.specs.PdoObjects.{is_of_pdos};
 
+use base::earlier;
 use can_frame::{Contender, Frame, Pending, Waiting};
-use co_base::earlier;
+use cia301::NmtState;
 use co_dict::Dict;
-use co_fields::NmtState;
-use co_parts::END;
-use co_pdos::SyncMessage;
 use co_sdo::transfer::{self, Transfer};
 use device_objects::{Consumer, Learnt, Shapes, same_consumers};
 use device_pdos::{RpdoState, TpdoState, copy_rpdos, copy_tpdos, same_rpdos, same_tpdos};
+use image_parts::END;
+use pdo_rules::SyncMessage;
 use std::alloc::{AllocError, Global};
 use std::marker::Model;
 
@@ -227,7 +227,7 @@ impl DeviceState {
     }
 
     /// The first moment at which it is due, if there is one. Walks its consumers and its TPDOs.
-    #[tactic(auto, using(co_base::proofs::EarliestLemmas::earliest_append, co_base::proofs::EarliestLemmas::earliest_of), unfolding(crate::specs::Device::next_due))]
+    #[tactic(auto, using(base::proofs::EarliestLemmas::earliest_append, base::proofs::EarliestLemmas::earliest_of), unfolding(crate::specs::Device::next_due))]
     pub fn next_due(&self) -> Option<u64>
         ensures { result ≡ next_due self.now }
     {
@@ -302,7 +302,7 @@ impl DeviceState {
     /// power nothing happens. The index isn't one of 1400h to 1BFFh, and the value has at most 512 bytes.
     pub fn set(&mut self, t: u64, index: u16, sub: u8, bytes: &[u8]) -> Result<(), AllocError>
         requires soon { t < END }
-        requires own { is_between 0x1400 0x1BFF index ≡ false }
+        requires own { is_of_pdos index ≡ false }
         requires short { length bytes.now ≤ longest_value }
         ensures state { OnOk result (self.new ≡ after_set t (index, sub) bytes.now self.old) }
         ensures refused { IsTrue self.old.spent → IsErr result }

@@ -7,7 +7,7 @@ ghost use Rattle.co_device.specs.Device.{with_emergencies, with_emergency};
 
 use crate::device_state::DeviceState;
 use can_frame::{Frame, Pending, Purpose};
-use co_fields::NmtState;
+use cia301::NmtState;
 use device_objects::{emergency_frame, error_register};
 use std::alloc::AllocError;
 

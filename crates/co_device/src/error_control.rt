@@ -4,8 +4,8 @@ ghost use Rattle.std.specs.Prelude.{◌≡◌, ◌<◌, OnOk};
 ghost use Rattle.co_device.specs.Device.{after_error_control};
 
 use crate::device_state::DeviceState;
-use co_parts::END;
 use device_objects::{any_failed, hear};
+use image_parts::END;
 use std::alloc::AllocError;
 
 /// The error code that there is no error any more (CiA 301).

@@ -1,5 +1,5 @@
 //! A device of the bus.
-#![tactic(auto, using(asking::proofs::RecordLemmas::record_laws))]
+#![tactic(auto, using(image_parts::proofs::RecordLemmas::record_laws))]
 
 mod device_state;
 mod emergencies;

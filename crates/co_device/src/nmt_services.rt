@@ -1,18 +1,18 @@
 //! The NMT services that change a device's state.
 
 ghost use Rattle.std.specs.Prelude.{◌≡◌, ◌<◌, OnOk};
-ghost use Rattle.asking.specs.Asking.{outcome};
-ghost use Rattle.asking.specs.Record.{IsAsked, Lasts};
+ghost use Rattle.image_parts.specs.Asking.{outcome};
+ghost use Rattle.image_parts.specs.Record.{IsAsked, Lasts};
 ghost use Rattle.co_device.specs.Device.{enter_pre_operational, nmt_service, out_of_operational, stop_remote_node};
 
 use crate::device_state::DeviceState;
 use can_frame::Unwanted;
-use co_fields::NmtState;
-use co_parts::END;
+use cia301::NmtState;
 use co_scenario::NmtCommand;
 use co_sdo::transfer::Transfer;
 use device_objects::Shapes;
 use device_pdos::{empty_rpdos, forget_tpdos};
+use image_parts::END;
 use std::alloc::AllocError;
 
 impl DeviceState {

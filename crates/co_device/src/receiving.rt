@@ -1,15 +1,15 @@
 //! The frames that a device receives.
 
 ghost use Rattle.std.specs.Prelude.{◌≡◌, ◌<◌, OnOk};
-ghost use Rattle.asking.specs.Asking.{outcome};
-ghost use Rattle.asking.specs.Record.{IsAsked, Lasts};
+ghost use Rattle.image_parts.specs.Asking.{outcome};
+ghost use Rattle.image_parts.specs.Record.{IsAsked, Lasts};
 ghost use Rattle.co_device.specs.Receiving.{after_frame};
 
 use crate::device_state::DeviceState;
 use can_frame::{Frame, identifiers};
-use co_parts::END;
 use co_scenario::NmtCommand;
 use device_objects::{Shapes, command, is_addressed, producer_of, sync_identifier};
+use image_parts::END;
 use std::alloc::AllocError;
 
 impl DeviceState {

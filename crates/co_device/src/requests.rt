@@ -1,18 +1,18 @@
 //! The requests to a device's SDO server.
 
 ghost use Rattle.std.specs.Prelude.{◌≡◌, ◌<◌, ◌++◌, OnOk};
-ghost use Rattle.asking.specs.Asking.{outcome};
-ghost use Rattle.asking.specs.Record.{IsAsked, Lasts};
+ghost use Rattle.image_parts.specs.Asking.{outcome};
+ghost use Rattle.image_parts.specs.Record.{IsAsked, Lasts};
 ghost use Rattle.co_device.specs.Device.{after_request, answer_frames, after_sdo_request};
 
 use crate::device_state::DeviceState;
 use can_frame::{Frame, Purpose, identifiers};
+use cia301::NmtState;
 use co_dict::Shape;
-use co_fields::NmtState;
-use co_parts::END;
 use co_sdo::transfer::Transfer;
 use co_sdo::{Step, answered};
 use device_objects::{Shapes, shape_or, without_entries};
+use image_parts::END;
 use std::alloc::AllocError;
 use std::mem::replace;
 

@@ -1,22 +1,22 @@
 //! Power, and the NMT services that reset a device.
 
 ghost use Rattle.std.specs.Prelude.{◌≡◌, ◌<◌, OnOk};
-ghost use Rattle.asking.specs.Asking.{outcome};
-ghost use Rattle.asking.specs.Record.{IsAsked, Lasts};
+ghost use Rattle.image_parts.specs.Asking.{outcome};
+ghost use Rattle.image_parts.specs.Record.{IsAsked, Lasts};
 ghost use Rattle.co_device.specs.Device.{after_initialisation, after_power, reset_communication, after_reset_node};
 ghost use Rattle.co_device.specs.Device.{without_power};
 
 use crate::device_state::DeviceState;
 use can_frame::{Frame, Pending, Purpose, identifiers};
+use cia301::NmtState;
 use co_dict::{Dict, Shape};
-use co_fields::NmtState;
-use co_parts::END;
 use co_sdo::transfer::Transfer;
 use device_objects::{
     Learnt, Shapes, communication_restored, consumers_of, next_heartbeat, shape_or, values_of,
     without_entries,
 };
 use device_pdos::{rpdos_of, tpdos_of};
+use image_parts::END;
 use std::alloc::AllocError;
 
 /// The byte of a boot-up message.

@@ -1,23 +1,22 @@
 //! The frames of PDOs, and SYNC messages.
 
 ghost use Rattle.std.specs.Prelude.{◌≡◌, ◌<◌, ◌≤◌, ◌+◌, length, OnOk};
-ghost use Rattle.asking.specs.Asking.{outcome};
-ghost use Rattle.asking.specs.Record.{IsAsked, Lasts};
+ghost use Rattle.image_parts.specs.Asking.{outcome};
+ghost use Rattle.image_parts.specs.Record.{IsAsked, Lasts};
 ghost use Rattle.co_dict.specs.Mappings.{mapped_length as length_mapped, mapping_bits};
-ghost use Rattle.co_mapping.specs.Packing.{bits_for, frame_bits};
+ghost use Rattle.pdo_rules.specs.Packing.{bits_for, frame_bits};
 ghost use Rattle.device_pdos.specs.Rpdos.{mapping_of_rpdo};
 ghost use Rattle.co_device.specs.Receiving.{after_mapping, device_after_entries, after_entry, after_pdo, after_rpdo};
 ghost use Rattle.co_device.specs.Receiving.{after_sync_at, after_sync};
 
 use crate::device_state::DeviceState;
 use can_frame::Frame;
+use cia301::NmtState;
 use co_dict::{Shape, mapped_length, mapped_place};
-use co_fields::NmtState;
-use co_mapping::unpack_entry;
-use co_parts::END;
-use co_pdos::{Configuration, Receipt, SyncMessage};
 use device_objects::{Shapes, shape_or, without_entries};
 use device_pdos::keep;
+use image_parts::END;
+use pdo_rules::{Configuration, Receipt, SyncMessage, unpack_entry};
 use std::alloc::AllocError;
 
 /// The error code of a PDO that is too short (CiA 301).
@@ -36,7 +35,7 @@ fn mapping_of(configuration: &Option<Configuration>) -> &[u32]
 
 impl DeviceState {
     /// Gives one mapped entry its bits out of a frame, with what that brings about.
-    #[tactic(auto, unfolding(crate::specs::Receiving::after_entry, co_mapping::specs::Packing::with_bits))]
+    #[tactic(auto, unfolding(crate::specs::Receiving::after_entry, pdo_rules::specs::Packing::with_bits))]
     fn take_entry(
         &mut self,
         t: u64,

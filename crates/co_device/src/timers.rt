@@ -6,11 +6,11 @@ ghost use Rattle.co_device.specs.Device.{sync_seen};
 
 use crate::device_state::DeviceState;
 use can_frame::{Frame, Purpose, identifiers};
-use co_fields::NmtState;
-use co_parts::END;
-use co_pdos::SyncSeen;
+use cia301::NmtState;
 use device_objects::{counter_overflow, expire, failures, set_error};
 use device_pdos::{free_tpdos, look_at_tpdos};
+use image_parts::END;
+use pdo_rules::SyncSeen;
 use std::alloc::AllocError;
 
 /// The error code of a heartbeat that didn't come in time (CiA 301).

@@ -1,16 +1,16 @@
 //! What the write of an entry brings about.
 
 ghost use Rattle.std.specs.Prelude.{◌≡◌, ◌<◌, ◌≤◌, length, OnOk};
-ghost use Rattle.co_base.specs.Ranges.{is_between};
+ghost use Rattle.base.specs.Ranges.{is_between};
 ghost use Rattle.co_values.specs.Values.{longest_value};
 ghost use Rattle.co_device.specs.Device.{after_own_write, after_write, after_write_of_consumer, with_heartbeat_start};
 ghost use Rattle.co_device.specs.Device.{is_producer_time as is_of_producer, after_set, without_error_if};
 
 use crate::device_state::DeviceState;
 use co_dict::Shape;
-use co_parts::END;
 use device_objects::{any_failed, clear_error, forget, next_heartbeat};
 use device_pdos::{is_rpdo_object, is_tpdo_object, write_rpdos, write_tpdos};
+use image_parts::END;
 use std::alloc::AllocError;
 
 /// The index of the consumer heartbeat times (CiA 301).

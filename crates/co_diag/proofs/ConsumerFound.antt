@@ -11,14 +11,14 @@ use Rattle.co_values.specs.declared.form.Width.TheVariants.{Bits32}
 use Rattle.co_values.specs.Types.{octets}
 use Rattle.eds_device.specs.Described.{kind_at}
 use Rattle.eds_device.specs.Places.{pairs_of}
-use Rattle.co_params.proofs.WrittenLemmas.{Contains-filter_map, from_filter_map}
+use Rattle.node_parameters.proofs.WrittenLemmas.{Contains-filter_map, from_filter_map}
 use Rattle.pdo_stations.specs.Devices.{is_unsigned}
 use Rattle.co_project.specs.Project.{Content}
 use Rattle.project_plan.specs.Network.{Member}
 use Rattle.diag_lines.specs.declared.code.Code.TheVariants.{UnfitConsumer}
 use Rattle.diag_lines.specs.declared.diag.Diag.{Diag}
 use Rattle.diag_lines.specs.declared.subject.Subject.TheVariants as of
-use Rattle.configured_nodes.specs.Values.{members, number_after, values_after}
+use Rattle.project_plan.specs.Values.{members, number_after, values_after}
 use Rattle.co_diag.specs.Holds.{HasUnfitConsumer, HoldsOf, Holds, is_unfit}
 use Rattle.co_diag.specs.Found.{diagnostic, unfit_consumer, unfit_consumers}
 use Rattle.co_diag.proofs.ListLemmas.{Contains-flat_map, from_flat_map}

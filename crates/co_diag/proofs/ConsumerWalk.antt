@@ -6,7 +6,7 @@ use Rattle.std.specs.List.{cons_option, find, flat_map}
 use Rattle.std.specs.Option.{option_map_or, unwrap_or}
 use Rattle.std.proofs.lemmas.Bool.{eq-eqb, eqb-true}
 use Rattle.std.proofs.lemmas.List.Elements.{filter_map-append}
-use Rattle.co_fields.specs.ConsumerHeartbeatTimes.{consumed_node, consumer_time}
+use Rattle.cia301.specs.ConsumerHeartbeatTimes.{consumed_node, consumer_time}
 use Rattle.co_values.specs.declared.form.Width.TheVariants.{Bits16, Bits32}
 use Rattle.eds_device.specs.Places.{pairs_of}
 use Rattle.pdo_plan.specs.declared.planned_message.PlannedMessage.{PlannedMessage}
@@ -21,10 +21,10 @@ use Rattle.co_diag.specs.Kept.{producer_among, times_by, unfit_among, unfit_diag
 use Rattle.co_diag.specs.Found.{diagnostic, identifier_of, identifiers, shared_identifiers, shared_in, unfit_consumer}
 use Rattle.co_diag.specs.Found.{other_counter, unfit_consumers}
 use Rattle.co_diag.specs.Holds.{is_unfit, producer_time}
-use Rattle.configured_nodes.specs.Values.{members, number_after, values_after}
+use Rattle.project_plan.specs.Values.{members, number_after, values_after}
 use Rattle.diag_lines.proofs.ListLemmas.{Contains-nil, Contains-first, Contains-later, Contains-cases}
 use Rattle.co_diag.proofs.KeptLemmas.{consumer_wanted, identifier_wanted}
-use Rattle.configured_nodes.proofs.WantedLemmas.{number_wanted}
+use Rattle.project_plan.proofs.WantedLemmas.{number_wanted}
 use Rattle.co_diag.proofs.CounterFound.{all_counters}
 use Rattle.co_diag.proofs.MemberLemmas.{member_found, member_listed}
 

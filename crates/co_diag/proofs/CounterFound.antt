@@ -4,14 +4,14 @@ use Rattle.std.proofs.Common.{Some, None, refl, ap, subst, ◌∙◌}
 use Rattle.std.specs.Prelude.{if◌then◌else◌, option_map, option_and_then}
 use Rattle.std.specs.List.{cons_option, flat_map}
 use Rattle.co_values.specs.declared.form.Width.TheVariants.{Bits8}
-use Rattle.co_params.proofs.WrittenLemmas.{Contains-filter_map, from_filter_map}
+use Rattle.node_parameters.proofs.WrittenLemmas.{Contains-filter_map, from_filter_map}
 use Rattle.co_project.specs.Project.{Content}
 use Rattle.project_plan.specs.Network.{Member, plan_of_project, writes_of}
 use Rattle.diag_lines.specs.declared.code.Code.TheVariants.{OtherCounter}
 use Rattle.diag_lines.specs.declared.diag.Diag.{Diag}
 use Rattle.diag_lines.specs.declared.subject.Subject.TheVariants as of
-use Rattle.configured_nodes.specs.Values.{members, number_after, number_among, values_after}
-use Rattle.configured_nodes.proofs.WantedLemmas.{number_wanted}
+use Rattle.project_plan.specs.Values.{members, number_after, number_among, values_after}
+use Rattle.project_plan.proofs.WantedLemmas.{number_wanted}
 use Rattle.co_diag.specs.Found.{diagnostic, other_counter}
 use Rattle.co_diag.specs.Holds.{HasOtherCounter, HoldsOf, Holds}
 use Rattle.co_diag.specs.Kept.{counter_diagnostic, counters_by}

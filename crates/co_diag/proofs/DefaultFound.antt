@@ -8,13 +8,13 @@ use Rattle.co_dict.specs.declared.entry.Entry.{Entry}
 use Rattle.eds_device.specs.Described.{Described, default_text, description_of, written_text}
 use Rattle.eds_device.specs.Entries.{entry_at}
 use Rattle.eds_device.specs.Places.{pairs_of}
-use Rattle.co_params.proofs.WrittenLemmas.{Contains-filter_map, from_filter_map}
+use Rattle.node_parameters.proofs.WrittenLemmas.{Contains-filter_map, from_filter_map}
 use Rattle.co_project.specs.Project.{Content}
 use Rattle.project_plan.specs.Network.{Member}
 use Rattle.diag_lines.specs.declared.code.Code.TheVariants.{Unreadable}
 use Rattle.diag_lines.specs.declared.diag.Diag.{Diag}
 use Rattle.diag_lines.specs.declared.subject.Subject.TheVariants as of
-use Rattle.configured_nodes.specs.Values.{members}
+use Rattle.project_plan.specs.Values.{members}
 use Rattle.co_diag.specs.Holds.{HasUnreadableDefault, HoldsOf, Holds}
 use Rattle.co_diag.specs.Found.{diagnostic, spells_none, unreadable_default, unreadable_defaults}
 use Rattle.co_diag.proofs.ListLemmas.{Contains-flat_map, from_flat_map}

@@ -18,7 +18,7 @@ use Rattle.project_plan.specs.Network.{Member}
 use Rattle.diag_lines.specs.declared.code.Code.TheVariants.{Unreadable}
 use Rattle.diag_lines.specs.declared.diag.Diag.{Diag}
 use Rattle.diag_lines.specs.declared.subject.Subject.TheVariants as of
-use Rattle.configured_nodes.specs.Doubtful.{doubtful_places, is_doubtful, spells_none as spells_none_of}
+use Rattle.project_plan.specs.Doubtful.{doubtful_places, is_doubtful, spells_none as spells_none_of}
 use Rattle.co_diag.specs.Found.{diagnostic, spells_none, unreadable_default, unreadable_defaults}
 use Rattle.eds_device.specs.Places.{pairs_of}
 

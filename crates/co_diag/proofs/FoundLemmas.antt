@@ -3,7 +3,7 @@ use Rattle.std.proofs.Common.{◌≡◌, ◌↔◌, ◌⊎◌, inl, inr, List, �
 use Rattle.std.specs.FinMap.{entries}
 use Rattle.std.specs.List.{flat_map}
 use Rattle.std.proofs.lemmas.List.Elements.{Contains-append_cases, Contains-append_left, Contains-append_right}
-use Rattle.co_params.specs.declared.parameter_fault.ParameterFault.TheVariants as parameter
+use Rattle.node_parameters.specs.declared.parameter_fault.ParameterFault.TheVariants as parameter
 use Rattle.pdo_plan.specs.declared.message_fault.MessageFault.TheVariants as message
 use Rattle.co_project.specs.Project.{Content}
 use Rattle.project_plan.specs.Network.{plan_of_project}
@@ -16,7 +16,7 @@ use Rattle.diag_lines.specs.declared.code.Code.TheVariants.{UnfitConsumer, Skipp
 use Rattle.diag_lines.specs.declared.subject.Subject.{Subject}
 use Rattle.diag_lines.specs.declared.subject.Subject.TheVariants as of
 use Rattle.diag_lines.specs.declared.diag.Diag.{Diag}
-use Rattle.configured_nodes.specs.Values.{members}
+use Rattle.project_plan.specs.Values.{members}
 use Rattle.diag_lines.specs.Order.{diag_cmp}
 use Rattle.diag_lines.specs.Sets.{IsListOf, sorted_set}
 use Rattle.co_diag.specs.Holds.{HoldsOf, Holds}

@@ -2,15 +2,15 @@
 use Rattle.std.proofs.Common.{◌≡◌, ◌==◌, ◌&&◌, ◌||◌, ℕ, Bool, true, false, List, Option, Some, None, refl, ap, ◌∙◌}
 use Rattle.std.specs.Prelude.{if◌then◌else◌, nat_le, option_map, option_and_then}
 use Rattle.std.proofs.lemmas.Bool.{eqb-true}
-use Rattle.co_base.specs.Ranges.{is_between}
+use Rattle.base.specs.Ranges.{is_between}
 use Rattle.ini_text.specs.Content.{Section}
 use Rattle.co_values.specs.declared.form.Width.TheVariants.{Bits32}
-use Rattle.co_params.specs.Params.{Texts}
+use Rattle.node_parameters.specs.Params.{Texts}
 use Rattle.pdo_plan.specs.declared.planned_message.PlannedMessage.{PlannedMessage}
-use Rattle.co_fields.specs.CobIds.{identifier_in}
-use Rattle.configured_nodes.specs.Values.{number_among}
-use Rattle.configured_nodes.specs.Wanted.{is_wanted}
-use Rattle.configured_nodes.proofs.WantedLemmas.{number_wanted, wanted, whole}
+use Rattle.cia301.specs.CobIds.{identifier_in}
+use Rattle.project_plan.specs.Values.{number_among}
+use Rattle.project_plan.specs.Wanted.{is_wanted}
+use Rattle.project_plan.proofs.WantedLemmas.{number_wanted, wanted, whole}
 use Rattle.co_diag.specs.declared.consumer.HeartbeatConsumer.{HeartbeatConsumer}
 use Rattle.co_diag.specs.Holds.{is_on}
 use Rattle.co_diag.specs.Kept.{consumer_among, identifier_among}

@@ -11,8 +11,8 @@ use Rattle.std.proofs.lemmas.Cmp.{nat_cmp_total}
 use Rattle.std.proofs.lemmas.List.Elements.{All-contains}
 use Rattle.std.proofs.lemmas.Map.Lookups.{CmpEqualImpliesEq, exact_unsigned}
 use Rattle.ini_text.specs.Content.{Section}
-use Rattle.co_base.proofs.EachLemmas.{all_entries, each_there}
-use Rattle.co_base.proofs.TableLemmas.{alike}
+use Rattle.base.proofs.EachLemmas.{all_entries, each_there}
+use Rattle.base.proofs.TableLemmas.{alike}
 use Rattle.co_values.specs.declared.form.Width.{Width}
 use Rattle.co_values.specs.declared.data_type.DataType.TheVariants.{NotModelled}
 use Rattle.eds_device.specs.Described.{Described, description_of, description_by, kind_at, unless_empty, value_by}
@@ -20,12 +20,12 @@ use Rattle.eds_device.specs.Described.{value_text}
 use Rattle.eds_device.specs.Origins.{Origin, origin_of}
 use Rattle.eds_device.specs.Places.{pairs_of}
 use Rattle.eds_device.proofs.LawLemmas.{rules_give}
-use Rattle.co_params.proofs.WrittenLemmas.{Contains-filter_map, from_filter_map}
+use Rattle.node_parameters.proofs.WrittenLemmas.{Contains-filter_map, from_filter_map}
 use Rattle.pdo_stations.specs.Devices.{is_unsigned}
 use Rattle.co_project.specs.declared.node.Node.{Node}
 use Rattle.co_project.specs.Project.{Content}
 use Rattle.project_plan.specs.Network.{Member, with_sections, member_at}
-use Rattle.configured_nodes.specs.Values.{members}
+use Rattle.project_plan.specs.Values.{members}
 use Rattle.diag_lines.proofs.ListLemmas.{Contains-first, Contains-later}
 
 -- ---- tables

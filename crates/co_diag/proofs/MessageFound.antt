@@ -6,9 +6,9 @@ use Rattle.std.specs.FinMap.{entries}
 use Rattle.std.specs.List.{flat_map}
 use Rattle.std.proofs.lemmas.Cmp.{nat_list_cmp_total}
 use Rattle.std.proofs.lemmas.Map.Lookups.{exact_bytes}
-use Rattle.co_fields.specs.TransmissionTypes.{is_on_request}
-use Rattle.co_messages.specs.declared.linked.Linked.{Linked}
-use Rattle.co_params.proofs.WrittenLemmas.{Contains-filter_map, from_filter_map}
+use Rattle.cia301.specs.TransmissionTypes.{is_on_request}
+use Rattle.project_messages.specs.declared.linked.Linked.{Linked}
+use Rattle.node_parameters.proofs.WrittenLemmas.{Contains-filter_map, from_filter_map}
 use Rattle.pdo_plan.specs.declared.message_fault.MessageFault.{MessageFault}
 use Rattle.pdo_plan.specs.declared.message_fault.MessageFault.TheVariants as message
 use Rattle.pdo_plan.specs.declared.outcome.Outcome.{Outcome}

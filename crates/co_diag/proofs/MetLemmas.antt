@@ -9,15 +9,15 @@ use Rattle.std.proofs.lemmas.List.Elements.{Contains-append_cases, Contains-appe
 use Rattle.co_dict.proofs.PlaceLemmas.{places_exact, places_total}
 use Rattle.eds_device.specs.Described.{unless_empty}
 use Rattle.eds_device.specs.Places.{pairs_of}
-use Rattle.co_params.specs.Parameters.{given_text, parameter_text}
-use Rattle.co_params.proofs.WrittenLemmas.{Contains-filter_map, from_filter_map}
+use Rattle.node_parameters.specs.Parameters.{given_text, parameter_text}
+use Rattle.node_parameters.proofs.WrittenLemmas.{Contains-filter_map, from_filter_map}
 use Rattle.co_project.specs.Project.{Content}
 use Rattle.project_plan.specs.Network.{Member, plan_of_project}
 use Rattle.diag_lines.specs.declared.diag.Diag.{Diag}
 use Rattle.diag_lines.specs.Order.{diag_cmp}
 use Rattle.diag_lines.specs.Sets.{sorted_set}
 use Rattle.diag_lines.proofs.ListLemmas.{Contains-first, Contains-later, Contains-cases}
-use Rattle.configured_nodes.specs.Values.{members}
+use Rattle.project_plan.specs.Values.{members}
 use Rattle.co_diag.specs.Found.{diagnostics_found, diagnostics_of, message_faults, no_sync, other_counter}
 use Rattle.co_diag.specs.Found.{parameter_diagnostic, remote_type, shared_identifiers, skipped_lines, unfit_consumers}
 use Rattle.co_diag.specs.Found.{unfit_event, unfit_parameters, unreached_start, unreadable_defaults}

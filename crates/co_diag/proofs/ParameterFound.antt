@@ -8,21 +8,21 @@ use Rattle.std.specs.Option.{option_or}
 use Rattle.std.specs.Result.{result_err}
 use Rattle.std.proofs.lemmas.List.Elements.{Contains-append_cases, Contains-append_left, Contains-append_right}
 use Rattle.co_dict.proofs.PlaceLemmas.{places_exact, places_total}
-use Rattle.co_dict.specs.Pdos.{is_of_pdos}
+use Rattle.cia301.specs.PdoObjects.{is_of_pdos}
 use Rattle.eds_device.specs.Described.{unless_empty, value_text}
 use Rattle.eds_device.specs.Entries.{entry_at}
 use Rattle.eds_device.specs.Places.{pairs_of}
-use Rattle.co_params.specs.declared.parameter_fault.ParameterFault.{ParameterFault}
-use Rattle.co_params.specs.declared.parameter_fault.ParameterFault.TheVariants as parameter
-use Rattle.co_params.specs.Judgement.{parameter_bytes}
-use Rattle.co_params.specs.Parameters.{given_text, parameter_text}
-use Rattle.co_params.proofs.WrittenLemmas.{Contains-filter_map, from_filter_map}
+use Rattle.node_parameters.specs.declared.parameter_fault.ParameterFault.{ParameterFault}
+use Rattle.node_parameters.specs.declared.parameter_fault.ParameterFault.TheVariants as parameter
+use Rattle.node_parameters.specs.Judgement.{parameter_bytes}
+use Rattle.node_parameters.specs.Parameters.{given_text, parameter_text}
+use Rattle.node_parameters.proofs.WrittenLemmas.{Contains-filter_map, from_filter_map}
 use Rattle.co_project.specs.Project.{Content}
 use Rattle.project_plan.specs.Network.{Member, member_at}
 use Rattle.diag_lines.specs.declared.diag.Diag.{Diag}
 use Rattle.diag_lines.specs.declared.subject.Subject.TheVariants as of
 use Rattle.co_diag.specs.Faults.{parameter_code}
-use Rattle.configured_nodes.specs.Values.{members}
+use Rattle.project_plan.specs.Values.{members}
 use Rattle.co_diag.specs.Holds.{HasUnfitParameter, HoldsOf, Holds}
 use Rattle.co_diag.specs.Found.{diagnostic, parameter_diagnostic, unfit_parameters}
 use Rattle.co_diag.proofs.ListLemmas.{Contains-flat_map, from_flat_map}

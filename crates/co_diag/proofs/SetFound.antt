@@ -4,7 +4,7 @@ use Rattle.std.proofs.Common.{refl, ap, subst}
 use Rattle.std.specs.Prelude.{is_some, option_map, option_and_then}
 use Rattle.std.specs.FinMap.{contains_key, get}
 use Rattle.std.specs.Result.{result_ok}
-use Rattle.co_base.proofs.EachLemmas.{each_found}
+use Rattle.base.proofs.EachLemmas.{each_found}
 use Rattle.co_dict.specs.declared.entry.Entry.{Entry}
 use Rattle.co_dict.specs.Shapes.{Shaped}
 use Rattle.co_scenario.specs.declared.event.Event.{Event}
@@ -13,9 +13,9 @@ use Rattle.co_scenario.specs.declared.step.Step.{Step}
 use Rattle.co_scenario.specs.declared.timed_event.TimedEvent.{TimedEvent}
 use Rattle.eds_device.specs.Entries.{entry_at, shape_of}
 use Rattle.eds_device.proofs.LawLemmas.{shape_at}
-use Rattle.co_params.specs.declared.parameter_fault.ParameterFault.{ParameterFault}
-use Rattle.co_params.specs.declared.parameter_fault.ParameterFault.TheVariants as parameter
-use Rattle.co_params.specs.Judgement.{set_bytes}
+use Rattle.node_parameters.specs.declared.parameter_fault.ParameterFault.{ParameterFault}
+use Rattle.node_parameters.specs.declared.parameter_fault.ParameterFault.TheVariants as parameter
+use Rattle.node_parameters.specs.Judgement.{set_bytes}
 use Rattle.ini_text.specs.Content.{content_of}
 use Rattle.co_project.specs.declared.node.Node.{Node}
 use Rattle.co_project.specs.Project.{Content}

@@ -5,18 +5,18 @@ use Rattle.std.specs.Prelude.{◌==◌, if◌then◌else◌, nat_le, option_and_
 use Rattle.std.specs.Option.{option_map_or}
 use Rattle.std.proofs.lemmas.Bool.{eqb-true, le-leb, leb-true}
 use Rattle.std.proofs.lemmas.List.{length-map}
-use Rattle.co_base.specs.Ranges.{is_between}
+use Rattle.base.specs.Ranges.{is_between}
 use Rattle.co_values.specs.declared.form.Width.TheVariants.{Bits32}
-use Rattle.co_fields.specs.CobIds.{is_restricted}
+use Rattle.cia301.specs.CobIds.{is_restricted}
 use Rattle.eds_device.specs.Places.{pairs_of}
-use Rattle.co_params.proofs.WrittenLemmas.{Contains-filter_map, from_filter_map}
+use Rattle.node_parameters.proofs.WrittenLemmas.{Contains-filter_map, from_filter_map}
 use Rattle.co_project.specs.Project.{Content}
 use Rattle.project_plan.specs.Network.{Member}
 use Rattle.diag_lines.specs.declared.code.Code.TheVariants.{SharedIdentifier}
 use Rattle.diag_lines.specs.declared.diag.Diag.{Diag}
 use Rattle.diag_lines.specs.declared.subject.Subject.TheVariants as of
-use Rattle.configured_nodes.specs.Values.{members, number_after}
-use Rattle.co_fields.specs.CobIds.{identifier_in}
+use Rattle.project_plan.specs.Values.{members, number_after}
+use Rattle.cia301.specs.CobIds.{identifier_in}
 use Rattle.co_diag.specs.Holds.{HoldsOf, Holds, IsShared, is_on, sends_with, senders_with}
 use Rattle.co_diag.specs.Found.{diagnostic, identifier_of, identifiers, shared_in, shared_identifiers}
 use Rattle.co_diag.proofs.ListLemmas.{length-filter_flat_map, length-filter_given, member_of_some}

@@ -9,8 +9,8 @@ use Rattle.co_project.specs.declared.node.Node.{Node}
 use Rattle.co_project.specs.Project.{Content}
 use Rattle.co_project.specs.Tables.{Texts}
 use Rattle.project_plan.specs.Network.{Member}
-use Rattle.configured_nodes.specs.Doubtful.{doubtful_places}
-use Rattle.configured_nodes.specs.Values.{member_of}
+use Rattle.project_plan.specs.Doubtful.{doubtful_places}
+use Rattle.project_plan.specs.Values.{member_of}
 use Rattle.diag_lines.specs.declared.diag.Diag.{Diag}
 use Rattle.co_diag.specs.declared.sheet.Sheet.{Sheet}
 use Rattle.co_diag.specs.Devices.{device_at, of_node}

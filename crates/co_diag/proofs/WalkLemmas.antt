@@ -10,8 +10,8 @@ use Rattle.std.proofs.lemmas.Cmp.{nat_list_cmp_total}
 use Rattle.std.proofs.lemmas.List.Elements.{All-head, All-tail}
 use Rattle.std.proofs.lemmas.Map.Lookups.{exact_bytes}
 use Rattle.ini_text.specs.Content.{Content as Device, Section, content_of}
-use Rattle.co_base.proofs.EachLemmas.{all_entries, each_there}
-use Rattle.co_params.specs.Judgement.{set_bytes}
+use Rattle.base.proofs.EachLemmas.{all_entries, each_there}
+use Rattle.node_parameters.specs.Judgement.{set_bytes}
 use Rattle.co_scenario.specs.declared.event.Event.{Event}
 use Rattle.co_scenario.specs.declared.event.Event.TheVariants as event
 use Rattle.co_scenario.specs.declared.timed_event.TimedEvent.{TimedEvent}
@@ -26,7 +26,7 @@ use Rattle.diag_lines.specs.declared.subject.Subject.TheVariants as of
 use Rattle.co_diag.specs.Devices.{device_fault, device_for, lines_at, of_node}
 use Rattle.co_diag.specs.Faults.{parameter_code}
 use Rattle.co_diag.specs.Found.{diagnostic, set_fault, skipped_lines, unfit_event}
-use Rattle.configured_nodes.specs.Values.{member_of, members}
+use Rattle.project_plan.specs.Values.{member_of, members}
 
 -- ---- walks
 

@@ -1,7 +1,7 @@
 -- Private: how often identifiers are had, counted to 2.
 use Rattle.std.specs.Prelude.{ℕ, zero, suc, ◌==◌, ◌&&◌, not, nat_le, if◌then◌else◌, List, slice_index_or, Option, Some}
 use Rattle.std.specs.Prelude.{None}
-use Rattle.co_fields.specs.CobIds.{is_restricted}
+use Rattle.cia301.specs.CobIds.{is_restricted}
 use Rattle.diag_lines.specs.declared.code.Code.TheVariants.{SharedIdentifier}
 use Rattle.diag_lines.specs.declared.diag.Diag.{Diag}
 use Rattle.diag_lines.specs.declared.subject.Subject.TheVariants as of

@@ -5,7 +5,7 @@ use Rattle.std.specs.Option.{option_map_or}
 use Rattle.std.specs.Result.{result_err}
 use Rattle.ini_text.specs.Content.{Content as Device, content_of}
 use Rattle.eds_device.specs.Entries.{entry_at}
-use Rattle.co_params.specs.Judgement.{set_bytes}
+use Rattle.node_parameters.specs.Judgement.{set_bytes}
 use Rattle.co_scenario.specs.declared.event.Event.{Event}
 use Rattle.co_scenario.specs.declared.event.Event.TheVariants as event
 use Rattle.co_project.specs.declared.node.Node.{Node}
@@ -17,7 +17,7 @@ use Rattle.diag_lines.specs.declared.code.Code.TheVariants.{SkippedLine}
 use Rattle.diag_lines.specs.declared.diag.Diag.{Diag}
 use Rattle.diag_lines.specs.declared.subject.Subject.TheVariants as of
 use Rattle.co_diag.specs.Faults.{parameter_code}
-use Rattle.configured_nodes.specs.Values.{member_of}
+use Rattle.project_plan.specs.Values.{member_of}
 use Rattle.co_diag.specs.Found.{diagnostic}
 
 -- the device of each text was read

@@ -1,6 +1,6 @@
 -- The codes of faults (this profile's own).
-use Rattle.co_params.specs.declared.parameter_fault.ParameterFault.{ParameterFault}
-use Rattle.co_params.specs.declared.parameter_fault.ParameterFault.TheVariants as parameter
+use Rattle.node_parameters.specs.declared.parameter_fault.ParameterFault.{ParameterFault}
+use Rattle.node_parameters.specs.declared.parameter_fault.ParameterFault.TheVariants as parameter
 use Rattle.pdo_plan.specs.declared.message_fault.MessageFault.{MessageFault}
 use Rattle.pdo_plan.specs.declared.message_fault.MessageFault.TheVariants as message
 use Rattle.diag_lines.specs.declared.code.Code.{Code}

@@ -1,28 +1,27 @@
 -- The diagnostics of a project as a list. Which they are is said by `Holds`: a law says that the list has exactly what
 -- holds, each once, in order.
 use Rattle.std.specs.Prelude.{◌≡◌, ℕ, false, ◌==◌, ◌&&◌, not, nat_le, if◌then◌else◌, List, [], ◌++◌, length, map}
-use Rattle.std.specs.Prelude.{filter, filter_map, Contains, Option, Some, None, option_map, option_and_then, is_none}
+use Rattle.std.specs.Prelude.{filter, filter_map, Contains, Option, Some, None, option_map, option_and_then}
 use Rattle.std.specs.FinMap.{entries}
 use Rattle.std.specs.List.{flat_map}
 use Rattle.std.specs.Option.{option_map_or}
 use Rattle.std.specs.Result.{result_err}
-use Rattle.co_base.specs.Ranges.{is_between}
+use Rattle.base.specs.Ranges.{is_between}
 use Rattle.ini_text.specs.Content.{content_of}
 use Rattle.co_values.specs.declared.form.Width.TheVariants.{Bits8, Bits32}
-use Rattle.co_values.specs.Types.{is_modelled}
 use Rattle.co_values.specs.Values.{value}
-use Rattle.co_fields.specs.TransmissionTypes.{is_on_request}
+use Rattle.cia301.specs.TransmissionTypes.{is_on_request}
 use Rattle.co_dict.specs.declared.entry.Entry.{Entry}
-use Rattle.co_fields.specs.CobIds.{is_restricted}
+use Rattle.cia301.specs.CobIds.{is_restricted}
 use Rattle.eds_device.specs.Described.{default_text}
 use Rattle.eds_device.specs.Entries.{entry_at}
 use Rattle.eds_device.specs.Places.{pairs_of}
-use Rattle.co_params.specs.Judgement.{parameter_bytes, set_bytes}
-use Rattle.co_params.specs.Parameters.{parameter_text}
+use Rattle.node_parameters.specs.Judgement.{parameter_bytes, set_bytes}
+use Rattle.node_parameters.specs.Parameters.{parameter_text}
 use Rattle.co_scenario.specs.declared.event.Event.{Event}
 use Rattle.co_scenario.specs.declared.event.Event.TheVariants as event
 use Rattle.co_scenario.specs.declared.timed_event.TimedEvent.{TimedEvent}
-use Rattle.co_messages.specs.declared.linked.Linked.{Linked}
+use Rattle.project_messages.specs.declared.linked.Linked.{Linked}
 use Rattle.pdo_plan.specs.declared.outcome.Outcome.{Outcome}
 use Rattle.pdo_plan.specs.declared.outcome.Outcome.TheVariants.{Planned, Faulty}
 use Rattle.pdo_plan.specs.declared.planned_message.PlannedMessage.{PlannedMessage}
@@ -35,11 +34,12 @@ use Rattle.diag_lines.specs.declared.subject.Subject.{Subject}
 use Rattle.diag_lines.specs.declared.subject.Subject.TheVariants as of
 use Rattle.diag_lines.specs.declared.diag.Diag.{Diag}
 use Rattle.co_diag.specs.Faults.{parameter_code, message_code}
-use Rattle.co_fields.specs.CobIds.{identifier_in}
+use Rattle.cia301.specs.CobIds.{identifier_in}
 use Rattle.co_diag.specs.Holds.{is_on, is_unfit, starts_at_none, type_of, waits_for_none}
 use Rattle.diag_lines.specs.Order.{diag_cmp}
 use Rattle.diag_lines.specs.Sets.{sorted_set}
-use Rattle.configured_nodes.specs.Values.{members, number_after}
+use Rattle.project_plan.specs.Values.{members, number_after}
+use Rattle.project_plan.specs.Doubtful.{spells_none as kind_spells_none}
 
 abbrev pub diagnostic : Code → Subject → Diag
 diagnostic code subject = record { code = code; subject = subject }
@@ -60,7 +60,7 @@ unfit_parameters e = filter_map (λ own. parameter_diagnostic e own.0) (entries 
 
 -- an entry of a modelled type whose text spells none of its values
 abbrev pub spells_none : ℕ → List ℕ → Entry → Option (Unit {0})
-spells_none node text entry = if is_modelled entry.kind && is_none (value entry.kind text node) then Some tt else None
+spells_none node text entry = if kind_spells_none node text entry.kind then Some tt else None
 
 -- a default that is so
 unfoldable pub unreadable_default : ℕ × Member → ℕ × ℕ → Option Diag

@@ -5,26 +5,26 @@ use Rattle.std.specs.Prelude.{if◌then◌else◌, List, length, filter, map, Op
 use Rattle.std.specs.FinMap.{get}
 use Rattle.std.specs.List.{flat_map}
 use Rattle.std.specs.Option.{option_map_or, unwrap_or}
-use Rattle.co_base.specs.Ranges.{is_between}
+use Rattle.base.specs.Ranges.{is_between}
 use Rattle.ini_text.specs.Content.{content_of}
 use Rattle.co_values.specs.declared.form.Width.TheVariants.{Bits8, Bits16, Bits32}
 use Rattle.co_values.specs.Types.{is_modelled}
 use Rattle.co_values.specs.Values.{value}
-use Rattle.co_fields.specs.ConsumerHeartbeatTimes.{consumed_node, consumer_time}
-use Rattle.co_fields.specs.TransmissionTypes.{is_on_request, is_synchronous, type_of_byte}
-use Rattle.co_fields.specs.declared.transmission_type.TransmissionType.{TransmissionType}
-use Rattle.co_fields.specs.declared.transmission_type.TransmissionType.TheVariants.{Cyclic}
+use Rattle.cia301.specs.ConsumerHeartbeatTimes.{consumed_node, consumer_time}
+use Rattle.cia301.specs.TransmissionTypes.{is_on_request, is_synchronous, type_of_byte}
+use Rattle.cia301.specs.declared.transmission_type.TransmissionType.{TransmissionType}
+use Rattle.cia301.specs.declared.transmission_type.TransmissionType.TheVariants.{Cyclic}
 use Rattle.co_dict.specs.declared.entry.Entry.{Entry}
-use Rattle.co_fields.specs.CobIds.{is_restricted}
+use Rattle.cia301.specs.CobIds.{is_restricted}
 use Rattle.eds_device.specs.Described.{default_text}
 use Rattle.eds_device.specs.Entries.{entry_at}
 use Rattle.eds_device.specs.Places.{pairs_of}
-use Rattle.co_params.specs.declared.parameter_fault.ParameterFault.{ParameterFault}
-use Rattle.co_params.specs.declared.parameter_fault.ParameterFault.TheVariants as parameter
-use Rattle.co_params.specs.Judgement.{parameter_bytes, set_bytes}
-use Rattle.co_params.specs.Parameters.{parameter_text}
+use Rattle.node_parameters.specs.declared.parameter_fault.ParameterFault.{ParameterFault}
+use Rattle.node_parameters.specs.declared.parameter_fault.ParameterFault.TheVariants as parameter
+use Rattle.node_parameters.specs.Judgement.{parameter_bytes, set_bytes}
+use Rattle.node_parameters.specs.Parameters.{parameter_text}
 use Rattle.co_scenario.specs.declared.event.Event.TheVariants.{Set}
-use Rattle.co_messages.specs.declared.linked.Linked.{Linked}
+use Rattle.project_messages.specs.declared.linked.Linked.{Linked}
 use Rattle.pdo_plan.specs.declared.message_fault.MessageFault.{MessageFault}
 use Rattle.pdo_plan.specs.declared.message_fault.MessageFault.TheVariants as message
 use Rattle.pdo_plan.specs.declared.outcome.Outcome.TheVariants.{Faulty}
@@ -40,8 +40,8 @@ use Rattle.diag_lines.specs.declared.code.Code.TheVariants.{UnfitConsumer, Skipp
 use Rattle.diag_lines.specs.declared.subject.Subject.{Subject}
 use Rattle.diag_lines.specs.declared.subject.Subject.TheVariants as of
 use Rattle.diag_lines.specs.declared.diag.Diag.{Diag}
-use Rattle.co_fields.specs.CobIds.{identifier_in, is_of_base_frames, is_valid}
-use Rattle.configured_nodes.specs.Values.{members, number_after}
+use Rattle.cia301.specs.CobIds.{identifier_in, is_of_base_frames, is_valid}
+use Rattle.project_plan.specs.Values.{members, number_after}
 
 -- a parameter of a node, its own or one of the EDS, has this fault
 pub record HasUnfitParameter (p : Content) (fault : ParameterFault) (node index sub : ℕ) : Type 0 where

@@ -3,24 +3,24 @@ use Rattle.std.specs.Prelude.{ℕ, ◌==◌, ◌&&◌, ◌||◌, not, Bool, true
 use Rattle.std.specs.Prelude.{None, option_map, option_and_then, filter_map}
 use Rattle.std.specs.List.{cons_option, find}
 use Rattle.std.specs.Option.{option_map_or, unwrap_or}
-use Rattle.co_base.specs.Ranges.{is_between}
+use Rattle.base.specs.Ranges.{is_between}
 use Rattle.ini_text.specs.Content.{Section}
 use Rattle.co_values.specs.declared.form.Width.TheVariants.{Bits8, Bits16, Bits32}
 use Rattle.co_dict.specs.Values.{Values}
 use Rattle.eds_device.specs.Places.{pairs_of}
 use Rattle.pdo_plan.specs.declared.planned_message.PlannedMessage.{PlannedMessage}
-use Rattle.co_edits.specs.declared.manager_settings.ManagerSettings.{ManagerSettings}
+use Rattle.project_edits.specs.declared.manager_settings.ManagerSettings.{ManagerSettings}
 use Rattle.project_plan.specs.Network.{Member}
 use Rattle.diag_lines.specs.declared.code.Code.TheVariants.{OtherCounter, UnfitConsumer}
 use Rattle.co_diag.specs.declared.consumer.HeartbeatConsumer.{HeartbeatConsumer}
 use Rattle.diag_lines.specs.declared.diag.Diag.{Diag}
 use Rattle.diag_lines.specs.declared.subject.Subject.TheVariants as of
-use Rattle.co_fields.specs.CobIds.{identifier_in}
-use Rattle.co_fields.specs.ConsumerHeartbeatTimes.{consumed_node, consumer_time}
+use Rattle.cia301.specs.CobIds.{identifier_in}
+use Rattle.cia301.specs.ConsumerHeartbeatTimes.{consumed_node, consumer_time}
 use Rattle.co_diag.specs.Holds.{is_on}
 use Rattle.co_diag.specs.Found.{diagnostic}
-use Rattle.configured_nodes.specs.Wanted.{wanted_by}
-use Rattle.configured_nodes.specs.Values.{number_among}
+use Rattle.project_plan.specs.Wanted.{wanted_by}
+use Rattle.project_plan.specs.Values.{number_among}
 
 -- the identifier with which a TPDO is on
 abbrev pub identifier_among : List Section → Values → ℕ × ℕ → Option ℕ

@@ -4,12 +4,12 @@ use Rattle.std.specs.FinMap.{entries}
 use Rattle.std.specs.List.{flat_map}
 use Rattle.ini_text.specs.Content.{Content as Device, Section}
 use Rattle.eds_device.specs.Places.{pairs_of}
-use Rattle.co_params.specs.Parameters.{given_text}
+use Rattle.node_parameters.specs.Parameters.{given_text}
 use Rattle.co_project.specs.Project.{Content}
 use Rattle.co_project.specs.Tables.{Texts}
 use Rattle.project_plan.specs.Network.{Member, plan_of_project}
-use Rattle.configured_nodes.specs.Doubtful.{doubtful_places}
-use Rattle.configured_nodes.specs.Values.{members}
+use Rattle.project_plan.specs.Doubtful.{doubtful_places}
+use Rattle.project_plan.specs.Values.{members}
 use Rattle.diag_lines.specs.declared.diag.Diag.{Diag}
 use Rattle.co_diag.specs.declared.sheet.Sheet.{Sheet}
 use Rattle.co_diag.specs.Devices.{device_at}

@@ -4,7 +4,7 @@ ghost use Rattle.std.specs.List.{find};
 ghost use Rattle.co_diag.specs.Kept.{producer_among, unfit_among, unfit_diagnostic};
 
 use crate::consumer::HeartbeatConsumer;
-use co_fields::ConsumerHeartbeatTime;
+use cia301::ConsumerHeartbeatTime;
 use co_project::Project;
 use diag_lines::{Code, Diag, Subject};
 use std::alloc::AllocError;

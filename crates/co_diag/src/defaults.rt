@@ -1,12 +1,12 @@
 //! The unreadable defaults of a node's device, put at the end of what was found.
 ghost use Rattle.std.specs.Prelude.{◌≡◌, ◌++◌, OnOk, IfOk, filter_map};
 ghost use Rattle.co_diag.specs.Found.{unreadable_default};
-ghost use Rattle.configured_nodes.specs.Values.{member_of};
+ghost use Rattle.project_plan.specs.Values.{member_of};
 
 use co_project::Node;
-use configured_nodes::spells_none;
 use diag_lines::{Code, Diag, Subject};
 use eds_device::Device;
+use project_plan::spells_none;
 use std::alloc::{AllocError, Global};
 
 /// What is said of the default of an entry.

@@ -6,10 +6,10 @@ ghost use Rattle.co_diag.specs.Found.{unfit_event};
 
 use crate::devices::device_of;
 use crate::parameters::parameter_code;
-use co_params::judge_set;
 use co_scenario::Event;
 use diag_lines::{Diag, Subject};
 use eds_device::Device;
+use node_parameters::judge_set;
 use project_plan::Library;
 use std::alloc::{AllocError, Global};
 

@@ -8,7 +8,7 @@ ghost use Rattle.co_diag.specs.Found.{unfit_consumers, shared_identifiers};
 ghost use Rattle.co_diag.specs.Found.{message_faults, remote_type, no_sync, unreached_start, other_counter};
 ghost use Rattle.co_diag.specs.Found.{diagnostics_of};
 ghost use Rattle.co_diag.specs.Sheets.{diagnostics_met};
-ghost use Rattle.configured_nodes.specs.Values.{members};
+ghost use Rattle.project_plan.specs.Values.{members};
 
 use crate::consumers::find_unfit_consumers;
 use crate::counters::find_other_counters;

@@ -5,17 +5,16 @@ ghost use Rattle.eds_device.specs.Places.{pairs_of};
 ghost use Rattle.co_diag.specs.Kept.{identifier_among, consumer_among, counter_among};
 ghost use Rattle.co_diag.specs.Kept.{identifiers_by, consumers_by, times_by, counters_by};
 ghost use Rattle.co_diag.specs.Devices.{AreAllRead, of_node};
-ghost use Rattle.configured_nodes.specs.Values.{member_of, members};
+ghost use Rattle.project_plan.specs.Values.{member_of, members};
 
 use crate::consumer::HeartbeatConsumer;
 use crate::devices::device_of;
+use cia301::{CobId, Identifier};
 use co_dict::Dict;
-use co_fields::{CobId, Identifier};
 use co_project::Node;
-use configured_nodes::{unsigned_8, unsigned_16, unsigned_32, wanted_values};
 use eds_device::Device;
 use pdo_plan::Plan;
-use project_plan::Library;
+use project_plan::{Library, unsigned_8, unsigned_16, unsigned_32, wanted_values};
 use std::alloc::{AllocError, Global};
 
 /// What is kept of the nodes once they are configured.

@@ -7,11 +7,11 @@ ghost use Rattle.co_diag.specs.Faults.{message_code};
 ghost use Rattle.co_diag.specs.Found.{diagnostic, message_faults, remote_type, no_sync, unreached_start};
 ghost use Rattle.co_diag.specs.Holds.{is_cyclic};
 
-use co_fields::TransmissionType;
-use co_messages::Linked;
+use cia301::TransmissionType;
 use co_project::Project;
 use diag_lines::{Code, Diag, Name, Subject};
 use pdo_plan::{MessageFault, Outcome, Plan, PlannedMessage};
+use project_messages::Linked;
 use std::alloc::{AllocError, Global};
 
 /// The code of a fault.

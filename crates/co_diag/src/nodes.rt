@@ -4,7 +4,7 @@ ghost use Rattle.std.specs.List.{flat_map};
 ghost use Rattle.co_diag.specs.Devices.{AreAllRead, of_node};
 ghost use Rattle.co_diag.specs.Found.{unreadable_defaults};
 ghost use Rattle.co_diag.specs.Sheets.{IsSheet, IsSheetOf, faults_of_node};
-ghost use Rattle.configured_nodes.specs.Values.{member_of, members};
+ghost use Rattle.project_plan.specs.Values.{member_of, members};
 
 use crate::defaults::find_unreadable;
 use crate::devices::device_of;

@@ -3,12 +3,12 @@ ghost use Rattle.std.specs.Prelude.{◌≡◌, ◌++◌, OnOk, IfOk, filter_map}
 ghost use Rattle.std.specs.FinMap as table;
 ghost use Rattle.co_diag.specs.Faults.{parameter_code};
 ghost use Rattle.co_diag.specs.Found.{parameter_diagnostic};
-ghost use Rattle.configured_nodes.specs.Values.{member_of};
+ghost use Rattle.project_plan.specs.Values.{member_of};
 
-use co_params::{ParameterFault, judge, parameter_text};
 use co_project::Node;
 use diag_lines::{Code, Diag, Subject};
 use eds_device::Device;
+use node_parameters::{ParameterFault, judge, parameter_text};
 use std::alloc::{AllocError, Global};
 
 /// The code of a fault.

@@ -4,7 +4,7 @@ ghost use Rattle.std.specs.Prelude.{if◌then◌else◌};
 ghost use Rattle.co_diag.specs.Counts.{capped, one_more, shared_among};
 ghost use Rattle.co_diag.specs.Found.{shared_in};
 
-use co_fields::{Identifier, is_restricted};
+use cia301::{Identifier, is_restricted};
 use diag_lines::{Code, Diag, Subject};
 use std::alloc::AllocError;
 

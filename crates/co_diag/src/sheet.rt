@@ -3,11 +3,11 @@ ghost use Rattle.std.specs.Prelude.{◌≡◌, IfOk, Some};
 ghost use Rattle.co_diag.specs.Devices.{device_at};
 ghost use Rattle.co_diag.specs.Sheets.{IsSheet, IsSheetOf, given_places, is_given};
 
-use co_base::Octets;
+use base::Octets;
 use co_dict::is_of_pdos;
 use co_project::Project;
-use configured_nodes::doubtful_places;
 use eds_device::Device;
+use project_plan::doubtful_places;
 use std::alloc::{AllocError, Global};
 
 /// What a data sheet says that is the same at each node.

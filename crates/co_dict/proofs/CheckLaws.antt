@@ -7,7 +7,7 @@ use Rattle.std.specs.Option.{option_map_or}
 use Rattle.std.specs.Ordering.{eq_by_cmp}
 use Rattle.std.proofs.lemmas.Bool.Decides.{nat_tests}
 use Rattle.std.proofs.lemmas.Int.{ints}
-use Rattle.co_base.specs.Bytes.{AreBytes}
+use Rattle.base.specs.Bytes.{AreBytes}
 use Rattle.byteorder.specs.Endian.{little_number}
 use Rattle.co_values.specs.declared.form.Form.{Form}
 use Rattle.co_values.specs.declared.form.Form.TheVariants.{Flag, Signed, Unsigned, Characters, HexPairs, Unmodelled}
@@ -22,7 +22,7 @@ use Rattle.co_dict.specs.Checks.{access_check, access_lines, has_index, is_flag,
 use Rattle.co_dict.specs.Checks.{is_entry_that, is_no_flag, length_check, first_refusal, value_lines}
 use Rattle.co_dict.specs.Mappings.{mapping_bits, mapping_of}
 use Rattle.co_dict.specs.PdoChecks.{cob_id_lines, count_lines, mapping_check, mapping_lines, new_count_lines}
-use Rattle.co_dict.specs.Pdos.{is_communication_object, is_mapping_object, is_of_pdos}
+use Rattle.cia301.specs.PdoObjects.{is_mapping_object, is_communication_object, is_of_pdos}
 use Rattle.co_dict.specs.Places.{place_cmp}
 use Rattle.co_dict.specs.Shapes.{Shaped}
 use Rattle.co_dict.specs.Values.{HasLength, HoldEach, Values}

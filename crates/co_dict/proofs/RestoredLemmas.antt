@@ -1,7 +1,7 @@
 -- Dictionaries of which a part is as another has it.
 use Rattle.std.proofs.Common.{◌≡◌, ℕ, Bool, List, Option, Some, true, false, cond, sym, subst}
 use Rattle.std.specs.FinMap.{get}
-use Rattle.co_base.specs.Ranges.{is_between}
+use Rattle.base.specs.Ranges.{is_between}
 use Rattle.co_dict.specs.declared.entry.Entry.{Entry}
 use Rattle.co_dict.specs.Restored.{with_restored}
 use Rattle.co_dict.specs.Shapes.{Shaped}

@@ -4,7 +4,7 @@ use Rattle.std.specs.Prelude.{if◌then◌else◌}
 use Rattle.std.specs.FinMap.{get}
 use Rattle.std.specs.List.{range_with_len}
 use Rattle.std.specs.Option.{option_map_or, option_or}
-use Rattle.co_base.specs.Ranges.{is_between}
+use Rattle.base.specs.Ranges.{is_between}
 use Rattle.co_values.specs.Types.{modelled_type, width_bits}
 use Rattle.co_dict.specs.declared.direction.Direction.{Direction}
 use Rattle.co_dict.specs.declared.direction.Direction.TheVariants.{Transmit, Receive}

@@ -7,12 +7,12 @@ use Rattle.co_values.specs.declared.form.Form.{Form}
 use Rattle.co_values.specs.declared.form.Form.TheVariants.{Unsigned}
 use Rattle.co_values.specs.declared.form.Width.TheVariants.{Bits8, Bits16, Bits32}
 use Rattle.co_values.specs.Types.{form}
-use Rattle.co_fields.specs.CobIds.{identifier_in, identifier_with_form, is_restricted, is_valid}
+use Rattle.cia301.specs.CobIds.{identifier_in, identifier_with_form, is_restricted, is_valid}
 use Rattle.co_dict.specs.declared.abort.Abort.{Abort}
 use Rattle.co_dict.specs.Aborts.{unsupported_access, invalid_value, cannot_be_mapped, pdo_length_exceeded}
 use Rattle.co_dict.specs.Checks.{is_entry_that, first_refusal}
 use Rattle.co_dict.specs.Mappings.{can_be_mapped, direction_of, mapping_bits, mapping_of}
-use Rattle.co_dict.specs.Pdos.{is_communication_object, is_mapping_object}
+use Rattle.cia301.specs.PdoObjects.{is_mapping_object, is_communication_object}
 use Rattle.co_dict.specs.Shapes.{Shaped}
 use Rattle.co_dict.specs.Values.{Values, number_at}
 

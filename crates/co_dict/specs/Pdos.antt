@@ -1,6 +1,5 @@
 -- PDOs and an object dictionary (CiA 301): their objects, and which entries they can carry.
-use Rattle.std.specs.Prelude.{ℕ, ◌&&◌, ◌||◌, Bool, true, false, is_some}
-use Rattle.co_base.specs.Ranges.{is_between}
+use Rattle.std.specs.Prelude.{◌&&◌, Bool, true, false, is_some}
 use Rattle.co_values.specs.Types.{width_bits}
 use Rattle.co_dict.specs.declared.access.Access.{Access}
 use Rattle.co_dict.specs.declared.access.Access.TheVariants.{ReadOnly, WriteOnly, ReadWrite, ReadWriteOnInput}
@@ -8,18 +7,6 @@ use Rattle.co_dict.specs.declared.access.Access.TheVariants.{ReadWriteOnOutput, 
 use Rattle.co_dict.specs.declared.direction.Direction.{Direction}
 use Rattle.co_dict.specs.declared.direction.Direction.TheVariants.{Transmit, Receive}
 use Rattle.co_dict.specs.declared.entry.Entry.{Entry}
-
--- 1400h to 1BFFh: the communication and mapping objects of PDOs, which messages alone configure
-abbrev pub is_of_pdos : ℕ → Bool
-is_of_pdos index = is_between 0x1400 0x1BFF index
-
--- 1400h to 15FFh and 1800h to 19FFh: the communication objects of RPDOs and TPDOs
-abbrev pub is_communication_object : ℕ → Bool
-is_communication_object index = is_between 0x1400 0x15FF index || is_between 0x1800 0x19FF index
-
--- 1600h to 17FFh and 1A00h to 1BFFh: the mapping objects of RPDOs and TPDOs
-abbrev pub is_mapping_object : ℕ → Bool
-is_mapping_object index = is_between 0x1600 0x17FF index || is_between 0x1A00 0x1BFF index
 
 -- the access with which a TPDO can carry an entry (own)
 abbrev pub is_sendable : Access → Bool

@@ -2,8 +2,8 @@
 
 ghost use Rattle.std.specs.Prelude.{◌≡◌, ◌≢◌, ◌↔◌, ◌≤◌, ℕ, List, length, Some, Ok, Err, IsTrue, false, if◌then◌else◌};
 ghost use Rattle.std.specs.FinMap as map;
-ghost use Rattle.co_base.specs.Bytes.{AreBytes};
-ghost use Rattle.co_base.specs.Ranges.{is_between};
+ghost use Rattle.base.specs.Bytes.{AreBytes};
+ghost use Rattle.base.specs.Ranges.{is_between};
 ghost use Rattle.co_values.specs.Types.{is_modelled};
 ghost use Rattle.co_values.specs.Values.{Fits};
 ghost use Rattle.co_dict.specs.declared.abort.Abort.{Abort as Code};
@@ -12,7 +12,7 @@ ghost use Rattle.co_dict.specs.Accesses.{is_writable};
 ghost use Rattle.co_dict.specs.Checks.{access_check, has_index, length_check};
 ghost use Rattle.co_dict.specs.Mappings.{mapping_bits, mapping_of};
 ghost use Rattle.co_dict.specs.PdoChecks.{mapping_check};
-ghost use Rattle.co_dict.specs.Pdos.{is_of_pdos};
+ghost use Rattle.cia301.specs.PdoObjects.{is_of_pdos};
 ghost use Rattle.co_dict.specs.Restored.{with_restored};
 ghost use Rattle.co_dict.specs.Shapes.{HasIndex, Shaped};
 ghost use Rattle.co_dict.specs.Values.{HoldEach, Values};

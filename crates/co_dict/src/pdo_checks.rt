@@ -1,8 +1,8 @@
 //! What a device answers to a write of the objects of its PDOs (CiA 301).
 
 ghost use Rattle.std.specs.Prelude.{◌≡◌, ◌≤◌};
-ghost use Rattle.co_dict.specs.Pdos.{is_communication_object as is_communication_index};
-ghost use Rattle.co_dict.specs.Pdos.{is_mapping_object as is_mapping_index};
+ghost use Rattle.cia301.specs.PdoObjects.{is_communication_object as is_communication_index};
+ghost use Rattle.cia301.specs.PdoObjects.{is_mapping_object as is_mapping_index};
 ghost use Rattle.std.specs.List.{list_any, range_with_len};
 ghost use Rattle.co_dict.specs.Mappings.{direction_of as direction_of_object, dummy_width as width_of_dummy};
 ghost use Rattle.co_dict.specs.Mappings.{width_mapped as width_of_mapped, can_be_mapped as can_be_mapped_whole};
@@ -16,7 +16,7 @@ use crate::abort::Abort;
 use crate::direction::Direction;
 use crate::mapped::{mapped_length, mapped_place};
 use crate::shape::Shape;
-use co_fields::CobId;
+use cia301::CobId;
 use co_values::{DataType, number_8, number_32, width_bits};
 use dict_values::Dict;
 

@@ -10,20 +10,20 @@ use Rattle.std.specs.FinMap.{FinMap, contains_key, get, insert, len, len-insert,
 use Rattle.std.specs.List.{list_any}
 use Rattle.std.specs.Option.{option_map_or}
 use Rattle.std.specs.Ordering.{nat_cmp}
-use Rattle.co_base.specs.Ranges.{is_between, AreIndices}
-use Rattle.co_base.specs.Tables.{Each}
-use Rattle.co_base.proofs.EachLemmas.{each_fails, each_found, each_put, each_weaker, known_after_put}
-use Rattle.co_base.proofs.EntryLemmas.{All-left, All-put}
-use Rattle.co_base.proofs.TableLemmas.{removed_elsewhere}
-use Rattle.co_messages.specs.declared.linked.Linked.{Linked}
-use Rattle.co_messages.specs.declared.message.Message.{Message}
-use Rattle.co_messages.specs.Messages.{with_changed, is_of_messages, is_of_message, is_position, is_start, linked_to}
-use Rattle.co_messages.specs.Messages.{seat_cmp, with_message, with_sink, with_source, with_start, without_sink}
-use Rattle.co_messages.specs.Messages.{without_source, Named}
-use Rattle.co_messages.proofs.LimitLemmas.{linked_message, seats_exact, sink_left, sink_put, source_left, source_put}
-use Rattle.co_messages.proofs.LimitLemmas.{start_put}
-use Rattle.co_edits.specs.declared.edit.Edit.TheVariants as edit
-use Rattle.co_edits.specs.Edits.{IsEdit}
+use Rattle.base.specs.Ranges.{is_between, AreIndices}
+use Rattle.base.specs.Tables.{Each}
+use Rattle.base.proofs.EachLemmas.{each_fails, each_found, each_put, each_weaker, known_after_put}
+use Rattle.base.proofs.EntryLemmas.{All-left, All-put}
+use Rattle.base.proofs.TableLemmas.{removed_elsewhere}
+use Rattle.project_messages.specs.declared.linked.Linked.{Linked}
+use Rattle.project_messages.specs.declared.message.Message.{Message}
+use Rattle.project_messages.specs.Messages.{with_changed, is_of_messages, is_of_message, is_position, is_start, linked_to}
+use Rattle.project_messages.specs.Messages.{seat_cmp, with_message, with_sink, with_source, with_start, without_sink}
+use Rattle.project_messages.specs.Messages.{without_source, Named}
+use Rattle.project_messages.proofs.LimitLemmas.{linked_message, seats_exact, sink_left, sink_put, source_left, source_put}
+use Rattle.project_messages.proofs.LimitLemmas.{start_put}
+use Rattle.project_edits.specs.declared.edit.Edit.TheVariants as edit
+use Rattle.project_edits.specs.Edits.{IsEdit}
 use Rattle.co_project.specs.declared.node.Node.{Node}
 use Rattle.co_project.specs.Tables.{Nodes}
 use Rattle.co_project.specs.Project.{Content}

@@ -12,35 +12,35 @@ use Rattle.std.proofs.lemmas.Map.Lookups.{exact_unsigned, exact_bytes}
 use Rattle.std.proofs.lemmas.Slice.Eq.{bytes_eq-Decides}
 use Rattle.co_scenario.specs.declared.timed_event.TimedEvent.{TimedEvent}
 use Rattle.co_scenario.specs.Scenario.{node_of}
-use Rattle.co_base.proofs.TableLemmas.{removed_elsewhere}
-use Rattle.co_messages.specs.declared.linked.Linked.{Linked}
-use Rattle.co_messages.specs.declared.message.Message.{Message}
-use Rattle.co_messages.specs.Messages.{with_changed, is_of_messages, is_full_for as is_full_of, linked_to, with_message}
-use Rattle.co_messages.specs.Messages.{with_sink, with_source, with_start, without_sink, without_source, name_cmp}
-use Rattle.co_messages.specs.Messages.{Named}
-use Rattle.co_edits.specs.declared.fault.EditFault.{EditFault}
-use Rattle.co_edits.specs.declared.manager_settings.ManagerSettings.{ManagerSettings}
-use Rattle.co_edits.specs.declared.script_version.ScriptVersion.{ScriptVersion}
-use Rattle.co_edits.specs.declared.script_version.ScriptVersion.TheVariants.{One, Two}
-use Rattle.co_edits.specs.declared.edit.Edit.{Edit}
-use Rattle.co_edits.specs.declared.edit.Edit.TheVariants as edit
-use Rattle.co_edits.specs.Accepts.{unless}
-use Rattle.co_edits.specs.Eds.{IsEds}
-use Rattle.co_edits.specs.Edits.{IsEdit, IsManager, IsSetting}
-use Rattle.co_edits.specs.Forms.{is_bit_rate, is_sync_counter, is_time}
-use Rattle.co_edits.specs.Versions.{is_one}
+use Rattle.base.proofs.TableLemmas.{removed_elsewhere}
+use Rattle.project_messages.specs.declared.linked.Linked.{Linked}
+use Rattle.project_messages.specs.declared.message.Message.{Message}
+use Rattle.project_messages.specs.Messages.{with_changed, is_of_messages, is_full_for as is_full_of, linked_to, with_message}
+use Rattle.project_messages.specs.Messages.{with_sink, with_source, with_start, without_sink, without_source, name_cmp}
+use Rattle.project_messages.specs.Messages.{Named}
+use Rattle.project_edits.specs.declared.fault.EditFault.{EditFault}
+use Rattle.project_edits.specs.declared.manager_settings.ManagerSettings.{ManagerSettings}
+use Rattle.project_edits.specs.declared.script_version.ScriptVersion.{ScriptVersion}
+use Rattle.project_edits.specs.declared.script_version.ScriptVersion.TheVariants.{One, Two}
+use Rattle.project_edits.specs.declared.edit.Edit.{Edit}
+use Rattle.project_edits.specs.declared.edit.Edit.TheVariants as edit
+use Rattle.project_edits.specs.Accepts.{unless}
+use Rattle.project_edits.specs.Eds.{IsEds}
+use Rattle.project_edits.specs.Edits.{IsEdit, IsManager, IsSetting}
+use Rattle.project_edits.specs.Forms.{is_bit_rate, is_sync_counter, is_time}
+use Rattle.project_edits.specs.Versions.{is_one}
 use Rattle.co_dict.specs.Places.{place_cmp}
 use Rattle.co_dict.proofs.PlaceLemmas.{places_exact, places_total}
-use Rattle.co_params.specs.Params.{Texts as Params, is_full_for}
+use Rattle.node_parameters.specs.Params.{Texts as Params, is_full_for}
 use Rattle.co_project.specs.declared.node.Node.{Node}
 use Rattle.co_project.specs.Tables.{Texts, Nodes, name_taken, has_no_room, is_used, is_named, is_of}
 use Rattle.co_project.specs.Tables.{is_of_known, has_mandatory, put_node, node_after_put, with_need, with_param}
 use Rattle.co_project.specs.Tables.{without_param}
 use Rattle.co_project.specs.Project.{Content, first, accept, with_nodes}
-use Rattle.co_base.specs.Tables.{Each}
+use Rattle.base.specs.Tables.{Each}
 use Rattle.co_project.specs.Sound.{AreTexts, AreParams, IsNodeOf, IsMessageOf, IsEventOf, IsSound}
-use Rattle.co_base.proofs.EachLemmas.{each_empty, each_fails, each_found, each_put, each_removed, each_weaker, fewer}
-use Rattle.co_base.proofs.EachLemmas.{known_after_put, none_pass, room_for}
+use Rattle.base.proofs.EachLemmas.{each_empty, each_fails, each_found, each_put, each_removed, each_weaker, fewer}
+use Rattle.base.proofs.EachLemmas.{known_after_put, none_pass, room_for}
 use Rattle.co_project.proofs.KeepsMessages.{as_many, message_sent, messages_changed, messages_with_node}
 use Rattle.co_project.proofs.KeepsMessages.{messages_without_node, sink_kept, source_kept, start_kept, still_there}
 use Rattle.co_project.proofs.KeepsMessages.{unsink_kept, unsource_kept}

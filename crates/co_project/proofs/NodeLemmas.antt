@@ -7,9 +7,9 @@ use Rattle.std.specs.Ordering.{nat_cmp, eq_by_cmp}
 use Rattle.std.specs.FinMap.{contains_key, from_entries, get, get-insert, insert, remove, same_map}
 use Rattle.std.proofs.lemmas.Cmp.{nat_cmp_total}
 use Rattle.std.proofs.lemmas.Map.Lookups.{exact_unsigned}
-use Rattle.co_base.proofs.TableLemmas.{alike, get_made, made_put}
-use Rattle.co_edits.specs.declared.fault.EditFault.TheVariants.{Limit, Unknown}
-use Rattle.co_params.specs.Params.{Texts, is_full_for}
+use Rattle.base.proofs.TableLemmas.{alike, get_made, made_put}
+use Rattle.project_edits.specs.declared.fault.EditFault.TheVariants.{Limit, Unknown}
+use Rattle.node_parameters.specs.Params.{Texts, is_full_for}
 use Rattle.co_project.specs.declared.node.Node.{Node}
 use Rattle.co_project.specs.Tables.{Nodes, adds_param, put_need, put_node, put_param, drop_param, node_after_put}
 use Rattle.co_project.specs.Tables.{with_need}

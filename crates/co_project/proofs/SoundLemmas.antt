@@ -3,10 +3,10 @@ use Rattle.std.proofs.Common.{◌≡◌, ℕ, sym, subst, List, true, Option, So
 use Rattle.std.specs.FinMap.{contains_key, get}
 use Rattle.ini_text.specs.Content.{content_of}
 use Rattle.eds_device.specs.Faults.{device_of}
-use Rattle.co_edits.specs.Eds.{IsEds}
+use Rattle.project_edits.specs.Eds.{IsEds}
 use Rattle.co_project.specs.Project.{Content}
 use Rattle.co_project.specs.Sound.{AreTexts, IsNodeOf, IsSound}
-use Rattle.co_base.proofs.EachLemmas.{each_weaker}
+use Rattle.base.proofs.EachLemmas.{each_weaker}
 
 -- each text of a project is that of a device
 pub texts_are_devices : (p : Content) (name : List ℕ) → IsSound p

@@ -4,17 +4,17 @@ use Rattle.std.specs.Coded.{Coded, code_by, coded×, coded_ℕ, coded_list}
 use Rattle.std.specs.FinMap.{code, contains_key, empty, insert, remove}
 use Rattle.co_scenario.specs.declared.timed_event.TimedEvent.{TimedEvent}
 use Rattle.co_scenario.specs.Scenario.{Events}
-use Rattle.co_edits.specs.declared.fault.EditFault.{EditFault}
-use Rattle.co_edits.specs.declared.fault.EditFault.TheVariants.{Range, Unknown, Taken, InUse, Limit}
-use Rattle.co_edits.specs.declared.manager_settings.ManagerSettings.{ManagerSettings}
-use Rattle.co_edits.specs.declared.script_version.ScriptVersion.{ScriptVersion}
-use Rattle.co_edits.specs.declared.script_version.ScriptVersion.TheVariants.{One}
-use Rattle.co_edits.specs.declared.edit.Edit.{Edit}
-use Rattle.co_edits.specs.declared.edit.Edit.TheVariants as edit
-use Rattle.co_edits.specs.Accepts.{unless}
-use Rattle.co_edits.specs.Versions.{is_one}
-use Rattle.co_messages.specs.Messages.{Named, with_changed, is_of_messages, has_sink, has_source, is_full_for}
-use Rattle.co_messages.specs.Messages.{with_message, with_sink, with_source, with_start, without_sink, without_source}
+use Rattle.project_edits.specs.declared.fault.EditFault.{EditFault}
+use Rattle.project_edits.specs.declared.fault.EditFault.TheVariants.{Range, Unknown, Taken, InUse, Limit}
+use Rattle.project_edits.specs.declared.manager_settings.ManagerSettings.{ManagerSettings}
+use Rattle.project_edits.specs.declared.script_version.ScriptVersion.{ScriptVersion}
+use Rattle.project_edits.specs.declared.script_version.ScriptVersion.TheVariants.{One}
+use Rattle.project_edits.specs.declared.edit.Edit.{Edit}
+use Rattle.project_edits.specs.declared.edit.Edit.TheVariants as edit
+use Rattle.project_edits.specs.Accepts.{unless}
+use Rattle.project_edits.specs.Versions.{is_one}
+use Rattle.project_messages.specs.Messages.{Named, with_changed, is_of_messages, has_sink, has_source, is_full_for}
+use Rattle.project_messages.specs.Messages.{with_message, with_sink, with_source, with_start, without_sink, without_source}
 use Rattle.co_project.specs.declared.node.Node.{Node}
 use Rattle.co_project.specs.Tables.{Texts, Nodes, has_no_room, name_taken, is_used, is_named, is_of_known, adds_param}
 use Rattle.co_project.specs.Tables.{has_mandatory, put_node, put_need, put_param, drop_param}

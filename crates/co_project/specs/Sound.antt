@@ -1,15 +1,16 @@
 -- What every project keeps to, whatever edits made it (this profile's own).
 use Rattle.std.specs.Prelude.{◌≡◌, ◌≤◌, ◌==◌, ◌&&◌, ℕ, true, false, List, All}
 use Rattle.std.specs.FinMap.{contains_key, len}
-use Rattle.co_base.specs.Tables.{Each}
+use Rattle.base.specs.Tables.{Each}
 use Rattle.co_scenario.specs.declared.timed_event.TimedEvent.{TimedEvent}
-use Rattle.co_edits.specs.Forms.{is_name, is_node_number, is_bit_rate, is_time, is_event_number, is_sync_counter}
-use Rattle.co_edits.specs.Versions.{is_one}
-use Rattle.co_edits.specs.Eds.{IsEds}
-use Rattle.co_edits.specs.Edits.{IsManager, IsSetting, IsEvent}
-use Rattle.co_messages.specs.declared.linked.Linked.{Linked}
-use Rattle.co_messages.specs.Messages.{IsLinked}
-use Rattle.co_params.specs.Params.{Texts as Params}
+use Rattle.project_edits.specs.Forms.{is_name, is_bit_rate, is_time, is_event_number, is_sync_counter}
+use Rattle.cia301.specs.Limits.{is_node_number}
+use Rattle.project_edits.specs.Versions.{is_one}
+use Rattle.project_edits.specs.Eds.{IsEds}
+use Rattle.project_edits.specs.Edits.{IsManager, IsSetting, IsEvent}
+use Rattle.project_messages.specs.declared.linked.Linked.{Linked}
+use Rattle.project_messages.specs.Messages.{IsLinked}
+use Rattle.node_parameters.specs.Params.{Texts as Params}
 use Rattle.co_project.specs.declared.node.Node.{Node}
 use Rattle.co_project.specs.Tables.{Texts, name_taken, is_of_known}
 use Rattle.co_project.specs.Project.{Content}

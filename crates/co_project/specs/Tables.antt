@@ -7,14 +7,14 @@ use Rattle.std.specs.Str.{bytes_eq}
 use Rattle.std.specs.Ordering.{nat_cmp}
 use Rattle.std.specs.FinMap.{FinMap, contains_key, empty, entries, get, insert, len, remove}
 use Rattle.std.specs.Option.{option_map_or}
-use Rattle.co_messages.specs.Messages.{name_cmp}
+use Rattle.project_messages.specs.Messages.{name_cmp}
 use Rattle.co_scenario.specs.declared.event.Event.{Event}
 use Rattle.co_scenario.specs.Scenario.{Events, node_of}
-use Rattle.co_params.specs.Params.{is_full_for}
+use Rattle.node_parameters.specs.Params.{is_full_for}
 use Rattle.co_project.specs.declared.node.Node.{Node}
-use Rattle.co_edits.specs.declared.fault.EditFault.{EditFault}
-use Rattle.co_edits.specs.declared.fault.EditFault.TheVariants.{Unknown, Limit}
-use Rattle.co_edits.specs.Accepts.{unless}
+use Rattle.project_edits.specs.declared.fault.EditFault.{EditFault}
+use Rattle.project_edits.specs.declared.fault.EditFault.TheVariants.{Unknown, Limit}
+use Rattle.project_edits.specs.Accepts.{unless}
 
 -- the text of each EDS by its name
 abbrev pub Texts : Type 0

@@ -1,18 +1,18 @@
 //! What a project holds, and what edits do to it.
 ghost use Rattle.std.specs.Prelude.{◌≡◌, ◌↔◌, IfOk, IsErrOf, IsTrue};
-ghost use Rattle.co_edits.specs.Accepts.{Accepts};
-ghost use Rattle.co_edits.specs.declared.edit.Edit.TheVariants as edit;
-ghost use Rattle.co_edits.specs.Edits.{IsEdit};
+ghost use Rattle.project_edits.specs.Accepts.{Accepts};
+ghost use Rattle.project_edits.specs.declared.edit.Edit.TheVariants as edit;
+ghost use Rattle.project_edits.specs.Edits.{IsEdit};
 ghost use Rattle.co_project.specs.Project.{accept, adds, first};
 
 use crate::node_events::{is_named, is_of_known};
 use crate::nodes::Nodes;
 use crate::texts::Texts;
-use co_base::Octets;
-use co_commands::{Edit, EditFault, ManagerSettings, ScriptVersion};
-use co_memo::Shared;
-use co_messages::Messages;
+use base::Octets;
 use co_scenario::{Script, TimedEvent};
+use kept_values::Shared;
+use project_messages::Messages;
+use script_commands::{Edit, EditFault, ManagerSettings, ScriptVersion};
 use std::alloc::{AllocError, Global};
 use std::marker::Model;
 
@@ -32,11 +32,11 @@ pub(crate) struct Contents {
 }
 
 impl Model for Contents {
-    ghost use Rattle.co_edits.specs.contracts.manager_settings.ManagerSettings as settings;
-    ghost use Rattle.co_edits.specs.contracts.script_version.ScriptVersion as numbered;
+    ghost use Rattle.project_edits.specs.contracts.manager_settings.ManagerSettings as settings;
+    ghost use Rattle.project_edits.specs.contracts.script_version.ScriptVersion as numbered;
     ghost use Rattle.co_scenario.specs.contracts.timed_event.TimedEvent as timed;
     ghost use Rattle.co_project.specs.contracts.node.Node as node;
-    ghost use Rattle.co_messages.specs.contracts.messages.Messages as linked;
+    ghost use Rattle.project_messages.specs.contracts.messages.Messages as linked;
     ghost use Rattle.co_project.specs.Project.{Content, content_code};
 
     ghost Value = { Content };

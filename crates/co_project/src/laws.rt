@@ -1,7 +1,7 @@
 //! Laws of the project.
 ghost use Rattle.std.specs.Prelude.{◌≡◌, Ok};
-ghost use Rattle.co_edits.specs.declared.edit.Edit.{Edit};
-ghost use Rattle.co_edits.specs.Edits.{IsEdit};
+ghost use Rattle.project_edits.specs.declared.edit.Edit.{Edit};
+ghost use Rattle.project_edits.specs.Edits.{IsEdit};
 ghost use Rattle.co_project.specs.Project.{Content, first, accept};
 ghost use Rattle.co_project.specs.Sound.{IsSound};
 

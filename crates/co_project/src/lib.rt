@@ -10,7 +10,7 @@ mod nodes;
 mod project;
 mod texts;
 
-pub use co_commands::{Command, EditFault, ManagerSettings, Request, ScriptVersion, refusal};
-pub use co_params::Params;
 pub use node::Node;
+pub use node_parameters::Params;
 pub use project::Project;
+pub use script_commands::{Command, EditFault, ManagerSettings, Request, ScriptVersion, refusal};

@@ -1,18 +1,18 @@
 //! What edits do to the messages of a project.
 ghost use Rattle.std.specs.Prelude.{◌≡◌, IsErrOf, IsTrue};
-ghost use Rattle.co_edits.specs.Accepts.{Accepts};
-ghost use Rattle.co_edits.specs.Edits.{IsEdit};
-ghost use Rattle.co_edits.specs.declared.edit.Edit.TheVariants as edit;
+ghost use Rattle.project_edits.specs.Accepts.{Accepts};
+ghost use Rattle.project_edits.specs.Edits.{IsEdit};
+ghost use Rattle.project_edits.specs.declared.edit.Edit.TheVariants as edit;
 ghost use Rattle.co_project.specs.Project.{accept, adds};
 
 use crate::contents::Contents;
-use co_base::Octets;
-use co_commands::EditFault;
-use co_messages::Message;
+use base::Octets;
+use project_messages::Message;
+use script_commands::EditFault;
 
 impl Contents {
     /// Gives a name a message. A known one keeps its SYNC start value, its sources and its sinks.
-    #[tactic(auto, unfolding(crate::specs::Project::accept, crate::specs::Project::adds, co_edits::specs::Edits::IsEdit))]
+    #[tactic(auto, unfolding(crate::specs::Project::accept, crate::specs::Project::adds, project_edits::specs::Edits::IsEdit))]
     pub fn put_message(&mut self, name: Octets, message: Message) -> Result<(), EditFault>
         requires { IsEdit (edit.Message name message) }
         ensures accepts { Accepts self.old self.new result (accept self.old (edit.Message name message)) }
@@ -29,7 +29,7 @@ impl Contents {
     }
 
     /// Gives a message a SYNC start value.
-    #[tactic(auto, unfolding(crate::specs::Project::accept, crate::specs::Project::adds, co_edits::specs::Edits::IsEdit))]
+    #[tactic(auto, unfolding(crate::specs::Project::accept, crate::specs::Project::adds, project_edits::specs::Edits::IsEdit))]
     pub fn set_start(&mut self, name: &[u8], start: u8) -> Result<(), EditFault>
         requires { IsEdit (edit.Start name.now start) }
         ensures accepts { Accepts self.old self.new result (accept self.old (edit.Start name.now start)) }
@@ -56,7 +56,7 @@ impl Contents {
     }
 
     /// Gives a message an entry of its sender at a position, in place of the one that stands there.
-    #[tactic(auto, unfolding(crate::specs::Project::accept, crate::specs::Project::adds, co_edits::specs::Edits::IsEdit))]
+    #[tactic(auto, unfolding(crate::specs::Project::accept, crate::specs::Project::adds, project_edits::specs::Edits::IsEdit))]
     pub fn put_source(
         &mut self,
         name: &[u8],
@@ -92,7 +92,7 @@ impl Contents {
 
     /// Gives a message an entry of a node that takes what stands at a position, in place of the one
     /// that the node has there.
-    #[tactic(auto, unfolding(crate::specs::Project::accept, crate::specs::Project::adds, co_edits::specs::Edits::IsEdit))]
+    #[tactic(auto, unfolding(crate::specs::Project::accept, crate::specs::Project::adds, project_edits::specs::Edits::IsEdit))]
     pub fn put_sink(
         &mut self,
         name: &[u8],

@@ -2,8 +2,8 @@
 
 ghost use Rattle.std.specs.Prelude.{◌≡◌, ◌↔◌, IsTrue};
 
-use co_base::Octets;
-use co_params::Params;
+use base::Octets;
+use node_parameters::Params;
 use std::alloc::AllocError;
 
 /// A node of the network, which its number names.

@@ -1,14 +1,14 @@
 //! The nodes by number.
 ghost use Rattle.std.specs.Prelude.{◌≡◌, ◌↔◌, IsErrOf, IsTrue, None, IfOk, OnOk, OnErr, option_copied};
 ghost use Rattle.std.specs.FinMap as map;
-ghost use Rattle.co_edits.specs.Accepts.{Accepts};
+ghost use Rattle.project_edits.specs.Accepts.{Accepts};
 ghost use Rattle.co_project.specs.Tables.{node_at, name_taken, is_used, has_mandatory, put_node, put_need};
 ghost use Rattle.co_project.specs.Tables.{adds_param, put_param, drop_param};
 
 use crate::node::Node;
-use co_base::Octets;
-use co_commands::EditFault;
-use co_params::Params;
+use base::Octets;
+use node_parameters::Params;
+use script_commands::EditFault;
 use std::alloc::{AllocError, Global};
 use std::collections::BTreeMap;
 use std::collections::btree_map::Iter;

@@ -3,19 +3,19 @@ ghost use Rattle.std.specs.Prelude.{◌≡◌, ◌↔◌, IfOk, IfSome, IsErrOf,
 ghost use Rattle.std.specs.FinMap as map;
 ghost use Rattle.eds_device.specs.Faults.{device_of};
 ghost use Rattle.ini_text.specs.Content.{content_of};
-ghost use Rattle.co_edits.specs.Accepts.{Accepts};
-ghost use Rattle.co_messages.specs.Messages.{by_name};
+ghost use Rattle.project_edits.specs.Accepts.{Accepts};
+ghost use Rattle.project_messages.specs.Messages.{by_name};
 ghost use Rattle.co_project.specs.Tables.{text_at, node_at};
 ghost use Rattle.co_project.specs.Project.{accept, adds, first};
 ghost use Rattle.co_project.specs.Sound.{IsSound};
 
 use crate::contents::Contents;
 use crate::node::Node;
-use co_base::Octets;
-use co_commands::{Command, EditFault, ManagerSettings, ScriptVersion};
-use co_memo::Shared;
-use co_messages::Messages;
+use base::Octets;
 use co_scenario::Script;
+use kept_values::Shared;
+use project_messages::Messages;
+use script_commands::{Command, EditFault, ManagerSettings, ScriptVersion};
 use std::alloc::{AllocError, Global};
 use std::collections::btree_map::Iter;
 use std::marker::Model;

@@ -1,11 +1,11 @@
 //! The texts of EDS by name.
 ghost use Rattle.std.specs.Prelude.{◌≡◌, ◌↔◌, IsTrue, None, IfOk, OnOk, OnErr, option_copied};
 ghost use Rattle.std.specs.FinMap as map;
-ghost use Rattle.co_messages.specs.Messages.{by_name};
+ghost use Rattle.project_messages.specs.Messages.{by_name};
 ghost use Rattle.co_project.specs.Tables.{text_at, has_no_room};
 
-use co_base::Octets;
-use co_memo::Shared;
+use base::Octets;
+use kept_values::Shared;
 use std::alloc::{AllocError, Global};
 use std::collections::BTreeMap;
 use std::collections::btree_map::Iter;
@@ -22,7 +22,7 @@ pub(crate) struct Texts {
 impl Model for Texts {
     ghost use Rattle.std.specs.Coded.{coded_ℕ, coded_list};
     ghost use Rattle.std.specs.FinMap as map;
-    ghost use Rattle.co_messages.specs.Messages.{by_name};
+    ghost use Rattle.project_messages.specs.Messages.{by_name};
     ghost use Rattle.co_project.specs.Tables.{Texts as TextsByName};
 
     ghost Value = { TextsByName };

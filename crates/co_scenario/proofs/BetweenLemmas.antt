@@ -2,7 +2,7 @@
 use Rattle.std.proofs.Common.{◌≡◌, ℕ, ◌==◌, Bool, true, false, cond, ◌&&◌, T, List, [], ◌∷◌, Option, Some, None, Result}
 use Rattle.std.proofs.Common.{Ok, Err, IfOk, map, is_some, refl, sym, ap, ◌∙◌}
 use Rattle.std.specs.Map.{keys_of}
-use Rattle.co_base.proofs.TableLemmas.{alike, apart, entries_made}
+use Rattle.base.proofs.TableLemmas.{alike, apart, entries_made}
 use Rattle.std.specs.Bool.{Decides}
 use Rattle.std.specs.Prelude.{◌↔◌, ◌≢◌, Contains}
 use Rattle.std.specs.List.{list_any}
@@ -21,8 +21,8 @@ use Rattle.std.specs.declared.cmp.Ordering.TheVariants.{Less, Equal, Greater}
 use Rattle.std.specs.List.{AllByRecursion}
 use Rattle.std.specs.List.Sorted.{IsStrictlySortedBy}
 use Rattle.std.specs.FinMap.Entries.{below_all}
-use Rattle.co_base.proofs.EachLemmas.{find_below, first_part, second_part}
-use Rattle.co_base.specs.Ranges.{is_between}
+use Rattle.base.proofs.EachLemmas.{find_below, first_part, second_part}
+use Rattle.base.specs.Ranges.{is_between}
 use Rattle.co_scenario.specs.Scenario.{events_between, HasEventBetween, moment_cmp, moments_between, moments_of, Events}
 use Rattle.co_scenario.specs.Scenario.{Moments}
 use Rattle.co_scenario.specs.declared.timed_event.TimedEvent.{TimedEvent}

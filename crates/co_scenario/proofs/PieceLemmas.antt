@@ -14,7 +14,7 @@ use Rattle.std.proofs.lemmas.List.{drop_at, take_at}
 use Rattle.std.proofs.lemmas.List.Elements.{All-contains_itself, recursion_from_All}
 use Rattle.std.proofs.lemmas.List.Folds.{list_any-append}
 use Rattle.std.proofs.lemmas.Map.Lookups.{btree_set_from_contains}
-use Rattle.co_base.specs.Ranges.{is_between}
+use Rattle.base.specs.Ranges.{is_between}
 use Rattle.co_scenario.proofs.BetweenLemmas.{fits, has_exactly, listed, moments_exact, moments_total, rise}
 use Rattle.co_scenario.specs.Scenario.{events_between, moment_cmp, Events}
 use Rattle.co_scenario.specs.declared.timed_event.TimedEvent.{TimedEvent}

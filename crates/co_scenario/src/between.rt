@@ -3,7 +3,7 @@ ghost use Rattle.std.specs.Prelude.{◌≡◌, IfOk};
 ghost use Rattle.std.specs.FinMap as map;
 ghost use Rattle.std.specs.List.Sorted.{IsStrictlySortedBy};
 ghost use Rattle.std.specs.Map.{keys_of};
-ghost use Rattle.co_base.specs.Ranges.{is_between};
+ghost use Rattle.base.specs.Ranges.{is_between};
 ghost use Rattle.co_scenario.specs.Scenario.{events_between, moment_cmp, moments_between};
 
 use crate::script::Script;

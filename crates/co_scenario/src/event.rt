@@ -3,7 +3,7 @@ ghost use Rattle.std.specs.Prelude.{◌≡◌, ◌↔◌, IsTrue};
 ghost use Rattle.co_scenario.specs.Scenario.{node_of};
 
 use crate::nmt_command::NmtCommand;
-use co_base::Octets;
+use base::Octets;
 use std::alloc::AllocError;
 
 /// What happens to a node from outside.

@@ -1,7 +1,7 @@
 //! What happens to a node from outside, with its value.
 
 use crate::nmt_command::NmtCommand;
-use co_base::Octets;
+use base::Octets;
 
 /// What happens to a node from outside, as the simulation takes it: a value that is set is bytes of its
 /// entry's type, no longer text.

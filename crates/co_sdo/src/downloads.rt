@@ -12,7 +12,7 @@ use crate::frames::{
 };
 use crate::step::{Step, aborted, not_understood, replied};
 use crate::transfer::Transfer;
-use co_base::Octets;
+use base::Octets;
 use co_dict::{Abort, Dict, Shape, check_access, check_length, check_write};
 use std::alloc::{AllocError, Global};
 

@@ -2,7 +2,7 @@
 
 ghost use Rattle.std.specs.Prelude.{◌≡◌, ◌↔◌, ◌+◌, ◌≤◌, drop, min, IsTrue, IfOk};
 
-use co_base::Octets;
+use base::Octets;
 use std::alloc::AllocError;
 use std::marker::Model;
 

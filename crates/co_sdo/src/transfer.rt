@@ -3,7 +3,7 @@
 ghost use Rattle.std.specs.Prelude.{◌≡◌, ◌↔◌, IsTrue, IfOk};
 
 use crate::rest::Rest;
-use co_base::Octets;
+use base::Octets;
 use std::alloc::AllocError;
 
 /// The open transfer of a server (CiA 301).

@@ -13,7 +13,7 @@ use crate::frames::{
 use crate::rest::Rest;
 use crate::step::{Step, aborted, not_understood, replied};
 use crate::transfer::Transfer;
-use co_base::Octets;
+use base::Octets;
 use co_dict::{Abort, Dict, Shape, check_read};
 use std::alloc::{AllocError, Global};
 

@@ -1,11 +1,11 @@
 -- A trace goes on.
 use Rattle.std.proofs.Common.{◌≡◌, ℕ, ◌+◌, ◌≤◌, IfOk, IsErr, List, Result, subst, ◌∙◌, arith}
 use Rattle.std.proofs.lemmas.Result.{IfOk-from_err, IfOk-weaker}
-use Rattle.asking.specs.declared.asked.Asked.{Ghosts as Asked}
+use Rattle.image_parts.specs.declared.asked.Asked.{Ghosts as Asked}
 use Rattle.can_bus.specs.Bus.{Bus}
-use Rattle.co_memo.specs.Work.{Rises}
-use Rattle.co_parts.specs.Contents.{Content, Image}
-use Rattle.co_parts.specs.declared.part.Part.{Part}
+use Rattle.kept_values.specs.Work.{Rises}
+use Rattle.image_parts.specs.Contents.{Content, Image}
+use Rattle.image_parts.specs.declared.part.Part.{Part}
 use Rattle.co_segments.specs.declared.reached.Reached.{Reached}
 use Rattle.co_segments.specs.Advances.{Advances, Goes, Progress}
 use Rattle.co_segments.specs.Segments.{IsServed, Kept, recorded_of}

@@ -7,7 +7,7 @@ use Rattle.std.proofs.lemmas.Bool.Decides.{nat_tests}
 use Rattle.std.proofs.lemmas.List.{drop_more}
 use Rattle.std.proofs.lemmas.Option.{get_or_from_slice_get, none-some, same_Some, slice_get_within}
 use Rattle.can_bus.specs.Bus.{Bus}
-use Rattle.co_parts.specs.Contents.{Image}
+use Rattle.image_parts.specs.Contents.{Image}
 use Rattle.kept_shelf.proofs.EntryLemmas.{head_in, tail_in}
 use Rattle.co_segments.specs.Placed.{Placed, kept_of, numbered}
 use Rattle.co_segments.specs.Segments.{IsStale, Serves, recorded_of}

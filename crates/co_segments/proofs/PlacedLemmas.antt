@@ -10,11 +10,11 @@ use Rattle.can_bus.specs.Bus.{Bus}
 use Rattle.co_segments.specs.Placed.{AreNamed, AreSound, IsLater, IsNamed, IsNew, IsReached}
 use Rattle.co_segments.specs.Placed.{Meaning, Numbered, Placed, kept_of}
 use Rattle.co_segments.specs.declared.given.Given.{Given}
-use Rattle.kept_reads.specs.Records.{IsRecordOf}
-use Rattle.kept_reads.proofs.KnownLemmas.{all_marked_later}
-use Rattle.kept_reads.proofs.NumberLemmas.{stands_later}
-use Rattle.asking.specs.Asking.{outcome, reads}
-use Rattle.co_parts.specs.Contents.{Image}
+use Rattle.recorded_spans.specs.Records.{IsRecordOf}
+use Rattle.recorded_spans.proofs.KnownLemmas.{all_marked_later}
+use Rattle.recorded_spans.proofs.NumberLemmas.{stands_later}
+use Rattle.image_parts.specs.Asking.{outcome, reads}
+use Rattle.image_parts.specs.Contents.{Image}
 use Rattle.co_segments.specs.Segments.{IsServed, IsSound, IsStale, IsTaken, Kept, Serves}
 use Rattle.bus_laws.specs.Spans.{span}
 use Rattle.co_segments.proofs.ValidLemmas.{gives_from_serves, valid_from_sound}

@@ -7,11 +7,11 @@ use Rattle.lru.specs.LruCache.{promoted}
 use Rattle.kept_shelf.specs.Shelves.{Shelved, put_first}
 use Rattle.kept_shelf.proofs.EntryLemmas.{none_in}
 use Rattle.can_bus.specs.Bus.{Bus, blank_bus}
-use Rattle.co_parts.specs.Contents.{Image, RosterIs}
-use Rattle.co_parts.specs.declared.part.Part.{Part}
-use Rattle.kept_reads.specs.Numbers.{KeepsMeaning, StandsFor, with_meaning}
-use Rattle.kept_reads.specs.Reads.{AreKnown, AreMarked, Extends, Known, Recorded}
-use Rattle.kept_reads.proofs.NumberLemmas.{given_keeps, given_stands, keeps_all, stands_later}
+use Rattle.image_parts.specs.Contents.{Image, RosterIs}
+use Rattle.image_parts.specs.declared.part.Part.{Part}
+use Rattle.recorded_spans.specs.Numbers.{KeepsMeaning, StandsFor, with_meaning}
+use Rattle.recorded_spans.specs.Reads.{AreKnown, AreMarked, Extends, Known, Recorded}
+use Rattle.recorded_spans.proofs.NumberLemmas.{given_keeps, given_stands, keeps_all, stands_later}
 use Rattle.recorded_spans.specs.declared.look.Look.{Look}
 use Rattle.co_segments.specs.declared.given.Given.{Given}
 use Rattle.co_segments.specs.declared.reached.Reached.{Reached}

@@ -1,12 +1,12 @@
 -- Segments stay valid.
 use Rattle.std.proofs.Common.{◌≡◌, ℕ, ◌+◌, ◌++◌, List, ◌∷◌, take, refl, add-one, ◌∙◌}
-use Rattle.asking.specs.Asking.{outcome, reads}
-use Rattle.asking.proofs.QuestionLemmas.{two_images}
-use Rattle.co_parts.specs.Contents.{Image}
+use Rattle.image_parts.specs.Asking.{outcome, reads}
+use Rattle.image_parts.proofs.QuestionLemmas.{two_images}
+use Rattle.image_parts.specs.Contents.{Image}
 use Rattle.can_bus.specs.Bus.{Bus}
 use Rattle.can_bus.specs.declared.line.Line.{Line}
 use Rattle.bus_laws.specs.Spans.{span}
-use Rattle.kept_reads.specs.Records.{IsRecordOf}
+use Rattle.recorded_spans.specs.Records.{IsRecordOf}
 use Rattle.co_segments.specs.Segments.{Kept, IsValid, IsSound, Serves, IsServed, Traced}
 
 -- one that was run under an image

@@ -1,7 +1,7 @@
 -- Whole spans give the trace.
 use Rattle.std.proofs.Common.{◌≡◌, ℕ, suc, ◌+◌, ◌*◌, ◌/◌, ◌-◌, ◌≤◌, List, [], filter, ap, ◌∙◌, arith}
-use Rattle.asking.specs.Asking.{outcome, turns}
-use Rattle.co_parts.specs.Contents.{Image}
+use Rattle.image_parts.specs.Asking.{outcome, turns}
+use Rattle.image_parts.specs.Contents.{Image}
 use Rattle.can_bus.specs.Bus.{Bus, blank_bus}
 use Rattle.can_bus.specs.Runs.{is_shown, trace}
 use Rattle.can_bus.specs.declared.line.Line.{Line}

@@ -1,15 +1,15 @@
 -- A trace goes on, segment by segment.
 use Rattle.std.specs.Prelude.{◌≡◌, ℕ, ◌+◌, ◌≤◌, IfOk, List, Result, ◌++◌, ◌∷◌, take}
-use Rattle.asking.specs.Asking.{outcome, reads}
-use Rattle.asking.specs.declared.asked.Asked.{Ghosts as Asked}
+use Rattle.image_parts.specs.Asking.{outcome, reads}
+use Rattle.image_parts.specs.declared.asked.Asked.{Ghosts as Asked}
 use Rattle.bus_laws.specs.Spans.{span}
 use Rattle.can_bus.specs.Bus.{Bus}
 use Rattle.can_bus.specs.declared.line.Line.{Line}
-use Rattle.co_memo.specs.Work.{Rises, Work}
-use Rattle.co_parts.specs.Contents.{Content, Image}
-use Rattle.co_parts.specs.Images.{IsImage}
-use Rattle.co_parts.specs.declared.part.Part.{Part}
-use Rattle.kept_reads.specs.Records.{IsRecordOf}
+use Rattle.kept_values.specs.Work.{Rises, Work}
+use Rattle.image_parts.specs.Contents.{Content, Image}
+use Rattle.image_parts.specs.Images.{IsImage}
+use Rattle.image_parts.specs.declared.part.Part.{Part}
+use Rattle.recorded_spans.specs.Records.{IsRecordOf}
 use Rattle.kept_shelf.specs.Shelves.{put_first}
 use Rattle.recorded_spans.specs.Spans.{IsReady}
 use Rattle.co_segments.specs.declared.reached.Reached.{Reached}

@@ -3,11 +3,11 @@ use Rattle.std.specs.Prelude.{Contains, List, map, refl, ℕ, ◌+◌, ◌≡◌
 use Rattle.std.specs.Coded.{Coded, code_by, coded×, coded_list, coded_ℕ}
 use Rattle.can_bus.specs.Bus.{Bus}
 use Rattle.can_bus.specs.declared.line.Line.{Line}
-use Rattle.co_parts.specs.Contents.{Content, Image}
-use Rattle.co_parts.specs.declared.part.Part.{Part}
+use Rattle.image_parts.specs.Contents.{Content, Image}
+use Rattle.image_parts.specs.declared.part.Part.{Part}
 use Rattle.kept_shelf.specs.Numbers.{of_number}
-use Rattle.kept_reads.specs.Numbers.{KeepsMeaning, StandsFor}
-use Rattle.kept_reads.specs.Reads.{AreKnown, AreMarked, Extends, Known, Recorded, plain}
+use Rattle.recorded_spans.specs.Numbers.{KeepsMeaning, StandsFor}
+use Rattle.recorded_spans.specs.Reads.{AreKnown, AreMarked, Extends, Known, Recorded, plain}
 use Rattle.co_segments.specs.declared.given.Given.{Given}
 use Rattle.co_segments.specs.Segments.{IsSound, IsStale, Kept}
 

@@ -2,14 +2,14 @@
 use Rattle.std.specs.Prelude.{◌≡◌, ℕ, zero, suc, ◌+◌, ◌⊎◌, List, [], ◌++◌, ◌∷◌, length}
 use Rattle.std.specs.Prelude.{Contains, take, nat_le, if◌then◌else◌, ◌==◌, refl}
 use Rattle.std.specs.Coded.{Coded, code_by, coded×, coded_list, coded_ℕ}
-use Rattle.asking.specs.Asking.{outcome, reads, Agrees}
-use Rattle.co_memo.specs.Work.{IsMoreBy, Work}
-use Rattle.co_parts.specs.Contents.{Content, Image}
-use Rattle.co_parts.specs.declared.part.Part.{Part}
+use Rattle.image_parts.specs.Asking.{outcome, reads, Agrees}
+use Rattle.kept_values.specs.Work.{IsMoreBy, Work}
+use Rattle.image_parts.specs.Contents.{Content, Image}
+use Rattle.image_parts.specs.declared.part.Part.{Part}
 use Rattle.can_bus.specs.Bus.{Bus, blank_bus}
 use Rattle.can_bus.specs.declared.line.Line.{Line}
 use Rattle.bus_laws.specs.Spans.{span}
-use Rattle.kept_reads.specs.Records.{IsOnce, IsRecordOf}
+use Rattle.recorded_spans.specs.Records.{IsOnce, IsRecordOf}
 
 -- A SEGMENT: the span of a number from a bus on, what it read, what it told, and the bus at its end
 pub record Kept : Type 0 where

@@ -3,9 +3,9 @@ use Rattle.std.specs.Prelude.{◌≡◌, ℕ, ◌+◌, ◌≤◌, ◌↔◌, Boo
 use Rattle.std.specs.Prelude.{nat_eq, slice_get}
 use Rattle.std.specs.Map.{lookup}
 use Rattle.can_bus.specs.Bus.{Bus}
-use Rattle.co_parts.specs.Contents.{Image}
-use Rattle.kept_reads.specs.Numbers.{StandsFor}
-use Rattle.kept_reads.specs.Reads.{AreKnown}
+use Rattle.image_parts.specs.Contents.{Image}
+use Rattle.recorded_spans.specs.Numbers.{StandsFor}
+use Rattle.recorded_spans.specs.Reads.{AreKnown}
 use Rattle.recorded_spans.specs.declared.look.Look.{Look}
 use Rattle.co_segments.specs.declared.reached.Reached.{Reached}
 use Rattle.co_segments.specs.declared.stock.Stock.{Stock}

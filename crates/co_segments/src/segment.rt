@@ -1,7 +1,7 @@
 //! A segment of a run.
 
 ghost use Rattle.std.specs.Prelude.{◌≡◌, ◌≤◌, ◌+◌, ◌↔◌, length, if◌then◌else◌, ◌==◌, IfOk, MatchOption, OnOk, IsTrue};
-ghost use Rattle.co_parts.specs.Contents.{Image};
+ghost use Rattle.image_parts.specs.Contents.{Image};
 ghost use Rattle.co_segments.specs.Placed.{AreComparable, IsStart, Learns, placed_of};
 ghost use Rattle.co_segments.specs.Segments.{Serves};
 ghost use Rattle.co_segments.specs.Sights.{AreSightsOf};
@@ -11,10 +11,9 @@ use crate::numbered_bus::NumberedBus;
 use crate::sight::Sight;
 use bus_devices::Apart;
 use can_bus::{BusState, Parts};
-use co_memo::Shared;
-use kept_reads::KeptRead;
 use kept_shelf::Numbered;
-use recorded_spans::{Look, matches};
+use kept_values::Shared;
+use recorded_spans::{KeptRead, Look, matches};
 use std::alloc::{AllocError, Global};
 use std::marker::Model;
 use trace_text::Passage;
@@ -32,8 +31,8 @@ pub(crate) struct Segment {
 impl Model for Segment {
     ghost use Rattle.can_bus.specs.contracts.bus_state.BusState as bus_state;
     ghost use Rattle.can_bus.specs.contracts.line.Line as line;
-    ghost use Rattle.co_parts.specs.contracts.read.Read as noted;
-    ghost use Rattle.kept_reads.specs.contracts.kept_read.KeptRead as marked;
+    ghost use Rattle.image_parts.specs.contracts.read.Read as noted;
+    ghost use Rattle.recorded_spans.specs.contracts.kept_read.KeptRead as marked;
     ghost use Rattle.co_segments.specs.Placed.{Placed, placed_code, placed_of};
     ghost use Rattle.co_segments.specs.Segments.{kept_code};
 

@@ -2,7 +2,7 @@
 
 ghost use Rattle.std.specs.Prelude.{◌≡◌, ◌≤◌, ◌+◌, ℕ, [], IfOk, OnErr, OnOk, Some, drop, length, nat_eq, slice_get};
 ghost use Rattle.std.specs.Map.{lookup};
-ghost use Rattle.asking.specs.Asking.{reads};
+ghost use Rattle.image_parts.specs.Asking.{reads};
 ghost use Rattle.bus_laws.specs.Spans.{span};
 ghost use Rattle.kept_shelf.specs.Shelves.{HasNumber, use_first};
 ghost use Rattle.co_segments.specs.Advances.{CanRun, Goes, IsUsed, Runs, progress};
@@ -19,8 +19,8 @@ use crate::sight::Sight;
 use crate::stock::Stock;
 use crate::telling::Telling;
 use can_bus::{BusState, Parts};
-use co_memo::{Meter, Shared};
 use kept_shelf::Shelf;
+use kept_values::{Meter, Shared};
 use recorded_spans::{Look, run};
 use std::alloc::{AllocError, Global};
 use std::rc::Rc;

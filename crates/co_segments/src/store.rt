@@ -4,12 +4,12 @@ ghost use Rattle.std.specs.Prelude.{◌≡◌, ◌≤◌, ◌<◌, ◌+◌, ◌/
 ghost use Rattle.can_bus.specs.Bus.{Bus};
 ghost use Rattle.can_bus.specs.Runs.{is_shown, trace as trace_of};
 ghost use Rattle.can_bus.specs.declared.line.Line.{Line as Told};
-ghost use Rattle.co_parts.specs.Images.{IsImage};
+ghost use Rattle.image_parts.specs.Images.{IsImage};
 ghost use Rattle.co_segments.specs.Advances.{Traces};
 ghost use Rattle.co_segments.specs.Segments.{HasRun, IsSound, Kept, Traced, recorded_from};
 ghost use Rattle.co_segments.specs.Stocks.{AreSegments};
 ghost use Rattle.recorded_spans.specs.Spans.{lines_of_spans};
-ghost use Rattle.co_memo.specs.Work.{Rises};
+ghost use Rattle.kept_values.specs.Work.{Rises};
 
 use crate::given::Given;
 use crate::reached::Reached;
@@ -17,9 +17,9 @@ use crate::serving::{advance, give};
 use crate::stock::Stock;
 use crate::telling::Telling;
 use can_bus::{BusState, Line, Parts};
-use co_memo::Meter;
-use co_parts::{END, WINDOW};
+use image_parts::{END, WINDOW};
 use kept_shelf::Shelf;
+use kept_values::Meter;
 use std::alloc::{AllocError, Global};
 use std::marker::Model;
 use trace_text::TraceText;
@@ -39,7 +39,7 @@ pub struct Store {
 impl Model for Store {
     ghost use Rattle.can_bus.specs.contracts.bus_state.BusState as bus_state;
     ghost use Rattle.can_bus.specs.contracts.line.Line as told;
-    ghost use Rattle.co_parts.specs.contracts.read.Read as noted;
+    ghost use Rattle.image_parts.specs.contracts.read.Read as noted;
     ghost use Rattle.co_segments.specs.Segments.{Held, held_code, kept_code};
     ghost use Rattle.co_segments.specs.Stocks.{AreSegments, held_in};
 

@@ -10,9 +10,9 @@ use Rattle.std.proofs.lemmas.List.{reverse-append, get_or-reverse, length-revers
 use Rattle.std.proofs.Math.Nat.{pow-le-pow_right}
 use Rattle.byteorder.specs.Endian.{little_number}
 use Rattle.byteorder.specs.Numbers.{little_from-cons, little_from-lt}
-use Rattle.co_base.specs.Bytes.{AreBytes}
-use Rattle.co_text.specs.Digits.{digits_number}
-use Rattle.co_text.proofs.DigitLemmas.{digit_value-glyph, digit_value-glyph-lt, is_digit-glyph, digits_number-numeral}
+use Rattle.base.specs.Bytes.{AreBytes}
+use Rattle.plain_text.specs.Digits.{digits_number}
+use Rattle.plain_text.proofs.DigitLemmas.{digit_value-glyph, digit_value-glyph-lt, is_digit-glyph, digits_number-numeral}
 use Rattle.co_values.specs.Number.{number}
 use Rattle.co_values.specs.Values.{pairs_of, pair_number, paired}
 

@@ -7,8 +7,8 @@ use Rattle.std.proofs.lemmas.Bool.{cases_lt, lt-ltb, le-ltb, le-leb}
 use Rattle.std.proofs.lemmas.List.{take_all}
 use Rattle.byteorder.specs.Endian.{little_bytes, little_number, twos_complement}
 use Rattle.byteorder.specs.Numbers.{little_from-lt}
-use Rattle.co_base.specs.Bytes.{AreBytes}
-use Rattle.co_base.proofs.Little.{spelled_again}
+use Rattle.base.specs.Bytes.{AreBytes}
+use Rattle.base.proofs.Little.{spelled_again}
 use Rattle.co_values.specs.declared.data_type.DataType.{DataType}
 use Rattle.co_values.specs.declared.form.Form.{Form}
 use Rattle.co_values.specs.declared.form.Form.TheVariants.{Flag, Signed, Unsigned, Characters, HexPairs, Unmodelled}

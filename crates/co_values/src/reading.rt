@@ -14,7 +14,7 @@ use crate::little::to_le;
 use crate::number::hexadecimal;
 use crate::range::{flag_bits, signed_bits, unsigned_bits};
 use crate::value::{LONGEST_VALUE, Value};
-use co_base::Octets;
+use base::Octets;
 use std::alloc::{AllocError, Global};
 
 /// The bytes of a number, the lowest first.

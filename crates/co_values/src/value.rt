@@ -5,8 +5,8 @@ ghost use Rattle.co_values.specs.Values.{Fits, number_in as number_of_bytes, zer
 
 use crate::data_type::DataType;
 use crate::form::Form;
+use base::Octets;
 use byteorder::{ByteOrder, LittleEndian};
-use co_base::Octets;
 use std::alloc::{AllocError, Global};
 
 /// The longest value, in bytes, of a type without a fixed length.

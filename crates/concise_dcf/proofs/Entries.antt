@@ -15,10 +15,11 @@ use Rattle.concise_dcf.specs.declared.fault.ConciseFault.{ConciseFault}
 use Rattle.concise_dcf.specs.declared.fault.ConciseFault.TheVariants.{Memory, Short, Extra, Empty}
 use Rattle.concise_dcf.specs.Concise.{entry_of, entries_of, text_of, Fits, IsTextOf, Begins, StopsAt, HasFault}
 use Rattle.concise_dcf.specs.Concise.{is_memory}
-use Rattle.co_base.specs.Gives.{Gives}
-use Rattle.concise_dcf.specs.Reading.{◌>>=◌, entry_at, entries_at, all_of}
-use Rattle.co_base.proofs.Little.{spelled_again}
-use Rattle.co_base.specs.Bytes.{AreBytes}
+use Rattle.base.specs.Gives.{Gives}
+use Rattle.concise_dcf.specs.Reading.{entry_at, entries_at, all_of}
+use Rattle.base.specs.Steps.{◌>>=◌}
+use Rattle.base.proofs.Little.{spelled_again}
+use Rattle.base.specs.Bytes.{AreBytes}
 use Rattle.concise_dcf.proofs.Entry.{AreBytes-drop, Takes, Takes-then, EntryFault, EntryAnswer, entry_answer}
 use Rattle.concise_dcf.proofs.Entry.{entry_again, entry_fault_again}
 

@@ -12,8 +12,8 @@ use Rattle.concise_dcf.specs.declared.fault.ConciseFault.{ConciseFault}
 use Rattle.concise_dcf.specs.declared.fault.ConciseFault.TheVariants.{Memory, Short, Extra, Empty}
 use Rattle.concise_dcf.specs.Concise.{header_of, entry_of, Fits, size_at, IsCut, IsHollow}
 use Rattle.concise_dcf.specs.Reading.{entry_at}
-use Rattle.co_base.proofs.Little.{spelled_again}
-use Rattle.co_base.specs.Bytes.{AreBytes}
+use Rattle.base.proofs.Little.{spelled_again}
+use Rattle.base.specs.Bytes.{AreBytes}
 
 pub AreBytes-drop : (n : ℕ) (bytes : List ℕ) → AreBytes bytes → AreBytes (drop n bytes)
 AreBytes-drop n bytes h i = rw get_or-drop (h (n + i))

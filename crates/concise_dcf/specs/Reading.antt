@@ -6,13 +6,8 @@ use Rattle.byteorder.specs.Endian.{little_number}
 use Rattle.concise_dcf.specs.declared.write.Write.{Write}
 use Rattle.concise_dcf.specs.declared.fault.ConciseFault.{ConciseFault}
 use Rattle.concise_dcf.specs.declared.fault.ConciseFault.TheVariants.{Short, Extra, Empty}
+use Rattle.base.specs.Steps.{◌>>=◌}
 use Rattle.concise_dcf.specs.Concise.{size_at}
-
-infixl 10 ◌>>=◌
--- a step after a step; the first fault stays
-abbrev pub ◌>>=◌ : {A B : Type 0} → Result A ConciseFault → (A → Result B ConciseFault) → Result B ConciseFault
-(Ok x) >>= f = f x
-(Err e) >>= f = Err e
 
 -- the entry at the front, and what stands behind it
 unfoldable pub entry_at : List ℕ → Result (Write × List ℕ) ConciseFault

@@ -1,14 +1,14 @@
 //! Reading a concise DCF.
 ghost use Rattle.std.specs.Prelude.{◌≡◌, List, IfOk, IfErr, Ok, Err};
-ghost use Rattle.co_base.specs.Gives.{Gives};
+ghost use Rattle.base.specs.Gives.{Gives};
 ghost use Rattle.concise_dcf.specs.declared.write.Write.{Write as written};
 ghost use Rattle.concise_dcf.specs.Concise.{IsTextOf, HasFault, is_memory};
 ghost use Rattle.concise_dcf.specs.Reading.{entry_at, entries_at, all_of};
 
 use crate::fault::ConciseFault;
 use crate::write::{COUNT_LEN, HEADER_LEN, Write};
+use base::Octets;
 use byteorder::{ByteOrder, LittleEndian};
-use co_base::Octets;
 use std::alloc::Global;
 
 /// The entry at the front, and what stands behind it.

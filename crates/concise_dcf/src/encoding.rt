@@ -1,6 +1,7 @@
 //! Writing a concise DCF.
 ghost use Rattle.std.specs.Prelude.{◌≡◌, ◌<◌, ◌≤◌, ◌^◌, ◌++◌, length, All, OnOk, IfOk};
 ghost use Rattle.concise_dcf.specs.Concise.{IsTextOf, Fits, entry_of};
+ghost use Rattle.concise_dcf.specs.Writes.{IsSized};
 
 use crate::write::{COUNT_LEN, HEADER_LEN, Write};
 use byteorder::{ByteOrder, LittleEndian};
@@ -36,7 +37,7 @@ fn put_entry(out: &mut Vec<u8>, write: &Write) -> Result<(), AllocError>
 /// The only error is want of memory.
 pub fn encode(alloc: Global, writes: &[Write]) -> Result<Vec<u8>, AllocError>
     requires count { length writes.now ≤ 4294967295 }
-    requires sizes { All (λ w. (1 ≤ length w.bytes) × (length w.bytes ≤ 512)) writes.now }
+    requires sizes { All IsSized writes.now }
     ensures { IfOk result (λ text. IsTextOf writes.now text.items) }
 {
     let mut out = Vec::new(alloc);

@@ -1,6 +1,6 @@
 //! What follows from the relation between lists of writes and bytes alone.
 ghost use Rattle.std.specs.Prelude.{◌≡◌, ◌⊎◌, ℕ, List, [], ◌++◌};
-ghost use Rattle.co_base.specs.Bytes.{AreBytes};
+ghost use Rattle.base.specs.Bytes.{AreBytes};
 ghost use Rattle.concise_dcf.specs.declared.write.Write.{Write};
 ghost use Rattle.concise_dcf.specs.declared.fault.ConciseFault.{ConciseFault};
 ghost use Rattle.concise_dcf.specs.Concise.{IsTextOf, HasFault};

@@ -1,7 +1,7 @@
 //! A write to a dictionary.
 ghost use Rattle.std.specs.Prelude.{◌≡◌, ◌↔◌, IsTrue};
 
-use co_base::Octets;
+use base::Octets;
 use std::alloc::AllocError;
 
 /// The bytes of the count of a concise DCF.

@@ -4,14 +4,14 @@ use Rattle.std.proofs.Common.{sym, ap, ◌∙◌, arith, inl, inr}
 use Rattle.std.specs.Prelude.{min, nat_le}
 use Rattle.std.specs.List.{AllByRecursion}
 use Rattle.std.proofs.lemmas.Bool.Decides.{nat_tests}
-use Rattle.asking.specs.Asking.{Asking, Answer, outcome}
+use Rattle.image_parts.specs.Asking.{Asking, Answer, outcome}
 use Rattle.can_frame.specs.Frames.{BaseFrame}
 use Rattle.can_frame.specs.Winner.{contenders_of, IsWinner}
 use Rattle.can_frame.specs.declared.contender.Contender.{Contender}
 use Rattle.can_frame.specs.declared.waiting.Waiting.{Waiting}
-use Rattle.co_parts.specs.Contents.{Content, Image}
-use Rattle.co_base.specs.Moments.{earlier, earliest, has_come}
-use Rattle.co_parts.specs.declared.part.Part.{Part}
+use Rattle.image_parts.specs.Contents.{Content, Image}
+use Rattle.base.specs.Moments.{earlier, earliest, has_come}
+use Rattle.image_parts.specs.declared.part.Part.{Part}
 use Rattle.co_device.specs.Device.{Device, moments, next_due}
 use Rattle.co_device.specs.Receiving.{is_ignored}
 use Rattle.device_laws.specs.Deaf.{IsDeafTo, IsIdleSync}

@@ -1,11 +1,11 @@
 -- What a device does in an instant in which it is told something.
 use Rattle.std.proofs.Common.{◌≡◌, ℕ, Some, sym}
-use Rattle.asking.specs.Asking.{Answer, Seen, outcome}
-use Rattle.asking.specs.Record.{IsAsked}
-use Rattle.asking.proofs.QuestionLemmas.{outcome_bind}
-use Rattle.asking.proofs.RecordLemmas.{asked_last}
-use Rattle.co_parts.specs.Contents.{Content, Image}
-use Rattle.co_parts.specs.declared.part.Part.{Part}
+use Rattle.image_parts.specs.Asking.{Answer, Seen, outcome}
+use Rattle.image_parts.specs.Record.{IsAsked}
+use Rattle.image_parts.proofs.QuestionLemmas.{outcome_bind}
+use Rattle.image_parts.proofs.RecordLemmas.{asked_last}
+use Rattle.image_parts.specs.Contents.{Content, Image}
+use Rattle.image_parts.specs.declared.part.Part.{Part}
 use Rattle.co_device.specs.Device.{Device, after_instant}
 use Rattle.device_agenda.specs.Agenda.{at_instant, hears}
 use Rattle.device_agenda.specs.Delivered.{Delivered}

@@ -4,8 +4,8 @@ use Rattle.std.specs.Prelude.{flat_map}
 use Rattle.std.specs.List.{AllByRecursion}
 use Rattle.std.proofs.lemmas.Grind.{flat_map-append}
 use Rattle.co_device.specs.Device.{Device, moments}
-use Rattle.co_base.specs.Moments.{earlier, earliest}
-use Rattle.co_base.proofs.EarliestLemmas.{earliest_append}
+use Rattle.base.specs.Moments.{earlier, earliest}
+use Rattle.base.proofs.EarliestLemmas.{earliest_append}
 use Rattle.device_pdos.proofs.LookLemmas.{all_both}
 use Rattle.device_agenda.specs.Agenda.{IsAgendaOf, Sleeps}
 use Rattle.device_agenda.specs.Groups.{includes}

@@ -3,8 +3,8 @@ use Rattle.std.proofs.Common.{◌≡◌, ℕ, ◌<◌, ◌==◌, Bool, true, fal
 use Rattle.std.proofs.Common.{IfSome, flat_map, refl, sym, ap, ◌∙◌, inl}
 use Rattle.std.specs.Prelude.{if◌then◌else◌}
 use Rattle.std.specs.List.{AllByRecursion}
-use Rattle.co_base.specs.Moments.{has_come}
-use Rattle.asking.specs.Asking.{Answer, bind}
+use Rattle.base.specs.Moments.{has_come}
+use Rattle.image_parts.specs.Asking.{Answer, bind}
 use Rattle.can_frame.specs.Frames.{BaseFrame}
 use Rattle.co_device.specs.Device.{Device, moments, after_instant}
 use Rattle.co_device.specs.Receiving.{is_ignored, after_frame}

@@ -7,8 +7,8 @@ use Rattle.std.proofs.lemmas.Bool.{eqb-true}
 use Rattle.std.proofs.lemmas.Bool.Decides.{nat_tests}
 use Rattle.can_frame.specs.Frames.{BaseFrame}
 use Rattle.can_frame.specs.Identifiers.{error_control_id, nmt_id, sdo_request_id, sync_id}
-use Rattle.co_base.specs.Ranges.{is_between}
-use Rattle.co_fields.specs.CobIds.{identifier_in}
+use Rattle.base.specs.Ranges.{is_between}
+use Rattle.cia301.specs.CobIds.{identifier_in}
 use Rattle.co_dict.specs.Values.{Values, number_at}
 use Rattle.device_objects.specs.Consumers.{any_expects, expects}
 use Rattle.device_objects.specs.Profile.{sync_identifier}
@@ -20,7 +20,7 @@ use Rattle.device_pdos.specs.declared.rpdo_state.RpdoState.{RpdoState}
 use Rattle.device_pdos.specs.declared.tpdo_state.TpdoState.{TpdoState}
 use Rattle.co_device.specs.Device.{Device, is_error_control, is_in}
 use Rattle.co_device.specs.Receiving.{is_ignored}
-use Rattle.co_fields.specs.declared.nmt_state.NmtState.TheVariants.{Operational}
+use Rattle.cia301.specs.declared.nmt_state.NmtState.TheVariants.{Operational}
 use Rattle.device_agenda.specs.Groups.{Extends, group_of, includes}
 use Rattle.device_agenda.specs.declared.groups.Groups.{Groups}
 use Rattle.device_agenda.proofs.GroupLemmas.{left_out, neither, with_extends}

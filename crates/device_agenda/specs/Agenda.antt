@@ -2,13 +2,13 @@
 use Rattle.std.specs.Prelude.{◌≡◌, ◌<◌, ℕ, ◌==◌, not, ◌&&◌, Bool, false, List, [], flat_map, Option, Some, None}
 use Rattle.std.specs.Prelude.{if◌then◌else◌}
 use Rattle.std.specs.List.{AllByRecursion}
-use Rattle.asking.specs.Asking.{Asking, Answer, bind}
+use Rattle.image_parts.specs.Asking.{Asking, Answer, bind}
 use Rattle.can_frame.specs.Frames.{BaseFrame}
 use Rattle.co_device.specs.Device.{Device, moments, after_instant}
 use Rattle.co_device.specs.Receiving.{after_frame}
-use Rattle.co_parts.specs.Contents.{Content}
-use Rattle.co_base.specs.Moments.{earliest, has_come}
-use Rattle.co_parts.specs.declared.part.Part.{Part}
+use Rattle.image_parts.specs.Contents.{Content}
+use Rattle.base.specs.Moments.{earliest, has_come}
+use Rattle.image_parts.specs.declared.part.Part.{Part}
 use Rattle.device_laws.specs.Deaf.{IsDeafTo}
 use Rattle.device_laws.specs.Rest.{Rests}
 use Rattle.device_agenda.specs.Delivered.{Delivered}

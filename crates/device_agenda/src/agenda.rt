@@ -6,7 +6,7 @@ ghost use Rattle.device_agenda.specs.Agenda.{IsAgendaOf, sleeps_through};
 
 use crate::delivery::Delivery;
 use crate::groups::Groups;
-use co_base::{earlier, has_come};
+use base::{earlier, has_come};
 
 /// When devices have to run: at the moment at which one is due, and where a frame is delivered of a group of
 /// which one may take a frame.

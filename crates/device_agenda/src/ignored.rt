@@ -5,8 +5,8 @@ ghost use Rattle.co_device.specs.Receiving.{is_ignored};
 ghost use Rattle.device_objects.specs.Profile.{sync_identifier};
 
 use can_frame::{Frame, identifiers};
+use cia301::NmtState;
 use co_device::DeviceState;
-use co_fields::NmtState;
 use device_objects::{any_expects, is_addressed, producer_of};
 use device_pdos::any_has_identifier;
 

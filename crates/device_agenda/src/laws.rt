@@ -2,7 +2,7 @@
 
 ghost use Rattle.std.specs.Prelude.{◌≡◌, ℕ, ◌<◌, true, List, ◌∷◌, [], Option, IfSome};
 ghost use Rattle.std.specs.List.{AllByRecursion};
-ghost use Rattle.asking.specs.Asking.{Answer};
+ghost use Rattle.image_parts.specs.Asking.{Answer};
 ghost use Rattle.co_device.specs.Device.{Device};
 ghost use Rattle.device_agenda.specs.Agenda.{IsAgendaOf, at_instant, sleeps_through};
 ghost use Rattle.device_agenda.specs.Delivered.{Delivered};

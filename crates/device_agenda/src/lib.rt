@@ -1,5 +1,5 @@
 //! Devices that run only when they are due.
-#![tactic(auto, using(asking::proofs::RecordLemmas::record_laws))]
+#![tactic(auto, using(image_parts::proofs::RecordLemmas::record_laws))]
 
 mod agenda;
 mod delivery;

@@ -2,27 +2,27 @@
 
 ghost use Rattle.std.specs.Prelude.{◌≡◌, ◌↔◌, ◌<◌, ◌≤◌, ◌∷◌, [], Some, true, false, length, remove, slice_get};
 ghost use Rattle.std.specs.Prelude.{IfOk, IfSome, OnOk, OnErr, IsErr, IsTrue};
-ghost use Rattle.asking.specs.Asking.{Answer, outcome};
-ghost use Rattle.asking.specs.Record.{IsAsked, Lasts};
+ghost use Rattle.image_parts.specs.Asking.{Answer, outcome};
+ghost use Rattle.image_parts.specs.Record.{IsAsked, Lasts};
 ghost use Rattle.can_frame.specs.Winner.{contenders_of, IsWinner};
-ghost use Rattle.co_base.specs.Ranges.{is_between};
 ghost use Rattle.co_values.specs.Values.{longest_value};
 ghost use Rattle.co_device.specs.Device.{next_due, after_power, after_instant, after_set, without_power};
 ghost use Rattle.co_device.specs.Receiving.{is_ignored};
 ghost use Rattle.device_agenda.specs.Agenda.{at_instant, hears, IsAgendaOf};
 ghost use Rattle.device_laws.specs.Rest.{Rests};
 ghost use Rattle.device_objects.specs.Profile.{sync_identifier as identifier_of_sync};
+ghost use Rattle.cia301.specs.PdoObjects.{is_of_pdos};
 
 use crate::agenda::Agenda;
 use crate::delivery::Delivery;
 use crate::ignored::ignores;
 use crate::stirring::stirring;
+use base::has_come;
 use can_frame::{Contender, Waiting};
-use co_base::has_come;
 use co_device::DeviceState;
 use co_dict::Dict;
-use co_parts::END;
 use device_objects::{Shapes, sync_identifier};
+use image_parts::END;
 use std::alloc::{AllocError, Global};
 use std::marker::Model;
 
@@ -274,7 +274,7 @@ impl ScheduledDevice {
     /// power nothing happens. The index isn't one of 1400h to 1BFFh, and the value has at most 512 bytes.
     pub fn set(&mut self, t: u64, index: u16, sub: u8, bytes: &[u8]) -> Result<(), AllocError>
         requires soon { t < END }
-        requires own { is_between 0x1400 0x1BFF index ≡ false }
+        requires own { is_of_pdos index ≡ false }
         requires short { length bytes.now ≤ longest_value }
         ensures state { OnOk result (self.new ≡ after_set t (index, sub) bytes.now self.old) }
         ensures refused { IsTrue self.old.spent → IsErr result }

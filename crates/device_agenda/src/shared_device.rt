@@ -2,21 +2,21 @@
 
 ghost use Rattle.std.specs.Prelude.{◌≡◌, ◌↔◌, ◌<◌, ◌≤◌, ◌∷◌, [], Some, false, length, remove, slice_get};
 ghost use Rattle.std.specs.Prelude.{IfOk, OnOk, IsTrue};
-ghost use Rattle.asking.specs.Asking.{outcome};
-ghost use Rattle.asking.specs.Record.{IsAsked, Lasts};
+ghost use Rattle.image_parts.specs.Asking.{outcome};
+ghost use Rattle.image_parts.specs.Record.{IsAsked, Lasts};
 ghost use Rattle.can_frame.specs.Winner.{contenders_of, IsWinner};
-ghost use Rattle.co_base.specs.Ranges.{is_between};
 ghost use Rattle.co_values.specs.Values.{longest_value};
 ghost use Rattle.co_device.specs.Device.{next_due, after_power, after_set, without_power};
 ghost use Rattle.device_agenda.specs.Agenda.{at_instant, IsAgendaOf};
+ghost use Rattle.cia301.specs.PdoObjects.{is_of_pdos};
 
 use crate::agenda::Agenda;
 use crate::delivery::Delivery;
 use crate::scheduled_device::ScheduledDevice;
 use can_frame::{Contender, Waiting};
 use co_dict::Dict;
-use co_parts::END;
 use device_objects::Shapes;
+use image_parts::END;
 use std::alloc::{AllocError, Global};
 use std::marker::Model;
 use std::rc::Rc;
@@ -80,7 +80,7 @@ fn set_in(
     bytes: &[u8],
 ) -> Result<(), AllocError>
     requires soon { t < END }
-    requires own { is_between 0x1400 0x1BFF index ≡ false }
+    requires own { is_of_pdos index ≡ false }
     requires short { length bytes.now ≤ longest_value }
     ensures state { OnOk result (device.new.value ≡ after_set t (index, sub) bytes.now device.old.value) }
 {
@@ -205,7 +205,7 @@ impl SharedDevice {
     /// power nothing happens. The index isn't one of 1400h to 1BFFh, and the value has at most 512 bytes.
     pub fn set(&mut self, t: u64, index: u16, sub: u8, bytes: &[u8]) -> Result<(), AllocError>
         requires soon { t < END }
-        requires own { is_between 0x1400 0x1BFF index ≡ false }
+        requires own { is_of_pdos index ≡ false }
         requires short { length bytes.now ≤ longest_value }
         ensures state { OnOk result (self.new ≡ after_set t (index, sub) bytes.now self.old) }
     {

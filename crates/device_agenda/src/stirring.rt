@@ -4,7 +4,7 @@ ghost use Rattle.std.specs.Prelude.{◌≡◌, ◌<◌, ℕ, false, is_some};
 ghost use Rattle.std.specs.List.{list_any};
 ghost use Rattle.can_frame.specs.Frames.{BaseFrame};
 ghost use Rattle.can_frame.specs.Identifiers.{error_control_id};
-ghost use Rattle.co_fields.specs.ConsumerHeartbeatTimes.{consumed_node};
+ghost use Rattle.cia301.specs.ConsumerHeartbeatTimes.{consumed_node};
 ghost use Rattle.device_objects.specs.Consumers.{expects};
 ghost use Rattle.device_objects.specs.Profile.{sync_identifier as identifier_of_sync};
 ghost use Rattle.device_agenda.specs.Groups.{Extends, includes};
@@ -14,11 +14,11 @@ ghost use Rattle.device_pdos.specs.Tpdos.{goes_by_sync};
 
 use crate::groups::Groups;
 use can_frame::identifiers;
+use cia301::ConsumerHeartbeatTime;
 use co_device::DeviceState;
-use co_fields::ConsumerHeartbeatTime;
-use co_pdos::Configuration;
 use device_objects::Consumer;
 use device_pdos::{RpdoState, TpdoState};
+use pdo_rules::Configuration;
 
 /// Whether one of the RPDOs keeps a frame.
 fn any_keeps(rpdos: &[RpdoState]) -> bool

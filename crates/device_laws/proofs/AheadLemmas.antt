@@ -3,13 +3,13 @@ use Rattle.std.proofs.Common.{◌≡◌, ℕ, zero, suc, ◌+◌, ◌*◌, ◌<�
 use Rattle.std.proofs.Common.{Option, Some, None, refl, ◌∙◌, arith}
 use Rattle.std.specs.Prelude.{if◌then◌else◌, filter, length, nat_lt, map}
 use Rattle.std.proofs.lemmas.Bool.Decides.{nat_tests}
-use Rattle.asking.specs.Asking.{outcome}
+use Rattle.image_parts.specs.Asking.{outcome}
 use Rattle.can_frame.specs.Frames.{BaseFrame}
 use Rattle.co_dict.specs.Shapes.{Shaped}
 use Rattle.co_dict.specs.Values.{Values}
-use Rattle.co_parts.specs.Contents.{Image}
-use Rattle.co_base.specs.Moments.{is_due}
-use Rattle.co_fields.specs.ConsumerHeartbeatTimes.{consumed_node, consumer_time}
+use Rattle.image_parts.specs.Contents.{Image}
+use Rattle.base.specs.Moments.{is_due}
+use Rattle.cia301.specs.ConsumerHeartbeatTimes.{consumed_node, consumer_time}
 use Rattle.device_objects.specs.Consumers.{consumers_after_time, consumers_after_heartbeat, consumers_of}
 use Rattle.device_objects.specs.Consumers.{consumers_after_write, expects, consumer_after_time, failures_at}
 use Rattle.device_objects.specs.Consumers.{consumer_after_heartbeat, consumer_after_write}
@@ -25,7 +25,7 @@ use Rattle.co_device.specs.Device.{after_initialisation, is_in, nmt_service, out
 use Rattle.co_device.specs.Device.{reset_communication, after_reset_node, stop_remote_node, after_timers, after_set}
 use Rattle.co_device.specs.Device.{with_emergencies, without_power}
 use Rattle.co_device.specs.Receiving.{after_frame}
-use Rattle.co_fields.specs.declared.nmt_state.NmtState.TheVariants.{Operational, Stopped}
+use Rattle.cia301.specs.declared.nmt_state.NmtState.TheVariants.{Operational, Stopped}
 use Rattle.device_laws.specs.Ahead.{AreAhead, IsAhead, NotBefore}
 use Rattle.device_laws.proofs.CaseLemmas.{either, one_of, picked}
 use Rattle.device_laws.proofs.KeptLemmas.{IsKept, frame_kept, set_kept}

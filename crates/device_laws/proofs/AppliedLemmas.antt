@@ -8,13 +8,13 @@ use Rattle.std.specs.Option.{unwrap_or}
 use Rattle.std.specs.Ordering.{eq_by_cmp}
 use Rattle.std.proofs.lemmas.Bool.Decides.{nat_tests}
 use Rattle.byteorder.specs.Endian.{little_number}
-use Rattle.asking.specs.Asking.{outcome}
+use Rattle.image_parts.specs.Asking.{outcome}
 use Rattle.can_frame.specs.Frames.{BaseFrame}
 use Rattle.co_dict.specs.declared.abort.Abort.{Abort}
 use Rattle.co_dict.specs.Aborts.{cannot_be_mapped, pdo_length_exceeded}
 use Rattle.co_dict.specs.Mappings.{can_be_mapped, direction_of, mapped_length, mapped_place, mapping_bits}
 use Rattle.co_dict.specs.PdoChecks.{cob_id_lines, count_lines, has_type, is_unsigned32, mapping_lines, new_count_lines}
-use Rattle.co_dict.specs.Pdos.{is_of_pdos}
+use Rattle.cia301.specs.PdoObjects.{is_of_pdos, is_of_tpdos, is_of_rpdos}
 use Rattle.co_dict.specs.Places.{place_cmp}
 use Rattle.co_dict.specs.Shapes.{Shaped}
 use Rattle.co_dict.specs.Values.{Values, number_at}
@@ -22,13 +22,12 @@ use Rattle.co_dict.specs.WriteCheck.{write_check}
 use Rattle.co_dict.proofs.CheckLaws.{checked_alike}
 use Rattle.co_dict.proofs.CheckLemmas.{write_check_in_turn}
 use Rattle.co_dict.proofs.PlaceLemmas.{places_total, written_elsewhere}
-use Rattle.co_mapping.specs.Packing.{after_entries, bits_for, frame_bits, takes, unpacked, value_of_bits, with_bits}
-use Rattle.co_parts.specs.Contents.{Image, shape_of}
-use Rattle.co_parts.specs.declared.part.Part.TheVariants.{Shape}
-use Rattle.co_pdos.specs.declared.receipt.Receipt.TheVariants.{AtOnce}
+use Rattle.pdo_rules.specs.Packing.{after_entries, bits_for, frame_bits, takes, unpacked, value_of_bits, with_bits}
+use Rattle.image_parts.specs.Contents.{Image, shape_of}
+use Rattle.image_parts.specs.declared.part.Part.TheVariants.{Shape}
+use Rattle.pdo_rules.specs.declared.receipt.Receipt.TheVariants.{AtOnce}
 use Rattle.device_objects.specs.Profile.{without_error_bits}
 use Rattle.device_objects.specs.declared.learnt.Learnt.{Learnt}
-use Rattle.device_pdos.specs.Objects.{is_of_rpdos, is_of_tpdos}
 use Rattle.device_pdos.specs.Rpdos.{mapping_of_rpdo, receipt_of, rpdo_at}
 use Rattle.co_device.specs.Device.{Device, after_own_write, after_write, after_write_of_consumer, is_producer_time}
 use Rattle.co_device.specs.Device.{without_error_if}

@@ -1,10 +1,10 @@
 -- Cases of devices, and of what is asked.
 use Rattle.std.proofs.Common.{◌≡◌, Bool, true, false, not, List, [], ◌∷◌, refl}
 use Rattle.std.specs.Prelude.{if◌then◌else◌}
-use Rattle.asking.specs.Asking.{Asking, outcome}
-use Rattle.asking.proofs.QuestionLemmas.{outcome_bind}
-use Rattle.co_parts.specs.Contents.{Content, Image}
-use Rattle.co_parts.specs.declared.part.Part.{Part}
+use Rattle.image_parts.specs.Asking.{Asking, outcome}
+use Rattle.image_parts.proofs.QuestionLemmas.{outcome_bind}
+use Rattle.image_parts.specs.Contents.{Content, Image}
+use Rattle.image_parts.specs.declared.part.Part.{Part}
 use Rattle.co_device.specs.Device.{Device}
 use Rattle.co_device.specs.Receiving.{walk}
 

@@ -5,23 +5,23 @@ use Rattle.std.proofs.Common.{inl, inr, refl, sym, ap, ◌∙◌}
 use Rattle.std.specs.Prelude.{if◌then◌else◌}
 use Rattle.std.specs.List.{AllByRecursion}
 use Rattle.std.specs.Option.{option_map_or}
-use Rattle.asking.specs.Asking.{Asking, Answer, bind}
+use Rattle.image_parts.specs.Asking.{Asking, Answer, bind}
 use Rattle.can_frame.specs.Frames.{BaseFrame}
 use Rattle.can_frame.specs.Identifiers.{nmt_id}
 use Rattle.can_frame.specs.declared.waiting.Waiting.{Waiting}
 use Rattle.co_dict.specs.Values.{Values}
-use Rattle.co_parts.specs.Contents.{Content}
-use Rattle.co_parts.specs.declared.part.Part.{Part}
-use Rattle.co_pdos.specs.Sync.{sync_message}
-use Rattle.co_pdos.specs.Tpdo.{Remembered, without_past_inhibit, turn_by_type}
-use Rattle.co_fields.specs.TransmissionTypes.{is_synchronous}
-use Rattle.co_pdos.specs.declared.communication.Communication.{Communication}
-use Rattle.co_pdos.specs.declared.configuration.Configuration.{Configuration}
-use Rattle.co_pdos.specs.declared.sync.SyncMessage.{SyncMessage}
-use Rattle.co_pdos.specs.declared.sync_seen.SyncSeen.{SyncSeen}
-use Rattle.co_fields.specs.declared.transmission_type.TransmissionType.{TransmissionType}
-use Rattle.co_fields.specs.declared.transmission_type.TransmissionType.TheVariants.{Acyclic, Cyclic, EventDriven}
-use Rattle.co_fields.specs.declared.transmission_type.TransmissionType.TheVariants.{Reserved, OnRequest}
+use Rattle.image_parts.specs.Contents.{Content}
+use Rattle.image_parts.specs.declared.part.Part.{Part}
+use Rattle.pdo_rules.specs.Sync.{sync_message}
+use Rattle.pdo_rules.specs.Tpdo.{Remembered, without_past_inhibit, turn_by_type}
+use Rattle.cia301.specs.TransmissionTypes.{is_synchronous}
+use Rattle.pdo_rules.specs.declared.communication.Communication.{Communication}
+use Rattle.pdo_rules.specs.declared.configuration.Configuration.{Configuration}
+use Rattle.pdo_rules.specs.declared.sync.SyncMessage.{SyncMessage}
+use Rattle.pdo_rules.specs.declared.sync_seen.SyncSeen.{SyncSeen}
+use Rattle.cia301.specs.declared.transmission_type.TransmissionType.{TransmissionType}
+use Rattle.cia301.specs.declared.transmission_type.TransmissionType.TheVariants.{Acyclic, Cyclic, EventDriven}
+use Rattle.cia301.specs.declared.transmission_type.TransmissionType.TheVariants.{Reserved, OnRequest}
 use Rattle.device_objects.specs.Profile.{counter_overflow, sync_identifier}
 use Rattle.device_pdos.specs.Rpdos.{rpdo_at}
 use Rattle.device_pdos.specs.Tpdos as tpdos
@@ -33,7 +33,7 @@ use Rattle.device_pdos.proofs.LookLemmas.{told}
 use Rattle.device_pdos.proofs.RestLemmas.{nothing_sent, tpdos_rest}
 use Rattle.co_device.specs.Device.{Device, is_in, moments, after_instant, after_tpdos}
 use Rattle.co_device.specs.Receiving.{after_kept_frame, rpdo_places, after_frame, after_sync_at, after_sync, walk}
-use Rattle.co_fields.specs.declared.nmt_state.NmtState.TheVariants.{Operational}
+use Rattle.cia301.specs.declared.nmt_state.NmtState.TheVariants.{Operational}
 use Rattle.device_laws.specs.Deaf.{AwaitsNoSync, IsDeafTo, IsIdleSync}
 use Rattle.device_laws.specs.Rest.{Rests}
 use Rattle.device_laws.proofs.AheadLemmas.{quiet}

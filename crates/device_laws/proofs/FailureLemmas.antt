@@ -8,7 +8,7 @@ use Rattle.can_frame.specs.declared.purpose.Purpose.TheVariants.{Emergency}
 use Rattle.can_frame.specs.declared.waiting.Waiting.{Waiting}
 use Rattle.device_objects.specs.Profile.{emergency_frame, error_register}
 use Rattle.co_device.specs.Device.{Device, is_in, with_emergencies, with_emergency}
-use Rattle.co_fields.specs.declared.nmt_state.NmtState.TheVariants.{Stopped}
+use Rattle.cia301.specs.declared.nmt_state.NmtState.TheVariants.{Stopped}
 
 module _ (code : ℕ) (d : Device) where
   abbrev Told : Waiting

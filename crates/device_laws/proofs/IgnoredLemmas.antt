@@ -3,13 +3,13 @@ use Rattle.std.proofs.Common.{◌≡◌, ℕ, zero, suc, ◌-◌, ◌==◌, Bool
 use Rattle.std.proofs.Common.{Some, None, refl, ap, ◌∙◌}
 use Rattle.std.specs.Prelude.{if◌then◌else◌, length}
 use Rattle.std.specs.List.{list_any}
-use Rattle.asking.specs.Asking.{Asking, Answer, bind}
+use Rattle.image_parts.specs.Asking.{Asking, Answer, bind}
 use Rattle.can_frame.specs.Frames.{BaseFrame}
 use Rattle.can_frame.specs.Identifiers.{error_control_id, nmt_id, sdo_request_id}
-use Rattle.co_parts.specs.Contents.{Content}
-use Rattle.co_parts.specs.declared.part.Part.{Part}
-use Rattle.co_pdos.specs.declared.configuration.Configuration.{Configuration}
-use Rattle.co_pdos.specs.declared.receipt.Receipt.TheVariants.{Ignored}
+use Rattle.image_parts.specs.Contents.{Content}
+use Rattle.image_parts.specs.declared.part.Part.{Part}
+use Rattle.pdo_rules.specs.declared.configuration.Configuration.{Configuration}
+use Rattle.pdo_rules.specs.declared.receipt.Receipt.TheVariants.{Ignored}
 use Rattle.device_objects.specs.Consumers.{consumers_after_heartbeat, any_expects, any_failed, expects}
 use Rattle.device_objects.specs.Consumers.{consumer_after_heartbeat, is_last_failure_over}
 use Rattle.device_objects.specs.Profile.{sync_identifier}
@@ -20,7 +20,7 @@ use Rattle.co_device.specs.Device.{Device, after_error_control, is_addressed, is
 use Rattle.co_device.specs.Device.{after_sdo_request}
 use Rattle.co_device.specs.Receiving.{is_ignored, after_nmt_frame, after_pdo, rpdo_places, after_frame, after_rpdo}
 use Rattle.co_device.specs.Receiving.{after_sync, after_receipt, walk}
-use Rattle.co_fields.specs.declared.nmt_state.NmtState.TheVariants.{Operational, Stopped}
+use Rattle.cia301.specs.declared.nmt_state.NmtState.TheVariants.{Operational, Stopped}
 
 neither : (a b : Bool) → a || b ≡ false → (a ≡ false) × (b ≡ false)
 neither true b h = absurd cc

@@ -2,27 +2,27 @@
 use Rattle.std.proofs.Common.{◌≡◌, ℕ, ◌+◌, ◌-◌, ◌==◌, Bool, true, false, not, ◌&&◌, List, [], ◌∷◌, ◌++◌, Option, Some}
 use Rattle.std.proofs.Common.{None}
 use Rattle.std.specs.Prelude.{length, slice_index_or}
-use Rattle.asking.specs.Asking.{outcome}
+use Rattle.image_parts.specs.Asking.{outcome}
 use Rattle.can_frame.specs.Frames.{BaseFrame}
 use Rattle.can_frame.specs.Identifiers.{error_control_id, nmt_id, sdo_request_id}
 use Rattle.can_frame.specs.declared.waiting.Waiting.{Waiting}
 use Rattle.co_dict.specs.Mappings.{mapped_length, mapped_place}
 use Rattle.co_dict.specs.Shapes.{Shaped}
 use Rattle.co_dict.specs.Values.{Values}
-use Rattle.co_mapping.specs.Packing.{after_entries, bits_for, frame_bits, takes, with_bits}
-use Rattle.co_parts.specs.Contents.{Image, shape_of}
-use Rattle.co_parts.specs.declared.part.Part.TheVariants.{Shape}
-use Rattle.co_pdos.specs.declared.receipt.Receipt.{Receipt}
-use Rattle.co_pdos.specs.declared.receipt.Receipt.TheVariants.{Short, Kept, AtOnce, Ignored}
+use Rattle.pdo_rules.specs.Packing.{after_entries, bits_for, frame_bits, takes, with_bits}
+use Rattle.image_parts.specs.Contents.{Image, shape_of}
+use Rattle.image_parts.specs.declared.part.Part.TheVariants.{Shape}
+use Rattle.pdo_rules.specs.declared.receipt.Receipt.{Receipt}
+use Rattle.pdo_rules.specs.declared.receipt.Receipt.TheVariants.{Short, Kept, AtOnce, Ignored}
 use Rattle.device_objects.specs.Consumers.{consumers_after_heartbeat, consumers_after_write, is_last_failure_over}
-use Rattle.co_pdos.specs.Sync.{sync_message}
-use Rattle.co_pdos.specs.declared.sync.SyncMessage.{SyncMessage}
+use Rattle.pdo_rules.specs.Sync.{sync_message}
+use Rattle.pdo_rules.specs.declared.sync.SyncMessage.{SyncMessage}
 use Rattle.device_objects.specs.Profile.{sync_identifier}
 use Rattle.co_scenario.specs.Commands.{command_of}
 use Rattle.co_scenario.specs.declared.nmt_command.NmtCommand.{NmtCommand}
 use Rattle.co_sdo.specs.Server.{AfterRequest, server_answer}
 use Rattle.co_sdo.specs.declared.transfer.Transfer.{Transfer}
-use Rattle.device_pdos.specs.Objects.{is_of_rpdos, is_of_tpdos}
+use Rattle.cia301.specs.PdoObjects.{is_of_tpdos, is_of_rpdos}
 use Rattle.device_pdos.specs.Rpdos.{mapping_of_rpdo, receipt_of, rpdo_at, with_kept}
 use Rattle.device_pdos.specs.declared.rpdo_state.RpdoState.{RpdoState}
 use Rattle.device_pdos.specs.declared.tpdo_state.TpdoState.{TpdoState}
@@ -32,7 +32,7 @@ use Rattle.co_device.specs.Device.{is_error_control, is_in, is_producer_time, nm
 use Rattle.co_device.specs.Device.{with_emergency, without_error_if}
 use Rattle.co_device.specs.Receiving.{after_mapping, after_entry, after_kept_frame, after_pdo, rpdo_places, after_frame}
 use Rattle.co_device.specs.Receiving.{after_rpdo, after_sync_at, after_sync, after_receipt}
-use Rattle.co_fields.specs.declared.nmt_state.NmtState.TheVariants.{Operational, Stopped}
+use Rattle.cia301.specs.declared.nmt_state.NmtState.TheVariants.{Operational, Stopped}
 use Rattle.device_laws.proofs.CaseLemmas.{one_of, picked, turned, walk_keeps}
 
 -- it holds whatever the values, the PDOs, the frames that wait and the transfer are, and is kept where the heartbeat

@@ -3,16 +3,16 @@ use Rattle.std.proofs.Common.{◌≡◌, ℕ, zero, suc, ◌==◌, inl, inr, Boo
 use Rattle.std.proofs.Common.{Option, Some, None, refl, sym, subst, arith}
 use Rattle.std.specs.Prelude.{if◌then◌else◌, length, slice_index_or}
 use Rattle.std.proofs.lemmas.List.Elements.{All-append}
-use Rattle.asking.specs.Asking.{Asking, outcome, reads}
-use Rattle.asking.proofs.QuestionLemmas.{reads_bind}
+use Rattle.image_parts.specs.Asking.{Asking, outcome, reads}
+use Rattle.image_parts.proofs.QuestionLemmas.{reads_bind}
 use Rattle.can_frame.specs.Frames.{BaseFrame}
 use Rattle.can_frame.specs.Identifiers.{nmt_id, sdo_request_id}
-use Rattle.co_parts.specs.Contents.{Content, Image}
-use Rattle.co_parts.specs.declared.part.Part.{Part}
-use Rattle.co_parts.specs.declared.part.Part.TheVariants.{Defaults, Shape}
-use Rattle.co_pdos.specs.declared.receipt.Receipt.{Receipt}
-use Rattle.co_pdos.specs.declared.receipt.Receipt.TheVariants.{Short, Kept, AtOnce, Ignored}
-use Rattle.co_pdos.specs.Sync.{sync_message}
+use Rattle.image_parts.specs.Contents.{Content, Image}
+use Rattle.image_parts.specs.declared.part.Part.{Part}
+use Rattle.image_parts.specs.declared.part.Part.TheVariants.{Defaults, Shape}
+use Rattle.pdo_rules.specs.declared.receipt.Receipt.{Receipt}
+use Rattle.pdo_rules.specs.declared.receipt.Receipt.TheVariants.{Short, Kept, AtOnce, Ignored}
+use Rattle.pdo_rules.specs.Sync.{sync_message}
 use Rattle.device_objects.specs.Profile.{sync_identifier}
 use Rattle.co_scenario.specs.Commands.{command_of}
 use Rattle.co_scenario.specs.declared.nmt_command.NmtCommand.{NmtCommand}
@@ -23,7 +23,7 @@ use Rattle.co_device.specs.Device.{Device, is_addressed, is_error_control, is_in
 use Rattle.co_device.specs.Device.{reset_communication, after_reset_node, after_sdo_request}
 use Rattle.co_device.specs.Receiving.{after_mapping, after_kept_frame, after_pdo, rpdo_places, after_frame, after_rpdo}
 use Rattle.co_device.specs.Receiving.{after_sync_at, after_sync, after_receipt, walk}
-use Rattle.co_fields.specs.declared.nmt_state.NmtState.TheVariants.{Operational, Stopped}
+use Rattle.cia301.specs.declared.nmt_state.NmtState.TheVariants.{Operational, Stopped}
 use Rattle.device_laws.specs.Ahead.{IsOwnPart}
 use Rattle.device_laws.proofs.KeptLemmas.{rpdo_kept, synced_kept}
 use Rattle.device_laws.proofs.SelfLemmas.{HasNumber, number_kept}

@@ -4,23 +4,23 @@ use Rattle.std.proofs.Common.{arith}
 use Rattle.std.specs.Prelude.{if◌then◌else◌}
 use Rattle.std.specs.FinMap as map
 use Rattle.std.proofs.lemmas.Bool.Decides.{nat_tests}
-use Rattle.asking.specs.Asking.{outcome}
-use Rattle.co_base.specs.Ranges.{is_between}
+use Rattle.image_parts.specs.Asking.{outcome}
+use Rattle.base.specs.Ranges.{is_between}
 use Rattle.co_dict.proofs.RestoredLemmas.{restored_at}
 use Rattle.co_dict.specs.Mappings.{mapped_place}
 use Rattle.co_dict.specs.Shapes.{Shaped}
-use Rattle.co_mapping.specs.Packing.{takes, with_bits}
-use Rattle.co_parts.specs.Contents.{Image, shape_of, values_of}
-use Rattle.co_parts.specs.declared.part.Part.TheVariants.{Defaults, Shape}
+use Rattle.pdo_rules.specs.Packing.{takes, with_bits}
+use Rattle.image_parts.specs.Contents.{Image, shape_of, values_of}
+use Rattle.image_parts.specs.declared.part.Part.TheVariants.{Defaults, Shape}
 use Rattle.device_objects.specs.Profile.{next_heartbeat}
 use Rattle.co_sdo.specs.Server.{AfterRequest, server_answer}
-use Rattle.device_pdos.specs.Objects.{is_of_rpdos, is_of_tpdos}
+use Rattle.cia301.specs.PdoObjects.{is_of_tpdos, is_of_rpdos}
 use Rattle.co_device.specs.Device.{Device, after_own_write, after_write, after_server_write, answer_frames}
 use Rattle.co_device.specs.Device.{after_write_of_consumer, after_initialisation, is_in, is_producer_time}
 use Rattle.co_device.specs.Device.{reset_communication, after_reset_node, after_sdo_request, after_set}
 use Rattle.co_device.specs.Device.{without_error_if}
 use Rattle.co_device.specs.Receiving.{after_entry}
-use Rattle.co_fields.specs.declared.nmt_state.NmtState.TheVariants.{Stopped}
+use Rattle.cia301.specs.declared.nmt_state.NmtState.TheVariants.{Stopped}
 use Rattle.device_laws.proofs.CaseLemmas.{either, not_both, one_of, picked}
 
 module _ (image : Image) (t : ℕ) (d : Device) where

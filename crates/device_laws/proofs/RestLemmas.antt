@@ -4,8 +4,8 @@ use Rattle.std.proofs.Common.{ap, ◌∙◌, arith}
 use Rattle.std.specs.Prelude.{if◌then◌else◌}
 use Rattle.std.specs.List.{AllByRecursion}
 use Rattle.can_frame.specs.declared.waiting.Waiting.{Waiting}
-use Rattle.co_base.specs.Moments.{moments_of}
-use Rattle.co_pdos.specs.declared.sync.SyncMessage.{SyncMessage}
+use Rattle.base.specs.Moments.{moments_of}
+use Rattle.pdo_rules.specs.declared.sync.SyncMessage.{SyncMessage}
 use Rattle.device_objects.specs.Consumers as consumers
 use Rattle.device_objects.specs.declared.consumer.Consumer.{Consumer}
 use Rattle.device_pdos.specs.Tpdos as tpdos
@@ -15,7 +15,7 @@ use Rattle.device_pdos.proofs.LaterLemmas.{all_freed_later, looked_later}
 use Rattle.device_pdos.proofs.LookLemmas.{all_both, all_parts, quiet_freed}
 use Rattle.device_pdos.proofs.RestLemmas.{none_wanted, nothing_sent, tpdos_rest}
 use Rattle.co_device.specs.Device.{Device, is_in, moments, after_instant, after_timers, after_tpdos, sync_seen}
-use Rattle.co_fields.specs.declared.nmt_state.NmtState.TheVariants.{Operational}
+use Rattle.cia301.specs.declared.nmt_state.NmtState.TheVariants.{Operational}
 use Rattle.device_laws.specs.Ahead.{AreAhead, IsAhead, NotBefore}
 use Rattle.device_laws.specs.Rest.{Rests}
 use Rattle.device_laws.proofs.AheadLemmas.{due_later, quiet}

@@ -1,10 +1,10 @@
 -- What leaves a device's number, its power and its NMT state.
 use Rattle.std.proofs.Common.{◌≡◌, ℕ, Bool, true, false, List, Option, Some, None, refl, sym, ap, ◌∙◌}
 use Rattle.std.specs.Prelude.{nat_lt}
-use Rattle.asking.specs.Asking.{outcome}
+use Rattle.image_parts.specs.Asking.{outcome}
 use Rattle.can_frame.specs.Frames.{BaseFrame}
-use Rattle.co_parts.specs.Contents.{Image}
-use Rattle.co_base.specs.Moments.{is_due}
+use Rattle.image_parts.specs.Contents.{Image}
+use Rattle.base.specs.Moments.{is_due}
 use Rattle.device_objects.specs.Consumers.{consumers_after_time, failures_at}
 use Rattle.device_objects.specs.Profile.{with_error_bits}
 use Rattle.co_scenario.specs.declared.nmt_command.NmtCommand.{NmtCommand}
@@ -16,7 +16,7 @@ use Rattle.co_device.specs.Device.{after_initialisation, is_in, next_due, nmt_se
 use Rattle.co_device.specs.Device.{after_instant, reset_communication, after_reset_node, after_timers, after_tpdos}
 use Rattle.co_device.specs.Device.{after_set, with_emergencies, without_power}
 use Rattle.co_device.specs.Receiving.{after_frame}
-use Rattle.co_fields.specs.declared.nmt_state.NmtState.TheVariants.{Operational, Stopped}
+use Rattle.cia301.specs.declared.nmt_state.NmtState.TheVariants.{Operational, Stopped}
 use Rattle.device_laws.specs.States.{IsDark, StaysItself}
 use Rattle.device_laws.proofs.CaseLemmas.{either, not_both, one_of, picked}
 use Rattle.device_laws.proofs.KeptLemmas.{IsKept, frame_kept, set_kept}

@@ -6,7 +6,7 @@ use Rattle.std.specs.FinMap.{insert}
 use Rattle.std.specs.List.{AllByRecursion}
 use Rattle.std.proofs.lemmas.Bool.Decides.{nat_tests}
 use Rattle.std.proofs.lemmas.List.Elements.{All-append, All-cons, All-drop, All-take, filter_passes}
-use Rattle.asking.specs.Asking.{outcome, reads}
+use Rattle.image_parts.specs.Asking.{outcome, reads}
 use Rattle.can_frame.specs.Frames.{BaseFrame}
 use Rattle.can_frame.specs.WaitingFrames.{is_same, is_unwanted, with_latest, waiting, without_unwanted}
 use Rattle.can_frame.specs.declared.purpose.Purpose.{Purpose}
@@ -15,11 +15,11 @@ use Rattle.can_frame.specs.declared.unwanted.Unwanted.{Unwanted}
 use Rattle.can_frame.specs.declared.unwanted.Unwanted.TheVariants.{Emergencies, Sdos, Tpdos}
 use Rattle.can_frame.specs.declared.waiting.Waiting.{Waiting}
 use Rattle.can_frame.specs.Identifiers.{error_control_id, nmt_id, sdo_request_id}
-use Rattle.co_parts.specs.Contents.{Image}
-use Rattle.co_parts.specs.declared.part.Part.TheVariants.{Shape}
-use Rattle.co_base.specs.Moments.{is_due}
-use Rattle.co_pdos.specs.Tpdo.{remembering_nothing}
-use Rattle.co_pdos.specs.declared.receipt.Receipt.TheVariants.{Kept, AtOnce}
+use Rattle.image_parts.specs.Contents.{Image}
+use Rattle.image_parts.specs.declared.part.Part.TheVariants.{Shape}
+use Rattle.base.specs.Moments.{is_due}
+use Rattle.pdo_rules.specs.Tpdo.{remembering_nothing}
+use Rattle.pdo_rules.specs.declared.receipt.Receipt.TheVariants.{Kept, AtOnce}
 use Rattle.device_objects.specs.Consumers.{consumers_after_time, consumers_after_heartbeat, consumers_after_write}
 use Rattle.device_objects.specs.Consumers.{failures_at, is_last_failure_over}
 use Rattle.device_objects.specs.Profile.{with_error_bits, sync_identifier}
@@ -39,9 +39,9 @@ use Rattle.co_device.specs.Device.{out_of_operational, after_power, after_instan
 use Rattle.co_device.specs.Device.{after_reset_node, after_sdo_request, stop_remote_node, after_timers}
 use Rattle.co_device.specs.Device.{after_tpdos, after_set, with_emergencies, with_emergency, without_error_if}
 use Rattle.co_device.specs.Receiving.{after_mapping, after_pdo, after_frame, after_rpdo, after_sync, after_receipt}
-use Rattle.co_fields.specs.NmtStates.{state_byte}
-use Rattle.co_fields.specs.declared.nmt_state.NmtState.{NmtState}
-use Rattle.co_fields.specs.declared.nmt_state.NmtState.TheVariants.{Operational, PreOperational, Stopped}
+use Rattle.cia301.specs.NmtStates.{state_byte}
+use Rattle.cia301.specs.declared.nmt_state.NmtState.{NmtState}
+use Rattle.cia301.specs.declared.nmt_state.NmtState.TheVariants.{Operational, PreOperational, Stopped}
 use Rattle.device_laws.specs.States.{HasBooted, HasNoPdo, IsSilent, SaysNothing, nmt_message}
 use Rattle.device_laws.proofs.CaseLemmas.{either, not_both, one_of, picked}
 use Rattle.device_laws.proofs.KeptLemmas.{IsKept, pdo_kept, request_kept, sync_kept}

@@ -1,22 +1,22 @@
 -- The SYNC of an instant stays, whatever the frames that RPDOs keep bring about at it.
 use Rattle.std.proofs.Common.{◌≡◌, ℕ, ◌+◌, ◌==◌, Bool, true, false, List, [], ◌∷◌, Option, Some, None, refl}
-use Rattle.asking.specs.Asking.{outcome}
+use Rattle.image_parts.specs.Asking.{outcome}
 use Rattle.can_frame.specs.Frames.{BaseFrame}
 use Rattle.co_dict.specs.Mappings.{mapped_length, mapped_place}
 use Rattle.co_dict.specs.Shapes.{Shaped}
-use Rattle.co_mapping.specs.Packing.{after_entries, bits_for, frame_bits, takes, with_bits}
-use Rattle.co_parts.specs.Contents.{Image, shape_of}
-use Rattle.co_parts.specs.declared.part.Part.TheVariants.{Shape}
-use Rattle.co_pdos.specs.Sync.{sync_message}
-use Rattle.co_pdos.specs.declared.sync.SyncMessage.{SyncMessage}
+use Rattle.pdo_rules.specs.Packing.{after_entries, bits_for, frame_bits, takes, with_bits}
+use Rattle.image_parts.specs.Contents.{Image, shape_of}
+use Rattle.image_parts.specs.declared.part.Part.TheVariants.{Shape}
+use Rattle.pdo_rules.specs.Sync.{sync_message}
+use Rattle.pdo_rules.specs.declared.sync.SyncMessage.{SyncMessage}
 use Rattle.device_objects.specs.Consumers.{consumers_after_write, is_last_failure_over}
-use Rattle.device_pdos.specs.Objects.{is_of_rpdos, is_of_tpdos}
+use Rattle.cia301.specs.PdoObjects.{is_of_tpdos, is_of_rpdos}
 use Rattle.device_pdos.specs.Rpdos.{mapping_of_rpdo, rpdo_at, with_kept}
 use Rattle.co_device.specs.Device.{Device, after_own_write, after_write, after_write_of_consumer, is_in}
 use Rattle.co_device.specs.Device.{is_producer_time, without_error_if}
 use Rattle.co_device.specs.Receiving.{after_entry, after_kept_frame, after_mapping, after_sync, after_sync_at}
 use Rattle.co_device.specs.Receiving.{rpdo_places}
-use Rattle.co_fields.specs.declared.nmt_state.NmtState.TheVariants.{Operational}
+use Rattle.cia301.specs.declared.nmt_state.NmtState.TheVariants.{Operational}
 use Rattle.device_laws.proofs.CaseLemmas.{one_of, walk_keeps}
 
 module _ (image : Image) (t : ℕ) (sync : Option SyncMessage) where

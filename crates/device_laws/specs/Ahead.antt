@@ -1,8 +1,8 @@
 -- Words of the laws of devices.
 use Rattle.std.specs.Prelude.{◌≡◌, ◌≤◌, ◌⊎◌, ℕ, List, Option, IfSome}
 use Rattle.std.specs.List.{AllByRecursion}
-use Rattle.co_parts.specs.declared.part.Part.{Part}
-use Rattle.co_parts.specs.declared.part.Part.TheVariants.{Defaults, Shape}
+use Rattle.image_parts.specs.declared.part.Part.{Part}
+use Rattle.image_parts.specs.declared.part.Part.TheVariants.{Defaults, Shape}
 use Rattle.device_objects.specs.declared.consumer.Consumer.{Consumer}
 use Rattle.co_device.specs.Device.{Device}
 

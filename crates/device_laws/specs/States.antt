@@ -5,11 +5,11 @@ use Rattle.can_frame.specs.Identifiers.{nmt_id}
 use Rattle.can_frame.specs.WaitingFrames.{is_unwanted}
 use Rattle.can_frame.specs.declared.unwanted.Unwanted.{Unwanted}
 use Rattle.can_frame.specs.declared.unwanted.Unwanted.TheVariants.{Emergencies, Sdos, Tpdos}
-use Rattle.co_pdos.specs.Tpdo.{remembering_nothing}
+use Rattle.pdo_rules.specs.Tpdo.{remembering_nothing}
 use Rattle.co_sdo.specs.declared.transfer.Transfer.TheVariants.{Idle}
 use Rattle.std.specs.List.{AllByRecursion}
 use Rattle.co_device.specs.Device.{Device, boot_up_frame, is_in, without_power}
-use Rattle.co_fields.specs.declared.nmt_state.NmtState.TheVariants.{PreOperational, Stopped}
+use Rattle.cia301.specs.declared.nmt_state.NmtState.TheVariants.{PreOperational, Stopped}
 
 -- the message of an NMT service: its command, and the number of a node or 0 for all
 abbrev pub nmt_message : ℕ → ℕ → BaseFrame

@@ -4,21 +4,21 @@ ghost use Rattle.std.specs.Prelude.{◌≡◌, ◌≢◌, ◌<◌, ◌≤◌, �
 ghost use Rattle.std.specs.Prelude.{All, nat_lt, None, Some, IfSome, remove};
 ghost use Rattle.std.specs.FinMap as map;
 ghost use Rattle.std.specs.List.{AllByRecursion};
-ghost use Rattle.asking.specs.Alike.{AreAlike};
-ghost use Rattle.asking.specs.Asking.{Agrees, Answer, bind, outcome, reads};
+ghost use Rattle.image_parts.specs.Alike.{AreAlike};
+ghost use Rattle.image_parts.specs.Asking.{Agrees, Answer, bind, outcome, reads};
 ghost use Rattle.can_frame.specs.Frames.{BaseFrame};
 ghost use Rattle.can_frame.specs.declared.waiting.Waiting.{Waiting};
-ghost use Rattle.co_base.specs.Ranges.{is_between};
+ghost use Rattle.base.specs.Ranges.{is_between};
 ghost use Rattle.co_dict.specs.Mappings.{mapped_place};
 ghost use Rattle.co_dict.specs.Places.{place_cmp};
 ghost use Rattle.co_dict.specs.Shapes.{Shaped};
-ghost use Rattle.co_parts.specs.Contents.{Image, shape_of, values_of};
-ghost use Rattle.co_pdos.specs.Sync.{sync_message};
+ghost use Rattle.image_parts.specs.Contents.{Image, shape_of, values_of};
+ghost use Rattle.pdo_rules.specs.Sync.{sync_message};
 ghost use Rattle.device_objects.specs.Consumers.{failures_at};
 ghost use Rattle.device_objects.specs.Profile.{with_error_bits, next_heartbeat};
 ghost use Rattle.co_sdo.specs.Frames.{command};
 ghost use Rattle.co_sdo.specs.Server.{server_answer};
-ghost use Rattle.co_mapping.specs.Packing.{takes, unpacked};
+ghost use Rattle.pdo_rules.specs.Packing.{takes, unpacked};
 ghost use Rattle.device_pdos.specs.Rpdos.{mapping_of_rpdo, receipt_of, rpdo_at};
 ghost use Rattle.co_device.specs.Device.{Device, after_consumers, enter_pre_operational, is_in, moments, next_due};
 ghost use Rattle.co_device.specs.Device.{after_power, after_instant, reset_communication, after_reset_node};
@@ -33,10 +33,10 @@ ghost use Rattle.device_laws.specs.Rest.{Rests};
 ghost use Rattle.device_laws.specs.States.{HasBooted, HasNoPdo, IsDark, IsSilent, SaysNothing, StaysItself};
 ghost use Rattle.device_laws.specs.States.{nmt_message};
 
-use co_fields::NmtState;
-use co_parts::Part;
-use co_pdos::Receipt;
+use cia301::NmtState;
 use co_sdo::transfer::Transfer;
+use image_parts::Part;
+use pdo_rules::Receipt;
 
 /// Before the next moment of its timers nothing happens to a device of itself by them.
 #[tactic(auto, using(crate::proofs::AheadLemmas::quiet))]

@@ -4,10 +4,10 @@ use Rattle.std.proofs.Common.{map, refl, sym, ap, ◌∙◌, arith}
 use Rattle.std.specs.Prelude.{if◌then◌else◌}
 use Rattle.std.specs.List.{AllByRecursion}
 use Rattle.std.proofs.lemmas.Bool.Decides.{nat_tests}
-use Rattle.co_fields.specs.ConsumerHeartbeatTimes.{consumer_time}
+use Rattle.cia301.specs.ConsumerHeartbeatTimes.{consumer_time}
 use Rattle.co_dict.specs.Shapes.{Shaped}
 use Rattle.co_dict.specs.Values.{Values}
-use Rattle.co_base.specs.Moments.{is_due, moments_of}
+use Rattle.base.specs.Moments.{is_due, moments_of}
 use Rattle.device_objects.specs.Consumers.{consumers_after_time, consumers_after_heartbeat, consumer_entry}
 use Rattle.device_objects.specs.Consumers.{consumers_of, consumers_after_write, expects}
 use Rattle.device_objects.specs.Consumers.{consumer_after_time, failures_at, consumer_after_heartbeat, moments}

@@ -2,11 +2,11 @@
 use Rattle.std.specs.Prelude.{ℕ, ◌+◌, ◌*◌, ◌==◌, not, ◌&&◌, nat_lt, Bool, true, false, List, filter, flat_map}
 use Rattle.std.specs.Prelude.{length, map, Some, None, if◌then◌else◌}
 use Rattle.std.specs.List.{list_any, range_with_len}
-use Rattle.co_fields.specs.ConsumerHeartbeatTimes.{consumed_node, consumer_time}
+use Rattle.cia301.specs.ConsumerHeartbeatTimes.{consumed_node, consumer_time}
 use Rattle.co_dict.specs.PdoChecks.{has_type, is_unsigned32}
 use Rattle.co_dict.specs.Shapes.{Shaped}
 use Rattle.co_dict.specs.Values.{Values, number_at}
-use Rattle.co_base.specs.Moments.{is_due, moments_of}
+use Rattle.base.specs.Moments.{is_due, moments_of}
 use Rattle.device_objects.specs.declared.consumer.Consumer.{Consumer}
 
 -- ---- the consumer heartbeat time of a sub-index

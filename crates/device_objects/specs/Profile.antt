@@ -4,11 +4,11 @@ use Rattle.std.specs.Prelude.{ℕ, ◌*◌, ◌/◌, ◌%◌, ◌-◌, bit_and, 
 use Rattle.std.specs.FinMap.{insert}
 use Rattle.can_frame.specs.Frames.{BaseFrame}
 use Rattle.can_frame.specs.Identifiers.{emergency_id, sync_id}
-use Rattle.co_fields.specs.CobIds.{identifier_in}
+use Rattle.cia301.specs.CobIds.{identifier_in}
 use Rattle.co_dict.specs.PdoChecks.{has_type, is_unsigned8, is_unsigned16, is_unsigned32}
 use Rattle.co_dict.specs.Shapes.{Shaped}
 use Rattle.co_dict.specs.Values.{Values, number_at}
-use Rattle.co_base.specs.Moments.{moment_after}
+use Rattle.base.specs.Moments.{moment_after}
 use Rattle.device_objects.specs.declared.learnt.Learnt.{Learnt}
 
 -- what a device learns of its entries at power-on and at each reset: which of these objects are there with their types

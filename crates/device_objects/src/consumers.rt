@@ -1,17 +1,17 @@
 //! The heartbeat consumers of a device, by sub-index.
 
 ghost use Rattle.std.specs.Prelude.{◌≡◌, ◌<◌, IfOk, ◌↔◌, IsTrue};
-ghost use Rattle.co_base.specs.Moments.{earliest};
+ghost use Rattle.base.specs.Moments.{earliest};
 ghost use Rattle.device_objects.specs.Consumers.{consumers_after_time, consumers_after_heartbeat, any_expects};
 ghost use Rattle.device_objects.specs.Consumers.{any_failed as some_failed, consumers_of as consumers_now};
 ghost use Rattle.device_objects.specs.Consumers.{consumers_after_write, expects, failures_at as failures_now};
 ghost use Rattle.device_objects.specs.Consumers.{consumer_after_heartbeat, moments};
 
 use crate::consumer::{CONSUMER_HEARTBEAT_TIME, Consumer};
-use co_base::{earlier, is_due};
+use base::{earlier, is_due};
+use cia301::ConsumerHeartbeatTime;
 use co_dict::{Dict, Shape};
-use co_fields::ConsumerHeartbeatTime;
-use co_parts::END;
+use image_parts::END;
 use std::alloc::{AllocError, Global};
 
 /// The last sub-index of an object.

@@ -4,7 +4,7 @@ ghost use Rattle.std.specs.Prelude.{◌≡◌, IfOk, unwrap_or};
 ghost use Rattle.std.specs.FinMap as map;
 ghost use Rattle.co_dict.specs.Places.{place_cmp};
 ghost use Rattle.co_dict.specs.Restored.{with_restored};
-ghost use Rattle.co_parts.specs.Shared.{shared};
+ghost use Rattle.image_parts.specs.Shared.{shared};
 
 use co_dict::Dict;
 use std::alloc::{AllocError, Global};

@@ -1,7 +1,7 @@
 //! What the messages of the services of a device say (CiA 301).
 
 ghost use Rattle.std.specs.Prelude.{◌≡◌, ◌==◌, ◌&&◌, ◌||◌, ◌-◌, length, slice_index_or, Some, None, if◌then◌else◌};
-ghost use Rattle.co_base.specs.Ranges.{is_between};
+ghost use Rattle.base.specs.Ranges.{is_between};
 
 use can_frame::Frame;
 

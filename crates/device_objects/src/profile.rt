@@ -7,11 +7,11 @@ ghost use Rattle.device_objects.specs.Profile.{counter_overflow as overflow_of};
 ghost use Rattle.device_objects.specs.Profile.{sync_identifier as identifier_of_sync, with_register};
 
 use crate::learnt::Learnt;
+use base::moment_after;
 use can_frame::identifiers;
-use co_base::moment_after;
+use cia301::CobId;
 use co_dict::Dict;
-use co_fields::CobId;
-use co_parts::END;
+use image_parts::END;
 use std::alloc::AllocError;
 
 /// The index of the error register (CiA 301), which has sub-index 0.

@@ -1,14 +1,13 @@
 //! The parts that devices ask for.
 
 ghost use Rattle.std.specs.Prelude.{◌≡◌, ◌+◌, ◌-◌, ◌^◌, min, IfOk, OnOk, unwrap_or};
-ghost use Rattle.asking.specs.Asking.{after_ask};
-ghost use Rattle.asking.specs.Record.{Lasts};
-ghost use Rattle.co_parts.specs.Contents.{DefaultsAre, ShapeIs, no_shape};
-ghost use Rattle.co_parts.specs.Shared.{shared};
+ghost use Rattle.image_parts.specs.Asking.{after_ask};
+ghost use Rattle.image_parts.specs.Record.{Lasts};
+ghost use Rattle.image_parts.specs.Contents.{DefaultsAre, ShapeIs, no_shape};
+ghost use Rattle.image_parts.specs.Shared.{shared};
 
-use asking::Asked;
 use co_dict::{Dict, Shape};
-use co_parts::{Part, PartContent};
+use image_parts::{Asked, Part, PartContent};
 use std::alloc::{AllocError, Global};
 use std::rc::Rc;
 

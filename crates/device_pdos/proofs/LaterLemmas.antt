@@ -6,19 +6,19 @@ use Rattle.std.specs.List.{AllByRecursion}
 use Rattle.std.specs.Option.{option_map_or}
 use Rattle.std.proofs.lemmas.Bool.Decides.{nat_tests}
 use Rattle.co_dict.specs.Values.{Values}
-use Rattle.co_base.specs.Moments.{moments_of, has_come, is_ahead, moment_after}
-use Rattle.co_pdos.specs.declared.communication.Communication.{Communication}
-use Rattle.co_pdos.specs.declared.configuration.Configuration.{Configuration}
-use Rattle.co_pdos.specs.declared.sync_seen.SyncSeen.{SyncSeen}
-use Rattle.co_fields.specs.declared.transmission_type.TransmissionType.{TransmissionType}
-use Rattle.co_fields.specs.declared.transmission_type.TransmissionType.TheVariants.{Acyclic, Cyclic, EventDriven}
-use Rattle.co_fields.specs.declared.transmission_type.TransmissionType.TheVariants.{Reserved, OnRequest}
-use Rattle.co_pdos.specs.Sync.{has_counter}
-use Rattle.co_pdos.specs.Tpdo.{Remembered, acyclic_turn, awaits_start, counted_turn, cyclic_turn, differs}
-use Rattle.co_pdos.specs.Tpdo.{event_moment, event_turn, just_started, without_past_inhibit, later, synced_turn}
-use Rattle.co_pdos.specs.Tpdo.{turn_with_frame, turn_by_type, turn_without_frame}
-use Rattle.co_fields.specs.TransmissionTypes.{is_event_driven}
-use Rattle.co_pdos.proofs.TpdoLemmas.{event_sent, event_unsent, is_wanted_at}
+use Rattle.base.specs.Moments.{moments_of, has_come, is_ahead, moment_after}
+use Rattle.pdo_rules.specs.declared.communication.Communication.{Communication}
+use Rattle.pdo_rules.specs.declared.configuration.Configuration.{Configuration}
+use Rattle.pdo_rules.specs.declared.sync_seen.SyncSeen.{SyncSeen}
+use Rattle.cia301.specs.declared.transmission_type.TransmissionType.{TransmissionType}
+use Rattle.cia301.specs.declared.transmission_type.TransmissionType.TheVariants.{Acyclic, Cyclic, EventDriven}
+use Rattle.cia301.specs.declared.transmission_type.TransmissionType.TheVariants.{Reserved, OnRequest}
+use Rattle.pdo_rules.specs.Sync.{has_counter}
+use Rattle.pdo_rules.specs.Tpdo.{Remembered, acyclic_turn, awaits_start, counted_turn, cyclic_turn, differs}
+use Rattle.pdo_rules.specs.Tpdo.{event_moment, event_turn, just_started, without_past_inhibit, later, synced_turn}
+use Rattle.pdo_rules.specs.Tpdo.{turn_with_frame, turn_by_type, turn_without_frame}
+use Rattle.cia301.specs.TransmissionTypes.{is_event_driven}
+use Rattle.pdo_rules.proofs.TpdoLemmas.{event_sent, event_unsent, is_wanted_at}
 use Rattle.device_pdos.specs.Tpdos.{bytes_now, due_of, tpdo_after_inhibit, tpdo_after_turn, moments, tpdo_moment}
 use Rattle.device_pdos.specs.Tpdos.{tpdos_after_inhibit, tpdos_after_turns, turn, waits_for_event}
 use Rattle.device_pdos.specs.declared.tpdo_state.TpdoState.{TpdoState}

@@ -6,17 +6,17 @@ use Rattle.std.specs.Option.{option_map_or}
 use Rattle.can_frame.specs.Frames.{BaseFrame}
 use Rattle.can_frame.specs.declared.waiting.Waiting.{Waiting}
 use Rattle.co_dict.specs.Values.{Values}
-use Rattle.co_base.specs.Moments.{moments_of}
-use Rattle.co_pdos.specs.declared.communication.Communication.{Communication}
-use Rattle.co_pdos.specs.declared.configuration.Configuration.{Configuration}
-use Rattle.co_pdos.specs.declared.sync_seen.SyncSeen.{SyncSeen}
-use Rattle.co_fields.specs.declared.transmission_type.TransmissionType.{TransmissionType}
-use Rattle.co_fields.specs.declared.transmission_type.TransmissionType.TheVariants.{Acyclic, Cyclic, EventDriven}
-use Rattle.co_fields.specs.declared.transmission_type.TransmissionType.TheVariants.{Reserved, OnRequest}
-use Rattle.co_pdos.specs.Tpdo.{Remembered, Turn, acyclic_turn, cyclic_turn, without_past_inhibit, turn_by_type}
-use Rattle.co_pdos.specs.Tpdo.{turn_without_frame}
-use Rattle.co_fields.specs.TransmissionTypes.{is_event_driven, is_synchronous}
-use Rattle.co_pdos.proofs.TpdoLemmas.{event_is_sent, event_unsent, held_by_type, still_held}
+use Rattle.base.specs.Moments.{moments_of}
+use Rattle.pdo_rules.specs.declared.communication.Communication.{Communication}
+use Rattle.pdo_rules.specs.declared.configuration.Configuration.{Configuration}
+use Rattle.pdo_rules.specs.declared.sync_seen.SyncSeen.{SyncSeen}
+use Rattle.cia301.specs.declared.transmission_type.TransmissionType.{TransmissionType}
+use Rattle.cia301.specs.declared.transmission_type.TransmissionType.TheVariants.{Acyclic, Cyclic, EventDriven}
+use Rattle.cia301.specs.declared.transmission_type.TransmissionType.TheVariants.{Reserved, OnRequest}
+use Rattle.pdo_rules.specs.Tpdo.{Remembered, Turn, acyclic_turn, cyclic_turn, without_past_inhibit, turn_by_type}
+use Rattle.pdo_rules.specs.Tpdo.{turn_without_frame}
+use Rattle.cia301.specs.TransmissionTypes.{is_event_driven, is_synchronous}
+use Rattle.pdo_rules.proofs.TpdoLemmas.{event_is_sent, event_unsent, held_by_type, still_held}
 use Rattle.device_pdos.specs.Tpdos.{bytes_now, due_of, frame_if, frame_of_turn, tpdo_after_inhibit, goes_by_sync}
 use Rattle.device_pdos.specs.Tpdos.{tpdo_after_turn, moments, tpdo_moment, tpdos_after_inhibit, tpdos_after_turns}
 use Rattle.device_pdos.specs.Tpdos.{turn, waits_for_event, with_frame, with_tpdos}

@@ -5,7 +5,7 @@ use Rattle.std.specs.List.{range_with_len}
 use Rattle.std.proofs.lemmas.List.{map-append}
 use Rattle.std.proofs.lemmas.List.Elements.{filter-append}
 use Rattle.co_dict.specs.Shapes.{Shaped}
-use Rattle.co_pdos.specs.Working.{is_pdo}
+use Rattle.pdo_rules.specs.Working.{is_pdo}
 use Rattle.device_pdos.specs.Objects.{numbers_of}
 
 -- those of the numbers from 1 to n

@@ -8,17 +8,17 @@ use Rattle.std.proofs.lemmas.Bool.Decides.{nat_tests}
 use Rattle.std.proofs.lemmas.Slice.Eq.{bytes_eq-Decides}
 use Rattle.can_frame.specs.declared.waiting.Waiting.{Waiting}
 use Rattle.co_dict.specs.Values.{Values}
-use Rattle.co_base.specs.Moments.{moments_of, has_come, is_ahead}
-use Rattle.co_pdos.specs.declared.communication.Communication.{Communication}
-use Rattle.co_pdos.specs.declared.configuration.Configuration.{Configuration}
-use Rattle.co_pdos.specs.declared.sync_seen.SyncSeen.{SyncSeen}
-use Rattle.co_fields.specs.declared.transmission_type.TransmissionType.{TransmissionType}
-use Rattle.co_fields.specs.declared.transmission_type.TransmissionType.TheVariants.{Acyclic, Cyclic, EventDriven}
-use Rattle.co_fields.specs.declared.transmission_type.TransmissionType.TheVariants.{Reserved, OnRequest}
-use Rattle.co_pdos.specs.Tpdo.{Remembered, acyclic_turn, cyclic_turn, differs, event_turn}
-use Rattle.co_pdos.specs.Tpdo.{without_past_inhibit, turn_by_type}
-use Rattle.co_fields.specs.TransmissionTypes.{is_event_driven}
-use Rattle.co_pdos.proofs.TpdoLemmas.{event_is_sent, event_sent, event_unsent, is_wanted_at, moments_set}
+use Rattle.base.specs.Moments.{moments_of, has_come, is_ahead}
+use Rattle.pdo_rules.specs.declared.communication.Communication.{Communication}
+use Rattle.pdo_rules.specs.declared.configuration.Configuration.{Configuration}
+use Rattle.pdo_rules.specs.declared.sync_seen.SyncSeen.{SyncSeen}
+use Rattle.cia301.specs.declared.transmission_type.TransmissionType.{TransmissionType}
+use Rattle.cia301.specs.declared.transmission_type.TransmissionType.TheVariants.{Acyclic, Cyclic, EventDriven}
+use Rattle.cia301.specs.declared.transmission_type.TransmissionType.TheVariants.{Reserved, OnRequest}
+use Rattle.pdo_rules.specs.Tpdo.{Remembered, acyclic_turn, cyclic_turn, differs, event_turn}
+use Rattle.pdo_rules.specs.Tpdo.{without_past_inhibit, turn_by_type}
+use Rattle.cia301.specs.TransmissionTypes.{is_event_driven}
+use Rattle.pdo_rules.proofs.TpdoLemmas.{event_is_sent, event_sent, event_unsent, is_wanted_at, moments_set}
 use Rattle.device_pdos.specs.Tpdos.{bytes_now, due_of, frame_if, frame_of_turn, is_wanted, is_wanted_by, moments}
 use Rattle.device_pdos.specs.Tpdos.{tpdo_moment, tpdos_after_turns, turn, waits_for_event, with_tpdos}
 use Rattle.device_pdos.specs.declared.tpdo_state.TpdoState.{TpdoState}

@@ -4,7 +4,7 @@ use Rattle.std.specs.List.{AllByRecursion}
 use Rattle.std.proofs.lemmas.Bool.Decides.{nat_tests}
 use Rattle.co_dict.specs.Shapes.{Shaped}
 use Rattle.co_dict.specs.Values.{Values}
-use Rattle.device_pdos.specs.Objects.{number_of_object}
+use Rattle.cia301.specs.PdoObjects.{number_of_object}
 use Rattle.device_pdos.specs.Rpdos.{rpdo, rpdo_after_write, rpdos_after_write}
 use Rattle.device_pdos.specs.Tpdos.{tpdo, tpdo_after_write, tpdos_after_write}
 use Rattle.device_pdos.specs.declared.rpdo_state.RpdoState.{RpdoState}

@@ -6,14 +6,14 @@ use Rattle.can_frame.specs.Frames.{BaseFrame}
 use Rattle.co_dict.specs.Mappings.{mapping_bits}
 use Rattle.co_dict.specs.Shapes.{Shaped}
 use Rattle.co_dict.specs.Values.{Values}
-use Rattle.co_mapping.specs.Packing.{bytes_begun}
-use Rattle.co_pdos.specs.Configured.{configuration_of}
-use Rattle.co_pdos.specs.Rpdo.{frame_receipt}
-use Rattle.co_pdos.specs.Working.{rpdo_object}
-use Rattle.co_pdos.specs.declared.configuration.Configuration.{Configuration}
-use Rattle.co_pdos.specs.declared.receipt.Receipt.{Receipt}
-use Rattle.co_pdos.specs.declared.receipt.Receipt.TheVariants as receipt
-use Rattle.device_pdos.specs.Objects.{number_of_object, numbers_of}
+use Rattle.pdo_rules.specs.Packing.{bytes_begun}
+use Rattle.pdo_rules.specs.Configured.{configuration_of}
+use Rattle.pdo_rules.specs.Rpdo.{frame_receipt}
+use Rattle.cia301.specs.PdoObjects.{rpdo_object, number_of_object}
+use Rattle.pdo_rules.specs.declared.configuration.Configuration.{Configuration}
+use Rattle.pdo_rules.specs.declared.receipt.Receipt.{Receipt}
+use Rattle.pdo_rules.specs.declared.receipt.Receipt.TheVariants as receipt
+use Rattle.device_pdos.specs.Objects.{numbers_of}
 use Rattle.device_pdos.specs.declared.rpdo_state.RpdoState.{RpdoState}
 
 -- ---- as its entries say

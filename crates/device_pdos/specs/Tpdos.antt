@@ -8,17 +8,17 @@ use Rattle.can_frame.specs.declared.purpose.Purpose.TheVariants as purpose
 use Rattle.can_frame.specs.declared.waiting.Waiting.{Waiting}
 use Rattle.co_dict.specs.Shapes.{Shaped}
 use Rattle.co_dict.specs.Values.{Values}
-use Rattle.co_mapping.specs.Packing.{packed}
-use Rattle.co_base.specs.Moments.{moments_of}
-use Rattle.co_pdos.specs.Configured.{configuration_of}
-use Rattle.co_pdos.specs.Tpdo.{Remembered, Turn, differs, remembering_nothing, without_past_inhibit, turn_by_type}
-use Rattle.co_fields.specs.TransmissionTypes.{is_event_driven, is_synchronous}
-use Rattle.co_pdos.specs.Working.{tpdo_object}
-use Rattle.co_pdos.specs.declared.communication.Communication.{Communication}
-use Rattle.co_pdos.specs.declared.configuration.Configuration.{Configuration}
-use Rattle.co_pdos.specs.declared.sync_seen.SyncSeen.{SyncSeen}
-use Rattle.co_fields.specs.declared.transmission_type.TransmissionType.{TransmissionType}
-use Rattle.device_pdos.specs.Objects.{number_of_object, numbers_of}
+use Rattle.pdo_rules.specs.Packing.{packed}
+use Rattle.base.specs.Moments.{moments_of}
+use Rattle.pdo_rules.specs.Configured.{configuration_of}
+use Rattle.pdo_rules.specs.Tpdo.{Remembered, Turn, differs, remembering_nothing, without_past_inhibit, turn_by_type}
+use Rattle.cia301.specs.TransmissionTypes.{is_event_driven, is_synchronous}
+use Rattle.cia301.specs.PdoObjects.{tpdo_object, number_of_object}
+use Rattle.pdo_rules.specs.declared.communication.Communication.{Communication}
+use Rattle.pdo_rules.specs.declared.configuration.Configuration.{Configuration}
+use Rattle.pdo_rules.specs.declared.sync_seen.SyncSeen.{SyncSeen}
+use Rattle.cia301.specs.declared.transmission_type.TransmissionType.{TransmissionType}
+use Rattle.device_pdos.specs.Objects.{numbers_of}
 use Rattle.device_pdos.specs.declared.tpdo_state.TpdoState.{TpdoState}
 
 -- ---- as its entries say

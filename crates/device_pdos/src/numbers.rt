@@ -1,7 +1,7 @@
 //! The objects of a device's PDOs.
 
 ghost use Rattle.std.specs.Prelude.{◌≡◌, ◌≤◌};
-ghost use Rattle.device_pdos.specs.Objects.{is_of_rpdos, is_of_tpdos, number_of_object as number_by};
+ghost use Rattle.cia301.specs.PdoObjects.{number_of_object as number_by, is_of_tpdos, is_of_rpdos};
 
 /// The number of the last PDO.
 pub(crate) const LAST_PDO: u16 = 512;

@@ -2,12 +2,12 @@
 
 ghost use Rattle.std.specs.Prelude.{◌≡◌, ◌↔◌, IsTrue};
 ghost use Rattle.co_dict.specs.Mappings.{mapping_bits};
-ghost use Rattle.co_mapping.specs.Packing.{bytes_begun};
+ghost use Rattle.pdo_rules.specs.Packing.{bytes_begun};
 ghost use Rattle.device_pdos.specs.Rpdos.{has_identifier, receipt_of};
 
 use can_frame::Frame;
 use co_dict::mapped_length;
-use co_pdos::{Configuration, Mapping, Receipt, received};
+use pdo_rules::{Configuration, Mapping, Receipt, received};
 use std::alloc::AllocError;
 
 /// An RPDO of a device at a moment (CiA 301). Copies share its mapping.

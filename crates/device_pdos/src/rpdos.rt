@@ -8,7 +8,7 @@ use crate::numbers::{LAST_PDO, number_of_object};
 use crate::rpdo_state::RpdoState;
 use can_frame::Frame;
 use co_dict::{Dict, Shape};
-use co_pdos::{Configuration, is_pdo, rpdo_object};
+use pdo_rules::{Configuration, is_pdo, rpdo_object};
 use std::alloc::{AllocError, Global};
 
 /// The RPDOs of a device as its entries say, by number; they keep no frames.

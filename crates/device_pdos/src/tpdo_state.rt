@@ -1,14 +1,13 @@
 //! A TPDO of a device.
 
 ghost use Rattle.std.specs.Prelude.{◌≡◌, ◌↔◌, ◌<◌, ◌^◌, IsTrue, OnOk};
-ghost use Rattle.co_pdos.specs.Tpdo.{remembering_nothing};
+ghost use Rattle.pdo_rules.specs.Tpdo.{remembering_nothing};
 ghost use Rattle.device_pdos.specs.Tpdos.{frame_of_turn, goes_by_sync, tpdo_after_turn, tpdo_moment, waits_for_event};
 ghost use Rattle.device_pdos.specs.Tpdos.{with_frame};
 
 use can_frame::{Frame, Pending, Purpose};
 use co_dict::Dict;
-use co_mapping::pack;
-use co_pdos::{Configuration, SyncSeen, Tpdo};
+use pdo_rules::{Configuration, SyncSeen, Tpdo, pack};
 use std::alloc::AllocError;
 
 /// A TPDO of a device at a moment (CiA 301). Copies share its mapping.

@@ -1,16 +1,16 @@
 //! The TPDOs of a device, by number.
 
 ghost use Rattle.std.specs.Prelude.{◌≡◌, ◌<◌, ◌^◌, IfOk, OnOk, ◌↔◌, IsTrue};
-ghost use Rattle.co_base.specs.Moments.{earliest};
+ghost use Rattle.base.specs.Moments.{earliest};
 ghost use Rattle.device_pdos.specs.Tpdos.{moments, without_memories, tpdos_after_inhibit, tpdos_after_turns};
 ghost use Rattle.device_pdos.specs.Tpdos.{tpdo_after_write, tpdos_of as tpdos_now, tpdos_after_write, with_tpdos};
 
 use crate::numbers::{LAST_PDO, number_of_object};
 use crate::tpdo_state::TpdoState;
+use base::earlier;
 use can_frame::Pending;
-use co_base::earlier;
 use co_dict::{Dict, Shape};
-use co_pdos::{Configuration, SyncSeen, Tpdo, is_pdo, tpdo_object};
+use pdo_rules::{Configuration, SyncSeen, Tpdo, is_pdo, tpdo_object};
 use std::alloc::{AllocError, Global};
 
 /// The TPDOs of a device as its entries say, by number; they remember nothing. Takes time by the

@@ -1,7 +1,7 @@
 //! What a diagnostic is of.
 
 use crate::name::Name;
-use co_fields::Identifier;
+use cia301::Identifier;
 
 /// What a diagnostic is of, in the order of the words that its line shows.
 #[derive(Debug, PartialEq, Eq, PartialOrd, Ord, Drop)]

@@ -9,7 +9,7 @@ use Rattle.std.specs.Ordering.{is_lt, is_eq, eq_by_cmp}
 use Rattle.std.specs.FinMap.{insert, get, get-insert, get-entries, get-from_entries}
 use Rattle.std.specs.FinMap.{get-retain_keys, entries, find, is_sorted, retain_keys}
 use Rattle.std.specs.FinMap.Entries.{below_all}
-use Rattle.co_base.specs.Ranges.{is_between}
+use Rattle.base.specs.Ranges.{is_between}
 use Rattle.dict_values.specs.Places.{place_cmp}
 use Rattle.dict_values.specs.Restored.{is_kept, with_all, with_restored}
 use Rattle.dict_values.specs.Values.{Values}

@@ -5,7 +5,7 @@ use Rattle.std.proofs.lemmas.Bool.{false≢true}
 use Rattle.std.specs.Prelude.{if◌then◌else◌}
 use Rattle.std.specs.Option.{option_or}
 use Rattle.std.specs.FinMap.{empty, entries, entries_sorted, get, get-empty, get-entries, insert, same_map}
-use Rattle.co_base.specs.Ranges.{is_between}
+use Rattle.base.specs.Ranges.{is_between}
 use Rattle.dict_values.specs.Layers.{HasEach, HasWritten, layered}
 use Rattle.dict_values.specs.Places.{place_cmp}
 use Rattle.dict_values.specs.Restored.{is_kept, with_restored, with_all}

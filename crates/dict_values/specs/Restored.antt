@@ -1,7 +1,7 @@
 -- A part of a dictionary as another has it (CiA 301, NMT reset: objects get their power-on values).
 use Rattle.std.specs.Prelude.{ℕ, not, Bool, List, [], ◌∷◌, ◌++◌, if◌then◌else◌}
 use Rattle.std.specs.FinMap.{entries, from_entries, insert, retain_keys}
-use Rattle.co_base.specs.Ranges.{is_between}
+use Rattle.base.specs.Ranges.{is_between}
 use Rattle.dict_values.specs.Values.{Values}
 
 -- the entries with an index from `first` to `last` are those of the other dictionary; all others stay

@@ -3,7 +3,7 @@
 ghost use Rattle.std.specs.Prelude.{◌≡◌, ◌≤◌, ◌↔◌, ℕ, List, length, IfOk, IsTrue};
 ghost use Rattle.co_values.specs.Values.{longest_value};
 
-use co_base::Octets;
+use base::Octets;
 use std::alloc::{AllocError, Global};
 use std::marker::Model;
 use std::rc::Rc;

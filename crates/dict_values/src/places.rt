@@ -2,7 +2,7 @@
 
 ghost use Rattle.std.specs.Prelude.{◌≡◌, ◌↔◌, IsTrue, IsSome, true, false, if◌then◌else◌, OnOk};
 ghost use Rattle.std.specs.FinMap as map;
-ghost use Rattle.co_base.specs.Ranges.{is_between};
+ghost use Rattle.base.specs.Ranges.{is_between};
 ghost use Rattle.dict_values.specs.Layers.{AgreeOn, HasEach, HasWritten};
 ghost use Rattle.dict_values.specs.Places.{place_cmp};
 ghost use Rattle.dict_values.specs.Restored.{is_kept};

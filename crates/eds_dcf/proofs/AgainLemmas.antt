@@ -3,7 +3,7 @@ use Rattle.std.proofs.Common.{◌≡◌, ℕ, ◌<◌, true, List, [], ◌∷◌
 use Rattle.std.proofs.Common.{arith, ℤ, pos, negsuc}
 use Rattle.std.specs.Fmt.{signed_decimal}
 use Rattle.std.specs.Option.{option_and_then}
-use Rattle.co_base.specs.Bytes.{AreBytes}
+use Rattle.base.specs.Bytes.{AreBytes}
 use Rattle.co_values.proofs.Printed.{value-printed}
 use Rattle.co_values.proofs.Read.{flag_fits, number_fits, paired_fits, pairs_fit, short_at}
 use Rattle.co_values.specs.declared.data_type.DataType.{DataType}

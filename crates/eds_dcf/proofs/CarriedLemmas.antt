@@ -16,7 +16,7 @@ use Rattle.co_values.specs.Types.{is_modelled}
 use Rattle.co_values.specs.Values.{text_of_value}
 use Rattle.co_dict.specs.declared.entry.Entry.{Entry}
 use Rattle.co_dict.specs.Accesses.{is_writable}
-use Rattle.co_dict.specs.Pdos.{is_of_pdos}
+use Rattle.cia301.specs.PdoObjects.{is_of_pdos}
 use Rattle.eds_device.specs.Described.{description_of, description_by, description_in, highest_sub, kind_at}
 use Rattle.eds_device.specs.Described.{unless_empty, value_text}
 use Rattle.eds_device.specs.Entries.{entry_at, entry_by}
@@ -25,13 +25,14 @@ use Rattle.eds_device.specs.Places.{pairs_of}
 use Rattle.eds_device.specs.Sections.{kind_of}
 use Rattle.std.specs.FinMap.{empty, get-empty}
 use Rattle.co_dict.specs.Places.{place_cmp}
-use Rattle.co_params.specs.Params.{Texts}
-use Rattle.co_params.proofs.JudgedLemmas.{judged_entry, judged_suits}
-use Rattle.co_params.proofs.ParameterLemmas.{behind, kind_of_entry, writes_sized}
-use Rattle.co_params.proofs.WrittenLemmas.{All-filter_map, Contains-filter_map}
-use Rattle.co_params.specs.declared.parameter_fault.ParameterFault.{ParameterFault}
-use Rattle.co_params.specs.Judgement.{Suits, parameter_bytes}
-use Rattle.co_params.specs.Parameters.{parameter_text, parameter_write, parameter_writes, place_of, write_to}
+use Rattle.node_parameters.specs.Params.{Texts}
+use Rattle.node_parameters.proofs.JudgedLemmas.{judged_entry, judged_suits}
+use Rattle.node_parameters.proofs.ParameterLemmas.{behind, kind_of_entry, writes_sized}
+use Rattle.node_parameters.proofs.WrittenLemmas.{All-filter_map, Contains-filter_map}
+use Rattle.node_parameters.specs.declared.parameter_fault.ParameterFault.{ParameterFault}
+use Rattle.node_parameters.specs.Judgement.{Suits, parameter_bytes}
+use Rattle.node_parameters.specs.Parameters.{parameter_text, parameter_write, parameter_writes, write_to}
+use Rattle.concise_dcf.specs.Writes.{place_of}
 use Rattle.eds_dcf.specs.Dcf.{dcf_sections}
 use Rattle.eds_dcf.specs.Standing.{is_typed, section_in, value_that_stands}
 use Rattle.eds_dcf.specs.Writes.{is_to, last_of}

@@ -4,15 +4,15 @@ use Rattle.std.proofs.Common.{option_and_then, codes, nat_le}
 use Rattle.std.specs.List.{AllByRecursion, find}
 use Rattle.std.specs.Option.{option_or}
 use Rattle.ini_text.specs.Content.{Pair, Section, same, value_at}
-use Rattle.co_dict.specs.Pdos.{is_of_pdos}
+use Rattle.cia301.specs.PdoObjects.{is_of_pdos}
 use Rattle.eds_device.specs.Described.{listed_value, sub_listed, unless_empty, value_by, value_text}
 use Rattle.eds_device.specs.Names.{index_named, place_named, values_named}
 use Rattle.eds_device.specs.Origins.{Origin, own, compact, is_index, is_place, object_section, origin_of, sub_section}
 use Rattle.eds_device.specs.Origins.{values_section}
 use Rattle.eds_device.specs.Sections.{compact_count, is_plain}
 use Rattle.std.specs.FinMap.{get}
-use Rattle.co_params.specs.Params.{Texts}
-use Rattle.co_params.specs.Parameters.{given_text, parameter_text}
+use Rattle.node_parameters.specs.Params.{Texts}
+use Rattle.node_parameters.specs.Parameters.{given_text, parameter_text}
 use Rattle.eds_dcf.specs.Standing.{section_in}
 use Rattle.eds_dcf.proofs.SectionLemmas.{found_all}
 

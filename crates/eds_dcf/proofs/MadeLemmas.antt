@@ -14,7 +14,7 @@ use Rattle.std.specs.Option.{option_or}
 use Rattle.std.specs.Str.Parse.{AllDigits, digits_value}
 use Rattle.ini_text.specs.Content.{Section}
 use Rattle.co_dict.specs.Places.{place_cmp}
-use Rattle.co_text.specs.Digits.{digits_number}
+use Rattle.plain_text.specs.Digits.{digits_number}
 use Rattle.eds_device.proofs.MapLemmas.{alike}
 use Rattle.eds_device.proofs.PlaceLemmas.{found_passes, has_place, index_is, origin_has, pairs_sorted}
 use Rattle.eds_device.specs.Names.{index_named}

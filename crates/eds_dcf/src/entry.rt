@@ -8,7 +8,7 @@ ghost use Rattle.eds_dcf.specs.Entries.{parameter_place};
 ghost use Rattle.eds_device.specs.Described.{kind_at};
 
 use crate::printing::{put_line, put_name, put_pairs_without};
-use co_base::Octets;
+use base::Octets;
 use co_values::{DataType, Value, hex_text};
 use eds_device::{Device, Origin, Placed, Section, index_named, place_named};
 use std::alloc::{AllocError, Global};

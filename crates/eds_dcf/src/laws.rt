@@ -7,10 +7,10 @@ ghost use Rattle.ini_text.specs.Content.{Pair, Section, content_of, same, value_
 ghost use Rattle.ini_text.specs.Printable.{IsPrintable, IsValue};
 ghost use Rattle.co_values.specs.Types.{is_modelled};
 ghost use Rattle.co_values.specs.Values.{text_of_value};
-ghost use Rattle.co_dict.specs.Pdos.{is_of_pdos};
+ghost use Rattle.cia301.specs.PdoObjects.{is_of_pdos};
 ghost use Rattle.std.specs.FinMap as map;
-ghost use Rattle.co_params.specs.Parameters.{parameter_writes};
-ghost use Rattle.co_params.specs.Params.{Texts};
+ghost use Rattle.node_parameters.specs.Parameters.{parameter_writes};
+ghost use Rattle.node_parameters.specs.Params.{Texts};
 ghost use Rattle.concise_dcf.specs.declared.write.Write.{Write as written};
 ghost use Rattle.eds_device.specs.Described.{description_of, kind_at};
 ghost use Rattle.eds_device.specs.Names.{values_named};

@@ -13,7 +13,7 @@ ghost use Rattle.eds_entries.specs.Shown.{description_shown};
 use crate::device::Device;
 use crate::entries::entry_of;
 use crate::fixed::{Fixed, LONGEST_TEXT, fixed_defaults};
-use co_base::Octets;
+use base::Octets;
 use co_dict::Shape;
 use co_values::DataType;
 use eds_entries::Described;

@@ -4,7 +4,7 @@ ghost use Rattle.std.specs.Arc.{arc_value};
 ghost use Rattle.ini_text.specs.Content.{content_of};
 
 use crate::device::Device;
-use co_base::Octets;
+use base::Octets;
 use ini_text::{Section, same_sections};
 use std::alloc::AllocError;
 use std::sync::Arc;

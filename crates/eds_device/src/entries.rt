@@ -6,7 +6,7 @@ ghost use Rattle.eds_device.specs.Entries.{limit_at, entry_by, entry_at, default
 ghost use Rattle.eds_entries.specs.Shown.{default_shown, description_shown};
 
 use crate::device::Device;
-use co_base::Octets;
+use base::Octets;
 use co_dict::Entry;
 use co_values::{DataType, default_value, integer_of, read_number, value_of};
 use eds_entries::{DefaultText, Described, is_not_zero};

@@ -1,6 +1,6 @@
 //! The entries that sections give.
 ghost use Rattle.std.specs.Prelude.{◌≡◌, ◌≤◌, [], ◌∷◌, length, IfOk};
-ghost use Rattle.co_base.specs.Gives.{Gives};
+ghost use Rattle.base.specs.Gives.{Gives};
 ghost use Rattle.eds_device.specs.Faults.{is_memory, limited, most_entries};
 ghost use Rattle.eds_device.specs.Places.{first_subs, object_places, places_given, pairs_of};
 ghost use Rattle.eds_device.specs.Adding.{with_places};

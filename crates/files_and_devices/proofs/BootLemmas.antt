@@ -1,29 +1,30 @@
 -- What the manager makes of the exchange: a boot begins, takes a step by an answer, or has failed.
 use Rattle.std.proofs.Common.{◌≡◌, ℕ, ◌+◌, Bool, List, [], ◌∷◌, ◌++◌, Option, Some, None}
 use Rattle.std.proofs.Common.{◌⊎◌, inl, inr, refl, sym, ap, subst, arith}
-use Rattle.boot_exchanges.specs.Steps.{ComparesOrWrites, FollowsAnswer, StartsWrite, WritesOn}
+use Rattle.files_and_devices.specs.Steps.{ComparesOrWrites, FollowsAnswer, StartsWrite, WritesOn}
 use Rattle.bus_laws.specs.Boots.{IsBootUpOf}
 use Rattle.can_bus.specs.declared.slot.Slot.{Slot}
 use Rattle.can_frame.specs.Identifiers.{error_control_id, sdo_answer_id}
 use Rattle.can_frame.specs.declared.waiting.Waiting.{Waiting}
 use Rattle.co_device.specs.Device.{Device}
-use Rattle.co_parts.specs.Contents.{Image, write_of}
-use Rattle.co_parts.specs.declared.part.Part.TheVariants.{Boot}
-use Rattle.co_sdo_client.specs.Client.{after_answer}
-use Rattle.co_sdo_client.specs.declared.client_transfer.ClientTransfer.{ClientTransfer}
-use Rattle.co_sdo_client.specs.declared.progress.Progress.{Progress}
-use Rattle.co_sdo_client.specs.declared.progress.Progress.TheVariants as progress
+use Rattle.image_parts.specs.Contents.{Image, write_of}
+use Rattle.image_parts.specs.declared.part.Part.TheVariants.{Boot}
+use Rattle.sdo_client.specs.Client.{after_answer}
+use Rattle.sdo_client.specs.declared.client_transfer.ClientTransfer.{ClientTransfer}
+use Rattle.sdo_client.specs.declared.progress.Progress.{Progress}
+use Rattle.sdo_client.specs.declared.progress.Progress.TheVariants as progress
 use Rattle.concise_dcf.specs.declared.write.Write.{Write}
-use Rattle.device_writes.specs.Leaves.{answers_of}
+use Rattle.files_and_devices.specs.Leaves.{answers_of}
 use Rattle.files_and_devices.specs.Exchanges.{Anything, Asks, Exchanges, HoldsBelow, IsBooting, IsExchanging}
 use Rattle.files_and_devices.specs.Exchanges.{IsOneAtMost, IsTraffic, Silence, TellsTruth, Tells, Traffic}
 use Rattle.files_and_devices.specs.Exchanges.{bytes_of, requests_under_way}
-use Rattle.files_and_devices.specs.Files.{IsWrite, entry_of}
+use Rattle.files_and_devices.specs.Files.{IsWrite}
+use Rattle.concise_dcf.specs.Writes.{place_of}
 use Rattle.files_and_devices.proofs.DeviceLemmas.{AsStage, here_on_wire}
 use Rattle.files_and_devices.proofs.ListLemmas.{both_empty, head_is, none_has_bytes, not_empty, one_of_two}
 use Rattle.files_and_devices.proofs.Others.{download_starts}
 use Rattle.files_and_devices.proofs.ValueLemmas.{none_below}
-use Rattle.boot_table.specs.Table.{sdo_frames}
+use Rattle.manager_nodes.specs.Table.{sdo_frames}
 use Rattle.node_boot.specs.Boot.{write_started}
 use Rattle.node_boot.specs.declared.boot_stage.BootStage.{BootStage}
 use Rattle.node_boot.specs.declared.boot_stage.BootStage.TheVariants.{Unseen, Comparing, Writing, Configured, Failed}
@@ -47,7 +48,7 @@ module _ (image : Image) (node deadline : ℕ) (marks : ℕ × ℕ → Bool) (d 
       → HoldsBelow image node marks d.values j → As (write_started deadline j w)
   unfolding write_started
   starts_as j None e below = (tt, (j, (e, below)))
-  starts_as j (Some w) e below = (w, (e, (below, download_starts (entry_of w) w.bytes d.transfer)))
+  starts_as j (Some w) e below = (w, (e, (below, download_starts (place_of w) w.bytes d.transfer)))
 
   started_as : (j : ℕ) (step : BootStep) → StartsWrite image deadline node j step
       → HoldsBelow image node marks d.values j → As step

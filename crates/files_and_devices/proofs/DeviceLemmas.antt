@@ -13,28 +13,29 @@ use Rattle.can_frame.specs.declared.unwanted.Unwanted.TheVariants.{Sdos}
 use Rattle.can_frame.specs.declared.waiting.Waiting.{Waiting}
 use Rattle.co_device.specs.Device.{Device, answer_frames}
 use Rattle.co_dict.specs.Values.{Values, bytes_at}
-use Rattle.co_parts.specs.Contents.{Image, shape_of}
-use Rattle.co_parts.specs.declared.part.Part.TheVariants.{Shape}
+use Rattle.image_parts.specs.Contents.{Image, shape_of}
+use Rattle.image_parts.specs.declared.part.Part.TheVariants.{Shape}
 use Rattle.co_sdo.specs.declared.transfer.Transfer.{Transfer}
 use Rattle.co_sdo.specs.declared.transfer.Transfer.TheVariants.{Idle}
-use Rattle.co_sdo_client.specs.Client.{after_answer}
-use Rattle.co_sdo_client.specs.declared.client_transfer.ClientTransfer.{ClientTransfer}
+use Rattle.sdo_client.specs.Client.{after_answer}
+use Rattle.sdo_client.specs.declared.client_transfer.ClientTransfer.{ClientTransfer}
 use Rattle.concise_dcf.specs.declared.write.Write.{Write}
-use Rattle.device_writes.specs.Leaves.{LeavesServer, ServesRequest, answers_of, served}
-use Rattle.device_writes.specs.Writes.{writes_told}
-use Rattle.device_writes.specs.Written.{AgreeButRegister, AreOf, Written}
+use Rattle.files_and_devices.specs.Leaves.{LeavesServer, ServesRequest, answers_of, served}
+use Rattle.files_and_devices.specs.Writes.{writes_told}
+use Rattle.files_and_devices.specs.Written.{AgreeButRegister, AreOf, Written}
 use Rattle.files_and_devices.specs.Exchanges.{Anything, Asks, Exchanges, HoldsBelow, IsAsStage, IsBooting, IsExchanging}
 use Rattle.files_and_devices.specs.Exchanges.{IsTraffic, Silence, TellsTruth, Tells, Traffic, answers_under_way}
 use Rattle.files_and_devices.specs.Exchanges.{bytes_of, on_wire, requests_under_way}
-use Rattle.files_and_devices.specs.Files.{IsWrite, entry_of}
+use Rattle.files_and_devices.specs.Files.{IsWrite}
+use Rattle.concise_dcf.specs.Writes.{place_of}
 use Rattle.files_and_devices.proofs.ListLemmas.{both_empty, head_is, not_empty, one_of_two}
 use Rattle.files_and_devices.proofs.MarkLemmas.{stored_elsewhere, told}
 use Rattle.files_and_devices.proofs.Others.{download_answered, download_dropped}
 use Rattle.files_and_devices.proofs.ValueLemmas.{nothing_wrote, one_more_below, others_wrote}
 use Rattle.node_boot.specs.declared.boot_stage.BootStage.{BootStage}
 use Rattle.node_boot.specs.declared.boot_stage.BootStage.TheVariants.{Unseen, Comparing, Writing, Configured, Failed}
-use Rattle.sdo_downloads.specs.Downloads.{IsUnderWay}
-use Rattle.boot_exchanges.proofs.WaitingLemmas.{number_itself, number_other}
+use Rattle.files_and_devices.specs.Downloads.{IsUnderWay}
+use Rattle.files_and_devices.proofs.WaitingLemmas.{number_itself, number_other}
 
 -- ---- frames on the wire
 
@@ -166,7 +167,7 @@ module _ (image : Image) (node : ℕ) where
     stage_left (Comparing place expected client deadline) traffic h = h
     stage_left (Writing j client deadline) Silence h = tt
     stage_left (Writing j client deadline) (Asks r) h =
-        (h.0, (h.1.0, (below_left j h.1.1.0, under_left (entry_of h.0) h.0.bytes client r h.1.1.1)))
+        (h.0, (h.1.0, (below_left j h.1.1.0, under_left (place_of h.0) h.0.bytes client r h.1.1.1)))
     stage_left (Writing j client deadline) (Tells a) h = (
       h.0,
       (
@@ -175,7 +176,7 @@ module _ (image : Image) (node : ℕ) where
           written = λ p. below_left (j + 1) (h.1.1.written p);
           goes_on = λ next p. (
             below_left j (h.1.1.goes_on next p).0,
-            under_left (entry_of h.0) h.0.bytes (after_answer client a).stage next (h.1.1.goes_on next p).1,
+            under_left (place_of h.0) h.0.bytes (after_answer client a).stage next (h.1.1.goes_on next p).1,
           );
         },
       ),
@@ -300,12 +301,12 @@ module _ (image : Image) (node : ℕ) where
     module _ (a : List ℕ) (answers : done.answer ≡ Some a) where
       told_truth : (j : ℕ) (client : ClientTransfer) (w : Write) → IsWrite image node j w
           → HoldsBelow image node marks d.values j
-          → IsUnderWay (entry_of w) w.bytes client d.transfer slot.frame.bytes
+          → IsUnderWay (place_of w) w.bytes client d.transfer slot.frame.bytes
           → TellsTruth image node after e.values e.transfer j w client a
       told_truth j client w is below under = record {
         written = λ p. one_more_below image node marks after d.values e.values j w is
-            (λ place other. told_is (Some (entry_of w)) (is_answered.written p).wrote place
-            ∙ stored_elsewhere node (record { place = entry_of w; bytes = bytes_at done.values (entry_of w) })
+            (λ place other. told_is (Some (place_of w)) (is_answered.written p).wrote place
+            ∙ stored_elsewhere node (record { place = place_of w; bytes = bytes_at done.values (place_of w) })
             place other (marks place))
             (subst (λ (vs : Values). AgreeButRegister vs e.values) (is_answered.written p).stored s.values) below;
         goes_on = λ next p. (
@@ -313,13 +314,13 @@ module _ (image : Image) (node : ℕ) where
               (λ place. told_is None (is_answered.goes_on next p).0.wrote place)
               (subst (λ (vs : Values). AgreeButRegister vs e.values) (is_answered.goes_on next p).0.kept s.values)
               below,
-          subst (λ (x : Transfer). IsUnderWay (entry_of w) w.bytes (after_answer client a).stage x next)
+          subst (λ (x : Transfer). IsUnderWay (place_of w) w.bytes (after_answer client a).stage x next)
               (sym s.transfer) (is_answered.goes_on next p).1,
         );
       }
         where
-          is_answered : Rattle.sdo_downloads.specs.Downloads.IsAnswered (entry_of w) w.bytes client d.values done a
-          is_answered = download_answered (shape_of (image (Shape d.number))) d.values (entry_of w) w.bytes client
+          is_answered : Rattle.files_and_devices.specs.Downloads.IsAnswered (place_of w) w.bytes client d.values done a
+          is_answered = download_answered (shape_of (image (Shape d.number))) d.values (place_of w) w.bytes client
               d.transfer slot.frame.bytes a under answers
 
       stage_told : (stage : BootStage) → AsStage marks d.values d.transfer stage (Asks slot.frame.bytes)

@@ -4,21 +4,21 @@ use Rattle.std.proofs.Common.{◌⊎◌, inl, inr, refl, sym, ap, ◌∙◌, sub
 use Rattle.std.specs.Prelude.{if◌then◌else◌}
 use Rattle.std.proofs.lemmas.List.{get_or_default}
 use Rattle.std.proofs.lemmas.List.Elements.{All-head, All-tail}
-use Rattle.boot_exchanges.specs.Requests.{requests_to}
-use Rattle.boot_table.specs.Table.{no_node, node_at}
-use Rattle.boot_table.specs.declared.booting.Booting.{Booting}
-use Rattle.bus_events.specs.Places.{device_at}
+use Rattle.files_and_devices.specs.Requests.{requests_to}
+use Rattle.manager_nodes.specs.Table.{no_node, node_at}
+use Rattle.manager_nodes.specs.declared.booting.Booting.{Booting}
+use Rattle.bus_devices.specs.Places.{device_at}
 use Rattle.bus_laws.specs.Spans.{bus_at}
 use Rattle.can_bus.specs.Bus.{Bus}
 use Rattle.can_bus.specs.declared.slot.Slot.{Slot}
 use Rattle.can_frame.specs.declared.waiting.Waiting.{Waiting}
 use Rattle.co_device.specs.Device.{Device, without_power}
 use Rattle.co_dict.specs.Values.{Values}
-use Rattle.co_parts.specs.Contents.{Image, write_of}
-use Rattle.co_parts.specs.Images.{IsImage}
-use Rattle.co_parts.specs.declared.part.Part.TheVariants as part
-use Rattle.co_parts.specs.declared.roster.Roster.{Roster}
-use Rattle.device_writes.specs.Written.{Written}
+use Rattle.image_parts.specs.Contents.{Image, write_of}
+use Rattle.image_parts.specs.Images.{IsImage}
+use Rattle.image_parts.specs.declared.part.Part.TheVariants as part
+use Rattle.image_parts.specs.declared.roster.Roster.{Roster}
+use Rattle.files_and_devices.specs.Written.{Written}
 use Rattle.files_and_devices.specs.Exchanges.{Exchanges, GivesBelow, HoldsBelow, IsAsStage, IsBooting, IsExchanging}
 use Rattle.files_and_devices.specs.Files.{Configures, Holds, IsConfigured, IsExcepted, IsUp}
 use Rattle.files_and_devices.specs.Marks.{Marks, after_writes, is_marking, is_of, marks_at, marked_after}
@@ -77,7 +77,7 @@ module _ (image : Image) (node : ℕ) (marks : ℕ × ℕ → Bool) (d : Device)
 
 -- ---- a bus
 
-module _ (image : Image) (roster : Roster) (is : Rattle.co_parts.specs.Images.IsRoster roster) (marks : Marks)
+module _ (image : Image) (roster : Roster) (is : Rattle.image_parts.specs.Images.IsRoster roster) (marks : Marks)
     (s : Bus) (g : IsGood image roster marks s.devices s.manager s.wire) where
   module _ (node : ℕ) (d : Device) (configured : IsConfigured s node) (up : IsUp s node d) where
     i : ℕ

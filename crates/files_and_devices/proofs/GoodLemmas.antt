@@ -5,34 +5,34 @@ use Rattle.std.specs.Prelude.{◌==◌, if◌then◌else◌}
 use Rattle.std.specs.List.{AllByRecursion, flat_map}
 use Rattle.std.proofs.lemmas.List.{get_or-map, length-map}
 use Rattle.std.proofs.lemmas.List.Elements.{All-nil}
-use Rattle.asking.proofs.EachLemmas.{outcome_each}
-use Rattle.asking.specs.Asking.{Answer, Asking, outcome}
-use Rattle.asking.specs.Each.{each}
-use Rattle.boot_exchanges.proofs.NodeLemmas.{command_leaves}
-use Rattle.boot_exchanges.proofs.OwnLemmas.{command_owns, frame_owns as manager_frame_owns}
-use Rattle.boot_exchanges.proofs.OwnLemmas.{frame_stays as manager_frame_stays, timers_own, timers_stay}
-use Rattle.boot_exchanges.specs.Requests.{HasOwnFrames as ManagerOwns, StaysManager, requests_to}
-use Rattle.bus_events.proofs.EventLemmas.{happens_nmt, happens_set, outcome_events, outcome_power}
-use Rattle.bus_events.specs.Events.{after_event, after_events_at, after_power_at, after_set_at}
-use Rattle.bus_events.specs.Places.{device_at}
+use Rattle.image_parts.proofs.EachLemmas.{outcome_each}
+use Rattle.image_parts.specs.Asking.{Answer, Asking, outcome}
+use Rattle.image_parts.specs.Each.{each}
+use Rattle.files_and_devices.proofs.NodeLemmas.{command_leaves}
+use Rattle.files_and_devices.proofs.OwnLemmas.{command_owns, frame_owns as manager_frame_owns}
+use Rattle.files_and_devices.proofs.OwnLemmas.{frame_stays as manager_frame_stays, timers_own, timers_stay}
+use Rattle.files_and_devices.specs.Requests.{HasOwnFrames as ManagerOwns, StaysManager, requests_to}
+use Rattle.bus_devices.proofs.EventLemmas.{happens_nmt, happens_set, outcome_events, outcome_power}
+use Rattle.bus_devices.specs.Events.{after_event, after_events_at, after_power_at, after_set_at}
+use Rattle.bus_devices.specs.Places.{device_at}
 use Rattle.can_bus.specs.Bus.{delivered_of, manager_after_slot}
 use Rattle.can_bus.specs.declared.slot.Slot.{Slot}
 use Rattle.co_device.specs.Device.{Device, after_instant, after_power, after_set, without_power}
 use Rattle.co_device.specs.Receiving.{after_frame}
-use Rattle.co_parts.specs.Contents.{Content, Image}
-use Rattle.co_parts.specs.Images.{IsRoster}
-use Rattle.co_parts.specs.declared.part.Part.{Part}
-use Rattle.co_parts.specs.declared.roster.Roster.{Roster}
+use Rattle.image_parts.specs.Contents.{Content, Image}
+use Rattle.image_parts.specs.Images.{IsRoster}
+use Rattle.image_parts.specs.declared.part.Part.{Part}
+use Rattle.image_parts.specs.declared.roster.Roster.{Roster}
 use Rattle.co_scenario.specs.declared.nmt_command.NmtCommand.{NmtCommand}
 use Rattle.co_scenario.specs.declared.step.Step.{Step}
 use Rattle.co_scenario.specs.declared.step.Step.TheVariants.{Set, Power, Nmt}
 use Rattle.co_scenario.specs.declared.timed_step.TimedStep.{TimedStep}
 use Rattle.device_agenda.specs.Agenda.{hears}
-use Rattle.device_frames.specs.Own.{HasOwnFrames as DeviceOwns}
+use Rattle.files_and_devices.specs.Own.{HasOwnFrames as DeviceOwns}
 use Rattle.device_laws.proofs.SelfLemmas.{frame_stays, instant_stays, power_switches, set_stays}
 use Rattle.device_laws.specs.States.{HasBooted}
-use Rattle.device_writes.specs.Writes.{writes_of_frame, writes_of_set}
-use Rattle.device_writes.specs.Written.{AreOf, Written}
+use Rattle.files_and_devices.specs.Writes.{writes_of_frame, writes_of_set}
+use Rattle.files_and_devices.specs.Written.{AreOf, Written}
 use Rattle.files_and_devices.specs.Marks.{Marks, after_writes, marked_after, writes_of_events, writes_of_step}
 use Rattle.files_and_devices.specs.Marks.{written_at, written_by_frame}
 use Rattle.files_and_devices.proofs.DeviceLemmas.{exchange_left}
@@ -43,7 +43,7 @@ use Rattle.files_and_devices.proofs.RosterLemmas.{IsAt, IsOf, IsOwned, device_nu
 use Rattle.files_and_devices.proofs.TurnLemmas.{Ex, boot_left, booted_exchanges, dark_exchanges, delivery_turns}
 use Rattle.files_and_devices.proofs.TurnLemmas.{device_runs, manager_runs}
 use Rattle.nmt_boot.specs.Manager.{Manager, timers, with_command}
-use Rattle.boot_table.specs.Table.{node_at}
+use Rattle.manager_nodes.specs.Table.{node_at}
 use Rattle.nmt_boot.specs.Manager as manager
 
 -- the exchange with each node of the bus

@@ -3,13 +3,14 @@ use Rattle.std.proofs.Common.{◌≡◌, ◌≢◌, ℕ, zero, suc, ◌+◌, ◌
 use Rattle.std.proofs.Common.{◌⊎◌, inl, inr, refl, sym, ap, ◌∙◌, subst, arith, slice_get, get_or}
 use Rattle.std.proofs.lemmas.Bool.{cases_eq}
 use Rattle.std.proofs.lemmas.Option.{same_Some, slice_get-get_or, slice_get_within}
-use Rattle.co_parts.specs.Contents.{Image, write_of}
-use Rattle.co_parts.specs.Images.{IsImage, greatest_place}
-use Rattle.co_parts.specs.declared.part.Part.TheVariants.{Boot}
+use Rattle.image_parts.specs.Contents.{Image, write_of}
+use Rattle.image_parts.specs.Images.{IsImage, greatest_place}
+use Rattle.image_parts.specs.declared.part.Part.TheVariants.{Boot}
 use Rattle.concise_dcf.proofs.Entries.{one_list}
 use Rattle.concise_dcf.specs.Concise.{IsTextOf}
 use Rattle.concise_dcf.specs.declared.write.Write.{Write}
-use Rattle.files_and_devices.specs.Files.{Configures, IsGivenBy, IsLastIn, IsReached, IsWrite, entry_of}
+use Rattle.files_and_devices.specs.Files.{Configures, IsGivenBy, IsLastIn, IsReached, IsWrite}
+use Rattle.concise_dcf.specs.Writes.{place_of}
 use Rattle.files_and_devices.proofs.ListLemmas.{below_next, place_or_not}
 
 some_is_there : {X : Type 0} (o : Option X) (x : X) → o ≡ Some x → o ≢ None
@@ -57,16 +58,16 @@ module _ (image : Image) (node : ℕ) where
       write : Write
       below : number < j
       is_write : IsWrite image node number write
-      names : entry_of write ≡ place
+      names : place_of write ≡ place
       is_last : (later : ℕ) (other : Write) → number < later → later < j → IsWrite image node later other
-          → entry_of other ≢ place
+          → place_of other ≢ place
 
     abbrev NoneBelow : ℕ → Type 0
-    NoneBelow j = (k : ℕ) (w : Write) → k < j → IsWrite image node k w → entry_of w ≢ place
+    NoneBelow j = (k : ℕ) (w : Write) → k < j → IsWrite image node k w → place_of w ≢ place
 
     -- the write names another entry, or there is none
     abbrev IsOther : ℕ → Type 0
-    IsOther j = (w : Write) → At j ≡ Some w → entry_of w ≢ place
+    IsOther j = (w : Write) → At j ≡ Some w → place_of w ≢ place
 
     last_or_none : (j : ℕ) → IsLastBelow j ⊎ NoneBelow j
     last_or_none zero = inr (λ k w less is. absurd (omega (arith, less)))
@@ -83,7 +84,7 @@ module _ (image : Image) (node : ℕ) where
         }
           where
             at : (later : ℕ) (w : Write) → h.number < later → later < suc j → IsWrite image node later w
-                → (later ≡ j) ⊎ (later ≢ j) → entry_of w ≢ place
+                → (later ≡ j) ⊎ (later ≢ j) → place_of w ≢ place
             at later w after below is (inl same) = other w (ap At (sym same) ∙ is)
             at later w after below is (inr apart) =
                 h.is_last later w after (below_next later j (omega (arith, below)) apart) is
@@ -91,7 +92,7 @@ module _ (image : Image) (node : ℕ) where
         still_none : IsOther j → NoneBelow j → NoneBelow (suc j)
         still_none other none k w less is = at (cases_eq k j)
           where
-            at : (k ≡ j) ⊎ (k ≢ j) → entry_of w ≢ place
+            at : (k ≡ j) ⊎ (k ≢ j) → place_of w ≢ place
             at (inl same) = other w (ap At (sym same) ∙ is)
             at (inr apart) = none k w (below_next k j (omega (arith, less)) apart) is
 
@@ -99,7 +100,7 @@ module _ (image : Image) (node : ℕ) where
         either other (inl h) = inl (kept other h)
         either other (inr none) = inr (still_none other none)
 
-        here : (w : Write) → At j ≡ Some w → entry_of w ≡ place → IsLastBelow (suc j)
+        here : (w : Write) → At j ≡ Some w → place_of w ≡ place → IsLastBelow (suc j)
         here w is names = record {
           number = j;
           write = w;
@@ -109,15 +110,15 @@ module _ (image : Image) (node : ℕ) where
           is_last = λ later other after below other_is. absurd (omega (arith, after, below));
         }
 
-        named : (w : Write) → At j ≡ Some w → IsLastBelow j ⊎ NoneBelow j → (entry_of w ≡ place) ⊎ (entry_of w ≢ place)
+        named : (w : Write) → At j ≡ Some w → IsLastBelow j ⊎ NoneBelow j → (place_of w ≡ place) ⊎ (place_of w ≢ place)
             → IsLastBelow (suc j) ⊎ NoneBelow (suc j)
         named w is h (inl same) = inl (here w is same)
         named w is h (inr apart) =
-            either (λ v there. subst (λ (x : Write). entry_of x ≢ place) (same_Some w v (sym is ∙ there)) apart) h
+            either (λ v there. subst (λ (x : Write). place_of x ≢ place) (same_Some w v (sym is ∙ there)) apart) h
 
         by : IsLastBelow j ⊎ NoneBelow j → (o : Option Write) → At j ≡ o → IsLastBelow (suc j) ⊎ NoneBelow (suc j)
         by h None e = either (λ v there. absurd (some_is_there (At j) v there e)) h
-        by h (Some w) e = named w e h (place_or_not (entry_of w) place)
+        by h (Some w) e = named w e h (place_or_not (place_of w) place)
 
   -- below the end all are reached, and no others
   reached_below : (j : ℕ) → IsEnd j → (number : ℕ) → IsReached image node number → number < j
@@ -128,11 +129,11 @@ module _ (image : Image) (node : ℕ) where
       by (inr more) = absurd (reached j more end.absent)
 
   last_there : (j : ℕ) → IsEnd j → (number : ℕ) (write : Write) → IsWrite image node number write
-      → IsReached image node number → (bytes : List ℕ) × Configures image node (entry_of write) bytes
-  last_there j end number write is reached = by (last_or_none (entry_of write) j)
+      → IsReached image node number → (bytes : List ℕ) × Configures image node (place_of write) bytes
+  last_there j end number write is reached = by (last_or_none (place_of write) j)
     where
-      by : IsLastBelow (entry_of write) j ⊎ NoneBelow (entry_of write) j
-          → (bytes : List ℕ) × Configures image node (entry_of write) bytes
+      by : IsLastBelow (place_of write) j ⊎ NoneBelow (place_of write) j
+          → (bytes : List ℕ) × Configures image node (place_of write) bytes
       by (inl h) = (
         h.write.bytes,
         record {
@@ -217,7 +218,7 @@ module _ (image : Image) (node : ℕ) where
           (one_list h.0 writes text h.1.0 is) h.1.1)
 
 pub has_last : (image : Image) → IsImage image → (node number : ℕ) (write : Write) → IsWrite image node number write
-    → IsReached image node number → (bytes : List ℕ) × Configures image node (entry_of write) bytes
+    → IsReached image node number → (bytes : List ℕ) × Configures image node (place_of write) bytes
 has_last image is node number write there reached =
     let end = ends_by image node greatest_place (absent_at image node greatest_place (is.last node greatest_place)) in
     last_there image node end.0 end.1 number write there reached

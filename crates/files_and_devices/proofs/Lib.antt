@@ -13,3 +13,17 @@ pub mod RunLemmas
 pub mod FileLemmas
 pub mod NoteLemmas
 pub mod LastLemmas
+pub mod AnswerLemmas
+pub mod RequestLaws
+pub mod WriteListLemmas
+pub mod LeaveLemmas
+pub mod RpdoWrites
+pub mod FrameWrites
+pub mod InstantWrites
+pub mod FrameLemmas
+pub mod OwnLaws
+pub mod WaitingLemmas
+pub mod TimerLemmas
+pub mod NodeLemmas
+pub mod OwnLemmas
+pub mod StepLemmas

@@ -5,9 +5,9 @@ use Rattle.std.specs.Prelude.{Contains, if◌then◌else◌, ◌==◌, ◌&&◌}
 use Rattle.std.specs.List.{AllByRecursion, flat_map}
 use Rattle.std.proofs.lemmas.Bool.{false≢true}
 use Rattle.std.proofs.lemmas.List.Elements.{All-head, All-tail}
-use Rattle.device_writes.specs.Written.{AreOf, EntryValue, Event, NoneBySdo, Rpdo, Sdo, Writer, Written, written_by}
+use Rattle.files_and_devices.specs.Written.{AreOf, EntryValue, Event, NoneBySdo, Rpdo, Sdo, Writer, Written, written_by}
 use Rattle.files_and_devices.specs.Marks.{Marks, after_writes, is_marking, is_of, marked_after}
-use Rattle.boot_exchanges.proofs.WaitingLemmas.{number_itself, number_other}
+use Rattle.files_and_devices.proofs.WaitingLemmas.{number_itself, number_other}
 
 -- the entry is among those written
 abbrev pub IsWritten : ℕ × ℕ → List Written → Type 0

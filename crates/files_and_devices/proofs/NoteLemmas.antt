@@ -1,15 +1,15 @@
 -- What a node was noted for: a node that is noted configured is so after the instant.
-use Rattle.std.proofs.Common.{◌≡◌, ℕ, zero, suc, ◌+◌, ◌<◌, Bool, true, false, List, [], ◌∷◌, ◌++◌, Option, Some, None}
+use Rattle.std.proofs.Common.{◌≡◌, ℕ, ◌+◌, ◌<◌, Bool, true, false, List, [], ◌∷◌, ◌++◌, Option, Some, None}
 use Rattle.std.proofs.Common.{◌⊎◌, inl, inr, refl, sym, ap, ◌∙◌, subst, arith, get_or, length, map}
-use Rattle.std.specs.Prelude.{Contains, if◌then◌else◌, slice_set}
-use Rattle.boot_exchanges.proofs.TimerLemmas as lasting
+use Rattle.std.specs.Prelude.{Contains, if◌then◌else◌}
+use Rattle.files_and_devices.proofs.TimerLemmas as lasting
 use Rattle.std.proofs.lemmas.List.{get_or_default, get_or-map, get_or-set_same, length-map, length-set}
 use Rattle.std.proofs.lemmas.List.Elements.{Contains-append_cases}
 use Rattle.std.proofs.lemmas.List.Quantifiers.{position-Some}
-use Rattle.asking.specs.Asking.{Answer, outcome}
-use Rattle.boot_table.specs.Table.{is_from, no_node, node_after, node_at, note_of_loss, note_of_time_out, notes_of, place_of}
-use Rattle.boot_table.specs.Table.{timed_out}
-use Rattle.boot_table.specs.declared.booting.Booting.{Booting}
+use Rattle.image_parts.specs.Asking.{Answer, outcome}
+use Rattle.manager_nodes.specs.Table.{is_from, no_node, node_after, node_at, note_of_loss, note_of_time_out, notes_of, place_of}
+use Rattle.manager_nodes.specs.Table.{timed_out}
+use Rattle.manager_nodes.specs.declared.booting.Booting.{Booting}
 use Rattle.bus_laws.proofs.LeaveLemmas.{all_else_stays}
 use Rattle.bus_laws.specs.Spans.{bus_at}
 use Rattle.bus_laws.proofs.SpanLemmas.{bus_next}
@@ -24,13 +24,13 @@ use Rattle.can_bus.proofs.NodeLemmas.{outcome_nodes}
 use Rattle.can_frame.specs.Frames.{BaseFrame}
 use Rattle.can_frame.specs.Identifiers.{error_control_id, sdo_answer_id}
 use Rattle.can_frame.specs.declared.waiting.Waiting.{Waiting}
-use Rattle.co_parts.specs.Contents.{Image, identity_of, write_of}
-use Rattle.co_parts.specs.declared.identity.Identity.{Identity}
-use Rattle.co_parts.specs.declared.part.Part.TheVariants.{Boot, Expect}
-use Rattle.co_sdo_client.specs.Client.{after_answer}
-use Rattle.co_sdo_client.specs.declared.client_transfer.ClientTransfer.{ClientTransfer as Transfer}
-use Rattle.co_sdo_client.specs.declared.progress.Progress.{Progress}
-use Rattle.co_sdo_client.specs.declared.progress.Progress.TheVariants as progress
+use Rattle.image_parts.specs.Contents.{Image, identity_of, write_of}
+use Rattle.image_parts.specs.declared.identity.Identity.{Identity}
+use Rattle.image_parts.specs.declared.part.Part.TheVariants.{Boot, Expect}
+use Rattle.sdo_client.specs.Client.{after_answer}
+use Rattle.sdo_client.specs.declared.client_transfer.ClientTransfer.{ClientTransfer as Transfer}
+use Rattle.sdo_client.specs.declared.progress.Progress.{Progress}
+use Rattle.sdo_client.specs.declared.progress.Progress.TheVariants as progress
 use Rattle.concise_dcf.specs.declared.write.Write.{Write}
 use Rattle.files_and_devices.specs.Files.{IsConfigured}
 use Rattle.nmt_boot.proofs.FrameLemmas.{received_holds}
@@ -44,8 +44,8 @@ use Rattle.node_boot.specs.declared.boot_stage.BootStage.{BootStage}
 use Rattle.node_boot.specs.declared.boot_stage.BootStage.TheVariants.{Unseen, Comparing, Writing, Configured, Failed}
 use Rattle.node_boot.specs.declared.boot_step.BootStep.{BootStep}
 use Rattle.node_boot.specs.declared.note.Note.{Note}
-use Rattle.node_boot.specs.declared.note_kind.NoteKind.{NoteKind}
 use Rattle.node_boot.specs.declared.note_kind.NoteKind.TheVariants as kind
+use Rattle.nmt_boot.proofs.EndLemmas.{lost_only, none_in, noted_by, one_at}
 
 -- ---- a step that notes a node configured leaves it so
 
@@ -110,29 +110,6 @@ module _ (image : Image) (deadline node : ℕ) where
       written_tells old j (after_answer transfer answer).stage (after_answer transfer answer).progress e
   answer_tells Configured answer e = absurd cc
   answer_tells Failed answer e = absurd cc
-
--- ---- elements of short lists
-
-none_in : {X : Type 0} (x : X) → Contains [] x → ⊥
-none_in x h = omega (arith, h.1)
-
-one_at : {X : Type 0} (x y : X) (k : ℕ) → k < 1 → get_or (x ∷ []) k y ≡ y → x ≡ y
-one_at x y zero h e = e
-one_at x y (suc k) h e = absurd (omega (arith, h))
-
-noted_by : (n node : ℕ) (w : Option NoteKind) → Contains (notes_of n w) (configured_note node)
-    → (n ≡ node) × (w ≡ Some kind.Configured)
-noted_by n node None h = absurd (none_in (configured_note node) h)
-noted_by n node (Some w) h =
-    let same = one_at _ (configured_note node) h.0 h.1 h.2 in
-    (ap (λ (note : Note). note.node) same, ap (λ (note : Note). Some note.kind) same)
-
-lost_only : (stage : BootStage) → note_of_loss stage ≡ Some kind.Configured → ⊥
-lost_only Unseen e = cc
-lost_only (Comparing place expected transfer deadline) e = cc
-lost_only (Writing place transfer deadline) e = cc
-lost_only Configured e = cc
-lost_only Failed e = cc
 
 -- ---- the manager
 

@@ -1,28 +1,28 @@
 -- The laws of the crates below, as lemmas.
 use Rattle.std.specs.Prelude.{◌≡◌, ◌⊎◌, ℕ, Bool, false, List, [], Some, remove}
-use Rattle.asking.specs.Asking.{outcome}
+use Rattle.image_parts.specs.Asking.{outcome}
 use Rattle.can_frame.specs.Frames.{BaseFrame}
 use Rattle.co_device.specs.Device.{Device, after_instant, after_power, after_set, without_power}
 use Rattle.co_device.specs.Receiving.{after_frame}
 use Rattle.co_dict.specs.Shapes.{Shaped}
 use Rattle.co_dict.specs.Values.{Values}
-use Rattle.co_parts.specs.Contents.{Image}
+use Rattle.image_parts.specs.Contents.{Image}
 use Rattle.co_sdo.specs.Server.{server_answer}
 use Rattle.co_sdo.specs.declared.transfer.Transfer.{Transfer as opened}
 use Rattle.co_sdo.specs.declared.transfer.Transfer.TheVariants as server
-use Rattle.co_sdo_client.specs.Client.{download_start}
-use Rattle.co_sdo_client.specs.declared.client_transfer.ClientTransfer.{ClientTransfer as awaiting}
-use Rattle.device_frames.proofs.OwnLaws as own
-use Rattle.device_frames.specs.Own.{HasOwnFrames}
+use Rattle.sdo_client.specs.Client.{download_start}
+use Rattle.sdo_client.specs.declared.client_transfer.ClientTransfer.{ClientTransfer as awaiting}
+use Rattle.files_and_devices.proofs.OwnLaws as own
+use Rattle.files_and_devices.specs.Own.{HasOwnFrames}
 use Rattle.device_laws.specs.States.{HasBooted}
-use Rattle.device_writes.proofs.FrameWrites.{frame_in_ways, frame_of, power_in_ways, set_of}
-use Rattle.device_writes.proofs.InstantWrites.{instant_left}
-use Rattle.device_writes.proofs.LeaveLemmas.{set_left}
-use Rattle.device_writes.specs.Leaves.{LeavesServer, ServesRequest}
-use Rattle.device_writes.specs.Writes.{writes_of_frame, writes_of_set}
-use Rattle.device_writes.specs.Written.{AreOf}
-use Rattle.sdo_downloads.proofs.RequestLaws.{dropped, request_by_request, started}
-use Rattle.sdo_downloads.specs.Downloads.{IsAnswered, IsUnderWay}
+use Rattle.files_and_devices.proofs.FrameWrites.{frame_in_ways, frame_of, power_in_ways, set_of}
+use Rattle.files_and_devices.proofs.InstantWrites.{instant_left}
+use Rattle.files_and_devices.proofs.LeaveLemmas.{set_left}
+use Rattle.files_and_devices.specs.Leaves.{LeavesServer, ServesRequest}
+use Rattle.files_and_devices.specs.Writes.{writes_of_frame, writes_of_set}
+use Rattle.files_and_devices.specs.Written.{AreOf}
+use Rattle.files_and_devices.proofs.RequestLaws.{dropped, request_by_request, started}
+use Rattle.files_and_devices.specs.Downloads.{IsAnswered, IsUnderWay}
 
 pub download_starts : (place : ℕ × ℕ) (value : List ℕ) (transfer : opened)
     → IsUnderWay place value (download_start place value).1 transfer (download_start place value).0

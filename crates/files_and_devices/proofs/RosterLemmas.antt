@@ -4,9 +4,11 @@ use Rattle.std.proofs.Common.{◌≡◌, ◌≢◌, ℕ, zero, suc, ◌<◌, Boo
 use Rattle.std.proofs.Common.{◌⊎◌, inl, inr, refl, sym, ap, ◌∙◌, subst, arith, map, get_or, length}
 use Rattle.std.specs.List.{AllByRecursion}
 use Rattle.std.proofs.lemmas.List.{get_or-map, length-map}
-use Rattle.boot_exchanges.specs.Requests.{HasOwnFrames as ManagerOwns, IsAlone, IsBootUp, IsManagersFrame, IsNodeNumber}
-use Rattle.boot_exchanges.specs.Requests.{numbers_of}
-use Rattle.bus_events.specs.Places.{device_at}
+use Rattle.files_and_devices.specs.Requests.{HasOwnFrames as ManagerOwns, IsAlone, IsManagersFrame}
+use Rattle.can_frame.specs.ErrorControl.{IsBootUp}
+use Rattle.cia301.specs.Limits.{IsNodeNumber}
+use Rattle.files_and_devices.specs.Requests.{numbers_of}
+use Rattle.bus_devices.specs.Places.{device_at}
 use Rattle.can_bus.specs.declared.slot.Slot.{Slot}
 use Rattle.can_frame.specs.Frames.{BaseFrame}
 use Rattle.can_frame.specs.Identifiers.{sdo_answer_id, sdo_request_id}
@@ -15,14 +17,14 @@ use Rattle.can_frame.specs.declared.purpose.Purpose.{Purpose}
 use Rattle.can_frame.specs.declared.purpose.Purpose.TheVariants.{BootUp, Emergency, Heartbeat, Nmt, Sdo, Sync, Tpdo}
 use Rattle.can_frame.specs.declared.unwanted.Unwanted.TheVariants.{SdoOf}
 use Rattle.co_device.specs.Device.{Device, without_power}
-use Rattle.co_parts.specs.Images.{AllDiffer, IsNode, IsRoster}
-use Rattle.co_parts.specs.declared.roster.Roster.{Roster}
-use Rattle.device_frames.specs.Own.{HasOwnFrames as DeviceOwns, IsOwnFrame}
+use Rattle.image_parts.specs.Images.{AllDiffer, IsNode, IsRoster}
+use Rattle.image_parts.specs.declared.roster.Roster.{Roster}
+use Rattle.files_and_devices.specs.Own.{HasOwnFrames as DeviceOwns, IsOwnFrame}
 use Rattle.files_and_devices.proofs.SendLemmas.{IsForeign, control_foreign, device_foreign, emergency_foreign}
 use Rattle.files_and_devices.proofs.SendLemmas.{manager_foreign, pdo_foreign}
 use Rattle.nmt_boot.specs.Manager.{Manager}
-use Rattle.boot_table.specs.Table.{no_node, node_at}
-use Rattle.boot_table.specs.declared.booting.Booting.{Booting}
+use Rattle.manager_nodes.specs.Table.{no_node, node_at}
+use Rattle.manager_nodes.specs.declared.booting.Booting.{Booting}
 use Rattle.std.proofs.lemmas.Bool.{cases_eq}
 
 -- ---- numbers that differ

@@ -5,12 +5,13 @@ use Rattle.std.specs.Prelude.{◌==◌, if◌then◌else◌}
 use Rattle.std.specs.List.{AllByRecursion}
 use Rattle.std.proofs.lemmas.List.{get_or-map, length-map}
 use Rattle.std.proofs.lemmas.List.Elements.{All-from_recursion}
-use Rattle.asking.specs.Asking.{outcome}
-use Rattle.boot_exchanges.proofs.OwnLemmas.{power_owns as manager_power_owns}
-use Rattle.boot_exchanges.specs.Requests.{IsNodeNumber, numbers_of, requests_to}
-use Rattle.boot_table.specs.Table.{node_at, unseen_node}
-use Rattle.bus_events.specs.Places.{device_at}
-use Rattle.bus_events.specs.Steps.{steps_due}
+use Rattle.image_parts.specs.Asking.{outcome}
+use Rattle.files_and_devices.proofs.OwnLemmas.{power_owns as manager_power_owns}
+use Rattle.files_and_devices.specs.Requests.{numbers_of, requests_to}
+use Rattle.cia301.specs.Limits.{IsNodeNumber}
+use Rattle.manager_nodes.specs.Table.{node_at, unseen_node}
+use Rattle.bus_devices.specs.Places.{device_at}
+use Rattle.bus_devices.specs.Steps.{steps_due}
 use Rattle.bus_laws.proofs.SpanLemmas.{bus_first, bus_next}
 use Rattle.bus_laws.specs.Spans.{bus_at}
 use Rattle.can_bus.specs.Bus.{Bus, after_delivery, delivered_of, ended_slot, ends_at, from_delivery_on}
@@ -24,15 +25,15 @@ use Rattle.can_bus.proofs.PowerLemmas.{outcome_power_on_of}
 use Rattle.can_bus.proofs.TimeLemmas.{goes_on, starts}
 use Rattle.can_bus.proofs.WindowLemmas.{outcome_events_run}
 use Rattle.co_device.specs.Device.{Device, after_instant, after_power, without_power}
-use Rattle.co_parts.specs.Contents.{Image, roster_of}
-use Rattle.co_parts.specs.Images.{IsImage, IsNode, IsRoster}
-use Rattle.co_parts.specs.declared.part.Part.TheVariants as part
-use Rattle.co_parts.specs.declared.roster.Roster.{Roster}
+use Rattle.image_parts.specs.Contents.{Image, roster_of}
+use Rattle.image_parts.specs.Images.{IsImage, IsNode, IsRoster}
+use Rattle.image_parts.specs.declared.part.Part.TheVariants as part
+use Rattle.image_parts.specs.declared.roster.Roster.{Roster}
 use Rattle.device_agenda.specs.Agenda.{hears}
-use Rattle.device_frames.specs.Own.{HasOwnFrames as DeviceOwns}
+use Rattle.files_and_devices.specs.Own.{HasOwnFrames as DeviceOwns}
 use Rattle.device_laws.proofs.SelfLemmas.{power_switches}
 use Rattle.device_laws.specs.States.{HasBooted}
-use Rattle.device_writes.specs.Written.{Written}
+use Rattle.files_and_devices.specs.Written.{Written}
 use Rattle.files_and_devices.specs.Marks.{Marks, after_writes, marks_at, no_marks, writes_at, writes_of_delivery}
 use Rattle.files_and_devices.specs.Marks.{writes_of_events}
 use Rattle.files_and_devices.proofs.GoodLemmas.{IsGood, delivery_good, each_is_map, events_good, quiet_good}

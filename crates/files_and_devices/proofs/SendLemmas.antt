@@ -5,7 +5,9 @@ use Rattle.std.specs.Prelude.{◌||◌, ◌==◌, remove}
 use Rattle.std.proofs.lemmas.Bool.{false≢true}
 use Rattle.std.proofs.lemmas.Bool.Decides.{nat_tests}
 use Rattle.std.proofs.lemmas.List.{append-nil}
-use Rattle.boot_exchanges.specs.Requests.{IsBootUp, IsManagersFrame, IsNodeNumber, requests_to}
+use Rattle.files_and_devices.specs.Requests.{IsManagersFrame, requests_to}
+use Rattle.can_frame.specs.ErrorControl.{IsBootUp}
+use Rattle.cia301.specs.Limits.{IsNodeNumber}
 use Rattle.bus_laws.specs.Boots.{IsBootUpOf}
 use Rattle.can_bus.specs.declared.slot.Slot.{Slot}
 use Rattle.can_frame.specs.Frames.{BaseFrame}
@@ -15,19 +17,19 @@ use Rattle.can_frame.specs.declared.purpose.Purpose.{Purpose}
 use Rattle.can_frame.specs.declared.purpose.Purpose.TheVariants.{BootUp, Emergency, Heartbeat, Nmt, Sdo, Sync, Tpdo}
 use Rattle.can_frame.specs.declared.unwanted.Unwanted.TheVariants.{SdoOf, Sdos}
 use Rattle.can_frame.specs.declared.waiting.Waiting.{Waiting}
-use Rattle.co_base.specs.Ranges.{is_between}
+use Rattle.base.specs.Ranges.{is_between}
 use Rattle.co_device.specs.Device.{Device}
-use Rattle.co_fields.specs.CobIds.{is_restricted}
-use Rattle.co_parts.specs.Contents.{Image}
-use Rattle.device_frames.specs.Own.{IsOwnFrame}
-use Rattle.device_writes.specs.Leaves.{answers_of}
+use Rattle.cia301.specs.CobIds.{is_restricted}
+use Rattle.image_parts.specs.Contents.{Image}
+use Rattle.files_and_devices.specs.Own.{IsOwnFrame}
+use Rattle.files_and_devices.specs.Leaves.{answers_of}
 use Rattle.files_and_devices.specs.Exchanges.{Anything, Asks, Exchanges, IsBooting, IsExchanging, IsTraffic, Silence}
 use Rattle.files_and_devices.specs.Exchanges.{Tells, Traffic, answers_under_way, bytes_of, on_wire, requests_under_way}
 use Rattle.files_and_devices.proofs.DeviceLemmas.{AsStage, here_on_wire, not_on_wire}
 use Rattle.files_and_devices.proofs.ListLemmas.{any_left, both_empty, none_has_bytes, none_passes}
 use Rattle.files_and_devices.proofs.ListLemmas.{one_has_bytes, one_left, others_left}
 use Rattle.node_boot.specs.declared.boot_stage.BootStage.{BootStage}
-use Rattle.boot_exchanges.proofs.WaitingLemmas.{number_itself}
+use Rattle.files_and_devices.proofs.WaitingLemmas.{number_itself}
 use Rattle.std.proofs.lemmas.Bool.{cases_eq}
 
 -- ---- identifiers that no PDO has

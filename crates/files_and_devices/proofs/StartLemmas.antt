@@ -7,10 +7,10 @@ use Rattle.std.proofs.lemmas.Bool.Decides.{nat_tests}
 use Rattle.std.proofs.lemmas.List.{get_or-map, get_or-set_other, get_or-set_same, length-set}
 use Rattle.std.proofs.lemmas.List.Elements.{All-get_or}
 use Rattle.std.proofs.lemmas.List.Quantifiers.{position-Some}
-use Rattle.boot_exchanges.proofs.OwnLemmas.{sent_owns as manager_sent_owns}
-use Rattle.boot_exchanges.specs.Requests.{IsManagersFrame, requests_to}
+use Rattle.files_and_devices.proofs.OwnLemmas.{sent_owns as manager_sent_owns}
+use Rattle.files_and_devices.specs.Requests.{IsManagersFrame, requests_to}
 use Rattle.bus_devices.specs.Senders.{contends_with, sender_place}
-use Rattle.bus_events.specs.Places.{device_at}
+use Rattle.bus_devices.specs.Places.{device_at}
 use Rattle.can_bus.specs.Bus.{Bus, after_arbitration, after_start_on, slot_of, winner, with_slot_of}
 use Rattle.can_bus.specs.Bus.{devices_without_winner, manager_without_winner, winning_frame}
 use Rattle.can_bus.specs.declared.slot.Slot.{Slot}
@@ -26,11 +26,11 @@ use Rattle.can_frame.specs.declared.unwanted.Unwanted.TheVariants.{SdoOf, Sdos}
 use Rattle.can_frame.specs.declared.waiting.Waiting.{Waiting}
 use Rattle.can_frame.proofs.WinnerLemmas.{contender_at, length-contenders_of, winner_of-wins}
 use Rattle.co_device.specs.Device.{Device, without_power}
-use Rattle.co_parts.specs.Contents.{Image}
-use Rattle.co_parts.specs.Images.{IsNode, IsRoster}
-use Rattle.co_parts.specs.declared.roster.Roster.{Roster}
-use Rattle.device_frames.specs.Own.{HasOwnFrames as DeviceOwns, IsOwnFrame}
-use Rattle.device_writes.specs.Leaves.{answers_of}
+use Rattle.image_parts.specs.Contents.{Image}
+use Rattle.image_parts.specs.Images.{IsNode, IsRoster}
+use Rattle.image_parts.specs.declared.roster.Roster.{Roster}
+use Rattle.files_and_devices.specs.Own.{HasOwnFrames as DeviceOwns, IsOwnFrame}
+use Rattle.files_and_devices.specs.Leaves.{answers_of}
 use Rattle.files_and_devices.specs.Marks.{Marks}
 use Rattle.files_and_devices.proofs.GoodLemmas.{IsGood}
 use Rattle.files_and_devices.proofs.Others.{sent_owns}
@@ -39,24 +39,14 @@ use Rattle.files_and_devices.proofs.SendLemmas.{device_foreign, foreign_starts, 
 use Rattle.files_and_devices.proofs.SendLemmas.{managers_starts, own_starts, request_starts}
 use Rattle.files_and_devices.proofs.TurnLemmas.{Ex}
 use Rattle.nmt_boot.specs.Manager.{Manager}
-use Rattle.boot_table.specs.Table.{node_at}
+use Rattle.manager_nodes.specs.Table.{node_at}
 use Rattle.std.proofs.lemmas.Bool.{cases_eq}
+use Rattle.can_bus.proofs.StartLemmas.{node_is}
 
 abbrev none : Waiting
 none = waiting Nmt (record { id = 0; bytes = [] })
 
 -- ---- the winner of a list
-
--- it is of the list's node
-node_is : (node : ℕ) (frames : List Waiting) (c : Contender) → winner_of (contenders_of (node, frames)) ≡ Some c
-    → c.node ≡ node
-node_is node frames c e =
-    let wins : IsWinner (contenders_of (node, frames))
-    (Some c) = rw e at (winner_of-wins (contenders_of (node, frames))) in
-    let k = wins.0.0 in
-    let many = length-contenders_of node frames in
-    let within : k < length frames = omega (arith, wins.0.1) in
-    ap (λ (d : Contender). d.node) (sym wins.0.2 ∙ contender_at node frames k c within)
 
 module _ (node : ℕ) (frames : List Waiting) (c : Contender)
     (e : winner_of (contenders_of (node, frames)) ≡ Some c) where

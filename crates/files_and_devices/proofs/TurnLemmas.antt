@@ -3,12 +3,14 @@ use Rattle.std.proofs.Common.{◌≡◌, ◌≢◌, ℕ, ◌+◌, Bool, true, fa
 use Rattle.std.proofs.Common.{◌⊎◌, inl, inr, refl, sym, ap, ◌∙◌, subst, arith}
 use Rattle.std.specs.Prelude.{◌==◌, if◌then◌else◌}
 use Rattle.std.proofs.lemmas.List.Elements.{All-nil}
-use Rattle.asking.specs.Asking.{Answer, outcome}
-use Rattle.boot_exchanges.proofs.NodeLemmas.{boot_begins, frame_goes, timers_go}
-use Rattle.boot_exchanges.proofs.OwnLemmas.{frame_stays}
-use Rattle.boot_exchanges.proofs.StepLemmas.{answer_followed, boot_begins as begins_as}
-use Rattle.boot_exchanges.specs.Requests.{IsAlone, IsBootUp, IsNodeNumber, LeavesBoot, TakesStep, numbers_of}
-use Rattle.boot_exchanges.specs.Requests.{requests_to}
+use Rattle.image_parts.specs.Asking.{Answer, outcome}
+use Rattle.files_and_devices.proofs.NodeLemmas.{boot_begins, frame_goes, timers_go}
+use Rattle.files_and_devices.proofs.OwnLemmas.{frame_stays}
+use Rattle.files_and_devices.proofs.StepLemmas.{answer_followed, boot_begins as begins_as}
+use Rattle.files_and_devices.specs.Requests.{IsAlone, LeavesBoot, TakesStep, numbers_of}
+use Rattle.can_frame.specs.ErrorControl.{IsBootUp}
+use Rattle.cia301.specs.Limits.{IsNodeNumber}
+use Rattle.files_and_devices.specs.Requests.{requests_to}
 use Rattle.can_bus.specs.Bus.{delivered_of, manager_after_slot}
 use Rattle.can_bus.specs.declared.slot.Slot.{Slot}
 use Rattle.can_frame.specs.Identifiers.{error_control_id, sdo_answer_id, sdo_request_id}
@@ -17,13 +19,13 @@ use Rattle.can_frame.specs.declared.purpose.Purpose.TheVariants.{BootUp}
 use Rattle.can_frame.specs.declared.waiting.Waiting.{Waiting}
 use Rattle.co_device.specs.Device.{Device, after_instant}
 use Rattle.co_device.specs.Receiving.{after_frame}
-use Rattle.co_parts.specs.Contents.{Image}
-use Rattle.co_parts.specs.declared.roster.Roster.{Roster}
+use Rattle.image_parts.specs.Contents.{Image}
+use Rattle.image_parts.specs.declared.roster.Roster.{Roster}
 use Rattle.device_agenda.specs.Agenda.{hears}
 use Rattle.device_laws.specs.States.{HasBooted}
-use Rattle.device_writes.specs.Leaves.{LeavesServer, ServesRequest}
-use Rattle.device_writes.specs.Writes.{writes_of_frame}
-use Rattle.device_writes.specs.Written.{AreOf, Written}
+use Rattle.files_and_devices.specs.Leaves.{LeavesServer, ServesRequest}
+use Rattle.files_and_devices.specs.Writes.{writes_of_frame}
+use Rattle.files_and_devices.specs.Written.{AreOf, Written}
 use Rattle.files_and_devices.specs.Exchanges.{Exchanges}
 use Rattle.files_and_devices.specs.Marks.{written_by_frame}
 use Rattle.files_and_devices.proofs.BootLemmas.{exchange_begins, exchange_fails, exchange_steps}
@@ -34,13 +36,13 @@ use Rattle.files_and_devices.proofs.RosterLemmas.{IsItsAnswer, IsItsBootUp, IsNo
 use Rattle.files_and_devices.proofs.RosterLemmas.{number_still}
 use Rattle.files_and_devices.proofs.SendLemmas.{IsForeign}
 use Rattle.nmt_boot.specs.Manager.{Manager, timers}
-use Rattle.boot_table.specs.Table.{node_at, sdo_frames}
+use Rattle.manager_nodes.specs.Table.{node_at, sdo_frames}
 use Rattle.nmt_boot.specs.Manager as manager
 use Rattle.node_boot.specs.Boot.{boot_nmt_slave, sdo_answer}
 use Rattle.node_boot.specs.declared.boot_stage.BootStage.{BootStage}
 use Rattle.node_boot.specs.declared.boot_stage.BootStage.TheVariants.{Failed}
 use Rattle.node_boot.specs.declared.boot_step.BootStep.{BootStep}
-use Rattle.boot_exchanges.proofs.WaitingLemmas.{number_itself, number_other}
+use Rattle.files_and_devices.proofs.WaitingLemmas.{number_itself, number_other}
 use Rattle.std.proofs.lemmas.Bool.{cases_eq}
 
 -- a node that has booted has its boot-up message waiting
@@ -89,7 +91,7 @@ module _ (image : Image) (n : ℕ) where
       let same : requests_to n after.waiting ≡ requests_to n m.waiting =
       subst (λ k. requests_to k after.waiting ≡ requests_to k m.waiting) number l.requests in
       subst (λ (s : BootStage). Exchanges image n marks d s (requests_to n after.waiting) wire)
-      (ap (λ (b : Rattle.boot_table.specs.declared.booting.Booting.Booting). b.stage) (sym l.node))
+      (ap (λ (b : Rattle.manager_nodes.specs.declared.booting.Booting.Booting). b.stage) (sym l.node))
       (subst (λ (ws : List Waiting). Exchanges image n marks d (node_at m.nodes i).stage ws wire) (sym same) h)
 
   -- its timers
@@ -117,7 +119,7 @@ module _ (image : Image) (n : ℕ) where
       let sent : requests_to n after.waiting ≡ left ++ sdo_frames n step.request =
       subst (λ k. requests_to k after.waiting ≡ left ++ sdo_frames k step.request) number s.requests in
       subst (λ (x : BootStage). Exchanges image n marks d x (requests_to n after.waiting) None)
-      (ap (λ (b : Rattle.boot_table.specs.declared.booting.Booting.Booting). b.stage) (sym s.stage))
+      (ap (λ (b : Rattle.manager_nodes.specs.declared.booting.Booting.Booting). b.stage) (sym s.stage))
       (subst (λ (ws : List Waiting). Exchanges image n marks d step.stage ws None) (sym sent) h)
 
   module _ (t : ℕ) (marks : ℕ × ℕ → Bool) (d : Device) (m : Manager) (i : ℕ) (slot : Slot)
@@ -136,7 +138,7 @@ module _ (image : Image) (n : ℕ) where
         (boot_begins m i alone image t slot.frame (subst (λ k. IsBootUp k slot.frame) (sym number) b))
         (exchange_begins image n (t + m.timeout) marks d (node_at m.nodes i).stage (requests_to n m.waiting) slot b
         (outcome (boot_nmt_slave (t + m.timeout) (node_at m.nodes i).number) image)
-        (subst (λ k. Rattle.boot_exchanges.specs.Steps.ComparesOrWrites image (t + m.timeout) n
+        (subst (λ k. Rattle.files_and_devices.specs.Steps.ComparesOrWrites image (t + m.timeout) n
         (outcome (boot_nmt_slave (t + m.timeout) k) image)
         (outcome (boot_nmt_slave (t + m.timeout) k) image).stage) (sym number)
         (begins_as image (t + m.timeout) n)) h)
@@ -158,7 +160,7 @@ module _ (image : Image) (n : ℕ) where
             (subst (λ k. TakesStep i step (requests_to k m.waiting) m heard) number s.1)
             (exchange_steps image n (t + m.timeout) marks d (node_at m.nodes i).stage (requests_to n m.waiting) slot
             (s.0 ∙ ap sdo_answer_id number) step
-            (subst (λ k. Rattle.boot_exchanges.specs.Steps.FollowsAnswer image (t + m.timeout) n slot.frame.bytes
+            (subst (λ k. Rattle.files_and_devices.specs.Steps.FollowsAnswer image (t + m.timeout) n slot.frame.bytes
             (outcome (sdo_answer (t + m.timeout) k (node_at m.nodes i).stage slot.frame.bytes) image)
             (node_at m.nodes i).stage) (sym number)
             (answer_followed image (t + m.timeout) n (node_at m.nodes i).stage slot.frame.bytes)) h)

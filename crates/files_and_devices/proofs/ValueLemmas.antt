@@ -6,13 +6,14 @@ use Rattle.std.specs.FinMap.{get, insert}
 use Rattle.std.proofs.lemmas.Option.{same_Some}
 use Rattle.co_dict.specs.Values.{Values}
 use Rattle.co_dict.proofs.PlaceLemmas.{written_elsewhere, written_there}
-use Rattle.co_parts.specs.Contents.{Image, write_of}
-use Rattle.co_parts.specs.declared.part.Part.TheVariants.{Boot}
+use Rattle.image_parts.specs.Contents.{Image, write_of}
+use Rattle.image_parts.specs.declared.part.Part.TheVariants.{Boot}
 use Rattle.concise_dcf.specs.declared.write.Write.{Write}
-use Rattle.device_writes.specs.Written.{AgreeButRegister, AreOf, AreStored, NoneBySdo, Written, error_register}
-use Rattle.device_writes.specs.Written.{with_writes}
+use Rattle.files_and_devices.specs.Written.{AgreeButRegister, AreOf, AreStored, NoneBySdo, Written, error_register}
+use Rattle.files_and_devices.specs.Written.{with_writes}
 use Rattle.files_and_devices.specs.Exchanges.{GivesBelow, HoldsBelow}
-use Rattle.files_and_devices.specs.Files.{Holds, IsExcepted, IsWrite, entry_of}
+use Rattle.files_and_devices.specs.Files.{Holds, IsExcepted, IsWrite}
+use Rattle.concise_dcf.specs.Writes.{place_of}
 use Rattle.files_and_devices.proofs.ListLemmas.{below_next, place_or_not}
 use Rattle.files_and_devices.proofs.MarkLemmas.{IsWritten, stays_marked, told, written_is_marked}
 use Rattle.std.proofs.lemmas.Bool.{cases_eq}
@@ -102,8 +103,8 @@ module _ (image : Image) (node : ℕ) where
   -- write j was stored
   module _ (marks after : ℕ × ℕ → Bool) (values left : Values) (j : ℕ) (write : Write)
       (is_write : IsWrite image node j write)
-      (now : (place : ℕ × ℕ) → entry_of write ≢ place → after place ≡ marks place)
-      (agree : AgreeButRegister (insert values (entry_of write) write.bytes) left)
+      (now : (place : ℕ × ℕ) → place_of write ≢ place → after place ≡ marks place)
+      (agree : AgreeButRegister (insert values (place_of write) write.bytes) left)
       (h : Below marks values j) where
     found : (k : ℕ) → k < j + 1 → write_of (image (Boot node k)) ≢ None
     found k below = by (cases_eq k j)
@@ -115,12 +116,12 @@ module _ (image : Image) (node : ℕ) where
         by (inl e) = rw e (some (write_of (image (Boot node j))) is_write)
         by (inr apart) = h.there k (below_next k j below apart)
 
-    stored_here : (place : ℕ × ℕ) (bytes : List ℕ) → entry_of write ≡ place → write.bytes ≡ bytes
+    stored_here : (place : ℕ × ℕ) (bytes : List ℕ) → place_of write ≡ place → write.bytes ≡ bytes
         → place ≢ error_register → Holds left place bytes
     stored_here place bytes e f apart =
         agree place apart
-        ∙ subst (λ (p : ℕ × ℕ). get (insert values (entry_of write) write.bytes) p ≡ Some bytes) e
-        (written_there values (entry_of write) write.bytes ∙ ap Some f)
+        ∙ subst (λ (p : ℕ × ℕ). get (insert values (place_of write) write.bytes) p ≡ Some bytes) e
+        (written_there values (place_of write) write.bytes ∙ ap Some f)
 
     earlier : (place : ℕ × ℕ) (bytes : List ℕ) (g : GivesBelow image node (j + 1) place bytes) → g.number < j
         → GivesBelow image node j place bytes
@@ -137,21 +138,21 @@ module _ (image : Image) (node : ℕ) where
     abbrev Is : ℕ × ℕ → List ℕ → Type 0
     Is place bytes = IsExcepted after place ⊎ Holds left place bytes
 
-    elsewhere : (place : ℕ × ℕ) (bytes : List ℕ) → entry_of write ≢ place → place ≢ error_register
+    elsewhere : (place : ℕ × ℕ) (bytes : List ℕ) → place_of write ≢ place → place ≢ error_register
         → IsExcepted marks place ⊎ Holds values place bytes → Is place bytes
     elsewhere place bytes other apart (inl (inl e)) = inl (inl e)
     elsewhere place bytes other apart (inl (inr e)) = inl (inr (now place other ∙ e))
     elsewhere place bytes other apart (inr held) =
         inr (agree place apart
-        ∙ written_elsewhere values (entry_of write) place write.bytes (λ e. other (sym e)) ∙ held)
+        ∙ written_elsewhere values (place_of write) place write.bytes (λ e. other (sym e)) ∙ held)
 
     not_the_last : (place : ℕ × ℕ) (bytes : List ℕ) → GivesBelow image node (j + 1) place bytes
-        → entry_of write ≢ place → (k : ℕ) → k ≡ j → (w : Write) → IsWrite image node k w → entry_of w ≡ place → ⊥
+        → place_of write ≢ place → (k : ℕ) → k ≡ j → (w : Write) → IsWrite image node k w → place_of w ≡ place → ⊥
     not_the_last place bytes g other k same w is names =
-        other (ap entry_of (same_Some write w (sym is_write ∙ subst (λ i. IsWrite image node i w) same is)) ∙ names)
+        other (ap place_of (same_Some write w (sym is_write ∙ subst (λ i. IsWrite image node i w) same is)) ∙ names)
 
     by_place : (place : ℕ × ℕ) (bytes : List ℕ) (g : GivesBelow image node (j + 1) place bytes)
-        → (entry_of write ≡ place) ⊎ (entry_of write ≢ place) → (g.number ≡ j) ⊎ (g.number ≢ j)
+        → (place_of write ≡ place) ⊎ (place_of write ≢ place) → (g.number ≡ j) ⊎ (g.number ≢ j)
         → place ≢ error_register → Is place bytes
     by_place place bytes g (inl e) (inl last) apart =
         inr (stored_here place bytes e
@@ -169,7 +170,7 @@ module _ (image : Image) (node : ℕ) where
         → (place ≡ error_register) ⊎ (place ≢ error_register) → Is place bytes
     by_register place bytes g (inl e) = inl (inl e)
     by_register place bytes g (inr apart) =
-        by_place place bytes g (place_or_not (entry_of write) place) (cases_eq g.number j) apart
+        by_place place bytes g (place_or_not (place_of write) place) (cases_eq g.number j) apart
 
     pub one_more_below : Below after left (j + 1)
     one_more_below = record {

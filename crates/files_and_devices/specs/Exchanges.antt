@@ -9,18 +9,19 @@ use Rattle.can_frame.specs.declared.purpose.Purpose.TheVariants.{BootUp}
 use Rattle.can_frame.specs.declared.waiting.Waiting.{Waiting}
 use Rattle.co_device.specs.Device.{Device}
 use Rattle.co_dict.specs.Values.{Values}
-use Rattle.co_parts.specs.Contents.{Image, write_of}
-use Rattle.co_parts.specs.declared.part.Part.TheVariants.{Boot}
+use Rattle.image_parts.specs.Contents.{Image, write_of}
+use Rattle.image_parts.specs.declared.part.Part.TheVariants.{Boot}
 use Rattle.co_sdo.specs.declared.transfer.Transfer.{Transfer}
-use Rattle.co_sdo_client.specs.Client.{after_answer}
-use Rattle.co_sdo_client.specs.declared.client_transfer.ClientTransfer.{ClientTransfer}
-use Rattle.co_sdo_client.specs.declared.progress.Progress.TheVariants as progress
+use Rattle.sdo_client.specs.Client.{after_answer}
+use Rattle.sdo_client.specs.declared.client_transfer.ClientTransfer.{ClientTransfer}
+use Rattle.sdo_client.specs.declared.progress.Progress.TheVariants as progress
 use Rattle.concise_dcf.specs.declared.write.Write.{Write}
-use Rattle.device_writes.specs.Leaves.{answers_of}
-use Rattle.files_and_devices.specs.Files.{Holds, IsExcepted, IsWrite, entry_of}
+use Rattle.files_and_devices.specs.Leaves.{answers_of}
+use Rattle.files_and_devices.specs.Files.{Holds, IsExcepted, IsWrite}
+use Rattle.concise_dcf.specs.Writes.{place_of}
 use Rattle.node_boot.specs.declared.boot_stage.BootStage.{BootStage}
 use Rattle.node_boot.specs.declared.boot_stage.BootStage.TheVariants.{Unseen, Comparing, Writing, Configured, Failed}
-use Rattle.sdo_downloads.specs.Downloads.{IsUnderWay}
+use Rattle.files_and_devices.specs.Downloads.{IsUnderWay}
 
 -- ---- the frame that is under way
 
@@ -61,10 +62,10 @@ pub record GivesBelow (image : Image) (node j : ℕ) (place : ℕ × ℕ) (bytes
   pub write : Write
   pub below : number < j
   pub is_write : IsWrite image node number write
-  pub names : entry_of write ≡ place
+  pub names : place_of write ≡ place
   pub gives : write.bytes ≡ bytes
   pub is_last : (later : ℕ) (other : Write) → number < later → later < j → IsWrite image node later other
-      → entry_of other ≢ place
+      → place_of other ≢ place
 
 -- they are all there, and each entry that they name holds the data of its last one, but for the exceptions
 pub record HoldsBelow (image : Image) (node : ℕ) (marks : ℕ × ℕ → Bool) (values : Values) (j : ℕ) : Type 0 where
@@ -82,14 +83,14 @@ pub record TellsTruth (image : Image) (node : ℕ) (marks : ℕ × ℕ → Bool)
       → HoldsBelow image node marks values (j + 1)
   pub goes_on : (next : List ℕ) → (after_answer client answer).progress ≡ Some (progress.Ask next)
       → HoldsBelow image node marks values j
-      × IsUnderWay (entry_of write) write.bytes (after_answer client answer).stage transfer next
+      × IsUnderWay (place_of write) write.bytes (after_answer client answer).stage transfer next
 
 -- write j is being downloaded; once its frame was dropped, only the time-out can follow
 abbrev pub IsDownloaded : Image → ℕ → (ℕ × ℕ → Bool) → Values → Transfer → ℕ → ClientTransfer → Traffic → Type 0
 IsDownloaded image node marks values transfer j client Silence = Unit {0}
 IsDownloaded image node marks values transfer j client (Asks request) =
     (write : Write) × (IsWrite image node j write × (HoldsBelow image node marks values j
-    × IsUnderWay (entry_of write) write.bytes client transfer request))
+    × IsUnderWay (place_of write) write.bytes client transfer request))
 IsDownloaded image node marks values transfer j client (Tells answer) =
     (write : Write) × (IsWrite image node j write
     × TellsTruth image node marks values transfer j write client answer)

@@ -7,12 +7,13 @@ use Rattle.can_frame.specs.WaitingFrames.{waits_for}
 use Rattle.can_frame.specs.declared.purpose.Purpose.TheVariants.{BootUp}
 use Rattle.co_device.specs.Device.{Device}
 use Rattle.co_dict.specs.Values.{Values}
-use Rattle.co_parts.specs.Contents.{Image, write_of}
-use Rattle.co_parts.specs.declared.part.Part.TheVariants.{Boot}
+use Rattle.image_parts.specs.Contents.{Image, write_of}
+use Rattle.image_parts.specs.declared.part.Part.TheVariants.{Boot}
 use Rattle.concise_dcf.specs.Concise.{IsTextOf}
+use Rattle.concise_dcf.specs.Writes.{place_of}
 use Rattle.concise_dcf.specs.declared.write.Write.{Write}
-use Rattle.device_writes.specs.Written.{error_register}
-use Rattle.boot_table.specs.declared.booting.Booting.{Booting}
+use Rattle.files_and_devices.specs.Written.{error_register}
+use Rattle.manager_nodes.specs.declared.booting.Booting.{Booting}
 use Rattle.node_boot.specs.declared.boot_stage.BootStage.TheVariants.{Configured}
 
 -- ---- the writes of a node, 0, 1 and on, up to the first that is absent
@@ -25,30 +26,26 @@ IsWrite image node number write = write_of (image (Boot node number)) ≡ Some w
 abbrev pub IsReached : Image → ℕ → ℕ → Type 0
 IsReached image node number = (k : ℕ) → k ≤ number → write_of (image (Boot node k)) ≢ None
 
--- the entry that a write names
-abbrev pub entry_of : Write → ℕ × ℕ
-entry_of write = (write.index, write.sub)
-
 -- THE FILES GIVE THE ENTRY THIS DATA: it is that of the last of the node's writes that names the entry
 pub record Configures (image : Image) (node : ℕ) (place : ℕ × ℕ) (bytes : List ℕ) : Type 0 where
   pub number : ℕ
   pub write : Write
   pub is_write : IsWrite image node number write
   pub is_reached : IsReached image node number
-  pub names : entry_of write ≡ place
+  pub names : place_of write ≡ place
   pub gives : write.bytes ≡ bytes
   pub is_last : (later : ℕ) (other : Write) → number < later → IsReached image node later
-      → IsWrite image node later other → entry_of other ≢ place
+      → IsWrite image node later other → place_of other ≢ place
 
 -- of a list of writes the last that names the entry has this data
 pub record IsLastIn (writes : List Write) (place : ℕ × ℕ) (bytes : List ℕ) : Type 0 where
   pub number : ℕ
   pub write : Write
   pub there : slice_get writes number ≡ Some write
-  pub names : entry_of write ≡ place
+  pub names : place_of write ≡ place
   pub gives : write.bytes ≡ bytes
   pub is_last : (later : ℕ) (other : Write) → number < later → slice_get writes later ≡ Some other
-      → entry_of other ≢ place
+      → place_of other ≢ place
 
 -- THE CONCISE DCF GIVES THE ENTRY THIS DATA: so the last of its writes that names it
 abbrev pub IsGivenBy : List ℕ → ℕ × ℕ → List ℕ → Type 0

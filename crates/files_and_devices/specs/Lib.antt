@@ -1,3 +1,10 @@
 pub mod Marks
 pub mod Files
 pub mod Exchanges
+pub mod Downloads
+pub mod Writes
+pub mod Written
+pub mod Leaves
+pub mod Own
+pub mod Requests
+pub mod Steps

@@ -2,20 +2,20 @@
 use Rattle.std.specs.Prelude.{ℕ, zero, suc, ◌==◌, ◌&&◌, Bool, true, false, List, [], ◌∷◌, ◌++◌, Option, Some, None}
 use Rattle.std.specs.Prelude.{if◌then◌else◌}
 use Rattle.std.specs.List.{flat_map}
-use Rattle.asking.specs.Asking.{outcome}
-use Rattle.bus_events.specs.Events.{after_event}
-use Rattle.bus_events.specs.Steps.{steps_due}
+use Rattle.image_parts.specs.Asking.{outcome}
+use Rattle.bus_devices.specs.Events.{after_event}
+use Rattle.bus_devices.specs.Steps.{steps_due}
 use Rattle.bus_laws.specs.Reads.{at_delivery}
 use Rattle.bus_laws.specs.Spans.{bus_at}
 use Rattle.can_bus.specs.Bus.{Bus, after_window_start, ended_slot}
 use Rattle.can_bus.specs.declared.slot.Slot.{Slot}
 use Rattle.co_device.specs.Device.{Device}
-use Rattle.co_parts.specs.Contents.{Image}
+use Rattle.image_parts.specs.Contents.{Image}
 use Rattle.co_scenario.specs.declared.step.Step.{Step}
 use Rattle.co_scenario.specs.declared.step.Step.TheVariants.{Set, Power, Nmt}
 use Rattle.co_scenario.specs.declared.timed_step.TimedStep.{TimedStep}
-use Rattle.device_writes.specs.Writes.{writes_of_frame, writes_of_set}
-use Rattle.device_writes.specs.Written.{Event, Rpdo, Sdo, Writer, Written}
+use Rattle.files_and_devices.specs.Writes.{writes_of_frame, writes_of_set}
+use Rattle.files_and_devices.specs.Written.{Event, Rpdo, Sdo, Writer, Written}
 use Rattle.nmt_boot.specs.Manager.{Manager}
 
 -- ---- a set of pairs of a node and an entry, told by which pairs it has

@@ -2,26 +2,27 @@
 
 ghost use Rattle.std.specs.Prelude.{◌≡◌, ◌⊎◌, ◌↔◌, ◌+◌, ◌<◌, ◌++◌, ◌∷◌, ℕ, false, All, Contains, List, length};
 ghost use Rattle.std.specs.Prelude.{slice_get};
-ghost use Rattle.asking.specs.Asking.{outcome};
-ghost use Rattle.boot_exchanges.specs.Requests.{requests_to};
-ghost use Rattle.boot_table.specs.Table.{node_at};
-ghost use Rattle.bus_events.specs.Places.{device_at};
+ghost use Rattle.image_parts.specs.Asking.{outcome};
+ghost use Rattle.files_and_devices.specs.Requests.{requests_to};
+ghost use Rattle.manager_nodes.specs.Table.{node_at};
+ghost use Rattle.bus_devices.specs.Places.{device_at};
 ghost use Rattle.bus_laws.specs.Spans.{bus_at};
 ghost use Rattle.can_bus.specs.Bus.{instant};
 ghost use Rattle.can_bus.specs.declared.line.Line.TheVariants as line;
 ghost use Rattle.co_device.specs.Device.{Device};
-ghost use Rattle.co_parts.specs.Contents.{Image, write_of};
-ghost use Rattle.co_parts.specs.Images.{IsImage};
+ghost use Rattle.image_parts.specs.Contents.{Image, write_of};
+ghost use Rattle.image_parts.specs.Images.{IsImage};
 ghost use Rattle.concise_dcf.specs.Concise.{IsTextOf};
 ghost use Rattle.concise_dcf.specs.declared.write.Write.{Write};
-ghost use Rattle.device_writes.specs.Written.{Written};
+ghost use Rattle.files_and_devices.specs.Written.{Written};
 ghost use Rattle.files_and_devices.specs.Exchanges.{Exchanges};
 ghost use Rattle.files_and_devices.specs.Files.{Configures, Holds, IsConfigured, IsExcepted, IsGivenBy, IsReached};
-ghost use Rattle.files_and_devices.specs.Files.{IsUp, IsWrite, entry_of};
+ghost use Rattle.files_and_devices.specs.Files.{IsUp, IsWrite};
+ghost use Rattle.concise_dcf.specs.Writes.{place_of};
 ghost use Rattle.files_and_devices.specs.Marks.{Marks, after_writes, is_marking, is_of, marks_at};
 ghost use Rattle.nmt_boot.specs.Ends.{configured_note};
 
-use co_parts::Part;
+use image_parts::Part;
 
 /// WHAT THE FILES SAY IS WHAT THE DEVICES HOLD. Under every image and at every moment of its run: a node that the
 /// manager has configured, that has power, and of which no boot-up message waits or is on the wire, holds at every
@@ -40,7 +41,7 @@ pub fn files_match_devices()
 pub fn each_entry_that_is_written_has_a_last_write()
     ensures some { (image : Image) → IsImage image → (node number : ℕ) (write : Write)
         → IsWrite image node number write → IsReached image node number
-        → (bytes : List ℕ) × Configures image node (entry_of write) bytes }
+        → (bytes : List ℕ) × Configures image node (place_of write) bytes }
     ensures one { (image : Image) (node : ℕ) (place : ℕ × ℕ) (one other : List ℕ)
         → Configures image node place one → Configures image node place other → one ≡ other }
     ensures listed { (image : Image) (node : ℕ) (writes : List Write) (text : List ℕ)

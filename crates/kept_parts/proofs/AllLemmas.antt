@@ -10,9 +10,9 @@ use Rattle.std.specs.Ordering.{eq_by_cmp, is_eq, nat_cmp}
 use Rattle.std.proofs.lemmas.Cmp.{nat_list_cmp_total}
 use Rattle.std.proofs.lemmas.List.{append-nil}
 use Rattle.std.proofs.lemmas.List.Folds.{list_any-append}
-use Rattle.co_memo.specs.Stale.{AreBrought}
-use Rattle.co_memo.specs.Work.{Work}
-use Rattle.co_memo.proofs.Brought.{both, none, option_map_back}
+use Rattle.kept_values.specs.Stale.{AreBrought}
+use Rattle.kept_values.specs.Work.{Work}
+use Rattle.kept_values.proofs.Brought.{both, none, option_map_back}
 use Rattle.co_project.specs.declared.node.Node.{Node}
 use Rattle.co_project.specs.Project.{Content as Project}
 use Rattle.co_project.specs.Tables.{node_at, text_at}

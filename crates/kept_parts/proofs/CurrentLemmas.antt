@@ -8,11 +8,11 @@ use Rattle.std.specs.Ordering.{is_eq}
 use Rattle.std.proofs.lemmas.Bool.{eq-eqb}
 use Rattle.std.proofs.lemmas.Cmp.{nat_list_cmp_total}
 use Rattle.std.proofs.lemmas.List.Folds.{list_any-append}
-use Rattle.co_messages.specs.Messages.{name_cmp}
+use Rattle.project_messages.specs.Messages.{name_cmp}
 use Rattle.co_project.specs.Project.{Content as Project}
-use Rattle.co_memo.specs.Shelved.{is_fresh}
-use Rattle.co_memo.specs.Stale.{AreBrought}
-use Rattle.co_memo.specs.Work.{Work}
+use Rattle.kept_values.specs.Shelved.{is_fresh}
+use Rattle.kept_values.specs.Stale.{AreBrought}
+use Rattle.kept_values.specs.Work.{Work}
 use Rattle.project_parts.specs.Given.{given, same_part}
 use Rattle.project_parts.specs.Reached.{for_plan, for_writes, of_nodes, own_device, reached}
 use Rattle.kept_parts.specs.Kept.{fresh, held, IsOf}

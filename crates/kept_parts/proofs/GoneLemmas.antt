@@ -7,11 +7,11 @@ use Rattle.std.specs.Option.{option_map_or}
 use Rattle.std.specs.Result.{is_ok}
 use Rattle.std.proofs.lemmas.List.Elements.{All-cons, All-head, All-nil, All-tail, All-weaker}
 use Rattle.std.proofs.lemmas.Map.Lookups.{exact_bytes}
-use Rattle.co_edits.specs.declared.edit.Edit.{Edit}
-use Rattle.co_memo.specs.Shelved.{is_flagged, is_fresh, kept_at, Shelved, Single}
-use Rattle.co_memo.specs.Stale.{without, AreBrought}
-use Rattle.co_memo.specs.Work.{Work}
-use Rattle.co_memo.proofs.Brought.{option_map_back}
+use Rattle.project_edits.specs.declared.edit.Edit.{Edit}
+use Rattle.kept_values.specs.Shelved.{is_flagged, is_fresh, kept_at, Shelved, Single}
+use Rattle.kept_values.specs.Stale.{without, AreBrought}
+use Rattle.kept_values.specs.Work.{Work}
+use Rattle.kept_values.proofs.Brought.{option_map_back}
 use Rattle.co_project.specs.declared.node.Node.{Node}
 use Rattle.co_project.specs.Project.{accept, Content as Project}
 use Rattle.co_project.specs.Tables.{text_at}

@@ -9,15 +9,15 @@ use Rattle.std.proofs.lemmas.Bool.{eqb-true}
 use Rattle.std.proofs.lemmas.Cmp.{nat_list_cmp_total}
 use Rattle.std.proofs.lemmas.List.Elements.{All-cons, All-head, All-nil, All-tail, All-weaker}
 use Rattle.std.proofs.lemmas.Map.Lookups.{exact_bytes}
-use Rattle.co_base.proofs.TableLemmas.{alike}
-use Rattle.co_messages.specs.Messages.{name_cmp}
+use Rattle.base.proofs.TableLemmas.{alike}
+use Rattle.project_messages.specs.Messages.{name_cmp}
 use Rattle.co_project.specs.declared.node.Node.{Node}
 use Rattle.co_project.specs.Project.{Content as Project}
 use Rattle.co_project.specs.Tables.{text_at}
-use Rattle.co_memo.specs.Work.{Work, Refreshes}
-use Rattle.co_memo.specs.Shelved.{is_fresh, kept_at, Shelved, Single}
-use Rattle.co_memo.specs.Stale.{AreBrought}
-use Rattle.co_memo.proofs.Brought.{one, option_map_back, refreshes_kind, refreshes_none, shelf_stands}
+use Rattle.kept_values.specs.Work.{Work, Refreshes}
+use Rattle.kept_values.specs.Shelved.{is_fresh, kept_at, Shelved, Single}
+use Rattle.kept_values.specs.Stale.{AreBrought}
+use Rattle.kept_values.proofs.Brought.{one, option_map_back, refreshes_kind, refreshes_none, shelf_stands}
 use Rattle.part_shelves.specs.Slots.{fresh_at, fresh_slot, text_kept, Slots}
 use Rattle.kept_parts.specs.Kept.{fresh, held, AreOfNow, HaveNoMark, IsClosed, IsOf}
 use Rattle.co_scenario.specs.declared.timed_step.TimedStep.{TimedStep}

@@ -7,17 +7,17 @@ use Rattle.std.specs.Ordering.{eq_by_cmp}
 use Rattle.std.proofs.lemmas.Cmp.{nat_list_cmp_total}
 use Rattle.std.proofs.lemmas.List.Elements.{All-cons, All-head, All-nil, All-tail}
 use Rattle.std.proofs.lemmas.Map.Lookups.{exact_bytes}
-use Rattle.co_base.proofs.TableLemmas.{alike}
-use Rattle.co_edits.specs.declared.edit.Edit.{Edit}
-use Rattle.co_edits.specs.declared.edit.Edit.TheVariants as edit
-use Rattle.co_messages.specs.Messages.{name_cmp}
+use Rattle.base.proofs.TableLemmas.{alike}
+use Rattle.project_edits.specs.declared.edit.Edit.{Edit}
+use Rattle.project_edits.specs.declared.edit.Edit.TheVariants as edit
+use Rattle.project_messages.specs.Messages.{name_cmp}
 use Rattle.co_project.specs.declared.node.Node.{Node}
 use Rattle.co_project.specs.Project.{accept, Content as Project}
 use Rattle.part_shelves.specs.Slots.{fresh_at, text_kept, with_fresh, Slots}
 use Rattle.kept_parts.specs.Kept.{fresh, held, HaveNoMark, IsOf}
 use Rattle.kept_parts.specs.Marks.{Marks}
-use Rattle.co_memo.specs.At.{at}
-use Rattle.co_memo.specs.Shelved.{is_fresh, Shelved, Single}
+use Rattle.kept_values.specs.At.{at}
+use Rattle.kept_values.specs.Shelved.{is_fresh, Shelved, Single}
 use Rattle.co_scenario.specs.declared.timed_step.TimedStep.{TimedStep}
 use Rattle.project_parts.specs.declared.device_at.DeviceAt.{DeviceAt}
 use Rattle.project_parts.specs.Given.{OfDevice, OfNode, OfRoster, OfWindow}

@@ -11,9 +11,9 @@ use Rattle.std.proofs.lemmas.List.{append-nil}
 use Rattle.std.proofs.lemmas.List.Folds.{list_any-append}
 use Rattle.std.proofs.lemmas.Map.Lookups.{exact_unsigned}
 use Rattle.concise_dcf.specs.declared.write.Write.{Write}
-use Rattle.co_base.proofs.TableLemmas.{alike}
-use Rattle.co_memo.specs.Shelved.{kept_at}
-use Rattle.co_memo.proofs.Brought.{option_map_back}
+use Rattle.base.proofs.TableLemmas.{alike}
+use Rattle.kept_values.specs.Shelved.{kept_at}
+use Rattle.kept_values.proofs.Brought.{option_map_back}
 use Rattle.co_project.specs.declared.node.Node.{Node}
 use Rattle.co_project.specs.Project.{Content as Project}
 use Rattle.eds_device.specs.Entries.{defaults_of, shape_of}

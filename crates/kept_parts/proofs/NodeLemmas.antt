@@ -10,14 +10,14 @@ use Rattle.std.specs.List.{cons_option, All}
 use Rattle.std.specs.Option.{option_to_list}
 use Rattle.std.specs.FinMap.{entries}
 use Rattle.ini_text.specs.Content.{Content as Device}
-use Rattle.co_base.proofs.EachLemmas.{all_entries}
+use Rattle.base.proofs.EachLemmas.{all_entries}
 use Rattle.co_project.specs.declared.node.Node.{Node}
 use Rattle.co_project.specs.Project.{Content as Project}
 use Rattle.co_project.specs.Sound.{IsNodeOf, IsSound}
 use Rattle.co_project.specs.Tables.{text_at}
-use Rattle.co_memo.specs.Work.{Work}
-use Rattle.co_memo.specs.Stale.{AreBrought}
-use Rattle.co_memo.proofs.Brought.{both, none}
+use Rattle.kept_values.specs.Work.{Work}
+use Rattle.kept_values.specs.Stale.{AreBrought}
+use Rattle.kept_values.proofs.Brought.{both, none}
 use Rattle.kept_parts.specs.Kept.{fresh, held, HaveNoMark, IsOf}
 use Rattle.project_parts.specs.Given.{given, numbered, same_part}
 use Rattle.project_parts.specs.Reached.{of_node}

@@ -7,10 +7,10 @@ use Rattle.ini_text.specs.Content.{Content as Device}
 use Rattle.co_project.specs.declared.node.Node.{Node}
 use Rattle.co_project.specs.Project.{Content as Project}
 use Rattle.co_project.specs.Tables.{node_at}
-use Rattle.co_memo.specs.At.{at}
-use Rattle.co_memo.specs.Shelved.{kept_at, Shelved}
-use Rattle.co_memo.specs.Work.{Refreshes, Rises, Work}
-use Rattle.co_memo.proofs.Brought.{is_there, refreshes_built}
+use Rattle.kept_values.specs.At.{at}
+use Rattle.kept_values.specs.Shelved.{kept_at, Shelved}
+use Rattle.kept_values.specs.Work.{Refreshes, Rises, Work}
+use Rattle.kept_values.proofs.Brought.{is_there, refreshes_built}
 use Rattle.kept_parts.proofs.KindLemmas.{KeptAt}
 use Rattle.project_parts.specs.Given.{device_at, device_from, device_of_node}
 use Rattle.project_parts.specs.declared.device_at.DeviceAt.{DeviceAt}

@@ -2,10 +2,10 @@
 use Rattle.std.proofs.Common.{◌≡◌, ◌∙◌, ℕ, true, Bool, List, [], ◌∷◌, map, Option, Some, refl, ap}
 use Rattle.std.specs.FinMap.{entries}
 use Rattle.std.proofs.lemmas.List.Elements.{All-head, All-tail}
-use Rattle.co_memo.specs.Shelved.{Single}
-use Rattle.co_memo.specs.Stale.{AreBrought}
-use Rattle.co_memo.specs.Work.{Work}
-use Rattle.co_memo.proofs.Brought.{both, none, refreshes_none}
+use Rattle.kept_values.specs.Shelved.{Single}
+use Rattle.kept_values.specs.Stale.{AreBrought}
+use Rattle.kept_values.specs.Work.{Work}
+use Rattle.kept_values.proofs.Brought.{both, none, refreshes_none}
 use Rattle.co_project.specs.declared.node.Node.{Node}
 use Rattle.co_project.specs.Project.{Content as Project}
 use Rattle.co_project.specs.Tables.{text_at}

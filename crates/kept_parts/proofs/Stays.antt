@@ -2,9 +2,9 @@
 use Rattle.std.proofs.Common.{◌≡◌, ◌∙◌, ℕ, inl, inr, Bool, true, false, ◌||◌, List, [], ◌∷◌, ◌++◌, Option, refl, sym, ap, subst}
 use Rattle.std.proofs.Common.{if◌then◌else◌}
 use Rattle.std.specs.List.{list_any}
-use Rattle.co_memo.specs.Work.{IsToMake, Work}
-use Rattle.co_memo.specs.Stale.{settled, AreBrought, Counts, IsOneMore}
-use Rattle.co_memo.proofs.Brought.{settled-append}
+use Rattle.kept_values.specs.Work.{IsToMake, Work}
+use Rattle.kept_values.specs.Stale.{settled, AreBrought, Counts, IsOneMore}
+use Rattle.kept_values.proofs.Brought.{settled-append}
 
 none_of : (P : Type 0) (m n : ℕ) → (P → ⊥) → IsOneMore P m n → n ≡ m
 none_of P m n current h = elim h [ inl x ↦ absurd (current x.0) | inr x ↦ x.1 ]

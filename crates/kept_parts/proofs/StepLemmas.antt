@@ -3,14 +3,14 @@ use Rattle.std.proofs.Common.{◌≡◌, ℕ, List, [], ◌∷◌, Option, Some,
 use Rattle.std.proofs.Common.{IfSome, Bool, true, ◌+◌, ◌-◌, ◌^◌, min}
 use Rattle.std.specs.Option.{option_map_or}
 use Rattle.ini_text.specs.Content.{Content as Device}
-use Rattle.co_messages.specs.Messages.{Named}
+use Rattle.project_messages.specs.Messages.{Named}
 use Rattle.co_project.specs.declared.node.Node.{Node}
 use Rattle.co_project.specs.Project.{Content as Project}
 use Rattle.co_project.specs.Tables.{node_at}
-use Rattle.co_memo.specs.Shelved.{Single}
-use Rattle.co_memo.specs.Work.{Refreshes, Rises, Work}
-use Rattle.co_memo.specs.Stale.{AreBrought}
-use Rattle.co_memo.proofs.Brought.{refreshes_built}
+use Rattle.kept_values.specs.Shelved.{Single}
+use Rattle.kept_values.specs.Work.{Refreshes, Rises, Work}
+use Rattle.kept_values.specs.Stale.{AreBrought}
+use Rattle.kept_values.proofs.Brought.{refreshes_built}
 use Rattle.part_shelves.specs.Slots.{Slots}
 use Rattle.project_parts.specs.Written.{Written}
 use Rattle.project_parts.specs.Made.{writes_made, written_made}

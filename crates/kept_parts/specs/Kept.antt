@@ -2,7 +2,7 @@
 use Rattle.std.specs.Prelude.{◌≡◌, ℕ, Bool, true, List, All, Option, Some, None, option_map}
 use Rattle.std.specs.FinMap.{insert}
 use Rattle.std.specs.List.{list_any}
-use Rattle.co_memo.specs.Shelved.{is_fresh, kept_at}
+use Rattle.kept_values.specs.Shelved.{is_fresh, kept_at}
 use Rattle.co_project.specs.Project.{Content as Project}
 use Rattle.part_shelves.specs.Slots.{fresh_at, text_kept}
 use Rattle.network_image.specs.Held.{AllHeld, Held}

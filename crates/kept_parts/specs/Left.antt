@@ -1,6 +1,6 @@
 -- What is left of what is held once the parts of what a project doesn't have are let go.
 use Rattle.std.specs.Prelude.{◌≡◌, true, Option, None}
-use Rattle.co_memo.specs.Stale.{without}
+use Rattle.kept_values.specs.Stale.{without}
 use Rattle.co_project.specs.Project.{Content as Project}
 use Rattle.project_parts.specs.Given.{Given}
 use Rattle.project_parts.specs.Gone.{is_gone}

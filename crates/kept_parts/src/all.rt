@@ -1,16 +1,16 @@
 //! A part, and all that a simulation reads, brought up to date.
 ghost use Rattle.std.specs.Prelude.{OnOk};
 ghost use Rattle.std.specs.FinMap.{entries};
-ghost use Rattle.co_memo.specs.Stale.{AreBrought};
-ghost use Rattle.co_memo.specs.Work.{Rises};
+ghost use Rattle.kept_values.specs.Stale.{AreBrought};
+ghost use Rattle.kept_values.specs.Work.{Rises};
 ghost use Rattle.network_image.specs.Devices.{HoldsDevices};
 ghost use Rattle.project_parts.specs.Given.{given, same_part};
 ghost use Rattle.project_parts.specs.Reached.{for_node, for_nodes, for_plan, reached, reached_by_trace, windows_below, IsPart};
 ghost use Rattle.kept_parts.specs.Kept.{held, AreHeld, IsOf};
 
 use crate::kept_parts::KeptParts;
-use co_memo::Meter;
 use co_project::Project;
+use kept_values::Meter;
 use network_image::{LAST_TIME, window_split};
 use project_parts::Part;
 use std::alloc::AllocError;

@@ -2,8 +2,8 @@
 ghost use Rattle.std.specs.Prelude.{◌≡◌, ◌∷◌, [], true, OnOk, IfOk, Some, is_some, option_map, option_and_then};
 ghost use Rattle.std.specs.Prelude.{filter_map};
 ghost use Rattle.std.specs.FinMap as finmap;
-ghost use Rattle.co_memo.specs.Stale.{AreBrought};
-ghost use Rattle.co_memo.specs.Work.{Rises};
+ghost use Rattle.kept_values.specs.Stale.{AreBrought};
+ghost use Rattle.kept_values.specs.Work.{Rises};
 ghost use Rattle.co_project.specs.Tables.{node_at, text_at};
 ghost use Rattle.project_parts.specs.Given.{device_at, given, numbered, plan_from, same_part, writes_from};
 ghost use Rattle.project_parts.specs.Made.{plan_made, written_made};
@@ -11,9 +11,9 @@ ghost use Rattle.project_parts.specs.Reached.{for_plan, for_writes, of_nodes, ow
 ghost use Rattle.kept_parts.specs.Kept.{fresh, held, HaveNoMark, IsOf};
 
 use crate::kept_parts::KeptParts;
-use co_memo::{Meter, Shared, share_of};
 use co_project::Project;
 use eds_device::Device;
+use kept_values::{Meter, Shared, share_of};
 use pdo_plan::Plan;
 use project_parts::{
     ConciseNow, DcfNow, DeviceWrites, NodeDevices, Part, PlanNow, WritesNow, share_written,

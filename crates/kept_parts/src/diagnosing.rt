@@ -1,8 +1,8 @@
 //! All that is wrong with a project, found by what is kept of it, and brought up to date.
 ghost use Rattle.std.specs.Prelude.{◌≡◌, ◌↔◌, IfOk, IsTrue, OnOk, Some};
 ghost use Rattle.co_diag.specs.Found.{diagnostics_of};
-ghost use Rattle.co_memo.specs.Stale.{AreBrought};
-ghost use Rattle.co_memo.specs.Work.{Rises};
+ghost use Rattle.kept_values.specs.Stale.{AreBrought};
+ghost use Rattle.kept_values.specs.Work.{Rises};
 ghost use Rattle.project_parts.specs.Given.{given, same_part, whole};
 ghost use Rattle.project_parts.specs.Reached.{reached};
 ghost use Rattle.project_plan.specs.Network.{plan_of_project};
@@ -10,8 +10,8 @@ ghost use Rattle.kept_parts.specs.Kept.{held, IsOf};
 
 use crate::kept_parts::KeptParts;
 use co_diag::diagnostics_by;
-use co_memo::{Meter, Shared};
 use co_project::Project;
+use kept_values::{Meter, Shared};
 use pdo_plan::Plan;
 use project_parts::{Diagnostics, DiagnosticsNow, Part};
 use project_plan::Library;

@@ -1,9 +1,9 @@
 //! The parts of a project that are kept.
 ghost use Rattle.std.specs.Prelude.{◌≡◌, OnOk, option_copied, option_map};
 ghost use Rattle.co_diag.specs.Found.{diagnostics_of};
-ghost use Rattle.co_memo.specs.Shelved.{kept_at};
-ghost use Rattle.co_memo.specs.Stale.{AreBrought};
-ghost use Rattle.co_memo.specs.Work.{Rises};
+ghost use Rattle.kept_values.specs.Shelved.{kept_at};
+ghost use Rattle.kept_values.specs.Stale.{AreBrought};
+ghost use Rattle.kept_values.specs.Work.{Rises};
 ghost use Rattle.co_project.specs.Project.{Content};
 ghost use Rattle.project_parts.specs.Given.{given, same_part};
 ghost use Rattle.project_parts.specs.Made.{concise_made, dcf_made, plan_made};
@@ -11,12 +11,12 @@ ghost use Rattle.project_parts.specs.Reached.{reached, reached_by_trace, IsPart}
 ghost use Rattle.kept_parts.specs.Kept.{held, IsCurrent, IsOf};
 ghost use Rattle.kept_parts.specs.Left.{left_of, IsSwept};
 
-use co_memo::{Memo, Meter, Shared, Shelf};
-use co_parts::Roster;
 use co_project::Project;
-use listed_text::{ListedBytes, ListedText};
+use image_parts::Roster;
+use kept_values::{Memo, Meter, Shared, Shelf};
 use part_shelves::{DeviceShelf, WindowShelf};
 use pdo_plan::Plan;
+use plain_text::{ListedBytes, ListedText};
 use project_parts::{
     ConciseFrom, DcfFrom, DeviceAt, DeviceParts, DeviceWrites, Diagnostics, DiagnosticsFrom, Part,
     PlanFrom, RosterFrom, WritesFrom,

@@ -5,9 +5,9 @@ ghost use Rattle.kept_parts.specs.Kept.{held, IsOf};
 ghost use Rattle.kept_parts.specs.Left.{left_of, IsSwept};
 
 use crate::kept_parts::KeptParts;
-use co_edits::Edit;
 use co_project::Project;
 use part_shelves::node_flags;
+use project_edits::Edit;
 use project_parts::Part;
 
 /// Whether it is known still after an edit that nothing is held of what the project doesn't have: not where an

@@ -10,8 +10,8 @@ ghost use Rattle.project_parts.specs.Reached.{for_node};
 ghost use Rattle.kept_parts.specs.Kept.{with_parts, AreHeld, IsCurrent};
 
 use crate::kept_parts::KeptParts;
-use co_parts::Roster;
 use co_project::Project;
+use image_parts::Roster;
 use network_image::{NetworkParts, NodeParts, NodeTable, WindowTable};
 use project_parts::Part;
 use std::alloc::AllocError;

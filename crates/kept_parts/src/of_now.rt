@@ -4,9 +4,9 @@ ghost use Rattle.project_parts.specs.Given.{device_at};
 ghost use Rattle.kept_parts.specs.Kept.{IsOf};
 
 use crate::kept_parts::KeptParts;
-use co_memo::{Shared, share_of};
 use co_project::Project;
 use eds_device::Device;
+use kept_values::{Shared, share_of};
 use std::alloc::AllocError;
 
 impl KeptParts {

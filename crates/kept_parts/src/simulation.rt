@@ -1,7 +1,7 @@
 //! What else a simulation reads, brought up to date, each part after what it is made from.
 ghost use Rattle.std.specs.Prelude.{◌≡◌, ◌≤◌, ◌+◌, ◌*◌, ◌∷◌, [], OnOk, IfOk, option_map};
-ghost use Rattle.co_memo.specs.Stale.{AreBrought};
-ghost use Rattle.co_memo.specs.Work.{Rises};
+ghost use Rattle.kept_values.specs.Stale.{AreBrought};
+ghost use Rattle.kept_values.specs.Work.{Rises};
 ghost use Rattle.co_scenario.specs.Scenario.{events_between};
 ghost use Rattle.network_image.specs.Devices.{HoldsDevices};
 ghost use Rattle.project_parts.specs.Given.{device_from, given, same_part};
@@ -9,10 +9,10 @@ ghost use Rattle.project_parts.specs.Reached.{own_device, reached, IsPart};
 ghost use Rattle.kept_parts.specs.Kept.{held, IsOf};
 
 use crate::kept_parts::KeptParts;
-use co_memo::{Meter, Shared};
-use co_parts::WINDOW;
 use co_project::Project;
 use eds_device::Device;
+use image_parts::WINDOW;
+use kept_values::{Meter, Shared};
 use network_image::window_steps;
 use project_parts::{DeviceAt, Part, RosterNow};
 use std::alloc::AllocError;

@@ -10,10 +10,10 @@ ghost use Rattle.kept_parts.specs.Marks.{Marks};
 
 use crate::kept_parts::KeptParts;
 use crate::leaving::stays_swept;
-use co_edits::Edit;
-use co_parts::WINDOW;
 use co_project::Project;
 use co_scenario::Script;
+use image_parts::WINDOW;
+use project_edits::Edit;
 use project_parts::{Part, Touch, touch_of};
 
 impl KeptParts {

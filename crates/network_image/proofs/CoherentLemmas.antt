@@ -10,9 +10,10 @@ use Rattle.eds_device.proofs.LawLemmas.{values_have_lengths}
 use Rattle.project_plan.specs.Network.{member_at, writes_of, Member}
 use Rattle.co_project.specs.Project.{Content as Project}
 use Rattle.co_project.specs.Sound.{IsSound}
-use Rattle.co_parts.specs.Contents.{DefaultsAre, ShapeIs, shape_of as shape_in, values_of as values_in}
-use Rattle.co_parts.specs.Images.{AreInOrder, FitsShape, greatest_place, IsBootWrite, IsCoherent, IsImage}
-use Rattle.co_parts.specs.Images.{IsWithin}
+use Rattle.image_parts.specs.Contents.{DefaultsAre, ShapeIs, shape_of as shape_in, values_of as values_in}
+use Rattle.image_parts.specs.Images.{AreInOrder, FitsShape, greatest_place, IsCoherent, IsImage}
+use Rattle.concise_dcf.specs.Writes.{IsSized}
+use Rattle.image_parts.specs.Images.{IsWithin}
 use Rattle.project_plan.specs.Events.{shape_of_node}
 use Rattle.network_image.specs.Image.{defaults_of_node, image_of, window_steps, write_of_node}
 use Rattle.network_image.proofs.CountLemmas.{writes_countable}
@@ -22,14 +23,14 @@ use Rattle.network_image.proofs.SizeLemmas.{node_fits}
 use Rattle.network_image.proofs.StepLemmas.{steps_fit, steps_in_order, steps_said, steps_within}
 
 -- each write has data of 1 to 512 bytes
-write_fits : (p : Project) → (node place : ℕ) → IfSome (write_of_node p node place) IsBootWrite
+write_fits : (p : Project) → (node place : ℕ) → IfSome (write_of_node p node place) IsSized
 unfolding write_of_node
 write_fits p node place = by (member_at p node)
   where
     by : (o : Option Member)
-        → IfSome (option_and_then (λ (m : Member). slice_get (writes_of p m node) place) o) IsBootWrite
+        → IfSome (option_and_then (λ (m : Member). slice_get (writes_of p m node) place) o) IsSized
     by None = tt
-    by (Some m) = all_at IsBootWrite (writes_of p m node) place (node_fits p m node)
+    by (Some m) = all_at IsSized (writes_of p m node) place (node_fits p m node)
 
 -- and its number is below the greatest
 write_ends : (p : Project) → IsSound p

@@ -14,14 +14,14 @@ use Rattle.std.proofs.lemmas.Cmp.{nat_list_cmp_total}
 use Rattle.std.proofs.lemmas.List.Elements.{recursion_from_All}
 use Rattle.std.proofs.lemmas.Map.Lookups.{exact_bytes}
 use Rattle.std.proofs.lemmas.Option.{same_Some}
-use Rattle.co_base.proofs.EachLemmas.{all_entries, each_found, each_weaker}
-use Rattle.co_edits.specs.Eds.{IsEds}
-use Rattle.co_fields.specs.CobIds.{no_rtr_bit}
-use Rattle.co_messages.specs.declared.linked.Linked.{Linked}
-use Rattle.co_messages.specs.Messages.{IsLinked}
-use Rattle.co_params.specs.Parameters.{parameter_writes}
-use Rattle.co_params.proofs.ParameterLemmas.{writes_few}
-use Rattle.co_parts.specs.Images.{greatest_place}
+use Rattle.base.proofs.EachLemmas.{all_entries, each_found, each_weaker}
+use Rattle.project_edits.specs.Eds.{IsEds}
+use Rattle.cia301.specs.CobIds.{no_rtr_bit}
+use Rattle.project_messages.specs.declared.linked.Linked.{Linked}
+use Rattle.project_messages.specs.Messages.{IsLinked}
+use Rattle.node_parameters.specs.Parameters.{parameter_writes}
+use Rattle.node_parameters.proofs.ParameterLemmas.{writes_few}
+use Rattle.image_parts.specs.Images.{greatest_place}
 use Rattle.co_project.specs.declared.node.Node.{Node}
 use Rattle.co_project.specs.Project.{Content as Project}
 use Rattle.co_project.specs.Sound.{AreTexts, IsMessageOf, IsSound}
@@ -45,7 +45,8 @@ use Rattle.pdo_plan.specs.Plan.{clean, had_by, IsNumbered, IsWithin}
 use Rattle.pdo_plan.proofs.ChainLemmas.{all_clean, each_within}
 use Rattle.pdo_plan.proofs.JudgedLemmas.{clean_within}
 use Rattle.pdo_stations.specs.declared.mapped.Mapped.{Mapped}
-use Rattle.pdo_stations.specs.Devices.{Devices, devices_of, mapping_of, rpdo_object, takes_unsigned, tpdo_object}
+use Rattle.pdo_stations.specs.Devices.{Devices, devices_of, takes_unsigned}
+use Rattle.cia301.specs.PdoObjects.{mapping_object, rpdo_object, tpdo_object}
 use Rattle.project_plan.specs.Network.{member_at, members_of, plan_of_project, with_sections, writes_of, Member}
 use Rattle.network_image.proofs.StepLemmas.{picked}
 
@@ -91,7 +92,7 @@ tpdo_few ss node c few =
     let inhibit : List Write = time_write ss node object 3 c.message.inhibit in
     let event : List Write = time_write ss node object 5 c.message.event in
     let start : List Write = start_write ss node object c.start in
-    let mapping : List Write = mapping_writes (mapping_of object) c.mapping in
+    let mapping : List Write = mapping_writes (mapping_object object) c.mapping in
     let on : List Write = cob_write object (no_rtr_bit + c.identifier) ∷ [] in
     let times =
     joined_few 1 1 inhibit event (time_few ss node object 3 c.message.inhibit)
@@ -100,7 +101,7 @@ tpdo_few ss node c few =
     joined_few 69 1 (inhibit ++ event ++ start ++ mapping) on
     (joined_few 3 66 (inhibit ++ event ++ start) mapping
     (joined_few 2 1 (inhibit ++ event) start times (start_few ss node object c.start))
-    (mapping_few (mapping_of object) c.mapping few))
+    (mapping_few (mapping_object object) c.mapping few))
     (omega arith) in
     omega (arith, rest)
 
@@ -109,8 +110,8 @@ unfolding rpdo_writes
 rpdo_few c k few =
     let object : ℕ = rpdo_object k.rpdo in
     let rest =
-    joined_few 66 1 (mapping_writes (mapping_of object) k.mapping) (cob_write object c.identifier ∷ [])
-    (mapping_few (mapping_of object) k.mapping few) (omega arith) in
+    joined_few 66 1 (mapping_writes (mapping_object object) k.mapping) (cob_write object c.identifier ∷ [])
+    (mapping_few (mapping_object object) k.mapping few) (omega arith) in
     omega (arith, rest)
 
 -- ---- those of PDOs by number

@@ -5,7 +5,7 @@ use Rattle.std.specs.Result.{result_ok}
 use Rattle.ini_text.specs.Content.{Content as Device, content_of}
 use Rattle.co_dict.specs.Shapes.{Shaped}
 use Rattle.co_dict.specs.declared.entry.Entry.{Entry}
-use Rattle.co_params.specs.Judgement.{set_bytes}
+use Rattle.node_parameters.specs.Judgement.{set_bytes}
 use Rattle.co_project.specs.declared.node.Node.{Node}
 use Rattle.co_project.specs.Project.{Content as Project}
 use Rattle.co_project.specs.Tables.{node_at, text_at}

@@ -3,10 +3,10 @@ use Rattle.std.proofs.Common.{◌≡◌, ℕ, Option, Some, None, option_map, op
 use Rattle.std.specs.FinMap.{get}
 use Rattle.project_plan.specs.Network.{member_at}
 use Rattle.co_project.specs.Project.{Content as Project}
-use Rattle.co_parts.specs.Contents.{BootIs, DefaultsAre, EventsAre, ExpectIs, RosterIs, ShapeIs}
-use Rattle.co_parts.specs.declared.part.Part.{Part}
-use Rattle.co_parts.specs.declared.part.Part.TheVariants as part
-use Rattle.co_parts.specs.declared.roster.Roster.{Roster}
+use Rattle.image_parts.specs.Contents.{BootIs, DefaultsAre, EventsAre, ExpectIs, RosterIs, ShapeIs}
+use Rattle.image_parts.specs.declared.part.Part.{Part}
+use Rattle.image_parts.specs.declared.part.Part.TheVariants as part
+use Rattle.image_parts.specs.declared.roster.Roster.{Roster}
 use Rattle.network_image.specs.Held.{held_of, AllHeld, Held, Windows}
 use Rattle.project_plan.specs.Events.{shape_of_node}
 use Rattle.network_image.specs.Image.{defaults_of_node, identity_of_node, image_of, roster_of_project}

@@ -11,8 +11,8 @@ use Rattle.co_project.specs.Project.{Content as Project}
 use Rattle.co_project.specs.Sound.{IsSound}
 use Rattle.co_project.specs.Tables.{node_at, text_at}
 use Rattle.co_project.proofs.SoundLemmas.{nodes_have_texts}
-use Rattle.co_parts.specs.Contents.{BootIs, DefaultsAre, ExpectIs, ShapeIs}
-use Rattle.co_parts.specs.declared.identity.Identity.{Identity}
+use Rattle.image_parts.specs.Contents.{BootIs, DefaultsAre, ExpectIs, ShapeIs}
+use Rattle.image_parts.specs.declared.identity.Identity.{Identity}
 use Rattle.project_plan.specs.Events.{shape_of_node}
 use Rattle.network_image.specs.Image.{defaults_of_node, identity_of_node, write_of_node}
 use Rattle.network_image.specs.Parts.{HasNoParts, HasParts}

@@ -3,7 +3,7 @@ use Rattle.std.proofs.Common.{◌≡◌, ℕ, zero, suc, ◌<◌, ◌≤◌, len
 use Rattle.std.proofs.Common.{refl, Some, None, IfOk, IfSome, All, sym, subst, slice_get}
 use Rattle.std.proofs.lemmas.List.Elements.{All-head, All-tail}
 use Rattle.std.specs.declared.rc.Rc.{Rc}
-use Rattle.co_parts.specs.Shared.{shared}
+use Rattle.image_parts.specs.Shared.{shared}
 
 -- what holds of all holds at a place
 pub all_at : {X : Type 0} (P : X → Type 0) (xs : List X) (k : ℕ) → All P xs → IfSome (slice_get xs k) P

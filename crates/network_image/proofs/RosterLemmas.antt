@@ -13,14 +13,15 @@ use Rattle.std.proofs.lemmas.Cmp.{nat_cmp_total}
 use Rattle.std.proofs.lemmas.List.Elements.{All-contains_itself, All-head, All-tail, recursion_from_All}
 use Rattle.std.proofs.lemmas.Map.Lookups.{exact_unsigned}
 use Rattle.std.proofs.lemmas.Map.Views.{Contains-from_any}
-use Rattle.co_base.proofs.EachLemmas.{all_entries, first_part, second_part}
+use Rattle.base.proofs.EachLemmas.{all_entries, first_part, second_part}
 use Rattle.pdo_plan.proofs.LimitLemmas.{between}
-use Rattle.co_base.specs.Ranges.{is_between}
-use Rattle.co_edits.specs.Edits.{IsManager}
+use Rattle.base.specs.Ranges.{is_between}
+use Rattle.project_edits.specs.Edits.{IsManager}
 use Rattle.co_project.specs.declared.node.Node.{Node}
 use Rattle.co_project.specs.Project.{Content as Project}
 use Rattle.co_project.specs.Sound.{IsNodeOf, IsSound}
-use Rattle.co_parts.specs.Images.{AllDiffer, bit_rates, IsNode, IsRoster}
+use Rattle.image_parts.specs.Images.{AllDiffer, IsNode, IsRoster}
+use Rattle.cia301.specs.Limits.{bit_rates}
 use Rattle.network_image.specs.Image.{mandatory_of, roster_of_project}
 
 -- none, or from a least number to a greatest

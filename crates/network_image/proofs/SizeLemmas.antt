@@ -10,15 +10,16 @@ use Rattle.std.specs.Ordering.{nat_cmp}
 use Rattle.std.proofs.lemmas.List.Elements.{All-append, All-cons, All-nil}
 use Rattle.byteorder.specs.Endian.{little_bytes}
 use Rattle.co_values.specs.declared.form.Width.TheVariants.{Bits8, Bits16}
-use Rattle.co_fields.specs.CobIds.{no_rtr_bit, off_bit}
+use Rattle.cia301.specs.CobIds.{no_rtr_bit, off_bit}
 use Rattle.concise_dcf.specs.declared.write.Write.{Write}
 use Rattle.ini_text.specs.Content.{Section}
-use Rattle.co_params.specs.Parameters.{parameter_writes}
-use Rattle.co_params.proofs.ParameterLemmas.{writes_sized}
+use Rattle.node_parameters.specs.Parameters.{parameter_writes}
+use Rattle.node_parameters.proofs.ParameterLemmas.{writes_sized}
 use Rattle.co_project.specs.Project.{Content as Project}
 use Rattle.eds_device.specs.Entries.{entry_at}
 use Rattle.pdo_stations.specs.declared.mapped.Mapped.{Mapped}
-use Rattle.pdo_stations.specs.Devices.{mapping_of, rpdo_object, takes_unsigned, tpdo_object}
+use Rattle.pdo_stations.specs.Devices.{takes_unsigned}
+use Rattle.cia301.specs.PdoObjects.{mapping_object, rpdo_object, tpdo_object}
 use Rattle.pdo_plan.specs.declared.clean.Clean.{Clean}
 use Rattle.pdo_plan.specs.declared.consumer.Consumer.{Consumer}
 use Rattle.pdo_plan.specs.declared.planned_message.PlannedMessage.{PlannedMessage}
@@ -28,26 +29,26 @@ use Rattle.pdo_links.specs.Writes.{at_number, by_number, cob_write, link_writes,
 use Rattle.pdo_links.specs.Writes.{node_writes, rpdo_of, rpdo_writes, start_write, taken_type, time_write}
 use Rattle.pdo_links.specs.Writes.{tpdo_of, tpdo_writes, write_at}
 use Rattle.project_plan.specs.Network.{plan_of_project, writes_of, Member}
-use Rattle.co_parts.specs.Images.{IsBootWrite}
+use Rattle.concise_dcf.specs.Writes.{IsSized}
 
 -- each of these does
 record AllFit (ws : List Write) : Type 0 where
-  each : All IsBootWrite ws
+  each : All IsSized ws
 
 none_fit : AllFit []
-none_fit = record { each = All-nil IsBootWrite }
+none_fit = record { each = All-nil IsSized }
 
-one_more : (w : Write) (ws : List Write) → IsBootWrite w → AllFit ws → AllFit (w ∷ ws)
-one_more w ws fits rest = record { each = All-cons IsBootWrite w ws fits rest.each }
+one_more : (w : Write) (ws : List Write) → IsSized w → AllFit ws → AllFit (w ∷ ws)
+one_more w ws fits rest = record { each = All-cons IsSized w ws fits rest.each }
 
 both_fit : (vs ws : List Write) → AllFit vs → AllFit ws → AllFit (vs ++ ws)
-both_fit vs ws a b = record { each = All-append IsBootWrite vs ws a.each b.each }
+both_fit vs ws a b = record { each = All-append IsSized vs ws a.each b.each }
 
 -- a write of one byte, and of four
-byte_fits : (object sub n : ℕ) → IsBootWrite (write_at object sub (n ∷ []))
+byte_fits : (object sub n : ℕ) → IsSized (write_at object sub (n ∷ []))
 byte_fits object sub n = (omega arith, omega arith)
 
-word_fits : (object sub n : ℕ) → IsBootWrite (write_at object sub (little_bytes 4 n))
+word_fits : (object sub n : ℕ) → IsSized (write_at object sub (little_bytes 4 n))
 word_fits object sub n = (omega arith, omega arith)
 
 time_fits : (ss : List Section) (node object sub time : ℕ) → AllFit (time_write ss node object sub time)
@@ -86,7 +87,7 @@ tpdo_fits ss node c =
     let inhibit : List Write = time_write ss node object 3 c.message.inhibit in
     let event : List Write = time_write ss node object 5 c.message.event in
     let start : List Write = start_write ss node object c.start in
-    let mapping : List Write = mapping_writes (mapping_of object) c.mapping in
+    let mapping : List Write = mapping_writes (mapping_object object) c.mapping in
     let on : List Write = cob_write object (no_rtr_bit + c.identifier) ∷ [] in
     one_more (cob_write object (off_bit + (no_rtr_bit + c.identifier))) _
     (word_fits object 1 (off_bit + (no_rtr_bit + c.identifier)))
@@ -96,7 +97,7 @@ tpdo_fits ss node c =
     (both_fit (inhibit ++ event) start
     (both_fit inhibit event (time_fits ss node object 3 c.message.inhibit)
     (time_fits ss node object 5 c.message.event)) (start_fits ss node object c.start))
-    (mapping_fits (mapping_of object) c.mapping))
+    (mapping_fits (mapping_object object) c.mapping))
     (one_more (cob_write object (no_rtr_bit + c.identifier)) [] (word_fits object 1 (no_rtr_bit + c.identifier))
     none_fit)))
 
@@ -104,12 +105,12 @@ rpdo_fits : (taken : Clean × Consumer) → AllFit (rpdo_writes taken.0 taken.1)
 unfolding rpdo_writes
 rpdo_fits taken =
     let object : ℕ = rpdo_object taken.1.rpdo in
-    let mapping : List Write = mapping_writes (mapping_of object) taken.1.mapping in
+    let mapping : List Write = mapping_writes (mapping_object object) taken.1.mapping in
     let on : List Write = cob_write object taken.0.identifier ∷ [] in
     one_more (cob_write object (off_bit + taken.0.identifier)) _ (word_fits object 1 (off_bit + taken.0.identifier))
     (one_more (write_at object 2 (taken_type taken.0.message.transmission ∷ [])) _
     (byte_fits object 2 (taken_type taken.0.message.transmission))
-    (both_fit mapping on (mapping_fits (mapping_of object) taken.1.mapping)
+    (both_fit mapping on (mapping_fits (mapping_object object) taken.1.mapping)
     (one_more (cob_write object taken.0.identifier) [] (word_fits object 1 taken.0.identifier) none_fit)))
 
 -- those of PDOs by number
@@ -132,14 +133,14 @@ module _ {Y : Type 0} (f : Y → List Write) (each : (y : Y) → AllFit (f y)) (
   by_number_fits = range_fits 1 512
 
 -- and all of a node's
-pub node_fits : (p : Project) (m : Member) (node : ℕ) → All IsBootWrite (writes_of p m node)
+pub node_fits : (p : Project) (m : Member) (node : ℕ) → All IsSized (writes_of p m node)
 unfolding writes_of node_writes link_writes
 node_fits p m node =
     let plan : List PlannedMessage = plan_of_project p in
     let tpdos : List (ℕ × Clean) = filter_map (tpdo_of node) (clean plan) in
     let rpdos : List (ℕ × (Clean × Consumer)) = filter_map (rpdo_of node) (clean plan) in
     let taken : Clean × Consumer → List Write = λ (t : Clean × Consumer). rpdo_writes t.0 t.1 in
-    All-append IsBootWrite (parameter_writes m.sections m.node.params node)
+    All-append IsSized (parameter_writes m.sections m.node.params node)
     (by_number (tpdo_writes m.sections node) tpdos ++ by_number taken rpdos)
     (writes_sized m.sections m.node.params node)
     (both_fit (by_number (tpdo_writes m.sections node) tpdos) (by_number taken rpdos)

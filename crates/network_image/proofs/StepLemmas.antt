@@ -13,8 +13,8 @@ use Rattle.std.specs.declared.cmp.Ordering.{Ordering}
 use Rattle.std.specs.declared.cmp.Ordering.TheVariants.{Less, Equal, Greater}
 use Rattle.std.proofs.lemmas.Bool.Decides.{nat_tests}
 use Rattle.std.proofs.lemmas.List.Elements.{All-contains_itself, recursion_from_All}
-use Rattle.co_base.proofs.EachLemmas.{each_found}
-use Rattle.co_base.specs.Ranges.{is_between}
+use Rattle.base.proofs.EachLemmas.{each_found}
+use Rattle.base.specs.Ranges.{is_between}
 use Rattle.pdo_plan.proofs.LimitLemmas.{between}
 use Rattle.co_values.specs.Types.{form, is_modelled_form, len_of_form, octets}
 use Rattle.co_values.specs.declared.form.Form.{Form}
@@ -22,15 +22,15 @@ use Rattle.co_values.specs.declared.form.Width.{Width}
 use Rattle.co_values.specs.declared.form.Width.TheVariants.{Bits8, Bits16, Bits32, Bits64}
 use Rattle.co_values.specs.declared.form.Form.TheVariants.{Flag, Signed, Unsigned, Characters, HexPairs, Unmodelled}
 use Rattle.co_values.specs.Values.{longest_value, value, value_in, zero_value}
-use Rattle.co_dict.specs.Pdos.{is_of_pdos}
+use Rattle.cia301.specs.PdoObjects.{is_of_pdos}
 use Rattle.co_dict.specs.Shapes.{Shaped}
 use Rattle.co_dict.specs.Values.{HasLength}
 use Rattle.co_dict.specs.declared.entry.Entry.{Entry}
 use Rattle.eds_device.proofs.LengthLemmas.{written_length}
-use Rattle.co_params.specs.declared.parameter_fault.ParameterFault.TheVariants.{NotModelled, Unreadable}
-use Rattle.co_params.specs.Judgement.{set_bytes, set_bytes_at}
-use Rattle.co_edits.specs.Edits.{IsEvent, IsSetting}
-use Rattle.co_params.proofs.WrittenLemmas.{Contains-filter_map, from_filter_map}
+use Rattle.node_parameters.specs.declared.parameter_fault.ParameterFault.TheVariants.{NotModelled, Unreadable}
+use Rattle.node_parameters.specs.Judgement.{set_bytes, set_bytes_at}
+use Rattle.project_edits.specs.Edits.{IsEvent, IsSetting}
+use Rattle.node_parameters.proofs.WrittenLemmas.{Contains-filter_map, from_filter_map}
 use Rattle.co_project.specs.Project.{Content as Project}
 use Rattle.co_project.specs.Sound.{IsEventOf, IsSound}
 use Rattle.co_scenario.proofs.BetweenLemmas.{has_exactly, rise}
@@ -41,8 +41,8 @@ use Rattle.co_scenario.specs.declared.step.Step.{Step}
 use Rattle.co_scenario.specs.declared.step.Step.TheVariants as step
 use Rattle.co_scenario.specs.declared.timed_event.TimedEvent.{TimedEvent}
 use Rattle.co_scenario.specs.declared.timed_step.TimedStep.{TimedStep}
-use Rattle.co_parts.specs.Contents.{no_shape}
-use Rattle.co_parts.specs.Images.{AreInOrder, ComesBefore, FitsShape, IsFree, IsWithin}
+use Rattle.image_parts.specs.Contents.{no_shape}
+use Rattle.image_parts.specs.Images.{AreInOrder, ComesBefore, FitsShape, IsFree, IsWithin}
 use Rattle.network_image.specs.Held.{IsWindow}
 use Rattle.project_plan.specs.Events.{bytes_set, set_step, shape_of_node, step_of, Shapes}
 use Rattle.network_image.specs.Image.{image_of, window_steps}

@@ -9,11 +9,11 @@ use Rattle.std.proofs.lemmas.Bool.Decides.{nat_tests}
 use Rattle.std.proofs.lemmas.Cmp.{nat_cmp_total}
 use Rattle.std.proofs.lemmas.Map.Lookups.{exact_unsigned}
 use Rattle.std.specs.declared.rc.Rc.{Rc}
-use Rattle.co_base.specs.Tables.{Each}
-use Rattle.co_base.proofs.EachLemmas.{each_found}
-use Rattle.co_parts.specs.Shared.{shared}
+use Rattle.base.specs.Tables.{Each}
+use Rattle.base.proofs.EachLemmas.{each_found}
+use Rattle.image_parts.specs.Shared.{shared}
 use Rattle.network_image.proofs.PointerLemmas.{copied_fits}
-use Rattle.co_base.proofs.TableLemmas.{apart, put_there}
+use Rattle.base.proofs.TableLemmas.{apart, put_there}
 use Rattle.co_scenario.specs.declared.timed_step.TimedStep.{TimedStep}
 use Rattle.network_image.specs.Held.{with_window, Windows}
 use Rattle.network_image.specs.Steps.{unless_none}

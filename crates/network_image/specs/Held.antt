@@ -9,8 +9,8 @@ use Rattle.co_dict.specs.Values.{Values}
 use Rattle.project_plan.specs.Network.{writes_of, Member}
 use Rattle.co_project.specs.Project.{Content as Project}
 use Rattle.std.specs.List.{AllByRecursion}
-use Rattle.co_parts.specs.Images.{AreInOrder, IsWithin}
-use Rattle.co_parts.specs.declared.identity.Identity.{Identity}
+use Rattle.image_parts.specs.Images.{AreInOrder, IsWithin}
+use Rattle.image_parts.specs.declared.identity.Identity.{Identity}
 use Rattle.co_scenario.specs.declared.timed_step.TimedStep.{TimedStep}
 use Rattle.eds_device.specs.Entries.{defaults_of, shape_of}
 use Rattle.eds_device.specs.Identity.{identity}

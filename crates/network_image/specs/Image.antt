@@ -6,19 +6,19 @@ use Rattle.concise_dcf.specs.declared.write.Write.{Write}
 use Rattle.co_dict.specs.Values.{Values}
 use Rattle.eds_device.specs.Entries.{defaults_of}
 use Rattle.eds_device.specs.Identity.{identity}
-use Rattle.co_edits.specs.declared.script_version.ScriptVersion.{ScriptVersion}
-use Rattle.co_edits.specs.declared.script_version.ScriptVersion.TheVariants.{One, Two}
+use Rattle.project_edits.specs.declared.script_version.ScriptVersion.{ScriptVersion}
+use Rattle.project_edits.specs.declared.script_version.ScriptVersion.TheVariants.{One, Two}
 use Rattle.project_plan.specs.Events.{shape_of_node}
 use Rattle.project_plan.specs.Network.{member_at, writes_of, Member}
 use Rattle.co_project.specs.Project.{Content as Project}
 use Rattle.co_project.specs.Tables.{Nodes}
 use Rattle.co_scenario.specs.declared.timed_step.TimedStep.{TimedStep}
-use Rattle.co_parts.specs.Contents.{Image, RosterIs, DefaultsAre, ShapeIs, ExpectIs, BootIs, EventsAre}
-use Rattle.co_parts.specs.declared.identity.Identity.{Identity}
-use Rattle.co_parts.specs.declared.part.Part.TheVariants as part
-use Rattle.co_parts.specs.declared.roster.Roster.{Roster}
-use Rattle.co_parts.specs.declared.start_mode.StartMode.{StartMode}
-use Rattle.co_parts.specs.declared.start_mode.StartMode.TheVariants.{EachNode, WholeNetwork}
+use Rattle.image_parts.specs.Contents.{Image, RosterIs, DefaultsAre, ShapeIs, ExpectIs, BootIs, EventsAre}
+use Rattle.image_parts.specs.declared.identity.Identity.{Identity}
+use Rattle.image_parts.specs.declared.part.Part.TheVariants as part
+use Rattle.image_parts.specs.declared.roster.Roster.{Roster}
+use Rattle.image_parts.specs.declared.start_mode.StartMode.{StartMode}
+use Rattle.image_parts.specs.declared.start_mode.StartMode.TheVariants.{EachNode, WholeNetwork}
 use Rattle.network_image.specs.Steps.{steps_in, unless_none}
 
 -- by the version of its script: each node is started by itself, or the network as a whole

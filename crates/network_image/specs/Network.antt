@@ -2,9 +2,9 @@
 use Rattle.std.specs.Prelude.{Some, option_map, option_and_then, slice_get, refl}
 use Rattle.std.specs.Coded.{Coded, code_by, coded×}
 use Rattle.std.specs.FinMap.{get}
-use Rattle.co_parts.specs.Contents.{Image, RosterIs, DefaultsAre, ShapeIs, ExpectIs, BootIs, EventsAre}
-use Rattle.co_parts.specs.declared.part.Part.TheVariants as part
-use Rattle.co_parts.specs.declared.roster.Roster.{Roster}
+use Rattle.image_parts.specs.Contents.{Image, RosterIs, DefaultsAre, ShapeIs, ExpectIs, BootIs, EventsAre}
+use Rattle.image_parts.specs.declared.part.Part.TheVariants as part
+use Rattle.image_parts.specs.declared.roster.Roster.{Roster}
 use Rattle.network_image.specs.Held.{AllHeld, Held, Windows}
 
 -- the roster, the parts of the nodes, and the windows

@@ -7,8 +7,8 @@ use Rattle.pdo_links.specs.Writes.{node_writes}
 use Rattle.project_plan.specs.Network.{plan_of_project}
 use Rattle.co_project.specs.declared.node.Node.{Node}
 use Rattle.co_project.specs.Project.{Content as Project}
-use Rattle.co_parts.specs.Contents.{DefaultsAre, ShapeIs, ExpectIs, BootIs}
-use Rattle.co_parts.specs.declared.part.Part.TheVariants as part
+use Rattle.image_parts.specs.Contents.{DefaultsAre, ShapeIs, ExpectIs, BootIs}
+use Rattle.image_parts.specs.declared.part.Part.TheVariants as part
 use Rattle.network_image.specs.Image.{image_of}
 
 -- the parts of a node are those of the device that these sections describe, and its writes those of its parameters and

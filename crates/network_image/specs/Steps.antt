@@ -2,7 +2,7 @@
 use Rattle.std.specs.Prelude.{◌≡◌, ℕ, true, ◌+◌, ◌*◌, List, [], ◌∷◌, Option, Some, None, option_map, option_and_then}
 use Rattle.std.specs.Prelude.{filter_map}
 use Rattle.std.specs.FinMap.{get}
-use Rattle.co_base.specs.Ranges.{is_between}
+use Rattle.base.specs.Ranges.{is_between}
 use Rattle.co_scenario.specs.Scenario.{events_between, Events}
 use Rattle.co_scenario.specs.declared.step.Step.{Step}
 use Rattle.co_scenario.specs.declared.timed_event.TimedEvent.{TimedEvent}

@@ -3,9 +3,9 @@ ghost use Rattle.std.specs.Prelude.{◌≡◌, IfOk};
 ghost use Rattle.project_plan.specs.Events.{bytes_set, shape_of_node};
 ghost use Rattle.network_image.specs.Devices.{HoldsDevices};
 
-use co_base::Octets;
-use co_params::judge_set;
+use base::Octets;
 use co_project::Project;
+use node_parameters::judge_set;
 use part_shelves::DeviceShelf;
 use std::alloc::{AllocError, Global};
 

@@ -1,9 +1,9 @@
 //! The steps of a window.
 ghost use Rattle.std.specs.Prelude.{◌≡◌, IfOk, Some};
-ghost use Rattle.co_parts.specs.Shared.{shared};
+ghost use Rattle.image_parts.specs.Shared.{shared};
 
 use crate::pointer::some_pointer;
-use co_parts::Window;
+use image_parts::Window;
 use std::alloc::AllocError;
 use std::marker::Model;
 use std::rc::Rc;

@@ -5,7 +5,7 @@ ghost use Rattle.co_project.specs.declared.node.Node.{Node as member};
 ghost use Rattle.co_project.specs.Project.{Content as Project};
 ghost use Rattle.co_project.specs.Sound.{IsSound};
 ghost use Rattle.co_project.specs.Tables.{node_at, text_at};
-ghost use Rattle.co_parts.specs.Images.{IsCoherent, IsImage};
+ghost use Rattle.image_parts.specs.Images.{IsCoherent, IsImage};
 ghost use Rattle.project_plan.specs.Events.{shape_of_node};
 ghost use Rattle.network_image.specs.Image.{image_of, window_steps};
 ghost use Rattle.co_scenario.specs.declared.timed_step.TimedStep.{TimedStep};

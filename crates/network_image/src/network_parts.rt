@@ -2,10 +2,11 @@
 ghost use Rattle.std.specs.FinMap as map;
 ghost use Rattle.std.specs.Prelude.{◌≡◌, ◌<◌, ℕ, IfOk, IfSome, option_map};
 ghost use Rattle.std.specs.List.{AllByRecursion};
-ghost use Rattle.co_parts.specs.Contents.{BootIs, DefaultsAre, EventsAre, ExpectIs, RosterIs, ShapeIs};
-ghost use Rattle.co_parts.specs.Images.{AreInOrder, greatest_place, IsBootWrite, IsRoster, IsWithin};
-ghost use Rattle.co_parts.specs.Shared.{shared};
-ghost use Rattle.co_parts.specs.declared.part.Part.TheVariants as part;
+ghost use Rattle.image_parts.specs.Contents.{BootIs, DefaultsAre, EventsAre, ExpectIs, RosterIs, ShapeIs};
+ghost use Rattle.image_parts.specs.Images.{AreInOrder, greatest_place, IsRoster, IsWithin};
+ghost use Rattle.concise_dcf.specs.Writes.{IsSized};
+ghost use Rattle.image_parts.specs.Shared.{shared};
+ghost use Rattle.image_parts.specs.declared.part.Part.TheVariants as part;
 ghost use Rattle.project_plan.specs.Network.{member_at};
 ghost use Rattle.network_image.specs.Image.{image_of, roster_of_project, window_steps};
 ghost use Rattle.network_image.specs.Held.{held_of};
@@ -16,9 +17,9 @@ use crate::node_table::NodeTable;
 use crate::pointer::some_pointer;
 use crate::window_table::WindowTable;
 use co_dict::{Dict, Shape};
-use co_parts::{Identity, Roster, Window};
 use co_project::Project;
 use concise_dcf::Write;
+use image_parts::{Identity, Roster, Window};
 use std::alloc::{AllocError, Global};
 use std::marker::Model;
 use std::rc::Rc;
@@ -35,8 +36,8 @@ pub struct NetworkParts {
 }
 
 impl Model for NetworkParts {
-    ghost use Rattle.co_parts.specs.contracts.roster.Roster as listed;
-    ghost use Rattle.co_parts.specs.Images.{IsRoster};
+    ghost use Rattle.image_parts.specs.contracts.roster.Roster as listed;
+    ghost use Rattle.image_parts.specs.Images.{IsRoster};
     ghost use Rattle.network_image.specs.contracts.node_table.NodeTable as table;
     ghost use Rattle.network_image.specs.contracts.window_table.WindowTable as timed;
     ghost use Rattle.network_image.specs.Network.{network_code, Network};
@@ -111,7 +112,7 @@ impl NetworkParts {
         place: u32,
     ) -> Result<Option<Rc<Write>>, AllocError>
         ensures value { IfOk result (λ r. image_held self.now (part.Boot node place) ≡ BootIs (shared r)) }
-        ensures fits { IfOk result (λ r. IfSome (shared r) IsBootWrite) }
+        ensures fits { IfOk result (λ r. IfSome (shared r) IsSized) }
         ensures last { IfOk result (λ r. IfSome (shared r) (λ write. place < greatest_place)) }
     {
         self.nodes.write(alloc, node, place)

@@ -1,12 +1,13 @@
 //! The parts of a node.
 ghost use Rattle.std.specs.Prelude.{◌≡◌, ◌<◌, IfOk, IfSome, slice_get};
-ghost use Rattle.co_parts.specs.Images.{greatest_place, IsBootWrite};
-ghost use Rattle.co_parts.specs.Shared.{shared};
+ghost use Rattle.image_parts.specs.Images.{greatest_place};
+ghost use Rattle.concise_dcf.specs.Writes.{IsSized};
+ghost use Rattle.image_parts.specs.Shared.{shared};
 
 use crate::pointer::some_pointer;
 use co_dict::{Dict, Shape};
-use co_parts::Identity;
 use concise_dcf::Write;
+use image_parts::Identity;
 use project_plan::NodeWrites;
 use std::alloc::{AllocError, Global};
 use std::marker::Model;
@@ -36,7 +37,7 @@ impl Model for NodeParts {
     ghost use Rattle.concise_dcf.specs.contracts.write.Write as written;
     ghost use Rattle.co_dict.specs.contracts.entry.Entry as described;
     ghost use Rattle.co_dict.specs.Shapes.{shaped_code};
-    ghost use Rattle.co_parts.specs.contracts.identity.Identity as expected;
+    ghost use Rattle.image_parts.specs.contracts.identity.Identity as expected;
     ghost use Rattle.network_image.specs.Held.{held_code, Held};
 
     ghost Value = { Held };
@@ -96,7 +97,7 @@ impl NodeParts {
     /// A copy of the write at a place, counted from 0, if there are so many. Takes memory for the copy.
     pub(crate) fn write(&self, alloc: Global, place: u32) -> Result<Option<Rc<Write>>, AllocError>
         ensures write { IfOk result (λ write. shared write ≡ slice_get self.now.writes place) }
-        ensures fits { IfOk result (λ write. IfSome (shared write) IsBootWrite) }
+        ensures fits { IfOk result (λ write. IfSome (shared write) IsSized) }
         ensures last { IfOk result (λ write. IfSome (shared write) (λ one. place < greatest_place)) }
     {
         match self.writes.as_slice().get(place as usize) {

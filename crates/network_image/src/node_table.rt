@@ -3,13 +3,14 @@ ghost use Rattle.std.specs.Prelude.{◌≡◌, ◌<◌, IfOk, IfSome, OnOk, opti
 ghost use Rattle.std.specs.Prelude.{slice_get};
 ghost use Rattle.std.specs.FinMap as map;
 ghost use Rattle.network_image.specs.Held.{Held};
-ghost use Rattle.co_parts.specs.Images.{greatest_place, IsBootWrite};
-ghost use Rattle.co_parts.specs.Shared.{shared};
+ghost use Rattle.image_parts.specs.Images.{greatest_place};
+ghost use Rattle.concise_dcf.specs.Writes.{IsSized};
+ghost use Rattle.image_parts.specs.Shared.{shared};
 
 use crate::node_parts::NodeParts;
 use co_dict::{Dict, Shape};
-use co_parts::Identity;
 use concise_dcf::Write;
+use image_parts::Identity;
 use std::alloc::{AllocError, Global};
 use std::collections::BTreeMap;
 use std::marker::Model;
@@ -95,7 +96,7 @@ impl NodeTable {
     ) -> Result<Option<Rc<Write>>, AllocError>
         ensures write { IfOk result (λ write. shared write ≡ option_and_then (λ (h : Held). slice_get h.writes place)
             (map.get self.now id)) }
-        ensures fits { IfOk result (λ write. IfSome (shared write) IsBootWrite) }
+        ensures fits { IfOk result (λ write. IfSome (shared write) IsSized) }
         ensures last { IfOk result (λ write. IfSome (shared write) (λ one. place < greatest_place)) }
     {
         match self.get(id) {

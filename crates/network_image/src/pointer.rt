@@ -1,6 +1,6 @@
 //! Pointers to parts.
 ghost use Rattle.std.specs.Prelude.{◌≡◌, IfOk};
-ghost use Rattle.co_parts.specs.Shared.{shared};
+ghost use Rattle.image_parts.specs.Shared.{shared};
 
 use std::alloc::AllocError;
 use std::rc::Rc;

@@ -3,9 +3,9 @@ ghost use Rattle.std.specs.Prelude.{◌≡◌, ◌↔◌, IfOk, IsTrue};
 ghost use Rattle.std.specs.FinMap as map;
 ghost use Rattle.network_image.specs.Image.{mandatory_of, roster_of_project, start_mode_of};
 
-use co_base::Octets;
-use co_parts::{Roster, StartMode};
+use base::Octets;
 use co_project::{Project, ScriptVersion};
+use image_parts::{Roster, StartMode};
 use std::alloc::{AllocError, Global};
 
 /// The numbers of a project's nodes, in rising order.

@@ -3,8 +3,8 @@ ghost use Rattle.std.specs.Prelude.{◌≡◌, ◌≤◌, ◌+◌, ◌*◌, nat_
 ghost use Rattle.std.specs.List.{prefix_len};
 ghost use Rattle.co_scenario.specs.Scenario.{events_between};
 
-use co_parts::WINDOW;
 use co_scenario::Script;
+use image_parts::WINDOW;
 
 /// The last microsecond of the last window in which events can lie: window 1000, that of the greatest time
 /// of an event, 10,000,000 microseconds.

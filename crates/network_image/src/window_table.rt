@@ -3,11 +3,11 @@ ghost use Rattle.std.specs.Prelude.{◌≡◌, IfOk, IfSome, OnOk, option_copied
 ghost use Rattle.std.specs.FinMap as map;
 ghost use Rattle.std.specs.List.{AllByRecursion};
 ghost use Rattle.network_image.specs.Held.{with_window, IsWindow};
-ghost use Rattle.co_parts.specs.Images.{AreInOrder, IsWithin};
-ghost use Rattle.co_parts.specs.Shared.{shared};
+ghost use Rattle.image_parts.specs.Images.{AreInOrder, IsWithin};
+ghost use Rattle.image_parts.specs.Shared.{shared};
 
 use crate::held_window::HeldWindow;
-use co_parts::Window;
+use image_parts::Window;
 use std::alloc::{AllocError, Global};
 use std::collections::BTreeMap;
 use std::marker::Model;
@@ -24,7 +24,7 @@ impl Model for WindowTable {
     ghost use Rattle.std.specs.Coded.{coded_ℕ};
     ghost use Rattle.std.specs.FinMap as map;
     ghost use Rattle.std.specs.Ordering.{nat_cmp};
-    ghost use Rattle.co_base.specs.Tables.{Each};
+    ghost use Rattle.base.specs.Tables.{Each};
     ghost use Rattle.network_image.specs.Held.{IsWindow, Windows};
     ghost use Rattle.network_image.specs.contracts.held_window.HeldWindow as held;
 

@@ -1,17 +1,17 @@
 -- What comes at a moment sets no due moment before it.
 use Rattle.std.proofs.Common.{ℕ, zero, suc, ◌+◌, List, [], ◌∷◌, arith}
 use Rattle.std.specs.Prelude.{slice_set}
-use Rattle.asking.specs.Asking.{outcome}
+use Rattle.image_parts.specs.Asking.{outcome}
 use Rattle.can_frame.specs.Frames.{BaseFrame}
-use Rattle.co_parts.specs.Contents.{Image}
+use Rattle.image_parts.specs.Contents.{Image}
 use Rattle.node_boot.proofs.DeadlineLemmas.{IsOpenFrom, boot_from, answer_from}
 use Rattle.nmt_boot.proofs.FrameLemmas.{received_holds}
-use Rattle.boot_table.proofs.QuietLemmas.{AreFrom}
+use Rattle.manager_nodes.proofs.QuietLemmas.{AreFrom}
 use Rattle.nmt_boot.proofs.MomentLemmas.{IsFrom, from_ahead, ahead_from}
 use Rattle.nmt_boot.specs.Ahead.{IsAhead}
 use Rattle.nmt_boot.specs.Manager.{Manager, after_frame}
-use Rattle.boot_table.specs.Table.{node_at}
-use Rattle.boot_table.specs.declared.booting.Booting.{Booting}
+use Rattle.manager_nodes.specs.Table.{node_at}
+use Rattle.manager_nodes.specs.declared.booting.Booting.{Booting}
 
 set_from : (t i : ℕ) (ns : List Booting) (n : Booting) → AreFrom t ns → IsOpenFrom t n.stage
     → AreFrom t (slice_set ns i n)

@@ -4,13 +4,13 @@ use Rattle.std.proofs.Common.{inl, inr, refl, ap, subst, arith}
 use Rattle.std.specs.Prelude.{if◌then◌else◌, ◌==◌}
 use Rattle.std.proofs.Math.Nat.{mul-le-mul_right}
 use Rattle.std.proofs.lemmas.Bool.Decides.{nat_tests}
-use Rattle.asking.specs.Asking.{outcome}
+use Rattle.image_parts.specs.Asking.{outcome}
 use Rattle.can_frame.specs.Frames.{BaseFrame}
 use Rattle.can_frame.specs.WaitingFrames.{with_latest}
 use Rattle.can_frame.specs.declared.purpose.Purpose.TheVariants.{Heartbeat, Sync}
-use Rattle.co_parts.specs.Contents.{Image}
-use Rattle.co_base.specs.Moments.{is_due, moment_after}
-use Rattle.co_parts.specs.declared.roster.Roster.{Roster}
+use Rattle.image_parts.specs.Contents.{Image}
+use Rattle.base.specs.Moments.{is_due, moment_after}
+use Rattle.image_parts.specs.declared.roster.Roster.{Roster}
 use Rattle.co_scenario.specs.declared.nmt_command.NmtCommand.{NmtCommand}
 use Rattle.nmt_boot.proofs.FrameLemmas.{received_holds}
 use Rattle.nmt_boot.specs.Beats.{IsFirstMultiple, IsMultiple, IsNextOf, IsOnTime}

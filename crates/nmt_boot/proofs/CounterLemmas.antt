@@ -4,7 +4,7 @@ use Rattle.std.proofs.Common.{refl, ap, ◌∙◌, subst, arith}
 use Rattle.std.specs.Prelude.{◌==◌, Contains, if◌then◌else◌}
 use Rattle.std.proofs.Math.Nat.{mod-eq_of_lt, mod-lt, mod_self, suc-mod, mul-div_cancel}
 use Rattle.std.proofs.lemmas.Bool.Decides.{nat_tests}
-use Rattle.co_base.specs.Moments.{is_due, moment_after}
+use Rattle.base.specs.Moments.{is_due, moment_after}
 use Rattle.can_frame.specs.Frames.{BaseFrame}
 use Rattle.can_frame.specs.WaitingFrames.{is_same, waiting, with_latest}
 use Rattle.can_frame.specs.declared.purpose.Purpose.{Purpose}

@@ -3,10 +3,10 @@ use Rattle.std.proofs.Common.{◌≡◌, ℕ, zero, suc, ◌+◌, ◌<◌, List,
 use Rattle.std.proofs.Common.{None, ◌⊎◌, inl, inr, ap, subst, arith}
 use Rattle.std.specs.Prelude.{Contains, map}
 use Rattle.std.proofs.lemmas.List.Elements.{Contains-append_cases}
-use Rattle.asking.specs.Asking.{Asking, outcome, reads}
+use Rattle.image_parts.specs.Asking.{Asking, outcome, reads}
 use Rattle.can_frame.specs.Frames.{BaseFrame}
-use Rattle.co_parts.specs.Contents.{Content, Image}
-use Rattle.co_parts.specs.declared.part.Part.{Part}
+use Rattle.image_parts.specs.Contents.{Content, Image}
+use Rattle.image_parts.specs.declared.part.Part.{Part}
 use Rattle.node_boot.proofs.EndLemmas.{Ends, boot_ends, answer_ends}
 use Rattle.node_boot.specs.Ends.{IsAbsent}
 use Rattle.node_boot.specs.declared.boot_stage.BootStage.{BootStage}
@@ -17,18 +17,18 @@ use Rattle.node_boot.specs.declared.note_kind.NoteKind.TheVariants as kind
 use Rattle.nmt_boot.proofs.FrameLemmas.{received_holds}
 use Rattle.nmt_boot.specs.Ends.{configured_note, WritesEnd}
 use Rattle.nmt_boot.specs.Manager.{Manager, after_frame}
-use Rattle.boot_table.specs.Table.{node_at, note_of_loss, note_of_time_out, notes_of}
+use Rattle.manager_nodes.specs.Table.{node_at, note_of_loss, note_of_time_out, notes_of}
 use Rattle.nmt_boot.specs.Manager.{time_outs, timers}
-use Rattle.boot_table.specs.Table.{timed_out}
-use Rattle.boot_table.specs.declared.booting.Booting.{Booting}
+use Rattle.manager_nodes.specs.Table.{timed_out}
+use Rattle.manager_nodes.specs.declared.booting.Booting.{Booting}
 use Rattle.node_boot.specs.declared.note.Note.{Note}
 
 -- ---- elements of short lists
 
-none_in : {X : Type 0} (x : X) → Contains [] x → ⊥
+pub none_in : {X : Type 0} (x : X) → Contains [] x → ⊥
 none_in x h = omega (arith, h.1)
 
-one_at : {X : Type 0} (x y : X) (k : ℕ) → k < 1 → get_or (x ∷ []) k y ≡ y → x ≡ y
+pub one_at : {X : Type 0} (x y : X) (k : ℕ) → k < 1 → get_or (x ∷ []) k y ≡ y → x ≡ y
 one_at x y zero h e = e
 one_at x y (suc k) h e = absurd (omega (arith, h))
 
@@ -37,14 +37,14 @@ one_in x y h = one_at x y h.0 h.1 h.2
 
 -- ---- notes
 
-noted_by : (n node : ℕ) (w : Option NoteKind) → Contains (notes_of n w) (configured_note node)
+pub noted_by : (n node : ℕ) (w : Option NoteKind) → Contains (notes_of n w) (configured_note node)
     → (n ≡ node) × (w ≡ Some kind.Configured)
 noted_by n node None h = absurd (none_in (configured_note node) h)
 noted_by n node (Some w) h =
     let same = one_in _ (configured_note node) h in
     (ap (λ (note : Note). note.node) same, ap (λ (note : Note). Some note.kind) same)
 
-lost_only : (stage : BootStage) → note_of_loss stage ≡ Some kind.Configured → ⊥
+pub lost_only : (stage : BootStage) → note_of_loss stage ≡ Some kind.Configured → ⊥
 lost_only Unseen e = cc
 lost_only (Comparing place expected transfer deadline) e = cc
 lost_only (Writing place transfer deadline) e = cc

@@ -1,21 +1,21 @@
 -- An event of one node, as the rule of that node and what it does to the manager.
 use Rattle.std.proofs.Common.{◌≡◌, ℕ, ◌+◌, List, ◌++◌, refl, ◌∙◌, append_assoc}
 use Rattle.std.proofs.lemmas.List.{append-nil}
-use Rattle.asking.specs.Asking.{Asking, Answer, Seen, outcome, reads, after_reads, bind}
-use Rattle.asking.proofs.QuestionLemmas.{outcome_bind, reads_bind, followed_last}
-use Rattle.co_parts.specs.Contents.{Content, Image}
-use Rattle.co_parts.specs.declared.part.Part.{Part}
+use Rattle.image_parts.specs.Asking.{Asking, Answer, Seen, outcome, reads, after_reads, bind}
+use Rattle.image_parts.proofs.QuestionLemmas.{outcome_bind, reads_bind, followed_last}
+use Rattle.image_parts.specs.Contents.{Content, Image}
+use Rattle.image_parts.specs.declared.part.Part.{Part}
 use Rattle.node_boot.specs.Boot.{boot_nmt_slave, sdo_answer}
 use Rattle.nmt_boot.specs.Manager.{Manager, after_step, after_boot_start, after_boot_at, after_answer_at}
-use Rattle.boot_table.specs.Table.{node_at}
-use Rattle.boot_table.specs.Table.{with_stage, sdo_frames, notes_of, note_of_loss}
+use Rattle.manager_nodes.specs.Table.{node_at}
+use Rattle.manager_nodes.specs.Table.{with_stage, sdo_frames, notes_of, note_of_loss}
 use Rattle.nmt_boot.specs.Startup.{Startup, start_frames, startup_after}
 use Rattle.can_frame.specs.WaitingFrames.{without_unwanted}
 use Rattle.can_frame.specs.declared.unwanted.Unwanted.TheVariants.{SdoOf}
-use Rattle.boot_table.specs.Sending.{sending_of}
+use Rattle.manager_nodes.specs.Sending.{sending_of}
 use Rattle.can_frame.specs.declared.waiting.Waiting.{Waiting}
-use Rattle.boot_table.specs.declared.sent.Sent.{Sent}
-use Rattle.boot_table.specs.declared.booting.Booting.{Booting}
+use Rattle.manager_nodes.specs.declared.sent.Sent.{Sent}
+use Rattle.manager_nodes.specs.declared.booting.Booting.{Booting}
 use Rattle.node_boot.specs.declared.note.Note.{Note}
 
 module _ {A B : Type 0} (m : Asking Part Content A) (f : A → B) where

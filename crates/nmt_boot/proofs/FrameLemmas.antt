@@ -1,18 +1,18 @@
 -- What a received frame does: nothing, the boot-up of a node, or an SDO answer of a node.
 use Rattle.std.proofs.Common.{◌≡◌, ℕ, ◌+◌, List, [], Option, Some, None, refl}
 use Rattle.std.specs.Prelude.{◌==◌, length}
-use Rattle.asking.specs.Asking.{Asking, outcome, reads}
+use Rattle.image_parts.specs.Asking.{Asking, outcome, reads}
 use Rattle.can_frame.specs.Frames.{BaseFrame}
 use Rattle.can_frame.specs.Identifiers.{error_control_id, sdo_answer_id}
-use Rattle.co_parts.specs.Contents.{Content, Image}
-use Rattle.co_parts.specs.declared.part.Part.{Part}
+use Rattle.image_parts.specs.Contents.{Content, Image}
+use Rattle.image_parts.specs.declared.part.Part.{Part}
 use Rattle.nmt_boot.proofs.EventLemmas.{boots_outcome, boots_reads, answered_outcome, answered_reads}
 use Rattle.node_boot.proofs.ChoiceLemmas.{picked}
 use Rattle.node_boot.specs.Boot.{boot_nmt_slave, sdo_answer}
 use Rattle.nmt_boot.specs.Manager.{Manager, after_boot_start, after_step, after_boot_up, after_sdo_frame}
-use Rattle.boot_table.specs.Table.{node_at}
+use Rattle.manager_nodes.specs.Table.{node_at}
 use Rattle.nmt_boot.specs.Manager.{is_boot_up, after_frame}
-use Rattle.boot_table.specs.Table.{place_of}
+use Rattle.manager_nodes.specs.Table.{place_of}
 use Rattle.node_boot.specs.declared.note.Note.{Note}
 
 module _ (image : Image) (t : ℕ) (frame : BaseFrame) (m : Manager)

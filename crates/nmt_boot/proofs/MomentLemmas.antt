@@ -7,15 +7,15 @@ use Rattle.std.proofs.lemmas.List.Elements.{All-append, All-cons, All-head, All-
 use Rattle.can_frame.specs.WaitingFrames.{with_latest}
 use Rattle.can_frame.specs.declared.purpose.Purpose.TheVariants.{Heartbeat, Sync}
 use Rattle.co_scenario.specs.declared.nmt_command.NmtCommand.{NmtCommand}
-use Rattle.co_base.specs.Moments.{is_due, moment_after, moments_of}
-use Rattle.boot_table.proofs.QuietLemmas.{AreFrom, quiet_list, quiet_nodes}
+use Rattle.base.specs.Moments.{is_due, moment_after, moments_of}
+use Rattle.manager_nodes.proofs.QuietLemmas.{AreFrom, quiet_list, quiet_nodes}
 use Rattle.nmt_boot.specs.Ahead.{IsAhead}
 use Rattle.node_boot.specs.Boot.{deadline_of, is_at, is_timed_out, sdo_time_out}
 use Rattle.nmt_boot.specs.Manager.{Manager, with_command, heartbeat_frame, heartbeats, moments}
-use Rattle.boot_table.specs.Table.{deadlines, node_after}
+use Rattle.manager_nodes.specs.Table.{deadlines, node_after}
 use Rattle.nmt_boot.specs.Manager.{sync_frame, syncs, time_outs, timers}
 use Rattle.node_boot.specs.declared.boot_stage.BootStage.{BootStage}
-use Rattle.boot_table.specs.declared.booting.Booting.{Booting}
+use Rattle.manager_nodes.specs.declared.booting.Booting.{Booting}
 use Rattle.node_boot.specs.declared.note.Note.{Note}
 
 -- no moment of the manager lies before t

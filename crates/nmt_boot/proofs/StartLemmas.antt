@@ -7,10 +7,10 @@ use Rattle.std.proofs.lemmas.Bool.Decides.{nat_tests}
 use Rattle.std.proofs.lemmas.List.{length-append}
 use Rattle.std.proofs.lemmas.List.Elements.{filter-append}
 use Rattle.std.proofs.lemmas.List.Quantifiers.{position-Some}
-use Rattle.asking.specs.Asking.{outcome}
-use Rattle.boot_table.specs.Table.{all_configured, is_from, no_node, node_after, node_at, place_of, queue_after_time_outs}
-use Rattle.boot_table.specs.Table.{sdo_frames, timed_out, unseen_node, with_stage}
-use Rattle.boot_table.specs.declared.booting.Booting.{Booting}
+use Rattle.image_parts.specs.Asking.{outcome}
+use Rattle.manager_nodes.specs.Table.{all_configured, is_from, no_node, node_after, node_at, place_of, queue_after_time_outs}
+use Rattle.manager_nodes.specs.Table.{sdo_frames, timed_out, unseen_node, with_stage}
+use Rattle.manager_nodes.specs.declared.booting.Booting.{Booting}
 use Rattle.can_frame.specs.Frames.{BaseFrame}
 use Rattle.can_frame.specs.Identifiers.{error_control_id, sdo_answer_id}
 use Rattle.can_frame.specs.WaitingFrames.{is_same, is_unwanted, waiting, with_latest, without_unwanted}
@@ -18,12 +18,12 @@ use Rattle.can_frame.specs.declared.purpose.Purpose.{Purpose}
 use Rattle.can_frame.specs.declared.purpose.Purpose.TheVariants.{BootUp, Heartbeat, Tpdo, Sdo, Emergency, Sync, Nmt}
 use Rattle.can_frame.specs.declared.unwanted.Unwanted.TheVariants.{SdoOf}
 use Rattle.can_frame.specs.declared.waiting.Waiting.{Waiting}
-use Rattle.co_base.specs.Moments.{is_due, moment_after}
-use Rattle.co_parts.specs.Contents.{Image}
-use Rattle.co_parts.specs.Images.{IsNode, IsRoster}
-use Rattle.co_parts.specs.declared.roster.Roster.{Roster}
-use Rattle.co_parts.specs.declared.start_mode.StartMode.{StartMode}
-use Rattle.co_parts.specs.declared.start_mode.StartMode.TheVariants.{EachNode, WholeNetwork}
+use Rattle.base.specs.Moments.{is_due, moment_after}
+use Rattle.image_parts.specs.Contents.{Image}
+use Rattle.image_parts.specs.Images.{IsNode, IsRoster}
+use Rattle.image_parts.specs.declared.roster.Roster.{Roster}
+use Rattle.image_parts.specs.declared.start_mode.StartMode.{StartMode}
+use Rattle.image_parts.specs.declared.start_mode.StartMode.TheVariants.{EachNode, WholeNetwork}
 use Rattle.co_scenario.specs.declared.nmt_command.NmtCommand.TheVariants.{Start}
 use Rattle.node_boot.specs.Boot.{is_timed_out, sdo_time_out}
 use Rattle.node_boot.specs.declared.boot_stage.BootStage.{BootStage}

@@ -4,16 +4,16 @@ use Rattle.std.specs.Prelude.{◌==◌}
 use Rattle.std.proofs.lemmas.Bool.Decides.{nat_tests}
 use Rattle.std.proofs.lemmas.List.{get_or-set_other}
 use Rattle.std.proofs.lemmas.List.Quantifiers.{position-Some}
-use Rattle.asking.specs.Asking.{outcome}
+use Rattle.image_parts.specs.Asking.{outcome}
 use Rattle.can_frame.specs.Frames.{BaseFrame}
 use Rattle.can_frame.specs.Identifiers.{error_control_id, sdo_answer_id}
-use Rattle.co_parts.specs.Contents.{Image}
+use Rattle.image_parts.specs.Contents.{Image}
 use Rattle.nmt_boot.proofs.FrameLemmas.{received_holds}
 use Rattle.nmt_boot.specs.Manager.{Manager, after_frame}
-use Rattle.boot_table.specs.Table.{is_from, no_node, node_at, place_of}
-use Rattle.boot_table.specs.declared.booting.Booting.{Booting}
+use Rattle.manager_nodes.specs.Table.{is_from, no_node, node_at, place_of}
+use Rattle.manager_nodes.specs.declared.booting.Booting.{Booting}
 
-sum_is : (a b c : ℕ) → (a + b == c) ≡ true → a + b ≡ c
+pub sum_is : (a b c : ℕ) → (a + b == c) ≡ true → a + b ≡ c
 sum_is a b c e = grind (arith, nat_tests)
 
 -- the node at the place has that identifier

@@ -1,7 +1,7 @@
 -- How the writes of a node end.
 use Rattle.std.specs.Prelude.{ℕ, List}
-use Rattle.co_parts.specs.Contents.{Content, Image}
-use Rattle.co_parts.specs.declared.part.Part.{Part}
+use Rattle.image_parts.specs.Contents.{Content, Image}
+use Rattle.image_parts.specs.declared.part.Part.{Part}
 use Rattle.node_boot.specs.declared.note.Note.{Note}
 use Rattle.node_boot.specs.Ends.{IsAbsent}
 use Rattle.node_boot.specs.declared.note_kind.NoteKind.TheVariants as kind

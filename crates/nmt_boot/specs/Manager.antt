@@ -2,25 +2,28 @@
 -- frames that it has waiting. All nodes boot side by side.
 use Rattle.std.specs.Prelude.{ℕ, ◌+◌, ◌-◌, ◌*◌, ◌/◌, ◌%◌, ◌==◌, Bool, false, List, [], ◌∷◌, ◌++◌, length, map}
 use Rattle.std.specs.Prelude.{slice_index_or, Option, Some, None, if◌then◌else◌}
-use Rattle.asking.specs.Asking.{Asking, Answer, bind}
+use Rattle.image_parts.specs.Asking.{Asking, Answer, bind}
 use Rattle.can_frame.specs.Frames.{BaseFrame}
 use Rattle.can_frame.specs.Identifiers.{error_control_id, sdo_answer_id, sync_id}
 use Rattle.can_frame.specs.WaitingFrames.{with_latest, waiting, without_unwanted}
 use Rattle.can_frame.specs.declared.purpose.Purpose.TheVariants.{BootUp, Heartbeat, Nmt, Sync}
 use Rattle.can_frame.specs.declared.unwanted.Unwanted.TheVariants.{SdoOf}
 use Rattle.can_frame.specs.declared.waiting.Waiting.{Waiting}
-use Rattle.co_parts.specs.Contents.{Content}
-use Rattle.co_base.specs.Moments.{earliest, is_due, moment_after, moments_of}
-use Rattle.co_parts.specs.declared.part.Part.{Part}
-use Rattle.co_parts.specs.declared.roster.Roster.{Roster}
+use Rattle.image_parts.specs.Contents.{Content}
+use Rattle.base.specs.Moments.{earliest, is_due, moment_after, moments_of}
+use Rattle.image_parts.specs.declared.part.Part.{Part}
+use Rattle.image_parts.specs.declared.roster.Roster.{Roster}
 use Rattle.co_scenario.specs.declared.nmt_command.NmtCommand.{NmtCommand}
 use Rattle.node_boot.specs.Boot.{boot_nmt_slave, sdo_answer}
 use Rattle.node_boot.specs.declared.note.Note.{Note}
 use Rattle.node_boot.specs.declared.boot_step.BootStep.{BootStep}
-use Rattle.boot_table.specs.Table.{unseen_node, node_at, place_of, with_stage, note_of_loss, notes_of, sdo_frames}
-use Rattle.boot_table.specs.Table.{deadlines, node_after, note_of_time_out, queue_after_time_outs, timed_out}
-use Rattle.boot_table.specs.declared.booting.Booting.{Booting}
+use Rattle.manager_nodes.specs.Table.{unseen_node, node_at, place_of, with_stage, note_of_loss, notes_of, sdo_frames}
+use Rattle.manager_nodes.specs.Table.{deadlines, node_after, note_of_time_out, queue_after_time_outs, timed_out}
+use Rattle.manager_nodes.specs.declared.booting.Booting.{Booting}
 use Rattle.nmt_boot.specs.Startup.{Startup, no_startup, startup_of, nmt_frame, start_frames, startup_after}
+use Rattle.can_frame.specs.ErrorControl.{boot_up_message, error_control_frame}
+use Rattle.cia301.specs.NmtStates.{state_byte}
+use Rattle.cia301.specs.declared.nmt_state.NmtState.TheVariants.{Operational}
 
 -- its number, the time-out and the periods of heartbeat and SYNC in microseconds (0 for none), the last number that
 -- SYNC's counter has (0 for no counter), the next heartbeat and the next SYNC, when it starts nodes, the nodes by number
@@ -69,7 +72,7 @@ manager_at_power_on roster = record {
   sync = moment_after 0 roster.sync_us;
   startup = startup_of roster;
   nodes = map unseen_node roster.nodes;
-  waiting = waiting BootUp (record { id = error_control_id roster.manager; bytes = 0 ∷ [] }) ∷ [];
+  waiting = waiting BootUp (boot_up_message roster.manager) ∷ [];
 }
 
 -- ---- commands of the network management
@@ -142,7 +145,7 @@ time_outs t m = (
 
 -- a heartbeat of state Operational takes the place of one that still waits
 abbrev pub heartbeat_frame : ℕ → BaseFrame
-heartbeat_frame number = record { id = error_control_id number; bytes = 5 ∷ [] }
+heartbeat_frame number = error_control_frame number (state_byte Operational)
 
 unfoldable pub heartbeats : ℕ → Manager → Manager
 heartbeats t m =

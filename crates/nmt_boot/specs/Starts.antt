@@ -1,11 +1,11 @@
 -- The start of the network as a whole.
 use Rattle.std.specs.Prelude.{◌≡◌, ◌≤◌, ℕ, ◌+◌, ◌==◌, ◌&&◌, Bool, true, false, List, filter, length, slice_index_or}
 use Rattle.std.specs.List.{AllByRecursion}
-use Rattle.boot_table.specs.Table.{all_configured}
+use Rattle.manager_nodes.specs.Table.{all_configured}
 use Rattle.can_frame.specs.WaitingFrames.{is_same}
 use Rattle.can_frame.specs.declared.purpose.Purpose.TheVariants.{Nmt}
 use Rattle.can_frame.specs.declared.waiting.Waiting.{Waiting}
-use Rattle.co_parts.specs.declared.start_mode.StartMode.TheVariants.{WholeNetwork}
+use Rattle.image_parts.specs.declared.start_mode.StartMode.TheVariants.{WholeNetwork}
 use Rattle.nmt_boot.specs.Manager.{Manager}
 
 -- Start remote node (01) to all nodes (00)

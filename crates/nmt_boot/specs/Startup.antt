@@ -5,16 +5,16 @@ use Rattle.can_frame.specs.Identifiers.{nmt_id}
 use Rattle.can_frame.specs.WaitingFrames.{waiting}
 use Rattle.can_frame.specs.declared.purpose.Purpose.TheVariants.{Nmt}
 use Rattle.can_frame.specs.declared.waiting.Waiting.{Waiting}
-use Rattle.co_parts.specs.declared.roster.Roster.{Roster}
-use Rattle.co_parts.specs.declared.start_mode.StartMode.{StartMode}
-use Rattle.co_parts.specs.declared.start_mode.StartMode.TheVariants.{EachNode, WholeNetwork}
+use Rattle.image_parts.specs.declared.roster.Roster.{Roster}
+use Rattle.image_parts.specs.declared.start_mode.StartMode.{StartMode}
+use Rattle.image_parts.specs.declared.start_mode.StartMode.TheVariants.{EachNode, WholeNetwork}
 use Rattle.co_scenario.specs.Commands.{number_of}
 use Rattle.co_scenario.specs.declared.nmt_command.NmtCommand.{NmtCommand}
 use Rattle.co_scenario.specs.declared.nmt_command.NmtCommand.TheVariants.{Start}
 use Rattle.node_boot.specs.declared.note_kind.NoteKind.{NoteKind}
 use Rattle.node_boot.specs.declared.note_kind.NoteKind.TheVariants as kind
-use Rattle.boot_table.specs.Table.{all_configured}
-use Rattle.boot_table.specs.declared.booting.Booting.{Booting}
+use Rattle.manager_nodes.specs.Table.{all_configured}
+use Rattle.manager_nodes.specs.declared.booting.Booting.{Booting}
 
 -- when it starts nodes, the numbers of the mandatory nodes, and whether it has started the network as a whole
 pub record Startup : Type 0 where

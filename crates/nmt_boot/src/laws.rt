@@ -1,22 +1,22 @@
 //! Laws of managers, each a function whose contract is the law.
 
 ghost use Rattle.std.specs.Prelude.{◌≡◌, ◌≢◌, ◌≤◌, ◌⊎◌, ◌+◌, ◌*◌, ◌↔◌, ℕ, Contains, true, [], ◌∷◌};
-ghost use Rattle.asking.specs.Alike.{AreAlike};
-ghost use Rattle.asking.specs.Asking.{Agrees, outcome, reads};
+ghost use Rattle.image_parts.specs.Alike.{AreAlike};
+ghost use Rattle.image_parts.specs.Asking.{Agrees, outcome, reads};
 ghost use Rattle.can_frame.specs.Frames.{BaseFrame};
 ghost use Rattle.can_frame.specs.Identifiers.{error_control_id, sdo_answer_id};
-ghost use Rattle.co_parts.specs.Contents.{Image};
-ghost use Rattle.co_parts.specs.Images.{IsRoster};
-ghost use Rattle.co_base.specs.Moments.{is_due};
-ghost use Rattle.co_parts.specs.declared.roster.Roster.{Roster as Network};
-ghost use Rattle.co_parts.specs.declared.start_mode.StartMode.TheVariants.{EachNode};
+ghost use Rattle.image_parts.specs.Contents.{Image};
+ghost use Rattle.image_parts.specs.Images.{IsRoster};
+ghost use Rattle.base.specs.Moments.{is_due};
+ghost use Rattle.image_parts.specs.declared.roster.Roster.{Roster as Network};
+ghost use Rattle.image_parts.specs.declared.start_mode.StartMode.TheVariants.{EachNode};
 ghost use Rattle.co_scenario.specs.declared.nmt_command.NmtCommand.{NmtCommand};
 ghost use Rattle.nmt_boot.specs.Ahead.{IsAhead};
 ghost use Rattle.nmt_boot.specs.Beats.{IsMultiple, IsOnTime};
 ghost use Rattle.nmt_boot.specs.Counter.{IsCounting, sync_with};
 ghost use Rattle.nmt_boot.specs.Ends.{configured_note, WritesEnd};
 ghost use Rattle.nmt_boot.specs.Manager.{Manager as State, with_command, manager_at_power_on, after_frame};
-ghost use Rattle.boot_table.specs.Table.{node_at};
+ghost use Rattle.manager_nodes.specs.Table.{node_at};
 ghost use Rattle.nmt_boot.specs.Manager.{sync_number, timers};
 ghost use Rattle.nmt_boot.specs.Starts.{HasNodeNumbers, KeepsStart, StartsNetwork};
 
@@ -43,7 +43,7 @@ pub fn a_frame_sets_no_earlier_moment()
 {}
 
 /// Under two images that agree on what is read under the first, a frame does the same.
-#[tactic(auto, using(asking::proofs::QuestionLemmas::two_images))]
+#[tactic(auto, using(image_parts::proofs::QuestionLemmas::two_images))]
 pub fn two_images()
     ensures { (first second : Image) (t : ℕ) (frame : BaseFrame) (m : State)
         → Agrees second (reads (after_frame t frame m) first) → AreAlike (after_frame t frame m) first second }

@@ -1,5 +1,5 @@
 //! The NMT manager of a network (CiA 302).
-#![tactic(auto, using(asking::proofs::RecordLemmas::record_laws))]
+#![tactic(auto, using(image_parts::proofs::RecordLemmas::record_laws))]
 
 pub mod laws;
 mod manager;

@@ -2,19 +2,19 @@
 
 ghost use Rattle.std.specs.Prelude.{◌≡◌, ◌<◌, ◌*◌, ◌^◌, ◌++◌, ◌↔◌, Some, length, remove, slice_get, IfOk};
 ghost use Rattle.std.specs.Prelude.{IfSome, OnOk, OnErr, IsErr, IsTrue};
-ghost use Rattle.asking.specs.Asking.{outcome};
-ghost use Rattle.asking.specs.Record.{BeginsWith, IsAsked, Lasts};
+ghost use Rattle.image_parts.specs.Asking.{outcome};
+ghost use Rattle.image_parts.specs.Record.{BeginsWith, IsAsked, Lasts};
 ghost use Rattle.can_frame.specs.Winner.{contenders_of, IsWinner};
 ghost use Rattle.nmt_boot.specs.Manager as rules;
 
 use crate::startup::Startup;
 use crate::sync::sync_frame;
 use crate::telling::{send_command, tell};
-use boot_table::{NodeTable, note};
+use base::{earlier, is_due, moment_after};
 use can_frame::{Contender, Frame, Pending, Purpose, Unwanted, Waiting, identifiers};
-use co_base::{earlier, is_due, moment_after};
-use co_parts::{END, Roster};
 use co_scenario::NmtCommand;
+use image_parts::{END, Roster};
+use manager_nodes::{NodeTable, note};
 use node_boot::{Boots, Notes};
 use std::alloc::{AllocError, Global};
 use std::marker::Model;

@@ -3,9 +3,9 @@
 ghost use Rattle.std.specs.Prelude.{◌≡◌, ◌↔◌, true, IfOk, IsTrue};
 ghost use Rattle.nmt_boot.specs.Startup as rules;
 
-use boot_table::NodeTable;
-use co_base::Octets;
-use co_parts::{Roster, StartMode};
+use base::Octets;
+use image_parts::{Roster, StartMode};
+use manager_nodes::NodeTable;
 use std::alloc::{AllocError, Global};
 use std::marker::Model;
 use std::rc::Rc;

@@ -1,17 +1,17 @@
 //! What a step of a boot queues at the manager, which nodes it starts, and what it notes.
 
 ghost use Rattle.std.specs.Prelude.{◌≡◌, ◌++◌, ◌∷◌, [], OnOk};
-ghost use Rattle.asking.specs.Record.{BeginsWith};
-ghost use Rattle.boot_table.specs.Table.{notes_of, sdo_frames};
+ghost use Rattle.image_parts.specs.Record.{BeginsWith};
+ghost use Rattle.manager_nodes.specs.Table.{notes_of, sdo_frames};
 ghost use Rattle.can_frame.specs.WaitingFrames.{waiting as queued};
 ghost use Rattle.can_frame.specs.declared.purpose.Purpose.TheVariants as purposes;
 ghost use Rattle.nmt_boot.specs.Startup.{nmt_frame as frame_of_command, start_frames, startup_after};
 ghost use Rattle.nmt_boot.specs.Startup.{frames_of_configured, startup_of_configured};
 
 use crate::startup::Startup;
-use boot_table::{NodeTable, Sent, note, send_request};
 use can_frame::{Frame, Pending, Purpose, identifiers};
 use co_scenario::NmtCommand;
+use manager_nodes::{NodeTable, Sent, note, send_request};
 use node_boot::{NoteKind, Notes};
 use std::alloc::AllocError;
 

@@ -2,16 +2,16 @@
 use Rattle.std.proofs.Common.{◌≡◌, ℕ, suc, ◌+◌, List, ◌∷◌, Option, Some, None, refl}
 use Rattle.std.proofs.Common.{arith}
 use Rattle.std.specs.Prelude.{Contains, ◌==◌}
-use Rattle.asking.specs.Asking.{Asking, Answer, outcome, reads}
-use Rattle.co_sdo_client.specs.Client.{after_answer}
-use Rattle.co_sdo_client.specs.declared.progress.Progress.{Progress}
-use Rattle.co_sdo_client.specs.declared.progress.Progress.TheVariants as progress
-use Rattle.co_sdo_client.specs.declared.client_transfer.ClientTransfer.{ClientTransfer as Transfer}
+use Rattle.image_parts.specs.Asking.{Asking, Answer, outcome, reads}
+use Rattle.sdo_client.specs.Client.{after_answer}
+use Rattle.sdo_client.specs.declared.progress.Progress.{Progress}
+use Rattle.sdo_client.specs.declared.progress.Progress.TheVariants as progress
+use Rattle.sdo_client.specs.declared.client_transfer.ClientTransfer.{ClientTransfer as Transfer}
 use Rattle.concise_dcf.specs.declared.write.Write.{Write}
-use Rattle.co_parts.specs.Contents.{Content, Image, identity_of, write_of}
-use Rattle.co_parts.specs.declared.identity.Identity.{Identity}
-use Rattle.co_parts.specs.declared.part.Part.{Part}
-use Rattle.co_parts.specs.declared.part.Part.TheVariants.{Expect, Boot}
+use Rattle.image_parts.specs.Contents.{Content, Image, identity_of, write_of}
+use Rattle.image_parts.specs.declared.identity.Identity.{Identity}
+use Rattle.image_parts.specs.declared.part.Part.{Part}
+use Rattle.image_parts.specs.declared.part.Part.TheVariants.{Expect, Boot}
 use Rattle.node_boot.proofs.ChoiceLemmas.{picked}
 use Rattle.node_boot.specs.Boot.{boot_failed, write_started, download_configuration}
 use Rattle.node_boot.specs.Boot.{comparison_started, compared_next, check_identity, next_compared, boot_nmt_slave}

@@ -2,17 +2,17 @@
 -- power-on of the network.
 use Rattle.std.specs.Prelude.{ℕ, ◌+◌, ◌==◌, ◌&&◌, not, Bool, false, List, [], ◌∷◌, length, slice_index_or, nat_le}
 use Rattle.std.specs.Prelude.{Option, Some, None, if◌then◌else◌, find}
-use Rattle.asking.specs.Asking.{Asking, Answer, Ask}
+use Rattle.image_parts.specs.Asking.{Asking, Answer, Ask}
 use Rattle.byteorder.specs.Endian.{little_number}
-use Rattle.co_sdo_client.specs.Client.{after_answer, download_start, upload_start, timed_out_at}
-use Rattle.co_sdo_client.specs.declared.progress.Progress.{Progress}
-use Rattle.co_sdo_client.specs.declared.progress.Progress.TheVariants as progress
-use Rattle.co_sdo_client.specs.declared.client_transfer.ClientTransfer.{ClientTransfer as Transfer}
+use Rattle.sdo_client.specs.Client.{after_answer, download_start, upload_start, timed_out_at}
+use Rattle.sdo_client.specs.declared.progress.Progress.{Progress}
+use Rattle.sdo_client.specs.declared.progress.Progress.TheVariants as progress
+use Rattle.sdo_client.specs.declared.client_transfer.ClientTransfer.{ClientTransfer as Transfer}
 use Rattle.concise_dcf.specs.declared.write.Write.{Write}
-use Rattle.co_parts.specs.Contents.{Content, identity_of, write_of}
-use Rattle.co_parts.specs.declared.identity.Identity.{Identity}
-use Rattle.co_parts.specs.declared.part.Part.{Part}
-use Rattle.co_parts.specs.declared.part.Part.TheVariants.{Expect, Boot}
+use Rattle.image_parts.specs.Contents.{Content, identity_of, write_of}
+use Rattle.image_parts.specs.declared.identity.Identity.{Identity}
+use Rattle.image_parts.specs.declared.part.Part.{Part}
+use Rattle.image_parts.specs.declared.part.Part.TheVariants.{Expect, Boot}
 use Rattle.node_boot.specs.declared.boot_stage.BootStage.{BootStage}
 use Rattle.node_boot.specs.declared.boot_stage.BootStage.TheVariants.{Unseen, Comparing, Writing, Configured, Failed}
 use Rattle.node_boot.specs.declared.boot_step.BootStep.{BootStep}

@@ -1,8 +1,8 @@
 //! What an SDO answer of a node does to its boot.
 
 ghost use Rattle.std.specs.Prelude.{◌≡◌, IfOk, OnOk};
-ghost use Rattle.asking.specs.Asking.{outcome};
-ghost use Rattle.asking.specs.Record.{IsAsked, Lasts};
+ghost use Rattle.image_parts.specs.Asking.{outcome};
+ghost use Rattle.image_parts.specs.Record.{IsAsked, Lasts};
 ghost use Rattle.node_boot.specs.Boot as rules;
 ghost use Rattle.node_boot.specs.declared.boot_stage.BootStage.TheVariants.{Comparing, Writing};
 
@@ -13,8 +13,8 @@ use crate::download::download_configuration;
 use crate::identity_check::{check_identity, is_as_expected};
 use crate::note_kind::NoteKind;
 use crate::write_place::WritePlace;
-use co_parts::Identity;
-use co_sdo_client::{Advance, ClientTransfer, Progress, advanced};
+use image_parts::Identity;
+use sdo_client::{Advance, ClientTransfer, Progress, advanced};
 use std::alloc::{AllocError, Global};
 
 /// How the check of device type and identity goes on; `old` is the deadline of the request that is answered.

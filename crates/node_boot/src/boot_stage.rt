@@ -3,8 +3,8 @@
 ghost use Rattle.std.specs.Prelude.{◌≡◌, ◌↔◌, IfOk, IsTrue};
 
 use crate::write_place::WritePlace;
-use co_parts::Identity;
-use co_sdo_client::{ClientTransfer, client_transfer};
+use image_parts::Identity;
+use sdo_client::{ClientTransfer, client_transfer};
 use std::alloc::AllocError;
 
 /// How far the boot of a node has come (CiA 302). An ended boot keeps its outcome alone.

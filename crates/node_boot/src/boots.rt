@@ -1,15 +1,15 @@
 //! The parts that the manager asks for.
 
 ghost use Rattle.std.specs.Prelude.{◌≡◌, ◌<◌, ◌+◌, ◌-◌, ◌^◌, min, IfOk, IfSome, OnOk};
-ghost use Rattle.asking.specs.Asking.{after_ask};
-ghost use Rattle.asking.specs.Record.{Lasts};
-ghost use Rattle.co_parts.specs.Contents.{BootIs, ExpectIs};
-ghost use Rattle.co_parts.specs.Images.{greatest_place, IsBootWrite};
-ghost use Rattle.co_parts.specs.Shared.{shared};
+ghost use Rattle.image_parts.specs.Asking.{after_ask};
+ghost use Rattle.image_parts.specs.Record.{Lasts};
+ghost use Rattle.image_parts.specs.Contents.{BootIs, ExpectIs};
+ghost use Rattle.image_parts.specs.Images.{greatest_place};
+ghost use Rattle.concise_dcf.specs.Writes.{IsSized};
+ghost use Rattle.image_parts.specs.Shared.{shared};
 
-use asking::Asked;
-use co_parts::{Identity, Part, PartContent};
 use concise_dcf::Write;
+use image_parts::{Asked, Identity, Part, PartContent};
 use std::alloc::AllocError;
 use std::rc::Rc;
 
@@ -26,7 +26,7 @@ pub trait Boots: Asked<Part, PartContent> {
     /// number isn't the greatest.
     fn boot(&mut self, node: u8, place: u32) -> Result<Option<Rc<Write>>, AllocError>
         ensures value { IfOk result (λ r. (Self.seen self.old).image (Part.Boot node place) ≡ BootIs (shared r)) }
-        ensures fits { IfOk result (λ r. IfSome (shared r) IsBootWrite) }
+        ensures fits { IfOk result (λ r. IfSome (shared r) IsSized) }
         ensures last { IfOk result (λ r. IfSome (shared r) (λ write. place < greatest_place)) }
         ensures noted { OnOk result (Self.seen self.new ≡ after_ask (Part.Boot node place) (Self.seen self.old)) }
         ensures counted { Self.asks self.new ≡ min (Self.asks self.old + 1) (2 ^ 64 - 1) }

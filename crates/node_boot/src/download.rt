@@ -1,18 +1,19 @@
 //! The download of a node's configuration (CiA 302): the writes of its concise DCF one by one.
 
 ghost use Rattle.std.specs.Prelude.{◌≡◌, ◌<◌, IfOk, IfSome, OnOk};
-ghost use Rattle.asking.specs.Asking.{outcome};
-ghost use Rattle.asking.specs.Record.{IsAsked, Lasts};
-ghost use Rattle.co_parts.specs.Images.{greatest_place, IsBootWrite};
-ghost use Rattle.co_parts.specs.Shared.{shared};
+ghost use Rattle.image_parts.specs.Asking.{outcome};
+ghost use Rattle.image_parts.specs.Record.{IsAsked, Lasts};
+ghost use Rattle.image_parts.specs.Images.{greatest_place};
+ghost use Rattle.concise_dcf.specs.Writes.{IsSized};
+ghost use Rattle.image_parts.specs.Shared.{shared};
 ghost use Rattle.node_boot.specs.Boot as rules;
 
 use crate::boot_stage::BootStage;
 use crate::boot_step::BootStep;
 use crate::boots::Boots;
 use crate::write_place::WritePlace;
-use co_sdo_client::download_started;
 use concise_dcf::Write;
+use sdo_client::download_started;
 use std::alloc::{AllocError, Global};
 use std::rc::Rc;
 
@@ -24,7 +25,7 @@ fn write(
     place: u32,
     write: &Option<Rc<Write>>,
 ) -> Result<BootStep, AllocError>
-    requires fits { IfSome (shared write.now) IsBootWrite }
+    requires fits { IfSome (shared write.now) IsSized }
     requires last { IfSome (shared write.now) (λ write. place < greatest_place) }
     ensures { IfOk result (λ step. step ≡ rules.write_started deadline place (shared write.now)) }
 {

@@ -2,11 +2,11 @@
 
 ghost use Rattle.std.specs.Prelude.{◌≡◌, ◌≤◌, ◌&&◌, length, nat_le, find, IfOk, OnOk, unwrap_or};
 ghost use Rattle.std.specs.Option.{option_copied};
-ghost use Rattle.asking.specs.Asking.{outcome};
-ghost use Rattle.asking.specs.Record.{IsAsked, Lasts};
+ghost use Rattle.image_parts.specs.Asking.{outcome};
+ghost use Rattle.image_parts.specs.Record.{IsAsked, Lasts};
 ghost use Rattle.byteorder.specs.Endian.{little_number};
-ghost use Rattle.co_parts.specs.Contents.{no_identity};
-ghost use Rattle.co_parts.specs.Shared.{shared};
+ghost use Rattle.image_parts.specs.Contents.{no_identity};
+ghost use Rattle.image_parts.specs.Shared.{shared};
 ghost use Rattle.node_boot.specs.Boot as rules;
 
 use crate::boot_stage::BootStage;
@@ -14,8 +14,8 @@ use crate::boot_step::BootStep;
 use crate::boots::Boots;
 use crate::download::download_configuration;
 use byteorder::{ByteOrder, LittleEndian};
-use co_parts::Identity;
-use co_sdo_client::upload_started;
+use image_parts::Identity;
+use sdo_client::upload_started;
 use std::alloc::{AllocError, Global};
 use std::rc::Rc;
 

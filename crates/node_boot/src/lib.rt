@@ -1,5 +1,5 @@
 //! The boot of one node by the NMT manager (CiA 302).
-#![tactic(auto, using(asking::proofs::RecordLemmas::record_laws))]
+#![tactic(auto, using(image_parts::proofs::RecordLemmas::record_laws))]
 
 mod answers;
 mod boot_stage;

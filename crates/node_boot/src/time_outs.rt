@@ -1,13 +1,13 @@
 //! What the time-out of a request does to the boot of a node.
 
 ghost use Rattle.std.specs.Prelude.{◌≡◌};
-ghost use Rattle.co_sdo_client.specs.Client.{timed_out_at};
+ghost use Rattle.sdo_client.specs.Client.{timed_out_at};
 ghost use Rattle.node_boot.specs.Boot as rules;
 
 use crate::boot_stage::BootStage;
 use crate::boot_step::BootStep;
 use crate::note_kind::NoteKind;
-use co_sdo_client::{ClientTransfer, Progress, timed_out};
+use sdo_client::{ClientTransfer, Progress, timed_out};
 
 /// The moment at which a request of the boot times out, in microseconds from the power-on of the network; none
 /// where no request is under way.

@@ -1,7 +1,7 @@
 //! The number of a write that there is.
 
 ghost use Rattle.std.specs.Prelude.{◌≡◌, ◌<◌, ◌+◌, ◌↔◌, IsTrue};
-ghost use Rattle.co_parts.specs.Images.{greatest_place};
+ghost use Rattle.image_parts.specs.Images.{greatest_place};
 
 use std::marker::Model;
 
@@ -13,7 +13,7 @@ pub struct WritePlace {
 
 impl Model for WritePlace {
     ghost use Rattle.std.specs.Prelude.{ℕ, ◌<◌};
-    ghost use Rattle.co_parts.specs.Images.{greatest_place};
+    ghost use Rattle.image_parts.specs.Images.{greatest_place};
 
     ghost Value = { ℕ };
 

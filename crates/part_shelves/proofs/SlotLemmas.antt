@@ -10,9 +10,9 @@ use Rattle.std.proofs.lemmas.Cmp.{nat_list_cmp_total}
 use Rattle.std.proofs.lemmas.Map.Entries.{lookup-filter-keys}
 use Rattle.std.proofs.lemmas.Map.Lookups.{exact_bytes}
 use Rattle.std.proofs.lemmas.Map.Views.{tells_apart}
-use Rattle.co_base.proofs.TableLemmas.{alike}
-use Rattle.co_messages.specs.Messages.{name_cmp}
-use Rattle.co_messages.proofs.NameLemmas.{key_cmp, made, value_changed, value_found, value_in, value_put}
+use Rattle.base.proofs.TableLemmas.{alike}
+use Rattle.project_messages.specs.Messages.{name_cmp}
+use Rattle.project_messages.proofs.NameLemmas.{key_cmp, made, value_changed, value_found, value_in, value_put}
 use Rattle.part_shelves.specs.Slots.{fresh_at, fresh_slot, text_kept, with_fresh, Slots}
 use Rattle.part_shelves.specs.declared.device_slot.DeviceSlot.{DeviceSlot}
 

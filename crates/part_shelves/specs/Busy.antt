@@ -1,7 +1,7 @@
 -- At which numbers the windows that are kept have steps.
 use Rattle.std.specs.Prelude.{◌≡◌, ℕ, Bool, false, not, ◌==◌, List, length, Option, slice_index_or}
 use Rattle.std.specs.Option.{option_map_or}
-use Rattle.co_memo.specs.At.{at}
+use Rattle.kept_values.specs.At.{at}
 use Rattle.co_scenario.specs.declared.timed_step.TimedStep.{TimedStep}
 
 -- there is a window, and it has steps

@@ -2,7 +2,7 @@
 use Rattle.std.specs.Prelude.{ℕ, Bool, true, false, List, Option, option_map}
 use Rattle.std.specs.FinMap.{FinMap, get, insert}
 use Rattle.std.specs.Option.{option_map_or}
-use Rattle.co_messages.specs.Messages.{name_cmp}
+use Rattle.project_messages.specs.Messages.{name_cmp}
 use Rattle.part_shelves.specs.declared.device_slot.DeviceSlot.{DeviceSlot}
 
 abbrev pub Slots : Type 0

@@ -5,16 +5,16 @@ ghost use Rattle.std.specs.FinMap as map;
 ghost use Rattle.std.specs.Ordering.{eq_by_cmp};
 ghost use Rattle.eds_device.specs.Faults.{device_of};
 ghost use Rattle.ini_text.specs.Content.{content_of};
-ghost use Rattle.co_messages.specs.Messages.{by_name, name_cmp};
+ghost use Rattle.project_messages.specs.Messages.{by_name, name_cmp};
 ghost use Rattle.co_project.specs.Tables.{text_at};
-ghost use Rattle.co_memo.specs.Work.{Refreshes, Rises};
+ghost use Rattle.kept_values.specs.Work.{Refreshes, Rises};
 ghost use Rattle.part_shelves.specs.Slots.{fresh_at, fresh_slot, text_kept, with_fresh};
 
 use crate::eds_text::keep_device;
 use crate::seat::Seat;
-use co_memo::{Meter, Shared, share_of};
 use co_project::Project;
 use eds_device::Device;
+use kept_values::{Meter, Shared, share_of};
 use std::alloc::{AllocError, Global};
 use std::collections::BTreeMap;
 use std::marker::Model;
@@ -29,7 +29,7 @@ pub struct DeviceShelf {
 impl Model for DeviceShelf {
     ghost use Rattle.std.specs.Coded.{coded_ℕ, coded_list};
     ghost use Rattle.std.specs.FinMap as map;
-    ghost use Rattle.co_messages.specs.Messages.{by_name};
+    ghost use Rattle.project_messages.specs.Messages.{by_name};
     ghost use Rattle.part_shelves.specs.Slots.{Slots};
     ghost use Rattle.part_shelves.specs.contracts.device_slot.DeviceSlot as slot;
 

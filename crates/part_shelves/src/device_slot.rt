@@ -1,8 +1,8 @@
 //! A device that is kept.
 
 use crate::eds_text::EdsText;
-use co_memo::{Kept, Shared};
 use eds_device::Device;
+use kept_values::{Kept, Shared};
 
 /// A device with its text, and whether that is known to be the text of now.
 #[derive(Drop)]

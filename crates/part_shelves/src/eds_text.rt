@@ -4,9 +4,9 @@ ghost use Rattle.std.specs.Arc.{arc_value};
 ghost use Rattle.eds_device.specs.Faults.{device_of};
 ghost use Rattle.ini_text.specs.Content.{content_of};
 
-use co_base::Octets;
-use co_memo::{Kept, Makes, Shared};
+use base::Octets;
 use eds_device::{Device, DeviceFault};
+use kept_values::{Kept, Makes, Shared};
 use std::alloc::{AllocError, Global};
 use std::marker::Model;
 use std::sync::Arc;

@@ -1,7 +1,7 @@
 //! Which numbers are those of nodes.
 ghost use Rattle.std.specs.Prelude.{◌≡◌, ◌==◌, ◌||◌, ℕ};
 ghost use Rattle.std.specs.FinMap.{contains_key};
-ghost use Rattle.co_memo.specs.Shelved.{is_flagged};
+ghost use Rattle.kept_values.specs.Shelved.{is_flagged};
 
 use co_project::Project;
 

@@ -5,8 +5,8 @@ ghost use Rattle.part_shelves.specs.Slots.{fresh_slot};
 
 use crate::device_slot::DeviceSlot;
 use crate::eds_text::EdsText;
-use co_memo::{Kept, Shared};
 use eds_device::Device;
+use kept_values::{Kept, Shared};
 use std::alloc::{AllocError, Global};
 use std::marker::Model;
 

@@ -1,13 +1,13 @@
 //! The windows of a scenario, each with its mark.
 ghost use Rattle.std.specs.Prelude.{◌≡◌, ◌↔◌, ◌==◌, ◌||◌, ◌&&◌, ◌<◌, not, ℕ, false, None, Some, OnOk, OnErr};
 ghost use Rattle.std.specs.Prelude.{if◌then◌else◌, IsTrue, option_copied};
-ghost use Rattle.co_memo.specs.Shelved.{is_fresh, kept_at};
-ghost use Rattle.co_memo.specs.Work.{Refreshes, Rises};
+ghost use Rattle.kept_values.specs.Shelved.{is_fresh, kept_at};
+ghost use Rattle.kept_values.specs.Work.{Refreshes, Rises};
 ghost use Rattle.part_shelves.specs.Busy.{has_steps};
 
-use co_memo::{Meter, Shared};
-use co_parts::Window;
 use co_scenario::{TimedStep, same_steps};
+use image_parts::Window;
+use kept_values::{Meter, Shared};
 use std::alloc::{AllocError, Global};
 use std::collections::BTreeMap;
 use std::marker::Model;
@@ -26,7 +26,7 @@ pub struct WindowShelf {
 
 impl Model for WindowShelf {
     ghost use Rattle.std.specs.Prelude.{List};
-    ghost use Rattle.co_memo.specs.Shelved.{Shelved};
+    ghost use Rattle.kept_values.specs.Shelved.{Shelved};
     ghost use Rattle.co_scenario.specs.declared.timed_step.TimedStep.{TimedStep};
     ghost use Rattle.part_shelves.specs.Busy.{AreBusy};
 

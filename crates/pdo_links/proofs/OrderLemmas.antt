@@ -6,14 +6,15 @@ use Rattle.std.specs.Option.{option_map_or}
 use Rattle.std.proofs.lemmas.List.Elements.{filter-append}
 use Rattle.byteorder.specs.Endian.{little_bytes, little_number}
 use Rattle.co_values.specs.declared.form.Width.TheVariants.{Bits8, Bits16}
-use Rattle.co_fields.specs.CobIds.{is_valid, no_rtr_bit, off_bit}
+use Rattle.cia301.specs.CobIds.{is_valid, no_rtr_bit, off_bit}
 use Rattle.concise_dcf.specs.declared.write.Write.{Write}
 use Rattle.ini_text.specs.Content.{Section}
 use Rattle.eds_device.specs.Entries.{entry_at}
 use Rattle.pdo_plan.specs.declared.clean.Clean.{Clean}
 use Rattle.pdo_plan.specs.declared.consumer.Consumer.{Consumer}
 use Rattle.pdo_stations.specs.declared.mapped.Mapped.{Mapped}
-use Rattle.pdo_stations.specs.Devices.{takes_unsigned, tpdo_object, rpdo_object, mapping_of}
+use Rattle.pdo_stations.specs.Devices.{takes_unsigned}
+use Rattle.cia301.specs.PdoObjects.{mapping_object, rpdo_object, tpdo_object}
 use Rattle.pdo_plan.specs.Plan.{IsWithin}
 use Rattle.pdo_links.specs.Order.{is_to, to_object, AreBetween, IsConfigured}
 use Rattle.pdo_links.specs.Writes.{write_at, cob_write, mapped_writes, mapping_writes, start_write, time_write, taken_type}
@@ -287,7 +288,7 @@ low n lt = grind arith
 configured : (object off on identifier : ℕ) (mapping : List Mapped) (ws : List Write)
     → AreBetween (is_to object 1) (cob_write object off) (cob_write object on) ws
     → off_bit ≤ off → off < 4294967296 → on < off_bit → on % 0x800 ≡ identifier
-    → to_object (mapping_of object) ws ≡ mapping_writes (mapping_of object) mapping
+    → to_object (mapping_object object) ws ≡ mapping_writes (mapping_object object) mapping
     → IsConfigured object identifier mapping ws
 configured object off on identifier mapping ws meanwhile is_high fits is_low rest maps = record {
   off = cob_write object off;
@@ -296,9 +297,9 @@ configured object off on identifier mapping ws meanwhile is_high fits is_low res
   is_switched_off = ap (λ (n : ℕ). not (is_valid n)) (reads_back off fits) ∙ high off is_high;
   is_switched_on = ap (λ (n : ℕ). not (is_valid n)) (reads_back on (omega arith)) ∙ low on is_low;
   has_identifier = ap (λ (n : ℕ). n % 0x800) (reads_back on (omega arith)) ∙ rest;
-  counted = subst (AreBetween (is_to (mapping_of object) 0) (write_at (mapping_of object) 0 (0 ∷ []))
-      (write_at (mapping_of object) 0 (length mapping ∷ []))) (sym maps) (counts_around (mapping_of object) mapping);
-  entries = ap (filter (λ w. not (is_to (mapping_of object) 0 w))) maps ∙ entries_left (mapping_of object) mapping;
+  counted = subst (AreBetween (is_to (mapping_object object) 0) (write_at (mapping_object object) 0 (0 ∷ []))
+      (write_at (mapping_object object) 0 (length mapping ∷ []))) (sym maps) (counts_around (mapping_object object) mapping);
+  entries = ap (filter (λ w. not (is_to (mapping_object object) 0 w))) maps ∙ entries_left (mapping_object object) mapping;
 }
 
 pub tpdo_configured : (ss : List Section) (node : ℕ) (c : Clean) → IsWithin c
@@ -307,14 +308,14 @@ unfolding tpdo_writes
 tpdo_configured ss node c within =
     let object : ℕ = tpdo_object c.message.tpdo in
     let id : c.identifier < 0x800 = within.identifier in
-    let before : (object == mapping_of object) ≡ false = number_other object (mapping_of object) (omega arith) in
-    let behind : (mapping_of object == object) ≡ false = other_number object (mapping_of object) (omega arith) in
+    let before : (object == mapping_object object) ≡ false = number_other object (mapping_object object) (omega arith) in
+    let behind : (mapping_object object == object) ≡ false = other_number object (mapping_object object) (omega arith) in
     configured object (off_bit + (no_rtr_bit + c.identifier))
     (no_rtr_bit + c.identifier) c.identifier c.mapping (tpdo_writes ss node c)
-    (tpdo_meanwhile object (mapping_of object) before behind ss node (off_bit + (no_rtr_bit + c.identifier))
+    (tpdo_meanwhile object (mapping_object object) before behind ss node (off_bit + (no_rtr_bit + c.identifier))
     c.message.transmission c.message.inhibit c.message.event c.start (no_rtr_bit + c.identifier) c.mapping)
     (omega arith) (omega arith) (omega arith) (omega arith)
-    (tpdo_mapping object (mapping_of object) before behind ss node (off_bit + (no_rtr_bit + c.identifier))
+    (tpdo_mapping object (mapping_object object) before behind ss node (off_bit + (no_rtr_bit + c.identifier))
     c.message.transmission c.message.inhibit c.message.event c.start (no_rtr_bit + c.identifier) c.mapping)
 
 pub rpdo_configured : (c : Clean) (k : Consumer) → IsWithin c
@@ -323,11 +324,11 @@ unfolding rpdo_writes
 rpdo_configured c k within =
     let object : ℕ = rpdo_object k.rpdo in
     let id : c.identifier < 0x800 = within.identifier in
-    let before : (object == mapping_of object) ≡ false = number_other object (mapping_of object) (omega arith) in
-    let behind : (mapping_of object == object) ≡ false = other_number object (mapping_of object) (omega arith) in
+    let before : (object == mapping_object object) ≡ false = number_other object (mapping_object object) (omega arith) in
+    let behind : (mapping_object object == object) ≡ false = other_number object (mapping_object object) (omega arith) in
     configured object (off_bit + c.identifier) c.identifier c.identifier k.mapping (rpdo_writes c k)
-    (rpdo_meanwhile object (mapping_of object) before behind (off_bit + c.identifier)
+    (rpdo_meanwhile object (mapping_object object) before behind (off_bit + c.identifier)
     (taken_type c.message.transmission) c.identifier k.mapping)
     (omega arith) (omega arith) (omega arith) (omega arith)
-    (rpdo_mapping object (mapping_of object) before behind (off_bit + c.identifier)
+    (rpdo_mapping object (mapping_object object) before behind (off_bit + c.identifier)
     (taken_type c.message.transmission) c.identifier k.mapping)

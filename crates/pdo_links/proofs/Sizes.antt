@@ -10,14 +10,15 @@ use Rattle.std.specs.Ordering.{nat_cmp}
 use Rattle.std.proofs.lemmas.List.Elements.{All-nil, All-cons, All-append}
 use Rattle.byteorder.specs.Endian.{little_bytes}
 use Rattle.co_values.specs.declared.form.Width.TheVariants.{Bits8, Bits16}
-use Rattle.co_fields.specs.CobIds.{no_rtr_bit, off_bit}
+use Rattle.cia301.specs.CobIds.{no_rtr_bit, off_bit}
 use Rattle.concise_dcf.specs.declared.write.Write.{Write}
 use Rattle.ini_text.specs.Content.{Section}
 use Rattle.eds_device.specs.Entries.{entry_at}
 use Rattle.pdo_plan.specs.declared.clean.Clean.{Clean}
 use Rattle.pdo_plan.specs.declared.consumer.Consumer.{Consumer}
 use Rattle.pdo_stations.specs.declared.mapped.Mapped.{Mapped}
-use Rattle.pdo_stations.specs.Devices.{takes_unsigned, tpdo_object, rpdo_object, mapping_of}
+use Rattle.pdo_stations.specs.Devices.{takes_unsigned}
+use Rattle.cia301.specs.PdoObjects.{mapping_object, rpdo_object, tpdo_object}
 use Rattle.pdo_plan.specs.Mapping.{mapped_bytes}
 use Rattle.pdo_links.specs.Tables.{AreFew}
 use Rattle.pdo_links.specs.Writes.{write_at, cob_write, mapped_writes, mapping_writes, start_write, time_write, taken_type}
@@ -97,13 +98,13 @@ tpdo_held ss node c short =
     holds_one 71 (cob_write object (off_bit + (no_rtr_bit + c.identifier))) _
     (word_sized object 1 (off_bit + (no_rtr_bit + c.identifier)))
     (holds_one 70 (write_at object 2 (c.message.transmission ∷ [])) _ (byte_sized object 2 c.message.transmission)
-    (holds_both 69 1 (inhibit ++ event ++ start ++ mapping_writes (mapping_of object) c.mapping)
+    (holds_both 69 1 (inhibit ++ event ++ start ++ mapping_writes (mapping_object object) c.mapping)
     (cob_write object (no_rtr_bit + c.identifier) ∷ [])
-    (holds_both 3 66 (inhibit ++ event ++ start) (mapping_writes (mapping_of object) c.mapping)
+    (holds_both 3 66 (inhibit ++ event ++ start) (mapping_writes (mapping_object object) c.mapping)
     (holds_both 2 1 (inhibit ++ event) start
     (holds_both 1 1 inhibit event (time_held ss node object 3 c.message.inhibit)
     (time_held ss node object 5 c.message.event)) (start_held ss node object c.start))
-    (mapping_held (mapping_of object) c.mapping short))
+    (mapping_held (mapping_object object) c.mapping short))
     (holds_one 0 (cob_write object (no_rtr_bit + c.identifier)) [] (word_sized object 1 (no_rtr_bit + c.identifier))
     holds_none)))
 
@@ -115,8 +116,8 @@ rpdo_held c k short =
     holds_one 68 (cob_write object (off_bit + c.identifier)) _ (word_sized object 1 (off_bit + c.identifier))
     (holds_one 67 (write_at object 2 (taken_type c.message.transmission ∷ [])) _
     (byte_sized object 2 (taken_type c.message.transmission))
-    (holds_both 66 1 (mapping_writes (mapping_of object) k.mapping) (cob_write object c.identifier ∷ [])
-    (mapping_held (mapping_of object) k.mapping short)
+    (holds_both 66 1 (mapping_writes (mapping_object object) k.mapping) (cob_write object c.identifier ∷ [])
+    (mapping_held (mapping_object object) k.mapping short)
     (holds_one 0 (cob_write object c.identifier) [] (word_sized object 1 c.identifier) holds_none))) in
     at_most 69 72 (rpdo_writes c k) (omega arith) writes
 

@@ -6,7 +6,7 @@ use Rattle.std.specs.List.{list_all, range_with_len}
 use Rattle.std.specs.Option.{option_map_or}
 use Rattle.std.proofs.lemmas.List.Elements.{All-nil, All-cons, All-head, All-tail, All-append, All-weaker}
 use Rattle.byteorder.specs.Endian.{little_bytes}
-use Rattle.co_base.specs.Bytes.{AreBytes}
+use Rattle.base.specs.Bytes.{AreBytes}
 use Rattle.co_values.specs.declared.data_type.DataType.{DataType}
 use Rattle.co_values.specs.declared.data_type.DataType.TheVariants.{NotModelled}
 use Rattle.co_values.specs.declared.form.Form.{Form}
@@ -15,7 +15,7 @@ use Rattle.co_values.specs.declared.form.Width.TheVariants.{Bits8, Bits16, Bits3
 use Rattle.co_values.specs.Types.{form, octets}
 use Rattle.co_values.specs.Values.{Fits, FitsForm}
 use Rattle.co_dict.specs.Accesses.{is_writable}
-use Rattle.co_fields.specs.CobIds.{no_rtr_bit, off_bit}
+use Rattle.cia301.specs.CobIds.{no_rtr_bit, off_bit}
 use Rattle.concise_dcf.specs.declared.write.Write.{Write}
 use Rattle.ini_text.specs.Content.{Section}
 use Rattle.eds_device.specs.Described.{Described, description_of, kind_at}
@@ -24,7 +24,8 @@ use Rattle.pdo_plan.specs.declared.clean.Clean.{Clean}
 use Rattle.pdo_plan.specs.declared.consumer.Consumer.{Consumer}
 use Rattle.pdo_stations.specs.declared.mapped.Mapped.{Mapped}
 use Rattle.pdo_stations.specs.Devices.{devices_of, is_unsigned, takes_unsigned, has_unsigned}
-use Rattle.pdo_stations.specs.Devices.{has_mapping, tpdo_object, rpdo_object, mapping_of}
+use Rattle.pdo_stations.specs.Devices.{has_mapping}
+use Rattle.cia301.specs.PdoObjects.{mapping_object, rpdo_object, tpdo_object}
 use Rattle.pdo_stations.proofs.UnsignedLemmas.{unsigned_form}
 use Rattle.pdo_plan.specs.Mapping.{mapped_bytes}
 use Rattle.pdo_plan.specs.Plan.{HasPdo}
@@ -217,18 +218,18 @@ module _ (ss : List Section) where
         let times : List Write = time_write ss node object 3 c.message.inhibit
         ++ time_write ss node object 5 c.message.event in
         let start : List Write = start_write ss node object c.start in
-        let rest : List Write = times ++ start ++ mapping_writes (mapping_of object) c.mapping in
+        let rest : List Write = times ++ start ++ mapping_writes (mapping_object object) c.mapping in
         let on : List Write = cob_write object (no_rtr_bit + c.identifier) ∷ [] in
         one_taken (cob_write object off) (write_at object 2 type ∷ (rest ++ on)) (cob_taken object off cob)
         (one_taken (write_at object 2 type) (rest ++ on)
         (has_taken ss node object 2 Bits8 type kind (one_byte c.message.transmission transmission) refl)
         (both_taken rest on
-        (both_taken (times ++ start) (mapping_writes (mapping_of object) c.mapping)
+        (both_taken (times ++ start) (mapping_writes (mapping_object object) c.mapping)
         (both_taken times start
         (both_taken (time_write ss node object 3 c.message.inhibit) (time_write ss node object 5 c.message.event)
         (time_taken object 3 c.message.inhibit) (time_taken object 5 c.message.event))
         (start_taken object c.start started))
-        (mapping_taken (mapping_of object) c.mapping (second_of _ _ has) short are))
+        (mapping_taken (mapping_object object) c.mapping (second_of _ _ has) short are))
         (one_taken (cob_write object (no_rtr_bit + c.identifier)) [] (cob_taken object (no_rtr_bit + c.identifier) cob)
         none_taken)))
 
@@ -245,7 +246,7 @@ module _ (ss : List Section) where
         let kind : has_unsigned (devices_of ((node, ss) ∷ [])) node Bits8 (object, 2)
         ≡ true = second_of _ _ (first_of _ _ has) in
         let type : List ℕ = taken_type c.message.transmission ∷ [] in
-        let rest : List Write = mapping_writes (mapping_of object) k.mapping in
+        let rest : List Write = mapping_writes (mapping_object object) k.mapping in
         let on : List Write = cob_write object c.identifier ∷ [] in
         one_taken (cob_write object (off_bit + c.identifier)) (write_at object 2 type ∷ (rest ++ on))
         (cob_taken object (off_bit + c.identifier) cob)
@@ -253,7 +254,7 @@ module _ (ss : List Section) where
         (has_taken ss node object 2 Bits8 type kind (one_byte (taken_type c.message.transmission)
         (taken_byte c.message.transmission)) refl)
         (both_taken rest on
-        (mapping_taken (mapping_of object) k.mapping (second_of _ _ has) short are)
+        (mapping_taken (mapping_object object) k.mapping (second_of _ _ has) short are)
         (one_taken (cob_write object c.identifier) [] (cob_taken object c.identifier cob) none_taken)))
 
   -- ---- their values

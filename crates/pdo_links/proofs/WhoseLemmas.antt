@@ -12,12 +12,13 @@ use Rattle.std.proofs.lemmas.Bool.{cases_eq}
 use Rattle.std.proofs.lemmas.Map.Views.{exact_unsigned_eq}
 use Rattle.concise_dcf.specs.declared.write.Write.{Write}
 use Rattle.ini_text.specs.Content.{Section}
-use Rattle.co_base.specs.Ranges.{is_between}
-use Rattle.co_dict.specs.Pdos.{is_of_pdos}
+use Rattle.base.specs.Ranges.{is_between}
+use Rattle.cia301.specs.PdoObjects.{is_of_pdos}
 use Rattle.std.specs.FinMap.{get}
-use Rattle.co_params.specs.Params.{Texts}
-use Rattle.co_params.specs.Parameters.{parameter_text, parameter_writes, place_of}
-use Rattle.co_params.proofs.ParameterLemmas.{nothing_else, pdo_text}
+use Rattle.node_parameters.specs.Params.{Texts}
+use Rattle.node_parameters.specs.Parameters.{parameter_text, parameter_writes}
+use Rattle.concise_dcf.specs.Writes.{place_of}
+use Rattle.node_parameters.proofs.ParameterLemmas.{nothing_else, pdo_text}
 use Rattle.pdo_plan.specs.declared.clean.Clean.{Clean}
 use Rattle.pdo_plan.specs.declared.consumer.Consumer.{Consumer}
 use Rattle.pdo_plan.specs.declared.planned_message.PlannedMessage.{PlannedMessage}

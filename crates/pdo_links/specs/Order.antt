@@ -2,15 +2,15 @@
 use Rattle.std.specs.Prelude.{◌≡◌, ℕ, ◌==◌, ◌&&◌, Bool, true, false, not, List, [], ◌∷◌, ◌++◌, length}
 use Rattle.std.specs.Prelude.{filter, Contains}
 use Rattle.byteorder.specs.Endian.{little_number}
-use Rattle.co_base.specs.Ranges.{is_between}
-use Rattle.co_fields.specs.CobIds.{identifier_in, is_valid}
+use Rattle.cia301.specs.CobIds.{identifier_in, is_valid}
 use Rattle.concise_dcf.specs.declared.write.Write.{Write}
 use Rattle.ini_text.specs.Content.{Section}
 use Rattle.pdo_plan.specs.declared.clean.Clean.{Clean}
 use Rattle.pdo_plan.specs.declared.consumer.Consumer.{Consumer}
 use Rattle.pdo_stations.specs.declared.mapped.Mapped.{Mapped}
-use Rattle.pdo_stations.specs.Devices.{mapping_of}
+use Rattle.cia301.specs.PdoObjects.{mapping_object}
 use Rattle.pdo_links.specs.Writes.{write_at, mapped_writes, tpdo_writes, rpdo_writes}
+use Rattle.cia301.specs.Limits.{is_pdo_number}
 
 -- ---- order
 
@@ -45,10 +45,10 @@ pub record IsConfigured (object identifier : ℕ) (mapping : List Mapped) (ws : 
   pub is_switched_off : is_off off ≡ true
   pub is_switched_on : is_off on ≡ false
   pub has_identifier : identifier_set on ≡ identifier
-  pub counted : AreBetween (is_to (mapping_of object) 0) (write_at (mapping_of object) 0 (0 ∷ []))
-      (write_at (mapping_of object) 0 (length mapping ∷ [])) (to_object (mapping_of object) ws)
-  pub entries : filter (λ w. not (is_to (mapping_of object) 0 w)) (to_object (mapping_of object) ws)
-      ≡ mapped_writes (mapping_of object) 1 mapping
+  pub counted : AreBetween (is_to (mapping_object object) 0) (write_at (mapping_object object) 0 (0 ∷ []))
+      (write_at (mapping_object object) 0 (length mapping ∷ [])) (to_object (mapping_object object) ws)
+  pub entries : filter (λ w. not (is_to (mapping_object object) 0 w)) (to_object (mapping_object object) ws)
+      ≡ mapped_writes (mapping_object object) 1 mapping
 
 -- ---- whose writes
 
@@ -70,7 +70,7 @@ IsNamedByNone cs node = (c : Clean) → Contains cs c
 pub record IsSentAlone (cs : List Clean) (node : ℕ) (c : Clean) : Type 0 where
   pub there : Contains cs c
   pub sender : c.message.node ≡ node
-  pub numbered : is_between 1 512 c.message.tpdo ≡ true
+  pub numbered : is_pdo_number c.message.tpdo ≡ true
   pub alone : (d : Clean) → Contains cs d → d.message.node ≡ node → d.message.tpdo ≡ c.message.tpdo → d ≡ c
 
 -- a node takes a message by an RPDO alone, and no other of the messages by that one
@@ -78,7 +78,7 @@ pub record IsTakenAlone (cs : List Clean) (node : ℕ) (c : Clean) (k : Consumer
   pub there : Contains cs c
   pub consumer : Contains c.consumers k
   pub taker : k.node ≡ node
-  pub numbered : is_between 1 512 k.rpdo ≡ true
+  pub numbered : is_pdo_number k.rpdo ≡ true
   pub once : (j : Consumer) → Contains c.consumers j → j.node ≡ node → j ≡ k
   pub alone : (d : Clean) (j : Consumer) → Contains cs d → Contains d.consumers j → j.node ≡ node → j.rpdo ≡ k.rpdo
       → d ≡ c

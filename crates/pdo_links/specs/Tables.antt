@@ -3,13 +3,14 @@ use Rattle.std.specs.Prelude.{◌≡◌, ℕ, ◌*◌, ◌≤◌, List, All, len
 use Rattle.std.specs.BTreeMap.{is_at}
 use Rattle.std.specs.Map.{lookup}
 use Rattle.std.specs.Ordering.{nat_cmp}
-use Rattle.co_base.specs.Bytes.{AreBytes}
+use Rattle.base.specs.Bytes.{AreBytes}
 use Rattle.co_values.specs.Values.{Fits}
 use Rattle.concise_dcf.specs.declared.write.Write.{Write}
 use Rattle.eds_device.specs.Described.{kind_at}
 use Rattle.ini_text.specs.Content.{Section}
 use Rattle.pdo_stations.specs.declared.mapped.Mapped.{Mapped}
 use Rattle.pdo_plan.specs.Mapping.{mapped_bytes}
+use Rattle.concise_dcf.specs.Writes.{IsSized}
 
 -- a table has at each number what a list has there first
 unfoldable pub IsTableOf : {X Y : Type 0} → (X → Y) → List (ℕ × X) → List (ℕ × Y) → Type 0
@@ -31,5 +32,5 @@ most_pdo_writes = 512 * 72
 
 -- the writes of a node's PDOs have from 1 to 512 bytes, and there aren't too many
 pub record AreFew (ws : List Write) : Type 0 where
-  pub sizes : All (λ w. (1 ≤ length w.bytes) × (length w.bytes ≤ 512)) ws
+  pub sizes : All IsSized ws
   pub count : length ws ≤ most_pdo_writes

@@ -9,18 +9,19 @@ use Rattle.std.specs.Option.{option_map_or}
 use Rattle.std.specs.Ordering.{nat_cmp}
 use Rattle.byteorder.specs.Endian.{little_bytes}
 use Rattle.co_values.specs.declared.form.Width.TheVariants.{Bits8, Bits16}
-use Rattle.co_fields.specs.CobIds.{no_rtr_bit, off_bit}
-use Rattle.co_fields.specs.TransmissionTypes.{is_synchronous, type_of_byte}
+use Rattle.cia301.specs.CobIds.{no_rtr_bit, off_bit}
+use Rattle.cia301.specs.TransmissionTypes.{is_synchronous, type_of_byte}
 use Rattle.concise_dcf.specs.declared.write.Write.{Write}
 use Rattle.ini_text.specs.Content.{Section}
-use Rattle.co_params.specs.Params.{Texts}
-use Rattle.co_params.specs.Parameters.{parameter_writes}
+use Rattle.node_parameters.specs.Params.{Texts}
+use Rattle.node_parameters.specs.Parameters.{parameter_writes}
 use Rattle.eds_device.specs.Entries.{entry_at}
 use Rattle.pdo_plan.specs.declared.clean.Clean.{Clean}
 use Rattle.pdo_plan.specs.declared.consumer.Consumer.{Consumer}
 use Rattle.pdo_stations.specs.declared.mapped.Mapped.{Mapped}
 use Rattle.pdo_plan.specs.declared.planned_message.PlannedMessage.{PlannedMessage}
-use Rattle.pdo_stations.specs.Devices.{takes_unsigned, tpdo_object, rpdo_object, mapping_of}
+use Rattle.pdo_stations.specs.Devices.{takes_unsigned}
+use Rattle.cia301.specs.PdoObjects.{mapping_object, rpdo_object, tpdo_object}
 use Rattle.pdo_plan.specs.Mapping.{mapped_bytes}
 use Rattle.pdo_plan.specs.Plan.{clean}
 
@@ -59,7 +60,7 @@ tpdo_writes ss node c =
     cob_write object (off_bit + (no_rtr_bit + c.identifier))
     ∷ write_at object 2 (c.message.transmission ∷ [])
     ∷ (time_write ss node object 3 c.message.inhibit ++ time_write ss node object 5 c.message.event
-    ++ start_write ss node object c.start ++ mapping_writes (mapping_of object) c.mapping
+    ++ start_write ss node object c.start ++ mapping_writes (mapping_object object) c.mapping
     ++ cob_write object (no_rtr_bit + c.identifier) ∷ [])
 
 -- the transmission type of the RPDOs of a message: with the SYNC for 0 to 240, else at once
@@ -72,7 +73,7 @@ rpdo_writes c consumer =
     let object = rpdo_object consumer.rpdo in
     cob_write object (off_bit + c.identifier)
     ∷ write_at object 2 (taken_type c.message.transmission ∷ [])
-    ∷ (mapping_writes (mapping_of object) consumer.mapping
+    ∷ (mapping_writes (mapping_object object) consumer.mapping
     ++ cob_write object c.identifier ∷ [])
 
 -- ---- by number

@@ -2,14 +2,13 @@
 ghost use Rattle.std.specs.Prelude.{◌≡◌, ◌⊎◌, ℕ, List, None, Contains, IsTrue};
 ghost use Rattle.concise_dcf.specs.declared.write.Write.{Write as written};
 ghost use Rattle.ini_text.specs.Content.{Section};
-ghost use Rattle.co_dict.specs.Pdos.{is_of_pdos};
+ghost use Rattle.cia301.specs.PdoObjects.{is_of_pdos, rpdo_object, tpdo_object};
 ghost use Rattle.std.specs.FinMap as map;
-ghost use Rattle.co_params.specs.Params.{Texts};
-ghost use Rattle.co_params.specs.Parameters.{parameter_writes};
+ghost use Rattle.node_parameters.specs.Params.{Texts};
+ghost use Rattle.node_parameters.specs.Parameters.{parameter_writes};
 ghost use Rattle.pdo_plan.specs.declared.clean.Clean.{Clean};
 ghost use Rattle.pdo_plan.specs.declared.consumer.Consumer.{Consumer};
 ghost use Rattle.pdo_plan.specs.declared.planned_message.PlannedMessage.{PlannedMessage};
-ghost use Rattle.pdo_stations.specs.Devices.{tpdo_object, rpdo_object};
 ghost use Rattle.pdo_plan.specs.Plan.{IsWithin, clean};
 ghost use Rattle.pdo_links.specs.Order.{IsConfigured, IsOfSent, IsOfTaken, IsNamedByNone, IsSentAlone, IsTakenAlone};
 ghost use Rattle.pdo_links.specs.Writes.{tpdo_writes, rpdo_writes, node_writes};

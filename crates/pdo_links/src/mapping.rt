@@ -1,6 +1,6 @@
 //! The writes of a mapping.
 ghost use Rattle.std.specs.Prelude.{◌≡◌, ◌≤◌, [], ◌∷◌, ◌++◌, length, OnOk};
-ghost use Rattle.co_base.specs.Bytes.{AreBytes};
+ghost use Rattle.base.specs.Bytes.{AreBytes};
 ghost use Rattle.pdo_plan.specs.Mapping.{mapped_bytes};
 ghost use Rattle.pdo_links.specs.Tables.{AreMapped};
 ghost use Rattle.pdo_links.specs.Writes.{write_at, mapped_writes, mapping_writes};

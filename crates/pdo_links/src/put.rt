@@ -3,8 +3,8 @@ ghost use Rattle.std.specs.Prelude.{◌≡◌, [], ◌∷◌, ◌++◌, ◌<◌,
 ghost use Rattle.byteorder.specs.Endian.{little_bytes};
 ghost use Rattle.pdo_links.specs.Writes.{write_at};
 
+use base::Octets;
 use byteorder::{ByteOrder, LittleEndian};
-use co_base::Octets;
 use concise_dcf::Write;
 use std::alloc::AllocError;
 

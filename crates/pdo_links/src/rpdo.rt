@@ -2,9 +2,9 @@
 ghost use Rattle.std.specs.Prelude.{◌≡◌, ◌==◌, ℕ, true, List, ◌++◌, length, filter_map, OnOk, IfOk};
 ghost use Rattle.std.specs.List.{find};
 ghost use Rattle.std.specs.Option.{option_map, option_and_then, option_copied};
-ghost use Rattle.co_base.specs.Ranges.{is_between};
+ghost use Rattle.base.specs.Ranges.{is_between};
 ghost use Rattle.ini_text.specs.Content.{Section};
-ghost use Rattle.pdo_stations.specs.Devices.{rpdo_object};
+ghost use Rattle.cia301.specs.PdoObjects.{rpdo_object};
 ghost use Rattle.pdo_plan.specs.Plan.{HasPdo, IsMadeFor, IsNumbered, clean, clean_of};
 ghost use Rattle.pdo_links.specs.Tables.{AreFew, AreValues, IsTableOf};
 ghost use Rattle.pdo_links.specs.Writes.{taken_type, rpdo_writes, rpdo_of, by_number};
@@ -16,7 +16,7 @@ use crate::parameters::{
 };
 use crate::put::{put_u8, put_u32};
 use crate::taken::Taken;
-use co_fields::{CobId, TransmissionType};
+use cia301::{CobId, TransmissionType};
 use concise_dcf::Write;
 use eds_device::Device;
 use pdo_plan::{Clean, Consumer, Outcome, Plan, PlannedMessage};

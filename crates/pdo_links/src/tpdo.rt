@@ -1,9 +1,10 @@
 //! The writes of a node's TPDOs.
 ghost use Rattle.std.specs.Prelude.{◌≡◌, ◌<◌, true, false, [], ◌∷◌, ◌++◌, length, filter_map, OnOk, IfOk};
 ghost use Rattle.std.specs.Option.{option_map, option_map_or, option_and_then};
-ghost use Rattle.co_base.specs.Ranges.{is_between};
+ghost use Rattle.base.specs.Ranges.{is_between};
 ghost use Rattle.eds_device.specs.Entries.{entry_at};
-ghost use Rattle.pdo_stations.specs.Devices.{takes_unsigned, tpdo_object};
+ghost use Rattle.pdo_stations.specs.Devices.{takes_unsigned};
+ghost use Rattle.cia301.specs.PdoObjects.{tpdo_object};
 ghost use Rattle.pdo_plan.specs.Plan.{HasPdo, IsMadeFor, IsWithin, clean, clean_of};
 ghost use Rattle.pdo_links.specs.Tables.{AreFew, AreValues, IsTableOf};
 ghost use Rattle.pdo_links.specs.Writes.{write_at, start_write, time_write, tpdo_writes, tpdo_of, by_number};
@@ -14,7 +15,7 @@ use crate::parameters::{
     COB_ID, EVENT_TIMER, FIRST_TPDO, INHIBIT_TIME, MAPPING_DISTANCE, SYNC_START, TRANSMISSION_TYPE,
 };
 use crate::put::{put_u8, put_u16, put_u32};
-use co_fields::CobId;
+use cia301::CobId;
 use co_values::Width;
 use concise_dcf::Write;
 use eds_device::Device;

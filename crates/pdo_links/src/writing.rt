@@ -4,12 +4,13 @@ ghost use Rattle.co_values.specs.Values.{Fits};
 ghost use Rattle.eds_device.specs.Described.{kind_at};
 ghost use Rattle.pdo_plan.specs.Plan.{IsMadeFor};
 ghost use Rattle.pdo_links.specs.Writes.{node_writes};
+ghost use Rattle.concise_dcf.specs.Writes.{IsSized};
 
 use crate::rpdo::put_rpdos;
 use crate::tpdo::put_tpdos;
-use co_params::Params;
 use concise_dcf::Write;
 use eds_device::Device;
+use node_parameters::Params;
 use pdo_plan::Plan;
 use std::alloc::{AllocError, Global};
 
@@ -33,10 +34,10 @@ pub fn writes(
         → IfOk result (λ writes. All (λ w. Fits (kind_at device.now.sections (w.index, w.sub)) w.bytes) writes.items) }
 
     // Each has from 1 to 512 bytes, and they can be counted in 32 bits.
-    ensures sizes { IfOk result (λ writes. All (λ w. (1 ≤ length w.bytes) × (length w.bytes ≤ 512)) writes.items) }
+    ensures sizes { IfOk result (λ writes. All IsSized writes.items) }
     ensures count { IfOk result (λ writes. length writes.items ≤ 4294967295) }
 {
-    let mut writes = co_params::writes(alloc, params, device, node)?;
+    let mut writes = node_parameters::writes(alloc, params, device, node)?;
     put_tpdos(alloc, &mut writes, plan, device, node)?;
     put_rpdos(alloc, &mut writes, plan, node)?;
     Ok(writes)

@@ -5,8 +5,8 @@ use Rattle.std.specs.Prelude.{fold, if◌then◌else◌}
 use Rattle.std.specs.List.{cons_option, All}
 use Rattle.std.specs.Option.{option_or, unwrap_or}
 use Rattle.std.proofs.lemmas.List.Elements.{All-from_recursion}
-use Rattle.co_messages.specs.declared.linked.Linked.{Linked}
-use Rattle.co_messages.specs.Messages.{sink_at}
+use Rattle.project_messages.specs.declared.linked.Linked.{Linked}
+use Rattle.project_messages.specs.Messages.{sink_at}
 use Rattle.pdo_plan.specs.declared.clean.Clean.{Clean}
 use Rattle.pdo_plan.specs.declared.consumer.Consumer.{Consumer}
 use Rattle.pdo_stations.specs.declared.mapped.Mapped.{Mapped}

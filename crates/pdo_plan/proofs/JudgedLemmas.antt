@@ -9,12 +9,12 @@ use Rattle.std.proofs.lemmas.Bool.{false≢true}
 use Rattle.std.proofs.lemmas.Bool.Decides.{nat_tests}
 use Rattle.std.proofs.lemmas.List.{length-map}
 use Rattle.std.proofs.lemmas.List.Elements.{All-from_recursion}
-use Rattle.co_base.specs.Ranges.{is_between}
-use Rattle.co_fields.specs.TransmissionTypes.{is_reserved, type_of_byte}
-use Rattle.co_fields.specs.CobIds.{is_restricted}
-use Rattle.co_messages.specs.declared.linked.Linked.{Linked}
-use Rattle.co_messages.specs.declared.message.Message.{Message}
-use Rattle.co_messages.specs.Messages.{IsLinked}
+use Rattle.base.specs.Ranges.{is_between}
+use Rattle.cia301.specs.TransmissionTypes.{is_reserved, type_of_byte}
+use Rattle.cia301.specs.CobIds.{is_restricted}
+use Rattle.project_messages.specs.declared.linked.Linked.{Linked}
+use Rattle.project_messages.specs.declared.message.Message.{Message}
+use Rattle.project_messages.specs.Messages.{IsLinked}
 use Rattle.pdo_plan.specs.declared.message_fault.MessageFault.{MessageFault}
 use Rattle.pdo_plan.specs.declared.message_fault.MessageFault.TheVariants.{NoObjects, TpdoTaken, TooManyBits}
 use Rattle.pdo_plan.specs.declared.message_fault.MessageFault.TheVariants.{NotMappable, Mismatched, NoRpdo, NoDummy}

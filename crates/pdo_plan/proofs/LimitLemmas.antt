@@ -9,9 +9,9 @@ use Rattle.std.proofs.lemmas.Bool.Decides.{nat_tests}
 use Rattle.std.proofs.lemmas.List.{length-map}
 use Rattle.std.proofs.lemmas.List.Elements.{All-cons, All-map, All-weaker, recursion_from_All}
 use Rattle.std.proofs.lemmas.Map.Views.{length-le_from_below}
-use Rattle.co_base.specs.Ranges.{is_between}
-use Rattle.co_messages.specs.declared.linked.Linked.{Linked}
-use Rattle.co_messages.specs.Messages.{is_position, IsMessage, AreSources, IsLinked}
+use Rattle.base.specs.Ranges.{is_between}
+use Rattle.project_messages.specs.declared.linked.Linked.{Linked}
+use Rattle.project_messages.specs.Messages.{is_position, IsMessage, AreSources, IsLinked}
 use Rattle.pdo_plan.specs.Mapping.{Sources}
 
 pub between : (low high n : ℕ) → is_between low high n ≡ true → (low ≤ n) × (n ≤ high)

@@ -7,16 +7,16 @@ use Rattle.std.proofs.lemmas.Bool.Decides.{nat_tests}
 use Rattle.std.proofs.lemmas.List.Elements.{All-contains, All-from_recursion}
 use Rattle.ini_text.specs.Content.{Section}
 use Rattle.co_values.specs.declared.form.Width.TheVariants.{Bits8, Bits32}
-use Rattle.co_fields.specs.CobIds.{is_restricted}
+use Rattle.cia301.specs.CobIds.{is_restricted}
 use Rattle.eds_device.specs.Entries.{entry_at}
-use Rattle.co_messages.specs.declared.linked.Linked.{Linked}
-use Rattle.co_messages.specs.declared.message.Message.{Message}
-use Rattle.co_messages.specs.Messages.{IsLinked}
+use Rattle.project_messages.specs.declared.linked.Linked.{Linked}
+use Rattle.project_messages.specs.declared.message.Message.{Message}
+use Rattle.project_messages.specs.Messages.{IsLinked}
 use Rattle.pdo_plan.specs.declared.clean.Clean.{Clean}
 use Rattle.pdo_plan.specs.declared.consumer.Consumer.{Consumer}
 use Rattle.pdo_plan.specs.declared.outcome.Outcome.TheVariants.{Planned}
-use Rattle.pdo_stations.specs.Devices.{Devices, devices_of, has_unsigned, has_mapping, has_pdo, mapping_of, tpdo_object}
-use Rattle.pdo_stations.specs.Devices.{rpdo_object}
+use Rattle.pdo_stations.specs.Devices.{Devices, devices_of, has_unsigned, has_mapping, has_pdo}
+use Rattle.cia301.specs.PdoObjects.{mapping_object, tpdo_object, rpdo_object}
 use Rattle.pdo_plan.specs.Plan.{Had, had_by, judged_message, consumer_of, consumers_of, planned_consumers, clean}
 use Rattle.pdo_plan.specs.Plan.{plan_of, HasPdo, IsMadeFor}
 use Rattle.pdo_plan.proofs.ChainLemmas.{each_clean, each_within, all_clean}
@@ -72,8 +72,8 @@ unfolding has_mapping
 fewer d node object few count up has =
     let cob = has_unsigned d node Bits32 (object, 1) in
     let kind = has_unsigned d node Bits8 (object, 2) in
-    let first = has_unsigned d node Bits8 (mapping_of object, 0) in
-    let test : ℕ → Bool = λ sub. has_unsigned d node Bits32 (mapping_of object, sub) in
+    let first = has_unsigned d node Bits8 (mapping_object object, 0) in
+    let test : ℕ → Bool = λ sub. has_unsigned d node Bits32 (mapping_object object, sub) in
     let mapping : (first && list_all test (range_with_len 1 count)) ≡ true = and_right (cob && kind) _ has in
     and_both (cob && kind) _ (and_left (cob && kind) _ has)
     (and_both first _ (and_left first _ mapping) (front_passes test few count up (and_right first _ mapping)))

@@ -14,10 +14,10 @@ use Rattle.co_dict.specs.declared.direction.Direction.TheVariants.{Transmit, Rec
 use Rattle.co_dict.specs.declared.entry.Entry.{Entry}
 use Rattle.co_dict.specs.Pdos.{is_mappable}
 use Rattle.co_values.specs.Types.{width_bits}
-use Rattle.co_fields.specs.TransmissionTypes.{is_reserved, type_of_byte}
+use Rattle.cia301.specs.TransmissionTypes.{is_reserved, type_of_byte}
 use Rattle.eds_device.specs.Entries.{entry_at, dummy_allowed}
-use Rattle.co_messages.specs.declared.linked.Linked.{Linked}
-use Rattle.co_messages.specs.Messages.{source_at, is_of_message, is_of_messages, Named}
+use Rattle.project_messages.specs.declared.linked.Linked.{Linked}
+use Rattle.project_messages.specs.Messages.{source_at, is_of_message, is_of_messages, Named}
 use Rattle.pdo_plan.specs.declared.clean.Clean.{Clean}
 use Rattle.pdo_plan.specs.declared.message_fault.MessageFault.{MessageFault}
 use Rattle.pdo_plan.specs.declared.message_fault.MessageFault.TheVariants.{NoObjects, TpdoTaken, TooManyBits}
@@ -25,7 +25,8 @@ use Rattle.pdo_plan.specs.declared.message_fault.MessageFault.TheVariants.{NotMa
 use Rattle.pdo_plan.specs.declared.message_fault.MessageFault.TheVariants.{BadIdentifier, NoIdentifier, ReservedType}
 use Rattle.pdo_plan.specs.declared.outcome.Outcome.TheVariants.{Planned}
 use Rattle.pdo_plan.specs.declared.planned_message.PlannedMessage.{PlannedMessage}
-use Rattle.pdo_stations.specs.Devices.{Devices, devices_of, can_map, tpdo_object, rpdo_object}
+use Rattle.pdo_stations.specs.Devices.{Devices, devices_of, can_map}
+use Rattle.cia301.specs.PdoObjects.{rpdo_object, tpdo_object}
 use Rattle.pdo_plan.specs.Least.{least_free}
 use Rattle.pdo_plan.specs.Mapping.{Sinks, differ, bits_of, sent_mapping, taken_mapping, is_mismatched, lacks_dummy_at}
 use Rattle.pdo_plan.specs.Plan.{Had, had_by, nodes_put, consumers_of, is_free_rpdo, rpdo_for, consumer_of}

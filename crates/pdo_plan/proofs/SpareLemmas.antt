@@ -1,7 +1,7 @@
 -- The free RPDOs of a node, by its station.
 use Rattle.std.proofs.Common.{◌≡◌, ℕ, ◌&&◌, not, Bool, true, false, List, Some, None, refl, sym, ap}
 use Rattle.co_dict.specs.Shapes.{Shaped}
-use Rattle.pdo_stations.specs.Devices.{rpdo_object}
+use Rattle.cia301.specs.PdoObjects.{rpdo_object}
 use Rattle.pdo_stations.specs.Stations.{shape_at, devices_in}
 use Rattle.pdo_stations.proofs.AlikeLemmas.{pdo_at, no_pdo_at}
 use Rattle.pdo_plan.specs.declared.taken.Taken.{Taken}

@@ -4,9 +4,9 @@ use Rattle.std.specs.Prelude.{option_and_then, is_none, sum_by, find, length}
 use Rattle.std.specs.List.{list_any}
 use Rattle.std.specs.Option.{option_map_or, unwrap_or, option_or}
 use Rattle.co_dict.specs.declared.direction.Direction.TheVariants.{Transmit, Receive}
-use Rattle.co_messages.specs.Messages.{sink_at}
+use Rattle.project_messages.specs.Messages.{sink_at}
 use Rattle.pdo_plan.specs.declared.carried.Carried.{Carried}
-use Rattle.co_messages.specs.declared.linked.Linked.{Linked}
+use Rattle.project_messages.specs.declared.linked.Linked.{Linked}
 use Rattle.pdo_plan.specs.declared.clean.Clean.{Clean}
 use Rattle.pdo_plan.specs.declared.consumer.Consumer.{Consumer}
 use Rattle.pdo_stations.specs.declared.mapped.Mapped.{Mapped}

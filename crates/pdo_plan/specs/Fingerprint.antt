@@ -2,7 +2,7 @@
 -- contract of a public call shows one.
 use Rattle.std.specs.Prelude.{ℕ, ◌+◌, ◌*◌, ◌^◌, ◌%◌, List, length}
 use Rattle.std.specs.List.{fold}
-use Rattle.co_messages.specs.declared.message.Message.{Message}
+use Rattle.project_messages.specs.declared.message.Message.{Message}
 use Rattle.pdo_plan.specs.declared.clean.Clean.{Clean}
 use Rattle.pdo_plan.specs.declared.consumer.Consumer.{Consumer}
 use Rattle.pdo_plan.specs.declared.outcome.Outcome.{Outcome}

@@ -1,7 +1,8 @@
 -- Which RPDOs of which nodes are taken.
 use Rattle.std.specs.Prelude.{ℕ, ◌+◌, ◌*◌, nat_le, ◌&&◌, not, Bool, false, List, slice_index_or}
 use Rattle.co_dict.specs.Shapes.{Shaped}
-use Rattle.pdo_stations.specs.Devices.{has_pdo, rpdo_object}
+use Rattle.pdo_stations.specs.Devices.{has_pdo}
+use Rattle.cia301.specs.PdoObjects.{rpdo_object}
 use Rattle.pdo_stations.specs.Rooms.{device_with}
 
 -- the place of an RPDO among the flags: each node has those of RPDO 0 to 512

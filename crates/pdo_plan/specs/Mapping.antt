@@ -3,7 +3,7 @@ use Rattle.std.specs.Prelude.{ℕ, ◌==◌, ◌&&◌, Bool, true, false, not, L
 use Rattle.std.specs.Prelude.{is_none, option_map, option_and_then, sum_by}
 use Rattle.std.specs.Option.{option_map_or, unwrap_or, option_or}
 use Rattle.byteorder.specs.Endian.{little_bytes}
-use Rattle.co_messages.specs.Messages.{source_at, sink_at}
+use Rattle.project_messages.specs.Messages.{source_at, sink_at}
 use Rattle.pdo_stations.specs.declared.mapped.Mapped.{Mapped}
 use Rattle.pdo_stations.specs.Devices.{Devices, width_at}
 use Rattle.pdo_stations.specs.Dummies.{mapped_to, dummy_for}

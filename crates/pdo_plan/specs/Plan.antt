@@ -8,11 +8,10 @@ use Rattle.ini_text.specs.Content.{Section}
 use Rattle.std.specs.BTreeSet.{insert_key}
 use Rattle.std.specs.Ordering.{nat_cmp}
 use Rattle.co_dict.specs.declared.direction.Direction.TheVariants.{Transmit, Receive}
-use Rattle.co_base.specs.Ranges.{is_between}
-use Rattle.co_fields.specs.TransmissionTypes.{is_reserved, type_of_byte}
-use Rattle.co_fields.specs.CobIds.{is_restricted}
-use Rattle.co_messages.specs.declared.linked.Linked.{Linked}
-use Rattle.co_messages.specs.declared.message.Message.{Message}
+use Rattle.cia301.specs.TransmissionTypes.{is_reserved, type_of_byte}
+use Rattle.cia301.specs.CobIds.{is_restricted}
+use Rattle.project_messages.specs.declared.linked.Linked.{Linked}
+use Rattle.project_messages.specs.declared.message.Message.{Message}
 use Rattle.pdo_plan.specs.declared.message_fault.MessageFault.{MessageFault}
 use Rattle.pdo_plan.specs.declared.message_fault.MessageFault.TheVariants.{NoObjects, TpdoTaken, TooManyBits}
 use Rattle.pdo_plan.specs.declared.message_fault.MessageFault.TheVariants.{NotMappable, Mismatched, NoRpdo, NoDummy}
@@ -23,10 +22,12 @@ use Rattle.pdo_plan.specs.declared.outcome.Outcome.{Outcome}
 use Rattle.pdo_plan.specs.declared.outcome.Outcome.TheVariants.{Planned, Faulty}
 use Rattle.pdo_plan.specs.declared.planned_message.PlannedMessage.{PlannedMessage}
 use Rattle.pdo_stations.specs.declared.mapped.Mapped.{Mapped}
-use Rattle.pdo_stations.specs.Devices.{Devices, devices_of, can_map, has_pdo, has_start, has_times, tpdo_object, rpdo_object}
+use Rattle.pdo_stations.specs.Devices.{Devices, devices_of, can_map, has_pdo, has_start, has_times}
+use Rattle.cia301.specs.PdoObjects.{rpdo_object, tpdo_object}
 use Rattle.pdo_plan.specs.Least.{least_free}
 use Rattle.pdo_plan.specs.Mapping.{Sinks, mapping_bits, bits_of, sent_mapping, taken_mapping, is_mismatched}
 use Rattle.pdo_plan.specs.Mapping.{lacks_dummy_at}
+use Rattle.cia301.specs.Limits.{is_pdo_number}
 
 -- ---- what is had
 
@@ -188,7 +189,7 @@ plan_of devices ms = plan_after devices [] ms
 
 -- a PDO's number, from 1 to 512 (CiA 301), and at most 64 entries in its mapping
 abbrev pub IsNumbered : ℕ → List Mapped → Type 0
-IsNumbered number mapping = (is_between 1 512 number ≡ true) × (length mapping ≤ 64)
+IsNumbered number mapping = (is_pdo_number number ≡ true) × (length mapping ≤ 64)
 
 -- the numbers of a clean message are within their limits
 pub record IsWithin (c : Clean) : Type 0 where

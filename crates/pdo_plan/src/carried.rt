@@ -6,8 +6,8 @@ ghost use Rattle.pdo_stations.specs.Stations.{devices_in};
 
 use crate::listed::Listed;
 use co_dict::Direction;
-use co_messages::Sources;
 use pdo_stations::{Mapped, Stations};
+use project_messages::Sources;
 use std::alloc::{AllocError, Global};
 
 /// A source of a message.

@@ -2,8 +2,8 @@
 
 use crate::consumer::Consumer;
 use crate::listed::Listed;
-use co_messages::Message;
 use pdo_stations::Mapped;
+use project_messages::Message;
 
 /// A message that can be sent: its identifier, what its PDO maps, and who takes it.
 #[derive(Drop)]

@@ -6,8 +6,8 @@ ghost use Rattle.pdo_stations.specs.Stations.{devices_in};
 
 use crate::carried::{Carried, bits_in};
 use crate::listed::Listed;
-use co_messages::Sinks;
 use pdo_stations::{Mapped, Stations};
+use project_messages::Sinks;
 use std::alloc::{AllocError, Global};
 use std::collections::BTreeSet;
 

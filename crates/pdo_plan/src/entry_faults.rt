@@ -10,8 +10,8 @@ ghost use Rattle.pdo_stations.specs.Stations.{devices_in};
 
 use crate::carried::{Carried, carried_at};
 use co_dict::Direction;
-use co_messages::{Linked, Sinks};
 use pdo_stations::Stations;
+use project_messages::{Linked, Sinks};
 
 /// Which faults the entries of a message have.
 #[derive(Clone, Copy)]

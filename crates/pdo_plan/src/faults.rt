@@ -14,9 +14,9 @@ use crate::message_fault::MessageFault;
 use crate::rpdos::rpdo_for;
 use crate::sender::has_tpdo;
 use crate::taken::Taken;
-use co_fields::TransmissionType;
-use co_messages::{Linked, Sinks};
+use cia301::TransmissionType;
 use pdo_stations::Stations;
+use project_messages::{Linked, Sinks};
 use std::alloc::{AllocError, Global};
 
 /// Whether a consumer has no free RPDO for so many mapping entries.

@@ -8,8 +8,8 @@ use crate::clean::Clean;
 use crate::consumer::Consumer;
 use crate::outcome::Outcome;
 use crate::planned_message::PlannedMessage;
-use co_messages::Message;
 use pdo_stations::Mapped;
+use project_messages::Message;
 
 /// What a fingerprint is multiplied by ahead of each number (the factor of Knuth's MMIX generator): odd, so that no
 /// two become one by it.

@@ -7,8 +7,8 @@ ghost use Rattle.pdo_plan.specs.Plan.{explicit, automatic, identifier_for};
 ghost use Rattle.pdo_plan.specs.Taken.{had_in};
 
 use crate::taken::Taken;
-use co_fields::is_restricted;
-use co_messages::Message;
+use cia301::is_restricted;
+use project_messages::Message;
 use std::collections::BTreeSet;
 
 /// The least of the identifiers from 681h to 6DFh that isn't taken.

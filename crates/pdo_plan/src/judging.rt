@@ -1,6 +1,6 @@
 //! What is said of one message.
 ghost use Rattle.std.specs.Prelude.{◌≡◌, ◌≤◌, length, filter_map, IfOk};
-ghost use Rattle.co_messages.specs.Messages.{IsLinked};
+ghost use Rattle.project_messages.specs.Messages.{IsLinked};
 ghost use Rattle.pdo_plan.specs.Carried.{consumer_by, clean_by};
 ghost use Rattle.pdo_plan.specs.Plan.{judged_message};
 ghost use Rattle.pdo_stations.specs.Stations.{devices_in};
@@ -16,8 +16,8 @@ use crate::listed::Listed;
 use crate::outcome::Outcome;
 use crate::rpdos::rpdo_for;
 use crate::taken::Taken;
-use co_messages::{Linked, Sinks};
 use pdo_stations::Stations;
+use project_messages::{Linked, Sinks};
 use std::alloc::{AllocError, Global};
 
 /// A consumer with its least free RPDO and what that maps, where it has one.

@@ -1,7 +1,7 @@
 //! A message of the plan.
 
 use crate::outcome::Outcome;
-use co_base::Octets;
+use base::Octets;
 
 /// A message of the plan.
 #[derive(Drop)]

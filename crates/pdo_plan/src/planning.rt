@@ -11,10 +11,10 @@ use crate::message_plan::Plan;
 use crate::outcome::Outcome;
 use crate::planned_message::PlannedMessage;
 use crate::taken::Taken;
-use co_base::Octets;
-use co_messages::Messages;
+use base::Octets;
 use eds_device::Device;
 use pdo_stations::Stations;
+use project_messages::Messages;
 use std::alloc::{AllocError, Global};
 
 /// Takes what a message has, if it is clean.

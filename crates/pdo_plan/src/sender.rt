@@ -1,10 +1,11 @@
 //! The TPDO of the sender.
 ghost use Rattle.std.specs.Prelude.{◌≡◌, ◌≤◌, ◌&&◌};
-ghost use Rattle.pdo_stations.specs.Devices.{has_pdo, has_start, has_times, tpdo_object};
+ghost use Rattle.pdo_stations.specs.Devices.{has_pdo, has_start, has_times};
+ghost use Rattle.cia301.specs.PdoObjects.{tpdo_object};
 ghost use Rattle.pdo_stations.specs.Stations.{devices_in};
 
-use co_messages::Linked;
 use pdo_stations::Stations;
+use project_messages::Linked;
 
 /// Whether the sender of a message has what the writes of its TPDO name, with so many mapping
 /// entries.

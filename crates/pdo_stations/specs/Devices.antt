@@ -1,5 +1,5 @@
 -- What the devices of a project say of their entries (CiA 301), as the plan of messages asks it.
-use Rattle.std.specs.Prelude.{ℕ, ◌+◌, ◌==◌, ◌&&◌, ◌||◌, Bool, true, false, List, Option, option_and_then}
+use Rattle.std.specs.Prelude.{ℕ, ◌==◌, ◌&&◌, ◌||◌, Bool, true, false, List, Option, option_and_then}
 use Rattle.std.specs.List.{list_all, range_with_len}
 use Rattle.std.specs.Map.{lookup}
 use Rattle.std.specs.Option.{option_map_or}
@@ -14,6 +14,7 @@ use Rattle.co_dict.specs.declared.entry.Entry.{Entry}
 use Rattle.co_dict.specs.Accesses.{is_writable}
 use Rattle.co_dict.specs.Pdos.{is_mappable}
 use Rattle.eds_device.specs.Entries.{entry_at, dummy_allowed}
+use Rattle.cia301.specs.PdoObjects.{mapping_object}
 
 -- the entry that a node has at an index and sub-index, and whether it allows the dummy of a type
 pub record Devices : Type 0 where
@@ -51,16 +52,6 @@ width_at devices node place = option_and_then (λ (e : Entry). width_bits e.kind
 abbrev pub can_map : Direction → Devices → ℕ → ℕ × ℕ → Bool
 can_map direction devices node place = option_map_or (is_mappable direction) (devices.entry node place) false
 
--- the communication objects of TPDO and RPDO k, and their mapping objects (CiA 301)
-abbrev pub tpdo_object : ℕ → ℕ
-tpdo_object k = 0x17FF + k
-
-abbrev pub rpdo_object : ℕ → ℕ
-rpdo_object k = 0x13FF + k
-
-abbrev pub mapping_of : ℕ → ℕ
-mapping_of object = object + 0x200
-
 -- a mapping object has room for so many entries: sub 0 and subs 1 to the count
 unfoldable pub has_mapping : Devices → ℕ → ℕ → ℕ → Bool
 has_mapping devices node object count =
@@ -71,7 +62,7 @@ has_mapping devices node object count =
 abbrev pub has_pdo : Devices → ℕ → ℕ → ℕ → Bool
 has_pdo devices node object count =
     has_unsigned devices node Bits32 (object, 1) && has_unsigned devices node Bits8 (object, 2)
-    && has_mapping devices node (mapping_of object) count
+    && has_mapping devices node (mapping_object object) count
 
 -- and the inhibit time and the event timer, where they aren't 0
 abbrev pub has_times : Devices → ℕ → ℕ → ℕ → ℕ → Bool

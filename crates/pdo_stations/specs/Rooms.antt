@@ -2,7 +2,8 @@
 use Rattle.std.specs.Prelude.{◌≡◌, ℕ, ◌-◌, ◌≤◌, nat_le, Bool, false, List, length, slice_index_or, Option, Some, None}
 use Rattle.std.specs.FinMap.{get}
 use Rattle.co_dict.specs.Shapes.{Shaped, is_dummy_allowed}
-use Rattle.pdo_stations.specs.Devices.{Devices, has_pdo, rpdo_object}
+use Rattle.pdo_stations.specs.Devices.{Devices, has_pdo}
+use Rattle.cia301.specs.PdoObjects.{rpdo_object}
 
 -- the device of a shape, at whatever node
 abbrev pub device_with : Shaped → Devices

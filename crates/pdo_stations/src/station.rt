@@ -4,7 +4,8 @@ ghost use Rattle.std.specs.FinMap as map;
 ghost use Rattle.std.specs.Option.{option_copied};
 ghost use Rattle.co_dict.specs.Shapes.{is_dummy_allowed};
 ghost use Rattle.co_values.specs.declared.form.Width.TheVariants as width;
-ghost use Rattle.pdo_stations.specs.Devices.{has_pdo, has_start, has_times, has_unsigned, rpdo_object, tpdo_object};
+ghost use Rattle.pdo_stations.specs.Devices.{has_pdo, has_start, has_times, has_unsigned};
+ghost use Rattle.cia301.specs.PdoObjects.{rpdo_object, tpdo_object};
 ghost use Rattle.pdo_stations.specs.Rooms.{device_with, has_room, AreRoomsOf};
 
 use crate::room::{has_unsigned, room};

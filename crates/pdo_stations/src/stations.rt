@@ -3,7 +3,8 @@ ghost use Rattle.std.specs.Prelude.{◌≡◌, ◌==◌, ◌≤◌, ℕ, [], len
 ghost use Rattle.std.specs.Option.{option_copied};
 ghost use Rattle.co_values.specs.Types.{width_bits};
 ghost use Rattle.eds_device.specs.Entries.{shape_of};
-ghost use Rattle.pdo_stations.specs.Devices.{devices_of, can_map, has_pdo, has_start, has_times, tpdo_object, width_at};
+ghost use Rattle.pdo_stations.specs.Devices.{devices_of, can_map, has_pdo, has_start, has_times, width_at};
+ghost use Rattle.cia301.specs.PdoObjects.{tpdo_object};
 ghost use Rattle.pdo_stations.specs.Dummies.{dummy_for};
 ghost use Rattle.pdo_stations.specs.Shown.{nodes_of};
 ghost use Rattle.pdo_stations.specs.Stations.{shape_at, devices_in, numbered};

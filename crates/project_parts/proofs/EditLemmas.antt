@@ -3,15 +3,15 @@ use Rattle.std.proofs.Common.{◌≡◌, ℕ, Bool, true, false, not, ◌||◌, 
 use Rattle.std.proofs.Common.{Result, Ok}
 use Rattle.std.specs.FinMap.{contains_key, get, insert, remove}
 use Rattle.std.specs.Option.{option_map_or}
-use Rattle.co_edits.specs.declared.edit.Edit.{Edit}
-use Rattle.co_edits.specs.declared.edit.Edit.TheVariants as edit
-use Rattle.co_edits.specs.declared.fault.EditFault.{EditFault}
-use Rattle.co_edits.specs.declared.fault.EditFault.TheVariants.{InUse, Limit, Range, Taken, Unknown}
-use Rattle.co_edits.specs.Accepts.{unless}
-use Rattle.co_edits.specs.Versions.{is_one}
-use Rattle.co_messages.specs.Messages.{is_full_for as has_full_messages, is_of_messages, with_changed}
-use Rattle.co_messages.specs.Messages.{with_message, with_sink, with_source, with_start, without_sink, without_source}
-use Rattle.co_params.specs.Params.{is_full_for, Texts as Params}
+use Rattle.project_edits.specs.declared.edit.Edit.{Edit}
+use Rattle.project_edits.specs.declared.edit.Edit.TheVariants as edit
+use Rattle.project_edits.specs.declared.fault.EditFault.{EditFault}
+use Rattle.project_edits.specs.declared.fault.EditFault.TheVariants.{InUse, Limit, Range, Taken, Unknown}
+use Rattle.project_edits.specs.Accepts.{unless}
+use Rattle.project_edits.specs.Versions.{is_one}
+use Rattle.project_messages.specs.Messages.{is_full_for as has_full_messages, is_of_messages, with_changed}
+use Rattle.project_messages.specs.Messages.{with_message, with_sink, with_source, with_start, without_sink, without_source}
+use Rattle.node_parameters.specs.Params.{is_full_for, Texts as Params}
 use Rattle.co_project.specs.declared.node.Node.{Node}
 use Rattle.co_project.specs.Project.{accept, with_nodes, Content as Project}
 use Rattle.co_project.specs.Tables.{is_named, is_used, name_taken, put_need, put_node, with_param, without_param, Nodes}

@@ -8,7 +8,7 @@ use Rattle.std.specs.FinMap.{entries, entries_sorted, find, get, get-entries, ge
 use Rattle.std.specs.FinMap.Entries.{below_all, same_entries}
 use Rattle.std.specs.Cmp.{IsTotalOrder}
 use Rattle.std.proofs.lemmas.Map.Lookups.{CmpEqualImpliesEq}
-use Rattle.co_base.proofs.TableLemmas.{alike}
+use Rattle.base.proofs.TableLemmas.{alike}
 
 module _ {K X Y : Type 0} (s : X → Y) where
   -- this of an entry's value

@@ -5,7 +5,7 @@ use Rattle.std.specs.FinMap.{contains_key-keys, get, keys, same_map}
 use Rattle.std.specs.List.{cons_option, AllByRecursion}
 use Rattle.std.specs.Option.{option_map_or}
 use Rattle.std.proofs.lemmas.Bool.{eqb-true, false≢true}
-use Rattle.co_base.specs.Ranges.{is_between}
+use Rattle.base.specs.Ranges.{is_between}
 use Rattle.co_scenario.specs.Scenario.{events_between, moments_between, Events, HasEventBetween}
 use Rattle.co_scenario.specs.declared.timed_event.TimedEvent.{TimedEvent}
 use Rattle.co_scenario.proofs.BetweenLemmas.{fits, listed, moments_exact, moments_total}

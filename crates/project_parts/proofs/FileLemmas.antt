@@ -6,12 +6,12 @@ use Rattle.std.specs.Ordering.{eq_by_cmp, nat_cmp}
 use Rattle.std.proofs.lemmas.Bool.{eq-eqb}
 use Rattle.std.proofs.lemmas.Cmp.{nat_cmp_total, nat_list_cmp_total}
 use Rattle.std.proofs.lemmas.Map.Lookups.{exact_unsigned}
-use Rattle.co_base.proofs.TableLemmas.{alike}
+use Rattle.base.proofs.TableLemmas.{alike}
 use Rattle.ini_text.specs.Content.{Content as Device}
-use Rattle.co_edits.specs.declared.edit.Edit.{Edit}
-use Rattle.co_edits.specs.declared.edit.Edit.TheVariants as edit
-use Rattle.co_messages.specs.Messages.{name_cmp, Named}
-use Rattle.co_params.specs.Params.{Texts as Params}
+use Rattle.project_edits.specs.declared.edit.Edit.{Edit}
+use Rattle.project_edits.specs.declared.edit.Edit.TheVariants as edit
+use Rattle.project_messages.specs.Messages.{name_cmp, Named}
+use Rattle.node_parameters.specs.Params.{Texts as Params}
 use Rattle.co_project.specs.declared.node.Node.{Node}
 use Rattle.co_project.specs.Project.{first, Content as Project}
 use Rattle.co_project.specs.Tables.{node_at, text_at, with_need, Nodes, Texts}

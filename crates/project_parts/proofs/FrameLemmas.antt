@@ -10,10 +10,10 @@ use Rattle.std.specs.Ordering.{eq_by_cmp, is_eq, nat_cmp}
 use Rattle.std.proofs.lemmas.Bool.{eq-eqb, false≢true}
 use Rattle.std.proofs.lemmas.Cmp.{nat_cmp_total}
 use Rattle.std.proofs.lemmas.Map.Lookups.{exact_unsigned}
-use Rattle.co_base.proofs.TableLemmas.{alike, apart, put_there}
-use Rattle.co_edits.specs.declared.edit.Edit.{Edit}
-use Rattle.co_edits.specs.declared.edit.Edit.TheVariants as edit
-use Rattle.co_params.specs.Params.{Texts as Params}
+use Rattle.base.proofs.TableLemmas.{alike, apart, put_there}
+use Rattle.project_edits.specs.declared.edit.Edit.{Edit}
+use Rattle.project_edits.specs.declared.edit.Edit.TheVariants as edit
+use Rattle.node_parameters.specs.Params.{Texts as Params}
 use Rattle.co_project.specs.declared.node.Node.{Node}
 use Rattle.co_project.specs.Project.{accept, Content as Project}
 use Rattle.co_project.specs.Tables.{node_after_put, with_need, Nodes}

@@ -6,7 +6,7 @@ use Rattle.std.specs.List.{cons_option}
 use Rattle.std.specs.Map.{lookup}
 use Rattle.std.proofs.lemmas.Bool.{eqb-true}
 use Rattle.ini_text.specs.Content.{Content as Device, Section}
-use Rattle.co_messages.specs.Messages.{is_of_messages, Named}
+use Rattle.project_messages.specs.Messages.{is_of_messages, Named}
 use Rattle.pdo_plan.specs.Plan.{plan_of}
 use Rattle.pdo_plan.proofs.NamedLemmas.{named_alike}
 use Rattle.pdo_stations.specs.Devices.{devices_of}

@@ -3,7 +3,7 @@ use Rattle.std.specs.Prelude.{ℕ, Bool, true, false, List, Option, Some, ◌==�
 use Rattle.std.specs.FinMap.{entries}
 use Rattle.std.specs.Ordering.{eq_by_cmp}
 use Rattle.ini_text.specs.Content.{Content as Device, content_of}
-use Rattle.co_messages.specs.Messages.{name_cmp}
+use Rattle.project_messages.specs.Messages.{name_cmp}
 use Rattle.co_project.specs.declared.node.Node.{Node}
 use Rattle.co_project.specs.Project.{Content as Project}
 use Rattle.co_project.specs.Tables.{node_at, text_at}

@@ -1,8 +1,8 @@
 -- Parts of what a project doesn't have, and the edits that leave it without something.
 use Rattle.std.specs.Prelude.{Bool, true, false, not}
 use Rattle.std.specs.FinMap.{contains_key}
-use Rattle.co_edits.specs.declared.edit.Edit.{Edit}
-use Rattle.co_edits.specs.declared.edit.Edit.TheVariants as edit
+use Rattle.project_edits.specs.declared.edit.Edit.{Edit}
+use Rattle.project_edits.specs.declared.edit.Edit.TheVariants as edit
 use Rattle.co_project.specs.Project.{Content as Project}
 use Rattle.project_parts.specs.declared.part.Part.{Part}
 use Rattle.project_parts.specs.declared.part.Part.TheVariants as part

@@ -11,7 +11,7 @@ use Rattle.pdo_plan.specs.declared.planned_message.PlannedMessage.{PlannedMessag
 use Rattle.pdo_plan.specs.Plan.{plan_of}
 use Rattle.pdo_links.specs.Writes.{node_writes}
 use Rattle.project_plan.specs.Named.{is_flagged}
-use Rattle.co_parts.specs.declared.roster.Roster.{Roster}
+use Rattle.image_parts.specs.declared.roster.Roster.{Roster}
 use Rattle.eds_device.specs.Entries.{defaults_of, shape_of}
 use Rattle.eds_device.specs.Identity.{identity}
 use Rattle.project_parts.specs.declared.device_at.DeviceAt.{DeviceAt}

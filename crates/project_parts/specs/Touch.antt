@@ -1,7 +1,7 @@
 -- What an edit changes of the inputs of a project's parts.
 use Rattle.std.specs.Prelude.{ℕ, List}
-use Rattle.co_edits.specs.declared.edit.Edit.{Edit}
-use Rattle.co_edits.specs.declared.edit.Edit.TheVariants as edit
+use Rattle.project_edits.specs.declared.edit.Edit.{Edit}
+use Rattle.project_edits.specs.declared.edit.Edit.TheVariants as edit
 use Rattle.project_parts.specs.declared.touch.Touch.{Touch as TheTouch}
 use Rattle.project_parts.specs.declared.touch.Touch.TheVariants as touch
 

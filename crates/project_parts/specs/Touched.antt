@@ -3,9 +3,9 @@ use Rattle.std.specs.Prelude.{ℕ, ◌+◌, ◌*◌, Bool, true, false, ◌==◌
 use Rattle.std.specs.FinMap.{get}
 use Rattle.std.specs.Option.{option_map_or}
 use Rattle.std.specs.Ordering.{eq_by_cmp}
-use Rattle.co_base.specs.Ranges.{is_between}
-use Rattle.co_edits.specs.declared.edit.Edit.{Edit}
-use Rattle.co_messages.specs.Messages.{name_cmp}
+use Rattle.base.specs.Ranges.{is_between}
+use Rattle.project_edits.specs.declared.edit.Edit.{Edit}
+use Rattle.project_messages.specs.Messages.{name_cmp}
 use Rattle.co_project.specs.Project.{Content as Project}
 use Rattle.co_scenario.specs.Scenario.{Events}
 use Rattle.co_scenario.specs.declared.timed_event.TimedEvent.{TimedEvent}

@@ -1,7 +1,7 @@
 //! What the concise DCF of a node is built from.
 
-use co_memo::{Makes, Shared};
-use listed_text::ListedBytes;
+use kept_values::{Makes, Shared};
+use plain_text::ListedBytes;
 use project_plan::NodeWrites;
 
 /// The writes of a node.

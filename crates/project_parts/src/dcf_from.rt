@@ -1,9 +1,9 @@
 //! What the DCF of a node is built from.
 
-use co_base::Octets;
-use co_memo::{Makes, Shared};
+use base::Octets;
 use eds_device::Device;
-use listed_text::ListedText;
+use kept_values::{Makes, Shared};
+use plain_text::ListedText;
 use project_plan::NodeWrites;
 
 /// The device, the name, the writes and the number of a node, and the bit rate in kbit/s.

@@ -6,11 +6,11 @@ ghost use Rattle.project_parts.specs.Offered.{offered_dcf};
 
 use crate::dcf_from::DcfFrom;
 use crate::device_writes::DeviceWrites;
-use co_base::Octets;
-use co_memo::{Offers, Shared};
+use base::Octets;
 use co_project::Project;
 use concise_dcf::same_writes;
-use listed_text::ListedText;
+use kept_values::{Offers, Shared};
+use plain_text::ListedText;
 use std::alloc::{AllocError, Global};
 
 /// The writes of a node with its device, its name and its number, and the bit rate in kbit/s.

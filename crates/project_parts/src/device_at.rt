@@ -2,9 +2,9 @@
 ghost use Rattle.std.specs.Prelude.{◌≡◌, ◌↔◌, IfOk, IsTrue};
 
 use crate::device_parts::DeviceParts;
-use co_memo::{Makes, Offers, Shared};
-use co_parts::Identity;
 use eds_device::Device;
+use image_parts::Identity;
+use kept_values::{Makes, Offers, Shared};
 use std::alloc::{AllocError, Global};
 
 /// The device and the number of a node.

@@ -2,8 +2,8 @@
 ghost use Rattle.std.specs.Prelude.{◌≡◌, IfOk};
 
 use co_dict::{Dict, Shape};
-use co_memo::Shared;
-use co_parts::Identity;
+use image_parts::Identity;
+use kept_values::Shared;
 use std::alloc::{AllocError, Global};
 
 /// What a simulation reads of a node by its device alone: three things that are found together, since they are

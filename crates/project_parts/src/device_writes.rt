@@ -4,8 +4,8 @@ ghost use Rattle.ini_text.specs.Change.{text_of};
 ghost use Rattle.eds_dcf.specs.Dcf.{dcf_sections};
 ghost use Rattle.project_parts.specs.Written.{AreValuesOf};
 
-use co_memo::Shared;
 use eds_device::Device;
+use kept_values::Shared;
 use project_plan::NodeWrites;
 use std::alloc::{AllocError, Global};
 use std::marker::Model;

@@ -1,8 +1,8 @@
 //! What diagnostics are built from.
 
 use crate::diagnostics::Diagnostics;
-use co_memo::{Makes, Shared};
 use co_project::Project;
+use kept_values::{Makes, Shared};
 
 /// The project, which shares its texts with the one that it was copied from. The plan of its messages is
 /// defined by it.

@@ -4,8 +4,8 @@ ghost use Rattle.co_diag.specs.Found.{diagnostics_of};
 
 use crate::diagnostics::Diagnostics;
 use crate::diagnostics_from::DiagnosticsFrom;
-use co_memo::{Offers, Shared};
 use co_project::Project;
+use kept_values::{Offers, Shared};
 use std::alloc::{AllocError, Global};
 
 /// A project with its diagnostics.

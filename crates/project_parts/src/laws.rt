@@ -3,9 +3,9 @@ ghost use Rattle.std.specs.Prelude.{◌≡◌, ℕ, Ok, Some, false, option_and_
 ghost use Rattle.concise_dcf.specs.Concise.{text_of as concise_text};
 ghost use Rattle.ini_text.specs.Change.{text_of};
 ghost use Rattle.eds_dcf.specs.Dcf.{dcf_sections};
-ghost use Rattle.co_edits.specs.declared.edit.Edit.{Edit};
-ghost use Rattle.co_parts.specs.Contents.{BootIs, DefaultsAre, EventsAre, ExpectIs, RosterIs, ShapeIs};
-ghost use Rattle.co_parts.specs.declared.part.Part.TheVariants as asked;
+ghost use Rattle.project_edits.specs.declared.edit.Edit.{Edit};
+ghost use Rattle.image_parts.specs.Contents.{BootIs, DefaultsAre, EventsAre, ExpectIs, RosterIs, ShapeIs};
+ghost use Rattle.image_parts.specs.declared.part.Part.TheVariants as asked;
 ghost use Rattle.co_project.specs.Project.{accept, Content};
 ghost use Rattle.network_image.specs.Image.{image_of, window_steps};
 ghost use Rattle.network_image.specs.Steps.{unless_none};

@@ -1,6 +1,6 @@
 //! The names of parts.
 
-use co_base::Octets;
+use base::Octets;
 
 /// A part of a project that is kept.
 #[derive(Debug, Drop)]

@@ -1,9 +1,9 @@
 //! What the plan of messages is built from.
 
 use crate::node_devices::NodeDevices;
-use co_memo::{Makes, Shared};
-use co_messages::Messages;
+use kept_values::{Makes, Shared};
 use pdo_plan::Plan;
+use project_messages::Messages;
 
 /// The nodes with their devices, and the messages.
 #[derive(Drop)]

@@ -4,9 +4,9 @@ ghost use Rattle.project_parts.specs.Made.{plan_made};
 
 use crate::node_devices::NodeDevices;
 use crate::plan_from::PlanFrom;
-use co_memo::{Offers, Shared};
-use co_messages::Messages;
+use kept_values::{Offers, Shared};
 use pdo_plan::Plan;
+use project_messages::Messages;
 use project_plan::Named;
 use std::alloc::{AllocError, Global};
 

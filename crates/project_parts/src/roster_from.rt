@@ -1,7 +1,7 @@
 //! What the roster is built from.
 
-use co_memo::{Makes, Shared};
-use co_parts::Roster;
+use image_parts::Roster;
+use kept_values::{Makes, Shared};
 
 /// The roster itself: bit rate, manager, when it starts nodes, and node numbers.
 #[derive(Drop)]

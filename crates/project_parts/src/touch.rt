@@ -2,7 +2,7 @@
 ghost use Rattle.std.specs.Prelude.{◌≡◌};
 ghost use Rattle.project_parts.specs.Touch.{shown, touch_of};
 
-use co_edits::Edit;
+use project_edits::Edit;
 
 /// What an edit changes of the inputs of a project's parts.
 #[derive(Clone, Copy)]

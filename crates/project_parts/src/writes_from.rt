@@ -1,9 +1,9 @@
 //! What the writes of a node are built from.
 
 use crate::device_writes::DeviceWrites;
-use co_memo::{Makes, Shared};
-use co_params::Params;
 use eds_device::Device;
+use kept_values::{Makes, Shared};
+use node_parameters::Params;
 use pdo_plan::Plan;
 
 /// The plan, and the parameters, the device and the number of a node.

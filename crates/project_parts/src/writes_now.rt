@@ -3,10 +3,10 @@ ghost use Rattle.pdo_plan.specs.Plan.{IsMadeFor};
 
 use crate::device_writes::DeviceWrites;
 use crate::writes_from::WritesFrom;
-use co_memo::{Offers, Shared};
-use co_params::Params;
 use co_project::Project;
 use eds_device::Device;
+use kept_values::{Offers, Shared};
+use node_parameters::Params;
 use pdo_plan::Plan;
 use project_plan::NodeWrites;
 use std::alloc::{AllocError, Global};

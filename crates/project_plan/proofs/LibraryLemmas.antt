@@ -8,10 +8,10 @@ use Rattle.std.specs.Ordering.{eq_by_cmp}
 use Rattle.std.proofs.lemmas.Cmp.{nat_list_cmp_total}
 use Rattle.std.proofs.lemmas.Map.Lookups.{exact_bytes}
 use Rattle.ini_text.specs.Content.{Content as Device, content_of}
-use Rattle.co_base.proofs.EachLemmas.{each_empty, each_found, each_put}
-use Rattle.co_base.proofs.TableLemmas.{alike, put_again, put_there}
-use Rattle.co_messages.specs.Messages.{name_cmp}
-use Rattle.co_messages.proofs.NameLemmas.{key_cmp, made, value_found, value_in, value_put}
+use Rattle.base.proofs.EachLemmas.{each_empty, each_found, each_put}
+use Rattle.base.proofs.TableLemmas.{alike, put_again, put_there}
+use Rattle.project_messages.specs.Messages.{name_cmp}
+use Rattle.project_messages.proofs.NameLemmas.{key_cmp, made, value_found, value_in, value_put}
 use Rattle.co_project.specs.Project.{Content}
 use Rattle.co_project.specs.Tables.{text_at}
 use Rattle.project_plan.specs.Library.{with_device, AreRead, Devices, IsRead, Read}

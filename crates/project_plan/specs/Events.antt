@@ -4,7 +4,7 @@ use Rattle.std.specs.FinMap.{get}
 use Rattle.std.specs.Result.{result_ok}
 use Rattle.co_dict.specs.Shapes.{Shaped}
 use Rattle.eds_device.specs.Entries.{shape_of}
-use Rattle.co_params.specs.Judgement.{set_bytes}
+use Rattle.node_parameters.specs.Judgement.{set_bytes}
 use Rattle.co_scenario.specs.declared.event.Event.{Event}
 use Rattle.co_scenario.specs.declared.event.Event.TheVariants as event
 use Rattle.co_scenario.specs.declared.step.Step.{Step}

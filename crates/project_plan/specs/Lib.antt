@@ -2,3 +2,9 @@ pub mod Library
 pub mod Named
 pub mod Network
 pub mod Events
+pub mod Values
+pub mod Doubtful
+pub mod Wanted
+pub mod Files
+pub mod Nodes
+pub mod Pdos

@@ -3,9 +3,9 @@ use Rattle.std.specs.Prelude.{◌≡◌, ℕ, List, Some, option_map, refl}
 use Rattle.std.specs.Coded.{Coded, code_by, coded×, coded_ℕ, coded_list}
 use Rattle.std.specs.FinMap.{FinMap, code, get, insert}
 use Rattle.std.specs.Option.{option_map_or}
-use Rattle.co_base.specs.Tables.{Each}
+use Rattle.base.specs.Tables.{Each}
 use Rattle.ini_text.specs.Content.{Content as Device, content_of}
-use Rattle.co_messages.specs.Messages.{name_cmp}
+use Rattle.project_messages.specs.Messages.{name_cmp}
 use Rattle.co_project.specs.Project.{Content}
 use Rattle.co_project.specs.Tables.{text_at}
 

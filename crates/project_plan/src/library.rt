@@ -6,9 +6,9 @@ ghost use Rattle.ini_text.specs.Content.{content_of};
 ghost use Rattle.co_project.specs.Tables.{text_at};
 ghost use Rattle.project_plan.specs.Library.{with_device, IsRead};
 
-use co_memo::Shared;
 use co_project::Project;
 use eds_device::{Device, DeviceFault};
+use kept_values::Shared;
 use std::alloc::{AllocError, Global};
 use std::collections::BTreeMap;
 use std::marker::Model;
@@ -23,7 +23,7 @@ pub struct Library<'a> {
 }
 
 impl<'a> Model for Library<'a> {
-    ghost use Rattle.co_messages.specs.Messages.{by_name};
+    ghost use Rattle.project_messages.specs.Messages.{by_name};
     ghost use Rattle.co_project.specs.contracts.project.Project as held;
     ghost use Rattle.eds_device.specs.contracts.device.Device as device;
     ghost use Rattle.std.specs.FinMap as map;

@@ -1,9 +1,9 @@
 //! The nodes that messages name.
 ghost use Rattle.std.specs.Prelude.{◌≡◌, ◌==◌, ◌||◌, ℕ, false};
-ghost use Rattle.co_messages.specs.Messages.{is_of_messages, is_of_message};
+ghost use Rattle.project_messages.specs.Messages.{is_of_messages, is_of_message};
 ghost use Rattle.project_plan.specs.Named.{is_flagged};
 
-use co_messages::{Linked, Messages};
+use project_messages::{Linked, Messages};
 use std::marker::Model;
 
 /// A flag for each node, set where messages name it. Contracts see the flags by number.

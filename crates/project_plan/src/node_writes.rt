@@ -1,5 +1,6 @@
 //! The writes of a node.
 ghost use Rattle.std.specs.Prelude.{◌≡◌, ◌≤◌, All, length};
+ghost use Rattle.concise_dcf.specs.Writes.{IsSized};
 
 use concise_dcf::Write;
 use std::marker::Model;
@@ -13,6 +14,7 @@ pub struct NodeWrites {
 
 impl Model for NodeWrites {
     ghost use Rattle.std.specs.Prelude.{◌≤◌, All, List, length};
+    ghost use Rattle.concise_dcf.specs.Writes.{IsSized};
     ghost use Rattle.concise_dcf.specs.declared.write.Write.{Write as written};
 
     ghost Value = { List written };
@@ -20,14 +22,14 @@ impl Model for NodeWrites {
     ghost view = { λ node. node.writes.items };
 
     ghost invariant = { λ node. (length node.writes.items ≤ 4294967295)
-        × All (λ w. (1 ≤ length w.bytes) × (length w.bytes ≤ 512)) node.writes.items };
+        × All IsSized node.writes.items };
 }
 
 impl NodeWrites {
     /// These writes.
     pub fn new(writes: Vec<Write>) -> NodeWrites
         requires count { length writes.items ≤ 4294967295 }
-        requires sizes { All (λ w. (1 ≤ length w.bytes) × (length w.bytes ≤ 512)) writes.items }
+        requires sizes { All IsSized writes.items }
         ensures { result ≡ writes.items }
     {
         NodeWrites { writes }
@@ -37,7 +39,7 @@ impl NodeWrites {
     pub fn as_slice(&self) -> &[Write]
         ensures writes { result.now ≡ self.now }
         ensures count { length result.now ≤ 4294967295 }
-        ensures sizes { All (λ w. (1 ≤ length w.bytes) × (length w.bytes ≤ 512)) result.now }
+        ensures sizes { All IsSized result.now }
     {
         &self.writes
     }

@@ -5,8 +5,8 @@ use Rattle.std.proofs.lemmas.Bool.{and_left, lt-leb}
 use Rattle.std.specs.Prelude.{nat_le}
 use Rattle.std.specs.declared.cmp.Ordering.{Ordering}
 use Rattle.std.specs.FinMap.{FinMap, empty, entries, len, len-empty, len-entries}
-use Rattle.co_edits.specs.declared.fault.EditFault.{EditFault}
-use Rattle.co_edits.specs.declared.edit.Edit.{Edit}
+use Rattle.project_edits.specs.declared.fault.EditFault.{EditFault}
+use Rattle.project_edits.specs.declared.edit.Edit.{Edit}
 use Rattle.co_project.specs.Project.{Content, accept, accept_all}
 
 -- edits in two parts

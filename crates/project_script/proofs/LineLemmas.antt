@@ -3,10 +3,10 @@ use Rattle.std.proofs.Common.{◌≡◌, ℕ, List, [], ◌∷◌, ◌++◌, map
 use Rattle.std.specs.FinMap.{entries}
 use Rattle.std.specs.List.{flat_map}
 use Rattle.std.proofs.lemmas.List.Concat.{flat_map-append}
-use Rattle.co_edits.specs.declared.edit.Edit.{Edit}
-use Rattle.co_edits.specs.declared.edit.Edit.TheVariants as edit
-use Rattle.co_messages.specs.declared.linked.Linked.{Linked}
-use Rattle.co_lines.specs.Lines.{text_of}
+use Rattle.project_edits.specs.declared.edit.Edit.{Edit}
+use Rattle.project_edits.specs.declared.edit.Edit.TheVariants as edit
+use Rattle.project_messages.specs.declared.linked.Linked.{Linked}
+use Rattle.project_edits.specs.Lines.{text_of}
 use Rattle.co_project.specs.Project.{Content}
 use Rattle.project_script.specs.Script.{counter_edits, edits, event_edit, message_edits, node_edits, param_edits}
 use Rattle.project_script.specs.Script.{script, settings, sink_edit, source_edit, start_edits, text_edit}

@@ -9,19 +9,19 @@ use Rattle.std.specs.List.{flat_map}
 use Rattle.std.specs.Option.{option_map_or}
 use Rattle.std.specs.Ordering.{nat_cmp}
 use Rattle.std.specs.FinMap.{contains_key, empty, entries, entries_sorted, find, get, get-empty, insert, is_sorted, len}
-use Rattle.co_base.specs.Tables.{Each}
-use Rattle.co_base.proofs.EachLemmas.{all_entries, made_again, one_more, put_all, second_part}
-use Rattle.co_base.proofs.EntryLemmas.{entries_again, put_entries}
-use Rattle.co_base.proofs.TableLemmas.{put_there, put_twice}
-use Rattle.co_messages.specs.declared.linked.Linked.{Linked}
-use Rattle.co_messages.specs.declared.message.Message.{Message}
-use Rattle.co_messages.specs.Messages.{with_changed, is_full_for, linked_to, name_cmp, seat_cmp, with_sink, with_source}
-use Rattle.co_messages.specs.Messages.{with_start}
-use Rattle.co_messages.specs.Messages.{AreSinks, AreSources, IsLinked, Named}
-use Rattle.co_messages.proofs.LimitLemmas.{seats_exact, seats_total}
-use Rattle.co_edits.specs.declared.edit.Edit.TheVariants as edit
-use Rattle.co_edits.specs.declared.fault.EditFault.TheVariants.{Limit, Unknown}
-use Rattle.co_edits.specs.Accepts.{unless}
+use Rattle.base.specs.Tables.{Each}
+use Rattle.base.proofs.EachLemmas.{all_entries, made_again, one_more, put_all, second_part}
+use Rattle.base.proofs.EntryLemmas.{entries_again, put_entries}
+use Rattle.base.proofs.TableLemmas.{put_there, put_twice}
+use Rattle.project_messages.specs.declared.linked.Linked.{Linked}
+use Rattle.project_messages.specs.declared.message.Message.{Message}
+use Rattle.project_messages.specs.Messages.{with_changed, is_full_for, linked_to, name_cmp, seat_cmp, with_sink, with_source}
+use Rattle.project_messages.specs.Messages.{with_start}
+use Rattle.project_messages.specs.Messages.{AreSinks, AreSources, IsLinked, Named}
+use Rattle.project_messages.proofs.LimitLemmas.{seats_exact, seats_total}
+use Rattle.project_edits.specs.declared.edit.Edit.TheVariants as edit
+use Rattle.project_edits.specs.declared.fault.EditFault.TheVariants.{Limit, Unknown}
+use Rattle.project_edits.specs.Accepts.{unless}
 use Rattle.co_project.specs.Project.{Content, accept, accept_all}
 use Rattle.project_script.specs.Script.{message_edits, sink_edit, source_edit, start_edits}
 use Rattle.co_project.specs.Sound.{IsMessageOf}

@@ -15,26 +15,26 @@ use Rattle.std.specs.FinMap.{same_map}
 use Rattle.std.specs.FinMap.Entries.{below_all}
 use Rattle.co_scenario.specs.declared.timed_event.TimedEvent.{TimedEvent}
 use Rattle.co_scenario.specs.Scenario.{Events}
-use Rattle.co_base.proofs.TableLemmas.{put_there, put_twice}
-use Rattle.co_edits.specs.declared.fault.EditFault.TheVariants.{Range, Unknown, Taken, Limit}
-use Rattle.co_edits.specs.declared.script_version.ScriptVersion.{ScriptVersion}
-use Rattle.co_edits.specs.declared.script_version.ScriptVersion.TheVariants.{One, Two}
-use Rattle.co_edits.specs.declared.edit.Edit.{Edit}
-use Rattle.co_edits.specs.declared.edit.Edit.TheVariants as edit
-use Rattle.co_edits.specs.Accepts.{unless}
-use Rattle.co_edits.specs.Versions.{is_one}
+use Rattle.base.proofs.TableLemmas.{put_there, put_twice}
+use Rattle.project_edits.specs.declared.fault.EditFault.TheVariants.{Range, Unknown, Taken, Limit}
+use Rattle.project_edits.specs.declared.script_version.ScriptVersion.{ScriptVersion}
+use Rattle.project_edits.specs.declared.script_version.ScriptVersion.TheVariants.{One, Two}
+use Rattle.project_edits.specs.declared.edit.Edit.{Edit}
+use Rattle.project_edits.specs.declared.edit.Edit.TheVariants as edit
+use Rattle.project_edits.specs.Accepts.{unless}
+use Rattle.project_edits.specs.Versions.{is_one}
 use Rattle.co_dict.proofs.PlaceLemmas.{places_exact, places_total}
-use Rattle.co_params.specs.Params.{Texts as Params, is_full_for}
+use Rattle.node_parameters.specs.Params.{Texts as Params, is_full_for}
 use Rattle.co_project.specs.declared.node.Node.{Node}
 use Rattle.co_project.specs.Tables.{Texts, Nodes, name_taken, has_no_room, node_after_put, with_need, with_param}
 use Rattle.co_project.specs.Project.{Content, first, accept, accept_all, with_nodes}
 use Rattle.project_script.specs.Script.{counter_edits, edits, event_edit, message_edits, need_edits, node_edits}
 use Rattle.project_script.specs.Script.{param_edit, param_edits, settings, text_edit, version_edits}
-use Rattle.co_base.specs.Tables.{Each}
+use Rattle.base.specs.Tables.{Each}
 use Rattle.co_project.specs.Sound.{AreTexts, AreParams, IsNodeOf, IsMessageOf, IsEventOf, IsSound}
-use Rattle.co_base.proofs.EachLemmas.{all_entries, both, each_empty, each_fails, each_found, each_put, each_there}
-use Rattle.co_base.proofs.EachLemmas.{each_weaker, first_part, get-put_all, made_again, none_pass, one_more, put_all}
-use Rattle.co_base.proofs.EachLemmas.{second_part}
+use Rattle.base.proofs.EachLemmas.{all_entries, both, each_empty, each_fails, each_found, each_put, each_there}
+use Rattle.base.proofs.EachLemmas.{each_weaker, first_part, get-put_all, made_again, none_pass, one_more, put_all}
+use Rattle.base.proofs.EachLemmas.{second_part}
 use Rattle.co_project.proofs.NodeLemmas.{same_put}
 use Rattle.project_script.proofs.EditsInTurn.{in_turn, one_then, room, whole_small}
 use Rattle.project_script.proofs.MessagesAgain.{messages_come_again}

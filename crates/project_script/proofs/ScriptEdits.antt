@@ -9,22 +9,23 @@ use Rattle.std.proofs.lemmas.Cmp.{nat_cmp_total, nat_list_cmp_total}
 use Rattle.std.proofs.lemmas.Map.Lookups.{exact_unsigned, exact_bytes}
 use Rattle.co_dict.proofs.PlaceLemmas.{places_exact, places_total}
 use Rattle.co_scenario.specs.declared.timed_event.TimedEvent.{TimedEvent}
-use Rattle.co_messages.specs.declared.linked.Linked.{Linked}
-use Rattle.co_messages.specs.Messages.{is_start, AreSinks, AreSources, IsLinked, IsSink}
-use Rattle.co_edits.specs.declared.edit.Edit.{Edit}
-use Rattle.co_edits.specs.declared.edit.Edit.TheVariants as edit
-use Rattle.co_edits.specs.Eds.{IsEds}
-use Rattle.co_edits.specs.Edits.{IsEdit, IsSetting}
-use Rattle.co_edits.specs.Forms.{is_name, is_node_number, is_sync_counter}
-use Rattle.co_edits.specs.declared.script_version.ScriptVersion.{ScriptVersion}
-use Rattle.co_edits.specs.declared.script_version.ScriptVersion.TheVariants.{One, Two}
+use Rattle.project_messages.specs.declared.linked.Linked.{Linked}
+use Rattle.project_messages.specs.Messages.{is_start, AreSinks, AreSources, IsLinked, IsSink}
+use Rattle.project_edits.specs.declared.edit.Edit.{Edit}
+use Rattle.project_edits.specs.declared.edit.Edit.TheVariants as edit
+use Rattle.project_edits.specs.Eds.{IsEds}
+use Rattle.project_edits.specs.Edits.{IsEdit, IsSetting}
+use Rattle.project_edits.specs.Forms.{is_name, is_sync_counter}
+use Rattle.cia301.specs.Limits.{is_node_number}
+use Rattle.project_edits.specs.declared.script_version.ScriptVersion.{ScriptVersion}
+use Rattle.project_edits.specs.declared.script_version.ScriptVersion.TheVariants.{One, Two}
 use Rattle.co_project.specs.declared.node.Node.{Node}
 use Rattle.co_project.specs.Project.{Content}
 use Rattle.project_script.specs.Script.{counter_edits, edits, event_edit, message_edits, need_edits, node_edits}
 use Rattle.project_script.specs.Script.{param_edit, param_edits, settings, sink_edit, source_edit, start_edits}
 use Rattle.project_script.specs.Script.{text_edit, version_edits}
 use Rattle.co_project.specs.Sound.{AreTexts, AreParams, IsNodeOf, IsMessageOf, IsEventOf, IsSound}
-use Rattle.co_base.proofs.EachLemmas.{all_entries}
+use Rattle.base.proofs.EachLemmas.{all_entries}
 
 module _ {X Y : Type 0} (P : Y → Type 0) (f : X → List Y) where
   -- what holds of each element of each list holds of each of them all

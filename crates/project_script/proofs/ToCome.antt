@@ -6,8 +6,8 @@ use Rattle.std.specs.declared.cmp.Ordering.{Ordering}
 use Rattle.std.specs.Cmp.{IsTotalOrder, tied_itself}
 use Rattle.std.specs.Ordering.{eq_by_cmp, is_eq}
 use Rattle.std.specs.FinMap.{FinMap, find, get, get-insert, insert, is_sorted}
-use Rattle.co_base.proofs.EachLemmas.{find_below, first_part}
-use Rattle.co_base.proofs.TableLemmas.{alike}
+use Rattle.base.proofs.EachLemmas.{find_below, first_part}
+use Rattle.base.proofs.TableLemmas.{alike}
 
 module _ {K X : Type 0} {R : K → K → Ordering} (P : X → Option X → Type 0) where
   -- what holds of each of them and what the table has at its key now

@@ -3,12 +3,12 @@ use Rattle.std.specs.Prelude.{ℕ, Bool, ◌==◌, List, [], ◌∷◌, ◌++◌
 use Rattle.std.specs.List.{flat_map}
 use Rattle.std.specs.FinMap.{entries}
 use Rattle.co_scenario.specs.declared.timed_event.TimedEvent.{TimedEvent}
-use Rattle.co_edits.specs.declared.script_version.ScriptVersion.{ScriptVersion}
-use Rattle.co_edits.specs.declared.script_version.ScriptVersion.TheVariants.{One, Two}
-use Rattle.co_edits.specs.declared.edit.Edit.{Edit}
-use Rattle.co_edits.specs.declared.edit.Edit.TheVariants as edit
-use Rattle.co_messages.specs.declared.linked.Linked.{Linked}
-use Rattle.co_lines.specs.Lines.{text_of}
+use Rattle.project_edits.specs.declared.script_version.ScriptVersion.{ScriptVersion}
+use Rattle.project_edits.specs.declared.script_version.ScriptVersion.TheVariants.{One, Two}
+use Rattle.project_edits.specs.declared.edit.Edit.{Edit}
+use Rattle.project_edits.specs.declared.edit.Edit.TheVariants as edit
+use Rattle.project_messages.specs.declared.linked.Linked.{Linked}
+use Rattle.project_edits.specs.Lines.{text_of}
 use Rattle.co_project.specs.declared.node.Node.{Node}
 use Rattle.co_project.specs.Project.{Content}
 

@@ -1,6 +1,6 @@
 //! Laws of the script of a project.
 ghost use Rattle.std.specs.Prelude.{◌≡◌, All, Ok};
-ghost use Rattle.co_edits.specs.Edits.{IsEdit};
+ghost use Rattle.project_edits.specs.Edits.{IsEdit};
 ghost use Rattle.co_project.specs.Project.{Content, first, accept_all};
 ghost use Rattle.co_project.specs.Sound.{IsSound};
 ghost use Rattle.project_script.specs.Script.{edits};

@@ -2,22 +2,21 @@
 ghost use Rattle.std.specs.Prelude.{◌≡◌, ◌++◌, IfOk, OnOk, map};
 ghost use Rattle.std.specs.FinMap.{entries};
 ghost use Rattle.std.specs.List.{flat_map};
-ghost use Rattle.co_lines.specs.Lines.{text_of};
-ghost use Rattle.co_messages.specs.Messages.{IsLinked};
+ghost use Rattle.project_edits.specs.Lines.{text_of};
+ghost use Rattle.project_messages.specs.Messages.{IsLinked};
 ghost use Rattle.co_project.specs.Sound.{IsSound};
 ghost use Rattle.project_script.specs.Script.{counter_edits, event_edit, message_edits, need_edits, node_edits};
 ghost use Rattle.project_script.specs.Script.{param_edit, param_edits, script, settings, sink_edit, source_edit};
 ghost use Rattle.project_script.specs.Script.{start_edits, text_edit, version_edits};
 
-use co_edits::ScriptVersion;
-use co_lines::{
-    write_bitrate, write_eds, write_event, write_horizon, write_manager, write_message, write_need,
-    write_node, write_param, write_sink, write_source, write_start, write_sync_counter,
-    write_version,
-};
-use co_messages::{Linked, Messages, Sinks, Sources};
 use co_project::{Node, Params, Project};
 use co_scenario::Script;
+use project_edits::{
+    ScriptVersion, write_bitrate, write_eds, write_event, write_horizon, write_manager,
+    write_message, write_need, write_node, write_param, write_sink, write_source, write_start,
+    write_sync_counter, write_version,
+};
+use project_messages::{Linked, Messages, Sinks, Sources};
 use std::alloc::{AllocError, Global};
 
 /// Writes the command of the version, where it isn't that of the first project.
@@ -170,7 +169,7 @@ fn write_sinks(
 }
 
 /// Writes the commands that make a message with its SYNC start value, its sources and its sinks.
-#[tactic(auto, using(crate::proofs::LineLemmas::linked_parts), unfolding(co_messages::specs::Messages::IsLinked, co_messages::specs::Messages::IsMessage))]
+#[tactic(auto, using(crate::proofs::LineLemmas::linked_parts), unfolding(project_messages::specs::Messages::IsLinked, project_messages::specs::Messages::IsMessage))]
 fn write_linked(
     out: &mut Vec<u8>,
     alloc: Global,

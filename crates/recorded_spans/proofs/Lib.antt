@@ -1,2 +1,5 @@
 pub mod SpanLemmas
 mod MatchLemmas
+pub mod NumberLemmas
+pub mod KnownLemmas
+pub mod OnceLemmas

@@ -1,8 +1,8 @@
 -- Whether an image has all that was recorded.
 use Rattle.std.proofs.Common.{below_more, ◌≡◌, ℕ, zero, suc, ◌+◌, ◌<◌, List, [], ◌∷◌, length, get_or, arith}
-use Rattle.asking.specs.Asking.{Agrees}
-use Rattle.co_parts.specs.Contents.{Image}
-use Rattle.kept_reads.specs.Reads.{Recorded, plain}
+use Rattle.image_parts.specs.Asking.{Agrees}
+use Rattle.image_parts.specs.Contents.{Image}
+use Rattle.recorded_spans.specs.Reads.{Recorded, plain}
 
 abbrev pub HasRead : Image → Recorded → Type 0
 HasRead image r = image r.name ≡ r.content

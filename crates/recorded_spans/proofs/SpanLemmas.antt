@@ -1,13 +1,13 @@
 -- A span from due moment to due moment.
 use Rattle.std.proofs.Common.{◌≡◌, ℕ, zero, suc, ◌+◌, ◌*◌, ◌-◌, ◌<◌, ◌≤◌, [], ◌++◌, refl, ap, ◌∙◌, arith}
 use Rattle.std.proofs.lemmas.List.{append-nil}
-use Rattle.asking.specs.Asking.{Answer, Seen, outcome, reads, after_reads, turns}
-use Rattle.asking.proofs.DueLemmas.{turns_keep}
-use Rattle.asking.proofs.QuestionLemmas.{outcome_bind, reads_bind, followed_bind}
-use Rattle.asking.proofs.LoopLemmas.{jumped, jumped_seen}
-use Rattle.co_parts.specs.Contents.{Content, Image}
-use Rattle.co_parts.specs.Images.{IsImage}
-use Rattle.co_parts.specs.declared.part.Part.{Part}
+use Rattle.image_parts.specs.Asking.{Answer, Seen, outcome, reads, after_reads, turns}
+use Rattle.image_parts.proofs.DueLemmas.{turns_keep}
+use Rattle.image_parts.proofs.QuestionLemmas.{outcome_bind, reads_bind, followed_bind}
+use Rattle.image_parts.proofs.LoopLemmas.{jumped, jumped_seen}
+use Rattle.image_parts.specs.Contents.{Content, Image}
+use Rattle.image_parts.specs.Images.{IsImage}
+use Rattle.image_parts.specs.declared.part.Part.{Part}
 use Rattle.can_bus.specs.Bus.{Bus, instant, power_on}
 use Rattle.can_bus.specs.Dues.{IsJustBefore, next_due}
 use Rattle.can_bus.proofs.DueLemmas.{from_due, parts_from}

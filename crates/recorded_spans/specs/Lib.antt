@@ -1,1 +1,4 @@
 pub mod Spans
+pub mod Numbers
+pub mod Reads
+pub mod Records

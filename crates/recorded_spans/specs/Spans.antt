@@ -1,7 +1,7 @@
 -- The spans of a trace.
 use Rattle.std.specs.Prelude.{ℕ, ◌*◌, ◌<◌, List}
-use Rattle.asking.specs.Asking.{outcome, turns}
-use Rattle.co_parts.specs.Contents.{Image}
+use Rattle.image_parts.specs.Asking.{outcome, turns}
+use Rattle.image_parts.specs.Contents.{Image}
 use Rattle.can_bus.specs.Bus.{Bus, blank_bus}
 use Rattle.can_bus.specs.Dues.{IsJustBefore}
 use Rattle.can_bus.specs.declared.line.Line.{Line}

@@ -3,7 +3,7 @@
 ghost use Rattle.std.specs.Prelude.{◌≡◌, ◌≤◌, ◌+◌, IfOk, OnOk};
 
 use can_bus::Parts;
-use co_parts::{Part, PartContent};
+use image_parts::{Part, PartContent};
 use std::alloc::AllocError;
 
 /// Asks for the part of a name.

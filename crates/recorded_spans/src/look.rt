@@ -3,9 +3,9 @@
 ghost use Rattle.std.specs.Prelude.{◌≡◌, []};
 
 use crate::place::Place;
-use co_parts::Window;
+use crate::reads_now::ReadsNow;
 use co_scenario::{Step, TimedStep};
-use kept_reads::ReadsNow;
+use image_parts::Window;
 use std::alloc::Global;
 use std::rc::Rc;
 

@@ -1,16 +1,16 @@
 //! Whether an image has what was recorded.
 
 ghost use Rattle.std.specs.Prelude.{◌≡◌, ◌≤◌, ◌+◌, ◌↔◌, ℕ, length, IfOk, OnOk, IsTrue};
-ghost use Rattle.asking.specs.Asking.{Agrees};
-ghost use Rattle.co_parts.specs.Contents.{Content};
-ghost use Rattle.co_parts.specs.declared.part.Part.TheVariants.{Events};
-ghost use Rattle.kept_reads.specs.Reads.{AreKnown, AreMarked, Extends, IsMarked, plain};
+ghost use Rattle.image_parts.specs.Asking.{Agrees};
+ghost use Rattle.image_parts.specs.Contents.{Content};
+ghost use Rattle.image_parts.specs.declared.part.Part.TheVariants.{Events};
+ghost use Rattle.recorded_spans.specs.Reads.{AreKnown, AreMarked, Extends, IsMarked, plain};
 
 use crate::handing::ask;
+use crate::kept_read::KeptRead;
 use crate::look::Look;
 use can_bus::Parts;
-use co_parts::{Part, PartContent};
-use kept_reads::KeptRead;
+use image_parts::{Part, PartContent};
 use std::alloc::{AllocError, Global};
 
 /// Whether the image has the recorded events of a window, which aren't known yet: asks for them. They are read in that

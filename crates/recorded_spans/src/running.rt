@@ -1,18 +1,19 @@
 //! A span that is run, and recorded.
 
 ghost use Rattle.std.specs.Prelude.{◌≡◌, ◌≤◌, ◌+◌, ℕ, length, IfOk, OnOk};
-ghost use Rattle.asking.specs.Asking.{outcome, reads};
+ghost use Rattle.image_parts.specs.Asking.{outcome, reads};
 ghost use Rattle.bus_laws.specs.Spans.{span};
-ghost use Rattle.co_parts.specs.Contents.{Content};
-ghost use Rattle.co_parts.specs.Images.{IsImage};
-ghost use Rattle.kept_reads.specs.Reads.{AreKnown, AreMarked, Extends, plain};
-ghost use Rattle.kept_reads.specs.Records.{IsRecordOf};
+ghost use Rattle.image_parts.specs.Contents.{Content};
+ghost use Rattle.image_parts.specs.Images.{IsImage};
+ghost use Rattle.recorded_spans.specs.Reads.{AreKnown, AreMarked, Extends, plain};
+ghost use Rattle.recorded_spans.specs.Records.{IsRecordOf};
 ghost use Rattle.recorded_spans.specs.Spans.{IsReady};
 
+use crate::kept_read::KeptRead;
 use crate::look::Look;
+use crate::recording::recorded;
 use crate::spans::run_span;
 use can_bus::{BusState, Lines, Parts};
-use kept_reads::{KeptRead, recorded};
 use std::alloc::{AllocError, Global};
 use trace_text::Passage;
 

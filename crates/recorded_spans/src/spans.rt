@@ -1,15 +1,15 @@
 //! A span, run over its due moments.
 
 ghost use Rattle.std.specs.Prelude.{◌≡◌, ◌≤◌, ◌<◌, ◌-◌, ◌*◌, ◌++◌, ◌+◌, length, IfOk, OnOk};
-ghost use Rattle.asking.specs.Asking.{outcome, after_reads, reads, turns};
+ghost use Rattle.image_parts.specs.Asking.{outcome, after_reads, reads, turns};
 ghost use Rattle.can_bus.specs.Bus.{instant};
 ghost use Rattle.can_bus.specs.Dues.{IsJustBefore};
-ghost use Rattle.co_parts.specs.Images.{IsImage};
+ghost use Rattle.image_parts.specs.Images.{IsImage};
 ghost use Rattle.bus_laws.specs.Spans.{span};
 ghost use Rattle.recorded_spans.specs.Spans.{IsReady};
 
 use can_bus::{BusState, Lines, Parts};
-use co_parts::{END, WINDOW};
+use image_parts::{END, WINDOW};
 use std::alloc::{AllocError, Global};
 
 /// The instants from a moment on before the end.

@@ -10,8 +10,8 @@ use Rattle.std.proofs.lemmas.List.Elements.{All-head, All-same, All-tail, filter
 use Rattle.can_bus.specs.Lines.{line_time, lines_text}
 use Rattle.can_bus.specs.Runs.{is_shown}
 use Rattle.can_bus.specs.declared.line.Line.{Line}
-use Rattle.co_text.specs.Lines.{line_count}
-use Rattle.listed_text.proofs.Counts.{line_count-append}
+use Rattle.plain_text.specs.Lines.{line_count}
+use Rattle.plain_text.proofs.Counts.{line_count-append}
 use Rattle.trace_text.specs.Passages.{joined, latest}
 
 -- ---- what is shown

@@ -7,7 +7,7 @@ ghost use Rattle.trace_text.specs.Passages.{joined};
 
 use crate::passage::Passage;
 use can_bus::Line;
-use co_memo::Shared;
+use kept_values::Shared;
 use std::alloc::{AllocError, Global};
 
 /// A copy of the lines of passages. Takes time and memory by their number.

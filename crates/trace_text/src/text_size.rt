@@ -2,11 +2,11 @@
 
 ghost use Rattle.std.specs.Prelude.{◌≡◌, IfSome, length};
 ghost use Rattle.can_bus.specs.Lines.{lines_text};
-ghost use Rattle.co_text.specs.Lines.{line_count};
+ghost use Rattle.plain_text.specs.Lines.{line_count};
 ghost use Rattle.trace_text.specs.Passages.{joined};
 
 use crate::passage::Passage;
-use co_memo::Shared;
+use kept_values::Shared;
 
 /// The size of a text.
 pub(crate) struct TextSize {

@@ -2,13 +2,13 @@
 use Rattle.std.proofs.Common.{◌≡◌, ◌≢◌, ℕ, zero, suc, true, false, List, [], ◌∷◌, ◌++◌, Option, Some, None, Result, Ok}
 use Rattle.std.proofs.Common.{Err, refl}
 use Rattle.std.specs.Prelude.{if◌then◌else◌, ◌-◌}
-use Rattle.co_text.specs.Blanks.{trim_end}
-use Rattle.co_text.specs.Lines.{is_cr}
-use Rattle.co_edits.specs.declared.fault.EditFault.{EditFault}
-use Rattle.co_edits.specs.declared.edit.Edit.{Edit}
-use Rattle.co_commands.specs.declared.request.Request.{Request}
-use Rattle.co_commands.specs.declared.request.Request.TheVariants.{Edit as EditAsked, Query as QueryAsked, Block}
-use Rattle.co_commands.specs.Requests.{request}
+use Rattle.plain_text.specs.Blanks.{trim_end}
+use Rattle.plain_text.specs.Lines.{is_cr}
+use Rattle.project_edits.specs.declared.fault.EditFault.{EditFault}
+use Rattle.project_edits.specs.declared.edit.Edit.{Edit}
+use Rattle.script_commands.specs.declared.request.Request.{Request}
+use Rattle.script_commands.specs.declared.request.Request.TheVariants.{Edit as EditAsked, Query as QueryAsked, Block}
+use Rattle.script_commands.specs.Requests.{request}
 use Rattle.co_project.specs.Project.{Content, accept}
 use Rattle.workbench.specs.Queries.{answer}
 use Rattle.workbench.specs.Replies.{OpenBlock, State, After, ok_reply, without_reply, after_verdict, after_edit}

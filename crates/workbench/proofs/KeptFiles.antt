@@ -3,8 +3,8 @@ use Rattle.std.proofs.Common.{◌≡◌, ℕ, List, true, Option, Some, None, If
 use Rattle.std.proofs.Common.{refl, ap, subst, ◌∙◌}
 use Rattle.std.specs.FinMap.{contains_key}
 use Rattle.ini_text.specs.Content.{content_of}
-use Rattle.co_memo.specs.Shelved.{kept_at}
-use Rattle.co_memo.proofs.Brought.{option_map_back}
+use Rattle.kept_values.specs.Shelved.{kept_at}
+use Rattle.kept_values.proofs.Brought.{option_map_back}
 use Rattle.co_project.specs.declared.node.Node.{Node}
 use Rattle.co_project.specs.Project.{Content}
 use Rattle.co_project.specs.Tables.{node_at, text_at}

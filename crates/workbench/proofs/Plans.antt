@@ -4,8 +4,8 @@ use Rattle.ini_text.specs.Change.{text_of}
 use Rattle.eds_dcf.specs.Dcf.{dcf_sections}
 use Rattle.project_plan.specs.Network.{Member, writes_of}
 use Rattle.co_project.specs.Project.{Content}
-use Rattle.file_laws.specs.Files.{dcf_text}
-use Rattle.file_laws.specs.Nodes.{IsSoundNode}
+use Rattle.project_plan.specs.Files.{dcf_text}
+use Rattle.project_plan.specs.Nodes.{IsSoundNode}
 use Rattle.workbench.specs.Queries.{dcf_of}
 
 -- it is the text of which the laws of files speak

@@ -1,7 +1,7 @@
 -- The replies at the end of the input: those to a last line, and then to an open block.
 use Rattle.std.proofs.Common.{◌≡◌, ℕ, List, ◌++◌, Result, Err, subst}
-use Rattle.co_streams.specs.declared.fault.SessionFault.{SessionFault}
-use Rattle.co_streams.specs.declared.outlet.Outlet.{Ghosts as Outlet}
+use Rattle.streams.specs.declared.fault.SessionFault.{SessionFault}
+use Rattle.streams.specs.declared.outlet.Outlet.{Ghosts as Outlet}
 use Rattle.workbench.specs.Replies.{After, cut_off}
 use Rattle.workbench.specs.Machine.{Cursor, last_line, at_end}
 use Rattle.workbench.specs.Written.{Puts}

@@ -6,12 +6,12 @@ use Rattle.std.specs.List.{concat}
 use Rattle.std.specs.Io.KnownBytes.{Appends}
 use Rattle.std.proofs.KnownBytes.{Appends-trans}
 use Rattle.std.proofs.lemmas.Result.{on_ok_weaker}
-use Rattle.co_streams.specs.declared.fault.SessionFault.{SessionFault}
-use Rattle.co_streams.specs.declared.fault.SessionFault.TheVariants.{Memory, Read, Write}
-use Rattle.co_streams.specs.declared.outlet.Outlet.{Ghosts as Outlet}
-use Rattle.co_streams.specs.Streams.{OneFailed}
-use Rattle.co_streams.specs.Written.{Took, Posts}
-use Rattle.co_streams.proofs.Posted.{posts_none, sent_front}
+use Rattle.streams.specs.declared.fault.SessionFault.{SessionFault}
+use Rattle.streams.specs.declared.fault.SessionFault.TheVariants.{Memory, Read, Write}
+use Rattle.streams.specs.declared.outlet.Outlet.{Ghosts as Outlet}
+use Rattle.streams.specs.Streams.{OneFailed}
+use Rattle.streams.specs.Written.{Took, Posts}
+use Rattle.streams.proofs.Posted.{posts_none, sent_front}
 use Rattle.workbench.specs.Written.{Puts, PostsFirst, WroteAll, WroteFirst}
 use Rattle.workbench.proofs.Runs.{posts_replies, posts_front_of, took_first, front_more}
 

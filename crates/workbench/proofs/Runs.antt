@@ -5,11 +5,11 @@ use Rattle.std.proofs.Common.{subst, arith}
 use Rattle.std.proofs.lemmas.Bool.{ltb-true, ltb-false, true≢false}
 use Rattle.std.proofs.KnownBytes.{Appends-trans}
 use Rattle.std.specs.List.{concat, position_or_len}
-use Rattle.co_text.specs.Lines.{split_once}
+use Rattle.plain_text.specs.Lines.{split_once}
 use Rattle.workbench.specs.Replies.{After, State, after_line}
 use Rattle.workbench.specs.Machine.{Cursor, after, after_byte, at_break, joined}
-use Rattle.co_streams.specs.Written.{Took, Posts}
-use Rattle.co_streams.proofs.Posted.{posts_then, posts_front, took_more}
+use Rattle.streams.specs.Written.{Took, Posts}
+use Rattle.streams.proofs.Posted.{posts_then, posts_front, took_more}
 use Rattle.workbench.specs.Written.{WroteAll}
 
 pub after-append : (s : Cursor) (xs ys : List ℕ)

@@ -3,11 +3,11 @@ use Rattle.std.proofs.Common.{◌≡◌, ◌≤◌, ◌<◌, ◌+◌, ℕ, true,
 use Rattle.std.proofs.Common.{length, refl, subst, ◌∙◌, arith}
 use Rattle.std.proofs.KnownBytes.{Appends-nil}
 use Rattle.std.specs.Io.KnownBytes.{Consumes, IsAtEnd, Keeps}
-use Rattle.co_streams.specs.declared.fault.SessionFault.{SessionFault}
-use Rattle.co_streams.specs.declared.fault.SessionFault.TheVariants.{Memory, Read, Write}
-use Rattle.co_streams.specs.declared.intake.Intake.{Ghosts as Intake}
-use Rattle.co_streams.specs.declared.outlet.Outlet.{Ghosts as Outlet}
-use Rattle.co_streams.specs.Streams.{CountsOne, OneFailed}
+use Rattle.streams.specs.declared.fault.SessionFault.{SessionFault}
+use Rattle.streams.specs.declared.fault.SessionFault.TheVariants.{Memory, Read, Write}
+use Rattle.streams.specs.declared.intake.Intake.{Ghosts as Intake}
+use Rattle.streams.specs.declared.outlet.Outlet.{Ghosts as Outlet}
+use Rattle.streams.specs.Streams.{CountsOne, OneFailed}
 use Rattle.workbench.specs.declared.serving.TheConstants.{LIMIT}
 use Rattle.workbench.specs.Replies.{replies, complete_replies}
 use Rattle.workbench.specs.Machine.{Cursor, first_cursor, after, at_end}

@@ -6,10 +6,10 @@ use Rattle.can_bus.specs.declared.line.Line.{Line}
 use Rattle.co_project.specs.Project.{Content}
 use Rattle.co_segments.specs.Segments.{HasRun, Held, Traced}
 use Rattle.network_image.specs.Image.{image_of}
-use Rattle.co_memo.specs.Stale.{AreBrought}
-use Rattle.co_memo.specs.Work.{Work}
-use Rattle.co_commands.specs.declared.query.Query.{Query}
-use Rattle.co_commands.specs.declared.query.Query.TheVariants.{Dcf, Cdcf, Diag, Trace, Project}
+use Rattle.kept_values.specs.Stale.{AreBrought}
+use Rattle.kept_values.specs.Work.{Work}
+use Rattle.script_commands.specs.declared.query.Query.{Query}
+use Rattle.script_commands.specs.declared.query.Query.TheVariants.{Dcf, Cdcf, Diag, Trace, Project}
 use Rattle.project_parts.specs.declared.part.Part.TheVariants as part
 use Rattle.kept_parts.specs.Kept.{held, IsOf}
 use Rattle.kept_parts.specs.Left.{left_of, IsSwept}

@@ -4,10 +4,10 @@ use Rattle.std.specs.Prelude.{ℕ, List, Option, Some, None, option_map, Result,
 use Rattle.ini_text.specs.Change.{text_of}
 use Rattle.concise_dcf.specs.Concise.{text_of as concise_text}
 use Rattle.eds_dcf.specs.Dcf.{dcf_sections}
-use Rattle.co_edits.specs.declared.fault.EditFault.{EditFault}
-use Rattle.co_edits.specs.declared.fault.EditFault.TheVariants.{Unknown}
-use Rattle.co_commands.specs.declared.query.Query.{Query}
-use Rattle.co_commands.specs.declared.query.Query.TheVariants.{Dcf, Cdcf, Diag, Trace, Project}
+use Rattle.project_edits.specs.declared.fault.EditFault.{EditFault}
+use Rattle.project_edits.specs.declared.fault.EditFault.TheVariants.{Unknown}
+use Rattle.script_commands.specs.declared.query.Query.{Query}
+use Rattle.script_commands.specs.declared.query.Query.TheVariants.{Dcf, Cdcf, Diag, Trace, Project}
 use Rattle.co_project.specs.Project.{Content}
 use Rattle.project_script.specs.Script.{script}
 use Rattle.can_bus.specs.Lines.{lines_text}
@@ -17,7 +17,7 @@ use Rattle.network_image.specs.Image.{image_of}
 use Rattle.co_diag.specs.Found.{diagnostics_of}
 use Rattle.diag_lines.specs.Lines.{diag_text}
 use Rattle.project_plan.specs.Network.{Member, member_at, writes_of}
-use Rattle.listed_text.specs.Hex.{hex_text}
+use Rattle.plain_text.specs.Hex.{hex_text}
 
 -- what is named isn't there
 abbrev pub or_unknown : {X : Type 0} → Option X → Result X EditFault

@@ -2,11 +2,11 @@
 use Rattle.std.specs.Prelude.{◌≡◌, ◌≢◌, ◌<◌, ◌≤◌, ◌+◌, ◌++◌, ◌⊎◌, ℕ, true, List, length, take, Result, Err, OnOk, IfSome}
 use Rattle.std.specs.Prelude.{IsErrOf}
 use Rattle.std.specs.Io.KnownBytes.{Consumes, IsAtEnd}
-use Rattle.co_streams.specs.declared.fault.SessionFault.{SessionFault}
-use Rattle.co_streams.specs.declared.fault.SessionFault.TheVariants.{Memory, Read, Write}
-use Rattle.co_streams.specs.declared.intake.Intake.{Ghosts as Intake}
-use Rattle.co_streams.specs.declared.outlet.Outlet.{Ghosts as Outlet}
-use Rattle.co_streams.specs.Streams.{OneFailed}
+use Rattle.streams.specs.declared.fault.SessionFault.{SessionFault}
+use Rattle.streams.specs.declared.fault.SessionFault.TheVariants.{Memory, Read, Write}
+use Rattle.streams.specs.declared.intake.Intake.{Ghosts as Intake}
+use Rattle.streams.specs.declared.outlet.Outlet.{Ghosts as Outlet}
+use Rattle.streams.specs.Streams.{OneFailed}
 use Rattle.workbench.specs.declared.serving.TheConstants.{LIMIT}
 use Rattle.workbench.specs.Replies.{replies as replies_to, complete_replies}
 use Rattle.workbench.specs.Written.{WroteAll, WroteFirst, WroteFront, WroteAtLeast}

@@ -1,11 +1,11 @@
 -- Private: what the structs of a session hold, without where it lies in memory.
 use Rattle.std.specs.Prelude.{◌≡◌, ℕ, List, [], ◌∷◌, Option, Some, None, Result, Ok, Err}
-use Rattle.co_edits.specs.declared.fault.EditFault.{EditFault}
-use Rattle.co_edits.specs.declared.fault.EditFault.TheVariants.{Memory}
-use Rattle.co_edits.specs.Eds.{block_lines}
-use Rattle.co_edits.specs.Faults.{refusal_text}
+use Rattle.project_edits.specs.declared.fault.EditFault.{EditFault}
+use Rattle.project_edits.specs.declared.fault.EditFault.TheVariants.{Memory}
+use Rattle.project_edits.specs.Eds.{block_lines}
+use Rattle.project_edits.specs.Faults.{refusal_text}
 use Rattle.co_project.specs.Project.{Content}
-use Rattle.listed_text.specs.Replies.{lines_reply}
+use Rattle.plain_text.specs.Replies.{lines_reply}
 use Rattle.workbench.specs.Texts.{text_of}
 use Rattle.workbench.specs.declared.cursor.Cursor.{Cursor as TheCursor}
 use Rattle.workbench.specs.declared.open_block.OpenBlock.{OpenBlock as TheBlock}

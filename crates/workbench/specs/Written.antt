@@ -2,11 +2,11 @@
 use Rattle.std.specs.Prelude.{◌≡◌, ◌≢◌, ℕ, true, List, ◌++◌, Option, Result, Err, OnOk, IsErrOf}
 use Rattle.std.specs.List.{concat}
 use Rattle.std.specs.Io.KnownBytes.{Appends}
-use Rattle.co_streams.specs.declared.fault.SessionFault.{SessionFault}
-use Rattle.co_streams.specs.declared.fault.SessionFault.TheVariants.{Memory, Read, Write}
-use Rattle.co_streams.specs.declared.outlet.Outlet.{Ghosts as Outlet}
-use Rattle.co_streams.specs.Streams.{OneFailed}
-use Rattle.co_streams.specs.Written.{Took, Posts}
+use Rattle.streams.specs.declared.fault.SessionFault.{SessionFault}
+use Rattle.streams.specs.declared.fault.SessionFault.TheVariants.{Memory, Read, Write}
+use Rattle.streams.specs.declared.outlet.Outlet.{Ghosts as Outlet}
+use Rattle.streams.specs.Streams.{OneFailed}
+use Rattle.streams.specs.Written.{Took, Posts}
 
 -- these replies were written, and nothing else
 abbrev pub WroteAll : Option (List ℕ) → Option (List ℕ) → List (List ℕ) → Type 0

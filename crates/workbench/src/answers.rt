@@ -1,10 +1,10 @@
 //! Answers with their replies.
 ghost use Rattle.std.specs.Prelude.{◌≡◌};
-ghost use Rattle.listed_text.specs.Replies.{lines_reply};
+ghost use Rattle.plain_text.specs.Replies.{lines_reply};
 ghost use Rattle.workbench.specs.Texts.{text_of};
 
-use co_memo::Shared;
-use listed_text::{ListedBytes, ListedText};
+use kept_values::Shared;
+use plain_text::{ListedBytes, ListedText};
 use project_parts::Diagnostics;
 
 /// The answer to a query, with the reply that shows its lines. What is kept is shared, not copied.

@@ -1,18 +1,18 @@
 //! The files of a node.
 ghost use Rattle.std.specs.Prelude.{◌≡◌, IfOk, IsTrue, OnOk, Some, is_some};
-ghost use Rattle.co_memo.specs.Stale.{AreBrought};
+ghost use Rattle.kept_values.specs.Stale.{AreBrought};
 ghost use Rattle.project_plan.specs.Network.{member_at};
 ghost use Rattle.kept_parts.specs.Kept.{held, IsOf};
 ghost use Rattle.kept_parts.specs.Left.{left_of, IsSwept};
 ghost use Rattle.project_parts.specs.Given.{given, same_part};
 ghost use Rattle.project_parts.specs.Reached.{reached};
 ghost use Rattle.workbench.specs.Queries.{concise_of, dcf_of};
-ghost use Rattle.co_memo.specs.Work.{Rises};
+ghost use Rattle.kept_values.specs.Work.{Rises};
 
-use co_memo::{Meter, Shared};
 use co_project::Project;
 use kept_parts::KeptParts;
-use listed_text::{ListedBytes, ListedText};
+use kept_values::{Meter, Shared};
+use plain_text::{ListedBytes, ListedText};
 use project_parts::Part;
 use std::alloc::AllocError;
 

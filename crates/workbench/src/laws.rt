@@ -1,11 +1,11 @@
 //! Laws of answers, and of replies in the words of inputs and lines.
 ghost use Rattle.std.specs.Prelude.{◌≡◌, ◌≢◌, ◌++◌, ◌∷◌, [], ℕ, List, None, Some, false, map};
-ghost use Rattle.co_text.specs.Lines.{lines_of};
+ghost use Rattle.plain_text.specs.Lines.{lines_of};
 ghost use Rattle.co_project.specs.Project.{Content};
 ghost use Rattle.project_script.specs.Script.{edits, script};
 ghost use Rattle.co_project.specs.Sound.{IsSound};
-ghost use Rattle.file_laws.specs.Files.{dcf_text};
-ghost use Rattle.file_laws.specs.Nodes.{IsSoundNode};
+ghost use Rattle.project_plan.specs.Files.{dcf_text};
+ghost use Rattle.project_plan.specs.Nodes.{IsSoundNode};
 ghost use Rattle.project_plan.specs.Network.{Member};
 ghost use Rattle.kept_parts.specs.Left.{HoldsNoneGone};
 ghost use Rattle.project_parts.specs.declared.part.Part.{Part};
@@ -15,10 +15,12 @@ ghost use Rattle.workbench.specs.Lines.{AreLines, has_break, with_breaks, if_som
 ghost use Rattle.workbench.specs.Replies.{State, start, ok_reply, after_line, after_lines, replies, replies_to_lines};
 ghost use Rattle.workbench.specs.Replies.{complete_replies};
 
-use co_commands::laws::{printed_blocks_are_read, printed_edits_are_lines, printed_lines_are_read};
 use project_script::laws::{script_has_edits, script_makes_the_project_again};
+use script_commands::laws::{
+    printed_blocks_are_read, printed_edits_are_lines, printed_lines_are_read,
+};
 
-/// What `dcf` prints of a node of a sound project is the text of which the laws of `file_laws` speak.
+/// What `dcf` prints of a node of a sound project is the text of which the laws of `project_plan` speak.
 #[tactic(auto, using(crate::proofs::Plans::is_its_text))]
 pub fn dcf_prints_the_text_of_its_node()
     ensures { (project : Content) (id : ℕ) (m : Member) → IsSoundNode project id m

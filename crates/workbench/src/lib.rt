@@ -17,8 +17,8 @@ mod workbench;
 mod wrong;
 
 pub use answers::Answer;
-pub use co_streams::{Counted, Intake, Outlet, SessionFault};
 pub use queries::answer;
 pub use serving::{LIMIT, session, session_of_process};
+pub use streams::{Counted, Intake, Outlet, SessionFault};
 pub use work::Work;
 pub use workbench::Workbench;

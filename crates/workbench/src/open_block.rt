@@ -1,6 +1,6 @@
 //! An `eds` command whose block isn't complete.
 
-use co_base::Octets;
+use base::Octets;
 
 #[derive(Drop)]
 pub struct OpenBlock {

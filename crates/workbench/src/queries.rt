@@ -1,16 +1,16 @@
 //! The answers to queries.
 ghost use Rattle.std.specs.Prelude.{◌≡◌, IsErrOf, OnOk};
-ghost use Rattle.co_base.specs.Gives.{Gives};
-ghost use Rattle.co_edits.specs.Faults.{is_memory};
+ghost use Rattle.base.specs.Gives.{Gives};
+ghost use Rattle.project_edits.specs.Faults.{is_memory};
 ghost use Rattle.workbench.specs.Bench.{AnswerTakes};
 ghost use Rattle.workbench.specs.Queries.{answer};
 ghost use Rattle.workbench.specs.Texts.{text_of};
 
 use crate::answers::Answer;
 use crate::workbench::Workbench;
-use co_commands::Query;
 use co_project::EditFault;
-use listed_text::ListedText;
+use plain_text::ListedText;
+use script_commands::Query;
 use std::alloc::Global;
 
 /// The answer to a query, of the project as it is now.

@@ -1,7 +1,7 @@
 //! From a reader to a writer.
 ghost use Rattle.std.specs.Prelude.{◌≡◌, [], OnOk, IfOk, IfSome, IsErrOf};
 ghost use Rattle.std.specs.Option.{option_map};
-ghost use Rattle.co_streams.specs.Written.{Posts};
+ghost use Rattle.streams.specs.Written.{Posts};
 ghost use Rattle.workbench.specs.Machine.{after, at_end, first_cursor, given};
 ghost use Rattle.workbench.specs.Session.{Serves};
 ghost use Rattle.workbench.specs.Views.{cursor_of, replies_of};
@@ -10,10 +10,10 @@ ghost use Rattle.workbench.specs.Written.{Puts};
 use crate::cursor::Cursor;
 use crate::reply::Reply;
 use crate::work::Work;
-use co_streams::{Intake, Outbox, Outlet, SessionFault};
-use co_text::split_once;
+use plain_text::split_once;
 use std::alloc::Global;
 use std::mem::ManuallyDrop;
+use streams::{Intake, Outbox, Outlet, SessionFault};
 
 /// How many bytes an input may have: 64 MiB.
 pub const LIMIT: usize = 67_108_864;

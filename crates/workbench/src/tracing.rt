@@ -6,12 +6,12 @@ ghost use Rattle.co_segments.specs.Segments.{HasRun, Traced};
 ghost use Rattle.network_image.specs.Image.{image_of};
 ghost use Rattle.network_image.specs.Network.{image_held};
 ghost use Rattle.workbench.specs.Queries.{trace_of};
-ghost use Rattle.co_memo.specs.Work.{Rises};
+ghost use Rattle.kept_values.specs.Work.{Rises};
 
 use co_depend::ProjectParts;
-use co_memo::Meter;
 use co_project::Project;
 use co_segments::Store;
+use kept_values::Meter;
 use network_image::NetworkParts;
 use std::alloc::{AllocError, Global};
 use trace_text::TraceText;

@@ -1,7 +1,7 @@
 //! What one line does.
 ghost use Rattle.std.specs.Prelude.{◌≡◌, IfOk, None};
-ghost use Rattle.co_commands.specs.Requests.{request};
-ghost use Rattle.co_edits.specs.Eds.{block_lines};
+ghost use Rattle.script_commands.specs.Requests.{request};
+ghost use Rattle.project_edits.specs.Eds.{block_lines};
 ghost use Rattle.co_project.specs.Project.{accept};
 ghost use Rattle.workbench.specs.Queries.{answer};
 ghost use Rattle.workbench.specs.Replies.{after_line, after_request, in_block, after_verdict, after_query, is_skipped};
@@ -11,10 +11,10 @@ use crate::open_block::OpenBlock;
 use crate::queries::answer;
 use crate::reply::Reply;
 use crate::workbench::Workbench;
-use co_base::Octets;
-use co_commands::Query;
+use base::Octets;
 use co_project::{Command, EditFault, Request, refusal};
-use co_text::{is_blank_line, without_crs};
+use plain_text::{is_blank_line, without_crs};
+use script_commands::Query;
 use std::alloc::{AllocError, Global};
 
 /// The longest line of blanks that is skipped.

@@ -1,15 +1,15 @@
 //! The workbench.
 ghost use Rattle.std.specs.Prelude.{◌≡◌, ◌↔◌, IfOk, IsErrOf, IsTrue, None, OnOk};
-ghost use Rattle.co_base.specs.Gives.{Gives};
+ghost use Rattle.base.specs.Gives.{Gives};
 ghost use Rattle.co_diag.specs.Found.{diagnostics_of};
-ghost use Rattle.co_edits.specs.Accepts.{Accepts};
-ghost use Rattle.co_edits.specs.Faults.{is_memory};
+ghost use Rattle.project_edits.specs.Accepts.{Accepts};
+ghost use Rattle.project_edits.specs.Faults.{is_memory};
 ghost use Rattle.co_project.specs.Project.{accept, adds, first};
 ghost use Rattle.project_script.specs.Script.{script};
 ghost use Rattle.co_project.specs.Sound.{IsSound};
 ghost use Rattle.co_project.specs.Tables.{node_at};
 ghost use Rattle.can_bus.specs.Lines.{lines_text};
-ghost use Rattle.co_memo.specs.Work.{idle, Rises};
+ghost use Rattle.kept_values.specs.Work.{idle, Rises};
 ghost use Rattle.kept_parts.specs.Kept.{held};
 ghost use Rattle.project_parts.specs.Reached.{reached};
 ghost use Rattle.workbench.specs.Bench.{no_segments, Brings, Traces};
@@ -20,11 +20,11 @@ use crate::tracing::traced;
 use crate::work::Work;
 use crate::wrong::diagnostics;
 use can_bus::Line;
-use co_memo::{Meter, Shared};
 use co_project::{Command, EditFault, Project};
 use co_segments::Store;
 use kept_parts::KeptParts;
-use listed_text::{ListedBytes, ListedText};
+use kept_values::{Meter, Shared};
+use plain_text::{ListedBytes, ListedText};
 use project_parts::{Diagnostics, Part};
 use project_script::script_text;
 use std::alloc::{AllocError, Global};
@@ -54,7 +54,7 @@ pub struct Workbench {
 impl Model for Workbench {
     ghost use Rattle.co_project.specs.contracts.project.Project as held;
     ghost use Rattle.workbench.specs.Bench.{Bench, bench_code};
-    ghost use Rattle.co_memo.specs.contracts.meter.Meter as counted;
+    ghost use Rattle.kept_values.specs.contracts.meter.Meter as counted;
     ghost use Rattle.workbench.specs.Bench.{IsKeptOf};
     ghost use Rattle.co_segments.specs.contracts.store.Store as traces;
     ghost use Rattle.kept_parts.specs.contracts.kept_parts.KeptParts as kept;

@@ -1,16 +1,16 @@
 //! All that is wrong.
 ghost use Rattle.std.specs.Prelude.{◌≡◌, IfOk, OnOk};
 ghost use Rattle.co_diag.specs.Found.{diagnostics_of};
-ghost use Rattle.co_memo.specs.Stale.{AreBrought};
-ghost use Rattle.co_memo.specs.Work.{Rises};
+ghost use Rattle.kept_values.specs.Stale.{AreBrought};
+ghost use Rattle.kept_values.specs.Work.{Rises};
 ghost use Rattle.kept_parts.specs.Kept.{held, IsOf};
 ghost use Rattle.kept_parts.specs.Left.{left_of, IsSwept};
 ghost use Rattle.project_parts.specs.Given.{given, same_part};
 ghost use Rattle.project_parts.specs.Reached.{reached};
 
-use co_memo::{Meter, Shared, share_of};
 use co_project::Project;
 use kept_parts::KeptParts;
+use kept_values::{Meter, Shared, share_of};
 use project_parts::{Diagnostics, Part};
 use std::alloc::AllocError;
 

@@ -1,6 +1,6 @@
 use Rattle.std.proofs.Common.{◌≡◌, drop, flat_map}
 use Rattle.co_device.specs.Device.{moments}
-use Rattle.co_base.specs.Moments.{earlier, earliest}
+use Rattle.base.specs.Moments.{earlier, earliest}
 use Rattle.bus_devices.proofs.block.first_due.Given as goal
 
 -- the first so far, and what is left, give the first of all

@@ -1,8 +1,8 @@
 use Rattle.std.proofs.Common.{◌<◌, ◌+◌, ◌∙◌, length, arith, rules}
 use Rattle.std.proofs.lemmas.List.{drop-set-lt}
-use Rattle.asking.proofs.RecordLemmas.{lasts_in_turn}
+use Rattle.image_parts.proofs.RecordLemmas.{lasts_in_turn}
 use Rattle.device_agenda.specs.Agenda.{at_instant}
-use Rattle.asking.proofs.EachLemmas.{each_state, each_noted, each_counted}
+use Rattle.image_parts.proofs.EachLemmas.{each_state, each_noted, each_counted}
 use Rattle.bus_devices.proofs.AgendaLemmas.{agenda_at, enough, same_at, same_behind}
 use Rattle.bus_devices.proofs.StillLemmas.{neither, set_as_it_was}
 use Rattle.bus_devices.proofs.block.run_each.Goals as goal

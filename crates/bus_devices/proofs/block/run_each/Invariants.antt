@@ -1,8 +1,8 @@
 use Rattle.std.proofs.Common.{◌≡◌, ◌++◌, ◌≤◌, ◌+◌, false, length, take, drop}
 use Rattle.device_agenda.specs.Agenda.{at_instant}
-use Rattle.asking.specs.Asking.{outcome, after_reads, reads}
-use Rattle.asking.specs.Record.{Lasts}
-use Rattle.asking.specs.Each.{each}
+use Rattle.image_parts.specs.Asking.{outcome, after_reads, reads}
+use Rattle.image_parts.specs.Record.{Lasts}
+use Rattle.image_parts.specs.Each.{each}
 use Rattle.bus_devices.proofs.block.run_each.Given as goal
 
 -- what is done and what is left give what all give; where none had to run so far, they are as they were, and those

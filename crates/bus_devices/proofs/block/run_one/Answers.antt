@@ -1,6 +1,6 @@
 use Rattle.std.proofs.Common.{◌≡◌, sym, ◌∙◌}
-use Rattle.asking.proofs.RecordLemmas.{asked_none}
-use Rattle.asking.specs.Asking.{Answer}
+use Rattle.image_parts.proofs.RecordLemmas.{asked_none}
+use Rattle.image_parts.specs.Asking.{Answer}
 use Rattle.device_agenda.proofs.AgendaLemmas.{same_state}
 use Rattle.device_agenda.proofs.SleepLemmas.{one_sleeps}
 use Rattle.device_agenda.specs.Agenda.{at_instant}

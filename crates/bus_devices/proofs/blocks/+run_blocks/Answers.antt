@@ -1,7 +1,7 @@
 use Rattle.std.proofs.Common.{◌≡◌, ◌++◌, ◌*◌, ◌∙◌, ◌∷◌, List, refl, rules, subst, sym}
 use Rattle.std.proofs.lemmas.Result.{IfOk-weaker, on_ok_weaker}
-use Rattle.asking.specs.Asking.{outcome}
-use Rattle.asking.specs.Each.{each}
+use Rattle.image_parts.specs.Asking.{outcome}
+use Rattle.image_parts.specs.Each.{each}
 use Rattle.bus_devices.specs.Blocks.{AreBlocksOf}
 use Rattle.bus_devices.proofs.BlockLemmas.{back_is, both_blocks, both_asked, both_on_ok, both_state}
 use Rattle.bus_devices.proofs.BlockLemmas.{front_is, one_set}

@@ -1,8 +1,8 @@
 use Rattle.std.proofs.Common.{◌<◌, ◌∙◌, length, arith}
-use Rattle.asking.proofs.RecordLemmas.{lasts_in_turn}
+use Rattle.image_parts.proofs.RecordLemmas.{lasts_in_turn}
 use Rattle.std.specs.Prelude.{true}
 use Rattle.co_device.specs.Device.{after_power}
-use Rattle.asking.proofs.EachLemmas.{each_state, each_noted, each_counted}
+use Rattle.image_parts.proofs.EachLemmas.{each_state, each_noted, each_counted}
 use Rattle.bus_devices.proofs.lists.power_all.Goals as goal
 
 pub loop-device-preserved : goal.loop-device-preserved

@@ -1,9 +1,9 @@
 use Rattle.std.proofs.Common.{◌≡◌, ◌++◌, ◌≤◌, ◌+◌, length, take, drop}
 use Rattle.std.specs.Prelude.{true}
 use Rattle.co_device.specs.Device.{after_power}
-use Rattle.asking.specs.Asking.{outcome, after_reads, reads}
-use Rattle.asking.specs.Record.{Lasts}
-use Rattle.asking.specs.Each.{each}
+use Rattle.image_parts.specs.Asking.{outcome, after_reads, reads}
+use Rattle.image_parts.specs.Record.{Lasts}
+use Rattle.image_parts.specs.Each.{each}
 use Rattle.bus_devices.proofs.lists.power_all.Given as goal
 
 -- what is done and what is left give what all give

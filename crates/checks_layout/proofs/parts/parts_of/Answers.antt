@@ -1,8 +1,8 @@
 use Rattle.std.proofs.Common.{◌≡◌, ◌∙◌, [], ap, sym, subst}
-use Rattle.asking.specs.Asking.{Seen}
-use Rattle.co_parts.specs.Contents.{Content, Image}
-use Rattle.co_parts.specs.Images.{IsImage}
-use Rattle.co_parts.specs.declared.part.Part.{Part}
+use Rattle.image_parts.specs.Asking.{Seen}
+use Rattle.image_parts.specs.Contents.{Content, Image}
+use Rattle.image_parts.specs.Images.{IsImage}
+use Rattle.image_parts.specs.declared.part.Part.{Part}
 use Rattle.network_image.proofs.CoherentLemmas.{is_image}
 use Rattle.checks_layout.proofs.parts.parts_of.Goals as goal
 

@@ -1,7 +1,7 @@
 use Rattle.std.proofs.Common.{◌≡◌, ℕ, true, false, Some, sym, ap, ◌∙◌, rules}
 use Rattle.eds_device.specs.Described.{default_text, kind_at}
-use Rattle.configured_nodes.specs.Values.{member_of}
-use Rattle.configured_nodes.specs.Doubtful.{spells_none}
+use Rattle.project_plan.specs.Values.{member_of}
+use Rattle.project_plan.specs.Doubtful.{spells_none}
 use Rattle.co_diag.proofs.DoubtLemmas.{by_kind, of_place}
 use Rattle.co_diag.proofs.defaults.unreadable_default.Goals as goal
 

@@ -1,7 +1,7 @@
 use Rattle.std.proofs.Common.{◌≡◌, ◌∙◌, ℕ, List, [], ◌∷◌, ap, sym, rules}
 use Rattle.std.specs.FinMap.{entries}
 use Rattle.co_project.specs.Project.{Content}
-use Rattle.co_messages.specs.Messages.{by_name}
+use Rattle.project_messages.specs.Messages.{by_name}
 use Rattle.project_plan.specs.Library.{Read}
 use Rattle.co_diag.proofs.DeviceLemmas.{all_read, one_more}
 use Rattle.co_diag.proofs.devices.read_all.Goals as goal

@@ -1,6 +1,6 @@
 use Rattle.std.proofs.Common.{◌≡◌}
 use Rattle.std.specs.FinMap.{entries}
-use Rattle.co_messages.specs.Messages.{by_name}
+use Rattle.project_messages.specs.Messages.{by_name}
 use Rattle.co_diag.proofs.DeviceLemmas.{AreReadFirst}
 use Rattle.co_diag.proofs.devices.read_all.Given as goal
 

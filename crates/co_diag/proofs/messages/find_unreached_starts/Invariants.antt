@@ -1,6 +1,6 @@
 use Rattle.std.proofs.Common.{◌≡◌, ◌++◌, filter_map}
 use Rattle.std.specs.FinMap.{entries}
-use Rattle.co_messages.specs.Messages.{by_name}
+use Rattle.project_messages.specs.Messages.{by_name}
 use Rattle.co_diag.specs.Found.{unreached_start}
 use Rattle.co_diag.proofs.messages.find_unreached_starts.Given as goal
 

@@ -1,5 +1,5 @@
 use Rattle.std.proofs.Common.{◌≡◌, ◌∙◌, ℕ, List, [], ◌∷◌, ◌++◌, ap, rules}
-use Rattle.co_messages.specs.Messages.{by_name}
+use Rattle.project_messages.specs.Messages.{by_name}
 use Rattle.diag_lines.specs.declared.diag.Diag.{Diag}
 use Rattle.co_diag.specs.Devices.{lines_at}
 use Rattle.co_diag.proofs.WalkLemmas.{all_lines, walk_ends, walk_on}

@@ -1,7 +1,7 @@
 use Rattle.std.proofs.Common.{◌≡◌, ◌++◌}
 use Rattle.std.specs.FinMap.{entries}
 use Rattle.std.specs.List.{flat_map}
-use Rattle.co_messages.specs.Messages.{by_name}
+use Rattle.project_messages.specs.Messages.{by_name}
 use Rattle.co_diag.specs.Devices.{lines_at}
 use Rattle.co_diag.proofs.texts.find_skipped_lines.Given as goal
 

@@ -1,7 +1,7 @@
 use Rattle.std.proofs.Common.{◌≡◌, ℕ, Some, length, sym, rules}
 use Rattle.std.specs.Prelude.{IsOk}
 use Rattle.std.specs.FinMap.{get}
-use Rattle.co_base.specs.Bytes.{AreBytes}
+use Rattle.base.specs.Bytes.{AreBytes}
 use Rattle.co_dict.specs.Checks.{length_check}
 use Rattle.co_dict.proofs.CheckLemmas.{any_ok, fits_passed, ok_is, write_check_in_turn}
 use Rattle.co_dict.proofs.write_check.check_rest.Goals as goal

@@ -1,6 +1,6 @@
 use Rattle.std.proofs.Common.{◌≡◌, ◌↔◌}
 use Rattle.std.specs.FinMap.{entries}
-use Rattle.co_messages.specs.Messages.{by_name}
+use Rattle.project_messages.specs.Messages.{by_name}
 use Rattle.co_project.proofs.texts.same_texts.Given as goal
 
 -- what is left is the same just where all is

@@ -1,5 +1,5 @@
 use Rattle.std.proofs.Common.{◌≡◌, ◌∙◌, ℕ, [], ◌∷◌, rules, sym}
-use Rattle.co_base.proofs.TableLemmas.{made_put}
+use Rattle.base.proofs.TableLemmas.{made_put}
 use Rattle.co_scenario.proofs.BetweenLemmas.{all_there, moments_exact, moments_total, one_passed, one_put}
 use Rattle.co_scenario.specs.declared.timed_event.TimedEvent.{TimedEvent}
 use Rattle.co_scenario.proofs.between.gather.Goals as goal

@@ -1,6 +1,6 @@
 use Rattle.std.proofs.lemmas.Cmp.{nat_cmp_total}
 use Rattle.std.proofs.lemmas.Map.Lookups.{exact_unsigned}
-use Rattle.co_base.proofs.TableLemmas.{put_twice}
+use Rattle.base.proofs.TableLemmas.{put_twice}
 use Rattle.co_scenario.proofs.laws.last_put_counts.Goals as goal
 
 pub returns : goal.returns

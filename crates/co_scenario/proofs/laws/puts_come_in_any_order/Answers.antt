@@ -1,6 +1,6 @@
 use Rattle.std.proofs.lemmas.Cmp.{nat_cmp_total}
 use Rattle.std.proofs.lemmas.Map.Lookups.{exact_unsigned}
-use Rattle.co_base.proofs.TableLemmas.{put_in_any_order}
+use Rattle.base.proofs.TableLemmas.{put_in_any_order}
 use Rattle.co_scenario.proofs.laws.puts_come_in_any_order.Goals as goal
 
 pub returns : goal.returns

@@ -1,6 +1,6 @@
 use Rattle.std.proofs.Common.{◌≡◌, Ok, rules}
 use Rattle.std.specs.FinMap.{insert}
-use Rattle.co_base.specs.Bytes.{AreBytes}
+use Rattle.base.specs.Bytes.{AreBytes}
 use Rattle.co_dict.specs.WriteCheck.{write_check}
 use Rattle.co_sdo.proofs.WriteLemmas.{each_held}
 use Rattle.co_sdo.proofs.downloads.written.Goals as goal

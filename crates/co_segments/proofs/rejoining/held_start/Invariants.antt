@@ -1,5 +1,5 @@
 use Rattle.std.proofs.Common.{drop}
-use Rattle.co_parts.specs.Contents.{Image}
+use Rattle.image_parts.specs.Contents.{Image}
 use Rattle.co_segments.specs.Placed.{kept_of}
 use Rattle.co_segments.specs.Segments.{IsStale}
 use Rattle.co_segments.specs.Placed.{numbered}

@@ -1,6 +1,6 @@
 use Rattle.std.proofs.Common.{◌≡◌, ◌+◌, Some, false, length, nat_eq, refl, ap, ◌∙◌, arith}
 use Rattle.std.specs.Map.{lookup}
-use Rattle.asking.specs.Asking.{reads}
+use Rattle.image_parts.specs.Asking.{reads}
 use Rattle.bus_laws.specs.Spans.{span}
 use Rattle.kept_shelf.specs.Shelves.{Shelved, use_first}
 use Rattle.co_segments.specs.declared.reached.Reached.{Reached}

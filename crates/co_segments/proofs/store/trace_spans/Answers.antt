@@ -1,7 +1,7 @@
 use Rattle.std.proofs.Common.{arith, refl, sym, ap, ◌∙◌, ◌<◌, ◌≡◌, ◌++◌, ◌+◌, ◌-◌, ◌∷◌, take}
 use Rattle.std.proofs.lemmas.Bool.{false≢true}
 use Rattle.std.proofs.lemmas.List.{append-nil}
-use Rattle.asking.proofs.LoopLemmas.{turned_told}
+use Rattle.image_parts.proofs.LoopLemmas.{turned_told}
 use Rattle.bus_laws.specs.Spans.{span}
 use Rattle.can_bus.specs.Bus.{blank_bus}
 use Rattle.recorded_spans.proofs.SpanLemmas.{span_ready}

@@ -1,7 +1,7 @@
 use Rattle.std.proofs.Common.{◌≡◌, ◌≤◌, ◌+◌, ◌-◌, ◌++◌, ℕ}
-use Rattle.asking.specs.Asking.{outcome, turns}
+use Rattle.image_parts.specs.Asking.{outcome, turns}
 use Rattle.bus_laws.specs.Spans.{span}
-use Rattle.co_memo.specs.Work.{Rises}
+use Rattle.kept_values.specs.Work.{Rises}
 use Rattle.recorded_spans.specs.Spans.{IsReady, lines_of_spans}
 use Rattle.co_segments.specs.Segments.{HasRun, Traced, recorded_from}
 use Rattle.co_segments.specs.Stocks.{StandsAt, held_in}

@@ -2,7 +2,7 @@
 use Rattle.std.proofs.Common.{rules, ap, ◌∙◌}
 use Rattle.std.proofs.lemmas.List.{take_all}
 use Rattle.byteorder.specs.Endian.{little_bytes}
-use Rattle.co_base.proofs.Little.{spelled_again}
+use Rattle.base.proofs.Little.{spelled_again}
 use Rattle.co_values.proofs.little.from_le.Goals as goal
 
 pub returns-clause-back : goal.returns-clause-back

@@ -1,5 +1,5 @@
 use Rattle.std.proofs.Common.{subst, arith}
-use Rattle.co_base.specs.Gives.{Gives}
+use Rattle.base.specs.Gives.{Gives}
 use Rattle.concise_dcf.specs.Concise.{is_memory}
 use Rattle.concise_dcf.proofs.Entries.{is_found, is_fault, text_again, fault_again}
 use Rattle.concise_dcf.proofs.decoding.decode.Goals as goal

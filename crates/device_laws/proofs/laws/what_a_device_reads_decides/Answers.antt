@@ -1,4 +1,4 @@
-use Rattle.asking.proofs.QuestionLemmas.{two_images}
+use Rattle.image_parts.proofs.QuestionLemmas.{two_images}
 use Rattle.co_device.specs.Device.{after_power}
 use Rattle.co_device.specs.Receiving.{after_frame}
 use Rattle.device_laws.proofs.laws.what_a_device_reads_decides.Goals as goal

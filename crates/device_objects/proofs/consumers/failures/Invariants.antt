@@ -1,5 +1,5 @@
 use Rattle.std.proofs.Common.{◌≡◌, ◌≤◌, length, filter, take}
-use Rattle.co_base.specs.Moments.{is_due}
+use Rattle.base.specs.Moments.{is_due}
 use Rattle.device_objects.specs.declared.consumer.Consumer.{Consumer}
 use Rattle.device_objects.proofs.consumers.failures.Given as goal
 

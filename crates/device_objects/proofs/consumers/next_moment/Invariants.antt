@@ -1,5 +1,5 @@
 use Rattle.std.proofs.Common.{◌≡◌, drop}
-use Rattle.co_base.specs.Moments.{earlier, earliest}
+use Rattle.base.specs.Moments.{earlier, earliest}
 use Rattle.device_objects.specs.Consumers.{moments}
 use Rattle.device_objects.proofs.consumers.next_moment.Given as goal
 

@@ -1,5 +1,5 @@
 use Rattle.std.proofs.Common.{◌≡◌, ℕ, ◌-◌, map, ap, ◌∙◌, arith}
-use Rattle.co_pdos.specs.Working.{rpdo_object}
+use Rattle.cia301.specs.PdoObjects.{rpdo_object}
 use Rattle.device_pdos.specs.Rpdos.{rpdo, rpdos_of}
 use Rattle.device_pdos.proofs.NumberLemmas.{all, numbers_to}
 use Rattle.device_pdos.proofs.rpdos.rpdos_of.Goals as goal

@@ -1,5 +1,5 @@
 use Rattle.std.proofs.Common.{◌≡◌, ◌-◌, map}
-use Rattle.co_pdos.specs.Working.{rpdo_object}
+use Rattle.cia301.specs.PdoObjects.{rpdo_object}
 use Rattle.device_pdos.specs.Rpdos.{rpdo}
 use Rattle.device_pdos.proofs.NumberLemmas.{numbers_to}
 use Rattle.device_pdos.proofs.rpdos.rpdos_of.Given as goal

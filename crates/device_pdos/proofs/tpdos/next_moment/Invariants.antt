@@ -1,5 +1,5 @@
 use Rattle.std.proofs.Common.{◌≡◌, drop}
-use Rattle.co_base.specs.Moments.{earlier, earliest}
+use Rattle.base.specs.Moments.{earlier, earliest}
 use Rattle.device_pdos.specs.Tpdos.{moments}
 use Rattle.device_pdos.proofs.tpdos.next_moment.Given as goal
 

@@ -1,5 +1,5 @@
 use Rattle.std.proofs.Common.{◌≡◌, ℕ, ◌-◌, map, ap, ◌∙◌, arith}
-use Rattle.co_pdos.specs.Working.{tpdo_object}
+use Rattle.cia301.specs.PdoObjects.{tpdo_object}
 use Rattle.device_pdos.specs.Tpdos.{tpdo, tpdos_of}
 use Rattle.device_pdos.proofs.NumberLemmas.{all, numbers_to}
 use Rattle.device_pdos.proofs.tpdos.tpdos_of.Goals as goal

@@ -1,5 +1,5 @@
 use Rattle.std.proofs.Common.{◌≡◌, ◌-◌, map}
-use Rattle.co_pdos.specs.Working.{tpdo_object}
+use Rattle.cia301.specs.PdoObjects.{tpdo_object}
 use Rattle.device_pdos.specs.Tpdos.{tpdo}
 use Rattle.device_pdos.proofs.NumberLemmas.{numbers_to}
 use Rattle.device_pdos.proofs.tpdos.tpdos_of.Given as goal

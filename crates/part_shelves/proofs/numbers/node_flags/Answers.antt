@@ -1,6 +1,6 @@
 use Rattle.std.proofs.Common.{◌∙◌, ◌||◌, ◌==◌, ap, rules}
 use Rattle.std.specs.List.{list_any}
-use Rattle.co_memo.proofs.Flags.{none_flagged}
+use Rattle.kept_values.proofs.Flags.{none_flagged}
 use Rattle.part_shelves.proofs.NumberLemmas.{numbers_known}
 use Rattle.part_shelves.proofs.numbers.node_flags.Goals as goal
 

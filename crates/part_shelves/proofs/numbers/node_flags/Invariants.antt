@@ -1,7 +1,7 @@
 use Rattle.std.proofs.Common.{◌≡◌, ◌==◌, ◌||◌, ℕ}
 use Rattle.std.specs.FinMap.{contains_key}
 use Rattle.std.specs.List.{list_any}
-use Rattle.co_memo.specs.Shelved.{is_flagged}
+use Rattle.kept_values.specs.Shelved.{is_flagged}
 use Rattle.part_shelves.proofs.numbers.node_flags.Given as goal
 
 abbrev pub invariant-loop-number : goal.invariant-loop-number

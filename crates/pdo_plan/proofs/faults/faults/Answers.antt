@@ -1,5 +1,5 @@
 use Rattle.std.proofs.Common.{◌≡◌, not, [], ◌∷◌, nat_lt, ap, ◌∙◌}
-use Rattle.co_fields.specs.TransmissionTypes.{is_reserved, type_of_byte}
+use Rattle.cia301.specs.TransmissionTypes.{is_reserved, type_of_byte}
 use Rattle.pdo_plan.specs.declared.message_fault.MessageFault.TheVariants.{NoObjects, TpdoTaken, TooManyBits}
 use Rattle.pdo_plan.specs.declared.message_fault.MessageFault.TheVariants.{NotMappable, Mismatched, NoRpdo, NoDummy}
 use Rattle.pdo_plan.specs.declared.message_fault.MessageFault.TheVariants.{BadIdentifier, NoIdentifier, ReservedType}

@@ -1,7 +1,7 @@
 use Rattle.std.proofs.Common.{◌≡◌, ◌++◌}
 use Rattle.std.specs.FinMap.{entries}
 use Rattle.std.specs.List.{All}
-use Rattle.co_messages.specs.Messages.{by_name, IsLinked}
+use Rattle.project_messages.specs.Messages.{by_name, IsLinked}
 use Rattle.pdo_plan.specs.Plan.{had_by, clean, plan_after, plan_of, IsWithin}
 use Rattle.pdo_stations.specs.Devices.{devices_of}
 use Rattle.pdo_stations.specs.Shown.{nodes_of}

@@ -1,6 +1,6 @@
 use Rattle.std.proofs.Common.{arith}
 use Rattle.std.proofs.lemmas.Grind.{common_steps}
-use Rattle.pdo_stations.specs.Devices.{rpdo_object}
+use Rattle.cia301.specs.PdoObjects.{rpdo_object}
 use Rattle.pdo_stations.specs.Rooms.{IsRoomOf}
 use Rattle.pdo_stations.proofs.RoomLemmas.{rooms_more}
 use Rattle.pdo_stations.proofs.station.rooms.Goals as goal

@@ -1,5 +1,5 @@
 use Rattle.std.proofs.Common.{◌≡◌, ℕ, ◌+◌, ◌<◌, ◌≤◌, length}
-use Rattle.pdo_stations.specs.Devices.{rpdo_object}
+use Rattle.cia301.specs.PdoObjects.{rpdo_object}
 use Rattle.pdo_stations.specs.Rooms.{room_of, IsRoomOf}
 use Rattle.pdo_stations.proofs.station.rooms.Given as goal
 

@@ -1,5 +1,5 @@
 use Rattle.std.proofs.Common.{ap}
-use Rattle.co_parts.specs.Contents.{BootIs, DefaultsAre, ExpectIs, ShapeIs}
+use Rattle.image_parts.specs.Contents.{BootIs, DefaultsAre, ExpectIs, ShapeIs}
 use Rattle.project_parts.proofs.MadeLemmas.{defaults_are, expects_are, shapes_are, writes_are}
 use Rattle.project_parts.proofs.laws.the_image_is_made_of_what_is_given.Goals as goal
 

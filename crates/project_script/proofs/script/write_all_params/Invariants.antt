@@ -1,7 +1,7 @@
 use Rattle.std.proofs.Common.{◌≡◌, ◌++◌}
 use Rattle.std.specs.FinMap.{entries}
 use Rattle.std.specs.List.{flat_map}
-use Rattle.co_lines.specs.Lines.{text_of}
+use Rattle.project_edits.specs.Lines.{text_of}
 use Rattle.project_script.specs.Script.{param_edits}
 use Rattle.project_script.proofs.script.write_all_params.Given as goal
 

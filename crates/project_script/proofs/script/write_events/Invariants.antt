@@ -1,7 +1,7 @@
 use Rattle.std.proofs.Common.{◌≡◌, ◌++◌, map}
 use Rattle.std.specs.FinMap.{entries}
 use Rattle.std.specs.List.{flat_map}
-use Rattle.co_lines.specs.Lines.{text_of}
+use Rattle.project_edits.specs.Lines.{text_of}
 use Rattle.project_script.specs.Script.{event_edit}
 use Rattle.project_script.proofs.script.write_events.Given as goal
 

@@ -1,9 +1,9 @@
 use Rattle.std.proofs.Common.{◌≡◌, ℕ, List, ◌∷◌, ◌++◌, All, ap, sym, subst, ◌∙◌, rules}
 use Rattle.std.specs.List.{flat_map}
 use Rattle.std.proofs.lemmas.List.Elements.{All-head, All-tail}
-use Rattle.co_lines.specs.Lines.{text_of}
-use Rattle.co_messages.specs.declared.linked.Linked.{Linked}
-use Rattle.co_messages.specs.Messages.{by_name, IsLinked}
+use Rattle.project_edits.specs.Lines.{text_of}
+use Rattle.project_messages.specs.declared.linked.Linked.{Linked}
+use Rattle.project_messages.specs.Messages.{by_name, IsLinked}
 use Rattle.project_script.specs.Script.{message_edits}
 use Rattle.project_script.proofs.LineLemmas.{message_written}
 use Rattle.project_script.proofs.script.write_messages.Goals as goal

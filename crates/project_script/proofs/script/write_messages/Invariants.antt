@@ -1,8 +1,8 @@
 use Rattle.std.proofs.Common.{◌≡◌, ◌++◌}
 use Rattle.std.specs.FinMap.{entries}
 use Rattle.std.specs.List.{flat_map, All}
-use Rattle.co_lines.specs.Lines.{text_of}
-use Rattle.co_messages.specs.Messages.{by_name, IsLinked}
+use Rattle.project_edits.specs.Lines.{text_of}
+use Rattle.project_messages.specs.Messages.{by_name, IsLinked}
 use Rattle.project_script.specs.Script.{message_edits}
 use Rattle.project_script.proofs.script.write_messages.Given as goal
 

@@ -1,6 +1,6 @@
 use Rattle.std.proofs.Common.{◌≡◌, ◌++◌, map}
 use Rattle.std.specs.List.{flat_map}
-use Rattle.co_lines.specs.Lines.{text_of}
+use Rattle.project_edits.specs.Lines.{text_of}
 use Rattle.project_script.specs.Script.{source_edit}
 use Rattle.project_script.proofs.script.write_sources.Given as goal
 

@@ -1,9 +1,9 @@
 use Rattle.std.proofs.Common.{◌≡◌, ◌++◌, map}
 use Rattle.std.specs.FinMap.{entries}
 use Rattle.std.specs.List.{flat_map}
-use Rattle.co_lines.specs.Lines.{text_of}
+use Rattle.project_edits.specs.Lines.{text_of}
 use Rattle.project_script.specs.Script.{text_edit}
-use Rattle.co_messages.specs.Messages.{by_name}
+use Rattle.project_messages.specs.Messages.{by_name}
 use Rattle.project_script.proofs.script.write_texts.Given as goal
 
 abbrev pub invariant-loop-name : goal.invariant-loop-name

@@ -1,5 +1,5 @@
 use Rattle.std.proofs.Common.{◌≡◌, sym}
-use Rattle.kept_reads.proofs.KnownLemmas.{extends_itself}
+use Rattle.recorded_spans.proofs.KnownLemmas.{extends_itself}
 use Rattle.recorded_spans.proofs.matching.has.Goals as goal
 
 pub compare-requires : goal.compare-requires

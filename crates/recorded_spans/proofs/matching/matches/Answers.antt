@@ -1,8 +1,8 @@
 use Rattle.std.proofs.Common.{◌≡◌, false, IsTrue, refl, sym, subst, ◌∙◌, arith, rules}
 use Rattle.std.proofs.lemmas.Bool.{false≢true}
 use Rattle.std.proofs.lemmas.List.{get_or_default}
-use Rattle.kept_reads.specs.Reads.{IsMarked, Recorded}
-use Rattle.kept_reads.proofs.KnownLemmas.{extends_in_turn, extends_itself, marked_later}
+use Rattle.recorded_spans.specs.Reads.{IsMarked, Recorded}
+use Rattle.recorded_spans.proofs.KnownLemmas.{extends_in_turn, extends_itself, marked_later}
 use Rattle.recorded_spans.proofs.MatchLemmas.{HasRead, agrees_all, agrees_one, one_more}
 use Rattle.recorded_spans.proofs.matching.matches.Goals as goal
 

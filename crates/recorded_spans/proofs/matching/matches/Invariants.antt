@@ -1,6 +1,6 @@
 use Rattle.std.proofs.Common.{◌≡◌, ◌≤◌, ◌+◌, ◌<◌, ℕ, get_or}
-use Rattle.co_parts.specs.Contents.{Content}
-use Rattle.kept_reads.specs.Reads.{AreKnown, AreMarked, Extends, Recorded}
+use Rattle.image_parts.specs.Contents.{Content}
+use Rattle.recorded_spans.specs.Reads.{AreKnown, AreMarked, Extends, Recorded}
 use Rattle.recorded_spans.proofs.matching.matches.Given as goal
 
 -- the image has all so far

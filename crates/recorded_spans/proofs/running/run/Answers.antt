@@ -1,8 +1,8 @@
 use Rattle.std.proofs.Common.{◌≡◌, ◌++◌, ap, ◌∙◌}
-use Rattle.asking.specs.Asking.{Seen, reads}
-use Rattle.asking.proofs.QuestionLemmas.{reads_agree}
-use Rattle.co_parts.specs.Contents.{Content}
-use Rattle.co_parts.specs.declared.part.Part.{Part}
+use Rattle.image_parts.specs.Asking.{Seen, reads}
+use Rattle.image_parts.proofs.QuestionLemmas.{reads_agree}
+use Rattle.image_parts.specs.Contents.{Content}
+use Rattle.image_parts.specs.declared.part.Part.{Part}
 use Rattle.bus_laws.specs.Spans.{span}
 use Rattle.recorded_spans.proofs.running.run.Goals as goal
 

@@ -1,6 +1,6 @@
 use Rattle.std.proofs.Common.{refl, ◌∙◌, ◌≤◌, ◌<◌, ◌+◌, ◌++◌, arith, sym, ap}
 use Rattle.std.proofs.lemmas.List.{append-nil}
-use Rattle.asking.proofs.LoopLemmas.{turned_state, turned_told, turned_noted, turned_counted}
+use Rattle.image_parts.proofs.LoopLemmas.{turned_state, turned_told, turned_noted, turned_counted}
 use Rattle.can_bus.specs.Bus.{instant}
 use Rattle.can_bus.specs.Dues.{IsJustBefore, next_due}
 use Rattle.can_bus.proofs.DueRunLemmas.{before_next, due_ahead}

@@ -1,5 +1,5 @@
 use Rattle.std.proofs.Common.{◌≡◌, ◌-◌, ◌≤◌, ◌++◌, ◌+◌, length}
-use Rattle.asking.specs.Asking.{outcome, reads, after_reads, turns}
+use Rattle.image_parts.specs.Asking.{outcome, reads, after_reads, turns}
 use Rattle.can_bus.specs.Bus.{instant}
 use Rattle.can_bus.specs.Dues.{IsJustBefore}
 use Rattle.recorded_spans.proofs.spans.run_to.Given as goal

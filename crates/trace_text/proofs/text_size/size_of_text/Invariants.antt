@@ -1,6 +1,6 @@
 use Rattle.std.proofs.Common.{◌≡◌, length, take}
 use Rattle.can_bus.specs.Lines.{lines_text}
-use Rattle.co_text.specs.Lines.{line_count}
+use Rattle.plain_text.specs.Lines.{line_count}
 use Rattle.trace_text.specs.Passages.{joined}
 use Rattle.trace_text.proofs.text_size.size_of_text.Given as goal
 

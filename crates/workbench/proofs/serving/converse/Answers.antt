@@ -2,7 +2,7 @@ use Rattle.std.proofs.Common.{◌≡◌, ◌≤◌, ◌++◌, [], refl, rules, t
 use Rattle.std.proofs.Common.{length-take, length-drop, Err}
 use Rattle.std.proofs.KnownBytes.{Appends-nil, Consumes-nil}
 use Rattle.std.proofs.lemmas.Result.{err_from_is_err_and}
-use Rattle.co_streams.specs.declared.fault.SessionFault.TheVariants.{Memory}
+use Rattle.streams.specs.declared.fault.SessionFault.TheVariants.{Memory}
 use Rattle.workbench.specs.Machine.{after}
 use Rattle.workbench.specs.Views.{cursor_of}
 use Rattle.workbench.specs.declared.serving.TheConstants.{LIMIT}

@@ -1,6 +1,6 @@
 use Rattle.std.proofs.Common.{◌≡◌, [], Err}
 use Rattle.std.proofs.lemmas.Result.{err_from_is_err_and}
-use Rattle.co_streams.specs.declared.fault.SessionFault.TheVariants.{Memory}
+use Rattle.streams.specs.declared.fault.SessionFault.TheVariants.{Memory}
 use Rattle.workbench.specs.Machine.{at_end}
 use Rattle.workbench.specs.Views.{cursor_of, ended_at, replies_of}
 use Rattle.workbench.proofs.PutReplies.{puts_nothing, puts_cut}

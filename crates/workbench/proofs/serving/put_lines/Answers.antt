@@ -1,6 +1,6 @@
 use Rattle.std.proofs.Common.{◌≡◌, ◌++◌, ℕ, List, [], Err, refl, ap, sym}
 use Rattle.std.proofs.lemmas.Result.{err_from_is_err_and}
-use Rattle.co_streams.specs.declared.fault.SessionFault.TheVariants.{Memory}
+use Rattle.streams.specs.declared.fault.SessionFault.TheVariants.{Memory}
 use Rattle.workbench.specs.Replies.{After}
 use Rattle.workbench.specs.Machine.{Cursor, after}
 use Rattle.workbench.specs.Views.{cursor_of, ended_at}

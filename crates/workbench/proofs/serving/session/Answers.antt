@@ -1,6 +1,6 @@
 use Rattle.std.proofs.Common.{◌≡◌, Err}
 use Rattle.std.proofs.lemmas.Result.{err_from_is_err_and}
-use Rattle.co_streams.specs.declared.fault.SessionFault.TheVariants.{Memory}
+use Rattle.streams.specs.declared.fault.SessionFault.TheVariants.{Memory}
 use Rattle.workbench.proofs.Sessions.{serves_nothing}
 use Rattle.workbench.proofs.serving.session.Goals as goal
 

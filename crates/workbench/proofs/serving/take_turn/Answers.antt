@@ -1,6 +1,6 @@
 use Rattle.std.proofs.Common.{refl}
 use Rattle.std.proofs.lemmas.Result.{err_from_is_err_and}
-use Rattle.co_streams.specs.declared.fault.SessionFault.TheVariants.{Read, Write}
+use Rattle.streams.specs.declared.fault.SessionFault.TheVariants.{Read, Write}
 use Rattle.workbench.proofs.PutReplies.{puts_sent, puts_first_sent, puts_first_unsent, puts_stopped}
 use Rattle.workbench.proofs.serving.take_turn.Goals as goal
 

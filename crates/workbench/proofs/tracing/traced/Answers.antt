@@ -1,7 +1,7 @@
 use Rattle.std.proofs.Common.{◌∙◌, ◌+◌, ◌/◌, ap, arith, subst, sym}
 use Rattle.pdo_plan.proofs.LimitLemmas.{between}
 use Rattle.can_bus.specs.Runs.{trace}
-use Rattle.co_parts.specs.Images.{IsImage}
+use Rattle.image_parts.specs.Images.{IsImage}
 use Rattle.network_image.specs.Image.{image_of}
 use Rattle.network_image.proofs.CoherentLemmas.{is_image}
 use Rattle.co_segments.specs.Segments.{Traced}

@@ -1,6 +1,6 @@
 use Rattle.std.proofs.Common.{◌≡◌, ◌<◌, false, length, List, slice_set, subst, sym, ◌∙◌, arith}
 use Rattle.bus_devices.specs.Blocks.{AreBlocksOf, IsDueAsBefore}
-use Rattle.bus_events.specs.Places.{device_at}
+use Rattle.bus_devices.specs.Places.{device_at}
 use Rattle.co_device.specs.Device.{without_power}
 use Rattle.bus_devices.proofs.SentLemmas.{agenda_set, sent_from, written_back}
 use Rattle.bus_devices.specs.declared.block.Block.{Block}

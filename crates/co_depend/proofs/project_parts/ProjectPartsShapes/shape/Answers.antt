@@ -1,5 +1,5 @@
 use Rattle.std.proofs.Common.{refl}
-use Rattle.asking.proofs.RecordLemmas.{itself}
+use Rattle.image_parts.proofs.RecordLemmas.{itself}
 use Rattle.co_depend.proofs.project_parts.ProjectPartsShapes.shape.Goals as goal
 
 -- what was asked stays where there is no memory for one more

@@ -1,8 +1,8 @@
 use Rattle.std.proofs.Common.{◌+◌, ℕ, List, drop, get_or, sym, ap, ◌∙◌, arith}
 use Rattle.co_dict.specs.Mappings.{mapped_length}
-use Rattle.co_mapping.specs.Packing.{after_entries, frame_bits}
-use Rattle.co_mapping.proofs.PackLemmas.{bits_left}
-use Rattle.co_mapping.proofs.UnpackLemmas.{entries_end, entry_next}
+use Rattle.pdo_rules.specs.Packing.{after_entries, frame_bits}
+use Rattle.pdo_rules.proofs.PackLemmas.{bits_left}
+use Rattle.pdo_rules.proofs.UnpackLemmas.{entries_end, entry_next}
 use Rattle.co_device.specs.Receiving.{after_entry}
 use Rattle.co_device.proofs.device_state.DeviceState.take_entries.Goals as goal
 

@@ -1,6 +1,6 @@
 use Rattle.std.proofs.Common.{◌≡◌, ◌+◌, drop}
 use Rattle.co_dict.specs.Mappings.{mapping_bits}
-use Rattle.co_mapping.specs.Packing.{after_entries, frame_bits}
+use Rattle.pdo_rules.specs.Packing.{after_entries, frame_bits}
 use Rattle.co_device.specs.Receiving.{device_after_entries, after_entry}
 use Rattle.co_device.proofs.device_state.DeviceState.take_entries.Given as goal
 

@@ -1,6 +1,6 @@
 use Rattle.std.proofs.Common.{◌≡◌, ◌≤◌, ◌+◌, length}
-use Rattle.asking.specs.Asking.{outcome, after_reads, reads}
-use Rattle.asking.specs.Record.{Lasts}
+use Rattle.image_parts.specs.Asking.{outcome, after_reads, reads}
+use Rattle.image_parts.specs.Record.{Lasts}
 use Rattle.co_device.specs.Receiving.{rpdo_places, after_rpdo, walk}
 use Rattle.co_device.proofs.WalkLemmas.{from}
 use Rattle.co_device.proofs.device_state.DeviceState.take_pdo.Given as goal

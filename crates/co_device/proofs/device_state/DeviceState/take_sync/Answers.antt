@@ -1,5 +1,5 @@
 use Rattle.std.proofs.Common.{◌<◌, ◌∙◌, ap, length, arith}
-use Rattle.asking.proofs.RecordLemmas.{lasts_in_turn}
+use Rattle.image_parts.proofs.RecordLemmas.{lasts_in_turn}
 use Rattle.co_device.specs.Device.{Device}
 use Rattle.co_device.specs.Receiving.{after_sync_at}
 use Rattle.co_device.proofs.RpdoLemmas.{synced_many}

@@ -1,8 +1,8 @@
 use Rattle.std.proofs.Common.{◌≡◌, ◌≤◌, ◌+◌, length, Some}
-use Rattle.asking.specs.Asking.{outcome, after_reads, reads}
-use Rattle.asking.specs.Record.{Lasts}
+use Rattle.image_parts.specs.Asking.{outcome, after_reads, reads}
+use Rattle.image_parts.specs.Record.{Lasts}
 use Rattle.co_device.specs.Receiving.{rpdo_places, after_sync_at, walk}
-use Rattle.co_pdos.specs.Sync.{sync_message}
+use Rattle.pdo_rules.specs.Sync.{sync_message}
 use Rattle.co_device.proofs.WalkLemmas.{from}
 use Rattle.co_device.proofs.device_state.DeviceState.take_sync.Given as goal
 

@@ -1,7 +1,7 @@
 use Rattle.std.proofs.Common.{ap, ◌∙◌, false}
 use Rattle.std.specs.FinMap as map
 use Rattle.std.proofs.lemmas.Result.{err_from_is_err_and}
-use Rattle.co_params.specs.Params.{Texts}
+use Rattle.node_parameters.specs.Params.{Texts}
 use Rattle.co_project.specs.declared.node.Node.{Node}
 use Rattle.co_project.proofs.NodeLemmas.{node_added, node_changed, node_found, node_missing, node_put, node_renamed}
 use Rattle.co_project.proofs.NodeLemmas.{nodes_stay}

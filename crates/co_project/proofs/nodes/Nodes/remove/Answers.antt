@@ -2,7 +2,7 @@ use Rattle.std.proofs.Common.{ap, ◌∙◌}
 use Rattle.std.specs.FinMap as map
 use Rattle.std.proofs.lemmas.Cmp.{nat_cmp_total}
 use Rattle.std.proofs.lemmas.Map.Lookups.{exact_unsigned}
-use Rattle.co_base.proofs.TableLemmas.{made_removed}
+use Rattle.base.proofs.TableLemmas.{made_removed}
 use Rattle.co_project.proofs.nodes.Nodes.remove.Goals as goal
 
 pub returns : goal.returns

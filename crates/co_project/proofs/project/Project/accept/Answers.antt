@@ -1,8 +1,8 @@
 use Rattle.std.proofs.Common.{subst, sym, Result, Ok, Err}
-use Rattle.co_edits.specs.declared.fault.EditFault.{EditFault}
-use Rattle.co_edits.specs.declared.edit.Edit.{Edit}
-use Rattle.co_edits.specs.Accepts.{Accepts}
-use Rattle.co_edits.specs.Edits.{IsEdit}
+use Rattle.project_edits.specs.declared.fault.EditFault.{EditFault}
+use Rattle.project_edits.specs.declared.edit.Edit.{Edit}
+use Rattle.project_edits.specs.Accepts.{Accepts}
+use Rattle.project_edits.specs.Edits.{IsEdit}
 use Rattle.co_project.specs.Project.{Content, accept}
 use Rattle.co_project.specs.Sound.{IsSound}
 use Rattle.co_project.proofs.KeepsSound.{edits_keep_sound}

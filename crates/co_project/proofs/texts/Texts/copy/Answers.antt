@@ -3,8 +3,8 @@ use Rattle.std.proofs.lemmas.List.Elements.{same_from_all_zip}
 use Rattle.std.specs.FinMap.{from_entries}
 use Rattle.std.specs.List.{AllZip}
 use Rattle.std.specs.Vec.{vec_len}
-use Rattle.co_messages.specs.Messages.{name_cmp}
-use Rattle.co_messages.proofs.NameLemmas.{by_name_copied}
+use Rattle.project_messages.specs.Messages.{name_cmp}
+use Rattle.project_messages.proofs.NameLemmas.{by_name_copied}
 use Rattle.co_project.proofs.texts.Texts.copy.Goals as goal
 
 -- names with the same bytes

@@ -1,6 +1,6 @@
 use Rattle.std.proofs.Common.{ap, sym, Some, ◌∙◌}
 use Rattle.std.specs.FinMap as map
-use Rattle.co_messages.proofs.NameLemmas.{value_found}
+use Rattle.project_messages.proofs.NameLemmas.{value_found}
 use Rattle.co_project.proofs.texts.Texts.get.Goals as goal
 
 pub returns-in-Some : goal.returns-in-Some

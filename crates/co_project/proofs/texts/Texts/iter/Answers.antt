@@ -1,7 +1,7 @@
 use Rattle.std.proofs.Common.{ap, sym, ◌∙◌}
 use Rattle.std.specs.FinMap as map
-use Rattle.co_messages.specs.Messages.{by_name}
-use Rattle.co_messages.proofs.NameLemmas.{values_made}
+use Rattle.project_messages.specs.Messages.{by_name}
+use Rattle.project_messages.proofs.NameLemmas.{values_made}
 use Rattle.co_project.proofs.texts.Texts.iter.Goals as goal
 
 pub returns : goal.returns

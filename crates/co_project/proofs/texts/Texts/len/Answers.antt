@@ -1,6 +1,6 @@
 use Rattle.std.proofs.Common.{ap, sym, ◌∙◌}
 use Rattle.std.specs.FinMap as map
-use Rattle.co_messages.proofs.NameLemmas.{values_counted}
+use Rattle.project_messages.proofs.NameLemmas.{values_counted}
 use Rattle.co_project.proofs.texts.Texts.len.Goals as goal
 
 pub returns : goal.returns

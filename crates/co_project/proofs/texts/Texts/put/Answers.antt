@@ -1,7 +1,7 @@
 use Rattle.std.proofs.Common.{ap, sym, ◌∙◌}
 use Rattle.std.specs.FinMap as map
 use Rattle.std.proofs.lemmas.Result.{err_from_is_err_and}
-use Rattle.co_messages.proofs.NameLemmas.{made, value_found, value_put}
+use Rattle.project_messages.proofs.NameLemmas.{made, value_found, value_put}
 use Rattle.co_project.proofs.texts.Texts.put.Goals as goal
 
 pub returns-clause-ok : goal.returns-clause-ok

@@ -1,6 +1,6 @@
 use Rattle.std.proofs.Common.{ap, ◌∙◌}
 use Rattle.std.specs.FinMap as map
-use Rattle.co_messages.proofs.NameLemmas.{value_removed}
+use Rattle.project_messages.proofs.NameLemmas.{value_removed}
 use Rattle.co_project.proofs.texts.Texts.remove.Goals as goal
 
 pub returns : goal.returns

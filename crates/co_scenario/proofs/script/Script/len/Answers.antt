@@ -2,7 +2,7 @@ use Rattle.std.proofs.Common.{ap, sym, ◌∙◌}
 use Rattle.std.specs.FinMap as map
 use Rattle.std.proofs.lemmas.Cmp.{nat_cmp_total}
 use Rattle.std.proofs.lemmas.Map.Lookups.{exact_unsigned}
-use Rattle.co_base.proofs.TableLemmas.{len_made}
+use Rattle.base.proofs.TableLemmas.{len_made}
 use Rattle.co_scenario.proofs.script.Script.len.Goals as goal
 
 pub returns : goal.returns

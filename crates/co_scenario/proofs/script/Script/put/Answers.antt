@@ -3,7 +3,7 @@ use Rattle.std.specs.FinMap as map
 use Rattle.std.proofs.lemmas.Result.{err_from_is_err_and}
 use Rattle.std.proofs.lemmas.Cmp.{nat_cmp_total}
 use Rattle.std.proofs.lemmas.Map.Lookups.{exact_unsigned}
-use Rattle.co_base.proofs.TableLemmas.{get_made, made_put}
+use Rattle.base.proofs.TableLemmas.{get_made, made_put}
 use Rattle.co_scenario.proofs.script.Script.put.Goals as goal
 
 pub returns-clause-ok : goal.returns-clause-ok

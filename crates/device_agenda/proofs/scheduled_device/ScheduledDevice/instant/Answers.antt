@@ -1,4 +1,4 @@
-use Rattle.asking.proofs.RecordLemmas.{asked_none}
+use Rattle.image_parts.proofs.RecordLemmas.{asked_none}
 use Rattle.device_agenda.specs.Agenda.{at_instant}
 use Rattle.device_agenda.proofs.AgendaLemmas.{same_state}
 use Rattle.device_agenda.proofs.scheduled_device.ScheduledDevice.instant.Goals as goal

@@ -1,7 +1,7 @@
 use Rattle.std.proofs.Common.{[], ◌∷◌, option_map, sym, ap, subst, ◌∙◌}
-use Rattle.co_memo.specs.Shelved.{kept_at, Shelved}
-use Rattle.co_memo.specs.Stale.{AreBrought}
-use Rattle.co_memo.proofs.Brought.{both, refreshes_none}
+use Rattle.kept_values.specs.Shelved.{kept_at, Shelved}
+use Rattle.kept_values.specs.Stale.{AreBrought}
+use Rattle.kept_values.proofs.Brought.{both, refreshes_none}
 use Rattle.kept_parts.specs.Kept.{held, IsOf}
 use Rattle.project_parts.specs.Given.{given, same_part}
 use Rattle.project_parts.specs.Reached.{own_device}

@@ -1,6 +1,6 @@
 use Rattle.std.proofs.Common.{◌≡◌, [], ◌∷◌, ◌∙◌, Bool, true, Option, Some, ap, refl}
-use Rattle.co_memo.proofs.Brought.{both, refreshes_built, refreshes_none}
-use Rattle.co_memo.specs.Shelved.{Single}
+use Rattle.kept_values.proofs.Brought.{both, refreshes_built, refreshes_none}
+use Rattle.kept_values.specs.Shelved.{Single}
 use Rattle.project_parts.specs.Given.{given, same_part, whole}
 use Rattle.project_parts.specs.Reached.{for_plan}
 use Rattle.project_parts.specs.declared.diagnostics_from.DiagnosticsFrom.{DiagnosticsFrom}

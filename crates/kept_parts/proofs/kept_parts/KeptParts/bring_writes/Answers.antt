@@ -1,5 +1,5 @@
 use Rattle.std.proofs.Common.{[], ◌∷◌, ◌++◌, option_map, sym, ◌∙◌}
-use Rattle.co_memo.proofs.Brought.{both}
+use Rattle.kept_values.proofs.Brought.{both}
 use Rattle.kept_parts.specs.Kept.{held}
 use Rattle.project_parts.specs.Given.{given, same_part}
 use Rattle.project_parts.specs.Reached.{for_plan, own_device}

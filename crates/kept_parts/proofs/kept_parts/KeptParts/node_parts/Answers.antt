@@ -1,5 +1,5 @@
 use Rattle.std.proofs.Common.{◌∙◌, None, Some, option_copied, sym, ap}
-use Rattle.co_memo.specs.Shelved.{kept_at}
+use Rattle.kept_values.specs.Shelved.{kept_at}
 use Rattle.project_plan.specs.Network.{writes_of, Member}
 use Rattle.project_parts.proofs.MadeLemmas.{own_parts}
 use Rattle.kept_parts.proofs.NetworkLemmas.{all_parts, no_parts, node_held, writes_held}

@@ -1,7 +1,7 @@
 use Rattle.std.proofs.Common.{[], ◌∷◌, Some, ap, sym, subst, ◌∙◌}
-use Rattle.co_memo.specs.Shelved.{Single}
-use Rattle.co_memo.specs.Stale.{AreBrought}
-use Rattle.co_memo.proofs.Brought.{both, refreshes_none}
+use Rattle.kept_values.specs.Shelved.{Single}
+use Rattle.kept_values.specs.Stale.{AreBrought}
+use Rattle.kept_values.proofs.Brought.{both, refreshes_none}
 use Rattle.kept_parts.specs.Kept.{held, HaveNoMark, IsOf}
 use Rattle.project_parts.specs.Given.{given, same_part}
 use Rattle.project_parts.specs.Reached.{of_nodes}

@@ -1,5 +1,5 @@
 use Rattle.std.proofs.Common.{sym, subst}
-use Rattle.co_parts.specs.Images.{IsRoster}
+use Rattle.image_parts.specs.Images.{IsRoster}
 use Rattle.network_image.proofs.HeldLemmas.{same_image}
 use Rattle.network_image.proofs.RosterLemmas.{is_roster}
 use Rattle.network_image.proofs.network_parts.NetworkParts.from_shared.Goals as goal

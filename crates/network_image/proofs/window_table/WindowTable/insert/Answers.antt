@@ -2,9 +2,9 @@ use Rattle.std.proofs.Common.{ap, sym, subst, ◌∙◌}
 use Rattle.std.specs.FinMap as map
 use Rattle.std.proofs.lemmas.Cmp.{nat_cmp_total}
 use Rattle.std.proofs.lemmas.Map.Lookups.{exact_unsigned}
-use Rattle.co_base.proofs.EachLemmas.{each_put}
-use Rattle.co_base.proofs.TableLemmas.{made_put}
-use Rattle.co_base.specs.Tables.{Each}
+use Rattle.base.proofs.EachLemmas.{each_put}
+use Rattle.base.proofs.TableLemmas.{made_put}
+use Rattle.base.specs.Tables.{Each}
 use Rattle.network_image.specs.Held.{IsWindow, Windows}
 use Rattle.network_image.proofs.window_table.WindowTable.insert.Goals as goal
 

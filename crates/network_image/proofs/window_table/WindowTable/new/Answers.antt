@@ -1,7 +1,7 @@
 use Rattle.std.proofs.Common.{ap}
 use Rattle.std.specs.FinMap as map
 use Rattle.std.specs.Ordering.{nat_cmp}
-use Rattle.co_base.proofs.EachLemmas.{each_empty}
+use Rattle.base.proofs.EachLemmas.{each_empty}
 use Rattle.network_image.specs.Held.{IsWindow}
 use Rattle.network_image.proofs.window_table.WindowTable.new.Goals as goal
 

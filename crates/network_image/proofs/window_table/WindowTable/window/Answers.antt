@@ -1,7 +1,7 @@
 use Rattle.std.proofs.Common.{subst}
 use Rattle.std.specs.List.{AllByRecursion}
-use Rattle.co_base.specs.Tables.{Each}
-use Rattle.co_parts.specs.Images.{AreInOrder, IsWithin}
+use Rattle.base.specs.Tables.{Each}
+use Rattle.image_parts.specs.Images.{AreInOrder, IsWithin}
 use Rattle.network_image.specs.Held.{IsWindow, Windows}
 use Rattle.network_image.proofs.WindowLemmas.{handed_fits}
 use Rattle.network_image.proofs.window_table.WindowTable.window.Goals as goal

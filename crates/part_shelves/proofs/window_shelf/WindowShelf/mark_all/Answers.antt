@@ -1,4 +1,4 @@
-use Rattle.co_memo.proofs.Flags.{none_flagged}
+use Rattle.kept_values.proofs.Flags.{none_flagged}
 use Rattle.part_shelves.proofs.window_shelf.WindowShelf.mark_all.Goals as goal
 
 pub returns-clause-fresh : goal.returns-clause-fresh

@@ -1,6 +1,6 @@
 use Rattle.std.proofs.Common.{◌∙◌, ℕ, List, ap, sym}
-use Rattle.co_memo.specs.At.{at}
-use Rattle.co_memo.proofs.Flags.{none_flagged}
+use Rattle.kept_values.specs.At.{at}
+use Rattle.kept_values.proofs.Flags.{none_flagged}
 use Rattle.co_scenario.specs.declared.timed_step.TimedStep.{TimedStep}
 use Rattle.part_shelves.specs.Busy.{has_steps}
 use Rattle.part_shelves.proofs.window_shelf.WindowShelf.new.Goals as goal

@@ -1,5 +1,5 @@
 use Rattle.std.proofs.Common.{sym, ◌∙◌}
-use Rattle.pdo_stations.specs.Devices.{tpdo_object}
+use Rattle.cia301.specs.PdoObjects.{tpdo_object}
 use Rattle.pdo_stations.proofs.AlikeLemmas.{start_at}
 use Rattle.pdo_stations.proofs.stations.Stations.has_start.Goals as goal
 

@@ -1,6 +1,6 @@
 use Rattle.std.proofs.Common.{sym, subst, ◌∙◌, IfSome}
 use Rattle.std.specs.FinMap as map
-use Rattle.co_messages.proofs.NameLemmas.{made, value_found}
+use Rattle.project_messages.proofs.NameLemmas.{made, value_found}
 use Rattle.co_project.proofs.SoundLemmas.{IfSome-copied}
 use Rattle.project_plan.specs.Library.{Read}
 use Rattle.project_plan.proofs.LibraryLemmas.{device_found, IsDescribed}

@@ -1,6 +1,6 @@
 use Rattle.std.proofs.Common.{◌≡◌, ◌||◌, ℕ}
 use Rattle.std.specs.List.{list_any}
-use Rattle.co_messages.specs.Messages.{by_name, is_of_messages, is_of_message}
+use Rattle.project_messages.specs.Messages.{by_name, is_of_messages, is_of_message}
 use Rattle.project_plan.specs.Named.{is_flagged}
 use Rattle.project_plan.proofs.named.Named.by.Given as goal
 

@@ -1,0 +1,8 @@
+-- One step after another.
+use Rattle.std.specs.Prelude.{Result, Ok, Err}
+
+infixl 10 ◌>>=◌
+-- a step after a step; the first fault stays
+abbrev pub ◌>>=◌ : {A B E : Type 0} → Result A E → (A → Result B E) → Result B E
+(Ok x) >>= f = f x
+(Err e) >>= f = Err e

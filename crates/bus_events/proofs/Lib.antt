@@ -1,4 +1,0 @@
-pub mod EventLemmas
-pub mod OtherLemmas
-pub mod StepLemmas
-pub mod TimeLemmas

@@ -1,4 +1,0 @@
-pub mod Steps
-pub mod Events
-pub mod Others
-pub mod Places

@@ -1,0 +1,6 @@
+pub mod CobIds
+pub mod ConsumerHeartbeatTimes
+pub mod Limits
+pub mod NmtStates
+pub mod PdoObjects
+pub mod TransmissionTypes

@@ -1,5 +1,0 @@
-pub mod Words
-pub mod Steps
-pub mod Links
-pub mod Requests
-pub mod Asked

@@ -1,6 +1,0 @@
-pub mod Faults
-pub mod Accepts
-pub mod Forms
-pub mod Versions
-pub mod Eds
-pub mod Edits

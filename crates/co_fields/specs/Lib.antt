@@ -1,4 +1,0 @@
-pub mod CobIds
-pub mod ConsumerHeartbeatTimes
-pub mod NmtStates
-pub mod TransmissionTypes

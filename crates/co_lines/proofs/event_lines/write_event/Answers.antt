@@ -1,7 +1,0 @@
-use Rattle.co_lines.proofs.EventLemmas.{event_written}
-use Rattle.co_lines.proofs.event_lines.write_event.Goals as goal
-
-pub returns-clause-written : goal.returns-clause-written
-returns-clause-written c =
-    event_written c.args.number c.args.event.now c.args.out.now.items _ _ _ c.in_ok-write_moment.ensures.written
-    c.in_ok-write_words.ensures.written c.in_ok-push.ensures.items

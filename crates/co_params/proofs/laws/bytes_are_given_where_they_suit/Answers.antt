@@ -1,5 +1,0 @@
-use Rattle.co_params.proofs.JudgedLemmas.{judged_suits}
-use Rattle.co_params.proofs.laws.bytes_are_given_where_they_suit.Goals as goal
-
-pub returns : goal.returns
-returns c = judged_suits

@@ -1,4 +1,0 @@
-pub mod Shared
-pub mod Contents
-pub mod ContentView
-pub mod Images

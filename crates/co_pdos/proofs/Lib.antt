@@ -1,6 +1,0 @@
-pub mod MappingLemmas
-pub mod PayloadLemmas
-pub mod RunLemmas
-pub mod StartLemmas
-pub mod TpdoLemmas
-pub mod WorkingLemmas

@@ -1,5 +1,0 @@
-use Rattle.co_pdos.proofs.TpdoLemmas.{last_is}
-use Rattle.co_pdos.proofs.laws.what_was_sent_is_remembered.Goals as goal
-
-pub returns : goal.returns
-returns c = last_is

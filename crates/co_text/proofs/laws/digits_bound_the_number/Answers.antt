@@ -1,5 +1,0 @@
-use Rattle.co_text.proofs.Capped.{digits_number-lt}
-use Rattle.co_text.proofs.laws.digits_bound_the_number.Goals as goal
-
-pub returns : goal.returns
-returns c = digits_number-lt

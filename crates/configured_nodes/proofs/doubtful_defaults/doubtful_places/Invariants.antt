@@ -1,6 +1,0 @@
-use Rattle.std.proofs.Common.{◌≡◌, filter, take}
-use Rattle.configured_nodes.specs.Doubtful.{is_doubtful}
-use Rattle.configured_nodes.proofs.doubtful_defaults.doubtful_places.Given as goal
-
-abbrev pub invariant-loop-place : goal.invariant-loop-place
-invariant-loop-place l = l.places.items ≡ filter (is_doubtful l.device.sections) (take l.place-index l.place-items)

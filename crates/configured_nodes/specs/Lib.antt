@@ -1,3 +1,0 @@
-pub mod Values
-pub mod Doubtful
-pub mod Wanted

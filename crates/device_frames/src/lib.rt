@@ -1,4 +1,0 @@
-//! Laws of the frames that wait at a device.
-#![tactic(auto)]
-
-pub mod laws;

@@ -1,3 +1,0 @@
-pub mod Writes
-pub mod Written
-pub mod Leaves

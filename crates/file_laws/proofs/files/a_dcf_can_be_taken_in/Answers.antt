@@ -1,5 +1,0 @@
-use Rattle.file_laws.proofs.FileLemmas.{taken_in}
-use Rattle.file_laws.proofs.files.a_dcf_can_be_taken_in.Goals as goal
-
-pub returns : goal.returns
-returns c = λ project id m name node. taken_in project id m node name

@@ -1,5 +1,0 @@
-use Rattle.file_laws.proofs.FileLemmas.{values}
-use Rattle.file_laws.proofs.files.a_dcf_gives_what_its_node_is_written.Goals as goal
-
-pub returns : goal.returns
-returns c = λ project id m place node. values project id m node place

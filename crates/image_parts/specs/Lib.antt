@@ -1,0 +1,9 @@
+pub mod Shared
+pub mod Contents
+pub mod ContentView
+pub mod Images
+pub mod Asking
+pub mod Alike
+pub mod Agenda
+pub mod Record
+pub mod Each

@@ -1,0 +1,11 @@
+pub mod MappingLemmas
+pub mod PayloadLemmas
+pub mod RunLemmas
+pub mod StartLemmas
+pub mod TpdoLemmas
+pub mod WorkingLemmas
+pub mod BitLemmas
+pub mod PackLemmas
+pub mod UnpackLemmas
+pub mod PositionLaws
+pub mod CarriedLaws

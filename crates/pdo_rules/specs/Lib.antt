@@ -1,0 +1,10 @@
+pub mod Configured
+pub mod Payloads
+pub mod Rpdo
+pub mod Runs
+pub mod Sync
+pub mod Tpdo
+pub mod Working
+pub mod Bits
+pub mod Carried
+pub mod Packing

@@ -1,0 +1,2 @@
+mod ControlLemmas
+pub mod EventLemmas

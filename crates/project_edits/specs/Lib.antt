@@ -1,0 +1,7 @@
+pub mod Faults
+pub mod Accepts
+pub mod Forms
+pub mod Versions
+pub mod Eds
+pub mod Edits
+pub mod Lines

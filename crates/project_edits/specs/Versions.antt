@@ -1,0 +1,20 @@
+-- The versions of scripts (this profile's own).
+use Rattle.std.specs.Prelude.{ℕ, ◌==◌, Bool, true, false, Result, Ok, Err, if◌then◌else◌}
+use Rattle.project_edits.specs.declared.fault.EditFault.{EditFault}
+use Rattle.project_edits.specs.declared.fault.EditFault.TheVariants.{Range}
+use Rattle.project_edits.specs.declared.script_version.ScriptVersion.{ScriptVersion}
+use Rattle.project_edits.specs.declared.script_version.ScriptVersion.TheVariants.{One, Two}
+
+-- the number of a version
+abbrev pub number_of : ScriptVersion → ℕ
+number_of One = 1
+number_of Two = 2
+
+-- version 1 knows no mandatory nodes
+abbrev pub is_one : ScriptVersion → Bool
+is_one One = true
+is_one Two = false
+
+-- the version of a number
+abbrev pub version_of : ℕ → Result ScriptVersion EditFault
+version_of n = if n == 1 then Ok One else if n == 2 then Ok Two else Err Range

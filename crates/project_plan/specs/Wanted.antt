@@ -1,0 +1,66 @@
+-- The values of a node that its diagnostics want once it is configured, and no others.
+use Rattle.std.specs.Prelude.{ℕ, ◌+◌, ◌==◌, ◌&&◌, ◌||◌, Bool, if◌then◌else◌, List, [], ◌∷◌, Option, None}
+use Rattle.std.specs.Prelude.{option_and_then}
+use Rattle.std.specs.FinMap.{from_entries, insert}
+use Rattle.std.specs.Option.{option_map_or, option_or}
+use Rattle.std.specs.Result.{result_ok}
+use Rattle.byteorder.specs.Endian.{little_bytes}
+use Rattle.base.specs.Ranges.{is_between}
+use Rattle.cia301.specs.CobIds.{no_rtr_bit}
+use Rattle.ini_text.specs.Content.{Section}
+use Rattle.co_dict.specs.Values.{Values}
+use Rattle.node_parameters.specs.Judgement.{parameter_bytes}
+use Rattle.node_parameters.specs.Parameters.{parameter_text}
+use Rattle.node_parameters.specs.Params.{Texts}
+use Rattle.eds_device.specs.Entries.{default_at, entry_at, given_at}
+use Rattle.eds_device.specs.Places.{pairs_of}
+use Rattle.cia301.specs.PdoObjects.{tpdo_object}
+use Rattle.pdo_plan.specs.declared.clean.Clean.{Clean}
+use Rattle.pdo_plan.specs.declared.planned_message.PlannedMessage.{PlannedMessage}
+use Rattle.pdo_plan.specs.Plan.{clean_of}
+use Rattle.pdo_links.specs.Writes.{tpdo_of}
+use Rattle.project_plan.specs.Network.{Member}
+use Rattle.cia301.specs.Limits.{is_pdo_number}
+
+-- whether the value of an entry is wanted: the COB-ID of a TPDO (1800h to 19FFh, sub 1), a heartbeat consumer (1016h),
+-- the heartbeat time (1017h) and the synchronous counter overflow value (1019h)
+abbrev pub is_wanted : ℕ × ℕ → Bool
+is_wanted place =
+    (is_between 0x1800 0x19FF place.0 && place.1 == 1) || (is_between 0x1016 0x1017 place.0 || place.0 == 0x1019)
+
+-- what the parameter of an entry gives it, where it has a text and no fault
+abbrev pub parameter_value : List Section → Texts → ℕ → ℕ × ℕ → Option (List ℕ)
+parameter_value ss params node place =
+    option_and_then (λ text. result_ok (parameter_bytes (entry_at ss node place.0 place.1) text node))
+    (parameter_text ss params place)
+
+-- and else its default
+abbrev pub value_given : List Section → Texts → ℕ → ℕ × ℕ → Option (List ℕ)
+value_given ss params node place =
+    option_or (parameter_value ss params node place) (default_at ss node place.0 place.1)
+
+abbrev pub wanted_value : List Section → Texts → ℕ → ℕ × ℕ → Option (List ℕ)
+wanted_value ss params node place = if is_wanted place then value_given ss params node place else None
+
+-- what is given to all entries whose value is wanted
+unfoldable pub values_given : List Section → Texts → ℕ → Values
+values_given ss params node = from_entries (given_at (wanted_value ss params node) (pairs_of ss))
+
+-- the COB-ID with which a message switches its sender's TPDO on
+abbrev pub cob_id_of : Clean → List ℕ
+cob_id_of c = little_bytes 4 (no_rtr_bit + c.identifier)
+
+-- values, and over them the COB-ID of a TPDO by its number (CiA 301: 1 to 512)
+abbrev pub with_tpdo : Values → ℕ × Clean → Values
+with_tpdo values tpdo =
+    if is_pdo_number tpdo.0 then insert values (tpdo_object tpdo.0, 1) (cob_id_of tpdo.1) else values
+
+-- values, and over them those of the TPDOs by which a node sends messages: of two of a number the first counts
+abbrev pub with_tpdos : Values → ℕ → List PlannedMessage → Values
+with_tpdos values node [] = values
+with_tpdos values node (m ∷ ms) = option_map_or (with_tpdo (with_tpdos values node ms))
+    (option_and_then (tpdo_of node) (clean_of m.outcome)) (with_tpdos values node ms)
+
+-- the values that are wanted of a node once it is configured by a plan
+abbrev pub wanted_by : List PlannedMessage → ℕ × Member → Values
+wanted_by plan e = with_tpdos (values_given e.1.sections e.1.node.params e.0) e.0 plan

@@ -1,0 +1,172 @@
+//! The values of a node that its diagnostics want once it is configured, and no others.
+ghost use Rattle.std.specs.Prelude.{◌≡◌, ◌≤◌, ◌+◌, IfOk, IfSome, OnOk, length};
+ghost use Rattle.std.specs.FinMap as map;
+ghost use Rattle.std.specs.Option.{option_and_then, option_map_or};
+ghost use Rattle.cia301.specs.CobIds.{no_rtr_bit};
+ghost use Rattle.co_values.specs.Values.{longest_value};
+ghost use Rattle.pdo_links.specs.Writes.{tpdo_of};
+ghost use Rattle.pdo_plan.specs.Plan.{clean_of};
+ghost use Rattle.project_plan.specs.Values.{member_of};
+ghost use Rattle.project_plan.specs.Wanted.{is_wanted, parameter_value, value_given, wanted_value, values_given};
+ghost use Rattle.project_plan.specs.Wanted.{with_tpdo, with_tpdos, wanted_by};
+
+use base::Octets;
+use byteorder::{ByteOrder, LittleEndian};
+use cia301::CobId;
+use co_dict::Dict;
+use co_project::Node;
+use eds_device::Device;
+use node_parameters::{Params, judge, parameter_text};
+use pdo_plan::{Clean, Outcome, Plan, PlannedMessage};
+use std::alloc::{AllocError, Global};
+
+/// The object before the communication parameter of the first TPDO.
+const BEFORE_TPDOS: u16 = 0x17FF;
+
+/// The sub-index of a COB-ID.
+const COB_ID: u8 = 1;
+
+/// Whether the value of an entry is wanted: the COB-ID of a TPDO, a heartbeat consumer, the heartbeat time and
+/// the synchronous counter overflow value.
+fn is_wanted(index: u16, sub: u8) -> bool
+    ensures { result ≡ is_wanted (index, sub) }
+{
+    match index {
+        0x1800..=0x19FF => sub == COB_ID,
+        0x1016..=0x1017 | 0x1019 => true,
+        _ => false,
+    }
+}
+
+/// What the parameter of an entry gives it, where it has a text and no fault.
+fn parameter_value(
+    alloc: Global,
+    id: u8,
+    params: &Params,
+    device: &Device,
+    index: u16,
+    sub: u8,
+) -> Result<Option<Octets>, AllocError>
+    ensures value { IfOk result (λ value. value ≡ parameter_value device.now.sections params.now id (index, sub)) }
+    ensures short { IfOk result (λ value. IfSome value (λ bytes. length bytes ≤ longest_value)) }
+{
+    let Some(text) = parameter_text(params, device, index, sub) else {
+        return Ok(None);
+    };
+    match judge(alloc, device, id, index, sub, text)? {
+        Ok(bytes) => Ok(Some(bytes)),
+        Err(_fault) => Ok(None),
+    }
+}
+
+/// Sets what is given to an entry: by its parameter, else its default.
+fn add_given(
+    values: &mut Dict,
+    alloc: Global,
+    id: u8,
+    params: &Params,
+    device: &Device,
+    index: u16,
+    sub: u8,
+) -> Result<(), AllocError>
+    ensures { OnOk result (values.new ≡ option_map_or (map.insert values.old (index, sub))
+        (value_given device.now.sections params.now id (index, sub)) values.old) }
+{
+    match parameter_value(alloc, id, params, device, index, sub)? {
+        Some(bytes) => values.write(index, sub, bytes.as_slice()),
+        None => device.add_default(values, id, index, sub),
+    }
+}
+
+/// Sets it where it is wanted.
+fn add_wanted(
+    values: &mut Dict,
+    alloc: Global,
+    id: u8,
+    params: &Params,
+    device: &Device,
+    index: u16,
+    sub: u8,
+) -> Result<(), AllocError>
+    ensures { OnOk result (values.new ≡ option_map_or (map.insert values.old (index, sub))
+        (wanted_value device.now.sections params.now id (index, sub)) values.old) }
+{
+    if is_wanted(index, sub) {
+        add_given(values, alloc, id, params, device, index, sub)
+    } else {
+        Ok(())
+    }
+}
+
+/// What is given to all entries whose value is wanted.
+fn values_given(alloc: Global, id: u8, params: &Params, device: &Device) -> Result<Dict, AllocError>
+    ensures { IfOk result (λ values. values ≡ values_given device.now.sections params.now id) }
+{
+    let mut values = Dict::new(alloc);
+    for place in device.pairs() {
+        add_wanted(&mut values, alloc, id, params, device, place.0, place.1)?;
+    }
+    Ok(values)
+}
+
+/// The COB-ID of a TPDO that is on, by the identifier of its frames.
+fn switched_on(identifier: u16) -> u32
+    ensures { result ≡ no_rtr_bit + identifier }
+{
+    CobId::NO_RTR_BIT + u32::from(identifier)
+}
+
+/// Writes the COB-ID with which a message switches its sender's TPDO on.
+fn write_cob_id(values: &mut Dict, clean: &Clean) -> Result<(), AllocError>
+    ensures { OnOk result (values.new ≡ with_tpdo values.old (clean.now.message.tpdo, clean.now)) }
+{
+    let number = clean.message.tpdo;
+    if !matches!(number, 1..=512) {
+        return Ok(());
+    }
+    let mut bytes = [0u8; 4];
+    LittleEndian::write_u32(&mut bytes, switched_on(clean.identifier));
+    values.write(BEFORE_TPDOS + number, COB_ID, &bytes)
+}
+
+/// Writes it of a message that a node sends.
+fn write_message(values: &mut Dict, planned: &PlannedMessage, id: u8) -> Result<(), AllocError>
+    ensures { OnOk result (values.new ≡ option_map_or (with_tpdo values.old)
+        (option_and_then (tpdo_of id) (clean_of planned.now.outcome)) values.old) }
+{
+    match &planned.outcome {
+        Outcome::Planned(clean) if clean.message.node == id => write_cob_id(values, clean),
+        _ => Ok(()),
+    }
+}
+
+/// Writes those of all messages that a node sends, from the last one on: of two of a number the first counts.
+fn write_messages(values: &mut Dict, messages: &[PlannedMessage], id: u8) -> Result<(), AllocError>
+    ensures { OnOk result (values.new ≡ with_tpdos values.old id messages.now) }
+{
+    let mut left = messages.len();
+    while left > 0 {
+        left -= 1;
+        write_message(values, &messages[left], id)?;
+    }
+    Ok(())
+}
+
+/// The values that are wanted of a node once it is configured by a plan: the COB-IDs of its TPDOs, its heartbeat
+/// consumers, its heartbeat time and its synchronous counter overflow value. Each is as among all its values: that
+/// of the message that is sent by the TPDO, else what its parameter gives the entry, else its default.
+///
+/// Takes time by the number of entries and messages, memory by that of the values.
+pub fn wanted_values(
+    alloc: Global,
+    plan: &Plan,
+    id: u8,
+    node: &Node,
+    device: &Device,
+) -> Result<Dict, AllocError>
+    ensures { IfOk result (λ values. values ≡ wanted_by plan.now (member_of id node.now device.now)) }
+{
+    let mut values = values_given(alloc, id, &node.params, device)?;
+    write_messages(&mut values, plan.messages(), id)?;
+    Ok(values)
+}

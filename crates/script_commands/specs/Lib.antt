@@ -1,0 +1,4 @@
+pub mod Words
+pub mod Links
+pub mod Requests
+pub mod Asked

@@ -1,4 +1,0 @@
-//! Laws of a download, request by request.
-#![tactic(auto)]
-
-pub mod laws;
