@@ -1,6 +1,6 @@
 -- What is kept of a node after a refresh.
-use Rattle.std.proofs.Common.{◌≡◌, ℕ, List, true, Option, Some, None, IfSome, is_some, option_map, option_and_then}
-use Rattle.std.proofs.Common.{refl, ap, subst, ◌∙◌}
+use Rattle.std.proofs.Common.{◌≡◌, ℕ, List, true, Option, Some, None, is_some, option_map, option_and_then}
+use Rattle.std.proofs.Common.{refl, ap, ◌∙◌}
 use Rattle.std.specs.FinMap.{contains_key}
 use Rattle.ini_text.specs.Content.{content_of}
 use Rattle.kept_values.specs.Shelved.{kept_at}
@@ -12,7 +12,6 @@ use Rattle.project_plan.specs.Network.{member_at, plan_of_project, with_sections
 use Rattle.ini_text.specs.Change.{text_of}
 use Rattle.concise_dcf.specs.Concise.{text_of as concise_text}
 use Rattle.eds_dcf.specs.Dcf.{dcf_sections}
-use Rattle.pdo_plan.specs.declared.planned_message.PlannedMessage.{PlannedMessage}
 use Rattle.kept_parts.specs.Kept.{held}
 use Rattle.project_parts.specs.Given.{concise_from, dcf_from, given, plan_from, whole, OfConcise, OfDcf}
 use Rattle.project_parts.specs.Given.{OfDiagnostics, OfPlan}
@@ -20,7 +19,6 @@ use Rattle.project_parts.specs.declared.diagnostics_from.DiagnosticsFrom.{Diagno
 use Rattle.co_diag.specs.Found.{diagnostics_of}
 use Rattle.kept_parts.specs.declared.kept_parts.KeptParts.{KeptParts}
 use Rattle.project_parts.specs.Made.{concise_made, dcf_made, plan_made}
-use Rattle.project_parts.specs.declared.part.Part.{Part}
 use Rattle.project_parts.specs.declared.part.Part.TheVariants as part
 use Rattle.project_parts.proofs.PlanLemmas.{concise_is_of, dcf_is_of, plan_is}
 use Rattle.workbench.specs.Queries.{concise_of, dcf_of}

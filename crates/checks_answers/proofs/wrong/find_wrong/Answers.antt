@@ -1,7 +1,6 @@
 use Rattle.std.proofs.Common.{◌≡◌, ◌∙◌, Some, option_map, rules}
 use Rattle.project_plan.specs.Network.{plan_of_project}
 use Rattle.project_parts.specs.Made.{plan_made}
-use Rattle.project_parts.specs.declared.part.Part.TheVariants as part
 use Rattle.workbench.proofs.KeptFiles.{one_is, plan_now}
 use Rattle.checks_answers.proofs.wrong.find_wrong.Goals as goal
 

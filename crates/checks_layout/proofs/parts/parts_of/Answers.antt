@@ -1,4 +1,4 @@
-use Rattle.std.proofs.Common.{◌≡◌, ◌∙◌, [], ap, sym, subst}
+use Rattle.std.proofs.Common.{◌∙◌, [], ap, sym, subst}
 use Rattle.image_parts.specs.Asking.{Seen}
 use Rattle.image_parts.specs.Contents.{Content, Image}
 use Rattle.image_parts.specs.Images.{IsImage}

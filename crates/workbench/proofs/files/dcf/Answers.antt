@@ -1,5 +1,4 @@
 use Rattle.std.proofs.Common.{◌≡◌, ◌∙◌, Some, option_copied, ap, sym, rules}
-use Rattle.project_parts.specs.declared.part.Part.TheVariants as part
 use Rattle.workbench.proofs.KeptFiles.{dcf_there, dcf_now}
 use Rattle.workbench.proofs.files.dcf.Goals as goal
 

@@ -5,7 +5,6 @@ use Rattle.std.proofs.lemmas.Result.{err_from_is_err_and}
 use Rattle.streams.specs.declared.fault.SessionFault.TheVariants.{Memory}
 use Rattle.workbench.specs.Machine.{after}
 use Rattle.workbench.specs.Views.{cursor_of}
-use Rattle.workbench.specs.declared.serving.TheConstants.{LIMIT}
 use Rattle.workbench.proofs.Ends.{all_in_piece, came-all, came-none, cursor_both, cut_at}
 use Rattle.workbench.proofs.Ends.{none_complete, not_begun}
 use Rattle.workbench.proofs.PutReplies.{puts_as, wrote_all}

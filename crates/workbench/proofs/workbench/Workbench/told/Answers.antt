@@ -1,4 +1,3 @@
-use Rattle.std.proofs.Common.{refl}
 use Rattle.workbench.proofs.workbench.Workbench.told.Goals as goal
 
 pub returns-clause-traces : goal.returns-clause-traces
