@@ -6,7 +6,7 @@ use Rattle.base.specs.Ranges.{is_between}
 abbrev pub is_node_number : ℕ → Bool
 is_node_number n = is_between 1 127 n
 
--- so is this one
+-- the same, as a proposition
 abbrev pub IsNodeNumber : ℕ → Type 0
 IsNodeNumber number = (1 ≤ number) × (number ≤ 127)
 
