@@ -3,12 +3,12 @@ use Rattle.std.specs.Prelude.{◌≤◌, ◌==◌, ℕ, Bool, All, List, [], tak
 use Rattle.std.specs.List.{AllByRecursion, prefix_len}
 use Rattle.std.specs.declared.rc.Rc.{Rc}
 use Rattle.image_parts.specs.Images.{IsFree}
-use Rattle.image_parts.specs.Shared.{shared}
+use Rattle.image_parts.specs.Shared.{value_behind}
 use Rattle.co_scenario.specs.declared.timed_step.TimedStep.{TimedStep}
 
 -- the events of a window that was handed out; none where it is absent
 abbrev pub in_window : {Z : Type 0} → Option (Rc (List TimedStep) Z) → List TimedStep
-in_window window = unwrap_or (shared window) []
+in_window window = unwrap_or (value_behind window) []
 
 -- the events change no object of a PDO, and set values of at most 512 bytes
 abbrev pub AreFree : List TimedStep → Type 0

@@ -17,7 +17,7 @@ use crate::outlook::Outlook;
 use base::earlier;
 use can_frame::Contender;
 use co_dict::Dict;
-use device_agenda::{Agenda, Delivery, SharedDevice};
+use device_agenda::{Agenda, Delivery, ScheduledDevice};
 use device_objects::Shapes;
 use image_parts::END;
 use std::alloc::AllocError;
@@ -37,7 +37,7 @@ pub(crate) struct Block {
 
 impl Block {
     /// That of at most eight devices. Walks them.
-    pub(crate) fn of(devices: &[SharedDevice]) -> Block
+    pub(crate) fn of(devices: &[ScheduledDevice]) -> Block
         requires { length devices.now ≤ 8 }
         ensures { IsBlockOf result devices.now }
     {
@@ -49,7 +49,7 @@ impl Block {
 }
 
 /// The agendas of at most eight devices, in their order.
-fn agendas_of(devices: &[SharedDevice]) -> [Agenda; BLOCK]
+fn agendas_of(devices: &[ScheduledDevice]) -> [Agenda; BLOCK]
     requires { length devices.now ≤ 8 }
     ensures { AreAgendasOf result devices.now }
 {
@@ -61,7 +61,7 @@ fn agendas_of(devices: &[SharedDevice]) -> [Agenda; BLOCK]
 }
 
 /// The agenda of devices.
-pub(crate) fn agenda_of(devices: &[SharedDevice]) -> Agenda
+pub(crate) fn agenda_of(devices: &[ScheduledDevice]) -> Agenda
     ensures { IsAgendaOf result devices.now }
 {
     let mut agenda = Agenda::none();
@@ -74,7 +74,7 @@ pub(crate) fn agenda_of(devices: &[SharedDevice]) -> Agenda
 /// Runs a device of this agenda, if it has to run at the moment t, at which this is delivered, and says whether it
 /// had to. It isn't touched where its agenda says that it sleeps.
 fn run_one<P: Shapes>(
-    device: &mut SharedDevice,
+    device: &mut ScheduledDevice,
     agenda: &Agenda,
     t: u64,
     delivery: &Option<Delivery>,
@@ -98,7 +98,7 @@ fn run_one<P: Shapes>(
 /// Runs each device that has to run at the moment t, at which this is delivered, and says whether one had to. The
 /// agendas are theirs.
 pub(crate) fn run_each<P: Shapes>(
-    devices: &mut [SharedDevice],
+    devices: &mut [ScheduledDevice],
     agendas: &[Agenda],
     t: u64,
     delivery: &Option<Delivery>,
@@ -122,7 +122,7 @@ pub(crate) fn run_each<P: Shapes>(
 }
 
 /// The first moment at which one of the devices is due, if there is one. Walks them.
-pub(crate) fn first_due(devices: &[SharedDevice]) -> Option<u64>
+pub(crate) fn first_due(devices: &[ScheduledDevice]) -> Option<u64>
     ensures { result ≡ earliest (flat_map moments devices.now) }
 {
     let mut first = None;
@@ -133,7 +133,7 @@ pub(crate) fn first_due(devices: &[SharedDevice]) -> Option<u64>
 }
 
 /// The least frame that waits at one of the devices. Walks them.
-pub(crate) fn winner_of(devices: &[SharedDevice]) -> Option<Contender>
+pub(crate) fn winner_of(devices: &[ScheduledDevice]) -> Option<Contender>
     ensures { IsWinner (contenders (device_lists devices.now)) result }
 {
     let mut best = None;
@@ -159,7 +159,7 @@ fn is_same(contender: &Contender, other: Option<Contender>) -> bool
 }
 
 /// Whether a device contends with this frame.
-fn contends_with(contender: &Contender, device: &SharedDevice) -> bool
+fn contends_with(contender: &Contender, device: &ScheduledDevice) -> bool
     ensures { result ≡ contends contender.now device.now }
 {
     is_same(contender, device.contender())
@@ -167,7 +167,7 @@ fn contends_with(contender: &Contender, device: &SharedDevice) -> bool
 
 /// The place of the first device that contends with this frame. Walks them.
 #[tactic(auto, unfolding(crate::specs::Senders::sender_place))]
-pub(crate) fn place_of_sender(contender: &Contender, devices: &[SharedDevice]) -> Option<usize>
+pub(crate) fn place_of_sender(contender: &Contender, devices: &[ScheduledDevice]) -> Option<usize>
     ensures { result ≡ sender_place contender.now devices.now }
 {
     devices
@@ -176,14 +176,14 @@ pub(crate) fn place_of_sender(contender: &Contender, devices: &[SharedDevice]) -
 }
 
 /// The first device of a number. Walks them.
-fn device_of(node: u8, devices: &[SharedDevice]) -> Option<&SharedDevice>
+fn device_of(node: u8, devices: &[ScheduledDevice]) -> Option<&ScheduledDevice>
     ensures { option_copied result ≡ first_of node devices.now }
 {
     devices.iter().find(|device| device.number() == node)
 }
 
 /// The values of the first device of a number. Walks the devices.
-pub(crate) fn values_of(node: u8, devices: &[SharedDevice]) -> Option<&Dict>
+pub(crate) fn values_of(node: u8, devices: &[ScheduledDevice]) -> Option<&Dict>
     ensures { option_copied result ≡ first_values_of node devices.now }
 {
     let device = device_of(node, devices)?;

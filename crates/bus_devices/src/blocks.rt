@@ -14,7 +14,7 @@ ghost use Rattle.device_agenda.specs.Agenda.{at_instant, sleeps_through, IsAgend
 use crate::block::{BLOCK, Block, place_of_sender, run_each, winner_of};
 use crate::outlook::Outlook;
 use can_frame::Contender;
-use device_agenda::{Delivery, SharedDevice};
+use device_agenda::{Delivery, ScheduledDevice};
 use device_objects::Shapes;
 use image_parts::END;
 use std::alloc::AllocError;
@@ -27,7 +27,7 @@ fn first_block(count: usize) -> usize
 }
 
 /// Works out what is known of all blocks. Walks the devices.
-pub(crate) fn plan(blocks: &mut Vec<Block>, devices: &[SharedDevice]) -> Result<(), AllocError>
+pub(crate) fn plan(blocks: &mut Vec<Block>, devices: &[ScheduledDevice]) -> Result<(), AllocError>
     ensures { OnOk result (AreBlocksOf blocks.new.items devices.now) }
 {
     blocks.clear();
@@ -45,7 +45,7 @@ pub(crate) fn plan(blocks: &mut Vec<Block>, devices: &[SharedDevice]) -> Result<
 /// them. Says whether one had to.
 fn run_block<P: Shapes>(
     block: &mut Block,
-    devices: &mut [SharedDevice],
+    devices: &mut [ScheduledDevice],
     t: u64,
     delivery: &Option<Delivery>,
     shapes: &mut P,
@@ -97,7 +97,7 @@ fn devices_of(blocks: usize, count: usize) -> usize
 /// them. Passes over the blocks that sleep, and goes as deep as there are others.
 pub(crate) fn run_blocks<P: Shapes>(
     blocks: &mut [Block],
-    devices: &mut [SharedDevice],
+    devices: &mut [ScheduledDevice],
     t: u64,
     delivery: &Option<Delivery>,
     shapes: &mut P,
@@ -127,7 +127,7 @@ pub(crate) fn run_blocks<P: Shapes>(
 
 /// Works out anew which frame wins in the block of a place, after the frames have changed that wait at the device
 /// there. Walks the devices of the block.
-pub(crate) fn plan_best(blocks: &mut [Block], devices: &[SharedDevice], i: usize)
+pub(crate) fn plan_best(blocks: &mut [Block], devices: &[ScheduledDevice], i: usize)
     requires { WereBlocksOf i blocks.old devices.now }
     ensures { AreBlocksOf blocks.new devices.now }
 {
@@ -182,7 +182,7 @@ fn may_wait_at(contender: &Contender, best: &Option<Contender>) -> bool
 }
 
 /// The place of the first device of a block that contends with a frame.
-fn place_in(contender: &Contender, block: &Block, devices: &[SharedDevice]) -> Option<usize>
+fn place_in(contender: &Contender, block: &Block, devices: &[ScheduledDevice]) -> Option<usize>
     requires { IsBlockOf block.now devices.now }
     ensures { result ≡ place_of contender.now devices.now }
 {
@@ -198,7 +198,7 @@ fn place_in(contender: &Contender, block: &Block, devices: &[SharedDevice]) -> O
 pub(crate) fn sender_place(
     contender: &Contender,
     blocks: &[Block],
-    devices: &[SharedDevice],
+    devices: &[ScheduledDevice],
 ) -> Option<usize>
     requires { AreBlocksOf blocks.now devices.now }
     ensures { result ≡ place_of contender.now devices.now }

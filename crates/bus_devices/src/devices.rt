@@ -22,7 +22,7 @@ use crate::lists::{copy_all, differ_at, tell_apart};
 use crate::outlook::Outlook;
 use can_frame::{Contender, Waiting};
 use co_dict::Dict;
-use device_agenda::{Delivery, SharedDevice};
+use device_agenda::{Delivery, ScheduledDevice};
 use device_objects::Shapes;
 use image_parts::END;
 use std::alloc::{AllocError, Global};
@@ -35,7 +35,7 @@ use std::marker::Model;
 #[derive(Drop)]
 pub struct Devices {
     alloc: Global,
-    devices: Vec<SharedDevice>,
+    devices: Vec<ScheduledDevice>,
     blocks: Vec<Block>,
     all: Outlook,
     known: bool,
@@ -67,7 +67,7 @@ impl Devices {
     }
 
     /// These devices. Takes no memory.
-    pub fn of(alloc: Global, devices: Vec<SharedDevice>) -> Devices
+    pub fn of(alloc: Global, devices: Vec<ScheduledDevice>) -> Devices
         ensures { result ≡ devices.items }
     {
         Devices {
@@ -80,7 +80,7 @@ impl Devices {
     }
 
     /// The vector of these devices.
-    pub fn into_vec(self) -> Vec<SharedDevice>
+    pub fn into_vec(self) -> Vec<ScheduledDevice>
         ensures { result.items ≡ self }
     {
         self.devices

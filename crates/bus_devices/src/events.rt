@@ -10,7 +10,7 @@ ghost use Rattle.image_parts.specs.Images.{IsFree};
 ghost use Rattle.cia301.specs.PdoObjects.{is_of_pdos};
 
 use co_scenario::{Step, TimedStep};
-use device_agenda::SharedDevice;
+use device_agenda::ScheduledDevice;
 use device_objects::Shapes;
 use image_parts::END;
 use nmt_boot::Manager;
@@ -19,7 +19,7 @@ use std::alloc::AllocError;
 /// A device sets an entry of its own at the moment t, if it has this number.
 #[tactic(auto, unfolding(crate::specs::Events::after_set_at))]
 fn set_one(
-    device: &mut SharedDevice,
+    device: &mut ScheduledDevice,
     t: u64,
     node: u8,
     place: (u16, u8),
@@ -38,7 +38,7 @@ fn set_one(
 
 /// The devices of this number set an entry of their own at the moment t.
 fn set_each(
-    devices: &mut [SharedDevice],
+    devices: &mut [ScheduledDevice],
     t: u64,
     node: u8,
     place: (u16, u8),
@@ -58,7 +58,7 @@ fn set_each(
 /// Switches the power of a device at the moment t, if it has this number.
 #[tactic(auto, unfolding(crate::specs::Events::after_power_at))]
 fn power_one<P: Shapes>(
-    device: &mut SharedDevice,
+    device: &mut ScheduledDevice,
     t: u64,
     node: u8,
     on: bool,
@@ -78,7 +78,7 @@ fn power_one<P: Shapes>(
 
 /// Switches the power of the devices of this number at the moment t.
 fn power_each<P: Shapes>(
-    devices: &mut [SharedDevice],
+    devices: &mut [ScheduledDevice],
     t: u64,
     node: u8,
     on: bool,
@@ -100,7 +100,7 @@ fn power_each<P: Shapes>(
 /// An event happens at the moment t.
 #[tactic(auto, using(crate::proofs::EventLemmas::happens_laws))]
 fn happen<P: Shapes>(
-    devices: &mut [SharedDevice],
+    devices: &mut [ScheduledDevice],
     manager: &mut Manager,
     t: u64,
     step: &Step,
@@ -130,7 +130,7 @@ fn happen<P: Shapes>(
 
 /// Runs events at the moment t, one after another. Takes time by their number times that of the devices.
 pub fn run_events<P: Shapes>(
-    devices: &mut [SharedDevice],
+    devices: &mut [ScheduledDevice],
     manager: &mut Manager,
     t: u64,
     steps: &[TimedStep],

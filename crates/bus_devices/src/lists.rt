@@ -8,17 +8,17 @@ ghost use Rattle.bus_devices.specs.Telling.{TellsApart};
 ghost use Rattle.co_device.specs.Device.{after_power, without_power};
 
 use crate::apart::Apart;
-use device_agenda::SharedDevice;
+use device_agenda::ScheduledDevice;
 use device_objects::Shapes;
 use std::alloc::{AllocError, Global};
 
 /// The devices of these numbers without power.
-pub fn new_devices(alloc: Global, numbers: &[u8]) -> Result<Vec<SharedDevice>, AllocError>
+pub fn new_devices(alloc: Global, numbers: &[u8]) -> Result<Vec<ScheduledDevice>, AllocError>
     ensures { IfOk result (λ devices. devices.items ≡ map (without_power false) numbers.now) }
 {
     let mut devices = Vec::new(alloc);
     for number in numbers {
-        let device = SharedDevice::new(alloc, *number)?;
+        let device = ScheduledDevice::new(alloc, *number)?;
         devices.push(device)?;
     }
     Ok(devices)
@@ -27,8 +27,8 @@ pub fn new_devices(alloc: Global, numbers: &[u8]) -> Result<Vec<SharedDevice>, A
 /// Devices that are equal to these.
 pub(crate) fn copy_all(
     alloc: Global,
-    devices: &[SharedDevice],
-) -> Result<Vec<SharedDevice>, AllocError>
+    devices: &[ScheduledDevice],
+) -> Result<Vec<ScheduledDevice>, AllocError>
     ensures { IfOk result (λ copies. copies.items ≡ devices.now) }
 {
     let mut copies = Vec::new(alloc);
@@ -40,7 +40,11 @@ pub(crate) fn copy_all(
 }
 
 /// Whether a quick look at the devices of a place tells two lists apart. Takes the time of one such look.
-pub(crate) fn differ_at(devices: &[SharedDevice], others: &[SharedDevice], place: usize) -> bool
+pub(crate) fn differ_at(
+    devices: &[ScheduledDevice],
+    others: &[ScheduledDevice],
+    place: usize,
+) -> bool
     ensures { IsTrue result → slice_get devices.now place ≡ slice_get others.now place → ⊥ }
 {
     match (devices.get(place), others.get(place)) {
@@ -51,7 +55,7 @@ pub(crate) fn differ_at(devices: &[SharedDevice], others: &[SharedDevice], place
 
 /// The first place at which a quick look tells the devices of two lists apart, if there is one. Looks at each of
 /// them up to that place.
-fn place_apart(devices: &[SharedDevice], others: &[SharedDevice]) -> Option<usize>
+fn place_apart(devices: &[ScheduledDevice], others: &[ScheduledDevice]) -> Option<usize>
     ensures { IfSome result (λ place. slice_get devices.now place ≡ slice_get others.now place → ⊥) }
 {
     for place in 0..devices.len() {
@@ -63,7 +67,7 @@ fn place_apart(devices: &[SharedDevice], others: &[SharedDevice]) -> Option<usiz
 }
 
 /// Whether the devices of two lists of one length are the same. Compares one after another by value.
-fn same_each(devices: &[SharedDevice], others: &[SharedDevice]) -> bool
+fn same_each(devices: &[ScheduledDevice], others: &[ScheduledDevice]) -> bool
     requires { length devices.now ≡ length others.now }
     ensures { IsTrue result ↔ (devices.now ≡ others.now) }
 {
@@ -77,7 +81,7 @@ fn same_each(devices: &[SharedDevice], others: &[SharedDevice]) -> bool
 
 /// What tells the devices of two lists apart. Looks at each of them quickly before it compares one by value; lists
 /// of other lengths are told apart by these.
-pub(crate) fn tell_apart(devices: &[SharedDevice], others: &[SharedDevice]) -> Apart
+pub(crate) fn tell_apart(devices: &[ScheduledDevice], others: &[ScheduledDevice]) -> Apart
     ensures { TellsApart result devices.now others.now }
 {
     if devices.len() != others.len() {
@@ -94,7 +98,10 @@ pub(crate) fn tell_apart(devices: &[SharedDevice], others: &[SharedDevice]) -> A
 }
 
 /// Switches the power of each on, at time 0.
-pub fn power_all<P: Shapes>(devices: &mut [SharedDevice], shapes: &mut P) -> Result<(), AllocError>
+pub fn power_all<P: Shapes>(
+    devices: &mut [ScheduledDevice],
+    shapes: &mut P,
+) -> Result<(), AllocError>
     ensures state { OnOk result (devices.new ≡ outcome (each (after_power true 0) devices.old)
         (P.seen shapes.old).image) }
     ensures asked { OnOk result (IsAsked (each (after_power true 0) devices.old)

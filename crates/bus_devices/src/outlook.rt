@@ -6,7 +6,7 @@ ghost use Rattle.co_device.specs.Device.{Device};
 
 use crate::block::{agenda_of, winner_of};
 use can_frame::Contender;
-use device_agenda::{Agenda, SharedDevice};
+use device_agenda::{Agenda, ScheduledDevice};
 
 /// What is known of devices in a row: when they have to run, and which of their frames wins.
 #[derive(Clone, Copy, Debug)]
@@ -29,7 +29,7 @@ impl Outlook {
     }
 
     /// That of devices. Walks them.
-    pub(crate) fn of(devices: &[SharedDevice]) -> Outlook
+    pub(crate) fn of(devices: &[ScheduledDevice]) -> Outlook
         ensures { IsOutlookOf result devices.now }
     {
         Outlook {

@@ -4,7 +4,7 @@ use Rattle.std.proofs.Common.{Some, None, refl, sym, ap, ◌∙◌, subst, arith
 use Rattle.std.specs.Prelude.{Contains, remove, slice_get, slice_index_or, slice_set}
 use Rattle.std.proofs.lemmas.List.Quantifiers.{position-Some}
 use Rattle.std.proofs.lemmas.Option.{get_or_from_slice_get, none-some, same_Some, slice_get-get_or, slice_get_within}
-use Rattle.can_frame.specs.Winner.{contenders, winner_of, IsWinner}
+use Rattle.can_frame.specs.Winner.{contenders, IsWinner}
 use Rattle.can_frame.specs.WaitingFrames.{waiting}
 use Rattle.can_frame.specs.declared.contender.Contender.{Contender}
 use Rattle.can_frame.specs.declared.purpose.Purpose.TheVariants.{Nmt}

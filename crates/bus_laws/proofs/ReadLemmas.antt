@@ -1,19 +1,21 @@
 -- What an instant reads, and nothing else.
-use Rattle.std.proofs.Common.{◌≡◌, ◌≢◌, ℕ, zero, suc, Bool, true, false, not, ◌&&◌, List, [], ◌∷◌, ◌++◌, length, Option}
-use Rattle.std.proofs.Common.{Some, None, ◌⊎◌, inl, inr, refl, sym, ap, ◌∙◌, arith}
-use Rattle.std.specs.Prelude.{if◌then◌else◌, ◌==◌, slice_index_or, slice_set}
+use Rattle.std.proofs.Common.{◌≡◌, ◌≢◌, ℕ, zero, suc, Bool, true, false, List, [], ◌∷◌, ◌++◌, length, Option, Some}
+use Rattle.std.proofs.Common.{None, ◌⊎◌, inl, inr, refl, sym, ap, ◌∙◌, arith}
+use Rattle.std.specs.Prelude.{if◌then◌else◌, ◌==◌, slice_set}
 use Rattle.std.specs.List.{AllByRecursion}
 use Rattle.std.proofs.lemmas.Bool.{false≢true}
 use Rattle.std.proofs.lemmas.Bool.Decides.{nat_tests}
 use Rattle.image_parts.specs.Asking.{Asking, outcome, reads}
 use Rattle.image_parts.proofs.QuestionLemmas.{reads_bind}
 use Rattle.can_frame.specs.Frames.{BaseFrame}
-use Rattle.can_frame.specs.Identifiers.{nmt_id, sdo_request_id}
-use Rattle.co_device.specs.Device.{Device, is_addressed, is_error_control, is_in, nmt_service, reset_communication}
-use Rattle.co_device.specs.Device.{after_reset_node, after_sdo_request, with_emergency}
-use Rattle.co_device.specs.Receiving.{after_mapping, after_kept_frame, after_pdo, rpdo_places, after_frame, after_rpdo}
+use Rattle.can_frame.specs.Identifiers.{sdo_request_id}
+use Rattle.co_device.specs.Device.{Device, is_in, nmt_service, reset_communication, after_reset_node}
+use Rattle.co_device.specs.Device.{after_sdo_request, with_emergency}
+use Rattle.co_device.specs.Receiving.{after_mapping, after_kept_frame, after_pdo, rpdo_places, after_frame}
+use Rattle.co_device.specs.Receiving.{after_rpdo, after_sync_at, after_sync, after_receipt, walk, after_reception}
+use Rattle.co_device.specs.Receiving.{reception}
 use Rattle.pdo_rules.specs.Sync.{sync_message}
-use Rattle.co_device.specs.Receiving.{after_sync_at, after_sync, after_receipt, walk}
+use Rattle.co_device.proofs.ReceptionLemmas.{IsService, Says, reception_says}
 use Rattle.cia301.specs.declared.nmt_state.NmtState.TheVariants.{Operational, Stopped}
 use Rattle.image_parts.specs.Contents.{Content, Image}
 use Rattle.image_parts.specs.declared.part.Part.{Part}
@@ -23,6 +25,9 @@ use Rattle.pdo_rules.specs.declared.receipt.Receipt.TheVariants.{AtOnce, Ignored
 use Rattle.can_frame.specs.WaitingFrames.{waiting}
 use Rattle.can_frame.specs.declared.purpose.Purpose.TheVariants.{Emergency}
 use Rattle.device_objects.specs.Profile.{emergency_frame, error_register, sync_identifier}
+use Rattle.device_objects.specs.declared.reception.Reception.{Reception}
+use Rattle.device_objects.specs.declared.reception.Reception.TheVariants.{Nothing, NmtService, Sync, SdoRequest}
+use Rattle.device_objects.specs.declared.reception.Reception.TheVariants.{ErrorControl, Pdo}
 use Rattle.co_scenario.specs.Commands.{command_of}
 use Rattle.co_scenario.specs.declared.nmt_command.NmtCommand.{NmtCommand}
 use Rattle.co_scenario.specs.declared.nmt_command.NmtCommand.TheVariants.{EnterPreOperational, ResetCommunication}
@@ -62,14 +67,6 @@ it_is_not a b e f = absurd (false≢true (sym e ∙ ap (λ n. n == b) f ∙ itse
   where
     itself : (n : ℕ) → (n == n) ≡ true
     itself n = grind (arith, nat_tests)
-
-on_by : (b : Bool) → not b ≡ false → b ≡ true
-on_by true h = refl
-on_by false h = absurd cc
-
-both_hold : (a b : Bool) → (a && b) ≡ true → (a ≡ true) × (b ≡ true)
-both_hold true b h = (refl, h)
-both_hold false b h = absurd cc
 
 -- ---- a device and a frame
 
@@ -239,18 +236,27 @@ module _ (image : Image) (t : ℕ) (frame : BaseFrame) (d : Device) where
   sync_reads is = picked image R (is_in Operational d) _ _ (λ e. sync_walk e is (rpdo_places d)
       (record d { synced = Some (sync_message frame.bytes) }) refl (inl refl)) (λ e. tt)
 
+  with_power : d.has_power ≡ true → (rs : List (Part × Content)) → AreFor R rs
+      → AreFor (λ part. (d.has_power ≡ true) × R part) rs
+  with_power on rs h = weaker R (λ part. (d.has_power ≡ true) × R part) (λ part h. (on, h)) rs h
+
+  command_reads : (service : ℕ) → IsService service frame d → AreFor R (reads (nmt_service (command_of service) t d) image)
+  command_reads service said = service_reads (command_of service) (λ h. record {
+    is_command = said.is_command;
+    is_addressed_to = said.is_addressed_to;
+    resets = rw said.is_service at h;
+  })
+
+  received_reads : (r : Reception) → Says r frame d
+      → AreFor (λ part. (d.has_power ≡ true) × R part) (reads (after_reception r t frame d) image)
+  unfolding after_reception
+  received_reads Nothing said = tt
+  received_reads (NmtService service) said = with_power said.has_power _ (command_reads service said)
+  received_reads Sync said = with_power said.has_power _ (sync_reads said.is_sync)
+  received_reads SdoRequest said = with_power said.has_power _ (request_reads said.is_request said.is_whole)
+  received_reads (ErrorControl producer) said = tt
+  received_reads Pdo said = with_power said _ pdo_reads
+
   pub frame_reads : AreFor (λ part. (d.has_power ≡ true) × R part) (reads (after_frame t frame d) image)
   unfolding after_frame
-  frame_reads =
-      picked image (λ part. (d.has_power ≡ true) × R part) (not d.has_power) _ _ (λ off. tt)
-      (λ on. weaker R (λ part. (d.has_power ≡ true) × R part) (λ part h. (on_by d.has_power on, h)) _
-      (picked image R (frame.id == nmt_id) _ _
-      (λ nmt. picked image R (is_addressed d.number frame.bytes) _ _
-      (λ to. service_reads (command_of (slice_index_or frame.bytes 0 0))
-      (λ h. record { is_command = it_is frame.id nmt_id nmt; is_addressed_to = to; resets = h })) (λ to. tt))
-      (λ no_nmt. picked image R (frame.id == sync_identifier d.learnt d.values) _ _
-      (λ e. sync_reads (it_is frame.id (sync_identifier d.learnt d.values) e))
-      (λ no_sync. picked image R ((frame.id == sdo_request_id d.number) && (length frame.bytes == 8)) _ _
-      (λ e. let both = both_hold (frame.id == sdo_request_id d.number) (length frame.bytes == 8) e
-      in request_reads (it_is frame.id (sdo_request_id d.number) both.0) (it_is (length frame.bytes) 8 both.1))
-      (λ no_request. picked image R (is_error_control frame) _ _ (λ e. tt) (λ e. pdo_reads))))))
+  frame_reads = received_reads (reception frame d) (reception_says frame d)

@@ -5,7 +5,7 @@ use Rattle.image_parts.specs.Asking.{outcome}
 use Rattle.bus_devices.specs.Steps.{steps_due}
 use Rattle.can_frame.specs.Frames.{BaseFrame}
 use Rattle.can_frame.specs.Identifiers.{nmt_id, sdo_answer_id, sdo_request_id}
-use Rattle.co_device.specs.Device.{Device, is_addressed, is_in}
+use Rattle.co_device.specs.Device.{Device, is_in}
 use Rattle.cia301.specs.declared.nmt_state.NmtState.TheVariants.{Operational, Stopped}
 use Rattle.image_parts.specs.Contents.{Image, identity_of}
 use Rattle.image_parts.specs.declared.identity.Identity.{Identity}
@@ -13,6 +13,7 @@ use Rattle.image_parts.specs.declared.part.Part.{Part}
 use Rattle.image_parts.specs.declared.part.Part.TheVariants.{Boot, Events, Expect, Shape}
 use Rattle.pdo_rules.specs.declared.receipt.Receipt.TheVariants.{AtOnce}
 use Rattle.device_objects.specs.Profile.{sync_identifier}
+use Rattle.device_objects.specs.Reception.{is_addressed}
 use Rattle.co_scenario.specs.Commands.{command_of}
 use Rattle.co_scenario.specs.declared.nmt_command.NmtCommand.{NmtCommand}
 use Rattle.co_scenario.specs.declared.nmt_command.NmtCommand.TheVariants.{ResetCommunication, ResetNode}

@@ -17,7 +17,7 @@ use Rattle.bus_devices.specs.Steps.{AreFree, in_window, steps_due, steps_left}
 use Rattle.co_device.specs.Device.{Device}
 use Rattle.image_parts.specs.Contents.{Content, Image}
 use Rattle.image_parts.specs.Images.{IsWithin}
-use Rattle.image_parts.specs.Shared.{shared}
+use Rattle.image_parts.specs.Shared.{value_behind}
 use Rattle.image_parts.specs.declared.part.Part.{Part}
 use Rattle.co_scenario.specs.declared.timed_step.TimedStep.{TimedStep}
 use Rattle.nmt_boot.specs.Manager.{Manager}
@@ -25,7 +25,7 @@ use Rattle.can_bus.specs.Bus.{Bus, with_nodes, after_events}
 
 -- the events that are handed out change no object of a PDO
 pub free_window : {Z : Type 0} (i : ℕ) (window : Option (Rc (List TimedStep) Z))
-    → IfSome (shared window) (AllByRecursion (IsWithin i)) → AreFree (in_window window)
+    → IfSome (value_behind window) (AllByRecursion (IsWithin i)) → AreFree (in_window window)
 free_window i None h = tt
 free_window i (Some window) h = free_within i window.value h
 

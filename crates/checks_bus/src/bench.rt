@@ -8,8 +8,9 @@ use crate::taken::{take_of_device, take_of_manager};
 use anyhow::Result;
 use base::Octets;
 use can_frame::{Frame, Waiting};
-use co_device::DeviceState;
-use co_dict::{Access, is_of_pdos};
+use cia301::is_of_pdos;
+use co_device::Device;
+use co_dict::Access;
 use co_scenario::NmtCommand;
 use concise_dcf::Write as Written;
 use image_parts::{END, Identity, Roster, StartMode};
@@ -25,7 +26,7 @@ pub struct Bench {
     alloc: Global,
     entries: Entries,
     node: OneNode,
-    device: DeviceState,
+    device: Device,
     last: u64,
     roster: Roster,
     manager: Manager,
@@ -102,7 +103,7 @@ fn show_taken<W: Write>(out: &mut W, taken: Option<Waiting>) -> Result<()> {
 
 /// The application sets an entry, unless that is one of a PDO, or the value or the moment isn't one.
 fn set_own(
-    device: &mut DeviceState,
+    device: &mut Device,
     t: u64,
     index: u16,
     sub: u8,
@@ -115,7 +116,7 @@ fn set_own(
 }
 
 /// The application sets the entry that a step names, if it names one.
-fn set(device: &mut DeviceState, step: &Step) -> Result<(), AllocError> {
+fn set(device: &mut Device, step: &Step) -> Result<(), AllocError> {
     match step.place() {
         Some((index, sub)) => set_own(device, step.time, index, sub, &step.data),
         None => Ok(()),
@@ -123,7 +124,7 @@ fn set(device: &mut DeviceState, step: &Step) -> Result<(), AllocError> {
 }
 
 /// The device runs what is due.
-fn run(device: &mut DeviceState, t: u64) -> Result<(), AllocError> {
+fn run(device: &mut Device, t: u64) -> Result<(), AllocError> {
     if t < END {
         device.on_instant(t)?;
     }
@@ -131,7 +132,7 @@ fn run(device: &mut DeviceState, t: u64) -> Result<(), AllocError> {
 }
 
 /// Shows the frames that wait at a moment, and takes them.
-fn show_moment<W: Write>(out: &mut W, device: &mut DeviceState, t: u64) -> Result<()> {
+fn show_moment<W: Write>(out: &mut W, device: &mut Device, t: u64) -> Result<()> {
     if device.contender().is_some() {
         write!(out, "  {t}")?;
         show_left(out, device)?;
@@ -164,7 +165,7 @@ impl Bench {
             alloc,
             entries,
             node,
-            device: DeviceState::new(alloc, 5),
+            device: Device::new(alloc, 5),
             last: 0,
             roster: roster_of(alloc)?,
             manager: Manager::new(alloc),

@@ -3,7 +3,7 @@
 ghost use Rattle.std.specs.Prelude.{◌≡◌, ◌<◌, IfOk, IfSome, option_and_then, slice_get};
 ghost use Rattle.image_parts.specs.Images.{greatest_place};
 ghost use Rattle.concise_dcf.specs.Writes.{IsSized};
-ghost use Rattle.image_parts.specs.Shared.{shared};
+ghost use Rattle.image_parts.specs.Shared.{value_behind};
 ghost use Rattle.checks_bus.specs.Alike.{fitting};
 
 use co_dict::{Dict, Shape};
@@ -28,7 +28,7 @@ pub struct OneNode {
 
 /// Another pointer to a part.
 fn pointer<T: Drop>(part: &Rc<T>) -> Result<Option<Rc<T>>, AllocError>
-    ensures { IfOk result (λ copy. shared copy ≡ shared (Some part.now)) }
+    ensures { IfOk result (λ copy. value_behind copy ≡ value_behind (Some part.now)) }
 {
     let copy = part.clone()?;
     Ok(Some(copy))
@@ -39,9 +39,9 @@ const GREATEST_PLACE: u32 = 4_294_967_295;
 
 /// The write at a place, if it is there, has 1 to 512 bytes, and its number isn't the greatest.
 fn write_at(alloc: Global, writes: &[Write], place: u32) -> Result<Option<Rc<Write>>, AllocError>
-    ensures write { IfOk result (λ write. shared write ≡ option_and_then (fitting place) (slice_get writes.now place)) }
-    ensures fits { IfOk result (λ write. IfSome (shared write) IsSized) }
-    ensures last { IfOk result (λ write. IfSome (shared write) (λ one. place < greatest_place)) }
+    ensures write { IfOk result (λ write. value_behind write ≡ option_and_then (fitting place) (slice_get writes.now place)) }
+    ensures fits { IfOk result (λ write. IfSome (value_behind write) IsSized) }
+    ensures last { IfOk result (λ write. IfSome (value_behind write) (λ one. place < greatest_place)) }
 {
     match writes.get(place as usize) {
         Some(write)

@@ -4,7 +4,7 @@ use crate::one_node::OneNode;
 use crate::taken::{take_of_device, take_of_manager};
 use anyhow::Result;
 use can_frame::{Frame, Purpose, Waiting};
-use co_device::DeviceState;
+use co_device::Device;
 use co_dict::Dict;
 use nmt_boot::Manager;
 use node_boot::{Note, NoteKind};
@@ -62,7 +62,7 @@ pub fn show_frame<W: Write>(out: &mut W, waiting: &Waiting) -> Result<()> {
 }
 
 /// Takes the frames of a device, in order of place, and shows them.
-pub fn show_left<W: Write>(out: &mut W, device: &mut DeviceState) -> Result<()> {
+pub fn show_left<W: Write>(out: &mut W, device: &mut Device) -> Result<()> {
     for _ in 0..100 {
         if let Some(waiting) = take_of_device(device, false) {
             show_frame(out, &waiting)?;
@@ -95,7 +95,7 @@ fn frame_of(service: u8) -> Option<Frame> {
 }
 
 /// A device takes an NMT service for all nodes.
-fn order(device: &mut DeviceState, service: u8, node: &mut OneNode) -> Result<(), AllocError> {
+fn order(device: &mut Device, service: u8, node: &mut OneNode) -> Result<(), AllocError> {
     match frame_of(service) {
         Some(frame) => device.on_frame(0, &frame, node),
         None => Ok(()),
@@ -103,14 +103,14 @@ fn order(device: &mut DeviceState, service: u8, node: &mut OneNode) -> Result<()
 }
 
 /// Whether an NMT service for all nodes changes nothing of a device.
-fn obeys_unchanged(device: &DeviceState, service: u8, node: &mut OneNode) -> Result<bool> {
+fn obeys_unchanged(device: &Device, service: u8, node: &mut OneNode) -> Result<bool> {
     let mut other = device.copy()?;
     order(&mut other, service, node)?;
     Ok(other.same(device))
 }
 
 /// The byte of a device's state: that whose NMT service changes nothing. 0 where it has no power.
-fn state_byte(device: &DeviceState, node: &mut OneNode) -> Result<u8> {
+fn state_byte(device: &Device, node: &mut OneNode) -> Result<u8> {
     let starts = obeys_unchanged(device, 1, node)?;
     let stops = obeys_unchanged(device, 2, node)?;
     let enters = obeys_unchanged(device, 128, node)?;
@@ -126,8 +126,8 @@ fn state_byte(device: &DeviceState, node: &mut OneNode) -> Result<u8> {
 /// Shows a device, and whether it is the same as before.
 pub fn show_device<W: Write>(
     out: &mut W,
-    device: &DeviceState,
-    before: &DeviceState,
+    device: &Device,
+    before: &Device,
     node: &mut OneNode,
 ) -> Result<()> {
     let byte = state_byte(device, node)?;

@@ -3,7 +3,7 @@
 use crate::sheet::{NODE, Sheet};
 use crate::shown::{show_number, show_octets, show_text};
 use co_dict::Entry;
-use eds_device::{Device, Origin, Section};
+use eds_device::{DataSheet, Origin, Section};
 use node_parameters::judge;
 use std::io;
 use std::io::Write;
@@ -18,7 +18,7 @@ fn show_section(rt: &HostRuntime, section: &Section) -> io::Result<()> {
 }
 
 /// The section that an entry stands in, and the highest sub-index of a compact object.
-fn show_origin(rt: &HostRuntime, device: &Device, index: u16, sub: u8) -> io::Result<()> {
+fn show_origin(rt: &HostRuntime, device: &DataSheet, index: u16, sub: u8) -> io::Result<()> {
     match device.origin(index, sub) {
         Some(Origin::Own(section)) => show_section(rt, section),
         Some(Origin::Compact(section, highest)) => {
@@ -45,7 +45,7 @@ fn show_said(rt: &HostRuntime, entry: &Entry) -> io::Result<()> {
 }
 
 /// Where an entry stands, and what the EDS says of it.
-fn show_line(rt: &HostRuntime, device: &Device, index: u16, sub: u8) -> io::Result<()> {
+fn show_line(rt: &HostRuntime, device: &DataSheet, index: u16, sub: u8) -> io::Result<()> {
     print!(rt; "{index:04X}:{sub:02X}")?;
     show_origin(rt, device, index, sub)?;
     match device.entry(NODE, index, sub) {
@@ -55,7 +55,7 @@ fn show_line(rt: &HostRuntime, device: &Device, index: u16, sub: u8) -> io::Resu
 }
 
 /// The texts of its default and of its ParameterValue.
-fn show_texts(rt: &HostRuntime, device: &Device, index: u16, sub: u8) -> io::Result<()> {
+fn show_texts(rt: &HostRuntime, device: &DataSheet, index: u16, sub: u8) -> io::Result<()> {
     print!(rt; "  DefaultValue:")?;
     show_text(rt, device.default_text(index, sub))?;
     print!(rt; "  ParameterValue:")?;

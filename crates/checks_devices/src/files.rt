@@ -5,14 +5,14 @@ use crate::shown::show_octets;
 use base::Octets;
 use concise_dcf::Write as Entry;
 use eds_dcf::dcf_text;
-use eds_device::Device;
+use eds_device::DataSheet;
 use node_parameters::{Params, writes};
 use std::alloc::{AllocError, Global};
 use std::io;
 use std::io::Write;
 
 /// The parameter 1 for each entry.
-fn ones(alloc: Global, device: &Device) -> Result<Params, AllocError> {
+fn ones(alloc: Global, device: &DataSheet) -> Result<Params, AllocError> {
     let mut params = Params::new(alloc);
     for (index, sub) in device.pairs() {
         params.put(*index, *sub, Octets::from_slice(alloc, b"1")?)?;
@@ -40,7 +40,7 @@ fn show_titled(rt: &HostRuntime, title: &[u8], entries: &[Entry]) -> io::Result<
 }
 
 /// Shows the writes of the text's own parameters.
-fn show_own(rt: &HostRuntime, device: &Device) -> io::Result<()> {
+fn show_own(rt: &HostRuntime, device: &DataSheet) -> io::Result<()> {
     let own = writes(rt.alloc(), &Params::new(rt.alloc()), device, NODE)?;
     show_titled(rt, b"writes of its text:\n", &own)
 }
@@ -52,7 +52,7 @@ fn show_dcf(rt: &HostRuntime, text: &[u8]) -> io::Result<()> {
 }
 
 /// Shows the writes of the parameter 1 for each entry, and the DCF with these.
-fn show_ones(rt: &HostRuntime, device: &Device) -> io::Result<()> {
+fn show_ones(rt: &HostRuntime, device: &DataSheet) -> io::Result<()> {
     let all = writes(rt.alloc(), &ones(rt.alloc(), device)?, device, NODE)?;
     show_titled(rt, b"writes of 1 to each entry:\n", &all)?;
     let text = dcf_text(rt.alloc(), device, NODE, b"pump", 1000, &all)?;
@@ -61,7 +61,7 @@ fn show_ones(rt: &HostRuntime, device: &Device) -> io::Result<()> {
 
 /// Shows the writes of the text's own parameters, those of the parameter 1 for each entry, and the
 /// DCF with these.
-pub fn show_files(rt: &HostRuntime, device: &Device) -> io::Result<()> {
+pub fn show_files(rt: &HostRuntime, device: &DataSheet) -> io::Result<()> {
     show_own(rt, device)?;
     show_ones(rt, device)
 }

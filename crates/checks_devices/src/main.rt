@@ -14,20 +14,20 @@ mod shown;
 mod writes_shown;
 
 use anyhow::Result;
-use eds_device::Device;
+use eds_device::DataSheet;
 use network::play_all;
 use sheet::{Sheet, show_sheet};
 use std::{env, fs};
 
 /// Shows a device.
-fn show_device(rt: &HostRuntime, device: &Device) -> Result<()> {
+fn show_device(rt: &HostRuntime, device: &DataSheet) -> Result<()> {
     let sheet = Sheet::new(device)?;
     Ok(show_sheet(rt, &sheet)?)
 }
 
 /// Shows the device of a text, or why the text is of none.
 fn show_text(rt: &HostRuntime, text: &[u8]) -> Result<()> {
-    match Device::read(rt.alloc(), text) {
+    match DataSheet::read(rt.alloc(), text) {
         Ok(device) => show_device(rt, &device),
         Err(fault) => Ok(println!(rt; "! {fault}")?),
     }
@@ -49,13 +49,13 @@ fn show_all(rt: &HostRuntime) -> Result<()> {
 }
 
 /// The device of a data sheet.
-fn device(rt: &HostRuntime, path: &str) -> Result<Device> {
+fn device(rt: &HostRuntime, path: &str) -> Result<DataSheet> {
     let text = fs::read(rt, path)?;
-    Ok(Device::read(rt.alloc(), &text)?)
+    Ok(DataSheet::read(rt.alloc(), &text)?)
 }
 
 /// Plays the lines of the input with two of a sensor and two drives.
-fn play_with(rt: &HostRuntime, sensor: &Device) -> Result<()> {
+fn play_with(rt: &HostRuntime, sensor: &DataSheet) -> Result<()> {
     let drive = device(rt, "drive.eds")?;
     let nodes = [(5, sensor), (6, sensor), (7, &drive), (8, &drive)];
     Ok(play_all(rt, &nodes)?)

@@ -4,14 +4,14 @@ use crate::layouts::{change, fill};
 use crate::messages_shown::show_messages;
 use crate::plan_shown::show_plan;
 use crate::writes_shown::show_writes;
-use eds_device::Device;
+use eds_device::DataSheet;
 use pdo_links::{Plan, plan};
 use project_messages::Messages;
 use std::io;
 use std::io::Write;
 
 /// A node's number and its device.
-pub type Node<'a> = (u8, &'a Device);
+pub type Node<'a> = (u8, &'a DataSheet);
 
 /// Shows a title.
 fn show_title(rt: &HostRuntime, title: &[u8]) -> io::Result<()> {

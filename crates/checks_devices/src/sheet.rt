@@ -3,7 +3,7 @@
 use crate::entry::show_entry;
 use crate::files::show_files;
 use co_dict::{Dict, Shape};
-use eds_device::Device;
+use eds_device::DataSheet;
 use std::alloc::AllocError;
 use std::io;
 
@@ -16,13 +16,13 @@ const ABSENT: [(u16, u8); 2] = [(0x1017, 0xFF), (0xFFFF, 0)];
 /// A device, with its shape and a copy of its defaults at the node.
 #[derive(Drop)]
 pub struct Sheet<'a> {
-    pub device: &'a Device,
+    pub device: &'a DataSheet,
     pub shape: Shape,
     pub defaults: Dict,
 }
 
 impl<'a> Sheet<'a> {
-    pub fn new(device: &'a Device) -> Result<Self, AllocError> {
+    pub fn new(device: &'a DataSheet) -> Result<Self, AllocError> {
         let shape = device.shape(NODE)?;
         let defaults = copied_defaults(device)?;
         Ok(Sheet {
@@ -34,13 +34,13 @@ impl<'a> Sheet<'a> {
 }
 
 /// A copy of a device's defaults at the node.
-fn copied_defaults(device: &Device) -> Result<Dict, AllocError> {
+fn copied_defaults(device: &DataSheet) -> Result<Dict, AllocError> {
     let defaults = device.defaults(NODE)?;
     defaults.copy()
 }
 
 /// The lines with warnings.
-fn show_warnings(rt: &HostRuntime, device: &Device) -> io::Result<()> {
+fn show_warnings(rt: &HostRuntime, device: &DataSheet) -> io::Result<()> {
     print!(rt; "warned lines:")?;
     for line in device.warnings() {
         print!(rt; " {line}")?;
@@ -49,7 +49,7 @@ fn show_warnings(rt: &HostRuntime, device: &Device) -> io::Result<()> {
 }
 
 /// The identity.
-fn show_identity(rt: &HostRuntime, device: &Device) -> io::Result<()> {
+fn show_identity(rt: &HostRuntime, device: &DataSheet) -> io::Result<()> {
     print!(rt; "identity:")?;
     for number in &device.identity(NODE) {
         print!(rt; " {number:08X}")?;
@@ -58,7 +58,7 @@ fn show_identity(rt: &HostRuntime, device: &Device) -> io::Result<()> {
 }
 
 /// A type, if the device says that an RPDO may map its dummy.
-fn show_own_dummy(rt: &HostRuntime, device: &Device, kind: u16) -> io::Result<()> {
+fn show_own_dummy(rt: &HostRuntime, device: &DataSheet, kind: u16) -> io::Result<()> {
     if device.dummy_allowed(kind) {
         print!(rt; " {kind:04X}")
     } else {

@@ -1,7 +1,7 @@
 //! What is shown of a node's writes.
 
 use concise_dcf::encode;
-use eds_device::Device;
+use eds_device::DataSheet;
 use node_parameters::Params;
 use pdo_links::{Plan, writes};
 use std::io;
@@ -22,7 +22,7 @@ fn show_concise(rt: &HostRuntime, node: u8, bytes: &[u8]) -> io::Result<()> {
 }
 
 /// Shows the concise DCF of a node.
-pub fn show_writes(rt: &HostRuntime, made: &Plan, device: &Device, node: u8) -> io::Result<()> {
+pub fn show_writes(rt: &HostRuntime, made: &Plan, device: &DataSheet, node: u8) -> io::Result<()> {
     let entries = writes(rt.alloc(), made, &Params::new(rt.alloc()), device, node)?;
     let bytes = encode(rt.alloc(), &entries)?;
     show_concise(rt, node, &bytes)

@@ -6,7 +6,7 @@ use crate::sheets::device;
 use crate::shown::{show_answer, show_frame, show_progress, show_reply};
 use anyhow::Result;
 use co_dict::{Dict, Shape};
-use eds_device::Device;
+use eds_device::DataSheet;
 use sdo_client::Client;
 use std::alloc::{AllocError, Global};
 use std::io;
@@ -34,7 +34,7 @@ impl Asked {
     }
 
     /// A server whose device is node 5 of a data sheet at its start, and a client, both without a transfer.
-    fn of(alloc: Global, device: &Device) -> Result<Asked, AllocError> {
+    fn of(alloc: Global, device: &DataSheet) -> Result<Asked, AllocError> {
         let shape = device.shape(5)?;
         let dict = device.defaults(5)?;
         Ok(Asked {

@@ -2,7 +2,7 @@
 
 use co_dict::{Access, Dict, Entry, Shape, check_mapping};
 use co_values::DataType;
-use eds_device::Device;
+use eds_device::DataSheet;
 use pdo_rules::{pack, unpack};
 use std::alloc::{AllocError, Global};
 use std::io;
@@ -119,7 +119,7 @@ pub fn both_ways(rt: &HostRuntime) -> io::Result<()> {
 }
 
 /// Prints the values of all entries of a device.
-fn show_all(rt: &HostRuntime, device: &Device, dict: &Dict) -> io::Result<()> {
+fn show_all(rt: &HostRuntime, device: &DataSheet, dict: &Dict) -> io::Result<()> {
     for (index, sub) in device.pairs() {
         show_entry(rt, dict, *index, *sub)?;
     }
@@ -127,7 +127,7 @@ fn show_all(rt: &HostRuntime, device: &Device, dict: &Dict) -> io::Result<()> {
 }
 
 /// Prints the values of node 6 of a data sheet, after a frame of an entry and a dummy came.
-pub fn taken(rt: &HostRuntime, device: &Device) -> io::Result<()> {
+pub fn taken(rt: &HostRuntime, device: &DataSheet) -> io::Result<()> {
     let shape = device.shape(6)?;
     let mut dict = device.defaults(6)?;
     take(&shape, &mut dict)?;

@@ -1,11 +1,11 @@
 //! Devices of data sheets.
 
 use anyhow::Result;
-use eds_device::Device;
+use eds_device::DataSheet;
 use std::fs;
 
 /// The device of the data sheet of a file.
-pub fn device(rt: &HostRuntime, path: &str) -> Result<Device> {
+pub fn device(rt: &HostRuntime, path: &str) -> Result<DataSheet> {
     let text = fs::read(rt, path)?;
-    Ok(Device::read(rt.alloc(), &text)?)
+    Ok(DataSheet::read(rt.alloc(), &text)?)
 }

@@ -31,13 +31,13 @@ abbrev pub step_of : Step → After
 step_of s = record { edit = s.edit; sheet = sheet_of s.sheet }
 
 -- an edit is complete
-abbrev pub completed : Result Edit EditFault → Result After EditFault
-completed (Ok edit) = Ok (record { edit = Some edit; sheet = None })
-completed (Err fault) = Err fault
+abbrev pub whole_edit : Result Edit EditFault → Result After EditFault
+whole_edit (Ok edit) = Ok (record { edit = Some edit; sheet = None })
+whole_edit (Err fault) = Err fault
 
 -- a data sheet with some of its lines, and the number of those to come
 abbrev pub in_sheet : List ℕ → ℕ → List (List ℕ) → Result After EditFault
-in_sheet name zero lines = completed (eds_edit name lines)
+in_sheet name zero lines = whole_edit (eds_edit name lines)
 in_sheet name (suc n) lines =
     Ok (record { edit = None; sheet = Some (record { name = name; left = suc n; lines = lines }) })
 

@@ -1,3 +1,4 @@
 pub mod RpdoLemmas
 pub mod WalkLemmas
 pub mod AbortLemmas
+pub mod ReceptionLemmas

@@ -1,7 +1,7 @@
 -- One device at a moment, and what it does (CiA 301). All moments are absolute, in microseconds from the power-on of
 -- the network.
-use Rattle.std.specs.Prelude.{ℕ, ◌==◌, not, ◌&&◌, ◌||◌, nat_lt, Bool, true, false, List, [], ◌∷◌, ◌++◌, length, replicate}
-use Rattle.std.specs.Prelude.{slice_index_or, Option, Some, None, if◌then◌else◌}
+use Rattle.std.specs.Prelude.{ℕ, ◌==◌, not, ◌&&◌, nat_lt, Bool, true, false, List, [], ◌∷◌, ◌++◌, replicate, Option}
+use Rattle.std.specs.Prelude.{Some, None, if◌then◌else◌}
 use Rattle.std.specs.FinMap as map
 use Rattle.image_parts.specs.Asking.{Asking, Answer, Ask}
 use Rattle.can_frame.specs.Frames.{BaseFrame}
@@ -10,7 +10,6 @@ use Rattle.can_frame.specs.WaitingFrames.{with_latest, waiting, without_unwanted
 use Rattle.can_frame.specs.declared.purpose.Purpose.TheVariants.{BootUp, Emergency, Heartbeat, Sdo}
 use Rattle.can_frame.specs.declared.unwanted.Unwanted.TheVariants.{Emergencies, Sdos, Tpdos}
 use Rattle.can_frame.specs.declared.waiting.Waiting.{Waiting}
-use Rattle.base.specs.Ranges.{is_between}
 use Rattle.cia301.specs.NmtStates.{state_byte}
 use Rattle.co_dict.specs.Restored.{with_restored}
 use Rattle.co_dict.specs.Shapes.{Shaped}
@@ -162,11 +161,6 @@ without_answers d = record d {
 abbrev pub stop_remote_node : Device → Device
 stop_remote_node d = if is_in Stopped d then d else record (without_answers (out_of_operational d)) { state = Stopped }
 
--- a message of two bytes, the second this node's number or 0 for all
-abbrev pub is_addressed : ℕ → List ℕ → Bool
-is_addressed number bytes = (length bytes == 2)
-    && ((slice_index_or bytes 1 0 == 0) || (slice_index_or bytes 1 0 == number))
-
 unfoldable pub nmt_service : Option NmtCommand → ℕ → Device → Asking Part Content Device
 nmt_service None t d = Answer d
 nmt_service (Some Start) t d = Answer (start_remote_node d)
@@ -261,10 +255,6 @@ after_error_control t producer d =
     if consumers.is_last_failure_over d.consumers after
     then with_emergency 0x0000 (without_error_if true (record d { consumers = after }))
     else record d { consumers = after }
-
--- one byte of a node's error control identifier, 701h to 77Fh
-abbrev pub is_error_control : BaseFrame → Bool
-is_error_control frame = is_between 0x701 0x77F frame.id && (length frame.bytes == 1)
 
 -- ---- the timers of a moment: consumers by sub-index, and then the heartbeat
 

@@ -1,10 +1,9 @@
 -- The frames that a device receives (CiA 301): each is taken by the first that fits.
-use Rattle.std.specs.Prelude.{ℕ, ◌-◌, ◌==◌, not, ◌&&◌, Bool, true, List, [], ◌∷◌, length, slice_index_or, Option}
-use Rattle.std.specs.Prelude.{Some, None, if◌then◌else◌}
+use Rattle.std.specs.Prelude.{ℕ, not, ◌&&◌, Bool, true, false, List, [], ◌∷◌, length, Option, Some, None}
+use Rattle.std.specs.Prelude.{if◌then◌else◌}
 use Rattle.std.specs.List.{range_with_len}
 use Rattle.image_parts.specs.Asking.{Asking, Answer, Ask, bind}
 use Rattle.can_frame.specs.Frames.{BaseFrame}
-use Rattle.can_frame.specs.Identifiers.{error_control_id, nmt_id, sdo_request_id}
 use Rattle.co_dict.specs.Mappings.{mapped_place}
 use Rattle.co_dict.specs.Shapes.{Shaped}
 use Rattle.pdo_rules.specs.Packing.{after_entries, frame_bits, takes, with_bits}
@@ -16,10 +15,14 @@ use Rattle.pdo_rules.specs.declared.receipt.Receipt.{Receipt}
 use Rattle.pdo_rules.specs.declared.receipt.Receipt.TheVariants.{Short, Kept, AtOnce, Ignored}
 use Rattle.device_objects.specs.Consumers.{any_expects}
 use Rattle.device_objects.specs.Profile.{sync_identifier}
+use Rattle.device_objects.specs.Reception.{reception_with_power}
+use Rattle.device_objects.specs.declared.reception.Reception.{Reception}
+use Rattle.device_objects.specs.declared.reception.Reception.TheVariants.{Nothing, NmtService, Sync, SdoRequest}
+use Rattle.device_objects.specs.declared.reception.Reception.TheVariants.{ErrorControl, Pdo}
 use Rattle.co_scenario.specs.Commands.{command_of}
 use Rattle.device_pdos.specs.Rpdos.{any_has_identifier, mapping_of_rpdo, receipt_of, rpdo_at, with_kept}
-use Rattle.co_device.specs.Device.{Device, after_write, after_error_control, is_addressed, is_error_control, is_in}
-use Rattle.co_device.specs.Device.{nmt_service, after_sdo_request, with_emergency}
+use Rattle.co_device.specs.Device.{Device, after_write, after_error_control, is_in, nmt_service, after_sdo_request}
+use Rattle.co_device.specs.Device.{with_emergency}
 use Rattle.cia301.specs.declared.nmt_state.NmtState.TheVariants.{Operational, Stopped}
 
 -- ---- a list of steps over one device, each on what the last one left
@@ -83,29 +86,35 @@ after_sync t bytes d =
     then walk (after_sync_at t) (rpdo_places d) (record d { synced = Some (sync_message bytes) })
     else Answer d
 
--- ---- RECEIVED FRAMES
+-- ---- WHAT A FRAME IS TO A DEVICE: without power nothing
 
-abbrev pub after_nmt_frame : ℕ → List ℕ → Device → Asking Part Content Device
-after_nmt_frame t bytes d = if is_addressed d.number bytes then nmt_service (command_of (slice_index_or bytes 0 0)) t d
-    else Answer d
+unfoldable pub reception : BaseFrame → Device → Reception
+reception frame d =
+    if d.has_power then reception_with_power d.number (sync_identifier d.learnt d.values) frame else Nothing
+
+-- ---- RECEIVED FRAMES, each taken as what it is to the device
+
+unfoldable pub after_reception : Reception → ℕ → BaseFrame → Device → Asking Part Content Device
+after_reception Nothing t frame d = Answer d
+after_reception (NmtService service) t frame d = nmt_service (command_of service) t d
+after_reception Sync t frame d = after_sync t frame.bytes d
+after_reception SdoRequest t frame d = after_sdo_request t frame.bytes d
+after_reception (ErrorControl producer) t frame d = Answer (after_error_control t producer d)
+after_reception Pdo t frame d = after_pdo t frame d
 
 unfoldable pub after_frame : ℕ → BaseFrame → Device → Asking Part Content Device
-after_frame t frame d =
-    if not d.has_power then Answer d
-    else if frame.id == nmt_id then after_nmt_frame t frame.bytes d
-    else if frame.id == sync_identifier d.learnt d.values then after_sync t frame.bytes d
-    else if (frame.id == sdo_request_id d.number) && (length frame.bytes == 8) then after_sdo_request t frame.bytes d
-    else if is_error_control frame then Answer (after_error_control t (frame.id - error_control_id 0) d)
-    else after_pdo t frame d
+after_frame t frame d = after_reception (reception frame d) t frame d
 
--- ---- FRAMES OF WHICH THE DEVICE TAKES NOTHING: without power all; else those that are not to it, that its NMT state
--- doesn't let it take, or that no consumer and no RPDO expects
+-- ---- FRAMES OF WHICH THE DEVICE TAKES NOTHING: those that are nothing to it, that its NMT state doesn't let it take,
+-- or that no consumer and no RPDO expects
+
+unfoldable pub is_ignored_as : Reception → BaseFrame → Device → Bool
+is_ignored_as Nothing frame d = true
+is_ignored_as (NmtService service) frame d = false
+is_ignored_as Sync frame d = not (is_in Operational d)
+is_ignored_as SdoRequest frame d = is_in Stopped d
+is_ignored_as (ErrorControl producer) frame d = not (any_expects producer d.consumers)
+is_ignored_as Pdo frame d = not (is_in Operational d && any_has_identifier frame.id d.rpdos)
 
 unfoldable pub is_ignored : BaseFrame → Device → Bool
-is_ignored frame d =
-    if not d.has_power then true
-    else if frame.id == nmt_id then not (is_addressed d.number frame.bytes)
-    else if frame.id == sync_identifier d.learnt d.values then not (is_in Operational d)
-    else if (frame.id == sdo_request_id d.number) && (length frame.bytes == 8) then is_in Stopped d
-    else if is_error_control frame then not (any_expects (frame.id - error_control_id 0) d.consumers)
-    else not (is_in Operational d && any_has_identifier frame.id d.rpdos)
+is_ignored frame d = is_ignored_as (reception frame d) frame d

@@ -5,7 +5,7 @@ ghost use Rattle.can_frame.specs.WaitingFrames.{waiting as to_wait};
 ghost use Rattle.device_objects.specs.Profile.{emergency_frame as frame_of_emergency, error_register as register_of};
 ghost use Rattle.co_device.specs.Device.{with_emergencies, with_emergency};
 
-use crate::device_state::DeviceState;
+use crate::device::Device;
 use can_frame::{Frame, Pending, Purpose};
 use cia301::NmtState;
 use device_objects::{emergency_frame, error_register};
@@ -21,7 +21,7 @@ fn add_emergencies(waiting: &mut Pending, count: usize, frame: Frame) -> Result<
     Ok(())
 }
 
-impl DeviceState {
+impl Device {
     /// The emergency object of an error code, with the error register as it stands.
     fn emergency(&self, code: u16) -> Frame
         ensures { result ≡ frame_of_emergency self.now.number code (register_of self.now.learnt self.now.values) }

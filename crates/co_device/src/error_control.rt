@@ -3,7 +3,7 @@
 ghost use Rattle.std.specs.Prelude.{◌≡◌, ◌<◌, OnOk};
 ghost use Rattle.co_device.specs.Device.{after_error_control};
 
-use crate::device_state::DeviceState;
+use crate::device::Device;
 use device_objects::{any_failed, hear};
 use image_parts::END;
 use std::alloc::AllocError;
@@ -11,7 +11,7 @@ use std::alloc::AllocError;
 /// The error code that there is no error any more (CiA 301).
 const NO_ERROR: u16 = 0x0000;
 
-impl DeviceState {
+impl Device {
     /// Takes an error control frame of another node.
     #[tactic(auto, unfolding(crate::specs::Device::after_error_control, device_objects::specs::Consumers::is_last_failure_over))]
     pub(crate) fn take_error_control(&mut self, t: u64, producer: u8) -> Result<(), AllocError>

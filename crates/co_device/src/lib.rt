@@ -1,7 +1,7 @@
 //! A device of the bus.
 #![tactic(auto, using(image_parts::proofs::RecordLemmas::record_laws))]
 
-mod device_state;
+mod device;
 mod emergencies;
 mod error_control;
 mod nmt_services;
@@ -12,4 +12,4 @@ mod rpdos;
 mod timers;
 mod writes;
 
-pub use device_state::DeviceState;
+pub use device::Device;

@@ -5,7 +5,7 @@ ghost use Rattle.image_parts.specs.Asking.{outcome};
 ghost use Rattle.image_parts.specs.Record.{IsAsked, Lasts};
 ghost use Rattle.co_device.specs.Device.{enter_pre_operational, nmt_service, out_of_operational, stop_remote_node};
 
-use crate::device_state::DeviceState;
+use crate::device::Device;
 use can_frame::Unwanted;
 use cia301::NmtState;
 use co_scenario::NmtCommand;
@@ -15,7 +15,7 @@ use device_pdos::{empty_rpdos, forget_tpdos};
 use image_parts::END;
 use std::alloc::AllocError;
 
-impl DeviceState {
+impl Device {
     /// Where it is in Operational, drops the TPDOs that wait, and what PDOs remember and keep.
     #[tactic(auto, unfolding(crate::specs::Device::out_of_operational))]
     fn leave_operational(&mut self)

@@ -5,7 +5,7 @@ ghost use Rattle.image_parts.specs.Asking.{outcome};
 ghost use Rattle.image_parts.specs.Record.{IsAsked, Lasts};
 ghost use Rattle.co_device.specs.Device.{after_request, answer_frames, after_sdo_request};
 
-use crate::device_state::DeviceState;
+use crate::device::Device;
 use can_frame::{Frame, Purpose, identifiers};
 use cia301::NmtState;
 use co_dict::Shape;
@@ -16,7 +16,7 @@ use image_parts::END;
 use std::alloc::AllocError;
 use std::mem::replace;
 
-impl DeviceState {
+impl Device {
     /// Lets the answer of the server wait, if there is one.
     fn answer(&mut self, bytes: Option<[u8; 8]>) -> Result<(), AllocError>
         ensures { OnOk result (self.new

@@ -6,7 +6,7 @@ ghost use Rattle.image_parts.specs.Record.{IsAsked, Lasts};
 ghost use Rattle.co_device.specs.Device.{after_initialisation, after_power, reset_communication, after_reset_node};
 ghost use Rattle.co_device.specs.Device.{without_power};
 
-use crate::device_state::DeviceState;
+use crate::device::Device;
 use can_frame::{Frame, Pending, Purpose, identifiers};
 use cia301::NmtState;
 use co_dict::{Dict, Shape};
@@ -22,7 +22,7 @@ use std::alloc::AllocError;
 /// The byte of a boot-up message.
 const BOOT_UP: u8 = 0;
 
-impl DeviceState {
+impl Device {
     /// Drops all but the number.
     fn drop_power(&mut self)
         ensures { self.new ≡ without_power self.old.spent self.old.number }

@@ -9,7 +9,7 @@ ghost use Rattle.device_pdos.specs.Rpdos.{mapping_of_rpdo};
 ghost use Rattle.co_device.specs.Receiving.{after_mapping, device_after_entries, after_entry, after_pdo, after_rpdo};
 ghost use Rattle.co_device.specs.Receiving.{after_sync_at, after_sync};
 
-use crate::device_state::DeviceState;
+use crate::device::Device;
 use can_frame::Frame;
 use cia301::NmtState;
 use co_dict::{Shape, mapped_length, mapped_place};
@@ -33,7 +33,7 @@ fn mapping_of(configuration: &Option<Configuration>) -> &[u32]
     }
 }
 
-impl DeviceState {
+impl Device {
     /// Gives one mapped entry its bits out of a frame, with what that brings about.
     #[tactic(auto, unfolding(crate::specs::Receiving::after_entry, pdo_rules::specs::Packing::with_bits))]
     fn take_entry(

@@ -4,7 +4,7 @@ ghost use Rattle.std.specs.Prelude.{◌≡◌, ◌<◌, OnOk};
 ghost use Rattle.co_device.specs.Device.{after_consumers, after_heartbeat, after_instant, after_timers, after_tpdos};
 ghost use Rattle.co_device.specs.Device.{sync_seen};
 
-use crate::device_state::DeviceState;
+use crate::device::Device;
 use can_frame::{Frame, Purpose, identifiers};
 use cia301::NmtState;
 use device_objects::{counter_overflow, expire, failures, set_error};
@@ -16,7 +16,7 @@ use std::alloc::AllocError;
 /// The error code of a heartbeat that didn't come in time (CiA 301).
 const HEARTBEAT_ERROR: u16 = 0x8130;
 
-impl DeviceState {
+impl Device {
     /// Lets the heartbeat consumers fail whose moment has come.
     #[tactic(auto, unfolding(crate::specs::Device::after_consumers))]
     fn run_consumers(&mut self, t: u64) -> Result<(), AllocError>

@@ -6,10 +6,11 @@ ghost use Rattle.co_values.specs.Values.{longest_value};
 ghost use Rattle.co_device.specs.Device.{after_own_write, after_write, after_write_of_consumer, with_heartbeat_start};
 ghost use Rattle.co_device.specs.Device.{is_producer_time as is_of_producer, after_set, without_error_if};
 
-use crate::device_state::DeviceState;
+use crate::device::Device;
+use cia301::{is_of_rpdos, is_of_tpdos};
 use co_dict::Shape;
 use device_objects::{any_failed, clear_error, forget, next_heartbeat};
-use device_pdos::{is_rpdo_object, is_tpdo_object, write_rpdos, write_tpdos};
+use device_pdos::{write_rpdos, write_tpdos};
 use image_parts::END;
 use std::alloc::AllocError;
 
@@ -26,7 +27,7 @@ fn is_producer_time(place: (u16, u8)) -> bool
     place.0 == PRODUCER_HEARTBEAT_TIME && place.1 == 0
 }
 
-impl DeviceState {
+impl Device {
     /// Starts the heartbeat anew.
     pub(crate) fn start_heartbeat(&mut self, t: u64)
         requires { t < END }
@@ -83,10 +84,10 @@ impl DeviceState {
         requires { t < END }
         ensures { OnOk result (self.new ≡ after_write t shape.now place self.old) }
     {
-        if is_rpdo_object(place.0) {
+        if is_of_rpdos(place.0) {
             return write_rpdos(self.alloc, &mut self.rpdos, shape, &self.values, place.0);
         }
-        if is_tpdo_object(place.0) {
+        if is_of_tpdos(place.0) {
             return write_tpdos(self.alloc, &mut self.tpdos, shape, &self.values, place.0);
         }
         self.after_own_write(t, place)

@@ -1,97 +1,81 @@
--- The synchronous counter overflow values that aren't the network's are kept and found.
-use Rattle.std.proofs.Common.{◌≡◌, ◌==◌, not, ℕ, Bool, true, false, List, [], ◌∷◌, ◌++◌, filter_map, Contains, Option}
-use Rattle.std.proofs.Common.{Some, None, refl, ap, subst, ◌∙◌}
-use Rattle.std.specs.Prelude.{if◌then◌else◌, option_map, option_and_then}
-use Rattle.std.specs.List.{cons_option, flat_map}
-use Rattle.co_values.specs.declared.form.Width.TheVariants.{Bits8}
+-- The synchronous counter overflow values that aren't the network's are found.
+use Rattle.std.proofs.Common.{◌≡◌, ◌==◌, ◌⊎◌, inl, inr, not, ℕ, Bool, true, false, [], Contains, Option, Some, None}
+use Rattle.std.proofs.Common.{refl, sym, ap, subst}
+use Rattle.std.specs.Prelude.{if◌then◌else◌, option_map}
+use Rattle.std.specs.List.{cons_option}
 use Rattle.node_parameters.proofs.WrittenLemmas.{Contains-filter_map, from_filter_map}
 use Rattle.co_project.specs.Project.{Content}
-use Rattle.project_plan.specs.Network.{Member, plan_of_project, writes_of}
+use Rattle.project_plan.specs.Network.{Member, member_at, members}
+use Rattle.project_plan.specs.Values.{number_after}
 use Rattle.diag_lines.specs.declared.code.Code.TheVariants.{OtherCounter}
 use Rattle.diag_lines.specs.declared.diag.Diag.{Diag}
 use Rattle.diag_lines.specs.declared.subject.Subject.TheVariants as of
-use Rattle.project_plan.specs.Values.{members, number_after, number_among, values_after}
-use Rattle.project_plan.proofs.WantedLemmas.{number_wanted}
-use Rattle.co_diag.specs.Found.{diagnostic, other_counter}
+use Rattle.diag_lines.proofs.ListLemmas.{Contains-nil, Contains-first, Contains-cases}
+use Rattle.co_diag.specs.Found.{counter_diagnostic, counters, diagnostic, other_counters}
 use Rattle.co_diag.specs.Holds.{HasOtherCounter, HoldsOf, Holds}
-use Rattle.co_diag.specs.Kept.{counter_diagnostic, counters_by}
+use Rattle.co_diag.specs.Rules.{counter_at, counters_in, numbers_of}
+use Rattle.co_diag.proofs.ListLemmas.{Contains-flat_map, from_flat_map}
 use Rattle.co_diag.proofs.MemberLemmas.{member_found, member_listed}
 
 -- ---- what is found holds
 
--- the counter that is found
-record Other (p : Content) (e : ℕ × Member) (d : Diag) : Type 0 where
-  counter : ℕ
-  there : number_after Bits8 p e.1 e.0 (0x1019, 0) ≡ Some counter
-  other : (counter == p.sync_counter) ≡ false
-  is : diagnostic OtherCounter (of.Node e.0 None) ≡ d
-
-other_by : (p : Content) (e : ℕ × Member) (d : Diag) → other_counter p e ≡ Some d → Other p e d
-unfolding other_counter
-other_by p e d h = by (number_after Bits8 p e.1 e.0 (0x1019, 0)) refl h
+-- the value of a node that has one
+counter_by : (node : ℕ) (o : Option ℕ) (c : ℕ × ℕ)
+    → Contains {X = ℕ × ℕ} (cons_option (option_map (λ n. (node, n)) o) []) c → (o ≡ Some c.1) × (node ≡ c.0)
+counter_by node None c there = absurd (Contains-nil c there)
+counter_by node (Some n) c there = by (Contains-cases own [] c there)
   where
-    of_number : (n : ℕ) → number_after Bits8 p e.1 e.0 (0x1019, 0) ≡ Some n → (t : Bool) → (n == p.sync_counter) ≡ t
-        → (if not t then Some (diagnostic OtherCounter (of.Node e.0 None)) else None) ≡ Some d → Other p e d
-    of_number n there true same h = cc
-    of_number n there false other h =
-        let same : diagnostic OtherCounter (of.Node e.0 None) ≡ d = cc
-        in record { counter = n; there = there; other = other; is = same }
+    own : ℕ × ℕ
+    own = (node, n)
 
-    by : (o : Option ℕ) → number_after Bits8 p e.1 e.0 (0x1019, 0) ≡ o
-        → option_and_then (λ n. if not (n == p.sync_counter) then Some (diagnostic OtherCounter (of.Node e.0 None))
-        else None) o ≡ Some d → Other p e d
-    by None there h = cc
-    by (Some n) there h = of_number n there (n == p.sync_counter) refl h
+    by : (own ≡ c) ⊎ Contains [] c → (Some n ≡ Some c.1) × (node ≡ c.0)
+    by (inl same) = (ap (λ (x : ℕ × ℕ). Some x.1) same, ap (λ (x : ℕ × ℕ). x.0) same)
+    by (inr there) = absurd (Contains-nil c there)
 
-pub counters_hold : (p : Content) (d : Diag) → Contains (filter_map (other_counter p) (members p)) d → Holds p d
-unfolding Holds
+-- it is another
+other_by : (sync_counter : ℕ) (c : ℕ × ℕ) (d : Diag) → counter_diagnostic sync_counter c ≡ Some d
+    → ((c.1 == sync_counter) ≡ false) × (diagnostic OtherCounter (of.Node c.0 None) ≡ d)
+other_by sync_counter c d h = by (c.1 == sync_counter) refl h
+  where
+    by : (t : Bool) → (c.1 == sync_counter) ≡ t
+        → (if not t then Some (diagnostic OtherCounter (of.Node c.0 None)) else None) ≡ Some d
+        → ((c.1 == sync_counter) ≡ false) × (diagnostic OtherCounter (of.Node c.0 None) ≡ d)
+    by true same h = cc
+    by false other h = let same : diagnostic OtherCounter (of.Node c.0 None) ≡ d = cc in (other, same)
+
+pub counters_hold : (p : Content) (d : Diag) → Contains (other_counters p) d → Holds p d
+unfolding other_counters counters Holds
 counters_hold p d c =
-    let one = from_filter_map (other_counter p) (members p) d c in
-    let o : Other p one.0 d = other_by p one.0 d one.2 in
+    let one = from_filter_map (counter_diagnostic p.sync_counter) (counters p) d c in
+    let at = from_flat_map (counters_in (numbers_of p)) (members p) one.0 one.1 in
+    let own = counter_by at.0.0 (counter_at (numbers_of p at.0)) one.0 at.2 in
+    let other = other_by p.sync_counter one.0 d one.2 in
     let holds : HasOtherCounter p one.0.0 = record {
-      member = one.0.1;
-      counter = o.counter;
-      is = member_found p one.0 one.1;
-      there = o.there;
-      other = o.other;
+      member = at.0.1;
+      counter = one.0.1;
+      is = subst (λ (n : ℕ). member_at p n ≡ Some at.0.1) own.1 (member_found p at.0 at.1);
+      there = subst (λ (n : ℕ). counter_at (number_after p at.0.1 n) ≡ Some one.0.1) own.1 own.0;
+      other = other.0;
     } in
-    subst (λ (x : Diag). HoldsOf p x.code x.subject) o.is holds
+    subst (λ (x : Diag). HoldsOf p x.code x.subject) other.1 holds
 
 -- ---- what holds is found
 
 pub counters_listed : (p : Content) (node : ℕ) → HasOtherCounter p node
-    → Contains (filter_map (other_counter p) (members p)) (diagnostic OtherCounter (of.Node node None))
-unfolding other_counter
+    → Contains (other_counters p) (diagnostic OtherCounter (of.Node node None))
+unfolding other_counters counters
 counters_listed p node h =
-    let found : other_counter p (node, h.member) ≡ Some (diagnostic OtherCounter (of.Node node None)) =
-    rw (h.there, h.other) refl in
-    Contains-filter_map (other_counter p) (members p) (node, h.member) (diagnostic OtherCounter (of.Node node None))
-    (member_listed p node h.member h.is) found
+    Contains-filter_map (counter_diagnostic p.sync_counter) (counters p) c d
+    (Contains-flat_map (counters_in (numbers_of p)) (members p) e c (member_listed p node h.member h.is)
+    (subst (λ (o : Option ℕ). Contains {X = ℕ × ℕ} (cons_option (option_map (λ n. (node, n)) o) []) c) (sym h.there)
+    (Contains-first c [])))
+    (ap (λ (t : Bool). if not t then Some d else None) h.other)
+  where
+    e : ℕ × Member
+    e = (node, h.member)
 
--- ---- what is kept is found
+    c : ℕ × ℕ
+    c = (node, h.counter)
 
-module _ (p : Content) where
-  counters_among : (es : List (ℕ × Member))
-      → filter_map (counter_diagnostic p.sync_counter) (flat_map (counters_by (plan_of_project p)) es)
-      ≡ filter_map (other_counter p) es
-  unfolding other_counter number_after values_after writes_of
-  counters_among [] = refl
-  counters_among (e ∷ es) =
-      ap (λ (o : Option ℕ). filter_map (counter_diagnostic p.sync_counter) (cons_option (option_map (λ n. (e.0, n)) o) []
-      ++ flat_map (counters_by (plan_of_project p)) es))
-      (number_wanted (plan_of_project p) e.1.node.params e.1.sections e.0 Bits8 (0x1019, 0) refl)
-      ∙ by (number_among Bits8 e.1.sections (values_after p e.1 e.0) (0x1019, 0)) (counters_among es)
-    where
-      by : (o : Option ℕ)
-          → filter_map (counter_diagnostic p.sync_counter) (flat_map (counters_by (plan_of_project p)) es)
-          ≡ filter_map (other_counter p) es
-          → filter_map (counter_diagnostic p.sync_counter) (cons_option (option_map (λ n. (e.0, n)) o) []
-          ++ flat_map (counters_by (plan_of_project p)) es)
-          ≡ cons_option (option_and_then (λ n. if not (n == p.sync_counter)
-          then Some (diagnostic OtherCounter (of.Node e.0 None)) else None) o) (filter_map (other_counter p) es)
-      by None rest = rest
-      by (Some n) rest = ap (cons_option (counter_diagnostic p.sync_counter (e.0, n))) rest
-
-  pub all_counters : filter_map (counter_diagnostic p.sync_counter)
-      (flat_map (counters_by (plan_of_project p)) (members p)) ≡ filter_map (other_counter p) (members p)
-  all_counters = counters_among (members p)
+    d : Diag
+    d = diagnostic OtherCounter (of.Node node None)

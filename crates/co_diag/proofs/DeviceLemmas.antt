@@ -6,7 +6,7 @@ use Rattle.std.specs.List.{All}
 use Rattle.std.proofs.lemmas.Cmp.{nat_list_cmp_total}
 use Rattle.std.proofs.lemmas.List.Elements.{All-append, All-cons, All-contains, All-nil, All-weaker}
 use Rattle.std.proofs.lemmas.Map.Lookups.{exact_bytes}
-use Rattle.ini_text.specs.Content.{Content as Device, content_of}
+use Rattle.ini_text.specs.Content.{Content as DataSheet, content_of}
 use Rattle.co_project.specs.Tables.{text_at}
 use Rattle.project_plan.specs.Library.{IsRead, Read, with_device}
 use Rattle.project_plan.proofs.LibraryLemmas.{read_still}
@@ -17,9 +17,6 @@ use Rattle.co_diag.proofs.MemberLemmas.{entry_of}
 abbrev pub AreReadFirst : Read → List (List ℕ × List ℕ) → List (List ℕ × List ℕ) → Type 0
 AreReadFirst read rest texts = (first : List (List ℕ × List ℕ)) × (first ++ rest ≡ texts)
     × All (λ e. IsRead read e.0) first
-
-pub none_so_far : (read : Read) (texts : List (List ℕ × List ℕ)) → AreReadFirst read texts texts
-none_so_far read texts = ([], refl, All-nil (λ e. IsRead read e.0))
 
 -- and of one more
 pub one_more : (old new : Read) (e : List ℕ × List ℕ) (name : List ℕ) (rest left texts : List (List ℕ × List ℕ))
@@ -47,7 +44,7 @@ all_read read rest texts ended are (first, whole, all) name text there =
     All-contains (λ e. IsRead read e.0) first (name, text) all c ∙ ap (option_map content_of) there
 
 -- the device that was found
-pub found_of : (read : Read) (name : List ℕ) (result : Option (Bor Device)) → AreAllRead read
+pub found_of : (read : Read) (name : List ℕ) (result : Option (Bor DataSheet)) → AreAllRead read
     → option_copied result ≡ get read.devices name
     → IfSome result (λ device. option_map content_of (text_at read.project.texts name) ≡ Some device.now)
     → option_copied result ≡ option_map content_of (text_at read.project.texts name)

@@ -6,20 +6,18 @@ use Rattle.std.specs.List.{cons_option}
 use Rattle.std.specs.Option.{option_map_or, option_or}
 use Rattle.byteorder.specs.Endian.{little_bytes}
 use Rattle.co_values.specs.declared.data_type.DataType.{DataType}
-use Rattle.co_values.specs.declared.data_type.DataType.TheVariants.{NotModelled}
 use Rattle.co_values.specs.declared.form.Form.{Form}
 use Rattle.co_values.specs.declared.form.Form.TheVariants.{Flag, Signed, Unsigned, Characters, HexPairs, Unmodelled}
 use Rattle.co_values.specs.Number.{formula, hexadecimal, is_node_id, node_sum, number}
 use Rattle.co_values.specs.Types.{form, is_modelled, octets}
 use Rattle.co_values.specs.Values.{flag_bits, signed_bits, unsigned_bits, value, value_in}
-use Rattle.eds_device.specs.Described.{Described, default_text, description_of, kind_at}
-use Rattle.eds_device.specs.Entries.{entry_at, entry_by}
+use Rattle.eds_device.specs.Described.{default_text, kind_at}
 use Rattle.project_plan.specs.Network.{Member}
 use Rattle.diag_lines.specs.declared.code.Code.TheVariants.{Unreadable}
 use Rattle.diag_lines.specs.declared.diag.Diag.{Diag}
 use Rattle.diag_lines.specs.declared.subject.Subject.TheVariants as of
-use Rattle.project_plan.specs.Doubtful.{doubtful_places, is_doubtful, spells_none as spells_none_of}
-use Rattle.co_diag.specs.Found.{diagnostic, spells_none, unreadable_default, unreadable_defaults}
+use Rattle.project_plan.specs.Doubtful.{doubtful_places, is_doubtful, spells_none}
+use Rattle.co_diag.specs.Found.{diagnostic, unreadable_default, unreadable_defaults}
 use Rattle.eds_device.specs.Places.{pairs_of}
 
 -- ---- a number is the same at each node
@@ -48,35 +46,9 @@ same_value kind text n h a b = by (form kind)
     by HexPairs = refl
     by Unmodelled = refl
 
--- ---- what is said of a default, by the type of its entry
+-- ---- nothing is said of a default that isn't doubtful
 
 module _ (e : ℕ × Member) where
-  abbrev pub of_place : ℕ × ℕ → Bool → Option Diag
-  of_place place none = if none then Some (diagnostic Unreadable (of.Default e.0 place.0 place.1)) else None
-
-  abbrev of_text : ℕ × ℕ → Option (List ℕ) → Option Diag
-  of_text place o = option_map (λ _. diagnostic Unreadable (of.Default e.0 place.0 place.1))
-      (option_and_then (λ text. option_and_then (spells_none e.0 text)
-      (entry_at e.1.sections e.0 place.0 place.1)) o)
-
-  pub by_kind : (place : ℕ × ℕ) (text : List ℕ) → default_text e.1.sections place.0 place.1 ≡ Some text
-      → unreadable_default e place ≡ of_place place (spells_none_of e.0 text (kind_at e.1.sections place))
-  unfolding unreadable_default entry_at kind_at
-  by_kind place text h = ap (of_text place) h ∙ by (description_of e.1.sections place.0 place.1)
-    where
-      tested : (b : Bool) → option_map (λ (u : Unit {0}). diagnostic Unreadable (of.Default e.0 place.0 place.1))
-          (if b then Some tt else None) ≡ of_place place b
-      tested true = refl
-      tested false = refl
-
-      by : (o : Option Described) → option_map (λ (u : Unit {0}). diagnostic Unreadable (of.Default e.0 place.0 place.1))
-          (option_and_then (spells_none e.0 text) (option_map (entry_by e.0) o))
-          ≡ of_place place (spells_none_of e.0 text (option_map_or (λ (d : Described). d.kind) o NotModelled))
-      by None = refl
-      by (Some d) = tested (spells_none_of e.0 text d.kind)
-
-  -- ---- nothing is said of a default that isn't doubtful
-
   certain : (place : ℕ × ℕ) → is_doubtful e.1.sections place ≡ false → unreadable_default e place ≡ None
   unfolding unreadable_default is_doubtful
   certain place h = by (default_text e.1.sections place.0 place.1) refl
@@ -84,21 +56,27 @@ module _ (e : ℕ × Member) where
       kind : DataType
       kind = kind_at e.1.sections place
 
-      never : (b : Bool) → of_place place (b && false) ≡ None
+      said : Bool → Option Diag
+      said none = if none then Some (diagnostic Unreadable (of.Default e.0 place.0 place.1)) else None
+
+      of_text : Option (List ℕ) → Option Diag
+      of_text o = option_and_then (λ text. said (spells_none e.0 text kind)) o
+
+      never : (b : Bool) → said (b && false) ≡ None
       never true = refl
       never false = refl
 
       none : (text : List ℕ) (n : Option ℤ) → number text ≡ n → (v : Option (List ℕ)) → value kind text 1 ≡ v
-          → (is_none n || is_none v) ≡ false → of_place place (spells_none_of e.0 text kind) ≡ None
+          → (is_none n || is_none v) ≡ false → said (spells_none e.0 text kind) ≡ None
       none text None at v is sure = cc
       none text (Some n) at None is sure = cc
       none text (Some n) at (Some v) is sure =
-          ap (λ o. of_place place (is_modelled kind && is_none o)) (same_value kind text n at e.0 1 ∙ is)
+          ap (λ o. said (is_modelled kind && is_none o)) (same_value kind text n at e.0 1 ∙ is)
           ∙ never (is_modelled kind)
 
       by : (o : Option (List ℕ)) → default_text e.1.sections place.0 place.1 ≡ o → unreadable_default e place ≡ None
-      by None is = ap (of_text place) is
-      by (Some text) is = by_kind place text is
+      by None is = ap of_text is
+      by (Some text) is = ap of_text is
           ∙ none text (number text) refl (value kind text 1) refl
           (sym (ap (λ o. option_map_or (λ t. is_none (number t) || is_none (value kind t 1)) o false) is) ∙ h)
 

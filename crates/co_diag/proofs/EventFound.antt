@@ -1,12 +1,13 @@
 -- The events that set what they can't are found.
 use Rattle.std.proofs.Common.{◌≡◌, ℕ, Bool, true, false, not, List, filter_map, Contains, Option, Some, None, Result}
-use Rattle.std.proofs.Common.{Ok, Err, refl, sym, ap, subst}
+use Rattle.std.proofs.Common.{Ok, Err, refl, sym, ap, subst, ◌∙◌}
 use Rattle.std.specs.Prelude.{if◌then◌else◌, option_map, option_and_then}
 use Rattle.std.specs.FinMap.{entries, get}
 use Rattle.std.specs.Option.{option_map_or}
 use Rattle.std.specs.Result.{result_err}
 use Rattle.std.proofs.lemmas.Cmp.{nat_cmp_total}
 use Rattle.std.proofs.lemmas.Map.Lookups.{exact_unsigned}
+use Rattle.ini_text.specs.Content.{Content as DataSheet, Section, content_of}
 use Rattle.co_values.specs.Types.{is_modelled}
 use Rattle.co_values.specs.Values.{value}
 use Rattle.co_dict.specs.declared.entry.Entry.{Entry}
@@ -18,13 +19,15 @@ use Rattle.node_parameters.specs.declared.parameter_fault.ParameterFault.{Parame
 use Rattle.node_parameters.specs.declared.parameter_fault.ParameterFault.TheVariants as parameter
 use Rattle.node_parameters.specs.Judgement.{set_bytes}
 use Rattle.node_parameters.proofs.WrittenLemmas.{Contains-filter_map, from_filter_map}
+use Rattle.co_project.specs.declared.node.Node.{Node}
 use Rattle.co_project.specs.Project.{Content}
-use Rattle.project_plan.specs.Network.{Member, member_at}
+use Rattle.co_project.specs.Tables.{node_at, text_at}
+use Rattle.project_plan.specs.Network.{Member, member_at, with_sections}
 use Rattle.diag_lines.specs.declared.diag.Diag.{Diag}
 use Rattle.diag_lines.specs.declared.subject.Subject.TheVariants as of
 use Rattle.co_diag.specs.Faults.{parameter_code}
 use Rattle.co_diag.specs.Holds.{SetsUnfitValue, HoldsOf, Holds}
-use Rattle.co_diag.specs.Found.{diagnostic, set_fault, unfit_event}
+use Rattle.co_diag.specs.Found.{device_for, diagnostic, set_fault, unfit_event}
 use Rattle.co_diag.proofs.MemberLemmas.{at_entry, entry_of}
 
 -- ---- which faults there are
@@ -60,6 +63,39 @@ of_code p parameter.NotWritable number is h = cc
 of_code p parameter.Unreadable number is h = h
 of_code p parameter.OutsideLimits number is h = cc
 
+-- ---- the device of a node
+
+-- the sections of a member are those of its device
+by_device : {X : Type 0} (g : List Section → Option X) (p : Content) (id : ℕ)
+    → option_and_then (λ (d : DataSheet). g d.sections) (device_for p id) ≡ option_and_then (λ (m : Member). g m.sections)
+    (member_at p id)
+unfolding member_at
+by_device {X} g p id = by (node_at p.nodes id)
+  where
+    there : (node : Node) (o : Option (List ℕ))
+        → option_and_then (λ (d : DataSheet). g d.sections) (option_map content_of o)
+        ≡ option_and_then (λ (m : Member). g m.sections)
+        (option_map (λ text. record { node = node; sections = (content_of text).sections }) o)
+    there node None = refl
+    there node (Some text) = refl
+
+    by : (o : Option Node) → option_and_then (λ (d : DataSheet). g d.sections)
+        (option_and_then (λ (node : Node). option_map content_of (text_at p.texts node.eds)) o)
+        ≡ option_and_then (λ (m : Member). g m.sections) (option_and_then (with_sections p) o)
+    by None = refl
+    by (Some node) = there node (text_at p.texts node.eds)
+
+-- what is said of an event that sets a value of a member
+abbrev set_of_member : ℕ → ℕ → ℕ → ℕ → List ℕ → Option Member → Option Diag
+set_of_member number node index sub text o = option_map (λ fault. diagnostic (parameter_code fault) (of.Event number))
+    (option_and_then (λ (m : Member). result_err (set_bytes (entry_at m.sections node index sub) text node)) o)
+
+set_is : (p : Content) (number node index sub : ℕ) (text : List ℕ)
+    → set_fault p number (event.Set node index sub text)
+    ≡ set_of_member number node index sub text (member_at p node)
+set_is p number node index sub text = ap (option_map (λ fault. diagnostic (parameter_code fault) (of.Event number)))
+    (by_device (λ ss. result_err (set_bytes (entry_at ss node index sub) text node)) p node)
+
 -- ---- what is found holds
 
 -- the fault of what is found
@@ -73,7 +109,8 @@ unfit_by : (p : Content) (number time : ℕ) (e : Event) (d : Diag) → set_faul
     → Unfit p number time e d
 unfit_by p number time (event.Power node on) d h = cc
 unfit_by p number time (event.Nmt node command) d h = cc
-unfit_by p number time (event.Set node index sub text) d h = by (member_at p node) refl h
+unfit_by p number time (event.Set node index sub text) d h =
+    by (member_at p node) refl (sym (set_is p number node index sub text) ∙ h)
   where
     judge : Member → Result (List ℕ) ParameterFault
     judge m = set_bytes (entry_at m.sections node index sub) text node
@@ -109,7 +146,7 @@ unfit_by p number time (event.Set node index sub text) d h = by (member_at p nod
     by (Some m) is h = with m is (judge m) refl h
 
 pub events_hold : (p : Content) (d : Diag) → Contains (filter_map (unfit_event p) (entries p.events)) d → Holds p d
-unfolding unfit_event Holds
+unfolding Holds
 events_hold p d c =
     let one = from_filter_map (unfit_event p) (entries p.events) d c in
     let u : Unfit p one.0.0 one.0.1.time one.0.1.event d = unfit_by p one.0.0 one.0.1.time one.0.1.event d one.2 in
@@ -120,11 +157,13 @@ events_hold p d c =
 
 pub events_listed : (p : Content) (fault : ParameterFault) (number : ℕ) → SetsUnfitValue p fault number
     → Contains (filter_map (unfit_event p) (entries p.events)) (diagnostic (parameter_code fault) (of.Event number))
-unfolding unfit_event
 events_listed p fault number h =
     let e : TimedEvent = record { time = h.time; event = event.Set h.node h.index h.sub h.text } in
+    let it : ParameterFault → Diag = λ fault. diagnostic (parameter_code fault) (of.Event number) in
     let found : unfit_event p (number, e) ≡ Some (diagnostic (parameter_code fault) (of.Event number)) =
-    rw (h.is, h.fails) refl in
+    set_is p number h.node h.index h.sub h.text
+    ∙ ap (set_of_member number h.node h.index h.sub h.text) h.is
+    ∙ ap (λ (r : Result (List ℕ) ParameterFault). option_map it (result_err r)) h.fails in
     Contains-filter_map (unfit_event p) (entries p.events) (number, e)
     (diagnostic (parameter_code fault) (of.Event number))
     (entry_of nat_cmp_total exact_unsigned p.events number e h.there) found

@@ -6,7 +6,7 @@ use Rattle.std.proofs.lemmas.List.Elements.{Contains-append_cases, Contains-appe
 use Rattle.node_parameters.specs.declared.parameter_fault.ParameterFault.TheVariants as parameter
 use Rattle.pdo_plan.specs.declared.message_fault.MessageFault.TheVariants as message
 use Rattle.co_project.specs.Project.{Content}
-use Rattle.project_plan.specs.Network.{plan_of_project}
+use Rattle.project_plan.specs.Network.{members, plan_of_project}
 use Rattle.diag_lines.specs.declared.code.Code.{Code}
 use Rattle.diag_lines.specs.declared.code.Code.TheVariants.{NoEntry, Unreadable, OutsideLimits, NotWritable, NoObjects}
 use Rattle.diag_lines.specs.declared.code.Code.TheVariants.{TpdoTaken, TooManyBits, NotMappable, Mismatched, NoRpdo}
@@ -16,13 +16,12 @@ use Rattle.diag_lines.specs.declared.code.Code.TheVariants.{UnfitConsumer, Skipp
 use Rattle.diag_lines.specs.declared.subject.Subject.{Subject}
 use Rattle.diag_lines.specs.declared.subject.Subject.TheVariants as of
 use Rattle.diag_lines.specs.declared.diag.Diag.{Diag}
-use Rattle.project_plan.specs.Values.{members}
 use Rattle.diag_lines.specs.Order.{diag_cmp}
 use Rattle.diag_lines.specs.Sets.{IsListOf, sorted_set}
 use Rattle.co_diag.specs.Holds.{HoldsOf, Holds}
 use Rattle.co_diag.specs.Found.{diagnostic, unfit_parameters, unreadable_defaults, unfit_consumers, shared_identifiers}
-use Rattle.co_diag.specs.Found.{message_faults, remote_type, no_sync, unreached_start, unfit_event, skipped_lines}
-use Rattle.co_diag.specs.Found.{other_counter, diagnostics_found, diagnostics_of}
+use Rattle.co_diag.specs.Found.{message_faults, message_warnings, unfit_event, skipped_lines, other_counters}
+use Rattle.co_diag.specs.Found.{diagnostics_found, diagnostics_of}
 use Rattle.diag_lines.proofs.OrderLemmas.{diag_total, diag_exact}
 use Rattle.diag_lines.proofs.SetLemmas.{one_list, same_sets, set_is}
 use Rattle.co_diag.proofs.ParameterFound.{parameters_hold, parameters_listed}
@@ -30,8 +29,8 @@ use Rattle.co_diag.proofs.DefaultFound.{defaults_hold, defaults_listed}
 use Rattle.co_diag.proofs.ConsumerFound.{consumers_hold, consumers_listed}
 use Rattle.co_diag.proofs.CounterFound.{counters_hold, counters_listed}
 use Rattle.co_diag.proofs.SharedFound.{shared_hold, shared_listed}
-use Rattle.co_diag.proofs.MessageFound.{messages_hold, messages_listed, remote_types_hold, remote_types_listed}
-use Rattle.co_diag.proofs.MessageFound.{no_syncs_hold, no_syncs_listed, starts_hold, starts_listed}
+use Rattle.co_diag.proofs.MessageFound.{messages_hold, messages_listed, no_syncs_listed, remote_types_listed}
+use Rattle.co_diag.proofs.MessageFound.{starts_listed, warnings_hold}
 use Rattle.co_diag.proofs.EventFound.{events_hold, events_listed}
 use Rattle.co_diag.proofs.TextFound.{lines_hold, lines_listed}
 
@@ -42,23 +41,11 @@ parameters p = flat_map unfit_parameters (members p)
 abbrev defaults : Content → List Diag
 defaults p = flat_map unreadable_defaults (members p)
 
-abbrev consumers : Content → List Diag
-consumers p = flat_map (unfit_consumers p) (members p)
-
-abbrev counters : Content → List Diag
-counters p = filter_map (other_counter p) (members p)
-
 abbrev messages : Content → List Diag
 messages p = flat_map message_faults (plan_of_project p)
 
-abbrev remote_types : Content → List Diag
-remote_types p = filter_map remote_type (entries p.messages)
-
-abbrev no_syncs : Content → List Diag
-no_syncs p = filter_map (no_sync p) (entries p.messages)
-
-abbrev starts : Content → List Diag
-starts p = filter_map (unreached_start p) (entries p.messages)
+abbrev warnings : Content → List Diag
+warnings p = flat_map (message_warnings p) (entries p.messages)
 
 abbrev events : Content → List Diag
 events p = filter_map (unfit_event p) (entries p.events)
@@ -80,42 +67,34 @@ abbrev to_defaults : Content → List Diag
 to_defaults p = parameters p ++ defaults p
 
 abbrev to_consumers : Content → List Diag
-to_consumers p = to_defaults p ++ consumers p
+to_consumers p = to_defaults p ++ unfit_consumers p
 
 abbrev to_shared : Content → List Diag
 to_shared p = to_consumers p ++ shared_identifiers p
 
 abbrev to_counters : Content → List Diag
-to_counters p = to_shared p ++ counters p
+to_counters p = to_shared p ++ other_counters p
 
 abbrev to_messages : Content → List Diag
 to_messages p = to_counters p ++ messages p
 
-abbrev to_remote_types : Content → List Diag
-to_remote_types p = to_messages p ++ remote_types p
-
-abbrev to_no_syncs : Content → List Diag
-to_no_syncs p = to_remote_types p ++ no_syncs p
-
-abbrev to_starts : Content → List Diag
-to_starts p = to_no_syncs p ++ starts p
+abbrev to_warnings : Content → List Diag
+to_warnings p = to_messages p ++ warnings p
 
 abbrev to_events : Content → List Diag
-to_events p = to_starts p ++ events p
+to_events p = to_warnings p ++ events p
 
 -- what is found holds
 all_hold : (p : Content) (d : Diag) → Contains (diagnostics_found p) d → Holds p d
 unfolding diagnostics_found
 all_hold p d =
     of_either (to_events p) (lines p) (Holds p) d
-    (of_either (to_starts p) (events p) (Holds p) d
-    (of_either (to_no_syncs p) (starts p) (Holds p) d
-    (of_either (to_remote_types p) (no_syncs p) (Holds p) d
-    (of_either (to_messages p) (remote_types p) (Holds p) d
+    (of_either (to_warnings p) (events p) (Holds p) d
+    (of_either (to_messages p) (warnings p) (Holds p) d
     (of_either (to_counters p) (messages p) (Holds p) d
-    (of_either (to_shared p) (counters p) (Holds p) d
+    (of_either (to_shared p) (other_counters p) (Holds p) d
     (of_either (to_consumers p) (shared_identifiers p) (Holds p) d
-    (of_either (to_defaults p) (consumers p) (Holds p) d
+    (of_either (to_defaults p) (unfit_consumers p) (Holds p) d
     (of_either (parameters p) (defaults p) (Holds p) d
     (parameters_hold p d)
     (defaults_hold p d))
@@ -123,9 +102,7 @@ all_hold p d =
     (shared_hold p d))
     (counters_hold p d))
     (messages_hold p d))
-    (remote_types_hold p d))
-    (no_syncs_hold p d))
-    (starts_hold p d))
+    (warnings_hold p d))
     (events_hold p d))
     (lines_hold p d)
 
@@ -139,38 +116,26 @@ module _ (p : Content) (d : Diag) where
   unfolding diagnostics_found
   in_lines c = Contains-append_right (to_events p) (lines p) d c
 
-  up_to_starts : Contains (to_starts p) d → Contains (diagnostics_found p) d
-  up_to_starts c = up_to_events (Contains-append_left (to_starts p) (events p) d c)
-
-  up_to_no_syncs : Contains (to_no_syncs p) d → Contains (diagnostics_found p) d
-  up_to_no_syncs c = up_to_starts (Contains-append_left (to_no_syncs p) (starts p) d c)
-
-  in_starts : Contains (starts p) d → Contains (diagnostics_found p) d
-  in_starts c = up_to_starts (Contains-append_right (to_no_syncs p) (starts p) d c)
+  up_to_warnings : Contains (to_warnings p) d → Contains (diagnostics_found p) d
+  up_to_warnings c = up_to_events (Contains-append_left (to_warnings p) (events p) d c)
 
   in_events : Contains (events p) d → Contains (diagnostics_found p) d
-  in_events c = up_to_events (Contains-append_right (to_starts p) (events p) d c)
-
-  up_to_remote_types : Contains (to_remote_types p) d → Contains (diagnostics_found p) d
-  up_to_remote_types c = up_to_no_syncs (Contains-append_left (to_remote_types p) (no_syncs p) d c)
-
-  in_no_syncs : Contains (no_syncs p) d → Contains (diagnostics_found p) d
-  in_no_syncs c = up_to_no_syncs (Contains-append_right (to_remote_types p) (no_syncs p) d c)
+  in_events c = up_to_events (Contains-append_right (to_warnings p) (events p) d c)
 
   up_to_messages : Contains (to_messages p) d → Contains (diagnostics_found p) d
-  up_to_messages c = up_to_remote_types (Contains-append_left (to_messages p) (remote_types p) d c)
+  up_to_messages c = up_to_warnings (Contains-append_left (to_messages p) (warnings p) d c)
 
-  in_remote_types : Contains (remote_types p) d → Contains (diagnostics_found p) d
-  in_remote_types c = up_to_remote_types (Contains-append_right (to_messages p) (remote_types p) d c)
+  in_warnings : Contains (warnings p) d → Contains (diagnostics_found p) d
+  in_warnings c = up_to_warnings (Contains-append_right (to_messages p) (warnings p) d c)
 
   up_to_counters : Contains (to_counters p) d → Contains (diagnostics_found p) d
   up_to_counters c = up_to_messages (Contains-append_left (to_counters p) (messages p) d c)
 
   up_to_shared : Contains (to_shared p) d → Contains (diagnostics_found p) d
-  up_to_shared c = up_to_counters (Contains-append_left (to_shared p) (counters p) d c)
+  up_to_shared c = up_to_counters (Contains-append_left (to_shared p) (other_counters p) d c)
 
-  in_counters : Contains (counters p) d → Contains (diagnostics_found p) d
-  in_counters c = up_to_counters (Contains-append_right (to_shared p) (counters p) d c)
+  in_counters : Contains (other_counters p) d → Contains (diagnostics_found p) d
+  in_counters c = up_to_counters (Contains-append_right (to_shared p) (other_counters p) d c)
 
   in_messages : Contains (messages p) d → Contains (diagnostics_found p) d
   in_messages c = up_to_messages (Contains-append_right (to_counters p) (messages p) d c)
@@ -182,10 +147,10 @@ module _ (p : Content) (d : Diag) where
   in_shared c = up_to_shared (Contains-append_right (to_consumers p) (shared_identifiers p) d c)
 
   up_to_defaults : Contains (to_defaults p) d → Contains (diagnostics_found p) d
-  up_to_defaults c = up_to_consumers (Contains-append_left (to_defaults p) (consumers p) d c)
+  up_to_defaults c = up_to_consumers (Contains-append_left (to_defaults p) (unfit_consumers p) d c)
 
-  in_consumers : Contains (consumers p) d → Contains (diagnostics_found p) d
-  in_consumers c = up_to_consumers (Contains-append_right (to_defaults p) (consumers p) d c)
+  in_consumers : Contains (unfit_consumers p) d → Contains (diagnostics_found p) d
+  in_consumers c = up_to_consumers (Contains-append_right (to_defaults p) (unfit_consumers p) d c)
 
   in_parameters : Contains (parameters p) d → Contains (diagnostics_found p) d
   in_parameters c = up_to_defaults (Contains-append_left (parameters p) (defaults p) d c)
@@ -216,12 +181,12 @@ all_listed p BadIdentifier (of.Message name) h = in_messages p _ (messages_liste
 all_listed p NoIdentifier (of.Message name) h = in_messages p _ (messages_listed p message.NoIdentifier name h)
 all_listed p ReservedType (of.Message name) h = in_messages p _ (messages_listed p message.ReservedType name h)
 all_listed p SharedIdentifier (of.Cob id) h = in_shared p _ (shared_listed p id h)
-all_listed p RemoteType (of.Message name) h = in_remote_types p _ (remote_types_listed p name h)
-all_listed p NoSync (of.Message name) h = in_no_syncs p _ (no_syncs_listed p name h)
+all_listed p RemoteType (of.Message name) h = in_warnings p _ (remote_types_listed p name h)
+all_listed p NoSync (of.Message name) h = in_warnings p _ (no_syncs_listed p name h)
 all_listed p UnfitConsumer (of.Node n (Some s)) h = in_consumers p _ (consumers_listed p n s h)
 all_listed p SkippedLine (of.Eds name line) h = in_lines p _ (lines_listed p name line h)
 all_listed p OtherCounter (of.Node n None) h = in_counters p _ (counters_listed p n h)
-all_listed p UnreachedStart (of.Message name) h = in_starts p _ (starts_listed p name h)
+all_listed p UnreachedStart (of.Message name) h = in_warnings p _ (starts_listed p name h)
 all_listed p code subject h = absurd h
 
 found_holds : (p : Content) (d : Diag) → Contains (diagnostics_found p) d ↔ Holds p d

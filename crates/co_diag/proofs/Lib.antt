@@ -13,7 +13,7 @@ pub mod DeviceLemmas
 pub mod WalkLemmas
 pub mod KeptLemmas
 pub mod CountLemmas
-pub mod ConsumerWalk
+pub mod TimeLemmas
 pub mod SetFound
 pub mod DoubtLemmas
 pub mod MetLemmas

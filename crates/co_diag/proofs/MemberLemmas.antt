@@ -24,8 +24,7 @@ use Rattle.node_parameters.proofs.WrittenLemmas.{Contains-filter_map, from_filte
 use Rattle.pdo_stations.specs.Devices.{is_unsigned}
 use Rattle.co_project.specs.declared.node.Node.{Node}
 use Rattle.co_project.specs.Project.{Content}
-use Rattle.project_plan.specs.Network.{Member, with_sections, member_at}
-use Rattle.project_plan.specs.Values.{members}
+use Rattle.project_plan.specs.Network.{Member, member_at, member_by, members, with_sections}
 use Rattle.diag_lines.proofs.ListLemmas.{Contains-first, Contains-later}
 
 -- ---- tables
@@ -58,7 +57,7 @@ module _ {K X : Type 0} {R : K → K → Ordering} (total : IsTotalOrder R) (exa
 pub member_found : (p : Content) (e : ℕ × Member) → Contains (members p) e → member_at p e.0 ≡ Some e.1
 unfolding members member_at
 member_found p e c =
-    let from = from_filter_map (λ x. option_map (λ m. (x.0, m)) (with_sections p x.1)) (entries p.nodes) e c in
+    let from = from_filter_map (member_by p) (entries p.nodes) e c in
     by from.0 (at_entry nat_cmp_total exact_unsigned p.nodes from.0 from.1) (with_sections p from.0.1) refl from.2
   where
     by : (x : ℕ × Node) → get p.nodes x.0 ≡ Some x.1 → (o : Option Member) → with_sections p x.1 ≡ o
@@ -75,11 +74,10 @@ unfolding members member_at
 member_listed p n m h = by (get p.nodes n) refl h
   where
     by : (o : Option Node) → get p.nodes n ≡ o → option_and_then (with_sections p) o ≡ Some m
-        → Contains {X = ℕ × Member} (filter_map (λ e. option_map (λ m. (e.0, m)) (with_sections p e.1))
-        (entries p.nodes)) (n, m)
+        → Contains {X = ℕ × Member} (filter_map (member_by p) (entries p.nodes)) (n, m)
     by None is h = cc
     by (Some node) is h =
-        Contains-filter_map (λ e. option_map (λ m. (e.0, m)) (with_sections p e.1)) (entries p.nodes) (n, node) (n, m)
+        Contains-filter_map (member_by p) (entries p.nodes) (n, node) (n, m)
         (entry_of nat_cmp_total exact_unsigned p.nodes n node is) (ap (option_map (λ m. (n, m))) h)
 
 -- ---- places

@@ -1,14 +1,13 @@
 -- The faults, transmission types and SYNC start values of messages are found.
-use Rattle.std.proofs.Common.{◌≡◌, ℕ, Bool, true, false, List, filter_map, map, Contains, Option, Some, None}
-use Rattle.std.proofs.Common.{refl, sym, subst}
-use Rattle.std.specs.Prelude.{if◌then◌else◌}
-use Rattle.std.specs.FinMap.{entries}
+use Rattle.std.proofs.Common.{◌≡◌, ◌⊎◌, inl, inr, ℕ, Bool, true, false, List, [], ◌++◌, map, Contains, Some, refl, sym, subst}
+use Rattle.std.proofs.Common.{◌∙◌, ap, append_assoc}
+use Rattle.std.specs.FinMap.{entries, get}
 use Rattle.std.specs.List.{flat_map}
 use Rattle.std.proofs.lemmas.Cmp.{nat_list_cmp_total}
+use Rattle.std.proofs.lemmas.List.Elements.{Contains-append_cases, Contains-append_left, Contains-append_right}
 use Rattle.std.proofs.lemmas.Map.Lookups.{exact_bytes}
 use Rattle.cia301.specs.TransmissionTypes.{is_on_request}
 use Rattle.project_messages.specs.declared.linked.Linked.{Linked}
-use Rattle.node_parameters.proofs.WrittenLemmas.{Contains-filter_map, from_filter_map}
 use Rattle.pdo_plan.specs.declared.message_fault.MessageFault.{MessageFault}
 use Rattle.pdo_plan.specs.declared.message_fault.MessageFault.TheVariants as message
 use Rattle.pdo_plan.specs.declared.outcome.Outcome.{Outcome}
@@ -22,8 +21,8 @@ use Rattle.diag_lines.specs.declared.diag.Diag.{Diag}
 use Rattle.diag_lines.specs.declared.subject.Subject.TheVariants as of
 use Rattle.co_diag.specs.Faults.{message_code}
 use Rattle.co_diag.specs.Holds.{HasMessageFault, HasMessage, HoldsOf, Holds, starts_at_none, type_of, waits_for_none}
-use Rattle.co_diag.specs.Found.{diagnostic, message_faults, message_diagnostics, remote_type, no_sync, unreached_start}
-use Rattle.diag_lines.proofs.ListLemmas.{Contains-nil}
+use Rattle.co_diag.specs.Found.{diagnostic, message_faults, message_diagnostics, message_warnings, said_if}
+use Rattle.diag_lines.proofs.ListLemmas.{Contains-nil, Contains-first, Contains-cases}
 use Rattle.co_diag.proofs.ListLemmas.{Contains-map, from_map, Contains-flat_map, from_flat_map}
 use Rattle.co_diag.proofs.MemberLemmas.{at_entry, entry_of}
 
@@ -73,65 +72,104 @@ messages_listed p fault name h =
 
 -- ---- messages as they are
 
--- what is said of a message that passes a test
-abbrev tested : Code → (Linked → Bool) → List ℕ × Linked → Option Diag
-tested code test m = if test m.1 then Some (diagnostic code (of.Message m.0)) else None
-
-tested_by : (p : Content) (code : Code) (test : Linked → Bool) (d : Diag)
-    → Contains (filter_map (tested code test) (entries p.messages)) d
-    → (name : List ℕ) × HasMessage p test name × (diagnostic code (of.Message name) ≡ d)
-tested_by p code test d c =
-    let one = from_filter_map (tested code test) (entries p.messages) d c in
-    by one.0 one.1 (test one.0.1) refl one.2
+said_by : (holds : Bool) (code : Code) (name : List ℕ) (d : Diag) → Contains (said_if holds code name) d
+    → (holds ≡ true) × (diagnostic code (of.Message name) ≡ d)
+said_by false code name d c = absurd (Contains-nil d c)
+said_by true code name d c = by (Contains-cases (diagnostic code (of.Message name)) [] d c)
   where
-    by : (m : List ℕ × Linked) → Contains (entries p.messages) m → (b : Bool) → test m.1 ≡ b
-        → (if b then Some (diagnostic code (of.Message m.0)) else None) ≡ Some d
-        → (name : List ℕ) × HasMessage p test name × (diagnostic code (of.Message name) ≡ d)
-    by m c true fits h =
-        let same : diagnostic code (of.Message m.0) ≡ d = cc in (
-          m.0,
-          record { linked = m.1; there = at_entry nat_list_cmp_total exact_bytes p.messages m c; fits = fits },
-          same,
-        )
-    by m c false fits h = cc
+    by : (diagnostic code (of.Message name) ≡ d) ⊎ Contains [] d
+        → (true ≡ true) × (diagnostic code (of.Message name) ≡ d)
+    by (inl same) = (refl, same)
+    by (inr c) = absurd (Contains-nil d c)
 
-tested_listed : (p : Content) (code : Code) (test : Linked → Bool) (name : List ℕ) → HasMessage p test name
-    → Contains (filter_map (tested code test) (entries p.messages)) (diagnostic code (of.Message name))
-tested_listed p code test name h =
-    let found : tested code test (name, h.linked) ≡ Some (diagnostic code (of.Message name)) = rw h.fits refl in
-    Contains-filter_map (tested code test) (entries p.messages) (name, h.linked) (diagnostic code (of.Message name))
-    (entry_of nat_list_cmp_total exact_bytes p.messages name h.linked h.there) found
+module _ (p : Content) where
+  abbrev is_remote : Linked → Bool
+  is_remote linked = is_on_request (type_of linked)
 
-abbrev is_remote : Linked → Bool
-is_remote linked = is_on_request (type_of linked)
+  -- the three, one after the other
+  abbrev remote : List ℕ × Linked → List Diag
+  remote m = said_if (is_remote m.1) RemoteType m.0
 
-pub remote_types_hold : (p : Content) (d : Diag) → Contains (filter_map remote_type (entries p.messages)) d → Holds p d
-unfolding Holds
-remote_types_hold p d c =
-    let one = tested_by p RemoteType is_remote d c in
-    subst (λ (x : Diag). HoldsOf p x.code x.subject) one.2 one.1
+  abbrev waiting : List ℕ × Linked → List Diag
+  waiting m = said_if (waits_for_none p m.1) NoSync m.0
 
-pub remote_types_listed : (p : Content) (name : List ℕ) → HasMessage p is_remote name
-    → Contains (filter_map remote_type (entries p.messages)) (diagnostic RemoteType (of.Message name))
-remote_types_listed p name h = tested_listed p RemoteType is_remote name h
+  abbrev starting : List ℕ × Linked → List Diag
+  starting m = said_if (starts_at_none p m.1) UnreachedStart m.0
 
-pub no_syncs_hold : (p : Content) (d : Diag) → Contains (filter_map (no_sync p) (entries p.messages)) d → Holds p d
-unfolding Holds
-no_syncs_hold p d c =
-    let one = tested_by p NoSync (waits_for_none p) d c in
-    subst (λ (x : Diag). HoldsOf p x.code x.subject) one.2 one.1
+  -- what is said of a message in turn
+  pub said_in_turn : (name n : List ℕ) (linked : Linked) (found all : List Diag) → n ≡ name
+      → all ≡ found ++ remote (n, linked) ++ waiting (n, linked) ++ starting (n, linked)
+      → all ≡ found ++ message_warnings p (name, linked)
+  unfolding message_warnings
+  said_in_turn name n linked found all same now =
+      let m : List ℕ × Linked = (name, linked) in
+      now
+      ∙ ap (λ (k : List ℕ). found ++ remote (k, linked) ++ waiting (k, linked) ++ starting (k, linked)) same
+      ∙ ap (λ (ds : List Diag). ds ++ starting m) (append_assoc found (remote m) (waiting m))
+      ∙ append_assoc found (remote m ++ waiting m) (starting m)
 
-pub no_syncs_listed : (p : Content) (name : List ℕ) → HasMessage p (waits_for_none p) name
-    → Contains (filter_map (no_sync p) (entries p.messages)) (diagnostic NoSync (of.Message name))
-no_syncs_listed p name h = tested_listed p NoSync (waits_for_none p) name h
+  -- what is said of a message that passes a test
+  tested : (m : List ℕ × Linked) (test : Linked → Bool) (code : Code) (d : Diag) → get p.messages m.0 ≡ Some m.1
+      → (HasMessage p test m.0 → HoldsOf p code (of.Message m.0)) → Contains (said_if (test m.1) code m.0) d
+      → HoldsOf p d.code d.subject
+  tested m test code d there holds c =
+      let said = said_by (test m.1) code m.0 d c in
+      subst (λ (x : Diag). HoldsOf p x.code x.subject) said.1
+      (holds (record { linked = m.1; there = there; fits = said.0 }))
 
-pub starts_hold : (p : Content) (d : Diag) → Contains (filter_map (unreached_start p) (entries p.messages)) d
-    → Holds p d
-unfolding Holds
-starts_hold p d c =
-    let one = tested_by p UnreachedStart (starts_at_none p) d c in
-    subst (λ (x : Diag). HoldsOf p x.code x.subject) one.2 one.1
+  pub warnings_hold : (d : Diag) → Contains (flat_map (message_warnings p) (entries p.messages)) d → Holds p d
+  unfolding message_warnings Holds
+  warnings_hold d c =
+      let at = from_flat_map (message_warnings p) (entries p.messages) d c in
+      by at.0 (at_entry nat_list_cmp_total exact_bytes p.messages at.0 at.1)
+      (Contains-append_cases (remote at.0 ++ waiting at.0) (starting at.0) d at.2)
+    where
+      first : (m : List ℕ × Linked) → get p.messages m.0 ≡ Some m.1 → Contains (remote m) d ⊎ Contains (waiting m) d
+          → HoldsOf p d.code d.subject
+      first m there (inl c) = tested m is_remote RemoteType d there (λ h. h) c
+      first m there (inr c) = tested m (waits_for_none p) NoSync d there (λ h. h) c
 
-pub starts_listed : (p : Content) (name : List ℕ) → HasMessage p (starts_at_none p) name
-    → Contains (filter_map (unreached_start p) (entries p.messages)) (diagnostic UnreachedStart (of.Message name))
-starts_listed p name h = tested_listed p UnreachedStart (starts_at_none p) name h
+      by : (m : List ℕ × Linked) → get p.messages m.0 ≡ Some m.1
+          → Contains (remote m ++ waiting m) d ⊎ Contains (starting m) d → HoldsOf p d.code d.subject
+      by m there (inl c) = first m there (Contains-append_cases (remote m) (waiting m) d c)
+      by m there (inr c) = tested m (starts_at_none p) UnreachedStart d there (λ h. h) c
+
+  module _ (name : List ℕ) where
+    said : (test : Linked → Bool) (code : Code) (h : HasMessage p test name)
+        → Contains (said_if (test h.linked) code name) (diagnostic code (of.Message name))
+    said test code h = subst (λ (b : Bool). Contains (said_if b code name) (diagnostic code (of.Message name)))
+        (sym h.fits) (Contains-first (diagnostic code (of.Message name)) [])
+
+    -- what is said of one message is among all
+    listed : (linked : Linked) (d : Diag) → get p.messages name ≡ Some linked
+        → Contains (message_warnings p (name, linked)) d
+        → Contains (flat_map (message_warnings p) (entries p.messages)) d
+    listed linked d there c = Contains-flat_map (message_warnings p) (entries p.messages) (name, linked) d
+        (entry_of nat_list_cmp_total exact_bytes p.messages name linked there) c
+
+    pub remote_types_listed : HasMessage p is_remote name
+        → Contains (flat_map (message_warnings p) (entries p.messages)) (diagnostic RemoteType (of.Message name))
+    unfolding message_warnings
+    remote_types_listed h =
+        let m : List ℕ × Linked = (name, h.linked) in
+        let d : Diag = diagnostic RemoteType (of.Message name) in
+        listed h.linked d h.there (Contains-append_left (remote m ++ waiting m) (starting m) d
+        (Contains-append_left (remote m) (waiting m) d (said is_remote RemoteType h)))
+
+    pub no_syncs_listed : HasMessage p (waits_for_none p) name
+        → Contains (flat_map (message_warnings p) (entries p.messages)) (diagnostic NoSync (of.Message name))
+    unfolding message_warnings
+    no_syncs_listed h =
+        let m : List ℕ × Linked = (name, h.linked) in
+        let d : Diag = diagnostic NoSync (of.Message name) in
+        listed h.linked d h.there (Contains-append_left (remote m ++ waiting m) (starting m) d
+        (Contains-append_right (remote m) (waiting m) d (said (waits_for_none p) NoSync h)))
+
+    pub starts_listed : HasMessage p (starts_at_none p) name
+        → Contains (flat_map (message_warnings p) (entries p.messages)) (diagnostic UnreachedStart (of.Message name))
+    unfolding message_warnings
+    starts_listed h =
+        let m : List ℕ × Linked = (name, h.linked) in
+        let d : Diag = diagnostic UnreachedStart (of.Message name) in
+        listed h.linked d h.there (Contains-append_right (remote m ++ waiting m) (starting m) d
+        (said (starts_at_none p) UnreachedStart h))

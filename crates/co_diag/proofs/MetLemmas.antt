@@ -12,16 +12,16 @@ use Rattle.eds_device.specs.Places.{pairs_of}
 use Rattle.node_parameters.specs.Parameters.{given_text, parameter_text}
 use Rattle.node_parameters.proofs.WrittenLemmas.{Contains-filter_map, from_filter_map}
 use Rattle.co_project.specs.Project.{Content}
-use Rattle.project_plan.specs.Network.{Member, plan_of_project}
+use Rattle.project_plan.specs.GivenParameters.{given_places, is_given}
+use Rattle.project_plan.specs.Network.{Member, members, plan_of_project}
 use Rattle.diag_lines.specs.declared.diag.Diag.{Diag}
 use Rattle.diag_lines.specs.Order.{diag_cmp}
 use Rattle.diag_lines.specs.Sets.{sorted_set}
 use Rattle.diag_lines.proofs.ListLemmas.{Contains-first, Contains-later, Contains-cases}
-use Rattle.project_plan.specs.Values.{members}
-use Rattle.co_diag.specs.Found.{diagnostics_found, diagnostics_of, message_faults, no_sync, other_counter}
-use Rattle.co_diag.specs.Found.{parameter_diagnostic, remote_type, shared_identifiers, skipped_lines, unfit_consumers}
-use Rattle.co_diag.specs.Found.{unfit_event, unfit_parameters, unreached_start, unreadable_defaults}
-use Rattle.co_diag.specs.Sheets.{diagnostics_met, faults_of_node, given_places, is_given}
+use Rattle.co_diag.specs.Found.{diagnostics_found, diagnostics_of, message_faults, message_warnings, other_counters}
+use Rattle.co_diag.specs.Found.{parameter_diagnostic, shared_identifiers, skipped_lines, unfit_consumers, unfit_event}
+use Rattle.co_diag.specs.Found.{unfit_parameters, unreadable_defaults}
+use Rattle.co_diag.specs.Sheets.{diagnostics_met, faults_of_node}
 use Rattle.co_diag.proofs.FoundLemmas.{collected}
 use Rattle.co_diag.proofs.ListLemmas.{Contains-flat_map, from_flat_map}
 use Rattle.co_diag.proofs.MemberLemmas.{entry_of}
@@ -149,16 +149,14 @@ unfolding diagnostics_met diagnostics_found
 same_found p d =
     same_before _ _ (flat_map skipped_lines (entries p.texts)) d
     (same_before _ _ (filter_map (unfit_event p) (entries p.events)) d
-    (same_before _ _ (filter_map (unreached_start p) (entries p.messages)) d
-    (same_before _ _ (filter_map (no_sync p) (entries p.messages)) d
-    (same_before _ _ (filter_map remote_type (entries p.messages)) d
+    (same_before _ _ (flat_map (message_warnings p) (entries p.messages)) d
     (same_before _ _ (flat_map message_faults (plan_of_project p)) d
-    (same_before _ _ (filter_map (other_counter p) (members p)) d
+    (same_before _ _ (other_counters p) d
     (same_before _ _ (shared_identifiers p) d
-    (same_before _ _ (flat_map (unfit_consumers p) (members p)) d
+    (same_before _ _ (unfit_consumers p) d
     (same_before (flat_map faults_of_node (members p)) (flat_map unfit_parameters (members p))
     (flat_map unreadable_defaults (members p)) d
-    (nodes_same (members p) d))))))))))
+    (nodes_same (members p) d))))))))
 
 pub met_is : (p : Content) → sorted_set diag_cmp (diagnostics_met p) ≡ diagnostics_of p
 met_is p = collected p (diagnostics_met p) (same_found p)

@@ -18,11 +18,10 @@ use Rattle.node_parameters.specs.Judgement.{parameter_bytes}
 use Rattle.node_parameters.specs.Parameters.{given_text, parameter_text}
 use Rattle.node_parameters.proofs.WrittenLemmas.{Contains-filter_map, from_filter_map}
 use Rattle.co_project.specs.Project.{Content}
-use Rattle.project_plan.specs.Network.{Member, member_at}
+use Rattle.project_plan.specs.Network.{Member, member_at, members}
 use Rattle.diag_lines.specs.declared.diag.Diag.{Diag}
 use Rattle.diag_lines.specs.declared.subject.Subject.TheVariants as of
 use Rattle.co_diag.specs.Faults.{parameter_code}
-use Rattle.project_plan.specs.Values.{members}
 use Rattle.co_diag.specs.Holds.{HasUnfitParameter, HoldsOf, Holds}
 use Rattle.co_diag.specs.Found.{diagnostic, parameter_diagnostic, unfit_parameters}
 use Rattle.co_diag.proofs.ListLemmas.{Contains-flat_map, from_flat_map}

@@ -1,54 +1,31 @@
 -- The identifiers that two or more TPDOs have are found.
-use Rattle.std.proofs.Common.{◌≡◌, ◌≤◌, ◌&&◌, ℕ, Bool, true, false, not, List, length, map, filter, filter_map}
-use Rattle.std.proofs.Common.{Contains, Option, Some, None, refl, sym, ap, subst, ◌∙◌, arith}
-use Rattle.std.specs.Prelude.{◌==◌, if◌then◌else◌, nat_le, option_and_then}
-use Rattle.std.specs.Option.{option_map_or}
+use Rattle.std.proofs.Common.{◌≡◌, ◌≤◌, ◌&&◌, ℕ, Bool, true, false, not, List, length, map, filter}
+use Rattle.std.proofs.Common.{Contains, Some, None, refl, sym, ap, subst, ◌∙◌, arith}
+use Rattle.std.specs.Prelude.{◌==◌, if◌then◌else◌, nat_le}
 use Rattle.std.proofs.lemmas.Bool.{eqb-true, le-leb, leb-true}
 use Rattle.std.proofs.lemmas.List.{length-map}
-use Rattle.base.specs.Ranges.{is_between}
-use Rattle.co_values.specs.declared.form.Width.TheVariants.{Bits32}
 use Rattle.cia301.specs.CobIds.{is_restricted}
 use Rattle.eds_device.specs.Places.{pairs_of}
 use Rattle.node_parameters.proofs.WrittenLemmas.{Contains-filter_map, from_filter_map}
 use Rattle.co_project.specs.Project.{Content}
-use Rattle.project_plan.specs.Network.{Member}
+use Rattle.project_plan.specs.Network.{members}
 use Rattle.diag_lines.specs.declared.code.Code.TheVariants.{SharedIdentifier}
 use Rattle.diag_lines.specs.declared.diag.Diag.{Diag}
 use Rattle.diag_lines.specs.declared.subject.Subject.TheVariants as of
-use Rattle.project_plan.specs.Values.{members, number_after}
-use Rattle.cia301.specs.CobIds.{identifier_in}
-use Rattle.co_diag.specs.Holds.{HoldsOf, Holds, IsShared, is_on, sends_with, senders_with}
-use Rattle.co_diag.specs.Found.{diagnostic, identifier_of, identifiers, shared_in, shared_identifiers}
+use Rattle.co_diag.specs.Holds.{HoldsOf, Holds, IsShared, sends_with, senders_with}
+use Rattle.co_diag.specs.Found.{diagnostic, identifiers, shared_in, shared_identifiers}
+use Rattle.co_diag.specs.Rules.{identifier_at, identifiers_in, numbers_of}
 use Rattle.co_diag.proofs.ListLemmas.{length-filter_flat_map, length-filter_given, member_of_some}
 
 -- ---- as many TPDOs as identifiers
 
--- a TPDO is on with an identifier exactly where that is the one that it has
-its_own : (p : Content) (id : ℕ) (e : ℕ × Member) (place : ℕ × ℕ)
-    → sends_with p id e place ≡ option_map_or (λ n. n == id) (identifier_of p e place) false
-unfolding sends_with identifier_of
-its_own p id e place = by (is_between 0x1800 0x19FF place.0) (place.1 == 1) (number_after Bits32 p e.1 e.0 place)
-  where
-    of_number : (n : ℕ) (b : Bool) → (b && (identifier_in n == id)) ≡ option_map_or (λ n. n == id)
-        (if b then Some (identifier_in n) else None) false
-    of_number n true = refl
-    of_number n false = refl
-
-    by : (a b : Bool) (o : Option ℕ) → (a && b && option_map_or (λ cob. is_on cob && identifier_in cob == id) o false)
-        ≡ option_map_or (λ n. n == id) (if a && b
-        then option_and_then (λ cob. if is_on cob then Some (identifier_in cob) else None) o else None) false
-    by true true (Some n) = of_number n (is_on n)
-    by true true None = refl
-    by true false o = refl
-    by false b o = refl
-
 as_many : (p : Content) (id : ℕ) → length (senders_with p id) ≡ length (filter (λ n. n == id) (identifiers p))
-unfolding senders_with identifiers
+unfolding senders_with sends_with identifiers
 as_many p id =
     length-filter_flat_map (λ e. map (λ place. (e.0, place)) (filter (sends_with p id e) (pairs_of e.1.sections)))
-    (λ e. filter_map (identifier_of p e) (pairs_of e.1.sections)) (λ n. n == id)
+    (identifiers_in (numbers_of p)) (λ n. n == id)
     (λ e. length-map (filter (sends_with p id e) (pairs_of e.1.sections)) (λ place. (e.0, place))
-    ∙ length-filter_given (sends_with p id e) (identifier_of p e) (λ n. n == id) (its_own p id e)
+    ∙ length-filter_given (sends_with p id e) (identifier_at (numbers_of p e)) (λ n. n == id) (λ place. refl)
     (pairs_of e.1.sections))
     (members p)
 

@@ -1,22 +1,16 @@
 -- What is wrong with a project: one predicate for each code (CiA 301 and 306 say what an entry, a PDO, an identifier
 -- and a heartbeat consumer may be; the codes are this profile's own).
-use Rattle.std.specs.Prelude.{◌≡◌, ◌≤◌, ℕ, ◌==◌, ◌&&◌, ◌||◌, not, Bool, true, false, nat_le, nat_lt}
-use Rattle.std.specs.Prelude.{if◌then◌else◌, List, length, filter, map, Option, Some, None, option_map, Err, Contains}
+use Rattle.std.specs.Prelude.{◌≡◌, ◌≤◌, ℕ, ◌==◌, ◌&&◌, Bool, true, false, nat_lt, List, length, filter, map, Option}
+use Rattle.std.specs.Prelude.{Some, None, option_map, Err, Contains}
 use Rattle.std.specs.FinMap.{get}
 use Rattle.std.specs.List.{flat_map}
-use Rattle.std.specs.Option.{option_map_or, unwrap_or}
-use Rattle.base.specs.Ranges.{is_between}
+use Rattle.std.specs.Option.{option_map_or}
 use Rattle.ini_text.specs.Content.{content_of}
-use Rattle.co_values.specs.declared.form.Width.TheVariants.{Bits8, Bits16, Bits32}
-use Rattle.co_values.specs.Types.{is_modelled}
-use Rattle.co_values.specs.Values.{value}
-use Rattle.cia301.specs.ConsumerHeartbeatTimes.{consumed_node, consumer_time}
 use Rattle.cia301.specs.TransmissionTypes.{is_on_request, is_synchronous, type_of_byte}
 use Rattle.cia301.specs.declared.transmission_type.TransmissionType.{TransmissionType}
 use Rattle.cia301.specs.declared.transmission_type.TransmissionType.TheVariants.{Cyclic}
-use Rattle.co_dict.specs.declared.entry.Entry.{Entry}
 use Rattle.cia301.specs.CobIds.{is_restricted}
-use Rattle.eds_device.specs.Described.{default_text}
+use Rattle.eds_device.specs.Described.{default_text, kind_at}
 use Rattle.eds_device.specs.Entries.{entry_at}
 use Rattle.eds_device.specs.Places.{pairs_of}
 use Rattle.node_parameters.specs.declared.parameter_fault.ParameterFault.{ParameterFault}
@@ -30,7 +24,7 @@ use Rattle.pdo_plan.specs.declared.message_fault.MessageFault.TheVariants as mes
 use Rattle.pdo_plan.specs.declared.outcome.Outcome.TheVariants.{Faulty}
 use Rattle.pdo_plan.specs.declared.planned_message.PlannedMessage.{PlannedMessage}
 use Rattle.co_project.specs.Project.{Content}
-use Rattle.project_plan.specs.Network.{Member, member_at, plan_of_project}
+use Rattle.project_plan.specs.Network.{Member, member_at, members, plan_of_project}
 use Rattle.diag_lines.specs.declared.code.Code.{Code}
 use Rattle.diag_lines.specs.declared.code.Code.TheVariants.{NoEntry, Unreadable, OutsideLimits, NotWritable, NoObjects}
 use Rattle.diag_lines.specs.declared.code.Code.TheVariants.{TpdoTaken, TooManyBits, NotMappable, Mismatched, NoRpdo}
@@ -40,8 +34,9 @@ use Rattle.diag_lines.specs.declared.code.Code.TheVariants.{UnfitConsumer, Skipp
 use Rattle.diag_lines.specs.declared.subject.Subject.{Subject}
 use Rattle.diag_lines.specs.declared.subject.Subject.TheVariants as of
 use Rattle.diag_lines.specs.declared.diag.Diag.{Diag}
-use Rattle.cia301.specs.CobIds.{identifier_in, is_of_base_frames, is_valid}
-use Rattle.project_plan.specs.Values.{members, number_after}
+use Rattle.project_plan.specs.Doubtful.{spells_none}
+use Rattle.project_plan.specs.Values.{number_after}
+use Rattle.co_diag.specs.Rules.{consumer_at, counter_at, heartbeat_time, identifier_at, is_unfit, numbers_of, time_by}
 
 -- a parameter of a node, its own or one of the EDS, has this fault
 pub record HasUnfitParameter (p : Content) (fault : ParameterFault) (node index sub : ℕ) : Type 0 where
@@ -66,13 +61,10 @@ pub record SetsUnfitValue (p : Content) (fault : ParameterFault) (number : ℕ) 
 -- the DefaultValue of an entry of a modelled type spells none of its values at the node
 pub record HasUnreadableDefault (p : Content) (node index sub : ℕ) : Type 0 where
   pub member : Member
-  pub entry : Entry
   pub text : List ℕ
   pub is : member_at p node ≡ Some member
-  pub there : entry_at member.sections node index sub ≡ Some entry
-  pub modelled : is_modelled entry.kind ≡ true
   pub given : default_text member.sections index sub ≡ Some text
-  pub unreadable : value entry.kind text node ≡ None
+  pub unreadable : spells_none node text (kind_at member.sections (index, sub)) ≡ true
 
 -- a message has this fault, which keeps it out of the plan
 pub record HasMessageFault (p : Content) (fault : MessageFault) (name : List ℕ) : Type 0 where
@@ -107,15 +99,9 @@ is_cyclic other = false
 abbrev pub starts_at_none : Content → Linked → Bool
 starts_at_none p linked = is_cyclic (type_of linked) && nat_lt p.sync_counter linked.start
 
--- the COB-ID of a PDO (CiA 301): it is on and of 11 bits where bits 31 and 29 are clear
-abbrev pub is_on : ℕ → Bool
-is_on cob = is_valid cob && is_of_base_frames cob
-
 -- a TPDO of a node that is on with an identifier
 unfoldable pub sends_with : Content → ℕ → ℕ × Member → ℕ × ℕ → Bool
-sends_with p id e place =
-    is_between 0x1800 0x19FF place.0 && place.1 == 1
-    && option_map_or (λ cob. is_on cob && identifier_in cob == id) (number_after Bits32 p e.1 e.0 place) false
+sends_with p id e place = option_map_or (λ n. n == id) (identifier_at (numbers_of p e) place) false
 
 -- the TPDOs of all nodes that are on with an identifier, each with its node
 unfoldable pub senders_with : Content → ℕ → List (ℕ × (ℕ × ℕ))
@@ -130,31 +116,23 @@ IsShared p id = (2 ≤ length (senders_with p id)) × (is_restricted id ≡ fals
 -- where there is no such node
 unfoldable pub producer_time : Content → ℕ → Option ℕ
 producer_time p node =
-    if node == p.manager.id then Some p.manager.heartbeat_ms
-    else option_map (λ m. unwrap_or (number_after Bits16 p m node (0x1017, 0)) 0) (member_at p node)
+    time_by p.manager (λ n. option_map (λ m. heartbeat_time (number_after p m n)) (member_at p n)) node
 
--- a heartbeat consumer is on, and no such node is there, or its heartbeat doesn't come within the time
-unfoldable pub is_unfit : Content → ℕ → Bool
-is_unfit p consumer =
-    not (consumed_node consumer == 0) && not (consumer_time consumer == 0)
-    && option_map_or (λ period. period == 0 || nat_le (consumer_time consumer) period)
-    (producer_time p (consumed_node consumer)) true
-
--- a heartbeat consumer of a node is so
+-- a heartbeat consumer of a node (CiA 301, 1016h) is on, and no such node is there, or its heartbeat doesn't come within
+-- the time
 pub record HasUnfitConsumer (p : Content) (node sub : ℕ) : Type 0 where
   pub member : Member
   pub consumer : ℕ
   pub is : member_at p node ≡ Some member
-  pub numbered : nat_le 1 sub ≡ true
-  pub there : number_after Bits32 p member node (0x1016, sub) ≡ Some consumer
-  pub unfit : is_unfit p consumer ≡ true
+  pub there : consumer_at (number_after p member node) (0x1016, sub) ≡ Some consumer
+  pub unfit : is_unfit (producer_time p) consumer ≡ true
 
 -- the synchronous counter overflow value (CiA 301, 1019h) that a node has isn't that of the network
 pub record HasOtherCounter (p : Content) (node : ℕ) : Type 0 where
   pub member : Member
   pub counter : ℕ
   pub is : member_at p node ≡ Some member
-  pub there : number_after Bits8 p member node (0x1019, 0) ≡ Some counter
+  pub there : counter_at (number_after p member node) ≡ Some counter
   pub other : (counter == p.sync_counter) ≡ false
 
 -- a line of the text of an EDS that isn't used

@@ -1,4 +1,5 @@
 pub mod Faults
+pub mod Rules
 pub mod Holds
 pub mod Found
 pub mod Devices

@@ -1,7 +1,9 @@
 //! The heartbeat consumers that are unfit, put at the end of what was found.
 ghost use Rattle.std.specs.Prelude.{◌≡◌, ◌++◌, ◌==◌, OnOk, filter_map, option_copied};
 ghost use Rattle.std.specs.List.{find};
-ghost use Rattle.co_diag.specs.Kept.{producer_among, unfit_among, unfit_diagnostic};
+ghost use Rattle.co_diag.specs.Found.{consumer_diagnostic};
+ghost use Rattle.co_diag.specs.Kept.{time_among};
+ghost use Rattle.co_diag.specs.Rules.{is_unfit, time_by};
 
 use crate::consumer::HeartbeatConsumer;
 use cia301::ConsumerHeartbeatTime;
@@ -18,7 +20,7 @@ fn find_time(times: &[(u8, u16)], node: u8) -> Option<&(u8, u16)>
 
 /// The heartbeat time of the manager or a node in milliseconds, if it is there.
 fn producer_time(project: &Project, times: &[(u8, u16)], node: u8) -> Option<u16>
-    ensures { result ≡ producer_among project.now.manager times.now node }
+    ensures { result ≡ time_by project.now.manager (time_among times.now) node }
 {
     let manager = project.manager();
     if node == manager.id {
@@ -31,7 +33,7 @@ fn producer_time(project: &Project, times: &[(u8, u16)], node: u8) -> Option<u16
 /// Whether a heartbeat consumer is on, and no such node is there, or its heartbeat doesn't come
 /// within the time.
 fn is_unfit(project: &Project, times: &[(u8, u16)], consumer: u32) -> bool
-    ensures { result ≡ unfit_among project.now.manager times.now consumer }
+    ensures { result ≡ is_unfit (time_by project.now.manager (time_among times.now)) consumer }
 {
     let consumer = ConsumerHeartbeatTime::of(consumer);
     let (node, time) = (consumer.node(), consumer.time());
@@ -46,7 +48,7 @@ fn is_unfit(project: &Project, times: &[(u8, u16)], consumer: u32) -> bool
 
 /// What is said of a heartbeat consumer.
 fn unfit_said(project: &Project, times: &[(u8, u16)], consumer: &HeartbeatConsumer) -> Option<Diag>
-    ensures { result ≡ unfit_diagnostic project.now.manager times.now consumer.now }
+    ensures { result ≡ consumer_diagnostic (time_by project.now.manager (time_among times.now)) consumer.now }
 {
     if !is_unfit(project, times, consumer.number) {
         return None;
@@ -66,7 +68,7 @@ pub(crate) fn find_unfit_consumers(
     consumers: &[HeartbeatConsumer],
 ) -> Result<(), AllocError>
     ensures { OnOk result (found.new.items ≡ found.old.items
-        ++ filter_map (unfit_diagnostic project.now.manager times.now) consumers.now) }
+        ++ filter_map (consumer_diagnostic (time_by project.now.manager (time_among times.now))) consumers.now) }
 {
     for consumer in consumers {
         if let Some(diag) = unfit_said(project, times, consumer) {

@@ -1,7 +1,7 @@
 //! The synchronous counter overflow values of nodes that aren't the network's, put at the end of what was
 //! found.
 ghost use Rattle.std.specs.Prelude.{◌≡◌, ◌++◌, OnOk, filter_map};
-ghost use Rattle.co_diag.specs.Kept.{counter_diagnostic};
+ghost use Rattle.co_diag.specs.Found.{counter_diagnostic};
 
 use co_project::Project;
 use diag_lines::{Code, Diag, Subject};

@@ -1,11 +1,11 @@
 //! The unreadable defaults of a node's device, put at the end of what was found.
 ghost use Rattle.std.specs.Prelude.{◌≡◌, ◌++◌, OnOk, IfOk, filter_map};
 ghost use Rattle.co_diag.specs.Found.{unreadable_default};
-ghost use Rattle.project_plan.specs.Values.{member_of};
+ghost use Rattle.project_plan.specs.Network.{member_of};
 
 use co_project::Node;
 use diag_lines::{Code, Diag, Subject};
-use eds_device::Device;
+use eds_device::DataSheet;
 use project_plan::spells_none;
 use std::alloc::{AllocError, Global};
 
@@ -15,7 +15,7 @@ fn unreadable_default(
     alloc: Global,
     id: u8,
     node: &Node,
-    device: &Device,
+    device: &DataSheet,
     index: u16,
     sub: u8,
 ) -> Result<Option<Diag>, AllocError>
@@ -40,7 +40,7 @@ pub(crate) fn find_unreadable(
     alloc: Global,
     id: u8,
     node: &Node,
-    device: &Device,
+    device: &DataSheet,
     places: &[(u16, u8)],
 ) -> Result<(), AllocError>
     ensures { OnOk result (found.new.items ≡ found.old.items

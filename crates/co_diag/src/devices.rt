@@ -1,8 +1,9 @@
 //! The devices of a project, all of them read.
 ghost use Rattle.std.specs.Prelude.{◌≡◌, OnOk, option_copied};
-ghost use Rattle.co_diag.specs.Devices.{AreAllRead, device_at};
+ghost use Rattle.project_plan.specs.Network.{device_at};
+ghost use Rattle.co_diag.specs.Devices.{AreAllRead};
 
-use eds_device::Device;
+use eds_device::DataSheet;
 use project_plan::Library;
 use std::alloc::AllocError;
 
@@ -19,9 +20,9 @@ pub(crate) fn read_all(library: &mut Library<'_>) -> Result<(), AllocError>
 }
 
 /// The device of an EDS, where the project has its text.
-pub(crate) fn device_of<'b>(library: &'b Library<'_>, name: &[u8]) -> Option<&'b Device>
+pub(crate) fn device_of<'b>(library: &'b Library<'_>, name: &[u8]) -> Option<&'b DataSheet>
     requires { AreAllRead library.now }
-    ensures { option_copied result ≡ device_at library.now.project.texts name.now }
+    ensures { option_copied result ≡ device_at library.now.project name.now }
 {
     library.device(name)
 }

@@ -1,20 +1,20 @@
 //! What is wrong with the events of the scenario, put at the end of what was found.
 ghost use Rattle.std.specs.Prelude.{◌≡◌, ◌++◌, OnOk, IfOk, filter_map, option_copied};
 ghost use Rattle.std.specs.FinMap as table;
-ghost use Rattle.co_diag.specs.Devices.{AreAllRead, device_fault, device_for};
-ghost use Rattle.co_diag.specs.Found.{unfit_event};
+ghost use Rattle.co_diag.specs.Devices.{AreAllRead};
+ghost use Rattle.co_diag.specs.Found.{device_for, set_fault, unfit_event};
 
 use crate::devices::device_of;
 use crate::parameters::parameter_code;
 use co_scenario::Event;
 use diag_lines::{Diag, Subject};
-use eds_device::Device;
+use eds_device::DataSheet;
 use node_parameters::judge_set;
 use project_plan::Library;
 use std::alloc::{AllocError, Global};
 
 /// The device of a node.
-fn device_for<'b>(library: &'b Library<'_>, id: u8) -> Option<&'b Device>
+fn device_for<'b>(library: &'b Library<'_>, id: u8) -> Option<&'b DataSheet>
     requires { AreAllRead library.now }
     ensures { option_copied result ≡ device_for library.now.project id }
 {
@@ -30,7 +30,7 @@ fn unfit_event(
     event: &Event,
 ) -> Result<Option<Diag>, AllocError>
     requires { AreAllRead library.now }
-    ensures { IfOk result (λ diag. diag ≡ device_fault library.now.project number event.now) }
+    ensures { IfOk result (λ diag. diag ≡ set_fault library.now.project number event.now) }
 {
     let Event::Set {
         node,

@@ -1,23 +1,16 @@
 //! All that is wrong with a project.
-ghost use Rattle.std.specs.Prelude.{◌≡◌, ◌++◌, IfOk, OnOk, filter_map};
-ghost use Rattle.std.specs.FinMap as table;
-ghost use Rattle.std.specs.List.{flat_map};
+ghost use Rattle.std.specs.Prelude.{◌≡◌, ◌++◌, IfOk, OnOk};
 ghost use Rattle.project_plan.specs.Network.{plan_of_project};
 ghost use Rattle.co_diag.specs.Devices.{AreAllRead};
-ghost use Rattle.co_diag.specs.Found.{unfit_consumers, shared_identifiers};
-ghost use Rattle.co_diag.specs.Found.{message_faults, remote_type, no_sync, unreached_start, other_counter};
-ghost use Rattle.co_diag.specs.Found.{diagnostics_of};
+ghost use Rattle.co_diag.specs.Found.{diagnostics_of, other_counters, shared_identifiers, unfit_consumers};
 ghost use Rattle.co_diag.specs.Sheets.{diagnostics_met};
-ghost use Rattle.project_plan.specs.Values.{members};
 
 use crate::consumers::find_unfit_consumers;
 use crate::counters::find_other_counters;
 use crate::devices::read_all;
 use crate::events::find_unfit_events;
 use crate::kept::keep_all;
-use crate::messages::{
-    find_message_faults, find_no_syncs, find_remote_types, find_unreached_starts,
-};
+use crate::messages::{find_message_faults, find_warnings};
 use crate::nodes::find_of_nodes;
 use crate::shared::find_shared;
 use crate::texts::find_skipped_lines;
@@ -36,34 +29,13 @@ fn find_of_configured(
 ) -> Result<(), AllocError>
     requires read { AreAllRead library.now }
     requires plan { plan.now ≡ plan_of_project library.now.project }
-    ensures { OnOk result (found.new.items
-        ≡ found.old.items ++ flat_map (unfit_consumers library.now.project) (members library.now.project)
-        ++ shared_identifiers library.now.project ++ filter_map (other_counter library.now.project)
-        (members library.now.project)) }
+    ensures { OnOk result (found.new.items ≡ found.old.items ++ unfit_consumers library.now.project
+        ++ shared_identifiers library.now.project ++ other_counters library.now.project) }
 {
     let kept = keep_all(alloc, library, plan)?;
     find_unfit_consumers(found, library.project(), &kept.times, &kept.consumers)?;
     find_shared(found, &kept.identifiers)?;
     find_other_counters(found, library.project(), &kept.counters)?;
-    Ok(())
-}
-
-/// Finds what is wrong with the messages.
-fn find_of_messages(
-    found: &mut Vec<Diag>,
-    alloc: Global,
-    project: &Project,
-    plan: &Plan,
-) -> Result<(), AllocError>
-    ensures { OnOk result (found.new.items ≡ found.old.items ++ flat_map message_faults plan.now
-        ++ filter_map remote_type (table.entries project.now.messages) ++ filter_map (no_sync project.now)
-        (table.entries project.now.messages) ++ filter_map (unreached_start project.now)
-        (table.entries project.now.messages)) }
-{
-    find_message_faults(found, alloc, plan)?;
-    find_remote_types(found, alloc, project)?;
-    find_no_syncs(found, alloc, project)?;
-    find_unreached_starts(found, alloc, project)?;
     Ok(())
 }
 
@@ -77,7 +49,8 @@ fn find_all(alloc: Global, library: &Library<'_>, plan: &Plan) -> Result<Vec<Dia
     let mut list = Vec::new(alloc);
     find_of_nodes(&mut list, alloc, library)?;
     find_of_configured(&mut list, alloc, library, plan)?;
-    find_of_messages(&mut list, alloc, library.project(), plan)?;
+    find_message_faults(&mut list, alloc, plan)?;
+    find_warnings(&mut list, alloc, library.project())?;
     find_unfit_events(&mut list, alloc, library)?;
     find_skipped_lines(&mut list, alloc, library)?;
     Ok(list)

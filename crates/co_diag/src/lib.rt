@@ -14,7 +14,6 @@ mod messages;
 mod nodes;
 mod parameters;
 mod shared;
-mod sheet;
 mod texts;
 
 pub use finding::{diagnostics, diagnostics_by};

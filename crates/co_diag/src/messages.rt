@@ -1,11 +1,13 @@
 //! What is wrong with messages, put at the end of what was found.
-ghost use Rattle.std.specs.Prelude.{◌≡◌, ◌++◌, ◌∷◌, [], OnOk, IfOk, map, filter_map};
+ghost use Rattle.std.specs.Prelude.{◌≡◌, ◌++◌, OnOk, IfOk, map};
 ghost use Rattle.std.specs.FinMap as table;
 ghost use Rattle.std.specs.List.{flat_map};
+ghost use Rattle.cia301.specs.TransmissionTypes.{is_on_request};
+ghost use Rattle.diag_lines.specs.declared.code.Code.TheVariants.{NoSync, RemoteType, UnreachedStart};
 ghost use Rattle.diag_lines.specs.declared.subject.Subject.TheVariants as of;
 ghost use Rattle.co_diag.specs.Faults.{message_code};
-ghost use Rattle.co_diag.specs.Found.{diagnostic, message_faults, remote_type, no_sync, unreached_start};
-ghost use Rattle.co_diag.specs.Holds.{is_cyclic};
+ghost use Rattle.co_diag.specs.Found.{diagnostic, message_faults, message_warnings, said_if};
+ghost use Rattle.co_diag.specs.Holds.{is_cyclic, starts_at_none, type_of, waits_for_none};
 
 use cia301::TransmissionType;
 use co_project::Project;
@@ -90,67 +92,29 @@ pub(crate) fn find_message_faults(
     Ok(())
 }
 
-/// What is said of a message that asks for remote frames.
-fn remote_type(alloc: Global, name: &[u8], linked: &Linked) -> Result<Option<Diag>, AllocError>
-    ensures { IfOk result (λ diag. diag ≡ remote_type (name.now, linked.now)) }
-{
-    if !TransmissionType::of(linked.message.transmission).is_on_request() {
-        return Ok(None);
-    }
-    let diag = said_of(alloc, Code::RemoteType, name)?;
-    Ok(Some(diag))
-}
-
-/// Finds the messages that ask for remote frames.
-pub(crate) fn find_remote_types(
+/// Says something of a message of which it holds.
+fn say_if(
     found: &mut Vec<Diag>,
     alloc: Global,
-    project: &Project,
-) -> Result<(), AllocError>
-    ensures { OnOk result (found.new.items ≡ found.old.items
-        ++ filter_map remote_type (table.entries project.now.messages)) }
-{
-    for (name, linked) in project.messages().iter() {
-        if let Some(diag) = remote_type(alloc, name, linked)? {
-            found.push(diag)?;
-        }
-    }
-    Ok(())
-}
-
-/// What is said of a message that waits for a SYNC, where the period of the manager's is 0.
-fn no_sync(
-    alloc: Global,
-    project: &Project,
+    holds: bool,
+    code: Code,
     name: &[u8],
-    linked: &Linked,
-) -> Result<Option<Diag>, AllocError>
-    ensures { IfOk result (λ diag. diag ≡ no_sync project.now (name.now, linked.now)) }
-{
-    if !TransmissionType::of(linked.message.transmission).is_synchronous()
-        || project.manager().sync_us != 0
-    {
-        return Ok(None);
-    }
-    let diag = said_of(alloc, Code::NoSync, name)?;
-    Ok(Some(diag))
-}
-
-/// Finds the messages that wait for a SYNC, where there is none.
-pub(crate) fn find_no_syncs(
-    found: &mut Vec<Diag>,
-    alloc: Global,
-    project: &Project,
 ) -> Result<(), AllocError>
-    ensures { OnOk result (found.new.items ≡ found.old.items ++ filter_map (no_sync project.now)
-        (table.entries project.now.messages)) }
+    ensures { OnOk result (found.new.items ≡ found.old.items ++ said_if holds code name.now) }
 {
-    for (name, linked) in project.messages().iter() {
-        if let Some(diag) = no_sync(alloc, project, name, linked)? {
-            found.push(diag)?;
-        }
+    if holds {
+        let diag = said_of(alloc, code, name)?;
+        found.push(diag)?;
     }
     Ok(())
+}
+
+/// Whether a message waits for a SYNC, where the period of the manager's is 0.
+fn waits_for_none(project: &Project, linked: &Linked) -> bool
+    ensures { result ≡ waits_for_none project.now linked.now }
+{
+    TransmissionType::of(linked.message.transmission).is_synchronous()
+        && project.manager().sync_us == 0
 }
 
 /// Whether SYNCs are counted by a type.
@@ -160,37 +124,48 @@ fn is_cyclic(kind: TransmissionType) -> bool
     matches!(kind, TransmissionType::Cyclic(_))
 }
 
-/// What is said of a message that counts SYNCs from a number on that none of them has.
-fn unreached_start(
+/// Whether a message counts SYNCs from a number on that none of them has.
+fn starts_at_none(project: &Project, linked: &Linked) -> bool
+    ensures { result ≡ starts_at_none project.now linked.now }
+{
+    is_cyclic(TransmissionType::of(linked.message.transmission))
+        && project.sync_counter() < linked.start
+}
+
+/// Says what is to be said of the transmission type and the SYNC start value of a message.
+fn find_of_linked(
+    found: &mut Vec<Diag>,
     alloc: Global,
     project: &Project,
     name: &[u8],
     linked: &Linked,
-) -> Result<Option<Diag>, AllocError>
-    ensures { IfOk result (λ diag. diag ≡ unreached_start project.now (name.now, linked.now)) }
+) -> Result<(), AllocError>
+    ensures { OnOk result (found.new.items ≡ found.old.items
+        ++ said_if (is_on_request (type_of linked.now)) RemoteType name.now
+        ++ said_if (waits_for_none project.now linked.now) NoSync name.now
+        ++ said_if (starts_at_none project.now linked.now) UnreachedStart name.now) }
 {
-    if !is_cyclic(TransmissionType::of(linked.message.transmission))
-        || linked.start <= project.sync_counter()
-    {
-        return Ok(None);
-    }
-    let diag = said_of(alloc, Code::UnreachedStart, name)?;
-    Ok(Some(diag))
+    let remote = TransmissionType::of(linked.message.transmission).is_on_request();
+    say_if(found, alloc, remote, Code::RemoteType, name)?;
+    let waits = waits_for_none(project, linked);
+    say_if(found, alloc, waits, Code::NoSync, name)?;
+    let starts = starts_at_none(project, linked);
+    say_if(found, alloc, starts, Code::UnreachedStart, name)?;
+    Ok(())
 }
 
-/// Finds the messages that count SYNCs from such a number on.
-pub(crate) fn find_unreached_starts(
+/// Finds the messages whose transmission types ask for remote frames, or wait for a SYNC where there is none, and
+/// those whose SYNC start value is that of no SYNC.
+pub(crate) fn find_warnings(
     found: &mut Vec<Diag>,
     alloc: Global,
     project: &Project,
 ) -> Result<(), AllocError>
-    ensures { OnOk result (found.new.items ≡ found.old.items ++ filter_map (unreached_start project.now)
-        (table.entries project.now.messages)) }
+    ensures { OnOk result (found.new.items ≡ found.old.items
+        ++ flat_map (message_warnings project.now) (table.entries project.now.messages)) }
 {
     for (name, linked) in project.messages().iter() {
-        if let Some(diag) = unreached_start(alloc, project, name, linked)? {
-            found.push(diag)?;
-        }
+        find_of_linked(found, alloc, project, name, linked)?;
     }
     Ok(())
 }

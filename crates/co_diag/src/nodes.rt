@@ -3,17 +3,17 @@ ghost use Rattle.std.specs.Prelude.{◌≡◌, ◌++◌, All, Contains, IfOk, If
 ghost use Rattle.std.specs.List.{flat_map};
 ghost use Rattle.co_diag.specs.Devices.{AreAllRead, of_node};
 ghost use Rattle.co_diag.specs.Found.{unreadable_defaults};
-ghost use Rattle.co_diag.specs.Sheets.{IsSheet, IsSheetOf, faults_of_node};
-ghost use Rattle.project_plan.specs.Values.{member_of, members};
+ghost use Rattle.co_diag.specs.Sheets.{faults_of_node};
+ghost use Rattle.project_plan.specs.Network.{member_of, members};
+ghost use Rattle.project_plan.specs.Sheets.{IsSheet, IsSheetOf};
 
 use crate::defaults::find_unreadable;
 use crate::devices::device_of;
 use crate::parameters::{find_given, find_own};
-use crate::sheet::{Sheet, sheet_of};
 use co_project::Node;
 use diag_lines::Diag;
-use eds_device::Device;
-use project_plan::Library;
+use eds_device::DataSheet;
+use project_plan::{Library, SheetEntries, sheet_of};
 use std::alloc::{AllocError, Global};
 
 /// Finds the faults of a node's own parameters, and of those that its data sheet gives.
@@ -22,8 +22,8 @@ fn find_faults(
     alloc: Global,
     id: u8,
     node: &Node,
-    device: &Device,
-    sheet: &Sheet,
+    device: &DataSheet,
+    sheet: &SheetEntries,
 ) -> Result<(), AllocError>
     requires { IsSheetOf device.now sheet.now }
     ensures { OnOk result (found.new.items
@@ -40,8 +40,8 @@ fn find_defaults(
     alloc: Global,
     id: u8,
     node: &Node,
-    device: &Device,
-    sheet: &Sheet,
+    device: &DataSheet,
+    sheet: &SheetEntries,
 ) -> Result<(), AllocError>
     requires { IsSheetOf device.now sheet.now }
     ensures { OnOk result (found.new.items
@@ -52,7 +52,7 @@ fn find_defaults(
 }
 
 /// The data sheet of a name.
-fn find_sheet<'a>(sheets: &'a [Sheet], name: &[u8]) -> Option<&'a Sheet>
+fn find_sheet<'a>(sheets: &'a [SheetEntries], name: &[u8]) -> Option<&'a SheetEntries>
     ensures there { IfSome result (λ sheet. Contains sheets.now sheet.now) }
     ensures named { IfSome result (λ sheet. sheet.now.name ≡ name.now) }
 {
@@ -69,15 +69,15 @@ fn find_faults_of_node(
     found: &mut Vec<Diag>,
     alloc: Global,
     library: &Library<'_>,
-    sheets: &mut Vec<Sheet>,
+    sheets: &mut Vec<SheetEntries>,
     id: u8,
     node: &Node,
 ) -> Result<(), AllocError>
     requires read { AreAllRead library.now }
-    requires sheets { All (IsSheet library.now.project.texts) sheets.old.items }
+    requires sheets { All (IsSheet library.now.project) sheets.old.items }
     ensures found { OnOk result (found.new.items
         ≡ found.old.items ++ of_node faults_of_node library.now.project (id, node.now)) }
-    ensures sheets { OnOk result (All (IsSheet library.now.project.texts) sheets.new.items) }
+    ensures sheets { OnOk result (All (IsSheet library.now.project) sheets.new.items) }
 {
     let name = node.eds.as_slice();
     let Some(device) = device_of(library, name) else {
@@ -97,12 +97,12 @@ fn find_defaults_of_node(
     found: &mut Vec<Diag>,
     alloc: Global,
     library: &Library<'_>,
-    sheets: &[Sheet],
+    sheets: &[SheetEntries],
     id: u8,
     node: &Node,
 ) -> Result<(), AllocError>
     requires read { AreAllRead library.now }
-    requires sheets { All (IsSheet library.now.project.texts) sheets.now }
+    requires sheets { All (IsSheet library.now.project) sheets.now }
     ensures { OnOk result (found.new.items
         ≡ found.old.items ++ of_node unreadable_defaults library.now.project (id, node.now)) }
 {
@@ -123,11 +123,11 @@ fn find_faults_of_nodes(
     found: &mut Vec<Diag>,
     alloc: Global,
     library: &Library<'_>,
-) -> Result<Vec<Sheet>, AllocError>
+) -> Result<Vec<SheetEntries>, AllocError>
     requires { AreAllRead library.now }
     ensures found { OnOk result (found.new.items ≡ found.old.items
         ++ flat_map faults_of_node (members library.now.project)) }
-    ensures sheets { IfOk result (λ sheets. All (IsSheet library.now.project.texts) sheets.items) }
+    ensures sheets { IfOk result (λ sheets. All (IsSheet library.now.project) sheets.items) }
 {
     let mut sheets = Vec::new(alloc);
     for (id, node) in library.project().nodes() {
@@ -141,10 +141,10 @@ fn find_defaults_of_nodes(
     found: &mut Vec<Diag>,
     alloc: Global,
     library: &Library<'_>,
-    sheets: &[Sheet],
+    sheets: &[SheetEntries],
 ) -> Result<(), AllocError>
     requires read { AreAllRead library.now }
-    requires sheets { All (IsSheet library.now.project.texts) sheets.now }
+    requires sheets { All (IsSheet library.now.project) sheets.now }
     ensures { OnOk result (found.new.items ≡ found.old.items
         ++ flat_map unreadable_defaults (members library.now.project)) }
 {

@@ -3,11 +3,11 @@ ghost use Rattle.std.specs.Prelude.{◌≡◌, ◌++◌, OnOk, IfOk, filter_map}
 ghost use Rattle.std.specs.FinMap as table;
 ghost use Rattle.co_diag.specs.Faults.{parameter_code};
 ghost use Rattle.co_diag.specs.Found.{parameter_diagnostic};
-ghost use Rattle.project_plan.specs.Values.{member_of};
+ghost use Rattle.project_plan.specs.Network.{member_of};
 
 use co_project::Node;
 use diag_lines::{Code, Diag, Subject};
-use eds_device::Device;
+use eds_device::DataSheet;
 use node_parameters::{ParameterFault, judge, parameter_text};
 use std::alloc::{AllocError, Global};
 
@@ -30,7 +30,7 @@ fn unfit_parameter(
     alloc: Global,
     id: u8,
     node: &Node,
-    device: &Device,
+    device: &DataSheet,
     index: u16,
     sub: u8,
 ) -> Result<Option<Diag>, AllocError>
@@ -54,7 +54,7 @@ pub(crate) fn find_own(
     alloc: Global,
     id: u8,
     node: &Node,
-    device: &Device,
+    device: &DataSheet,
 ) -> Result<(), AllocError>
     ensures { OnOk result (found.new.items ≡ found.old.items
         ++ filter_map (λ own. parameter_diagnostic (member_of id node.now device.now) own.0)
@@ -74,7 +74,7 @@ pub(crate) fn find_given(
     alloc: Global,
     id: u8,
     node: &Node,
-    device: &Device,
+    device: &DataSheet,
     places: &[(u16, u8)],
 ) -> Result<(), AllocError>
     ensures { OnOk result (found.new.items ≡ found.old.items

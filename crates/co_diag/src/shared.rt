@@ -1,7 +1,7 @@
 //! The identifiers that two or more TPDOs have, put at the end of what was found.
 ghost use Rattle.std.specs.Prelude.{◌≡◌, ◌++◌, ◌==◌, ℕ, OnOk, filter, filter_map, length, slice_index_or};
 ghost use Rattle.std.specs.Prelude.{if◌then◌else◌};
-ghost use Rattle.co_diag.specs.Counts.{capped, one_more, shared_among};
+ghost use Rattle.co_diag.specs.Counts.{count_to_two, one_more, shared_among};
 ghost use Rattle.co_diag.specs.Found.{shared_in};
 
 use cia301::{Identifier, is_restricted};
@@ -32,7 +32,7 @@ impl Counts {
 
     /// Counts identifiers.
     fn of(identifiers: &[Identifier]) -> Self
-        ensures { (q : ℕ) → slice_index_or result.had q 0 ≡ capped (length (filter (λ n. n == q) identifiers.now)) }
+        ensures { (q : ℕ) → slice_index_or result.had q 0 ≡ count_to_two (length (filter (λ n. n == q) identifiers.now)) }
     {
         let mut counts = Counts::none();
         for identifier in identifiers {

@@ -47,7 +47,7 @@ fn find_of_text(
     name: &[u8],
 ) -> Result<(), AllocError>
     requires { AreAllRead library.now }
-    ensures { OnOk result (found.new.items ≡ found.old.items ++ lines_at library.now.project.texts name.now) }
+    ensures { OnOk result (found.new.items ≡ found.old.items ++ lines_at library.now.project name.now) }
 {
     match device_of(library, name) {
         Some(device) => find_lines(found, alloc, name, device.warnings()),

@@ -1,8 +1,6 @@
 //! What a device answers to a write of the objects of its PDOs (CiA 301).
 
 ghost use Rattle.std.specs.Prelude.{◌≡◌, ◌≤◌};
-ghost use Rattle.cia301.specs.PdoObjects.{is_communication_object as is_communication_index};
-ghost use Rattle.cia301.specs.PdoObjects.{is_mapping_object as is_mapping_index};
 ghost use Rattle.std.specs.List.{list_any, range_with_len};
 ghost use Rattle.co_dict.specs.Mappings.{direction_of as direction_of_object, dummy_width as width_of_dummy};
 ghost use Rattle.co_dict.specs.Mappings.{width_mapped as width_of_mapped, can_be_mapped as can_be_mapped_whole};
@@ -16,7 +14,7 @@ use crate::abort::Abort;
 use crate::direction::Direction;
 use crate::mapped::{mapped_length, mapped_place};
 use crate::shape::Shape;
-use cia301::CobId;
+use cia301::{CobId, is_communication_object, is_mapping_object};
 use co_values::{DataType, number_8, number_32, width_bits};
 use dict_values::Dict;
 
@@ -33,9 +31,7 @@ const MAX_BITS: u32 = 64;
 fn is_cob_id(shape: &Shape, index: u16, sub: u8) -> bool
     ensures { result ≡ is_cob_id shape.now (index, sub) }
 {
-    matches!(index, 0x1400..=0x15FF | 0x1800..=0x19FF)
-        && sub == 1
-        && shape.has_unsigned32(index, sub)
+    is_communication_object(index) && sub == 1 && shape.has_unsigned32(index, sub)
 }
 
 /// Whether a COB-ID makes a PDO exist under an identifier that no PDO may have.
@@ -73,13 +69,6 @@ pub(crate) fn check_cob_id(
         return Err(Abort::INVALID_VALUE);
     }
     Ok(())
-}
-
-/// Whether an object is the mapping object of a PDO: 1600h to 17FFh and 1A00h to 1BFFh.
-fn is_mapping_object(index: u16) -> bool
-    ensures { result ≡ is_mapping_index index }
-{
-    matches!(index, 0x1600..=0x17FF | 0x1A00..=0x1BFF)
 }
 
 /// Whether the PDO of a mapping object exists.

@@ -7,7 +7,7 @@ use Rattle.lru.specs.LruCache.{promoted}
 use Rattle.lru.proofs.CallerLemmas.{Contains-take, Contains-promoted}
 use Rattle.kept_shelf.proofs.EntryLemmas.{head_in, tail_in, in_cons, none_in}
 use Rattle.can_bus.specs.Bus.{Bus}
-use Rattle.co_segments.specs.Placed.{AreNamed, AreSound, IsLater, IsNamed, IsNew, IsReached}
+use Rattle.co_segments.specs.Placed.{AreNamed, AreSound, IsLater, IsNamed, ServesNone, IsEndNumber}
 use Rattle.co_segments.specs.Placed.{Meaning, Numbered, Placed, kept_of}
 use Rattle.co_segments.specs.declared.given.Given.{Given}
 use Rattle.recorded_spans.specs.Records.{IsRecordOf}
@@ -15,7 +15,7 @@ use Rattle.recorded_spans.proofs.KnownLemmas.{all_marked_later}
 use Rattle.recorded_spans.proofs.NumberLemmas.{stands_later}
 use Rattle.image_parts.specs.Asking.{outcome, reads}
 use Rattle.image_parts.specs.Contents.{Image}
-use Rattle.co_segments.specs.Segments.{IsServed, IsSound, IsStale, IsTaken, Kept, Serves}
+use Rattle.co_segments.specs.Segments.{IsServed, IsValidOnce, IsStale, IsTaken, Kept, Serves}
 use Rattle.bus_laws.specs.Spans.{span}
 use Rattle.co_segments.proofs.ValidLemmas.{gives_from_serves, valid_from_sound}
 
@@ -132,12 +132,12 @@ pub named_promoted : (m : Meaning) (given : Given) (key : ℕ) (es : List (ℕ �
     → AreNamed m given (promoted (nat_eq key) es)
 named_promoted m given key es h = λ e c. h e (Contains-promoted (nat_eq key) es e c)
 
-pub sound_added : (n key : ℕ) (s : Placed) (es : List (ℕ × Placed)) → IsSound s.kept → AreSound es
+pub sound_added : (n key : ℕ) (s : Placed) (es : List (ℕ × Placed)) → IsValidOnce s.kept → AreSound es
     → AreSound (take n ((key, s) ∷ es))
 sound_added n key s es sound h = λ e c. by e (in_cons (key, s) es e (Contains-take n ((key, s) ∷ es) e c))
   where
-    by : (e : ℕ × Placed) → ((key, s) ≡ e) ⊎ Contains es e → IsSound e.1.kept
-    by e (inl is) = subst (λ (x : ℕ × Placed). IsSound x.1.kept) is sound
+    by : (e : ℕ × Placed) → ((key, s) ≡ e) ⊎ Contains es e → IsValidOnce e.1.kept
+    by e (inl is) = subst (λ (x : ℕ × Placed). IsValidOnce x.1.kept) is sound
     by e (inr c) = h e c
 
 pub named_added : (m : Meaning) (given : Given) (n key : ℕ) (s : Placed) (es : List (ℕ × Placed)) → IsNamed m given s
@@ -163,7 +163,7 @@ module _ (old new : Meaning) (given later : Given) (grows : IsLater old given ne
   pub all_later : (es : List (ℕ × Placed)) → AreNamed old given es → AreNamed new later es
   all_later es h = λ e c. one_later e.1 (h e c)
 
-pub reached_bus : (es : List (ℕ × Placed)) (given later : ℕ) (bus : Bus) (n : Numbered) → IsReached es given later bus n
+pub reached_bus : (es : List (ℕ × Placed)) (given later : ℕ) (bus : Bus) (n : Numbered) → IsEndNumber es given later bus n
     → n.bus ≡ bus
 reached_bus es given later bus n how = elim how [
   | inl new ↦ ap (λ (x : Numbered). x.bus) new.0
@@ -189,7 +189,7 @@ one_stale image number start e es not rest = λ k c s. by k s (in_cons e.1.kept 
 -- one of another number more, and those of a front of all
 pub new_added : (n key : ℕ) (s : Placed) (es : List (ℕ × Placed)) (number : ℕ) (bus : Bus)
     → (s.kept.number ≡ number → ⊥)
-    → IsNew es number bus → IsNew (take n ((key, s) ∷ es)) number bus
+    → ServesNone es number bus → ServesNone (take n ((key, s) ∷ es)) number bus
 new_added n key s es number bus other h = λ image k c serves.
     one_stale image number bus (key, s) es (λ x. other x.0) (h image) k
     (Contains-take n (s.kept ∷ kept_of es) k (subst (λ ks. Contains ks k) (kept_added n key s es) c)) serves

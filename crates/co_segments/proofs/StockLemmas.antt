@@ -10,15 +10,15 @@ use Rattle.can_bus.specs.Bus.{Bus, blank_bus}
 use Rattle.image_parts.specs.Contents.{Image, RosterIs}
 use Rattle.image_parts.specs.declared.part.Part.{Part}
 use Rattle.recorded_spans.specs.Numbers.{KeepsMeaning, StandsFor, with_meaning}
-use Rattle.recorded_spans.specs.Reads.{AreKnown, AreMarked, Extends, Known, Recorded}
+use Rattle.recorded_spans.specs.Reads.{AreNumbered, AreMarked, LearnsMore, Known, Recorded}
 use Rattle.recorded_spans.proofs.NumberLemmas.{given_keeps, given_stands, keeps_all, stands_later}
 use Rattle.recorded_spans.specs.declared.look.Look.{Look}
 use Rattle.co_segments.specs.declared.given.Given.{Given}
 use Rattle.co_segments.specs.declared.reached.Reached.{Reached}
 use Rattle.co_segments.specs.declared.stock.Stock.{Stock}
-use Rattle.co_segments.specs.Placed.{AreNamed, AreSound, IsLater, IsMore, IsNamed, IsNew, IsReached}
+use Rattle.co_segments.specs.Placed.{AreNamed, AreSound, IsLater, IsMore, IsNamed, ServesNone, IsEndNumber}
 use Rattle.co_segments.specs.Placed.{Meaning, Numbered, Placed}
-use Rattle.co_segments.specs.Segments.{IsSound, Kept}
+use Rattle.co_segments.specs.Segments.{IsValidOnce, Kept}
 use Rattle.co_segments.specs.Stocks.{AreSegments, IsTold, StandsAt}
 use Rattle.co_segments.proofs.PlacedLemmas.{all_later, in_lookup, named_added, named_promoted, sound_added}
 use Rattle.co_segments.proofs.PlacedLemmas.{sound_promoted}
@@ -93,7 +93,7 @@ module _ (image : Image) (old new : Stock) where
         named = subst (λ (es : List (ℕ × Placed)). AreNamed m new.given es) (sym same)
             (all_later h.meaning m old.given new.given grows old.shelf.entries h.named);
         state = rw (is, e) (given_stands h.meaning.buses old.given.buses bus);
-        known = subst (λ (r : List (Part × Known)). AreKnown image m.contents new.given.contents r) (sym none)
+        known = subst (λ (r : List (Part × Known)). AreNumbered image m.contents new.given.contents r) (sym none)
             (λ part k at. absurd (none_known k at));
       }
 
@@ -106,13 +106,13 @@ module _ (image : Image) (old new : Stock) where
     named = subst (λ (g : Given). AreNamed h.meaning g new.shelf.entries) (sym given)
         (subst (λ (es : List (ℕ × Placed)). AreNamed h.meaning old.given es) (sym same) h.named);
     state = subst (λ (g : Given). StandsFor h.meaning.buses g.buses here.number here.bus) (sym given) h.state;
-    known = subst (λ (g : Given). AreKnown image h.meaning.contents g.contents look.reads) (sym given) h.known;
+    known = subst (λ (g : Given). AreNumbered image h.meaning.contents g.contents look.reads) (sym given) h.known;
   }
 
   -- more is known of the image
   pub told_known : (look after : Look) (here : Numbered) (h : IsTold image old look here)
       → new.shelf.entries ≡ old.shelf.entries → new.given.buses ≡ old.given.buses
-      → Extends image h.meaning.contents old.given.contents new.given.contents after.reads → IsTold image new after here
+      → LearnsMore image h.meaning.contents old.given.contents new.given.contents after.reads → IsTold image new after here
   told_known look after here h same buses e =
       let m : Meaning = record { buses = h.meaning.buses; contents = e.meaning } in
       let grows : IsLater h.meaning old.given m new.given = record {
@@ -145,13 +145,13 @@ module _ (image : Image) (old new : Stock) where
             (subst (λ (es : List (ℕ × Placed)). AreNamed h.meaning old.given es) (sym first)
             (named_promoted h.meaning old.given key old.shelf.entries h.named));
         state = rw (is, given) ((h.named (c.0, s) c.1).end);
-        known = subst (λ (g : Given). AreKnown image h.meaning.contents g.contents look.reads) (sym given) h.known;
+        known = subst (λ (g : Given). AreNumbered image h.meaning.contents g.contents look.reads) (sym given) h.known;
       }
 
   -- one that was run goes first, and its end is reached: with a new number, or with that of a held segment's start
   module _ (look after : Look) (here n : Numbered) (kept : Kept) (marked : List Recorded)
-      (h : IsTold image old look here) (sound : IsSound kept) (start : kept.start ≡ here.bus) (same : n.bus ≡ kept.end)
-      (e : (x : Extends image h.meaning.contents old.given.contents new.given.contents after.reads)
+      (h : IsTold image old look here) (sound : IsValidOnce kept) (start : kept.start ≡ here.bus) (same : n.bus ≡ kept.end)
+      (e : (x : LearnsMore image h.meaning.contents old.given.contents new.given.contents after.reads)
       × AreMarked x.meaning new.given.contents marked) where
     abbrev placed : Placed
     placed = record { kept = kept; start = here.number; reads = marked; end = n.number }
@@ -189,7 +189,7 @@ module _ (image : Image) (old new : Stock) where
             known = e.0.known;
           }
 
-      pub told_reached : IsReached old.shelf.entries old.given.buses new.given.buses n.bus n → IsTold image new after n
+      pub told_reached : IsEndNumber old.shelf.entries old.given.buses new.given.buses n.bus n → IsTold image new after n
       told_reached how = elim how [
         | inl new_one ↦ (
             let number : n.number ≡ old.given.buses = ap (λ (x : Numbered). x.number) new_one.0 in
@@ -215,14 +215,14 @@ module _ (image : Image) (old new : Stock) where
   -- more is known of the image
   pub stands_known : (number : ℕ) (look after : Look) (here : Reached) (h : StandsAt image number old look here)
       → new.shelf ≡ old.shelf → new.given.buses ≡ old.given.buses
-      → Extends image h.told.meaning.contents old.given.contents new.given.contents after.reads
+      → LearnsMore image h.told.meaning.contents old.given.contents new.given.contents after.reads
       → StandsAt image number new after here
   stands_known number look after here h same buses e =
       let entries : new.shelf.entries ≡ old.shelf.entries = ap (λ (s : Shelved Placed). s.entries) same in
       record {
         turn = ap (λ (s : Shelved Placed). s.turn) same ∙ h.turn;
         told = told_known look after here.state h.told entries buses e;
-        new = λ is. subst (λ (es : List (ℕ × Placed)). IsNew es number here.state.bus) (sym entries) (h.new is);
+        new = λ is. subst (λ (es : List (ℕ × Placed)). ServesNone es number here.state.bus) (sym entries) (h.new is);
       }
 
   -- nothing lies ahead any more
@@ -233,7 +233,7 @@ module _ (image : Image) (old new : Stock) where
       record {
         turn = ap (λ (s : Shelved Placed). s.turn) same ∙ h.turn;
         told = told_still look here.state entries given h.told;
-        new = λ is. subst (λ (es : List (ℕ × Placed)). IsNew es number here.state.bus) (sym entries) (h.new is);
+        new = λ is. subst (λ (es : List (ℕ × Placed)). ServesNone es number here.state.bus) (sym entries) (h.new is);
       }
 
   -- a held segment was used

@@ -7,20 +7,20 @@ use Rattle.can_bus.specs.Bus.{Bus}
 use Rattle.can_bus.specs.declared.line.Line.{Line}
 use Rattle.bus_laws.specs.Spans.{span}
 use Rattle.recorded_spans.specs.Records.{IsRecordOf}
-use Rattle.co_segments.specs.Segments.{Kept, IsValid, IsSound, Serves, IsServed, Traced}
+use Rattle.co_segments.specs.Segments.{Kept, IsValid, IsValidOnce, Serves, IsServed, Traced}
 
 -- one that was run under an image
 pub sound_from_run : (image : Image) (number : ℕ) (start : Bus) (kept : Kept) → kept.number ≡ number
     → kept.start ≡ start → IsRecordOf (reads (span number start) image) kept.reads
-    → outcome (span number start) image ≡ (kept.end, kept.lines) → IsSound kept
-unfolding IsSound
+    → outcome (span number start) image ≡ (kept.end, kept.lines) → IsValidOnce kept
+unfolding IsValidOnce
 sound_from_run image number start kept n s r g = (
   λ other h. rw (n, s) ((two_images (span number start) image other ((r.same other).0 h)).outcomes ∙ g),
   r.once,
 )
 
-pub valid_from_sound : (kept : Kept) → IsSound kept → IsValid kept
-unfolding IsSound
+pub valid_from_sound : (kept : Kept) → IsValidOnce kept → IsValid kept
+unfolding IsValidOnce
 valid_from_sound kept h = h.0
 
 -- one that serves gives the span under the image

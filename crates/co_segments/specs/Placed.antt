@@ -7,9 +7,9 @@ use Rattle.image_parts.specs.Contents.{Content, Image}
 use Rattle.image_parts.specs.declared.part.Part.{Part}
 use Rattle.kept_shelf.specs.Numbers.{of_number}
 use Rattle.recorded_spans.specs.Numbers.{KeepsMeaning, StandsFor}
-use Rattle.recorded_spans.specs.Reads.{AreKnown, AreMarked, Extends, Known, Recorded, plain}
+use Rattle.recorded_spans.specs.Reads.{AreNumbered, AreMarked, LearnsMore, Known, Recorded, plain}
 use Rattle.co_segments.specs.declared.given.Given.{Given}
-use Rattle.co_segments.specs.Segments.{IsSound, IsStale, Kept}
+use Rattle.co_segments.specs.Segments.{IsValidOnce, IsStale, Kept}
 
 -- a bus with its number
 pub record Numbered : Type 0 where
@@ -52,12 +52,12 @@ abbrev pub kept_of : List (ℕ × Placed) → List Kept
 kept_of entries = map (λ e. e.1.kept) entries
 
 -- the held segments of a number, in their order
-abbrev pub numbered : ℕ → List (ℕ × Placed) → List (ℕ × Placed)
-numbered = of_number (λ (s : Placed). s.kept.number)
+abbrev pub entries_of_number : ℕ → List (ℕ × Placed) → List (ℕ × Placed)
+entries_of_number = of_number (λ (s : Placed). s.kept.number)
 
 -- a bus from which no held segment of a number serves, whatever the image
-abbrev pub IsNew : List (ℕ × Placed) → ℕ → Bus → Type 0
-IsNew entries number bus = (image : Image) → IsStale image (kept_of entries) number bus
+abbrev pub ServesNone : List (ℕ × Placed) → ℕ → Bus → Type 0
+ServesNone entries number bus = (image : Image) → IsStale image (kept_of entries) number bus
 
 -- the numbers that were given, and what they stand for
 pub record Meaning : Type 0 where
@@ -76,8 +76,8 @@ pub record IsLater (old : Meaning) (given : Given) (new : Meaning) (later : Give
   pub contents : KeepsMeaning given.contents old.contents new.contents
 
 -- the bus at the end of a segment has a new number, or that of a held segment which starts from it
-abbrev pub IsReached : List (ℕ × Placed) → ℕ → ℕ → Bus → Numbered → Type 0
-IsReached entries given later bus n = ((n ≡ record { number = given; bus = bus }) × (later ≡ given + 1))
+abbrev pub IsEndNumber : List (ℕ × Placed) → ℕ → ℕ → Bus → Numbered → Type 0
+IsEndNumber entries given later bus n = ((n ≡ record { number = given; bus = bus }) × (later ≡ given + 1))
     ⊎ (((e : ℕ × Placed) × (Contains entries e × IsStart e.1 n bus)) × (later ≡ given))
 
 -- its numbers stand for its start, its end and what it read
@@ -90,7 +90,7 @@ abbrev pub AreNamed : Meaning → Given → List (ℕ × Placed) → Type 0
 AreNamed m given entries = (e : ℕ × Placed) → Contains entries e → IsNamed m given e.1
 
 abbrev pub AreSound : List (ℕ × Placed) → Type 0
-AreSound entries = (e : ℕ × Placed) → Contains entries e → IsSound e.1.kept
+AreSound entries = (e : ℕ × Placed) → Contains entries e → IsValidOnce e.1.kept
 
 -- the numbers of a segment, of a bus and of what is known of an image have one meaning: so the segment can be compared
 -- with the bus and the image
@@ -99,10 +99,10 @@ pub record AreComparable (image : Image) (given : Given) (s : Placed) (here : Nu
   pub meaning : Meaning
   pub named : IsNamed meaning given s
   pub state : StandsFor meaning.buses given.buses here.number here.bus
-  pub known : AreKnown image meaning.contents given.contents now
+  pub known : AreNumbered image meaning.contents given.contents now
 
 -- more is known of an image once it was compared with what was read, and more numbers may be given: those before stand
 -- for what they stood for
 abbrev pub Learns : Image → List Recorded → Given → Given → List (Part × Known) → List (Part × Known) → Type 0
-Learns image reads given later now after = (contents : ℕ → Content) → AreKnown image contents given.contents now
-    → AreMarked contents given.contents reads → Extends image contents given.contents later.contents after
+Learns image reads given later now after = (contents : ℕ → Content) → AreNumbered image contents given.contents now
+    → AreMarked contents given.contents reads → LearnsMore image contents given.contents later.contents after

@@ -27,11 +27,11 @@ kept_code bus_code read_code line_code =
     (λ p. record { number = p.0; start = p.1.0; reads = p.1.1.0; lines = p.1.1.1.0; end = p.1.1.1.1 }) (λ _. refl)
 
 -- WHAT A STORE HOLDS: the segments, the last run or used first
-pub record Held : Type 0 where
+pub record HeldSegments : Type 0 where
   pub capacity : ℕ
   pub segments : List Kept
 
-abbrev pub held_code : Coded Kept → Coded Held
+abbrev pub held_code : Coded Kept → Coded HeldSegments
 held_code segment_code = code_by (ℕ × List Kept) (coded× coded_ℕ (coded_list segment_code))
     (λ h. (h.capacity, h.segments)) (λ p. record { capacity = p.0; segments = p.1 }) (λ _. refl)
 
@@ -43,8 +43,8 @@ IsValid kept = (image : Image) → Agrees image kept.reads
     → outcome (span kept.number kept.start) image ≡ (kept.end, kept.lines)
 
 -- it is valid, and no name stands twice among its reads
-unfoldable pub IsSound : Kept → Type 0
-IsSound kept = IsValid kept × IsOnce kept.reads
+unfoldable pub IsValidOnce : Kept → Type 0
+IsValidOnce kept = IsValid kept × IsOnce kept.reads
 
 -- it is that span from that bus on, and the image has its recorded values
 abbrev pub Serves : Image → ℕ → Bus → Kept → Type 0

@@ -5,11 +5,12 @@ use Rattle.std.specs.Map.{lookup}
 use Rattle.can_bus.specs.Bus.{Bus}
 use Rattle.image_parts.specs.Contents.{Image}
 use Rattle.recorded_spans.specs.Numbers.{StandsFor}
-use Rattle.recorded_spans.specs.Reads.{AreKnown}
+use Rattle.recorded_spans.specs.Reads.{AreNumbered}
 use Rattle.recorded_spans.specs.declared.look.Look.{Look}
 use Rattle.co_segments.specs.declared.reached.Reached.{Reached}
 use Rattle.co_segments.specs.declared.stock.Stock.{Stock}
-use Rattle.co_segments.specs.Placed.{AreNamed, AreSound, IsNew, Meaning, Numbered, Placed, kept_of, numbered}
+use Rattle.co_segments.specs.Placed.{AreNamed, AreSound, ServesNone, Meaning, Numbered, Placed, kept_of}
+use Rattle.co_segments.specs.Placed.{entries_of_number}
 use Rattle.co_segments.specs.Segments.{IsStale, Kept, Serves}
 
 -- the segments that are held, the last run or used first
@@ -18,7 +19,7 @@ held_in stock = kept_of stock.shelf.entries
 
 -- those of a number, from a place among them on
 abbrev pub left_from : ℕ → ℕ → Stock → List Kept
-left_from number place stock = kept_of (drop place (numbered number stock.shelf.entries))
+left_from number place stock = kept_of (drop place (entries_of_number number stock.shelf.entries))
 
 -- ---- what always holds
 
@@ -34,14 +35,14 @@ pub record IsTold (image : Image) (stock : Stock) (look : Look) (here : Numbered
   pub meaning : Meaning
   pub named : AreNamed meaning stock.given stock.shelf.entries
   pub state : StandsFor meaning.buses stock.given.buses here.number here.bus
-  pub known : AreKnown image meaning.contents stock.given.contents look.reads
+  pub known : AreNumbered image meaning.contents stock.given.contents look.reads
 
 -- A TRACE STANDS before the segment of a number: it is the number's turn, private numbers stand for what they were
 -- given to, and where the bus is said to be new, no held segment of the number starts from it
 pub record StandsAt (image : Image) (number : ℕ) (stock : Stock) (look : Look) (here : Reached) : Type 0 where
   pub turn : stock.shelf.turn ≡ number
   pub told : IsTold image stock look here.state
-  pub new : IsTrue here.is_new → IsNew stock.shelf.entries number here.state.bus
+  pub new : IsTrue here.is_new → ServesNone stock.shelf.entries number here.state.bus
 
 -- ---- what a look at the held segments comes to
 
@@ -62,7 +63,7 @@ pub record IsAhead (image : Image) (number : ℕ) (stock : Stock) (here : Bus) (
   pub entry : ℕ × Placed
   pub next : slice_get stock.shelf.ahead 0 ≡ Some entry
   pub held : lookup (nat_eq entry.0) stock.shelf.entries ≡ Some entry.1
-  pub first : slice_get (numbered number stock.shelf.entries) 0 ≡ Some entry
+  pub first : slice_get (entries_of_number number stock.shelf.entries) 0 ≡ Some entry
   pub answer : IsTrue serves ↔ Serves image number here entry.1.kept
   pub counted : later ≤ asks + length entry.1.kept.reads
 

@@ -1,7 +1,7 @@
 //! A bus at which a trace joins one that was traced before.
 
 ghost use Rattle.std.specs.Prelude.{◌≡◌, ◌≤◌, ℕ, [], Contains, IfOk, IsTrue, MatchOption};
-ghost use Rattle.co_segments.specs.Placed.{IsNew, IsReached, IsStart, Placed};
+ghost use Rattle.co_segments.specs.Placed.{ServesNone, IsEndNumber, IsStart, Placed};
 ghost use Rattle.co_segments.specs.Sights.{AreSightsOf};
 
 use crate::numbered_bus::NumberedBus;
@@ -47,7 +47,7 @@ fn held_start(
     requires settled { shelf.now.ahead ≡ [] }
     requires later { shelf.now.turn ≤ number }
     requires sight { AreSightsOf bus.now sight.now }
-    ensures { IfOk result (λ start. MatchOption start (IsNew shelf.now.entries number bus.now)
+    ensures { IfOk result (λ start. MatchOption start (ServesNone shelf.now.entries number bus.now)
         (λ n. (e : ℕ × Placed) × (Contains shelf.now.entries e × IsStart e.1 n bus.now))) }
 {
     let count = shelf.count(number);
@@ -88,8 +88,8 @@ pub(crate) fn reach(
 ) -> Result<Reached, AllocError>
     requires settled { shelf.now.ahead ≡ [] }
     requires later { shelf.now.turn ≤ number }
-    ensures reached { IfOk result (λ end. IsReached shelf.now.entries given.old given.new bus end.state) }
-    ensures new { IfOk result (λ end. IsTrue end.is_new → IsNew shelf.now.entries number bus) }
+    ensures reached { IfOk result (λ end. IsEndNumber shelf.now.entries given.old given.new bus end.state) }
+    ensures new { IfOk result (λ end. IsTrue end.is_new → ServesNone shelf.now.entries number bus) }
     ensures more { given.old ≤ given.new }
 {
     let sight = seen_at(place, &bus);

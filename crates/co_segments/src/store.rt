@@ -6,7 +6,7 @@ ghost use Rattle.can_bus.specs.Runs.{is_shown, trace as trace_of};
 ghost use Rattle.can_bus.specs.declared.line.Line.{Line as Told};
 ghost use Rattle.image_parts.specs.Images.{IsImage};
 ghost use Rattle.co_segments.specs.Advances.{Traces};
-ghost use Rattle.co_segments.specs.Segments.{HasRun, IsSound, Kept, Traced, recorded_from};
+ghost use Rattle.co_segments.specs.Segments.{HasRun, IsValidOnce, Kept, Traced, recorded_from};
 ghost use Rattle.co_segments.specs.Stocks.{AreSegments};
 ghost use Rattle.recorded_spans.specs.Spans.{lines_of_spans};
 ghost use Rattle.kept_values.specs.Work.{Rises};
@@ -40,10 +40,10 @@ impl Model for Store {
     ghost use Rattle.can_bus.specs.contracts.bus_state.BusState as bus_state;
     ghost use Rattle.can_bus.specs.contracts.line.Line as told;
     ghost use Rattle.image_parts.specs.contracts.read.Read as noted;
-    ghost use Rattle.co_segments.specs.Segments.{Held, held_code, kept_code};
+    ghost use Rattle.co_segments.specs.Segments.{HeldSegments, held_code, kept_code};
     ghost use Rattle.co_segments.specs.Stocks.{AreSegments, held_in};
 
-    ghost Value = { Held };
+    ghost Value = { HeldSegments };
 
     ghost coded = { held_code (kept_code bus_state.the_row.coded noted.the_row.coded told.the_row.coded) };
 
@@ -181,7 +181,7 @@ impl Store {
     /// How many segments it holds. Each of them is valid, and has each of its reads once.
     pub fn held(&self) -> usize
         ensures count { result ≡ length self.now.segments }
-        ensures sound { (kept : Kept) → Contains self.now.segments kept → IsSound kept }
+        ensures sound { (kept : Kept) → Contains self.now.segments kept → IsValidOnce kept }
     {
         self.stock.shelf.len()
     }

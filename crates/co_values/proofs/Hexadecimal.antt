@@ -14,7 +14,7 @@ use Rattle.base.specs.Bytes.{AreBytes}
 use Rattle.plain_text.specs.Digits.{digits_number}
 use Rattle.plain_text.proofs.DigitLemmas.{digit_value-glyph, digit_value-glyph-lt, is_digit-glyph, digits_number-numeral}
 use Rattle.co_values.specs.Number.{number}
-use Rattle.co_values.specs.Values.{pairs_of, pair_number, paired}
+use Rattle.co_values.specs.Values.{pairs_of, pair_number, bytes_of_pairs}
 
 -- the digits of a byte write it
 pair-of : (b : ℕ) → b < 256 → pair_number (digit_glyph true (b / 16)) (digit_glyph true (b % 16)) ≡ b
@@ -23,11 +23,11 @@ pair-of b h = rw (digit_value-glyph (b / 16) (omega arith), digit_value-glyph (b
 -- ---- bytes
 
 -- what pairs of digits write again
-pub paired-pairs_of : (bytes : List ℕ) → AreBytes bytes → paired (pairs_of bytes) ≡ Some bytes
-paired-pairs_of [] h = refl
-paired-pairs_of (b ∷ bytes) h =
+pub bytes_of_pairs-pairs_of : (bytes : List ℕ) → AreBytes bytes → bytes_of_pairs (pairs_of bytes) ≡ Some bytes
+bytes_of_pairs-pairs_of [] h = refl
+bytes_of_pairs-pairs_of (b ∷ bytes) h =
     let low : b < 256 = h 0 in
-    let again : paired (pairs_of bytes) ≡ Some bytes = paired-pairs_of bytes (λ i. h (suc i)) in
+    let again : bytes_of_pairs (pairs_of bytes) ≡ Some bytes = bytes_of_pairs-pairs_of bytes (λ i. h (suc i)) in
     rw (is_digit-glyph (b / 16) (omega arith), is_digit-glyph (b % 16) (omega arith), again, pair-of b low) refl
 
 -- ---- the digits of a number
@@ -94,4 +94,4 @@ number-hexadecimal bytes some few h =
     let most : 256 ^ length bytes ≤ 256 ^ 8 = pow-le-pow_right {n = 256} (lit< tt) few in
     rw (digits, lt-ltb (little_number (length bytes) bytes) (2 ^ 64) (omega (arith, top, most))) refl
 
-pub ruleset hexadecimal_laws = (paired-pairs_of, number-hexadecimal)
+pub ruleset hexadecimal_laws = (bytes_of_pairs-pairs_of, number-hexadecimal)

@@ -8,7 +8,7 @@ use Rattle.std.proofs.Math.Bool.{and-false}
 use Rattle.std.specs.Prelude.{◌&&◌, ◌==◌, nat_le, is_some, if◌then◌else◌, option_map, option_and_then, IsSome, IfSome}
 use Rattle.std.specs.Char.{digit_value, is_digit}
 use Rattle.std.specs.List.{list_all}
-use Rattle.co_values.specs.Values.{paired, pair_number, longest_value, if_not_too_long}
+use Rattle.co_values.specs.Values.{bytes_of_pairs, pair_number, longest_value, if_not_too_long}
 
 -- what there is not
 none_of : (o : Option (List ℕ)) → is_some o ≡ false → o ≡ None
@@ -29,18 +29,18 @@ shape false y true l o b h = refl
 shape false y false l o b h = refl
 
 -- a text is pairs where it has an even number of bytes and each is a digit
-pub is_some-paired : (text : List ℕ) → is_some (paired text) ≡ (length text % 2 == 0)
+pub is_some-bytes_of_pairs : (text : List ℕ) → is_some (bytes_of_pairs text) ≡ (length text % 2 == 0)
     && list_all (λ c. is_digit c 16) text
-is_some-paired [] = refl
-is_some-paired (a ∷ []) = refl
-is_some-paired (a ∷ b ∷ text) =
-    let rest : is_some (paired text) ≡ (suc (suc (length text)) % 2 == 0)
-    && list_all (λ c. is_digit c 16) text = rw (even (length text)) (is_some-paired text) in
+is_some-bytes_of_pairs [] = refl
+is_some-bytes_of_pairs (a ∷ []) = refl
+is_some-bytes_of_pairs (a ∷ b ∷ text) =
+    let rest : is_some (bytes_of_pairs text) ≡ (suc (suc (length text)) % 2 == 0)
+    && list_all (λ c. is_digit c 16) text = rw (even (length text)) (is_some-bytes_of_pairs text) in
     shape (is_digit a 16) (is_digit b 16) (suc (suc (length text)) % 2 == 0) (list_all (λ c. is_digit c 16) text)
-    (paired text) (pair_number a b) rest
+    (bytes_of_pairs text) (pair_number a b) rest
 
 -- for `grind`
-pub ruleset pairs = is_some-paired
+pub ruleset pairs = is_some-bytes_of_pairs
 
 -- ---- pair after pair
 
@@ -67,19 +67,19 @@ drop-pair i text h =
 
 -- the pairs that are left from a place on are pairs, and with those that were read they are all
 abbrev pub IsReadTo : ℕ → List ℕ → List ℕ → Type 0
-IsReadTo i text items = IsSome (paired (drop (2 * i) text))
-    × (option_map (λ more. items ++ more) (paired (drop (2 * i) text)) ≡ paired text)
+IsReadTo i text items = IsSome (bytes_of_pairs (drop (2 * i) text))
+    × (option_map (λ more. items ++ more) (bytes_of_pairs (drop (2 * i) text)) ≡ bytes_of_pairs text)
 
 next_pair : (i : ℕ) (text items : List ℕ) → i < length text / 2 → IsReadTo i text items
     → (is_digit (get_or text (2 * i) 0) 16 ≡ true) × (is_digit (get_or text (2 * i + 1) 0) 16 ≡ true)
-    × IsSome (paired (drop (2 * (i + 1)) text))
+    × IsSome (bytes_of_pairs (drop (2 * (i + 1)) text))
     × (option_map (λ more. (items ++ pair_number (get_or text (2 * i) 0) (get_or text (2 * i + 1) 0) ∷ []) ++ more)
-    (paired (drop (2 * (i + 1)) text)) ≡ paired text)
+    (bytes_of_pairs (drop (2 * (i + 1)) text)) ≡ bytes_of_pairs text)
 next_pair i text items h so_far =
     let here = drop-pair i text h in
     pair_read (is_digit (get_or text (2 * i) 0) 16)
     (is_digit (get_or text (2 * i + 1) 0) 16) items (pair_number (get_or text (2 * i) 0)
-    (get_or text (2 * i + 1) 0)) (paired (drop (2 * (i + 1)) text)) (paired text)
+    (get_or text (2 * i + 1) 0)) (bytes_of_pairs (drop (2 * (i + 1)) text)) (bytes_of_pairs text)
     (rw here at so_far.0) (rw here at so_far.1)
 
 -- a pair has two digits
@@ -99,17 +99,17 @@ pairs_more i byte text items items' h is grown so_far =
     let next = next_pair i text items h so_far in
     let e : items' ≡ items ++ pair_number (get_or text (2 * i) 0) (get_or text (2 * i + 1) 0) ∷ [] = grown
     ∙ ap (λ (b : ℕ). items ++ b ∷ []) is in
-    (next.2, ap (λ (xs : List ℕ). option_map (λ more. xs ++ more) (paired (drop (2 * (i + 1)) text))) e ∙ next.3)
+    (next.2, ap (λ (xs : List ℕ). option_map (λ more. xs ++ more) (bytes_of_pairs (drop (2 * (i + 1)) text))) e ∙ next.3)
 
 -- less than a pair is left, which is nothing
-none_left : (items rest : List ℕ) (total : Option (List ℕ)) → length rest < 2 → IsSome (paired rest)
-    → option_map (λ more. items ++ more) (paired rest) ≡ total → Some items ≡ total
+none_left : (items rest : List ℕ) (total : Option (List ℕ)) → length rest < 2 → IsSome (bytes_of_pairs rest)
+    → option_map (λ more. items ++ more) (bytes_of_pairs rest) ≡ total → Some items ≡ total
 none_left items [] total h some so_far = ap Some (sym (append-nil items)) ∙ so_far
 none_left items (a ∷ []) total h some so_far = absurd (false≢true some)
 none_left items (a ∷ b ∷ rest) total h some so_far = absurd (omega arith)
 
-pub pairs_all : (i : ℕ) (text items : List ℕ) → length text / 2 ≤ i → IsReadTo i text items → Some items ≡ paired text
-pairs_all i text items h so_far = none_left items (drop (2 * i) text) (paired text)
+pub pairs_all : (i : ℕ) (text items : List ℕ) → length text / 2 ≤ i → IsReadTo i text items → Some items ≡ bytes_of_pairs text
+pairs_all i text items h so_far = none_left items (drop (2 * i) text) (bytes_of_pairs text)
     (omega (arith, length-drop (2 * i) text)) so_far.0 so_far.1
 
 -- ---- how many pairs
@@ -122,10 +122,10 @@ counted true true n byte None h = tt
 counted true false n byte o h = tt
 counted false y n byte o h = tt
 
-pairs_count : (text : List ℕ) → IfSome (paired text) (λ bytes. length text ≡ 2 * length bytes)
+pairs_count : (text : List ℕ) → IfSome (bytes_of_pairs text) (λ bytes. length text ≡ 2 * length bytes)
 pairs_count [] = omega arith
 pairs_count (a ∷ []) = tt
-pairs_count (a ∷ b ∷ text) = counted (is_digit a 16) (is_digit b 16) (length text) (pair_number a b) (paired text)
+pairs_count (a ∷ b ∷ text) = counted (is_digit a 16) (is_digit b 16) (length text) (pair_number a b) (bytes_of_pairs text)
     (pairs_count text)
 
 short : (n : ℕ) (o : Option (List ℕ)) → IfSome o (λ bytes. n ≡ 2 * length bytes)
@@ -137,9 +137,9 @@ short n (Some bytes) h = elim (cases_lt 512 (length bytes)) [
 ]
 
 -- pairs are not too many where the text is short
-pub is_some-short : (text : List ℕ) → is_some (option_and_then if_not_too_long (paired text))
-    ≡ nat_le (length text) (2 * longest_value) && is_some (paired text)
-is_some-short text = short (length text) (paired text) (pairs_count text)
+pub is_some-short : (text : List ℕ) → is_some (option_and_then if_not_too_long (bytes_of_pairs text))
+    ≡ nat_le (length text) (2 * longest_value) && is_some (bytes_of_pairs text)
+is_some-short text = short (length text) (bytes_of_pairs text) (pairs_count text)
 
 shorter : (b : Bool) (bytes : List ℕ) → is_some (if b then Some bytes else None) ≡ true
     → (if b then Some bytes else None) ≡ Some bytes

@@ -19,7 +19,7 @@ use Rattle.co_values.specs.Types.{form, octets}
 use Rattle.co_values.specs.Values.{value, value_in, text_of_value, text_of_value_in, Fits, FitsForm, signed_bits}
 use Rattle.co_values.specs.Values.{signed_text_bits, pairs_of, longest_value, if_not_too_long}
 use Rattle.co_values.proofs.Decimal.{number-decimal, number-negative}
-use Rattle.co_values.proofs.Hexadecimal.{paired-pairs_of, number-hexadecimal}
+use Rattle.co_values.proofs.Hexadecimal.{bytes_of_pairs-pairs_of, number-hexadecimal}
 
 -- a number is a formula, the same at every node
 pub formula-number : (text : List ℕ) (node : ℕ) (z : ℤ) → number text ≡ Some z → formula text node ≡ Some z
@@ -152,7 +152,7 @@ form_read Flag bytes node h fits = flag_read bytes node fits
 form_read (Signed width) bytes node h fits = signed_read width bytes node h fits
 form_read (Unsigned width) bytes node h fits = unsigned_read width bytes node h fits
 form_read Characters bytes node h fits = not_too_long bytes fits
-form_read HexPairs bytes node h fits = rw (paired-pairs_of bytes h) (not_too_long bytes fits)
+form_read HexPairs bytes node h fits = rw (bytes_of_pairs-pairs_of bytes h) (not_too_long bytes fits)
 form_read Unmodelled bytes node h fits = absurd fits
 
 -- what is printed of a value is read as that value at every node

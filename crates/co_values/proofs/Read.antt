@@ -14,7 +14,7 @@ use Rattle.co_values.specs.declared.form.Form.TheVariants.{Flag, Signed, Unsigne
 use Rattle.co_values.specs.Number.{formula}
 use Rattle.co_values.specs.Types.{form, octets}
 use Rattle.co_values.specs.Values.{value, value_in, Fits, FitsForm, flag_bits, unsigned_bits, signed_text_bits}
-use Rattle.co_values.specs.Values.{pair_number, paired, longest_value, if_not_too_long}
+use Rattle.co_values.specs.Values.{pair_number, bytes_of_pairs, longest_value, if_not_too_long}
 
 -- two lists that are both given are one
 given_same : (xs ys : List ℕ) → Some xs ≡ Some ys → xs ≡ ys
@@ -89,10 +89,10 @@ pair_fits a b true true (Some bytes) high low h = both
 pair_fits a b true false o high low h = tt
 pair_fits a b false y o high low h = tt
 
-pub paired_fits : (text : List ℕ) → IfSome (paired text) AreBytes
+pub paired_fits : (text : List ℕ) → IfSome (bytes_of_pairs text) AreBytes
 paired_fits [] = λ k. lit< tt
 paired_fits (a ∷ []) = tt
-paired_fits (a ∷ b ∷ text) = pair_fits a b (is_digit a 16) (is_digit b 16) (paired text) refl refl (paired_fits text)
+paired_fits (a ∷ b ∷ text) = pair_fits a b (is_digit a 16) (is_digit b 16) (bytes_of_pairs text) refl refl (paired_fits text)
 
 pub pairs_fit : (o : Option (List ℕ)) (bytes : List ℕ) → IfSome o AreBytes
     → option_and_then if_not_too_long o ≡ Some bytes → AreBytes bytes × (length bytes ≤ longest_value)
@@ -110,7 +110,7 @@ form_fits (Signed width) text bytes node h e = number_fits (octets width) (signe
 form_fits (Unsigned width) text bytes node h e = number_fits (octets width)
     (option_and_then (unsigned_bits width) (formula text node)) bytes e
 form_fits Characters text bytes node h e = short_fits text bytes h e
-form_fits HexPairs text bytes node h e = pairs_fit (paired text) bytes (paired_fits text) e
+form_fits HexPairs text bytes node h e = pairs_fit (bytes_of_pairs text) bytes (paired_fits text) e
 form_fits Unmodelled text bytes node h e = cc
 
 -- the bytes that a text spells fit the type

@@ -54,11 +54,11 @@ abbrev pub pair_number : ℕ → ℕ → ℕ
 pair_number high low = 16 * digit_value high + digit_value low
 
 -- OCTET_STRING and DOMAIN: pairs of hexadecimal digits in any case, with nothing between them (own)
-abbrev pub paired : List ℕ → Option (List ℕ)
-paired [] = Some []
-paired (a ∷ []) = None
-paired (a ∷ b ∷ text) =
-    if is_digit a 16 && is_digit b 16 then option_map (λ bytes. pair_number a b ∷ bytes) (paired text)
+abbrev pub bytes_of_pairs : List ℕ → Option (List ℕ)
+bytes_of_pairs [] = Some []
+bytes_of_pairs (a ∷ []) = None
+bytes_of_pairs (a ∷ b ∷ text) =
+    if is_digit a 16 && is_digit b 16 then option_map (λ bytes. pair_number a b ∷ bytes) (bytes_of_pairs text)
     else None
 
 -- the bytes that a text spells as a value laid out so, at a node
@@ -68,7 +68,7 @@ value_in (Signed width) text node = option_map (little_bytes (octets width)) (si
 value_in (Unsigned width) text node = option_map (little_bytes (octets width))
     (option_and_then (unsigned_bits width) (formula text node))
 value_in Characters text node = if_not_too_long text
-value_in HexPairs text node = option_and_then if_not_too_long (paired text)
+value_in HexPairs text node = option_and_then if_not_too_long (bytes_of_pairs text)
 value_in Unmodelled text node = None
 
 -- the bytes that a text spells as a value of a type at a node

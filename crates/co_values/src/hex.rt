@@ -3,7 +3,7 @@
 ghost use Rattle.std.specs.Prelude.{◌≡◌, ◌<◌, ◌++◌, Some, IfOk, IsSome, is_some};
 ghost use Rattle.std.specs.Char.{digit_value, is_digit};
 ghost use Rattle.std.specs.List.{list_all};
-ghost use Rattle.co_values.specs.Values.{paired, pair_number as number_of_pair, pairs_of};
+ghost use Rattle.co_values.specs.Values.{bytes_of_pairs, pair_number as number_of_pair, pairs_of};
 
 use plain_text::byte_digits;
 use std::alloc::{AllocError, Global};
@@ -28,7 +28,7 @@ fn are_digits(text: &[u8]) -> bool
 /// Whether a text is pairs of hexadecimal digits.
 #[tactic(auto, using(crate::proofs::Pairs::pairs))]
 pub(crate) fn is_paired(text: &[u8]) -> bool
-    ensures { result ≡ is_some (paired text.now) }
+    ensures { result ≡ is_some (bytes_of_pairs text.now) }
 {
     text.len() % 2 == 0 && are_digits(text)
 }
@@ -56,8 +56,8 @@ fn pair_number(high: u8, low: u8) -> u8
 
 /// The bytes that pairs of hexadecimal digits write.
 pub(crate) fn read_pairs(alloc: Global, text: &[u8]) -> Result<Vec<u8>, AllocError>
-    requires { IsSome (paired text.now) }
-    ensures { IfOk result (λ bytes. Some bytes.items ≡ paired text.now) }
+    requires { IsSome (bytes_of_pairs text.now) }
+    ensures { IfOk result (λ bytes. Some bytes.items ≡ bytes_of_pairs text.now) }
 {
     let mut bytes = Vec::with_capacity(alloc, text.len() / 2)?;
     for pair in 0..text.len() / 2 {

@@ -7,7 +7,7 @@ ghost use Rattle.byteorder.specs.Endian.{little_bytes, little_number};
 ghost use Rattle.base.specs.Bytes.{AreBytes};
 ghost use Rattle.plain_text.specs.Blanks.{without_first_blanks};
 ghost use Rattle.co_values.specs.Number.{number, formula, in_range, hexadecimal, node_plus};
-ghost use Rattle.co_values.specs.Values.{paired, pairs_of, value, text_of_value, Fits, signed_bits};
+ghost use Rattle.co_values.specs.Values.{bytes_of_pairs, pairs_of, value, text_of_value, Fits, signed_bits};
 ghost use Rattle.co_values.specs.Types.{form, octets};
 ghost use Rattle.co_values.specs.declared.form.Form.TheVariants.{Signed};
 ghost use Rattle.co_values.specs.declared.form.Width.{Width};
@@ -23,7 +23,7 @@ pub fn decimal_spells()
 /// Pairs of digits spell their bytes, and `0x` and all digits of a number spell it.
 #[tactic(auto, using(crate::proofs::Hexadecimal::hexadecimal_laws))]
 pub fn hexadecimal_spells()
-    ensures bytes { (bytes : List ℕ) → AreBytes bytes → paired (pairs_of bytes) ≡ Some bytes }
+    ensures bytes { (bytes : List ℕ) → AreBytes bytes → bytes_of_pairs (pairs_of bytes) ≡ Some bytes }
     ensures number { (bytes : List ℕ) → 0 < length bytes → length bytes ≤ 8 → AreBytes bytes
         → number (codes "0x" ++ pairs_of (reverse bytes)) ≡ Some (pos (little_number (length bytes) bytes)) }
 {}

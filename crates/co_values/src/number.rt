@@ -1,7 +1,7 @@
 //! Numbers from text.
 
 ghost use Rattle.std.specs.Prelude.{◌≡◌, ℕ, pos, neg_ℤ, Option, option_map, option_and_then};
-ghost use Rattle.plain_text.specs.Digits.{capped};
+ghost use Rattle.plain_text.specs.Digits.{within_cap};
 ghost use Rattle.co_values.specs.Number.{number, in_range as in_range_number, hexadecimal as hexadecimal_number};
 ghost use Rattle.co_values.specs.Number.{octal as octal_number, unsigned_number};
 
@@ -12,7 +12,7 @@ const LIMIT: u128 = 0x1_0000_0000_0000_0000;
 
 /// The number behind `0x`, cut at 2^64.
 pub(crate) fn hexadecimal(text: &[u8]) -> Option<u128>
-    ensures { result ≡ capped (hexadecimal_number text.now) }
+    ensures { result ≡ within_cap (hexadecimal_number text.now) }
 {
     match text {
         [b'0', b'x' | b'X', rest @ ..] => read_digits(16, rest),
@@ -22,7 +22,7 @@ pub(crate) fn hexadecimal(text: &[u8]) -> Option<u128>
 
 /// The number that octal digits write behind a 0, cut at 2^64.
 fn octal(text: &[u8]) -> Option<u128>
-    ensures { result ≡ capped (octal_number text.now) }
+    ensures { result ≡ within_cap (octal_number text.now) }
 {
     match text {
         [b'0', rest @ ..] => read_digits(8, rest),
@@ -32,7 +32,7 @@ fn octal(text: &[u8]) -> Option<u128>
 
 /// The number that a text without sign spells, cut at 2^64.
 pub(crate) fn unsigned(text: &[u8]) -> Option<u128>
-    ensures { result ≡ capped (unsigned_number text.now) }
+    ensures { result ≡ within_cap (unsigned_number text.now) }
 {
     if let Some(number) = hexadecimal(text) {
         return Some(number);
@@ -56,7 +56,7 @@ pub(crate) fn in_range(number: u128) -> Option<i128>
 
 /// A number that isn't below 0, cut at 2^64: the number itself, where it is in range.
 fn positive(number: Option<u128>) -> Option<i128>
-    ensures { (o : Option ℕ) → number ≡ capped o
+    ensures { (o : Option ℕ) → number ≡ within_cap o
         → result ≡ option_and_then in_range_number (option_map pos o) }
 {
     in_range(number?)
@@ -64,7 +64,7 @@ fn positive(number: Option<u128>) -> Option<i128>
 
 /// The size of a number below 0, cut at 2^64: that number, where it is in range.
 fn negative(size: Option<u128>) -> Option<i128>
-    ensures { (o : Option ℕ) → size ≡ capped o
+    ensures { (o : Option ℕ) → size ≡ within_cap o
         → result ≡ option_and_then in_range_number (option_map (λ n. neg_ℤ (pos n)) o) }
 {
     let size = size?;

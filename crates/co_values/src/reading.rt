@@ -3,7 +3,7 @@
 ghost use Rattle.std.specs.Prelude.{◌≡◌, ◌≤◌, None, Ok, IfOk, IfSome, is_some, option_map, option_and_then};
 ghost use Rattle.byteorder.specs.Endian.{little_bytes};
 ghost use Rattle.co_values.specs.Number.{formula};
-ghost use Rattle.co_values.specs.Values.{value, value_in, paired, if_not_too_long, flag_bits as bits_of_flag};
+ghost use Rattle.co_values.specs.Values.{value, value_in, bytes_of_pairs, if_not_too_long, flag_bits as bits_of_flag};
 ghost use Rattle.co_values.specs.Values.{unsigned_bits as bits_of_unsigned, signed_text_bits as bits_of_signed_text};
 
 use crate::data_type::DataType;
@@ -74,7 +74,7 @@ fn characters(alloc: Global, text: &[u8]) -> Result<Option<Octets>, AllocError>
 
 /// Whether a text is pairs of hexadecimal digits, and not too many.
 fn are_pairs(text: &[u8]) -> bool
-    ensures { result ≡ is_some (option_and_then if_not_too_long (paired text.now)) }
+    ensures { result ≡ is_some (option_and_then if_not_too_long (bytes_of_pairs text.now)) }
 {
     text.len() <= 2 * LONGEST_VALUE && is_paired(text)
 }
@@ -82,8 +82,8 @@ fn are_pairs(text: &[u8]) -> bool
 /// The bytes that pairs of hexadecimal digits spell, where they are not too many.
 #[tactic(auto, using(crate::proofs::Pairs::short_pairs))]
 fn pairs(alloc: Global, text: &[u8]) -> Result<Option<Octets>, AllocError>
-    ensures bytes { IfOk result (λ bytes. bytes ≡ option_and_then if_not_too_long (paired text.now)) }
-    ensures none { option_and_then if_not_too_long (paired text.now) ≡ None → result ≡ Ok None }
+    ensures bytes { IfOk result (λ bytes. bytes ≡ option_and_then if_not_too_long (bytes_of_pairs text.now)) }
+    ensures none { option_and_then if_not_too_long (bytes_of_pairs text.now) ≡ None → result ≡ Ok None }
 {
     if are_pairs(text) {
         let bytes = read_pairs(alloc, text)?;

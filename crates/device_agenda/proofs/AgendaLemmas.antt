@@ -1,6 +1,6 @@
 -- What an agenda says of the moments, and the agendas of one device.
 use Rattle.std.proofs.Common.{◌≡◌, ℕ, ◌<◌, Bool, false, List, [], ◌∷◌, Option, Some, None, is_some, append-nil, refl}
-use Rattle.std.proofs.Common.{sym, ap, ◌∙◌, arith, inl, inr}
+use Rattle.std.proofs.Common.{sym, ap, ◌∙◌, arith, inl, inr, ◌⊎◌}
 use Rattle.std.specs.Prelude.{min, nat_le}
 use Rattle.std.specs.List.{AllByRecursion}
 use Rattle.std.proofs.lemmas.Bool.Decides.{nat_tests}
@@ -13,12 +13,17 @@ use Rattle.image_parts.specs.Contents.{Content, Image}
 use Rattle.base.specs.Moments.{earlier, earliest, has_come}
 use Rattle.image_parts.specs.declared.part.Part.{Part}
 use Rattle.co_device.specs.Device.{Device, moments, next_due}
-use Rattle.co_device.specs.Receiving.{is_ignored}
+use Rattle.co_device.specs.Receiving.{is_ignored, is_ignored_as, reception}
 use Rattle.device_laws.specs.Deaf.{IsDeafTo, IsIdleSync}
 use Rattle.device_laws.proofs.RestLemmas.{sent_rests}
 use Rattle.device_agenda.specs.Agenda.{IsAgendaOf, Sleeps}
 use Rattle.device_agenda.specs.declared.agenda.Agenda.{Agenda as Plan}
 use Rattle.device_agenda.specs.declared.groups.Groups.{Groups}
+use Rattle.device_agenda.specs.declared.schedule.Schedule.{Schedule}
+use Rattle.device_agenda.specs.Schedule.{IsScheduled}
+use Rattle.device_objects.specs.declared.reception.Reception.{Reception}
+use Rattle.device_objects.specs.declared.reception.Reception.TheVariants.{Nothing, NmtService, Sync, SdoRequest}
+use Rattle.device_objects.specs.declared.reception.Reception.TheVariants.{ErrorControl, Pdo}
 
 -- ---- moments
 
@@ -76,14 +81,29 @@ not_spent a d plan e = (plan.asleep e).0.unspent
 -- ---- once a frame is sent
 
 module _ (frames : List Waiting) (d : Device) where
+  sent_reception : (frame : BaseFrame) → reception frame (record d { waiting = frames }) ≡ reception frame d
+  unfolding reception
+  sent_reception frame = refl
+
+  sent_as : (r : Reception) (frame : BaseFrame)
+      → is_ignored_as r frame (record d { waiting = frames }) ≡ is_ignored_as r frame d
+  unfolding is_ignored_as
+  sent_as Nothing frame = refl
+  sent_as (NmtService service) frame = refl
+  sent_as Sync frame = refl
+  sent_as SdoRequest frame = refl
+  sent_as (ErrorControl producer) frame = refl
+  sent_as Pdo frame = refl
+
   sent_ignored : (frame : BaseFrame) → is_ignored frame (record d { waiting = frames }) ≡ is_ignored frame d
   unfolding is_ignored
-  sent_ignored frame = refl
+  sent_ignored frame =
+      ap (λ (r : Reception). is_ignored_as r frame (record d { waiting = frames })) (sent_reception frame)
+      ∙ sent_as (reception frame d) frame
 
   sent_idle : (frame : BaseFrame) → IsIdleSync frame d → IsIdleSync frame (record d { waiting = frames })
   sent_idle frame h = record {
-    no_command = h.no_command;
-    is_sync = h.is_sync;
+    is_sync = sent_reception frame ∙ h.is_sync;
     awaits_none = record { nothing_kept = h.awaits_none.nothing_kept; no_tpdo = h.awaits_none.no_tpdo };
   }
 
@@ -114,6 +134,16 @@ sent_agenda a d e frames found waits plan is wins w =
     rw is
     (sent_plan frames d a waits plan (λ f. sym (ap (λ (x : Device). x.waiting) is)
     ∙ silent_where_none e found wins (sym w ∙ f)))
+
+-- ---- what is kept behind a handle
+
+pub same_either : {s r : Schedule} → (s ≡ r) ⊎ (s ≡ r) → s ≡ r
+same_either (inl e) = e
+same_either (inr e) = e
+
+pub scheduled_as : {s r : Schedule} → s ≡ r → IsScheduled r.agenda r.sync r.device
+    → IsScheduled s.agenda s.sync s.device
+scheduled_as e h = rw e h
 
 -- where nothing is read
 pub same_state : (m : Asking Part Content Device) (d : Device) → m ≡ Answer d → (image : Image) → d ≡ outcome m image

@@ -3,7 +3,7 @@ use Rattle.std.proofs.Common.{◌≡◌, ℕ, ◌-◌, ◌<◌, ◌≤◌, ◌%�
 use Rattle.std.proofs.Common.{Option, Some, None, inl, inr, refl, sym, ap, ◌∙◌, arith, length}
 use Rattle.std.specs.Prelude.{if◌then◌else◌, is_some}
 use Rattle.std.specs.List.{AllByRecursion, list_any}
-use Rattle.std.proofs.lemmas.Bool.{eqb-true}
+use Rattle.std.proofs.lemmas.Bool.{eqb-false}
 use Rattle.std.proofs.lemmas.Bool.Decides.{nat_tests}
 use Rattle.can_frame.specs.Frames.{BaseFrame}
 use Rattle.can_frame.specs.Identifiers.{error_control_id, nmt_id, sdo_request_id, sync_id}
@@ -13,13 +13,18 @@ use Rattle.co_dict.specs.Values.{Values, number_at}
 use Rattle.device_objects.specs.Consumers.{any_expects, expects}
 use Rattle.device_objects.specs.Profile.{sync_identifier}
 use Rattle.device_objects.specs.declared.learnt.Learnt.{Learnt}
+use Rattle.device_objects.specs.declared.reception.Reception.{Reception}
+use Rattle.device_objects.specs.declared.reception.Reception.TheVariants.{Nothing, NmtService, Sync, SdoRequest}
+use Rattle.device_objects.specs.declared.reception.Reception.TheVariants.{ErrorControl, Pdo}
+use Rattle.device_objects.specs.Reception.{is_error_control}
 use Rattle.device_laws.specs.Deaf.{AwaitsNoSync, IsDeafTo}
 use Rattle.device_pdos.specs.Rpdos.{any_has_identifier, has_identifier}
 use Rattle.device_pdos.specs.Tpdos.{goes_by_sync}
 use Rattle.device_pdos.specs.declared.rpdo_state.RpdoState.{RpdoState}
 use Rattle.device_pdos.specs.declared.tpdo_state.TpdoState.{TpdoState}
-use Rattle.co_device.specs.Device.{Device, is_error_control, is_in}
-use Rattle.co_device.specs.Receiving.{is_ignored}
+use Rattle.co_device.specs.Device.{Device, is_in}
+use Rattle.co_device.specs.Receiving.{is_ignored, is_ignored_as, reception}
+use Rattle.co_device.proofs.ReceptionLemmas.{Says, reception_says}
 use Rattle.cia301.specs.declared.nmt_state.NmtState.TheVariants.{Operational}
 use Rattle.device_agenda.specs.Groups.{Extends, group_of, includes}
 use Rattle.device_agenda.specs.declared.groups.Groups.{Groups}
@@ -65,44 +70,36 @@ awaits_none d e =
 -- ---- frames
 
 pub dark_deaf : (frame : BaseFrame) (d : Device) → d.has_power ≡ false → IsDeafTo frame d
-unfolding is_ignored
+unfolding is_ignored is_ignored_as reception
 dark_deaf frame d e = inl (rw e refl)
 
-past : (b : Bool) (x y : Bool) → b ≡ false → y ≡ true → (if b then x else y) ≡ true
-past true x y e h = absurd cc
-past false x y e h = h
-
-last : (control on expected has : Bool) → (control ≡ true → expected ≡ false) → has ≡ false
-    → (if control then not expected else not (on && has)) ≡ true
-last true on expected has h e = rw (h refl) refl
-last false true expected has h e = rw e refl
-last false false expected has h e = refl
+neither_both : (on has : Bool) → has ≡ false → not (on && has) ≡ true
+neither_both true has e = rw e refl
+neither_both false has e = refl
 
 module _ (frame : BaseFrame) (d : Device) (no_command : (frame.id == nmt_id) ≡ false)
     (no_request : (frame.id == sdo_request_id d.number) ≡ false)
-    (awaits : (frame.id == sync_identifier d.learnt d.values) ≡ true → AwaitsNoSync d)
+    (awaits : frame.id ≡ sync_identifier d.learnt d.values → AwaitsNoSync d)
     (unheard : is_error_control frame ≡ true → any_expects (frame.id - error_control_id 0) d.consumers ≡ false)
     (unkept : any_has_identifier frame.id d.rpdos ≡ false) where
-  taken_by_none : d.has_power ≡ true → (frame.id == sync_identifier d.learnt d.values) ≡ false
-      → is_ignored frame d ≡ true
+  ignored_as : (r : Reception) → reception frame d ≡ r → is_ignored_as r frame d ≡ true → IsDeafTo frame d
   unfolding is_ignored
-  taken_by_none power other =
-      past (not d.has_power) _ _ (ap not power)
-      (past (frame.id == nmt_id) _ _ no_command
-      (past (frame.id == sync_identifier d.learnt d.values) _ _ other
-      (past ((frame.id == sdo_request_id d.number)
-      && (length frame.bytes == 8)) _ _ (ap (λ b. b && (length frame.bytes == 8)) no_request)
-      (last (is_error_control frame) (is_in Operational d) (any_expects (frame.id - error_control_id 0) d.consumers)
-      (any_has_identifier frame.id d.rpdos) unheard unkept))))
+  ignored_as r is e = inl (ap (λ (r : Reception). is_ignored_as r frame d) is ∙ e)
+
+  deaf_as : (r : Reception) → reception frame d ≡ r → Says r frame d → IsDeafTo frame d
+  unfolding is_ignored_as
+  deaf_as Nothing is said = ignored_as Nothing is refl
+  deaf_as (NmtService service) is said = absurd (eqb-false frame.id nmt_id no_command said.is_command)
+  deaf_as Sync is said = inr (record { is_sync = is; awaits_none = awaits said.is_sync })
+  deaf_as SdoRequest is said = absurd (eqb-false frame.id (sdo_request_id d.number) no_request said.is_request)
+  deaf_as (ErrorControl producer) is said =
+      ignored_as (ErrorControl producer) is (ap not (ap (λ n. any_expects n d.consumers) said.is_producer
+      ∙ unheard said.is_control))
+  deaf_as Pdo is said =
+      ignored_as Pdo is (neither_both (is_in Operational d) (any_has_identifier frame.id d.rpdos) unkept)
 
   pub deaf : IsDeafTo frame d
-  deaf = by d.has_power (frame.id == sync_identifier d.learnt d.values) refl refl
-    where
-      by : (power sync : Bool) → d.has_power ≡ power → (frame.id == sync_identifier d.learnt d.values) ≡ sync
-          → IsDeafTo frame d
-      by false sync e k = dark_deaf frame d e
-      by true true e k = inr (record { no_command = no_command; is_sync = k; awaits_none = awaits k })
-      by true false e k = inl (taken_by_none e k)
+  deaf = deaf_as (reception frame d) refl (reception_says frame d)
 
 first_of_both : (a b : Bool) → a && b ≡ true → a ≡ true
 first_of_both true b e = refl
@@ -158,7 +155,7 @@ module _ (d : Device) (groups first second last : Groups)
       let first_out : includes groups frame.id ≡ false = first_more.kept frame.id within second_out in
       let none = commands frame.id within first_out in
       deaf frame d none.0 none.1
-      (λ e. syncs (ap (includes first) (sym (eqb-true frame.id (sync_identifier d.learnt d.values) e)) ∙ second_out))
+      (λ e. syncs (ap (includes first) (sym e) ∙ second_out))
       (λ e. let control = control_id frame e
       in unheard_of frame.id (frame.id - error_control_id 0) control.1 control.0 third_out)
       (unkept_of frame.id within out)

@@ -6,12 +6,11 @@ mod delivery;
 mod groups;
 mod ignored;
 pub mod laws;
+mod schedule;
 mod scheduled_device;
-mod shared_device;
 mod stirring;
 
 pub use agenda::Agenda;
 pub use delivery::Delivery;
 pub use groups::Groups;
 pub use scheduled_device::ScheduledDevice;
-pub use shared_device::SharedDevice;

@@ -16,27 +16,30 @@ ghost use Rattle.cia301.specs.PdoObjects.{is_of_pdos};
 use crate::agenda::Agenda;
 use crate::delivery::Delivery;
 use crate::ignored::ignores;
+use crate::schedule::Schedule;
 use crate::stirring::stirring;
 use base::has_come;
 use can_frame::{Contender, Waiting};
-use co_device::DeviceState;
+use co_device::Device;
 use co_dict::Dict;
 use device_objects::{Shapes, sync_identifier};
 use image_parts::END;
 use std::alloc::{AllocError, Global};
 use std::marker::Model;
+use std::rc::Rc;
 
-/// A device at a moment (CiA 301) that runs only when it has to.
+/// A device at a moment (CiA 301) that runs only when it has to, and that copies share until one of them is changed.
 ///
 /// It does what the device does. Its agenda is worked out when it ran, and until a moment or a frame that the
 /// agenda has, it sleeps, unless a write of its application or its switch wakes it. The agenda, and the identifier
 /// of SYNC that is kept with it, follow from the device, and are no part of it: two are the same where their
 /// devices are.
+///
+/// A change of a device that is shared takes memory for a copy of it. Where none is found the device stays as
+/// it was, and isn't spent.
 #[derive(Drop)]
 pub struct ScheduledDevice {
-    device: DeviceState,
-    agenda: Agenda,
-    sync: u16,
+    schedule: Rc<Schedule>,
 }
 
 impl Model for ScheduledDevice {
@@ -50,13 +53,13 @@ impl Model for ScheduledDevice {
 
     ghost coded = { Prim.hlevel (codes, map.code {R = place_cmp} (coded× coded_ℕ coded_ℕ) (coded_list coded_ℕ)) };
 
-    ghost view = { λ s. s.device };
+    ghost view = { λ s. s.schedule.value.device };
 
-    ghost invariant = { λ s. IsScheduled s.agenda s.sync s.device };
+    ghost invariant = { λ s. IsScheduled s.schedule.value.agenda s.schedule.value.sync s.schedule.value.device };
 }
 
 /// The agenda of a device that ran, with this identifier of SYNC.
-fn agenda_of(device: &DeviceState, sync: u16) -> Agenda
+fn agenda_of(device: &Device, sync: u16) -> Agenda
     requires sync { sync ≡ identifier_of_sync device.now.learnt device.now.values }
     requires rests { Rests device.now }
     requires unspent { device.now.spent ≡ false }
@@ -71,7 +74,7 @@ fn agenda_of(device: &DeviceState, sync: u16) -> Agenda
 }
 
 /// Whether what is delivered is nothing that a device with this identifier of SYNC takes.
-fn takes_nothing(device: &DeviceState, sync: u16, delivery: &Option<Delivery>) -> bool
+fn takes_nothing(device: &Device, sync: u16, delivery: &Option<Delivery>) -> bool
     requires { sync ≡ identifier_of_sync device.now.learnt device.now.values }
     ensures { IsTrue result → IfSome delivery.now (λ d. is_ignored d.frame device.now ≡ true) }
 {
@@ -84,7 +87,7 @@ fn takes_nothing(device: &DeviceState, sync: u16, delivery: &Option<Delivery>) -
 /// Gives a device what is delivered at the moment t, if it isn't its sender.
 #[tactic(auto, unfolding(crate::specs::Agenda::hears))]
 fn hear<P: Shapes>(
-    device: &mut DeviceState,
+    device: &mut Device,
     t: u64,
     delivery: &Delivery,
     shapes: &mut P,
@@ -104,7 +107,7 @@ fn hear<P: Shapes>(
 }
 
 /// Runs what is due at the moment t.
-fn run_due(device: &mut DeviceState, t: u64) -> Result<(), AllocError>
+fn run_due(device: &mut Device, t: u64) -> Result<(), AllocError>
     requires { t < END }
     ensures state { OnOk result (device.new ≡ after_instant t device.old) }
     ensures refused { IsTrue device.old.spent → IsErr result }
@@ -122,7 +125,7 @@ fn run_due(device: &mut DeviceState, t: u64) -> Result<(), AllocError>
 /// What a device does at the moment t: it hears what is delivered, and then runs what is due.
 #[tactic(auto, unfolding(crate::specs::Agenda::at_instant))]
 fn run<P: Shapes>(
-    device: &mut DeviceState,
+    device: &mut Device,
     t: u64,
     delivery: &Option<Delivery>,
     shapes: &mut P,
@@ -146,73 +149,56 @@ fn run<P: Shapes>(
     Ok(())
 }
 
-impl Clone for ScheduledDevice {
-    ghost is_clone = { λ a b. b ≡ a };
-
-    #[inline(never)]
-    fn clone(&self) -> Result<ScheduledDevice, AllocError> {
-        self.copy()
-    }
-}
-
 impl ScheduledDevice {
-    /// A device of this number without power. Takes no memory.
-    pub fn new(alloc: Global, number: u8) -> ScheduledDevice
-        ensures { result ≡ without_power false number }
+    /// A device of this number without power.
+    pub fn new(alloc: Global, number: u8) -> Result<ScheduledDevice, AllocError>
+        ensures { IfOk result (λ device. device ≡ without_power false number) }
     {
-        ScheduledDevice {
-            device: DeviceState::new(alloc, number),
-            agenda: Agenda::unknown(),
-            sync: 0,
-        }
+        let schedule = Rc::new(
+            alloc,
+            Schedule {
+                device: Device::new(alloc, number),
+                agenda: Agenda::unknown(),
+                sync: 0,
+            },
+        )?;
+        Ok(ScheduledDevice { schedule })
     }
 
-    /// An equal device. A spent one has none.
+    /// An equal device, which it shares. Takes no memory.
     pub fn copy(&self) -> Result<ScheduledDevice, AllocError>
-        ensures same { IfOk result (λ device. device ≡ self.now) }
-        ensures refused { IsTrue self.now.spent → IsErr result }
+        ensures { IfOk result (λ device. device ≡ self.now) }
     {
-        let device = self.device.copy()?;
-        Ok(ScheduledDevice {
-            device,
-            agenda: self.agenda,
-            sync: self.sync,
-        })
+        let schedule = self.schedule.clone()?;
+        Ok(ScheduledDevice { schedule })
     }
 
     /// Whether the other device may be the same: a quick look ahead of `same`.
     pub fn may_be(&self, other: &ScheduledDevice) -> bool
         ensures { self.now ≡ other.now → IsTrue result }
     {
-        self.device.may_be(&other.device)
+        self.schedule.device.may_be(&other.schedule.device)
     }
 
     /// Whether the other device is the same.
     pub fn same(&self, other: &ScheduledDevice) -> bool
         ensures { IsTrue result ↔ (self.now ≡ other.now) }
     {
-        self.device.same(&other.device)
-    }
-
-    /// Whether a call before found no memory.
-    pub fn spent(&self) -> bool
-        ensures { result ≡ self.now.spent }
-    {
-        self.device.spent()
+        self.schedule.device.same(&other.schedule.device)
     }
 
     /// The number of the device's node.
     pub fn number(&self) -> u8
         ensures { result ≡ self.now.number }
     {
-        self.device.number()
+        self.schedule.device.number()
     }
 
     /// The values of its entries.
     pub fn values(&self) -> &Dict
         ensures { result.now ≡ self.now.values }
     {
-        self.device.values()
+        self.schedule.device.values()
     }
 
     /// The first moment at which it is due, in microseconds, if there is one. Takes constant time while it
@@ -220,10 +206,10 @@ impl ScheduledDevice {
     pub fn next_due(&self) -> Option<u64>
         ensures { result ≡ next_due self.now }
     {
-        if self.agenda.awake {
-            self.device.next_due()
+        if self.schedule.agenda.awake {
+            self.schedule.device.next_due()
         } else {
-            self.agenda.due
+            self.schedule.agenda.due
         }
     }
 
@@ -231,7 +217,7 @@ impl ScheduledDevice {
     pub fn agenda(&self) -> Agenda
         ensures { IsAgendaOf result (self.now ∷ []) }
     {
-        self.agenda
+        self.schedule.agenda
     }
 
     /// The frame with which it contends for the bus: the first of those waiting that have the least
@@ -239,21 +225,22 @@ impl ScheduledDevice {
     pub fn contender(&self) -> Option<Contender>
         ensures { IsWinner (contenders_of (self.now.number, self.now.waiting)) result }
     {
-        if !self.agenda.waits {
+        if !self.schedule.agenda.waits {
             return None;
         }
-        self.device.contender()
+        self.schedule.device.contender()
     }
 
     /// Takes the waiting frame at a place for the bus; the others keep their order. It sleeps on.
-    pub fn send(&mut self, place: usize) -> Waiting
+    pub fn send(&mut self, place: usize) -> Result<Waiting, AllocError>
         requires { place < length self.old.waiting }
-        ensures frame { slice_get self.old.waiting place ≡ Some result }
-        ensures left { self.new ≡ record self.old { waiting = remove self.old.waiting place } }
+        ensures frame { IfOk result (λ sent. slice_get self.old.waiting place ≡ Some sent) }
+        ensures left { OnOk result (self.new ≡ record self.old { waiting = remove self.old.waiting place }) }
     {
-        let sent = self.device.send(place);
-        self.agenda.waits = self.device.contender().is_some();
-        sent
+        let schedule = Rc::make_mut(&mut self.schedule)?;
+        let sent = schedule.device.send(place);
+        schedule.agenda.waits = schedule.device.contender().is_some();
+        Ok(sent)
     }
 
     /// Switches the power of the device at the moment t. Where it is as it was, nothing changes.
@@ -263,11 +250,10 @@ impl ScheduledDevice {
         ensures asked { OnOk result (IsAsked (after_power on t self.old)
             (P.seen shapes.old) (P.seen shapes.new) (P.asks shapes.old) (P.asks shapes.new)) }
         ensures lasts { Lasts (P.seen shapes.old) (P.seen shapes.new) }
-        ensures refused { IsTrue self.old.spent → IsErr result }
-        ensures spent { OnErr result (IsTrue self.new.spent) }
     {
-        self.agenda = Agenda::unknown();
-        self.device.power(on, t, shapes)
+        let schedule = Rc::make_mut(&mut self.schedule)?;
+        schedule.agenda = Agenda::unknown();
+        schedule.device.power(on, t, shapes)
     }
 
     /// The application of the device sets an entry at the moment t, whatever its access and limits; without
@@ -277,66 +263,45 @@ impl ScheduledDevice {
         requires own { is_of_pdos index ≡ false }
         requires short { length bytes.now ≤ longest_value }
         ensures state { OnOk result (self.new ≡ after_set t (index, sub) bytes.now self.old) }
-        ensures refused { IsTrue self.old.spent → IsErr result }
-        ensures spent { OnErr result (IsTrue self.new.spent) }
     {
-        self.agenda = Agenda::unknown();
-        self.device.set(t, index, sub, bytes)
+        let schedule = Rc::make_mut(&mut self.schedule)?;
+        schedule.agenda = Agenda::unknown();
+        schedule.device.set(t, index, sub, bytes)
     }
 
     /// Runs what has to at the moment t: it hears what is delivered, if another node sent it, and then come its
-    /// heartbeat consumers by sub-index, the heartbeat, and the TPDOs by number. Takes constant time where it
-    /// sleeps.
-    pub fn instant<P: Shapes>(
+    /// heartbeat consumers by sub-index, the heartbeat, and the TPDOs by number. Says whether it had to run: where
+    /// it hadn't, it is as it was. Takes constant time, and no memory, where it sleeps.
+    pub fn run_instant<P: Shapes>(
         &mut self,
         t: u64,
         delivery: &Option<Delivery>,
         shapes: &mut P,
-    ) -> Result<(), AllocError>
+    ) -> Result<bool, AllocError>
         requires { t < END }
         ensures state { OnOk result (self.new ≡ outcome (at_instant t delivery.now self.old)
             (P.seen shapes.old).image) }
         ensures asked { OnOk result (IsAsked (at_instant t delivery.now self.old)
             (P.seen shapes.old) (P.seen shapes.new) (P.asks shapes.old) (P.asks shapes.new)) }
         ensures lasts { Lasts (P.seen shapes.old) (P.seen shapes.new) }
-        ensures refused { IsTrue self.old.spent → IsErr result }
-        ensures spent { OnErr result (IsTrue self.new.spent) }
+        ensures still { IfOk result (λ ran. ran ≡ false → self.new ≡ self.old) }
     {
         if self.does_nothing(t, delivery) {
-            return Ok(());
+            return Ok(false);
         }
-        self.run_instant(t, delivery, shapes)
-    }
-
-    /// What `instant` does, whether it has to run or not.
-    pub(crate) fn run_instant<P: Shapes>(
-        &mut self,
-        t: u64,
-        delivery: &Option<Delivery>,
-        shapes: &mut P,
-    ) -> Result<(), AllocError>
-        requires { t < END }
-        ensures state { OnOk result (self.new ≡ outcome (at_instant t delivery.now self.old)
-            (P.seen shapes.old).image) }
-        ensures asked { OnOk result (IsAsked (at_instant t delivery.now self.old)
-            (P.seen shapes.old) (P.seen shapes.new) (P.asks shapes.old) (P.asks shapes.new)) }
-        ensures lasts { Lasts (P.seen shapes.old) (P.seen shapes.new) }
-        ensures refused { IsTrue self.old.spent → IsErr result }
-        ensures spent { OnErr result (IsTrue self.new.spent) }
-    {
-        self.agenda = Agenda::unknown();
-        run(&mut self.device, t, delivery, shapes)?;
-        self.sync = sync_identifier(self.device.learnt(), self.device.values());
-        self.agenda = agenda_of(&self.device, self.sync);
-        Ok(())
+        let schedule = Rc::make_mut(&mut self.schedule)?;
+        schedule.agenda = Agenda::unknown();
+        run(&mut schedule.device, t, delivery, shapes)?;
+        schedule.sync = sync_identifier(schedule.device.learnt(), schedule.device.values());
+        schedule.agenda = agenda_of(&schedule.device, schedule.sync);
+        Ok(true)
     }
 
     /// Whether nothing happens to it at the moment t.
-    pub(crate) fn does_nothing(&self, t: u64, delivery: &Option<Delivery>) -> bool
-        ensures nothing { IsTrue result → at_instant t delivery.now self.now ≡ Answer self.now }
-        ensures unspent { IsTrue result → self.now.spent ≡ false }
+    fn does_nothing(&self, t: u64, delivery: &Option<Delivery>) -> bool
+        ensures { IsTrue result → at_instant t delivery.now self.now ≡ Answer self.now }
     {
-        if self.agenda.sleeps_through(t, delivery) {
+        if self.schedule.agenda.sleeps_through(t, delivery) {
             return true;
         }
         self.is_left_alone(t, delivery)
@@ -344,15 +309,14 @@ impl ScheduledDevice {
 
     /// Whether it isn't due at the moment t, and takes nothing of what is delivered.
     fn is_left_alone(&self, t: u64, delivery: &Option<Delivery>) -> bool
-        ensures nothing { IsTrue result → at_instant t delivery.now self.now ≡ Answer self.now }
-        ensures unspent { IsTrue result → self.now.spent ≡ false }
+        ensures { IsTrue result → at_instant t delivery.now self.now ≡ Answer self.now }
     {
-        if self.agenda.awake {
+        if self.schedule.agenda.awake {
             return false;
         }
-        if has_come(t, self.agenda.due) {
+        if has_come(t, self.schedule.agenda.due) {
             return false;
         }
-        takes_nothing(&self.device, self.sync, delivery)
+        takes_nothing(&self.schedule.device, self.schedule.sync, delivery)
     }
 }

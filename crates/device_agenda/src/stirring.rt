@@ -15,7 +15,7 @@ ghost use Rattle.device_pdos.specs.Tpdos.{goes_by_sync};
 use crate::groups::Groups;
 use can_frame::identifiers;
 use cia301::ConsumerHeartbeatTime;
-use co_device::DeviceState;
+use co_device::Device;
 use device_objects::Consumer;
 use device_pdos::{RpdoState, TpdoState};
 use pdo_rules::Configuration;
@@ -35,14 +35,14 @@ fn any_goes_by_sync(tpdos: &[TpdoState]) -> bool
 }
 
 /// Whether something of a device may wait for a SYNC.
-fn awaits_sync(device: &DeviceState) -> bool
+fn awaits_sync(device: &Device) -> bool
     ensures { result ≡ false → AwaitsNoSync device.now }
 {
     any_keeps(device.rpdos()) | any_goes_by_sync(device.tpdos())
 }
 
 /// Adds the group of SYNC, where something of a device may wait for one.
-fn with_sync(groups: Groups, device: &DeviceState, sync: u16) -> Groups
+fn with_sync(groups: Groups, device: &Device, sync: u16) -> Groups
     requires { sync ≡ identifier_of_sync device.now.learnt device.now.values }
     ensures kept { Extends groups result }
     ensures sync { includes result (identifier_of_sync device.now.learnt device.now.values) ≡ false
@@ -114,7 +114,7 @@ fn with_rpdos(groups: Groups, rpdos: &[RpdoState]) -> Groups
 
 /// The groups of the frames that are something to a device with this identifier of SYNC. Takes time by its
 /// consumers and PDOs.
-pub(crate) fn stirring(device: &DeviceState, sync: u16) -> Groups
+pub(crate) fn stirring(device: &Device, sync: u16) -> Groups
     requires { sync ≡ identifier_of_sync device.now.learnt device.now.values }
     ensures { (frame : BaseFrame) → frame.id < 0x800 → includes result frame.id ≡ false → IsDeafTo frame device.now }
 {

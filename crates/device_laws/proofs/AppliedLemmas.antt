@@ -22,7 +22,7 @@ use Rattle.co_dict.specs.WriteCheck.{write_check}
 use Rattle.co_dict.proofs.CheckLaws.{checked_alike}
 use Rattle.co_dict.proofs.CheckLemmas.{write_check_in_turn}
 use Rattle.co_dict.proofs.PlaceLemmas.{places_total, written_elsewhere}
-use Rattle.pdo_rules.specs.Packing.{after_entries, bits_for, frame_bits, takes, unpacked, value_of_bits, with_bits}
+use Rattle.pdo_rules.specs.Packing.{after_entries, bits_for, frame_bits, takes, after_payload, value_of_bits, with_bits}
 use Rattle.image_parts.specs.Contents.{Image, shape_of}
 use Rattle.image_parts.specs.declared.part.Part.TheVariants.{Shape}
 use Rattle.pdo_rules.specs.declared.receipt.Receipt.TheVariants.{AtOnce}
@@ -185,14 +185,14 @@ module _ (t : ℕ) (shape : Shaped) where
 module _ (image : Image) (t : ℕ) (frame : BaseFrame) where
   applied_agree : (mapping : List ℕ) (d : Device)
       → Agree (outcome (after_mapping t mapping frame d) image).values
-      (unpacked (shape_of (image (Shape d.number))) mapping frame.bytes d.values)
+      (after_payload (shape_of (image (Shape d.number))) mapping frame.bytes d.values)
   unfolding after_mapping
   applied_agree mapping d = entries_agree t (shape_of (image (Shape d.number))) 0 mapping (frame_bits frame.bytes) d
       d.values (λ q apart. refl)
 
   module _ (i : ℕ) (d : Device) where
     abbrev Unpacked : Values
-    Unpacked = unpacked (shape_of (image (Shape d.number)))
+    Unpacked = after_payload (shape_of (image (Shape d.number)))
         (mapping_of_rpdo (rpdo_at d.rpdos i).configuration) frame.bytes d.values
 
     pub received_is_unpacked : (place : ℕ × ℕ) → receipt_of frame (rpdo_at d.rpdos i).configuration ≡ AtOnce

@@ -1,5 +1,5 @@
 -- Cases of devices, and of what is asked.
-use Rattle.std.proofs.Common.{◌≡◌, Bool, true, false, not, List, [], ◌∷◌, refl}
+use Rattle.std.proofs.Common.{◌≡◌, Bool, true, false, List, [], ◌∷◌, refl}
 use Rattle.std.specs.Prelude.{if◌then◌else◌}
 use Rattle.image_parts.specs.Asking.{Asking, outcome}
 use Rattle.image_parts.proofs.QuestionLemmas.{outcome_bind}
@@ -27,10 +27,6 @@ picked image P false m n p q = q refl
 
 pub not_both : {A : Type 0} (b : Bool) → b ≡ false → b ≡ true → A
 not_both b e h = absurd cc
-
-pub turned : (b : Bool) → not b ≡ false → b ≡ true
-turned true h = refl
-turned false h = absurd cc
 
 -- what each step of a walk keeps, the walk keeps
 pub walk_keeps : {X : Type 0} (image : Image) (P : Device → Type 0) (step : X → Device → Asking Part Content Device)

@@ -7,7 +7,6 @@ use Rattle.std.specs.List.{AllByRecursion}
 use Rattle.std.specs.Option.{option_map_or}
 use Rattle.image_parts.specs.Asking.{Asking, Answer, bind}
 use Rattle.can_frame.specs.Frames.{BaseFrame}
-use Rattle.can_frame.specs.Identifiers.{nmt_id}
 use Rattle.can_frame.specs.declared.waiting.Waiting.{Waiting}
 use Rattle.co_dict.specs.Values.{Values}
 use Rattle.image_parts.specs.Contents.{Content}
@@ -22,7 +21,7 @@ use Rattle.pdo_rules.specs.declared.sync_seen.SyncSeen.{SyncSeen}
 use Rattle.cia301.specs.declared.transmission_type.TransmissionType.{TransmissionType}
 use Rattle.cia301.specs.declared.transmission_type.TransmissionType.TheVariants.{Acyclic, Cyclic, EventDriven}
 use Rattle.cia301.specs.declared.transmission_type.TransmissionType.TheVariants.{Reserved, OnRequest}
-use Rattle.device_objects.specs.Profile.{counter_overflow, sync_identifier}
+use Rattle.device_objects.specs.Profile.{counter_overflow}
 use Rattle.device_pdos.specs.Rpdos.{rpdo_at}
 use Rattle.device_pdos.specs.Tpdos as tpdos
 use Rattle.device_pdos.specs.Tpdos.{bytes_now, frame_of_turn, goes_by_sync, tpdo_after_turn, tpdos_after_turns, turn}
@@ -33,11 +32,11 @@ use Rattle.device_pdos.proofs.LookLemmas.{told}
 use Rattle.device_pdos.proofs.RestLemmas.{nothing_sent, tpdos_rest}
 use Rattle.co_device.specs.Device.{Device, is_in, moments, after_instant, after_tpdos}
 use Rattle.co_device.specs.Receiving.{after_kept_frame, rpdo_places, after_frame, after_sync_at, after_sync, walk}
+use Rattle.co_device.specs.Receiving.{after_reception}
 use Rattle.cia301.specs.declared.nmt_state.NmtState.TheVariants.{Operational}
 use Rattle.device_laws.specs.Deaf.{AwaitsNoSync, IsDeafTo, IsIdleSync}
 use Rattle.device_laws.specs.Rest.{Rests}
 use Rattle.device_laws.proofs.AheadLemmas.{quiet}
-use Rattle.device_laws.proofs.CaseLemmas.{not_both}
 use Rattle.device_laws.proofs.IgnoredLemmas.{ignored_changes_nothing}
 use Rattle.device_laws.proofs.RestLemmas.{LieAfter, equal, quiet_at_rest, timers_ahead, tpdos_after}
 
@@ -161,12 +160,8 @@ module _ (t : ℕ) (d : Device) (rests : Rests d) (ahead : LieAfter t (moments d
       (walk_is_nothing (sync_message bytes) awaits) (λ e. nothing_heard)
 
   idle_is_nothing : (frame : BaseFrame) → IsIdleSync frame d → IsNothing (after_frame t frame d)
-  unfolding after_frame
-  idle_is_nothing frame h =
-      one_tree IsNothing (not d.has_power) _ _ (λ e. nothing_heard)
-      (λ off. one_tree IsNothing (frame.id == nmt_id) _ _ (not_both (frame.id == nmt_id) h.no_command)
-      (λ e. one_tree IsNothing (frame.id == sync_identifier d.learnt d.values) _ _ (λ e. sync_is_nothing frame.bytes h.awaits_none)
-      (λ e. not_both (frame.id == sync_identifier d.learnt d.values) e h.is_sync)))
+  unfolding after_frame after_reception
+  idle_is_nothing frame h = rw h.is_sync (sync_is_nothing frame.bytes h.awaits_none)
 
   deaf_is_nothing : (frame : BaseFrame) → IsDeafTo frame d → IsNothing (after_frame t frame d)
   deaf_is_nothing frame (inl h) =

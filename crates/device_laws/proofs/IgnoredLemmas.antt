@@ -1,25 +1,25 @@
 -- A frame of which a device takes nothing changes nothing, and nothing is read for it.
-use Rattle.std.proofs.Common.{◌≡◌, ℕ, zero, suc, ◌-◌, ◌==◌, Bool, true, false, not, ◌&&◌, ◌||◌, List, [], ◌∷◌, Option}
-use Rattle.std.proofs.Common.{Some, None, refl, ap, ◌∙◌}
-use Rattle.std.specs.Prelude.{if◌then◌else◌, length}
+use Rattle.std.proofs.Common.{◌≡◌, ℕ, zero, suc, Bool, true, false, not, ◌&&◌, ◌||◌, List, [], ◌∷◌, Option, Some}
+use Rattle.std.proofs.Common.{None, refl, ap, ◌∙◌}
+use Rattle.std.specs.Prelude.{if◌then◌else◌}
 use Rattle.std.specs.List.{list_any}
 use Rattle.image_parts.specs.Asking.{Asking, Answer, bind}
 use Rattle.can_frame.specs.Frames.{BaseFrame}
-use Rattle.can_frame.specs.Identifiers.{error_control_id, nmt_id, sdo_request_id}
 use Rattle.image_parts.specs.Contents.{Content}
 use Rattle.image_parts.specs.declared.part.Part.{Part}
 use Rattle.pdo_rules.specs.declared.configuration.Configuration.{Configuration}
 use Rattle.pdo_rules.specs.declared.receipt.Receipt.TheVariants.{Ignored}
 use Rattle.device_objects.specs.Consumers.{consumers_after_heartbeat, any_expects, any_failed, expects}
 use Rattle.device_objects.specs.Consumers.{consumer_after_heartbeat, is_last_failure_over}
-use Rattle.device_objects.specs.Profile.{sync_identifier}
 use Rattle.device_objects.specs.declared.consumer.Consumer.{Consumer}
+use Rattle.device_objects.specs.declared.reception.Reception.{Reception}
+use Rattle.device_objects.specs.declared.reception.Reception.TheVariants.{Nothing, NmtService, Sync, SdoRequest}
+use Rattle.device_objects.specs.declared.reception.Reception.TheVariants.{ErrorControl, Pdo}
 use Rattle.device_pdos.specs.Rpdos.{any_has_identifier, has_identifier, receipt_of, rpdo_at}
 use Rattle.device_pdos.specs.declared.rpdo_state.RpdoState.{RpdoState}
-use Rattle.co_device.specs.Device.{Device, after_error_control, is_addressed, is_error_control, is_in}
-use Rattle.co_device.specs.Device.{after_sdo_request}
-use Rattle.co_device.specs.Receiving.{is_ignored, after_nmt_frame, after_pdo, rpdo_places, after_frame, after_rpdo}
-use Rattle.co_device.specs.Receiving.{after_sync, after_receipt, walk}
+use Rattle.co_device.specs.Device.{Device, after_error_control, is_in, after_sdo_request}
+use Rattle.co_device.specs.Receiving.{is_ignored, after_pdo, rpdo_places, after_frame, after_rpdo, after_sync}
+use Rattle.co_device.specs.Receiving.{after_receipt, walk, after_reception, is_ignored_as, reception}
 use Rattle.cia301.specs.declared.nmt_state.NmtState.TheVariants.{Operational, Stopped}
 
 neither : (a b : Bool) → a || b ≡ false → (a ≡ false) × (b ≡ false)
@@ -100,15 +100,6 @@ module _ (frame : BaseFrame) where
 
 -- ---- any frame
 
-chosen : (b : Bool) (x y : Bool) (m n k : Asking Part Content Device) → (if b then x else y) ≡ true → (x ≡ true → m ≡ k)
-    → (y ≡ true → n ≡ k) → (if b then m else n) ≡ k
-chosen true x y m n k h p q = p h
-chosen false x y m n k h p q = q h
-
-unaddressed : (t : ℕ) (frame : BaseFrame) (d : Device) → not (is_addressed d.number frame.bytes) ≡ true
-    → after_nmt_frame t frame.bytes d ≡ Answer d
-unaddressed t frame d h = rw (unturned (is_addressed d.number frame.bytes) h) refl
-
 unsynced : (t : ℕ) (bytes : List ℕ) (d : Device) → not (is_in Operational d) ≡ true
     → after_sync t bytes d ≡ Answer d
 unfolding after_sync
@@ -118,15 +109,18 @@ unasked : (t : ℕ) (request : List ℕ) (d : Device) → is_in Stopped d ≡ tr
 unfolding after_sdo_request
 unasked t request d h = rw h refl
 
+as_ignored : (t : ℕ) (r : Reception) (frame : BaseFrame) (d : Device) → is_ignored_as r frame d ≡ true
+    → after_reception r t frame d ≡ Answer d
+unfolding is_ignored_as after_reception
+as_ignored t Nothing frame d h = refl
+as_ignored t (NmtService service) frame d h = absurd cc
+as_ignored t Sync frame d h = unsynced t frame.bytes d h
+as_ignored t SdoRequest frame d h = unasked t frame.bytes d h
+as_ignored t (ErrorControl producer) frame d h =
+    ap (λ (x : Device). Answer x) (control_ignored t producer d (unturned (any_expects producer d.consumers) h))
+as_ignored t Pdo frame d h = pdo_untaken frame t d h
+
 pub ignored_changes_nothing : (t : ℕ) (frame : BaseFrame) (d : Device) → is_ignored frame d ≡ true
     → after_frame t frame d ≡ Answer d
 unfolding is_ignored after_frame
-ignored_changes_nothing t frame d h =
-    chosen (not d.has_power) _ _ _ _ (Answer d) h (λ e. refl)
-    (λ h. chosen (frame.id == nmt_id) _ _ _ _ (Answer d) h (unaddressed t frame d)
-    (λ h. chosen (frame.id == sync_identifier d.learnt d.values) _ _ _ _ (Answer d) h (unsynced t frame.bytes d)
-    (λ h. chosen ((frame.id == sdo_request_id d.number)
-    && (length frame.bytes == 8)) _ _ _ _ (Answer d) h (unasked t frame.bytes d)
-    (λ h. chosen (is_error_control frame) _ _ _ _ (Answer d) h
-    (λ e. ap (λ (x : Device). Answer x) (control_ignored t (frame.id - error_control_id 0) d (unturned _ e)))
-    (pdo_untaken frame t d)))))
+ignored_changes_nothing t frame d h = as_ignored t (reception frame d) frame d h

@@ -1,10 +1,7 @@
 -- What frames and writes keep, but for the NMT services.
-use Rattle.std.proofs.Common.{◌≡◌, ℕ, ◌+◌, ◌-◌, ◌==◌, Bool, true, false, not, ◌&&◌, List, [], ◌∷◌, ◌++◌, Option, Some}
-use Rattle.std.proofs.Common.{None}
-use Rattle.std.specs.Prelude.{length, slice_index_or}
+use Rattle.std.proofs.Common.{◌≡◌, ℕ, ◌+◌, ◌==◌, Bool, true, false, List, [], ◌∷◌, ◌++◌, Option, Some, None}
 use Rattle.image_parts.specs.Asking.{outcome}
 use Rattle.can_frame.specs.Frames.{BaseFrame}
-use Rattle.can_frame.specs.Identifiers.{error_control_id, nmt_id, sdo_request_id}
 use Rattle.can_frame.specs.declared.waiting.Waiting.{Waiting}
 use Rattle.co_dict.specs.Mappings.{mapped_length, mapped_place}
 use Rattle.co_dict.specs.Shapes.{Shaped}
@@ -17,7 +14,9 @@ use Rattle.pdo_rules.specs.declared.receipt.Receipt.TheVariants.{Short, Kept, At
 use Rattle.device_objects.specs.Consumers.{consumers_after_heartbeat, consumers_after_write, is_last_failure_over}
 use Rattle.pdo_rules.specs.Sync.{sync_message}
 use Rattle.pdo_rules.specs.declared.sync.SyncMessage.{SyncMessage}
-use Rattle.device_objects.specs.Profile.{sync_identifier}
+use Rattle.device_objects.specs.declared.reception.Reception.{Reception}
+use Rattle.device_objects.specs.declared.reception.Reception.TheVariants.{Nothing, NmtService, Sync, SdoRequest}
+use Rattle.device_objects.specs.declared.reception.Reception.TheVariants.{ErrorControl, Pdo}
 use Rattle.co_scenario.specs.Commands.{command_of}
 use Rattle.co_scenario.specs.declared.nmt_command.NmtCommand.{NmtCommand}
 use Rattle.co_sdo.specs.Server.{AfterRequest, server_answer}
@@ -27,13 +26,15 @@ use Rattle.device_pdos.specs.Rpdos.{mapping_of_rpdo, receipt_of, rpdo_at, with_k
 use Rattle.device_pdos.specs.declared.rpdo_state.RpdoState.{RpdoState}
 use Rattle.device_pdos.specs.declared.tpdo_state.TpdoState.{TpdoState}
 use Rattle.co_device.specs.Device.{Device, after_own_write, after_write, after_server_write, answer_frames}
-use Rattle.co_device.specs.Device.{after_write_of_consumer, after_error_control, with_heartbeat_start, is_addressed}
-use Rattle.co_device.specs.Device.{is_error_control, is_in, is_producer_time, nmt_service, after_sdo_request, after_set}
-use Rattle.co_device.specs.Device.{with_emergency, without_error_if}
-use Rattle.co_device.specs.Receiving.{after_mapping, after_entry, after_kept_frame, after_pdo, rpdo_places, after_frame}
-use Rattle.co_device.specs.Receiving.{after_rpdo, after_sync_at, after_sync, after_receipt}
+use Rattle.co_device.specs.Device.{after_write_of_consumer, after_error_control, with_heartbeat_start, is_in}
+use Rattle.co_device.specs.Device.{is_producer_time, nmt_service, after_sdo_request, after_set, with_emergency}
+use Rattle.co_device.specs.Device.{without_error_if}
+use Rattle.co_device.specs.Receiving.{after_mapping, after_entry, after_kept_frame, after_pdo, rpdo_places}
+use Rattle.co_device.specs.Receiving.{after_frame, after_rpdo, after_sync_at, after_sync, after_receipt}
+use Rattle.co_device.specs.Receiving.{after_reception, reception}
+use Rattle.co_device.proofs.ReceptionLemmas.{Says, reception_says}
 use Rattle.cia301.specs.declared.nmt_state.NmtState.TheVariants.{Operational, Stopped}
-use Rattle.device_laws.proofs.CaseLemmas.{one_of, picked, turned, walk_keeps}
+use Rattle.device_laws.proofs.CaseLemmas.{one_of, picked, walk_keeps}
 
 -- it holds whatever the values, the PDOs, the frames that wait and the transfer are, and is kept where the heartbeat
 -- starts at t, a consumer is forgotten, and consumers hear a node at t
@@ -177,18 +178,20 @@ module _ (t : ℕ) (P : Device → Type 0) (k : IsKept t P) where
         (λ e. walk_keeps image P (after_sync_at t) synced_kept (rpdo_places d) _
         (with_sync d (Some (sync_message bytes)) h)) (λ e. h)
 
+    received_kept : (r : Reception) (frame : BaseFrame) (d : Device) → Says r frame d
+        → ((command : Option NmtCommand) → d.has_power ≡ true → P (outcome (nmt_service command t d) image)) → P d
+        → P (outcome (after_reception r t frame d) image)
+    unfolding after_reception
+    received_kept Nothing frame d said service h = h
+    received_kept (NmtService number) frame d said service h = service (command_of number) said.has_power
+    received_kept Sync frame d said service h = sync_kept frame.bytes d h
+    received_kept SdoRequest frame d said service h = request_kept frame.bytes d h
+    received_kept (ErrorControl producer) frame d said service h = control_kept producer d h
+    received_kept Pdo frame d said service h = pdo_kept frame d h
+
     -- what the NMT services keep of a device with power, each frame does
     pub frame_kept : (frame : BaseFrame) (d : Device)
         → ((command : Option NmtCommand) → d.has_power ≡ true → P (outcome (nmt_service command t d) image)) → P d
         → P (outcome (after_frame t frame d) image)
     unfolding after_frame
-    frame_kept frame d service h =
-        picked image P (not d.has_power) _ _ (λ e. h)
-        (λ on. picked image P (frame.id == nmt_id) _ _
-        (λ e. picked image P (is_addressed d.number frame.bytes) _ _
-        (λ e. service (command_of (slice_index_or frame.bytes 0 0)) (turned d.has_power on)) (λ e. h))
-        (λ e. picked image P (frame.id == sync_identifier d.learnt d.values) _ _ (λ e. sync_kept frame.bytes d h)
-        (λ e. picked image P ((frame.id == sdo_request_id d.number)
-        && (length frame.bytes == 8)) _ _ (λ e. request_kept frame.bytes d h)
-        (λ e. picked image P (is_error_control frame) _ _ (λ e. control_kept (frame.id - error_control_id 0) d h)
-        (λ e. pdo_kept frame d h)))))
+    frame_kept frame d service h = received_kept (reception frame d) frame d (reception_says frame d) service h

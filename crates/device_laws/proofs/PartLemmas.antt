@@ -1,28 +1,30 @@
 -- Which parts a device reads.
-use Rattle.std.proofs.Common.{◌≡◌, ℕ, zero, suc, ◌==◌, inl, inr, Bool, true, false, not, ◌&&◌, List, [], ◌∷◌, All}
-use Rattle.std.proofs.Common.{Option, Some, None, refl, sym, subst, arith}
-use Rattle.std.specs.Prelude.{if◌then◌else◌, length, slice_index_or}
+use Rattle.std.proofs.Common.{◌≡◌, ℕ, zero, suc, inl, inr, Bool, true, false, List, [], ◌∷◌, All, Option, Some, None}
+use Rattle.std.proofs.Common.{refl, sym, subst, arith}
+use Rattle.std.specs.Prelude.{if◌then◌else◌}
 use Rattle.std.proofs.lemmas.List.Elements.{All-append}
 use Rattle.image_parts.specs.Asking.{Asking, outcome, reads}
 use Rattle.image_parts.proofs.QuestionLemmas.{reads_bind}
 use Rattle.can_frame.specs.Frames.{BaseFrame}
-use Rattle.can_frame.specs.Identifiers.{nmt_id, sdo_request_id}
 use Rattle.image_parts.specs.Contents.{Content, Image}
 use Rattle.image_parts.specs.declared.part.Part.{Part}
 use Rattle.image_parts.specs.declared.part.Part.TheVariants.{Defaults, Shape}
 use Rattle.pdo_rules.specs.declared.receipt.Receipt.{Receipt}
 use Rattle.pdo_rules.specs.declared.receipt.Receipt.TheVariants.{Short, Kept, AtOnce, Ignored}
 use Rattle.pdo_rules.specs.Sync.{sync_message}
-use Rattle.device_objects.specs.Profile.{sync_identifier}
+use Rattle.device_objects.specs.declared.reception.Reception.{Reception}
+use Rattle.device_objects.specs.declared.reception.Reception.TheVariants.{Nothing, NmtService, Sync, SdoRequest}
+use Rattle.device_objects.specs.declared.reception.Reception.TheVariants.{ErrorControl, Pdo}
 use Rattle.co_scenario.specs.Commands.{command_of}
 use Rattle.co_scenario.specs.declared.nmt_command.NmtCommand.{NmtCommand}
 use Rattle.co_scenario.specs.declared.nmt_command.NmtCommand.TheVariants.{Start, Stop, EnterPreOperational, ResetNode}
 use Rattle.co_scenario.specs.declared.nmt_command.NmtCommand.TheVariants.{ResetCommunication}
 use Rattle.device_pdos.specs.Rpdos.{mapping_of_rpdo, receipt_of, rpdo_at, with_kept}
-use Rattle.co_device.specs.Device.{Device, is_addressed, is_error_control, is_in, nmt_service, after_power}
-use Rattle.co_device.specs.Device.{reset_communication, after_reset_node, after_sdo_request}
-use Rattle.co_device.specs.Receiving.{after_mapping, after_kept_frame, after_pdo, rpdo_places, after_frame, after_rpdo}
-use Rattle.co_device.specs.Receiving.{after_sync_at, after_sync, after_receipt, walk}
+use Rattle.co_device.specs.Device.{Device, is_in, nmt_service, after_power, reset_communication, after_reset_node}
+use Rattle.co_device.specs.Device.{after_sdo_request}
+use Rattle.co_device.specs.Receiving.{after_mapping, after_kept_frame, after_pdo, rpdo_places, after_frame}
+use Rattle.co_device.specs.Receiving.{after_rpdo, after_sync_at, after_sync, after_receipt, walk, after_reception}
+use Rattle.co_device.specs.Receiving.{reception}
 use Rattle.cia301.specs.declared.nmt_state.NmtState.TheVariants.{Operational, Stopped}
 use Rattle.device_laws.specs.Ahead.{IsOwnPart}
 use Rattle.device_laws.proofs.KeptLemmas.{rpdo_kept, synced_kept}
@@ -135,21 +137,20 @@ module _ (image : Image) (t number : ℕ) where
       (walk_reads (after_sync_at t) synced_reads (synced_kept t (HasNumber number) (number_kept t number) image)
       (rpdo_places d) (record d { synced = Some (sync_message bytes) }) is) none_read
 
-  one_frame_reads : (frame : BaseFrame) (d : Device) → HasNumber number d → AreOwn (reads (after_frame t frame d) image)
-  unfolding after_frame
-  one_frame_reads frame d is =
-      picked image AreOwn (not d.has_power) _ _ none_read
-      (picked image AreOwn (frame.id == nmt_id) _ _
-      (picked image AreOwn (is_addressed d.number frame.bytes) _ _
-      (service_reads (command_of (slice_index_or frame.bytes 0 0)) d is) none_read)
-      (picked image AreOwn (frame.id == sync_identifier d.learnt d.values) _ _ (sync_reads frame.bytes d is)
-      (picked image AreOwn ((frame.id == sdo_request_id d.number)
-      && (length frame.bytes == 8)) _ _ (request_reads frame.bytes d is)
-      (picked image AreOwn (is_error_control frame) _ _ none_read (pdo_reads frame d is)))))
+  received_reads : (r : Reception) (frame : BaseFrame) (d : Device) → HasNumber number d
+      → AreOwn (reads (after_reception r t frame d) image)
+  unfolding after_reception
+  received_reads Nothing frame d is = none_read
+  received_reads (NmtService service) frame d is = service_reads (command_of service) d is
+  received_reads Sync frame d is = sync_reads frame.bytes d is
+  received_reads SdoRequest frame d is = request_reads frame.bytes d is
+  received_reads (ErrorControl producer) frame d is = none_read
+  received_reads Pdo frame d is = pdo_reads frame d is
 
 pub frame_reads : (image : Image) (t : ℕ) (frame : BaseFrame) (d : Device)
     → All (λ (r : Part × Content). IsOwnPart d.number r.0) (reads (after_frame t frame d) image)
-frame_reads image t frame d = one_frame_reads image t d.number frame d refl
+unfolding after_frame
+frame_reads image t frame d = received_reads image t d.number (reception frame d) frame d refl
 
 pub power_reads : (image : Image) (t : ℕ) (on : Bool) (d : Device)
     → All (λ (r : Part × Content). IsOwnPart d.number r.0) (reads (after_power on t d) image)

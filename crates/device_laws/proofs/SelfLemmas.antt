@@ -15,7 +15,7 @@ use Rattle.co_device.specs.Device.{Device, after_failures, after_consumers, ente
 use Rattle.co_device.specs.Device.{after_initialisation, is_in, next_due, nmt_service, out_of_operational, after_power}
 use Rattle.co_device.specs.Device.{after_instant, reset_communication, after_reset_node, after_timers, after_tpdos}
 use Rattle.co_device.specs.Device.{after_set, with_emergencies, without_power}
-use Rattle.co_device.specs.Receiving.{after_frame}
+use Rattle.co_device.specs.Receiving.{after_frame, after_reception, reception}
 use Rattle.cia301.specs.declared.nmt_state.NmtState.TheVariants.{Operational, Stopped}
 use Rattle.device_laws.specs.States.{IsDark, StaysItself}
 use Rattle.device_laws.proofs.CaseLemmas.{either, not_both, one_of, picked}
@@ -141,7 +141,7 @@ instant_stays t d = tpdos_stay t d _ (heartbeat_stays t d _ (consumers_stay t d 
 
 pub frame_untaken : (image : Image) (t : ℕ) (frame : BaseFrame) (d : Device) → d.has_power ≡ false
     → outcome (after_frame t frame d) image ≡ d
-unfolding after_frame
+unfolding after_frame after_reception reception
 frame_untaken image t frame d off = rw off refl
 
 pub set_untaken : (t : ℕ) (place : ℕ × ℕ) (bytes : List ℕ) (d : Device) → d.has_power ≡ false

@@ -1,7 +1,7 @@
 -- What holds of a device in an NMT state.
-use Rattle.std.proofs.Common.{◌≡◌, ℕ, suc, ◌-◌, ◌==◌, inl, inr, ◌⊎◌, Bool, true, false, not, ◌&&◌, List, [], ◌∷◌}
-use Rattle.std.proofs.Common.{Option, Some, None, All, refl, ◌∙◌, arith}
-use Rattle.std.specs.Prelude.{if◌then◌else◌, length, nat_lt, remove, slice_index_or, take, drop, ◌||◌, map}
+use Rattle.std.proofs.Common.{◌≡◌, ℕ, suc, ◌==◌, inl, inr, ◌⊎◌, Bool, true, false, not, List, [], ◌∷◌, Option}
+use Rattle.std.proofs.Common.{Some, None, All, refl, ◌∙◌, arith}
+use Rattle.std.specs.Prelude.{if◌then◌else◌, nat_lt, remove, take, drop, ◌||◌, map}
 use Rattle.std.specs.FinMap.{insert}
 use Rattle.std.specs.List.{AllByRecursion}
 use Rattle.std.proofs.lemmas.Bool.Decides.{nat_tests}
@@ -14,7 +14,6 @@ use Rattle.can_frame.specs.declared.purpose.Purpose.TheVariants.{Heartbeat}
 use Rattle.can_frame.specs.declared.unwanted.Unwanted.{Unwanted}
 use Rattle.can_frame.specs.declared.unwanted.Unwanted.TheVariants.{Emergencies, Sdos, Tpdos}
 use Rattle.can_frame.specs.declared.waiting.Waiting.{Waiting}
-use Rattle.can_frame.specs.Identifiers.{error_control_id, nmt_id, sdo_request_id}
 use Rattle.image_parts.specs.Contents.{Image}
 use Rattle.image_parts.specs.declared.part.Part.TheVariants.{Shape}
 use Rattle.base.specs.Moments.{is_due}
@@ -22,7 +21,11 @@ use Rattle.pdo_rules.specs.Tpdo.{remembering_nothing}
 use Rattle.pdo_rules.specs.declared.receipt.Receipt.TheVariants.{Kept, AtOnce}
 use Rattle.device_objects.specs.Consumers.{consumers_after_time, consumers_after_heartbeat, consumers_after_write}
 use Rattle.device_objects.specs.Consumers.{failures_at, is_last_failure_over}
-use Rattle.device_objects.specs.Profile.{with_error_bits, sync_identifier}
+use Rattle.device_objects.specs.Profile.{with_error_bits}
+use Rattle.device_objects.specs.declared.reception.Reception.{Reception}
+use Rattle.device_objects.specs.declared.reception.Reception.TheVariants.{Nothing, NmtService, Sync, SdoRequest}
+use Rattle.device_objects.specs.declared.reception.Reception.TheVariants.{ErrorControl, Pdo}
+use Rattle.device_objects.specs.Reception.{reception_with_power}
 use Rattle.co_scenario.specs.Commands.{command_of}
 use Rattle.co_scenario.specs.declared.nmt_command.NmtCommand.{NmtCommand}
 use Rattle.co_scenario.specs.declared.nmt_command.NmtCommand.TheVariants.{Start, Stop, EnterPreOperational, ResetNode}
@@ -34,15 +37,17 @@ use Rattle.device_pdos.specs.declared.rpdo_state.RpdoState.{RpdoState}
 use Rattle.device_pdos.specs.declared.tpdo_state.TpdoState.{TpdoState}
 use Rattle.co_device.specs.Device.{Device, after_failures, after_own_write, after_write_of_consumer, after_consumers}
 use Rattle.co_device.specs.Device.{enter_pre_operational, after_error_control, after_heartbeat, after_initialisation}
-use Rattle.co_device.specs.Device.{is_addressed, is_error_control, is_in, is_producer_time, nmt_service}
-use Rattle.co_device.specs.Device.{out_of_operational, after_power, after_instant, reset_communication}
-use Rattle.co_device.specs.Device.{after_reset_node, after_sdo_request, stop_remote_node, after_timers}
-use Rattle.co_device.specs.Device.{after_tpdos, after_set, with_emergencies, with_emergency, without_error_if}
+use Rattle.co_device.specs.Device.{is_in, is_producer_time, nmt_service, out_of_operational, after_power}
+use Rattle.co_device.specs.Device.{after_instant, reset_communication, after_reset_node, after_sdo_request}
+use Rattle.co_device.specs.Device.{stop_remote_node, after_timers, after_tpdos, after_set, with_emergencies}
+use Rattle.co_device.specs.Device.{with_emergency, without_error_if}
 use Rattle.co_device.specs.Receiving.{after_mapping, after_pdo, after_frame, after_rpdo, after_sync, after_receipt}
+use Rattle.co_device.specs.Receiving.{after_reception, reception}
 use Rattle.cia301.specs.NmtStates.{state_byte}
 use Rattle.cia301.specs.declared.nmt_state.NmtState.{NmtState}
 use Rattle.cia301.specs.declared.nmt_state.NmtState.TheVariants.{Operational, PreOperational, Stopped}
-use Rattle.device_laws.specs.States.{HasBooted, HasNoPdo, IsSilent, SaysNothing, nmt_message}
+use Rattle.device_laws.specs.States.{HasBooted, HasNoPdo, IsSilent, SaysNothing}
+use Rattle.can_frame.specs.NmtMessages.{nmt_message}
 use Rattle.device_laws.proofs.CaseLemmas.{either, not_both, one_of, picked}
 use Rattle.device_laws.proofs.KeptLemmas.{IsKept, pdo_kept, request_kept, sync_kept}
 
@@ -269,19 +274,19 @@ module _ (image : Image) (t : ℕ) where
   service_silent (Some ResetNode) d h = booted_is_silent d.number _ (node_boots image t d)
   service_silent (Some ResetCommunication) d h = booted_is_silent d.number _ (communication_boots image t d)
 
+  received_silent : (r : Reception) (frame : BaseFrame) (d : Device) → IsSilent d
+      → IsSilent (outcome (after_reception r t frame d) image)
+  unfolding after_reception
+  received_silent Nothing frame d h = h
+  received_silent (NmtService service) frame d h = service_silent (command_of service) d h
+  received_silent Sync frame d h = sync_silent frame.bytes d h
+  received_silent SdoRequest frame d h = request_silent frame.bytes d h
+  received_silent (ErrorControl producer) frame d h = control_silent t producer d h
+  received_silent Pdo frame d h = pdo_silent frame d h
+
   pub frame_is_silent : (frame : BaseFrame) (d : Device) → IsSilent d → IsSilent (outcome (after_frame t frame d) image)
   unfolding after_frame
-  frame_is_silent frame d h =
-      let P : Device → Type 0 = IsSilent in
-      picked image P (not d.has_power) _ _ (λ e. h)
-      (λ e. picked image P (frame.id == nmt_id) _ _
-      (λ e. picked image P (is_addressed d.number frame.bytes) _ _
-      (λ e. service_silent (command_of (slice_index_or frame.bytes 0 0)) d h) (λ e. h))
-      (λ e. picked image P (frame.id == sync_identifier d.learnt d.values) _ _ (λ e. sync_silent frame.bytes d h)
-      (λ e. picked image P ((frame.id == sdo_request_id d.number)
-      && (length frame.bytes == 8)) _ _ (λ e. request_silent frame.bytes d h)
-      (λ e. picked image P (is_error_control frame) _ _ (λ e. control_silent t (frame.id - error_control_id 0) d h)
-      (λ e. pdo_silent frame d h)))))
+  frame_is_silent frame d h = received_silent (reception frame d) frame d h
 
   pub power_is_silent : (on : Bool) (d : Device) → IsSilent d → IsSilent (outcome (after_power on t d) image)
   unfolding after_power
@@ -349,7 +354,7 @@ addressed number node (inr e) = grind (arith, nat_tests)
 
 message_is : (image : Image) (t command node : ℕ) (d : Device) → d.has_power ≡ true → (node ≡ 0) ⊎ (node ≡ d.number)
     → outcome (after_frame t (nmt_message command node) d) image ≡ outcome (nmt_service (command_of command) t d) image
-unfolding after_frame
+unfolding after_frame after_reception reception reception_with_power
 message_is image t command node d on to = rw (on, addressed d.number node to) refl
 
 module _ (image : Image) (t node : ℕ) (d : Device) (on : d.has_power ≡ true) (to : (node ≡ 0) ⊎ (node ≡ d.number)) where

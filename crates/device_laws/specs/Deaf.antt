@@ -1,11 +1,10 @@
 -- Frames that are nothing to a device.
-use Rattle.std.specs.Prelude.{◌≡◌, ◌⊎◌, ◌==◌, true, false, None}
+use Rattle.std.specs.Prelude.{◌≡◌, ◌⊎◌, true, false, None}
 use Rattle.std.specs.List.{AllByRecursion}
 use Rattle.can_frame.specs.Frames.{BaseFrame}
-use Rattle.can_frame.specs.Identifiers.{nmt_id}
 use Rattle.co_device.specs.Device.{Device}
-use Rattle.co_device.specs.Receiving.{is_ignored}
-use Rattle.device_objects.specs.Profile.{sync_identifier}
+use Rattle.co_device.specs.Receiving.{is_ignored, reception}
+use Rattle.device_objects.specs.declared.reception.Reception.TheVariants.{Sync}
 use Rattle.device_pdos.specs.Tpdos.{goes_by_sync}
 
 -- no RPDO keeps a frame for the next SYNC, and no TPDO goes by it
@@ -15,8 +14,7 @@ pub record AwaitsNoSync (d : Device) : Type 0 where
 
 -- the frame is the device's SYNC, and it awaits none
 pub record IsIdleSync (frame : BaseFrame) (d : Device) : Type 0 where
-  pub no_command : (frame.id == nmt_id) ≡ false
-  pub is_sync : (frame.id == sync_identifier d.learnt d.values) ≡ true
+  pub is_sync : reception frame d ≡ Sync
   pub awaits_none : AwaitsNoSync d
 
 -- THE FRAME IS NOTHING TO THE DEVICE: it takes nothing of it, or it is a SYNC that it doesn't await

@@ -1,7 +1,5 @@
 -- What holds of a device in an NMT state.
 use Rattle.std.specs.Prelude.{◌≡◌, ℕ, true, false, [], ◌∷◌, All, None}
-use Rattle.can_frame.specs.Frames.{BaseFrame}
-use Rattle.can_frame.specs.Identifiers.{nmt_id}
 use Rattle.can_frame.specs.WaitingFrames.{is_unwanted}
 use Rattle.can_frame.specs.declared.unwanted.Unwanted.{Unwanted}
 use Rattle.can_frame.specs.declared.unwanted.Unwanted.TheVariants.{Emergencies, Sdos, Tpdos}
@@ -10,10 +8,6 @@ use Rattle.co_sdo.specs.declared.transfer.Transfer.TheVariants.{Idle}
 use Rattle.std.specs.List.{AllByRecursion}
 use Rattle.co_device.specs.Device.{Device, boot_up_frame, is_in, without_power}
 use Rattle.cia301.specs.declared.nmt_state.NmtState.TheVariants.{PreOperational, Stopped}
-
--- the message of an NMT service: its command, and the number of a node or 0 for all
-abbrev pub nmt_message : ℕ → ℕ → BaseFrame
-nmt_message command node = record { id = nmt_id; bytes = command ∷ node ∷ [] }
 
 -- Initialisation has ended: the device is in Pre-operational, its boot-up message waits and no other frame, and no
 -- transfer is open

@@ -18,7 +18,7 @@ ghost use Rattle.device_objects.specs.Consumers.{failures_at};
 ghost use Rattle.device_objects.specs.Profile.{with_error_bits, next_heartbeat};
 ghost use Rattle.co_sdo.specs.Frames.{command};
 ghost use Rattle.co_sdo.specs.Server.{server_answer};
-ghost use Rattle.pdo_rules.specs.Packing.{takes, unpacked};
+ghost use Rattle.pdo_rules.specs.Packing.{takes, after_payload};
 ghost use Rattle.device_pdos.specs.Rpdos.{mapping_of_rpdo, receipt_of, rpdo_at};
 ghost use Rattle.co_device.specs.Device.{Device, after_consumers, enter_pre_operational, is_in, moments, next_due};
 ghost use Rattle.co_device.specs.Device.{after_power, after_instant, reset_communication, after_reset_node};
@@ -31,7 +31,7 @@ ghost use Rattle.device_laws.specs.Ahead.{IsAhead, IsOwnPart};
 ghost use Rattle.device_laws.specs.Deaf.{IsDeafTo};
 ghost use Rattle.device_laws.specs.Rest.{Rests};
 ghost use Rattle.device_laws.specs.States.{HasBooted, HasNoPdo, IsDark, IsSilent, SaysNothing, StaysItself};
-ghost use Rattle.device_laws.specs.States.{nmt_message};
+ghost use Rattle.can_frame.specs.NmtMessages.{nmt_message};
 
 use cia301::NmtState;
 use co_sdo::transfer::Transfer;
@@ -291,12 +291,12 @@ pub fn an_rpdo_unpacks_what_it_applies()
         → receipt_of frame (rpdo_at d.rpdos i).configuration ≡ Receipt.AtOnce → place ≢ (0x1001, 0)
         → map.get (outcome (after_rpdo t frame i d) image).values place
         ≡ (let mapping = mapping_of_rpdo (rpdo_at d.rpdos i).configuration in
-        map.get (unpacked (shape_of (image (Part.Shape d.number))) mapping frame.bytes d.values) place) }
+        map.get (after_payload (shape_of (image (Part.Shape d.number))) mapping frame.bytes d.values) place) }
     ensures at_sync { (image : Image) (t : ℕ) (frame : BaseFrame) (i : ℕ) (d : Device) (place : ℕ × ℕ)
         → (rpdo_at d.rpdos i).kept ≡ Some frame → place ≢ (0x1001, 0)
         → map.get (outcome (after_sync_at t i d) image).values place
         ≡ (let mapping = mapping_of_rpdo (rpdo_at d.rpdos i).configuration in
-        map.get (unpacked (shape_of (image (Part.Shape d.number))) mapping frame.bytes d.values) place) }
+        map.get (after_payload (shape_of (image (Part.Shape d.number))) mapping frame.bytes d.values) place) }
 {}
 
 /// An RPDO that keeps a frame reads nothing; one that applies it reads the device's entries once.

@@ -1,2 +1,3 @@
 pub mod Consumers
 pub mod Profile
+pub mod Reception

@@ -4,7 +4,7 @@ ghost use Rattle.std.specs.Prelude.{◌≡◌, IfOk, unwrap_or};
 ghost use Rattle.std.specs.FinMap as map;
 ghost use Rattle.co_dict.specs.Places.{place_cmp};
 ghost use Rattle.co_dict.specs.Restored.{with_restored};
-ghost use Rattle.image_parts.specs.Shared.{shared};
+ghost use Rattle.image_parts.specs.Shared.{value_behind};
 
 use co_dict::Dict;
 use std::alloc::{AllocError, Global};
@@ -18,7 +18,7 @@ const LAST_OF_COMMUNICATION: u16 = 0x1FFF;
 
 /// A copy of the default values; none where there are none.
 pub fn values_of(alloc: Global, defaults: &Option<Rc<Dict>>) -> Result<Dict, AllocError>
-    ensures { IfOk result (λ dict. dict ≡ unwrap_or (shared defaults.now) map.empty) }
+    ensures { IfOk result (λ dict. dict ≡ unwrap_or (value_behind defaults.now) map.empty) }
 {
     match defaults {
         None => Ok(Dict::new(alloc)),
@@ -36,7 +36,7 @@ pub fn communication_restored(
     defaults: &Option<Rc<Dict>>,
 ) -> Result<Dict, AllocError>
     ensures { IfOk result (λ dict. dict
-        ≡ with_restored 0x1000 0x1FFF (unwrap_or (shared defaults.now) map.empty) values.now) }
+        ≡ with_restored 0x1000 0x1FFF (unwrap_or (value_behind defaults.now) map.empty) values.now) }
 {
     let mut copy = values.copy()?;
     match defaults {

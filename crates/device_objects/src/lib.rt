@@ -9,8 +9,8 @@ mod defaults;
 mod emergencies;
 pub mod laws;
 mod learnt;
-mod messages;
 mod profile;
+mod reception;
 mod shapes;
 
 pub use consumer::Consumer;
@@ -21,8 +21,8 @@ pub use consumers::{
 pub use defaults::{communication_restored, values_of};
 pub use emergencies::emergency_frame;
 pub use learnt::Learnt;
-pub use messages::{command, is_addressed, producer_of};
 pub use profile::{
     clear_error, counter_overflow, error_register, next_heartbeat, set_error, sync_identifier,
 };
+pub use reception::Reception;
 pub use shapes::{Shapes, shape_or, without_entries};

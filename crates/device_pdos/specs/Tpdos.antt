@@ -8,7 +8,7 @@ use Rattle.can_frame.specs.declared.purpose.Purpose.TheVariants as purpose
 use Rattle.can_frame.specs.declared.waiting.Waiting.{Waiting}
 use Rattle.co_dict.specs.Shapes.{Shaped}
 use Rattle.co_dict.specs.Values.{Values}
-use Rattle.pdo_rules.specs.Packing.{packed}
+use Rattle.pdo_rules.specs.Packing.{payload_of}
 use Rattle.base.specs.Moments.{moments_of}
 use Rattle.pdo_rules.specs.Configured.{configuration_of}
 use Rattle.pdo_rules.specs.Tpdo.{Remembered, Turn, differs, remembering_nothing, without_past_inhibit, turn_by_type}
@@ -53,7 +53,7 @@ without_memories tpdos = map without_memory tpdos
 
 -- the bytes that a TPDO has now
 unfoldable pub bytes_now : Values → Configuration → List ℕ
-bytes_now values c = take (packed values c.mapping).1 (packed values c.mapping).0
+bytes_now values c = take (payload_of values c.mapping).1 (payload_of values c.mapping).0
 
 -- an inhibit moment that has come is forgotten
 abbrev pub tpdo_after_inhibit : ℕ → TpdoState → TpdoState

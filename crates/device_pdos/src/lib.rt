@@ -2,13 +2,11 @@
 #![tactic(auto)]
 
 pub mod laws;
-mod numbers;
 mod rpdo_state;
 mod rpdos;
 mod tpdo_state;
 mod tpdos;
 
-pub use numbers::{is_rpdo_object, is_tpdo_object};
 pub use rpdo_state::RpdoState;
 pub use rpdos::{
     any_has_identifier, copy_rpdos, empty_rpdos, keep, rpdos_of, same_rpdos, write_rpdos,

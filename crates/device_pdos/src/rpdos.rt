@@ -4,11 +4,11 @@ ghost use Rattle.std.specs.Prelude.{◌≡◌, ◌<◌, length, IfOk, OnOk, ◌�
 ghost use Rattle.device_pdos.specs.Rpdos.{any_has_identifier, without_kept_frames, rpdos_of as rpdos_now};
 ghost use Rattle.device_pdos.specs.Rpdos.{rpdo_after_write, rpdos_after_write, with_kept};
 
-use crate::numbers::{LAST_PDO, number_of_object};
 use crate::rpdo_state::RpdoState;
 use can_frame::Frame;
+use cia301::{LAST_PDO, number_of_object, rpdo_object};
 use co_dict::{Dict, Shape};
-use pdo_rules::{Configuration, is_pdo, rpdo_object};
+use pdo_rules::{Configuration, is_pdo};
 use std::alloc::{AllocError, Global};
 
 /// The RPDOs of a device as its entries say, by number; they keep no frames.

@@ -5,12 +5,12 @@ ghost use Rattle.base.specs.Moments.{earliest};
 ghost use Rattle.device_pdos.specs.Tpdos.{moments, without_memories, tpdos_after_inhibit, tpdos_after_turns};
 ghost use Rattle.device_pdos.specs.Tpdos.{tpdo_after_write, tpdos_of as tpdos_now, tpdos_after_write, with_tpdos};
 
-use crate::numbers::{LAST_PDO, number_of_object};
 use crate::tpdo_state::TpdoState;
 use base::earlier;
 use can_frame::Pending;
+use cia301::{LAST_PDO, number_of_object, tpdo_object};
 use co_dict::{Dict, Shape};
-use pdo_rules::{Configuration, SyncSeen, Tpdo, is_pdo, tpdo_object};
+use pdo_rules::{Configuration, SyncSeen, Tpdo, is_pdo};
 use std::alloc::{AllocError, Global};
 
 /// The TPDOs of a device as its entries say, by number; they remember nothing. Takes time by the

@@ -6,15 +6,15 @@ use Rattle.std.specs.Option.{option_or}
 use Rattle.std.specs.Ordering.{eq_by_cmp}
 use Rattle.std.specs.FinMap.{empty, entries, find, get, get-empty, get-entries, get-from_entries, get-insert, insert}
 use Rattle.std.specs.FinMap.{same_map}
-use Rattle.dict_values.specs.Layers.{AgreeOn, HasEach, layered}
+use Rattle.dict_values.specs.Layers.{AgreeOn, HasEach, both_layers}
 use Rattle.dict_values.specs.Places.{place_cmp}
 use Rattle.dict_values.specs.Values.{Values}
 use Rattle.dict_values.proofs.PlaceLemmas.{places_exact, places_total}
 use Rattle.dict_values.proofs.RestoredLemmas.{find-append}
 
 pub layered_at : (lower upper : Values) (q : ℕ × ℕ)
-    → get (layered lower upper) q ≡ option_or (get upper q) (get lower q)
-unfolding layered
+    → get (both_layers lower upper) q ≡ option_or (get upper q) (get lower q)
+unfolding both_layers
 layered_at lower upper q =
     get-from_entries places_total (entries upper ++ entries lower) q
     ∙ find-append q (entries upper) (entries lower)
@@ -22,13 +22,13 @@ layered_at lower upper q =
     ∙ ap (option_or (get upper q)) (sym (get-entries lower q))
 
 pub found_above : (lower upper : Values) (q : ℕ × ℕ) (bytes : List ℕ) → Some bytes ≡ get upper q
-    → Some bytes ≡ get (layered lower upper) q
+    → Some bytes ≡ get (both_layers lower upper) q
 found_above lower upper q bytes is = sym (layered_at lower upper q ∙ ap (λ o. option_or o (get lower q)) (sym is))
 
-pub found_below : (lower upper : Values) (q : ℕ × ℕ) → None ≡ get upper q → get lower q ≡ get (layered lower upper) q
+pub found_below : (lower upper : Values) (q : ℕ × ℕ) → None ≡ get upper q → get lower q ≡ get (both_layers lower upper) q
 found_below lower upper q is = sym (layered_at lower upper q ∙ ap (λ o. option_or o (get lower q)) (sym is))
 
-pub none_layered : (lower upper : Values) → lower ≡ empty → upper ≡ empty → layered lower upper ≡ empty
+pub none_layered : (lower upper : Values) → lower ≡ empty → upper ≡ empty → both_layers lower upper ≡ empty
 none_layered lower upper nothing none_above = same_map places_total places_exact _ _ (λ q.
     layered_at lower upper q
     ∙ ap (λ (m : Values). option_or (get m q) (get lower q)) none_above
@@ -41,25 +41,25 @@ either true bytes above below = refl
 either false bytes above below = refl
 
 pub written_above : (lower upper : Values) (k : ℕ × ℕ) (bytes : List ℕ)
-    → layered lower (insert upper k bytes) ≡ insert (layered lower upper) k bytes
+    → both_layers lower (insert upper k bytes) ≡ insert (both_layers lower upper) k bytes
 written_above lower upper k bytes = same_map places_total places_exact _ _ (λ q.
     layered_at lower (insert upper k bytes) q
     ∙ ap (λ o. option_or o (get lower q)) (get-insert places_total upper k bytes q)
     ∙ either (eq_by_cmp place_cmp q k) bytes (get upper q) (get lower q)
-    ∙ sym (get-insert places_total (layered lower upper) k bytes q
+    ∙ sym (get-insert places_total (both_layers lower upper) k bytes q
     ∙ ap (cond (eq_by_cmp place_cmp q k) (Some bytes)) (layered_at lower upper q)))
 
-bare : (lower upper : Values) (q : ℕ × ℕ) → upper ≡ empty → get (layered lower upper) q ≡ get lower q
+bare : (lower upper : Values) (q : ℕ × ℕ) → upper ≡ empty → get (both_layers lower upper) q ≡ get lower q
 bare lower upper q nothing =
     layered_at lower upper q ∙ ap (λ (m : Values). option_or (get m q) (get lower q)) nothing
     ∙ ap (λ o. option_or o (get lower q)) (get-empty place_cmp q)
 
 pub written_below : (lower upper : Values) (k : ℕ × ℕ) (bytes : List ℕ) → upper ≡ empty
-    → layered (insert lower k bytes) upper ≡ insert (layered lower upper) k bytes
+    → both_layers (insert lower k bytes) upper ≡ insert (both_layers lower upper) k bytes
 written_below lower upper k bytes nothing = same_map places_total places_exact _ _ (λ q.
     bare (insert lower k bytes) upper q nothing
     ∙ get-insert places_total lower k bytes q
-    ∙ sym (get-insert places_total (layered lower upper) k bytes q
+    ∙ sym (get-insert places_total (both_layers lower upper) k bytes q
     ∙ ap (cond (eq_by_cmp place_cmp q k) (Some bytes)) (bare lower upper q nothing)))
 
 -- ---- where two are the same
@@ -78,7 +78,7 @@ pub has_nowhere : (kept : ℕ × ℕ → Bool) (places values : Values) → plac
 has_nowhere kept places values nothing q some k = absurd (none_there places q nothing some)
 
 module _ (kept : ℕ × ℕ
-    → Bool) (lower upper both values : Values) (is : layered lower upper ≡ both) (below : HasEach kept lower values)
+    → Bool) (lower upper both values : Values) (is : both_layers lower upper ≡ both) (below : HasEach kept lower values)
     (above : HasEach kept upper values) where
   pub has_both : HasEach kept both values
   has_both q some k = by (get upper q) refl
@@ -88,8 +88,8 @@ module _ (kept : ℕ × ℕ
       by None at s = below q s k
       by (Some v) at s = above q (ap is_some at) k
 
-module _ (lower upper a other_lower other_upper b : Values) (is_a : layered lower upper ≡ a)
-    (is_b : layered other_lower other_upper ≡ b)
+module _ (lower upper a other_lower other_upper b : Values) (is_a : both_layers lower upper ≡ a)
+    (is_b : both_layers other_lower other_upper ≡ b)
     (above : AgreeOn upper a b) (others_above : AgreeOn other_upper a b) where
   below_at : (q : ℕ × ℕ) → get upper q ≡ None → get a q ≡ get lower q
   below_at q at = ap (λ m. get m q) (sym is_a) ∙ sym (found_below lower upper q (sym at))

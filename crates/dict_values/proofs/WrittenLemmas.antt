@@ -6,7 +6,7 @@ use Rattle.std.specs.Prelude.{if◌then◌else◌}
 use Rattle.std.specs.Option.{option_or}
 use Rattle.std.specs.FinMap.{empty, entries, entries_sorted, get, get-empty, get-entries, insert, same_map}
 use Rattle.base.specs.Ranges.{is_between}
-use Rattle.dict_values.specs.Layers.{HasEach, HasWritten, layered}
+use Rattle.dict_values.specs.Layers.{HasEach, HasWritten, both_layers}
 use Rattle.dict_values.specs.Places.{place_cmp}
 use Rattle.dict_values.specs.Restored.{is_kept, with_restored, with_all}
 use Rattle.dict_values.specs.Values.{Values}
@@ -51,7 +51,7 @@ module _ (kept : ℕ × ℕ → Bool) where
 
   -- the lower layer and then the upper one are written as what they make together
   pub written_in_turn : (lower upper old between new : Values) → HasWritten kept lower old between
-      → HasWritten kept upper between new → HasWritten kept (layered lower upper) old new
+      → HasWritten kept upper between new → HasWritten kept (both_layers lower upper) old new
   written_in_turn lower upper old between new first second q =
       second q
       ∙ ap (λ o. if kept q then option_or (get upper q) o else o) (first q)

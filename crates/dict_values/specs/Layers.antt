@@ -7,13 +7,13 @@ use Rattle.std.specs.FinMap.{empty, entries, from_entries, get}
 use Rattle.dict_values.specs.Values.{Values}
 
 -- the values behind a handle; none where there is no handle
-abbrev pub behind : Option (Rc Values Global) → Values
-behind (Some handle) = handle.value
-behind None = empty
+abbrev pub values_behind : Option (Rc Values Global) → Values
+values_behind (Some handle) = handle.value
+values_behind None = empty
 
 -- each place has the value of the upper layer, and where that has none the value of the lower one
-unfoldable pub layered : Values → Values → Values
-layered lower upper = from_entries (entries upper ++ entries lower)
+unfoldable pub both_layers : Values → Values → Values
+both_layers lower upper = from_entries (entries upper ++ entries lower)
 
 -- two maps have the same at each place of a third
 abbrev pub AgreeOn : Values → Values → Values → Type 0

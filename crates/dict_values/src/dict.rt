@@ -36,14 +36,14 @@ pub struct Dict {
 impl Model for Dict {
     ghost use Rattle.std.specs.Coded.{coded_ℕ, coded_list, coded×};
     ghost use Rattle.std.specs.FinMap as map;
-    ghost use Rattle.dict_values.specs.Layers.{layered};
+    ghost use Rattle.dict_values.specs.Layers.{both_layers};
     ghost use Rattle.dict_values.specs.Values.{Values};
 
     ghost Value = { Values };
 
     ghost coded = { map.code (coded× coded_ℕ coded_ℕ) (coded_list coded_ℕ) };
 
-    ghost view = { λ dict. layered dict.base dict.own };
+    ghost view = { λ dict. both_layers dict.base dict.own };
 }
 
 impl Dict {

@@ -21,14 +21,14 @@ pub(crate) struct Layer {
 impl Model for Layer {
     ghost use Rattle.std.specs.Coded.{coded_ℕ, coded_list, coded×};
     ghost use Rattle.std.specs.FinMap as map;
-    ghost use Rattle.dict_values.specs.Layers.{behind};
+    ghost use Rattle.dict_values.specs.Layers.{values_behind};
     ghost use Rattle.dict_values.specs.Values.{Values};
 
     ghost Value = { Values };
 
     ghost coded = { map.code (coded× coded_ℕ coded_ℕ) (coded_list coded_ℕ) };
 
-    ghost view = { λ layer. behind layer.table };
+    ghost view = { λ layer. values_behind layer.table };
 }
 
 /// Sets the value at a place of a table behind a handle. Copies of the handle keep theirs.

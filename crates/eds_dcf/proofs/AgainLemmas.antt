@@ -14,7 +14,7 @@ use Rattle.co_values.specs.declared.form.Form.{Form}
 use Rattle.co_values.specs.declared.form.Form.TheVariants.{Flag, Signed, Unsigned, Characters, HexPairs, Unmodelled}
 use Rattle.co_values.specs.Number.{formula}
 use Rattle.co_values.specs.Types.{form, is_modelled, octets}
-use Rattle.co_values.specs.Values.{FitsForm, flag_bits, longest_value, paired, text_of_value, text_of_value_in}
+use Rattle.co_values.specs.Values.{FitsForm, flag_bits, longest_value, bytes_of_pairs, text_of_value, text_of_value_in}
 use Rattle.co_values.specs.Values.{signed_text_bits, unsigned_bits, value, value_in}
 use Rattle.eds_dcf.proofs.LineLemmas.{decimal_some}
 
@@ -29,7 +29,7 @@ spelled_as (Unsigned width) text bytes node e =
     inl (number_fits (octets width) (option_and_then (unsigned_bits width) (formula text node)) bytes e)
 spelled_as Characters text bytes node e =
     inr (refl, (short_at text bytes (nat_le (length text) longest_value) refl e).0)
-spelled_as HexPairs text bytes node e = inl (pairs_fit (paired text) bytes (paired_fits text) e)
+spelled_as HexPairs text bytes node e = inl (pairs_fit (bytes_of_pairs text) bytes (paired_fits text) e)
 spelled_as Unmodelled text bytes node e = absurd (cc)
 
 printed_characters : (kind : DataType) (bytes : List ℕ) → form kind ≡ Characters → text_of_value kind bytes ≡ bytes

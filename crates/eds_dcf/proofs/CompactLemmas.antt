@@ -14,7 +14,7 @@ use Rattle.std.specs.Option.{option_map_or, option_or, unwrap_or}
 use Rattle.std.specs.Str.Parse.{AllDigits}
 use Rattle.ini_text.proofs.NameLemmas.{same_as, same_folded, same_sym}
 use Rattle.ini_text.specs.Change.{put_value}
-use Rattle.ini_text.specs.Content.{Pair, Section, folded, same, value_at}
+use Rattle.ini_text.specs.Content.{Pair, Section, lower_case, same, value_at}
 use Rattle.co_values.specs.declared.data_type.DataType.{DataType}
 use Rattle.co_values.specs.Types.{is_modelled}
 use Rattle.co_values.specs.Values.{text_of_value}
@@ -38,9 +38,9 @@ low_digit c h = grind (arith, nat_tests)
 below_test : (a b : ℕ) → a < b → nat_lt a b ≡ true
 below_test a b h = grind (arith, nat_tests)
 
-decimal_folded : (a : List ℕ) → is_decimal (folded a) ≡ is_decimal a
+decimal_folded : (a : List ℕ) → is_decimal (lower_case a) ≡ is_decimal a
 decimal_folded a =
-    ap (λ n. not (n == 0) && list_all (λ c. is_digit c 10) (folded a)) (length-map a to_ascii_lowercase)
+    ap (λ n. not (n == 0) && list_all (λ c. is_digit c 10) (lower_case a)) (length-map a to_ascii_lowercase)
     ∙ ap (λ t. not (length a == 0) && t) (list_all-map (λ c. is_digit c 10) to_ascii_lowercase a
     ∙ (let q : (λ (c : ℕ). is_digit (to_ascii_lowercase c) 10) ≡ (λ (c : ℕ). is_digit c 10) = λ i c. lower_digit c i
     in ap (λ (p : ℕ → Bool). list_all p a) q))
@@ -53,7 +53,7 @@ all_digits : (ds : List ℕ) → AllDigits 10 ds → list_all (λ c. is_digit c 
 all_digits [] h = refl
 all_digits (c ∷ cs) h = rw (below_test (digit_value c) 10 h.0) (all_digits cs h.1)
 
-folded_digits : (ds : List ℕ) → AllDigits 10 ds → folded ds ≡ ds
+folded_digits : (ds : List ℕ) → AllDigits 10 ds → lower_case ds ≡ ds
 folded_digits [] h = refl
 folded_digits (c ∷ cs) h = λ i. low_digit c h.0 i ∷ folded_digits cs h.1 i
 

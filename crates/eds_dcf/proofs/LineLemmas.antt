@@ -9,10 +9,10 @@ use Rattle.std.specs.Char.{is_digit, to_ascii_lowercase}
 use Rattle.std.specs.Fmt.{digit_glyph, digits, digits_onto, signed_decimal}
 use Rattle.std.specs.List.{AllByRecursion, list_all}
 use Rattle.std.specs.Str.{byte}
-use Rattle.ini_text.specs.Content.{Pair, folded, same}
+use Rattle.ini_text.specs.Content.{Pair, lower_case, same}
 use Rattle.ini_text.specs.Line.{header_name}
 use Rattle.ini_text.specs.Printable.{begins_with, has_byte, IsKey, IsName, IsPrintablePair, IsValue}
-use Rattle.ini_text.specs.Text.{is_blank, trimmed}
+use Rattle.ini_text.specs.Text.{is_blank, trim_line}
 use Rattle.ini_text.proofs.BytesLemmas.{IsSharp, trimmed_sharp}
 use Rattle.ini_text.proofs.NameLemmas.{same_folded}
 use Rattle.eds_dcf.specs.Compact.{is_decimal}
@@ -41,7 +41,7 @@ plain_reverse [] h = tt
 plain_reverse (b ∷ bs) h = subst IsPlain (sym (reverse-append (b ∷ []) bs))
     (plain_push (reverse bs) b (plain_reverse bs h.1) h.0)
 
-plain_trim : (bs : List ℕ) → IsPlain bs → trimmed bs ≡ bs
+plain_trim : (bs : List ℕ) → IsPlain bs → trim_line bs ≡ bs
 plain_trim bs h = trimmed_sharp bs (sharp_plain bs h) (sharp_plain (reverse bs) (plain_reverse bs h))
 
 plain_line : (bs : List ℕ) → IsPlain bs → has_byte 10 bs ≡ false
@@ -153,7 +153,7 @@ decimal_is_decimal n = numerals_decimal (decimal n) (decimal_some n) (decimal_nu
 
 -- a key that makes no header, in any case of letters
 abbrev pub IsOpen : List ℕ → Type 0
-IsOpen key = begins_with (byte "[") (folded key) ≡ false
+IsOpen key = begins_with (byte "[") (lower_case key) ≡ false
 
 open_first : (c : ℕ) → (to_ascii_lowercase c == byte "[") ≡ false → (c == byte "[") ≡ false
 open_first c h = grind (arith, nat_tests)
@@ -208,21 +208,21 @@ pub decimal_open : (n : ℕ) → IsOpen (decimal n)
 decimal_open n = numerals_open (decimal n) (decimal_numerals n)
 
 pub parameter_key : IsKey (codes "ParameterValue")
-unfolding trimmed
+unfolding trim_line
 parameter_key = record { some = lit< tt; trim = refl; on_one_line = refl; unequal = refl; no_comment = refl }
 
 pub count_key : IsKey (codes "NrOfEntries")
-unfolding trimmed
+unfolding trim_line
 count_key = record { some = lit< tt; trim = refl; on_one_line = refl; unequal = refl; no_comment = refl }
 
 pub node_key : IsKey (codes "NodeID")
-unfolding trimmed
+unfolding trim_line
 node_key = record { some = lit< tt; trim = refl; on_one_line = refl; unequal = refl; no_comment = refl }
 
 pub node_name_key : IsKey (codes "NodeName")
-unfolding trimmed
+unfolding trim_line
 node_name_key = record { some = lit< tt; trim = refl; on_one_line = refl; unequal = refl; no_comment = refl }
 
 pub rate_key : IsKey (codes "Baudrate")
-unfolding trimmed
+unfolding trim_line
 rate_key = record { some = lit< tt; trim = refl; on_one_line = refl; unequal = refl; no_comment = refl }

@@ -6,7 +6,7 @@ use Rattle.std.proofs.lemmas.List.{drop-map, drop_all, length-map, take-map}
 use Rattle.std.specs.Char.{to_ascii_lowercase}
 use Rattle.std.specs.Option.{option_zip}
 use Rattle.ini_text.proofs.NameLemmas.{same_folded}
-use Rattle.ini_text.specs.Content.{folded, same}
+use Rattle.ini_text.specs.Content.{lower_case, same}
 use Rattle.plain_text.specs.Digits.{digits_number}
 use Rattle.eds_device.specs.Names.{index_named, place_named, sub_named, values_named}
 use Rattle.eds_dcf.specs.Commissioning.{first_spelling, is_commissioning, second_spelling}
@@ -14,21 +14,21 @@ use Rattle.eds_dcf.specs.Compact.{values_name}
 
 -- ---- parts of names without case
 
-part_folded : (n m : ℕ) (name other : List ℕ) → folded name ≡ folded other → (word : List ℕ)
+part_folded : (n m : ℕ) (name other : List ℕ) → lower_case name ≡ lower_case other → (word : List ℕ)
     → same (take n (drop m name)) word ≡ same (take n (drop m other)) word
 part_folded n m name other is word =
-    let fold : (bs : List ℕ) → folded (take n (drop m bs))
-    ≡ take n (drop m (folded bs)) = λ bs. sym (take-map to_ascii_lowercase n (drop m bs))
+    let fold : (bs : List ℕ) → lower_case (take n (drop m bs))
+    ≡ take n (drop m (lower_case bs)) = λ bs. sym (take-map to_ascii_lowercase n (drop m bs))
     ∙ ap (take n) (sym (drop-map to_ascii_lowercase m bs)) in
-    ap (λ f. bytes_eq f (folded word)) (fold name ∙ ap (λ f. take n (drop m f)) is ∙ sym (fold other))
+    ap (λ f. bytes_eq f (lower_case word)) (fold name ∙ ap (λ f. take n (drop m f)) is ∙ sym (fold other))
 
-end_folded : (m : ℕ) (name other : List ℕ) → folded name ≡ folded other → (word : List ℕ)
+end_folded : (m : ℕ) (name other : List ℕ) → lower_case name ≡ lower_case other → (word : List ℕ)
     → same (drop m name) word ≡ same (drop m other) word
 end_folded m name other is word =
-    let fold : (bs : List ℕ) → folded (drop m bs) ≡ drop m (folded bs) = λ bs. sym (drop-map to_ascii_lowercase m bs) in
-    ap (λ f. bytes_eq f (folded word)) (fold name ∙ ap (drop m) is ∙ sym (fold other))
+    let fold : (bs : List ℕ) → lower_case (drop m bs) ≡ drop m (lower_case bs) = λ bs. sym (drop-map to_ascii_lowercase m bs) in
+    ap (λ f. bytes_eq f (lower_case word)) (fold name ∙ ap (drop m) is ∙ sym (fold other))
 
-length_folded : (name other : List ℕ) → folded name ≡ folded other → length name ≡ length other
+length_folded : (name other : List ℕ) → lower_case name ≡ lower_case other → length name ≡ length other
 length_folded name other is = sym (length-map name to_ascii_lowercase) ∙ ap length is
     ∙ length-map other to_ascii_lowercase
 
@@ -50,7 +50,7 @@ module _ (name : List ℕ) where
   no_values h = rw h refl
 
 -- a name of the node's section
-module _ (name spelled : List ℕ) (is : folded name ≡ folded spelled) where
+module _ (name spelled : List ℕ) (is : lower_case name ≡ lower_case spelled) where
   spelled_no_place : same (take 3 (drop 4 spelled)) (codes "sub") ≡ false → place_named name ≡ None
   spelled_no_place h = no_place name (part_folded 3 4 name spelled is (codes "sub") ∙ h)
 
@@ -64,7 +64,7 @@ pub record IsOther (name : List ℕ) : Type 0 where
   pub no_place : place_named name ≡ None
   pub no_index : index_named name ≡ None
 
-other_as : (name spelled : List ℕ) → folded name ≡ folded spelled → same (take 3 (drop 4 spelled)) (codes "sub") ≡ false
+other_as : (name spelled : List ℕ) → lower_case name ≡ lower_case spelled → same (take 3 (drop 4 spelled)) (codes "sub") ≡ false
     → (length spelled ≡ 4 → ⊥) → IsOther name
 other_as name spelled is place index = record {
   no_place = spelled_no_place name spelled is place;
@@ -106,10 +106,10 @@ sub_no_values name h = by (same (drop 4 name) (codes "Value")) refl
   where
     by : (t : Bool) → same (drop 4 name) (codes "Value") ≡ t → t ≡ false
     by true e =
-        let letters : folded (take 3 (drop 4 name))
-        ≡ take 3 (folded (codes "Value")) = sym (take-map to_ascii_lowercase 3 (drop 4 name))
+        let letters : lower_case (take 3 (drop 4 name))
+        ≡ take 3 (lower_case (codes "Value")) = sym (take-map to_ascii_lowercase 3 (drop 4 name))
         ∙ ap (take 3) (same_folded (drop 4 name) (codes "Value") e) in
-        absurd (false≢true (sym (ap (λ f. bytes_eq f (folded (codes "sub"))) letters) ∙ h))
+        absurd (false≢true (sym (ap (λ f. bytes_eq f (lower_case (codes "sub"))) letters) ∙ h))
     by false e = refl
 
 pub place_no_values : (name : List ℕ) (place : ℕ × ℕ) → place_named name ≡ Some place → values_named name ≡ None

@@ -10,7 +10,7 @@ use Rattle.std.specs.Option.{option_map_or}
 use Rattle.ini_text.proofs.NameLemmas.{same_sym}
 use Rattle.ini_text.specs.Content.{Pair, Section, same, same_key, value_at}
 use Rattle.ini_text.specs.Printable.{AreApart, IsKey, IsName, IsPrintable, IsPrintableSection, IsValue, same_name}
-use Rattle.ini_text.specs.Text.{trimmed}
+use Rattle.ini_text.specs.Text.{trim_line}
 use Rattle.co_values.specs.Types.{is_modelled}
 use Rattle.co_values.specs.Values.{text_of_value}
 use Rattle.eds_device.specs.Described.{kind_at}
@@ -330,7 +330,7 @@ node_rest_sound node label bitrate v first second h g =
     (λ q kept. anew_apart node label bitrate q kept.0) (others_beside first second) (beside_kept first second))))
 
 first_spelling_is_name : IsName first_spelling
-unfolding trimmed
+unfolding trim_line
 first_spelling_is_name = record { some = lit< tt; trim = refl; on_one_line = refl; unclosed = refl }
 
 commissioning_printable : (ss : List Section) (node : ℕ) (label : List ℕ) (bitrate : ℕ)

@@ -13,7 +13,7 @@ use Rattle.std.specs.List.{list_all}
 use Rattle.std.specs.Str.{byte}
 use Rattle.std.specs.Str.Parse.{digits_value}
 use Rattle.ini_text.proofs.NameLemmas.{same_folded}
-use Rattle.ini_text.specs.Content.{folded, same}
+use Rattle.ini_text.specs.Content.{lower_case, same}
 use Rattle.ini_text.specs.Printable.{has_byte, IsName}
 use Rattle.plain_text.specs.Digits.{digits_number}
 use Rattle.eds_device.specs.Names.{index_named, values_named}
@@ -87,44 +87,44 @@ lower_value c = grind (arith, nat_tests)
 lower_lower : (c : ℕ) → to_ascii_lowercase (to_ascii_lowercase c) ≡ to_ascii_lowercase c
 lower_lower c = grind (arith, nat_tests)
 
-folded_folded : (bs : List ℕ) → folded (folded bs) ≡ folded bs
+folded_folded : (bs : List ℕ) → lower_case (lower_case bs) ≡ lower_case bs
 folded_folded [] = refl
 folded_folded (b ∷ bs) = λ i. lower_lower b i ∷ folded_folded bs i
 
-digits_folded : (cs : List ℕ) → list_all (λ d. is_digit d 16) (folded cs) ≡ list_all (λ d. is_digit d 16) cs
+digits_folded : (cs : List ℕ) → list_all (λ d. is_digit d 16) (lower_case cs) ≡ list_all (λ d. is_digit d 16) cs
 digits_folded [] = refl
-digits_folded (c ∷ cs) = ap (λ v. nat_lt v 16 && list_all (λ d. is_digit d 16) (folded cs)) (lower_value c)
+digits_folded (c ∷ cs) = ap (λ v. nat_lt v 16 && list_all (λ d. is_digit d 16) (lower_case cs)) (lower_value c)
     ∙ ap (λ t. is_digit c 16 && t) (digits_folded cs)
 
-values_folded : (cs : List ℕ) → map digit_value (folded cs) ≡ map digit_value cs
+values_folded : (cs : List ℕ) → map digit_value (lower_case cs) ≡ map digit_value cs
 values_folded [] = refl
 values_folded (c ∷ cs) = λ i. lower_value c i ∷ values_folded cs i
 
-value_folded : (cs : List ℕ) → digits_value 16 (folded cs) ≡ digits_value 16 cs
-value_folded cs = digits_value_is 16 (folded cs) ∙ ap (number_from_digits 16) (values_folded cs)
+value_folded : (cs : List ℕ) → digits_value 16 (lower_case cs) ≡ digits_value 16 cs
+value_folded cs = digits_value_is 16 (lower_case cs) ∙ ap (number_from_digits 16) (values_folded cs)
     ∙ sym (digits_value_is 16 cs)
 
-number_folded : (cs : List ℕ) → digits_number 16 (folded cs) ≡ digits_number 16 cs
+number_folded : (cs : List ℕ) → digits_number 16 (lower_case cs) ≡ digits_number 16 cs
 number_folded [] = refl
 number_folded (c ∷ cs) =
-    ap (λ (t : Bool). cond t (Some (digits_value 16 (folded (c ∷ cs)))) None) (digits_folded (c ∷ cs))
+    ap (λ (t : Bool). cond t (Some (digits_value 16 (lower_case (c ∷ cs)))) None) (digits_folded (c ∷ cs))
     ∙ ap (λ n. cond (list_all (λ d. is_digit d 16) (c ∷ cs)) (Some n) None) (value_folded (c ∷ cs))
 
-index_folded : (name : List ℕ) → index_named (folded name) ≡ index_named name
+index_folded : (name : List ℕ) → index_named (lower_case name) ≡ index_named name
 unfolding index_named
 index_folded name =
-    ap (λ n. cond (n == 4) (digits_number 16 (folded name)) None) (length-map name to_ascii_lowercase)
+    ap (λ n. cond (n == 4) (digits_number 16 (lower_case name)) None) (length-map name to_ascii_lowercase)
     ∙ ap (λ o. cond (length name == 4) o None) (number_folded name)
 
-same_fold : (a b : List ℕ) → same (folded a) b ≡ same a b
-same_fold a b = ap (λ f. bytes_eq f (folded b)) (folded_folded a)
+same_fold : (a b : List ℕ) → same (lower_case a) b ≡ same a b
+same_fold a b = ap (λ f. bytes_eq f (lower_case b)) (folded_folded a)
 
-values_folded_name : (name : List ℕ) → values_named (folded name) ≡ values_named name
+values_folded_name : (name : List ℕ) → values_named (lower_case name) ≡ values_named name
 unfolding values_named
 values_folded_name name =
-    ap (λ n. cond (same n (codes "Value")) (index_named (take 4 (folded name))) None)
+    ap (λ n. cond (same n (codes "Value")) (index_named (take 4 (lower_case name))) None)
     (drop-map to_ascii_lowercase 4 name)
-    ∙ ap (λ t. cond t (index_named (take 4 (folded name))) None) (same_fold (drop 4 name) (codes "Value"))
+    ∙ ap (λ t. cond t (index_named (take 4 (lower_case name))) None) (same_fold (drop 4 name) (codes "Value"))
     ∙ ap (λ o. cond (same (drop 4 name) (codes "Value")) o None)
     (ap index_named (take-map to_ascii_lowercase 4 name) ∙ index_folded (take 4 name))
 

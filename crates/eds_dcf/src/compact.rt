@@ -16,13 +16,13 @@ use crate::printing::{put_line, put_name, put_pairs, put_settings};
 use crate::setting::Setting;
 use crate::values::{NR_OF_ENTRIES, put_values};
 use co_dict::Dict;
-use eds_device::{Device, Origin, Section, compact_count, kind_of, place_named};
+use eds_device::{DataSheet, Origin, Section, compact_count, kind_of, place_named};
 use plain_text::index_digits;
 use std::alloc::{AllocError, Global};
 
 /// A compact object's section, and its highest sub-index.
 #[tactic(auto, unfolding(crate::specs::Compact::compact_object))]
-fn compact_object(device: &Device, index: u16) -> Option<(&Section, u8)>
+fn compact_object(device: &DataSheet, index: u16) -> Option<(&Section, u8)>
     ensures { option_map (λ object. (object.0.now, object.1)) result ≡ object_of device.now.sections index }
 {
     let section = device.object_section(index)?;
@@ -32,7 +32,7 @@ fn compact_object(device: &Device, index: u16) -> Option<(&Section, u8)>
 
 /// Whether sub 0 of an object stands in a section that is named for the object, as that of a VAR does:
 /// then the object isn't compact. Looked for near a position among the entries first.
-fn is_plain_object(device: &Device, near: usize, index: u16) -> bool
+fn is_plain_object(device: &DataSheet, near: usize, index: u16) -> bool
     ensures { IsTrue result → object_of device.now.sections index ≡ None }
 {
     let Some(placed) = device.placed(near, index, 0) else {
@@ -46,7 +46,7 @@ fn is_plain_object(device: &Device, near: usize, index: u16) -> bool
 
 /// The same as `compact_object`, which most objects aren't: these are told by their sub 0, looked for
 /// near a position among the entries first.
-fn compact_object_near(device: &Device, near: usize, index: u16) -> Option<(&Section, u8)>
+fn compact_object_near(device: &DataSheet, near: usize, index: u16) -> Option<(&Section, u8)>
     ensures { option_map (λ object. (object.0.now, object.1)) result ≡ object_of device.now.sections index }
 {
     if is_plain_object(device, near, index) {
@@ -65,7 +65,7 @@ fn is_compact(origin: Option<Origin<'_>>) -> bool
 /// `k=value` for a compact sub k with a value.
 fn value_setting(
     alloc: Global,
-    device: &Device,
+    device: &DataSheet,
     values: &Dict,
     index: u16,
     sub: u8,
@@ -97,7 +97,7 @@ fn push_some(set: &mut Vec<Setting>, setting: Option<Setting>) -> Result<(), All
 /// The values that are set of an object's compact subs, by sub.
 fn values_set(
     alloc: Global,
-    device: &Device,
+    device: &DataSheet,
     values: &Dict,
     index: u16,
     highest: u8,
@@ -145,7 +145,7 @@ fn put_new(out: &mut Vec<u8>, alloc: Global, index: u16, set: &[Setting]) -> Res
 pub(crate) fn put_made(
     out: &mut Vec<u8>,
     alloc: Global,
-    device: &Device,
+    device: &DataSheet,
     values: &Dict,
     near: usize,
     index: u16,
@@ -170,7 +170,7 @@ pub(crate) fn put_made(
 pub(crate) fn put_values_section(
     out: &mut Vec<u8>,
     alloc: Global,
-    device: &Device,
+    device: &DataSheet,
     values: &Dict,
     section: &Section,
     index: u16,

@@ -10,7 +10,7 @@ ghost use Rattle.eds_device.specs.Described.{kind_at};
 use crate::printing::{put_line, put_name, put_pairs_without};
 use base::Octets;
 use co_values::{DataType, Value, hex_text};
-use eds_device::{Device, Origin, Placed, Section, index_named, place_named};
+use eds_device::{DataSheet, Origin, Placed, Section, index_named, place_named};
 use std::alloc::{AllocError, Global};
 
 const PARAMETER_VALUE: &[u8] = b"ParameterValue";
@@ -49,7 +49,7 @@ pub(crate) struct Parameter {
 
 /// The modelled entry that stands in the section of a name, by one look-up, near a position first.
 #[tactic(auto, unfolding(crate::specs::Entries::parameter_place))]
-pub(crate) fn parameter_of(device: &Device, near: usize, name: &[u8]) -> Option<Parameter>
+pub(crate) fn parameter_of(device: &DataSheet, near: usize, name: &[u8]) -> Option<Parameter>
     ensures place { option_map (λ p. (p.index, p.sub)) result ≡ parameter_place device.now.sections name.now }
     ensures kind { IfSome result (λ p. p.kind ≡ kind_at device.now.sections (p.index, p.sub)) }
 {

@@ -14,7 +14,7 @@ use crate::last::last_values;
 use crate::printing::put_section;
 use co_dict::Dict;
 use concise_dcf::Write;
-use eds_device::{Device, Section, values_named};
+use eds_device::{DataSheet, Section, values_named};
 use std::alloc::{AllocError, Global};
 
 /// Writes a section with the values. Answers a position among the entries that the next one is likely
@@ -22,7 +22,7 @@ use std::alloc::{AllocError, Global};
 fn put_with_values(
     out: &mut Vec<u8>,
     alloc: Global,
-    device: &Device,
+    device: &DataSheet,
     values: &Dict,
     near: usize,
     section: &Section,
@@ -48,7 +48,7 @@ fn put_with_values(
 fn put_sections(
     out: &mut Vec<u8>,
     alloc: Global,
-    device: &Device,
+    device: &DataSheet,
     values: &Dict,
 ) -> Result<(), AllocError>
     requires { (place : ℕ × ℕ) → IfSome (get values.now place) (Fits (kind_at device.now.sections place)) }
@@ -70,7 +70,7 @@ fn put_sections(
 fn put_all_made(
     out: &mut Vec<u8>,
     alloc: Global,
-    device: &Device,
+    device: &DataSheet,
     values: &Dict,
 ) -> Result<(), AllocError>
     requires { (place : ℕ × ℕ) → IfSome (get values.now place) (Fits (kind_at device.now.sections place)) }
@@ -97,7 +97,7 @@ fn put_all_made(
 /// which take the logarithm of their number.
 pub fn dcf_text(
     alloc: Global,
-    device: &Device,
+    device: &DataSheet,
     node: u8,
     name: &[u8],
     bitrate: u16,

@@ -15,7 +15,7 @@ use Rattle.std.specs.Bool.{OnFalse}
 use Rattle.ini_text.specs.Content.{Section}
 use Rattle.eds_device.specs.declared.fault.DeviceFault.{DeviceFault}
 use Rattle.eds_device.specs.declared.fault.DeviceFault.TheVariants.{Memory, Range, Limit, BadByte}
-use Rattle.eds_device.specs.Faults.{is_memory, limited, most_entries}
+use Rattle.eds_device.specs.Faults.{is_memory, unless_too_many, most_entries}
 use Rattle.co_dict.specs.Places.{place_cmp}
 use Rattle.eds_device.specs.Places.{first_subs, put_in_order, places_given, pairs_of}
 
@@ -38,7 +38,7 @@ put_longer done [] = omega arith
 put_longer done (p ∷ ps) = omega (arith, insert_longer done p, put_longer (insert_key place_cmp done p) ps)
 
 -- what isn't refused is all, and not too much
-pub not_refused : (all new : List (ℕ × ℕ)) → limited all all ≡ Ok new → (new ≡ all) × (length new ≤ most_entries)
+pub not_refused : (all new : List (ℕ × ℕ)) → unless_too_many all all ≡ Ok new → (new ≡ all) × (length new ≤ most_entries)
 not_refused all new h = elim (cases_lt most_entries (length all)) [
   | inl large ↦ let t : nat_lt most_entries (length all) ≡ true = lt-ltb most_entries (length all) large
       in absurd (refused (nat_lt most_entries (length all)) t h)
@@ -58,31 +58,31 @@ not_refused all new h = elim (cases_lt most_entries (length all)) [
 
 -- what was refused for too many is refused with more
 pub still_refused : (fault : DeviceFault) (some all : List (ℕ × ℕ)) → length some ≤ length all
-    → OnFalse (is_memory fault) (limited some some ≡ Err fault)
-    → OnFalse (is_memory fault) (limited all all ≡ Err fault)
+    → OnFalse (is_memory fault) (unless_too_many some some ≡ Err fault)
+    → OnFalse (is_memory fault) (unless_too_many all all ≡ Err fault)
 still_refused Memory some all le h = tt
 still_refused Range some all le h = by (nat_lt most_entries (length some)) h
   where
     by : (b : Bool) → (let r : Result (List (ℕ × ℕ)) DeviceFault = if b then Err Limit else Ok some in r ≡ Err Range)
-        → limited all all ≡ Err Range
+        → unless_too_many all all ≡ Err Range
     by true e = cc
     by false e = cc
 still_refused BadByte some all le h = by (nat_lt most_entries (length some)) h
   where
     by : (b : Bool) → (let r : Result (List (ℕ × ℕ)) DeviceFault = if b then Err Limit else Ok some in r ≡ Err BadByte)
-        → limited all all ≡ Err BadByte
+        → unless_too_many all all ≡ Err BadByte
     by true e = cc
     by false e = cc
 still_refused Limit some all le h = by (nat_lt most_entries (length some)) refl h
   where
-    large : nat_lt most_entries (length some) ≡ true → limited all all ≡ Err Limit
+    large : nat_lt most_entries (length some) ≡ true → unless_too_many all all ≡ Err Limit
     large t = let more : nat_lt most_entries (length all) ≡ true = lt-ltb most_entries (length all)
         (omega (arith, ltb-true most_entries (length some) t))
         in ap (λ (b : Bool). let r : Result (List (ℕ × ℕ)) DeviceFault = if b then Err Limit else Ok all in r) more
 
     by : (b : Bool) → nat_lt most_entries (length some) ≡ b
         → (let r : Result (List (ℕ × ℕ)) DeviceFault = if b then Err Limit else Ok some in r ≡ Err Limit)
-        → limited all all ≡ Err Limit
+        → unless_too_many all all ≡ Err Limit
     by true t e = large t
     by false t e = cc
 
@@ -126,7 +126,7 @@ sections_longer ss i =
     rw whole (put_longer (put_in_order [] (flat_map places_given (take i ss))) (flat_map places_given (drop i ss)))
 
 -- what isn't too much is given
-pub none_refused : (all given : List (ℕ × ℕ)) → length all ≤ most_entries → given ≡ all → limited all all ≡ Ok given
+pub none_refused : (all given : List (ℕ × ℕ)) → length all ≤ most_entries → given ≡ all → unless_too_many all all ≡ Ok given
 none_refused all given small same = rw same (by (nat_lt most_entries (length all)) refl)
   where
     by : (b : Bool) → nat_lt most_entries (length all) ≡ b

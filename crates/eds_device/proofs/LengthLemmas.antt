@@ -11,7 +11,7 @@ use Rattle.co_values.specs.declared.form.Form.TheVariants.{Flag, Signed, Unsigne
 use Rattle.co_values.specs.declared.form.Width.TheVariants.{Bits8, Bits16, Bits32, Bits64}
 use Rattle.co_values.specs.Number.{formula}
 use Rattle.co_values.specs.Types.{form, octets, len_of_form}
-use Rattle.co_values.specs.Values.{value, value_in, zero_of_form, zero_value, longest_value, if_not_too_long, paired}
+use Rattle.co_values.specs.Values.{value, value_in, zero_of_form, zero_value, longest_value, if_not_too_long, bytes_of_pairs}
 use Rattle.co_values.specs.Values.{flag_bits, unsigned_bits, signed_text_bits}
 use Rattle.eds_device.specs.Described.{Default, written, count}
 use Rattle.eds_device.specs.Entries.{default_bytes}
@@ -46,7 +46,7 @@ value_length (Signed width) text node bytes e = number_length (octets width) (si
 value_length (Unsigned width) text node bytes e = number_length (octets width)
     (option_and_then (unsigned_bits width) (formula text node)) bytes e
 value_length Characters text node bytes e = short text bytes e
-value_length HexPairs text node bytes e = short_pairs (paired text) bytes e
+value_length HexPairs text node bytes e = short_pairs (bytes_of_pairs text) bytes e
 value_length Unmodelled text node bytes e = cc
 
 zero_length : (f : Form) → HasLengthIn f (zero_of_form f)

@@ -8,7 +8,7 @@ use Rattle.std.specs.Str.Parse.{digits_value, digits_value_after}
 use Rattle.std.proofs.lemmas.Bool.{eqb-true, false≢true}
 use Rattle.std.proofs.lemmas.Slice.Eq.{bytes_eq-Decides}
 use Rattle.plain_text.specs.Digits.{digits_number}
-use Rattle.ini_text.specs.Content.{Section, folded, same, content_of}
+use Rattle.ini_text.specs.Content.{Section, lower_case, same, content_of}
 use Rattle.ini_text.specs.Printable.{AreApart, same_name}
 use Rattle.ini_text.proofs.NameLemmas.{same_sym}
 use Rattle.ini_text.proofs.ReadLemmas.{read_is_printable}
@@ -28,12 +28,12 @@ lower_by_value c h = search arith
 abbrev glyphs : List ℕ → List ℕ
 glyphs cs = map (λ c. digit_char (digit_value c)) cs
 
-folded_glyphs : (cs : List ℕ) → list_all (λ d. is_digit d 16) cs ≡ true → folded cs ≡ glyphs cs
+folded_glyphs : (cs : List ℕ) → list_all (λ d. is_digit d 16) cs ≡ true → lower_case cs ≡ glyphs cs
 folded_glyphs [] h = refl
 folded_glyphs (c ∷ cs) h = by (is_digit c 16) refl h (folded_glyphs cs)
   where
     by : (t : Bool) → is_digit c 16 ≡ t → (t && list_all (λ d. is_digit d 16) cs) ≡ true
-        → (list_all (λ d. is_digit d 16) cs ≡ true → folded cs ≡ glyphs cs) → folded (c ∷ cs) ≡ glyphs (c ∷ cs)
+        → (list_all (λ d. is_digit d 16) cs ≡ true → lower_case cs ≡ glyphs cs) → lower_case (c ∷ cs) ≡ glyphs (c ∷ cs)
     by true e g ih = let low = lower_by_value c (omega (arith, ltb-true (digit_value c) 16 e)) in let rest = ih g
         in λ i. low i ∷ rest i
     by false e g ih = cc
@@ -93,7 +93,7 @@ one_index_one_name a b index h g =
     let digits = all_digits a index first.1 in
     let digits' = all_digits b index other.1 in
     let spelled = same_digits a b 0 0 (first.0 ∙ sym other.0) digits.0 digits'.0 (digits.1 ∙ sym digits'.1) in
-    (bytes_eq-Decides (folded a) (folded b)).1 (folded_glyphs a digits.0 ∙ spelled.1 ∙ sym (folded_glyphs b digits'.0))
+    (bytes_eq-Decides (lower_case a) (lower_case b)).1 (folded_glyphs a digits.0 ∙ spelled.1 ∙ sym (folded_glyphs b digits'.0))
 
 -- ---- sections
 

@@ -8,7 +8,7 @@ use Rattle.ini_text.specs.declared.IniFault.{IniFault}
 use Rattle.ini_text.specs.declared.IniFault.TheVariants as ini
 use Rattle.eds_device.specs.declared.fault.DeviceFault.{DeviceFault}
 use Rattle.eds_device.specs.declared.fault.DeviceFault.TheVariants.{Memory, Range, Limit, BadByte}
-use Rattle.eds_device.specs.Faults.{is_memory, limited, most_entries, device_of}
+use Rattle.eds_device.specs.Faults.{is_memory, unless_too_many, most_entries, device_of}
 use Rattle.eds_device.specs.FaultOf.{fault_of}
 use Rattle.eds_device.specs.Places.{pairs_of}
 use Rattle.eds_device.proofs.AddingLemmas.{not_refused}
@@ -23,21 +23,21 @@ ini_refused ini.BadByte text r b = rw ((b refl).0, (b refl).1) refl
 
 pub read_as : (text : List ℕ) (content : Content) → (IsTrue (is_out_of_range text) → ⊥)
     → (IsFalse (is_out_of_range text) × IsTrue (has_bad_byte text) → ⊥) → content ≡ content_of text
-    → device_of text ≡ limited (pairs_of content.sections) content
+    → device_of text ≡ unless_too_many (pairs_of content.sections) content
 unfolding device_of
 read_as text content r b is = rw is (by (is_out_of_range text) (has_bad_byte text) r b)
   where
     by : (s t : Bool) → (IsTrue s → ⊥) → (IsFalse s × IsTrue t → ⊥)
         → (let none : Result Content DeviceFault = Err Range in let bad : Result Content DeviceFault = Err BadByte in
-        (if s then none else if t then bad else limited (pairs_of (content_of text).sections) (content_of text))
-        ≡ limited (pairs_of (content_of text).sections) (content_of text))
+        (if s then none else if t then bad else unless_too_many (pairs_of (content_of text).sections) (content_of text))
+        ≡ unless_too_many (pairs_of (content_of text).sections) (content_of text))
     by true t f g = absurd (f refl)
     by false true f g = absurd (g (refl, refl))
     by false false f g = refl
 
 pub places_refused : (fault : DeviceFault) (places : List (ℕ × ℕ)) (content : Content)
-    → OnFalse (is_memory fault) (limited places places ≡ Err fault)
-    → OnFalse (is_memory fault) (limited places content ≡ Err fault)
+    → OnFalse (is_memory fault) (unless_too_many places places ≡ Err fault)
+    → OnFalse (is_memory fault) (unless_too_many places content ≡ Err fault)
 places_refused Memory places content h = tt
 places_refused Range places content h = by (nat_lt most_entries (length places)) h
   where
@@ -59,8 +59,8 @@ places_refused BadByte places content h = by (nat_lt most_entries (length places
     by true e = cc
     by false e = cc
 
-pub places_given_back : (places given : List (ℕ × ℕ)) (content : Content) → limited places places ≡ Ok given
-    → (limited places content ≡ Ok content) × ((given ≡ places) × (length given ≤ most_entries))
+pub places_given_back : (places given : List (ℕ × ℕ)) (content : Content) → unless_too_many places places ≡ Ok given
+    → (unless_too_many places content ≡ Ok content) × ((given ≡ places) × (length given ≤ most_entries))
 places_given_back places given content h = (by (nat_lt most_entries (length places)) h, not_refused places given h)
   where
     by : (b : Bool) → (let r : Result (List (ℕ × ℕ)) DeviceFault = if b then Err Limit else Ok places in r ≡ Ok given)

@@ -22,8 +22,8 @@ abbrev pub most_entries : ℕ
 most_entries = 4096
 
 -- what reading gives, unless there are too many entries
-abbrev pub limited : {X : Type 0} → List (ℕ × ℕ) → X → Result X DeviceFault
-limited places x = if nat_lt most_entries (length places) then Err Limit else Ok x
+abbrev pub unless_too_many : {X : Type 0} → List (ℕ × ℕ) → X → Result X DeviceFault
+unless_too_many places x = if nat_lt most_entries (length places) then Err Limit else Ok x
 
 -- the rules give too many entries: more places than a device may have, in order and none twice, each of which has an
 -- origin
@@ -39,4 +39,4 @@ unfoldable pub device_of : List ℕ → Result Content DeviceFault
 device_of text =
     if is_out_of_range text then Err Range
     else if has_bad_byte text then Err BadByte
-    else limited (pairs_of (content_of text).sections) (content_of text)
+    else unless_too_many (pairs_of (content_of text).sections) (content_of text)

@@ -10,7 +10,7 @@ ghost use Rattle.eds_device.specs.Fixed.{AreFixed};
 ghost use Rattle.eds_device.specs.Places.{pairs_of};
 ghost use Rattle.eds_entries.specs.Shown.{description_shown};
 
-use crate::device::Device;
+use crate::data_sheet::DataSheet;
 use crate::entries::entry_of;
 use crate::fixed::{Fixed, LONGEST_TEXT, fixed_defaults};
 use base::Octets;
@@ -66,7 +66,7 @@ fn share_text(text: &Option<Arc<Octets>>) -> Result<Option<Arc<Octets>>, AllocEr
     }
 }
 
-impl Device {
+impl DataSheet {
     /// Sets an entry of a shape, where the device has it. `false` where it may differ from node to node.
     #[tactic(auto, unfolding(crate::specs::Entries::entry_at))]
     fn add_fixed(&self, shape: &mut Shape, index: u16, sub: u8) -> Result<bool, AllocError>
@@ -130,13 +130,13 @@ impl Device {
     /// entry that it has no default, or the default, where that is a number of at most 32 bytes, or is missing,
     /// and its value takes at most 8. So `shared_shape` and `defaults` of it are found at once. Takes time and
     /// memory by the number of entries, and time by its logarithm; want of memory is the only error.
-    pub fn with_common(&self) -> Result<Device, AllocError>
+    pub fn with_common(&self) -> Result<DataSheet, AllocError>
         ensures { IfOk result (λ device. device ≡ self.now) }
     {
         let common = self.common_part()?;
         let reading = Arc::try_clone(&self.reading)?;
         let text = share_text(&self.text)?;
-        Ok(Device {
+        Ok(DataSheet {
             reading,
             text,
             common: Some(common),

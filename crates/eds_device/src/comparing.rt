@@ -3,7 +3,7 @@ ghost use Rattle.std.specs.Prelude.{◌≡◌, ◌↔◌, IsTrue};
 ghost use Rattle.std.specs.Arc.{arc_value};
 ghost use Rattle.ini_text.specs.Content.{content_of};
 
-use crate::device::Device;
+use crate::data_sheet::DataSheet;
 use base::Octets;
 use ini_text::{Section, same_sections};
 use std::alloc::AllocError;
@@ -22,7 +22,7 @@ fn is_dense(text: &[u8], sections: &[Section]) -> bool {
     left == 0
 }
 
-impl Device {
+impl DataSheet {
     /// Holds on to the text of this device, by which `same` then tells that it is the same as another that has
     /// its text too, letter by letter: if that has at most 32 bytes for each section and pair. Takes time by the
     /// number of sections, and no memory; the only error is that the count of handles is full.
@@ -38,7 +38,7 @@ impl Device {
     }
 
     /// Whether both are known to have the same text, letter by letter: then they are the same.
-    fn has_text_of(&self, other: &Device) -> bool
+    fn has_text_of(&self, other: &DataSheet) -> bool
         ensures { IsTrue result → self.now ≡ other.now }
     {
         match (&self.text, &other.text) {
@@ -50,7 +50,7 @@ impl Device {
     /// Whether the texts of both have the same content: the same sections, letter by letter and in the
     /// same order, and the same warned lines. Takes time by the length of the texts up to the first
     /// difference, and no memory.
-    pub fn same(&self, other: &Device) -> bool
+    pub fn same(&self, other: &DataSheet) -> bool
         ensures { IsTrue result ↔ (self.now ≡ other.now) }
     {
         self.has_text_of(other)

@@ -4,11 +4,11 @@ ghost use Rattle.std.specs.Option.{option_copied, option_map};
 ghost use Rattle.eds_entries.specs.Shown.{description_shown};
 ghost use Rattle.eds_device.specs.Described.{description_of, kind_at, default_text, value_text};
 
-use crate::device::Device;
+use crate::data_sheet::DataSheet;
 use co_values::DataType;
 use eds_entries::{DefaultText, Described, highest_sub, unless_empty};
 
-impl Device {
+impl DataSheet {
     /// What the EDS says of an entry; `None` where there is no such entry.
     #[tactic(auto, unfolding(crate::specs::Described::description_of))]
     pub(crate) fn described(&self, index: u16, sub: u8) -> Option<Described<'_>>

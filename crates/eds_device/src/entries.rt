@@ -5,7 +5,7 @@ ghost use Rattle.std.specs.Option.{option_copied, option_map, option_map_or};
 ghost use Rattle.eds_device.specs.Entries.{limit_at, entry_by, entry_at, default_bytes, default_at, dummy_allowed};
 ghost use Rattle.eds_entries.specs.Shown.{default_shown, description_shown};
 
-use crate::device::Device;
+use crate::data_sheet::DataSheet;
 use base::Octets;
 use co_dict::Entry;
 use co_values::{DataType, default_value, integer_of, read_number, value_of};
@@ -58,7 +58,7 @@ pub(crate) fn default_bytes(
     }
 }
 
-impl Device {
+impl DataSheet {
     /// An entry at a node: its limits are the numbers that its texts spell there as values of its
     /// type, which must be an integer. `None` where there is no such entry.
     #[tactic(auto, unfolding(crate::specs::Entries::entry_at))]

@@ -5,10 +5,10 @@ ghost use Rattle.std.specs.Option.{option_copied};
 ghost use Rattle.eds_device.specs.Described.{value_text};
 ghost use Rattle.eds_device.specs.Places.{pairs_of};
 
-use crate::device::Device;
+use crate::data_sheet::DataSheet;
 use eds_entries::unless_empty;
 
-impl Device {
+impl DataSheet {
     /// The ParameterValue of the entry at a position of `pairs`, as `value_text` gives it. Takes constant
     /// time; of a compact sub that by the logarithm of the sections.
     #[tactic(auto, unfolding(crate::specs::Described::value_text))]

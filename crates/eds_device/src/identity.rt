@@ -3,7 +3,7 @@ ghost use Rattle.std.specs.Prelude.{◌≡◌};
 ghost use Rattle.eds_device.specs.Identity.{four_bytes, is_identity_type, identity_by, identity_number, identity};
 ghost use Rattle.eds_entries.specs.Shown.{description_shown};
 
-use crate::device::Device;
+use crate::data_sheet::DataSheet;
 use co_values::{DataType, integer_of};
 use eds_entries::{DefaultText, Described};
 
@@ -44,7 +44,7 @@ fn identity_by(node: u8, described: Described<'_>) -> u32
     }
 }
 
-impl Device {
+impl DataSheet {
     /// The default of an UNSIGNED8, UNSIGNED16 or UNSIGNED32 at a node, else 0.
     fn identity_number(&self, node: u8, index: u16, sub: u8) -> u32
         ensures { result ≡ identity_number self.now.sections node index sub }

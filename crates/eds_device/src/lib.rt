@@ -3,8 +3,8 @@
 
 mod common;
 mod comparing;
+mod data_sheet;
 mod described;
-mod device;
 mod entries;
 mod fault;
 mod fixed;
@@ -19,7 +19,7 @@ mod reading;
 mod table;
 mod values;
 
-pub use device::Device;
+pub use data_sheet::DataSheet;
 pub use eds_entries::{
     ObjectType, compact_count, index_named, kind_of, place_named, sub_listed, values_named,
 };

@@ -5,7 +5,7 @@ ghost use Rattle.eds_device.specs.Described.{kind_at};
 ghost use Rattle.eds_device.specs.Origins.{origin_of};
 ghost use Rattle.eds_device.specs.Shown.{origin_shown};
 
-use crate::device::Device;
+use crate::data_sheet::DataSheet;
 use crate::origin::Origin;
 use co_values::DataType;
 use eds_entries::highest_sub;
@@ -21,7 +21,7 @@ pub struct Placed<'a> {
     pub kind: DataType,
 }
 
-impl Device {
+impl DataSheet {
     /// Where an entry stands, with its type. `None` where there is no such entry.
     ///
     /// It is looked for at the position `near` among the entries and behind that first, whichever it

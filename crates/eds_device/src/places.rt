@@ -1,7 +1,7 @@
 //! The entries that sections give.
 ghost use Rattle.std.specs.Prelude.{◌≡◌, ◌≤◌, [], ◌∷◌, length, IfOk};
 ghost use Rattle.base.specs.Gives.{Gives};
-ghost use Rattle.eds_device.specs.Faults.{is_memory, limited, most_entries};
+ghost use Rattle.eds_device.specs.Faults.{is_memory, unless_too_many, most_entries};
 ghost use Rattle.eds_device.specs.Places.{first_subs, object_places, places_given, pairs_of};
 ghost use Rattle.eds_device.specs.Adding.{with_places};
 
@@ -88,7 +88,7 @@ fn in_order(alloc: Global, places: &BTreeSet<(u16, u8)>) -> Result<Vec<(u16, u8)
 /// The entries that sections give, by index and sub-index, each once. No more than 4,096 are taken,
 /// whatever more the sections give.
 pub(crate) fn places_of(alloc: Global, sections: &[Section]) -> Result<Vec<(u16, u8)>, DeviceFault>
-    ensures { Gives is_memory (λ v. v.items) result (limited (pairs_of sections.now) (pairs_of sections.now)) }
+    ensures { Gives is_memory (λ v. v.items) result (unless_too_many (pairs_of sections.now) (pairs_of sections.now)) }
 {
     let mut places = BTreeSet::new(alloc);
     for section in sections {

@@ -6,12 +6,12 @@ ghost use Rattle.co_dict.specs.Places.{place_cmp};
 ghost use Rattle.eds_device.specs.Places.{pairs_of};
 ghost use Rattle.eds_device.specs.Entries.{entry_at, default_at, dummies_of, shape_of, defaults_of};
 
-use crate::device::Device;
+use crate::data_sheet::DataSheet;
 use crate::fixed::Fixed;
 use co_dict::{Dict, Shape};
 use std::alloc::AllocError;
 
-impl Device {
+impl DataSheet {
     /// Sets an entry of a shape, where the device has it.
     fn add_entry(&self, shape: &mut Shape, node: u8, index: u16, sub: u8) -> Result<(), AllocError>
         ensures { OnOk result (shape.new

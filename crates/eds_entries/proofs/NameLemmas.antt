@@ -6,12 +6,12 @@ use Rattle.std.specs.Option.{option_zip}
 use Rattle.std.proofs.Math.Nat.{pow-le-pow_right}
 use Rattle.std.proofs.lemmas.Bool.Decides.{same_from_decides}
 use Rattle.std.proofs.lemmas.Slice.Eq.{bytes_eq-Decides}
-use Rattle.ini_text.specs.Content.{folded, same}
+use Rattle.ini_text.specs.Content.{lower_case, same}
 use Rattle.eds_entries.specs.Names.{sub_named, place_named, values_named}
 
 -- a test that says whether two names are equal without case
-pub same_is : (r : Bool) (a b : List ℕ) → (IsTrue r ↔ (folded a ≡ folded b)) → r ≡ same a b
-same_is r a b h = same_from_decides r (same a b) h (bytes_eq-Decides (folded a) (folded b))
+pub same_is : (r : Bool) (a b : List ℕ) → (IsTrue r ↔ (lower_case a ≡ lower_case b)) → r ≡ same a b
+same_is r a b h = same_from_decides r (same a b) h (bytes_eq-Decides (lower_case a) (lower_case b))
 
 none_or_none : {X : Type 0} (b : Bool) → let none : Option X = None in (if b then none else none) ≡ none
 none_or_none true = refl

@@ -20,7 +20,7 @@ use Rattle.co_sdo.specs.declared.transfer.Transfer.TheVariants.{Idle}
 use Rattle.sdo_client.specs.Client.{after_answer}
 use Rattle.sdo_client.specs.declared.client_transfer.ClientTransfer.{ClientTransfer}
 use Rattle.concise_dcf.specs.declared.write.Write.{Write}
-use Rattle.files_and_devices.specs.Leaves.{LeavesServer, ServesRequest, answers_of, served}
+use Rattle.files_and_devices.specs.Leaves.{LeavesServer, ServesRequest, answers_of, answer_to_request}
 use Rattle.files_and_devices.specs.Writes.{writes_told}
 use Rattle.files_and_devices.specs.Written.{AgreeButRegister, AreOf, Written}
 use Rattle.files_and_devices.specs.Exchanges.{Anything, Asks, Exchanges, HoldsBelow, IsAsStage, IsBooting, IsExchanging}
@@ -286,7 +286,7 @@ module _ (image : Image) (node : ℕ) where
       (now : (place : ℕ × ℕ) → after place ≡ told (marks place) writes node place)
       (number : d.number ≡ node) (s : ServesRequest image slot.frame writes d e) where
     abbrev done : Rattle.co_sdo.specs.Server.AfterRequest
-    done = served image slot.frame.bytes d
+    done = answer_to_request image slot.frame.bytes d
 
     to_node : slot.frame.id ≡ sdo_request_id node
     to_node = s.is_request ∙ ap sdo_request_id number

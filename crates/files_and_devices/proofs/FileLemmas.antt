@@ -20,8 +20,8 @@ use Rattle.image_parts.specs.declared.part.Part.TheVariants as part
 use Rattle.image_parts.specs.declared.roster.Roster.{Roster}
 use Rattle.files_and_devices.specs.Written.{Written}
 use Rattle.files_and_devices.specs.Exchanges.{Exchanges, GivesBelow, HoldsBelow, IsAsStage, IsBooting, IsExchanging}
-use Rattle.files_and_devices.specs.Files.{Configures, Holds, IsConfigured, IsExcepted, IsUp}
-use Rattle.files_and_devices.specs.Marks.{Marks, after_writes, is_marking, is_of, marks_at, marked_after}
+use Rattle.files_and_devices.specs.Files.{Configures, HasData, HasConfigured, IsExcepted, IsUp}
+use Rattle.files_and_devices.specs.Marks.{MarkedEntries, after_writes, is_marking, is_write_of, marks_at, marked_after}
 use Rattle.files_and_devices.proofs.GoodLemmas.{IsGood}
 use Rattle.files_and_devices.proofs.MarkLemmas.{after_told, itself, told, told-append}
 use Rattle.files_and_devices.proofs.RosterLemmas.{IsAt, stands_at}
@@ -63,13 +63,13 @@ module _ (image : Image) (node : ℕ) (marks : ℕ × ℕ → Bool) (values : Va
   }
 
   held_below : (place : ℕ × ℕ) (bytes : List ℕ) → Configures image node place bytes
-      → IsExcepted marks place ⊎ Holds values place bytes
+      → IsExcepted marks place ⊎ HasData values place bytes
   held_below place bytes c = below.holds place bytes (gives_below place bytes c)
 
 module _ (image : Image) (node : ℕ) (marks : ℕ × ℕ → Bool) (d : Device) (stage : BootStage)
     (requests : List Waiting) (wire : Option Slot) (configured : stage ≡ Configured) where
   configured_holds : IsExchanging image node marks d stage requests wire → (place : ℕ × ℕ) (bytes : List ℕ)
-      → Configures image node place bytes → IsExcepted marks place ⊎ Holds d.values place bytes
+      → Configures image node place bytes → IsExcepted marks place ⊎ HasData d.values place bytes
   configured_holds x place bytes c =
       let h = subst (λ (s : BootStage). IsAsStage image node marks d.values d.transfer s x.traffic) configured
       x.is_as_stage in
@@ -77,9 +77,9 @@ module _ (image : Image) (node : ℕ) (marks : ℕ × ℕ → Bool) (d : Device)
 
 -- ---- a bus
 
-module _ (image : Image) (roster : Roster) (is : Rattle.image_parts.specs.Images.IsRoster roster) (marks : Marks)
+module _ (image : Image) (roster : Roster) (is : Rattle.image_parts.specs.Images.IsRoster roster) (marks : MarkedEntries)
     (s : Bus) (g : IsGood image roster marks s.devices s.manager s.wire) where
-  module _ (node : ℕ) (d : Device) (configured : IsConfigured s node) (up : IsUp s node d) where
+  module _ (node : ℕ) (d : Device) (configured : HasConfigured s node) (up : IsUp s node d) where
     i : ℕ
     i = up.listed.0
 
@@ -120,13 +120,13 @@ module _ (image : Image) (roster : Roster) (is : Rattle.image_parts.specs.Images
         (g.exchanges up.listed.0 within))
 
     bus_matches : (place : ℕ × ℕ) (bytes : List ℕ) → Configures image node place bytes
-        → IsExcepted (marks node) place ⊎ Holds d.values place bytes
+        → IsExcepted (marks node) place ⊎ HasData d.values place bytes
     bus_matches place bytes c = by (exchange up.has_power up.none_waits)
       where
         by : IsBooting node d s.wire
             ⊎ IsExchanging image node (marks node) d (node_at s.manager.nodes up.listed.0).stage
             (requests_to node s.manager.waiting) s.wire
-            → IsExcepted (marks node) place ⊎ Holds d.values place bytes
+            → IsExcepted (marks node) place ⊎ HasData d.values place bytes
         by (inl b) = absurd (up.none_on_wire b.boot_up)
         by (inr x) =
             configured_holds image node (marks node) d (node_at s.manager.nodes up.listed.0).stage
@@ -135,9 +135,9 @@ module _ (image : Image) (roster : Roster) (is : Rattle.image_parts.specs.Images
 -- ---- the laws
 
 pub files_match : (image : Image) → IsImage image → (t node : ℕ) (d : Device)
-    → IsConfigured (bus_at image t) node → IsUp (bus_at image t) node d
+    → HasConfigured (bus_at image t) node → IsUp (bus_at image t) node d
     → (place : ℕ × ℕ) (bytes : List ℕ) → Configures image node place bytes
-    → IsExcepted (marks_at image t node) place ⊎ Holds d.values place bytes
+    → IsExcepted (marks_at image t node) place ⊎ HasData d.values place bytes
 files_match image is t node d configured up place bytes c =
     bus_matches image (network image is) is.roster (marks_at image t) (bus_at image t) (run_is_good image is t) node d
     configured up place bytes c
@@ -158,25 +158,25 @@ same_numbers image is t i within =
 -- ---- marks
 
 module _ (node : ℕ) (place : ℕ × ℕ) where
-  untouched : (writes : List Written) → All (λ w. is_of w node place ≡ false) writes → (before : Bool)
+  untouched : (writes : List Written) → All (λ w. is_write_of w node place ≡ false) writes → (before : Bool)
       → told before writes node place ≡ before
   untouched [] h before = refl
   untouched (w ∷ writes) h before =
-      untouched writes (All-tail (λ (v : Written). is_of v node place ≡ false) w writes h)
+      untouched writes (All-tail (λ (v : Written). is_write_of v node place ≡ false) w writes h)
       (marked_after w node place before)
-      ∙ by (is_of w node place) (All-head (λ (v : Written). is_of v node place ≡ false) w writes h)
+      ∙ by (is_write_of w node place) (All-head (λ (v : Written). is_write_of v node place ≡ false) w writes h)
     where
       by : (b : Bool) → b ≡ false
           → (if b then is_marking w.by else before) ≡ before
       by true e = absurd cc
       by false e = refl
 
-  pub none_marks : (marks : Marks) (writes : List Written) → All (λ w. is_of w node place ≡ false) writes
+  pub none_marks : (marks : MarkedEntries) (writes : List Written) → All (λ w. is_write_of w node place ≡ false) writes
       → after_writes marks writes node place ≡ marks node place
   none_marks marks writes h = after_told marks writes node place ∙ untouched writes h (marks node place)
 
-  pub last_marks : (marks : Marks) (before later : List Written) (w : Written) → w.node ≡ node → w.place ≡ place
-      → All (λ v. is_of v node place ≡ false) later
+  pub last_marks : (marks : MarkedEntries) (before later : List Written) (w : Written) → w.node ≡ node → w.place ≡ place
+      → All (λ v. is_write_of v node place ≡ false) later
       → after_writes marks (before ++ w ∷ later) node place ≡ is_marking w.by
   last_marks marks before later w e f h =
       after_told marks (before ++ w ∷ later) node place

@@ -1,14 +1,13 @@
 -- What frames and the switch write.
-use Rattle.std.proofs.Common.{◌≡◌, ◌⊎◌, inl, inr, ℕ, ◌-◌, ◌==◌, Bool, true, false, not, ◌&&◌, List, [], ◌∷◌, ◌++◌}
-use Rattle.std.proofs.Common.{Option, Some, None, refl, arith, ap, sym, subst, ◌∙◌}
-use Rattle.std.specs.Prelude.{MatchOption, Ok, if◌then◌else◌, length, slice_index_or}
+use Rattle.std.proofs.Common.{◌≡◌, ◌⊎◌, inl, inr, ℕ, Bool, true, false, List, [], ◌∷◌, ◌++◌, Option, Some, None}
+use Rattle.std.proofs.Common.{refl, ap, sym, subst, ◌∙◌}
+use Rattle.std.specs.Prelude.{MatchOption, Ok, if◌then◌else◌}
 use Rattle.std.specs.FinMap.{empty, insert}
 use Rattle.std.specs.Option.{unwrap_or}
-use Rattle.std.proofs.lemmas.Bool.Decides.{nat_tests}
 use Rattle.std.proofs.lemmas.List.Elements.{All-map}
 use Rattle.image_parts.specs.Asking.{Answer, outcome}
 use Rattle.can_frame.specs.Frames.{BaseFrame}
-use Rattle.can_frame.specs.Identifiers.{error_control_id, nmt_id, sdo_request_id}
+use Rattle.can_frame.specs.Identifiers.{sdo_request_id}
 use Rattle.image_parts.specs.Contents.{Image, shape_of, values_of}
 use Rattle.image_parts.specs.declared.part.Part.TheVariants.{Defaults, Shape}
 use Rattle.co_scenario.specs.Commands.{command_of}
@@ -22,18 +21,20 @@ use Rattle.co_dict.specs.WriteCheck.{write_check}
 use Rattle.co_sdo.proofs.WroteLaws.{wrote_one}
 use Rattle.co_sdo.specs.Server.{AfterRequest}
 use Rattle.co_device.specs.Device.{Device, after_power, after_reset_node, after_sdo_request, after_server_write}
-use Rattle.co_device.specs.Device.{answer_frames, without_power}
-use Rattle.co_device.specs.Device.{is_addressed, is_error_control, is_in, nmt_service, start_remote_node}
-use Rattle.co_device.specs.Receiving.{after_frame}
+use Rattle.co_device.specs.Device.{answer_frames, without_power, is_in, nmt_service, start_remote_node}
+use Rattle.co_device.specs.Receiving.{after_frame, after_reception, reception}
+use Rattle.co_device.proofs.ReceptionLemmas.{Says, reception_says}
 use Rattle.cia301.specs.declared.nmt_state.NmtState.TheVariants.{Operational, Stopped}
 use Rattle.device_laws.specs.States.{HasBooted}
 use Rattle.device_laws.proofs.CaseLemmas.{either, picked}
 use Rattle.device_laws.proofs.ResetLemmas.{node_values}
 use Rattle.device_laws.proofs.StateLemmas.{communication_boots, node_boots}
-use Rattle.device_objects.specs.Profile.{sync_identifier}
-use Rattle.files_and_devices.specs.Leaves.{LeavesServer, ServesRequest, served}
-use Rattle.files_and_devices.specs.Writes.{writes_of_frame, writes_of_pdo, writes_of_request, writes_of_set, writes_of_sync}
-use Rattle.files_and_devices.specs.Writes.{writes_of_answer, writes_told}
+use Rattle.device_objects.specs.declared.reception.Reception.{Reception}
+use Rattle.device_objects.specs.declared.reception.Reception.TheVariants.{Nothing, NmtService, Sync, SdoRequest}
+use Rattle.device_objects.specs.declared.reception.Reception.TheVariants.{ErrorControl, Pdo}
+use Rattle.files_and_devices.specs.Leaves.{LeavesServer, ServesRequest, answer_to_request}
+use Rattle.files_and_devices.specs.Writes.{writes_of_frame, writes_of_pdo, writes_of_request, writes_of_set}
+use Rattle.files_and_devices.specs.Writes.{writes_of_sync, writes_of_answer, writes_told, writes_of_reception}
 use Rattle.files_and_devices.specs.Written.{AgreeButRegister, AreOf, EntryValue, Event, Rpdo, Sdo, Writer, Written}
 use Rattle.files_and_devices.specs.Written.{with_writes, written_by}
 use Rattle.files_and_devices.proofs.LeaveLemmas.{control_left, entered_left, left_alone, left_itself, server_write_settles}
@@ -67,14 +68,14 @@ module _ (image : Image) (t : ℕ) (frame : BaseFrame) (d : Device) where
   Ways ws e = Took image frame d ws e
 
   request_serves : frame.id ≡ sdo_request_id d.number
-      → ServesRequest image frame (writes_of_answer d.number (served image frame.bytes d)) d
-      (after_server_write t (shape_of (image (Shape d.number))) (served image frame.bytes d).wrote (record d {
-        values = (served image frame.bytes d).values;
-        transfer = (served image frame.bytes d).transfer;
-        waiting = d.waiting ++ answer_frames d.number (served image frame.bytes d).answer;
+      → ServesRequest image frame (writes_of_answer d.number (answer_to_request image frame.bytes d)) d
+      (after_server_write t (shape_of (image (Shape d.number))) (answer_to_request image frame.bytes d).wrote (record d {
+        values = (answer_to_request image frame.bytes d).values;
+        transfer = (answer_to_request image frame.bytes d).transfer;
+        waiting = d.waiting ++ answer_frames d.number (answer_to_request image frame.bytes d).answer;
       }))
   request_serves is_request =
-      let s : AfterRequest = served image frame.bytes d in
+      let s : AfterRequest = answer_to_request image frame.bytes d in
       let shape : Shaped = shape_of (image (Shape d.number)) in
       let answered : Device = record d {
         values = s.values;
@@ -113,26 +114,19 @@ module _ (image : Image) (t : ℕ) (frame : BaseFrame) (d : Device) where
 
   -- ---- all frames
 
-  is_the_request : (first second : Bool) → (frame.id == sdo_request_id d.number) ≡ first → first && second ≡ true
-      → frame.id ≡ sdo_request_id d.number
-  is_the_request true second e h = grind (arith, nat_tests)
-  is_the_request false second e h = absurd cc
+  received_takes : (r : Reception) → Says r frame d
+      → Ways (writes_of_reception r image t frame d) (outcome (after_reception r t frame d) image)
+  unfolding after_reception writes_of_reception
+  received_takes Nothing said = Left (left_itself d)
+  received_takes (NmtService service) said = service_takes (command_of service)
+  received_takes Sync said = Left (sync_leaves image t frame.bytes d)
+  received_takes SdoRequest said = request_takes said.is_request
+  received_takes (ErrorControl producer) said = Left (control_left t producer d)
+  received_takes Pdo said = Left (pdo_leaves image t frame d)
 
   frame_takes : Ways (writes_of_frame image t frame d) (outcome (after_frame t frame d) image)
   unfolding after_frame writes_of_frame
-  frame_takes =
-      let P : List Written → Device → Type 0 = Took image frame d in
-      both image P (not d.has_power) _ _ _ _ (λ e. Left (left_itself d))
-      (λ e. both image P (frame.id == nmt_id) _ _ _ _
-      (λ e. picked image (P []) (is_addressed d.number frame.bytes) _ _
-      (λ e. service_takes (command_of (slice_index_or frame.bytes 0 0))) (λ e. Left (left_itself d)))
-      (λ e. both image P (frame.id == sync_identifier d.learnt d.values) _ _ _ _
-      (λ e. Left (sync_leaves image t frame.bytes d))
-      (λ e. both image P ((frame.id == sdo_request_id d.number) && (length frame.bytes == 8)) _ _ _ _
-      (λ e. request_takes (is_the_request (frame.id == sdo_request_id d.number) (length frame.bytes == 8) refl e))
-      (λ e. both image P (is_error_control frame) _ _ _ _
-      (λ e. Left (control_left t (frame.id - error_control_id 0) d))
-      (λ e. Left (pdo_leaves image t frame d))))))
+  frame_takes = received_takes (reception frame d) (reception_says frame d)
 
   pub frame_in_ways : (HasBooted d.number (outcome (after_frame t frame d) image)
       × (writes_of_frame image t frame d ≡ []))
@@ -199,15 +193,22 @@ set_of place bytes d =
     if_of d.number d.has_power _ _ (all_of Event d.number (record { place = place; bytes = bytes } ∷ []))
     (all_of Event d.number [])
 
+none_of : (number : ℕ) → AreOf number []
+none_of number = all_of Event number []
+
+received_of : (r : Reception) (image : Image) (t : ℕ) (frame : BaseFrame) (d : Device)
+    → AreOf d.number (writes_of_reception r image t frame d)
+unfolding writes_of_reception writes_of_sync writes_of_pdo writes_of_request
+received_of Nothing image t frame d = none_of d.number
+received_of (NmtService service) image t frame d = none_of d.number
+received_of Sync image t frame d =
+    if_of d.number (is_in Operational d) _ [] (all_of Rpdo d.number _) (none_of d.number)
+received_of SdoRequest image t frame d =
+    if_of d.number (is_in Stopped d) [] _ (none_of d.number) (told_of d.number _ _)
+received_of (ErrorControl producer) image t frame d = none_of d.number
+received_of Pdo image t frame d =
+    if_of d.number (is_in Operational d) _ [] (all_of Rpdo d.number _) (none_of d.number)
+
 pub frame_of : (image : Image) (t : ℕ) (frame : BaseFrame) (d : Device) → AreOf d.number (writes_of_frame image t frame d)
-unfolding writes_of_frame writes_of_sync writes_of_pdo writes_of_request
-frame_of image t frame d =
-    let none : AreOf d.number [] = all_of Event d.number [] in
-    if_of d.number (not d.has_power) [] _ none
-    (if_of d.number (frame.id == nmt_id) [] _ none
-    (if_of d.number (frame.id == sync_identifier d.learnt d.values) _ _
-    (if_of d.number (is_in Operational d) _ [] (all_of Rpdo d.number _) none)
-    (if_of d.number ((frame.id == sdo_request_id d.number) && (length frame.bytes == 8)) _ _
-    (if_of d.number (is_in Stopped d) [] _ none (told_of d.number _ _))
-    (if_of d.number (is_error_control frame) [] _ none
-    (if_of d.number (is_in Operational d) _ [] (all_of Rpdo d.number _) none)))))
+unfolding writes_of_frame
+frame_of image t frame d = received_of (reception frame d) image t frame d

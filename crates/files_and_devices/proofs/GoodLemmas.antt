@@ -33,7 +33,7 @@ use Rattle.device_laws.proofs.SelfLemmas.{frame_stays, instant_stays, power_swit
 use Rattle.device_laws.specs.States.{HasBooted}
 use Rattle.files_and_devices.specs.Writes.{writes_of_frame, writes_of_set}
 use Rattle.files_and_devices.specs.Written.{AreOf, Written}
-use Rattle.files_and_devices.specs.Marks.{Marks, after_writes, marked_after, writes_of_events, writes_of_step}
+use Rattle.files_and_devices.specs.Marks.{MarkedEntries, after_writes, marked_after, writes_of_events, writes_of_step}
 use Rattle.files_and_devices.specs.Marks.{written_at, written_by_frame}
 use Rattle.files_and_devices.proofs.DeviceLemmas.{exchange_left}
 use Rattle.files_and_devices.proofs.MarkLemmas.{after_told, one_of_them, told}
@@ -47,11 +47,11 @@ use Rattle.manager_nodes.specs.Table.{node_at}
 use Rattle.nmt_boot.specs.Manager as manager
 
 -- the exchange with each node of the bus
-abbrev pub AllExchange : Image → Marks → List Device → Manager → Option Slot → Type 0
+abbrev pub AllExchange : Image → MarkedEntries → List Device → Manager → Option Slot → Type 0
 AllExchange image marks ds m wire = (i : ℕ) → i < length ds
     → Ex image (device_at ds i).number (marks (device_at ds i).number) (device_at ds i) m i wire
 
-pub record IsGood (image : Image) (roster : Roster) (marks : Marks) (ds : List Device) (m : Manager)
+pub record IsGood (image : Image) (roster : Roster) (marks : MarkedEntries) (ds : List Device) (m : Manager)
     (wire : Option Slot) : Type 0 where
   pub sound : IsOf roster ds m wire
   pub exchanges : AllExchange image marks ds m wire
@@ -83,10 +83,10 @@ module _ (f : Device → Device) where
 -- ---- ONE STEP OF ALL: each device, the manager, and the wire
 
 module _ (image : Image) (roster : Roster) (is : IsRoster roster) where
-  abbrev Good : Marks → List Device → Manager → Option Slot → Type 0
+  abbrev Good : MarkedEntries → List Device → Manager → Option Slot → Type 0
   Good marks ds m wire = IsGood image roster marks ds m wire
 
-  module _ (marks : Marks) (ds : List Device) (m m' : Manager) (wire wire' : Option Slot)
+  module _ (marks : MarkedEntries) (ds : List Device) (m m' : Manager) (wire wire' : Option Slot)
       (f : Device → Device) (writes : Device → List Written)
       (own : (d : Device) → AreOf d.number (writes d))
       (same : (d : Device) → (f d).number ≡ d.number)
@@ -96,7 +96,7 @@ module _ (image : Image) (roster : Roster) (is : IsRoster roster) where
       (turns : (i n : ℕ) → IsAt roster ds m i n → IsOf roster ds m wire → (after : ℕ × ℕ → Bool)
       → ((place : ℕ × ℕ) → after place ≡ told (marks n place) (writes (device_at ds i)) n place)
       → Ex image n (marks n) (device_at ds i) m i wire → Ex image n after (f (device_at ds i)) m' i wire') where
-    abbrev later : Marks
+    abbrev later : MarkedEntries
     later = after_writes marks (flat_map writes ds)
 
     now_marked : (i n : ℕ) → IsAt roster ds m i n → (place : ℕ × ℕ)
@@ -137,7 +137,7 @@ module _ (image : Image) (roster : Roster) (is : IsRoster roster) where
 
   -- ---- events
 
-  module _ (t : ℕ) (marks : Marks) (ds : List Device) (m : Manager) (wire : Option Slot) where
+  module _ (t : ℕ) (marks : MarkedEntries) (ds : List Device) (m : Manager) (wire : Option Slot) where
     nothing : (n : ℕ) → AreOf n []
     nothing n = All-nil (λ (w : Written). w.node ≡ n)
 
@@ -275,12 +275,12 @@ module _ (image : Image) (roster : Roster) (is : IsRoster roster) where
     event_good (Power node on) g = rw (outcome_power t ds m node on image) (power_good node on g)
     event_good (Nmt node c) g = rw (happens_nmt t ds m node c) (command_good node c g)
 
-  pub after-append : (marks : Marks) (one other : List Written)
+  pub after-append : (marks : MarkedEntries) (one other : List Written)
       → after_writes marks (one ++ other) ≡ after_writes (after_writes marks one) other
   after-append marks [] other = refl
   after-append marks (w ∷ one) other = after-append (λ node place. marked_after w node place (marks node place)) one other
 
-  pub events_good : (t : ℕ) (steps : List TimedStep) (marks : Marks) (ds : List Device) (m : Manager)
+  pub events_good : (t : ℕ) (steps : List TimedStep) (marks : MarkedEntries) (ds : List Device) (m : Manager)
       (wire : Option Slot) → Good marks ds m wire
       → Good (after_writes marks (writes_of_events image t steps (ds, m)))
       (outcome (after_events_at t steps (ds, m)) image).0 (outcome (after_events_at t steps (ds, m)) image).1 wire
@@ -289,7 +289,7 @@ module _ (image : Image) (roster : Roster) (is : IsRoster roster) where
   events_good t (step ∷ steps) marks ds m wire g =
       let next : List Device × Manager = outcome (after_event t step.step (ds, m)) image in
       rw (outcome_events t step steps (ds, m) image)
-      (subst (λ (now : Marks). Good now (outcome (after_events_at t steps next) image).0
+      (subst (λ (now : MarkedEntries). Good now (outcome (after_events_at t steps next) image).0
       (outcome (after_events_at t steps next) image).1 wire)
       (sym (after-append marks (writes_of_step step.step ds) (writes_of_events image t steps next)))
       (events_good t steps (after_writes marks (writes_of_step step.step ds)) next.0 next.1 wire
@@ -297,7 +297,7 @@ module _ (image : Image) (roster : Roster) (is : IsRoster roster) where
 
   -- ---- the delivery, or an instant without one
 
-  module _ (t : ℕ) (marks : Marks) (ds : List Device) (m : Manager) where
+  module _ (t : ℕ) (marks : MarkedEntries) (ds : List Device) (m : Manager) where
     -- no slot ends
     pub quiet_good : (wire : Option Slot) → Good marks ds m wire
         → Good marks (map (after_instant t) ds) (timers t m).0 wire

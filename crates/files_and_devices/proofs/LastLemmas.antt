@@ -9,7 +9,7 @@ use Rattle.image_parts.specs.declared.part.Part.TheVariants.{Boot}
 use Rattle.concise_dcf.proofs.Entries.{one_list}
 use Rattle.concise_dcf.specs.Concise.{IsTextOf}
 use Rattle.concise_dcf.specs.declared.write.Write.{Write}
-use Rattle.files_and_devices.specs.Files.{Configures, IsGivenBy, IsLastIn, IsReached, IsWrite}
+use Rattle.files_and_devices.specs.Files.{Configures, IsGivenBy, IsLastIn, HasWritesUpTo, IsWrite}
 use Rattle.concise_dcf.specs.Writes.{place_of}
 use Rattle.files_and_devices.proofs.ListLemmas.{below_next, place_or_not}
 
@@ -121,7 +121,7 @@ module _ (image : Image) (node : ℕ) where
         by h (Some w) e = named w e h (place_or_not (place_of w) place)
 
   -- below the end all are reached, and no others
-  reached_below : (j : ℕ) → IsEnd j → (number : ℕ) → IsReached image node number → number < j
+  reached_below : (j : ℕ) → IsEnd j → (number : ℕ) → HasWritesUpTo image node number → number < j
   reached_below j end number reached = by (below_or_not number j)
     where
       by : (number < j) ⊎ (j ≤ number) → number < j
@@ -129,7 +129,7 @@ module _ (image : Image) (node : ℕ) where
       by (inr more) = absurd (reached j more end.absent)
 
   last_there : (j : ℕ) → IsEnd j → (number : ℕ) (write : Write) → IsWrite image node number write
-      → IsReached image node number → (bytes : List ℕ) × Configures image node (place_of write) bytes
+      → HasWritesUpTo image node number → (bytes : List ℕ) × Configures image node (place_of write) bytes
   last_there j end number write is reached = by (last_or_none (place_of write) j)
     where
       by : IsLastBelow (place_of write) j ⊎ NoneBelow (place_of write) j
@@ -180,7 +180,7 @@ module _ (image : Image) (node : ℕ) where
   -- ---- a list of writes
 
   module _ (writes : List Write) (listed : (k : ℕ) → At k ≡ slice_get writes k) where
-    reached_in : (later : ℕ) (other : Write) → slice_get writes later ≡ Some other → IsReached image node later
+    reached_in : (later : ℕ) (other : Write) → slice_get writes later ≡ Some other → HasWritesUpTo image node later
     reached_in later other there k up =
         let within : later < length writes = slice_get_within writes later other there in
         some_is_there (At k) (get_or writes k other)
@@ -218,7 +218,7 @@ module _ (image : Image) (node : ℕ) where
           (one_list h.0 writes text h.1.0 is) h.1.1)
 
 pub has_last : (image : Image) → IsImage image → (node number : ℕ) (write : Write) → IsWrite image node number write
-    → IsReached image node number → (bytes : List ℕ) × Configures image node (place_of write) bytes
+    → HasWritesUpTo image node number → (bytes : List ℕ) × Configures image node (place_of write) bytes
 has_last image is node number write there reached =
     let end = ends_by image node greatest_place (absent_at image node greatest_place (is.last node greatest_place)) in
     last_there image node end.0 end.1 number write there reached

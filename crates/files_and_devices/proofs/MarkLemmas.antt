@@ -6,7 +6,7 @@ use Rattle.std.specs.List.{AllByRecursion, flat_map}
 use Rattle.std.proofs.lemmas.Bool.{false≢true}
 use Rattle.std.proofs.lemmas.List.Elements.{All-head, All-tail}
 use Rattle.files_and_devices.specs.Written.{AreOf, EntryValue, Event, NoneBySdo, Rpdo, Sdo, Writer, Written, written_by}
-use Rattle.files_and_devices.specs.Marks.{Marks, after_writes, is_marking, is_of, marked_after}
+use Rattle.files_and_devices.specs.Marks.{MarkedEntries, after_writes, is_marking, is_write_of, marked_after}
 use Rattle.files_and_devices.proofs.WaitingLemmas.{number_itself, number_other}
 
 -- the entry is among those written
@@ -18,7 +18,7 @@ abbrev pub told : Bool → List Written → ℕ → ℕ × ℕ → Bool
 told before [] node place = before
 told before (w ∷ writes) node place = told (marked_after w node place before) writes node place
 
-pub after_told : (marks : Marks) (writes : List Written) (node : ℕ) (place : ℕ × ℕ)
+pub after_told : (marks : MarkedEntries) (writes : List Written) (node : ℕ) (place : ℕ × ℕ)
     → after_writes marks writes node place ≡ told (marks node place) writes node place
 after_told marks [] node place = refl
 after_told marks (w ∷ writes) node place = after_told (λ n p. marked_after w n p (marks n p)) writes node place
@@ -76,7 +76,7 @@ module _ (node : ℕ) (place : ℕ × ℕ) where
   pub stays_marked : (writes : List Written) → NoneBySdo writes → told true writes node place ≡ true
   stays_marked [] h = refl
   stays_marked (w ∷ writes) h =
-      ap (λ (b : Bool). told b writes node place) (by (is_of w node place))
+      ap (λ (b : Bool). told b writes node place) (by (is_write_of w node place))
       ∙ stays_marked writes (All-tail (λ (v : Written). v.by ≢ Sdo) w writes h)
     where
       by : (b : Bool) → (if b then is_marking w.by else true) ≡ true

@@ -32,7 +32,7 @@ use Rattle.sdo_client.specs.declared.client_transfer.ClientTransfer.{ClientTrans
 use Rattle.sdo_client.specs.declared.progress.Progress.{Progress}
 use Rattle.sdo_client.specs.declared.progress.Progress.TheVariants as progress
 use Rattle.concise_dcf.specs.declared.write.Write.{Write}
-use Rattle.files_and_devices.specs.Files.{IsConfigured}
+use Rattle.files_and_devices.specs.Files.{HasConfigured}
 use Rattle.nmt_boot.proofs.FrameLemmas.{received_holds}
 use Rattle.nmt_boot.specs.Ends.{configured_note}
 use Rattle.nmt_boot.specs.Manager.{Manager, after_frame, after_step}
@@ -309,7 +309,7 @@ module _ (node : ℕ) where
 
 -- ---- the run
 
-is_configured : (node : ℕ) (s : Bus) → Has node s.manager → IsConfigured s node
+is_configured : (node : ℕ) (s : Bus) → Has node s.manager → HasConfigured s node
 is_configured node s h = record {
   booting = node_at s.manager.nodes h.place;
   listed = (h.place, h.within, get_or_default s.manager.nodes h.place _ no_node h.within);
@@ -319,8 +319,8 @@ is_configured node s h = record {
 
 pub noted_is_configured : (image : Image) (t node : ℕ)
     → Contains (outcome (instant t (bus_at image t)) image).1 (line.Note t (configured_note node))
-    → IsConfigured (bus_at image (t + 1)) node
+    → HasConfigured (bus_at image (t + 1)) node
 noted_is_configured image t node h =
-    subst (λ (s : Bus). IsConfigured s node) (sym (bus_next image t))
+    subst (λ (s : Bus). HasConfigured s node) (sym (bus_next image t))
     (is_configured node (outcome (instant t (bus_at image t)) image).0
     (instant_has node t image (bus_at image t) h))

@@ -1,12 +1,11 @@
 -- What a device does leaves each frame that waits at it its own.
-use Rattle.std.proofs.Common.{◌≡◌, ℕ, ◌+◌, ◌-◌, ◌==◌, Bool, true, false, not, ◌&&◌, List, [], ◌∷◌, ◌++◌, Option, Some}
-use Rattle.std.proofs.Common.{None, refl}
+use Rattle.std.proofs.Common.{◌≡◌, ℕ, ◌+◌, ◌==◌, Bool, true, false, List, [], ◌∷◌, ◌++◌, Option, Some, None}
+use Rattle.std.proofs.Common.{refl}
 use Rattle.std.specs.FinMap.{insert}
-use Rattle.std.specs.Prelude.{length, nat_lt, remove, slice_index_or}
+use Rattle.std.specs.Prelude.{nat_lt, remove}
 use Rattle.std.proofs.lemmas.List.Elements.{All-nil}
 use Rattle.image_parts.specs.Asking.{outcome}
 use Rattle.can_frame.specs.Frames.{BaseFrame}
-use Rattle.can_frame.specs.Identifiers.{error_control_id, nmt_id, sdo_request_id}
 use Rattle.can_frame.specs.WaitingFrames.{without_unwanted}
 use Rattle.can_frame.specs.declared.purpose.Purpose.TheVariants as purpose
 use Rattle.can_frame.specs.declared.unwanted.Unwanted.TheVariants.{Emergencies, Sdos, Tpdos}
@@ -23,7 +22,10 @@ use Rattle.pdo_rules.specs.declared.receipt.Receipt.{Receipt}
 use Rattle.pdo_rules.specs.declared.receipt.Receipt.TheVariants.{Short, Kept, AtOnce, Ignored}
 use Rattle.device_objects.specs.Consumers.{consumers_after_heartbeat, consumers_after_time, consumers_after_write}
 use Rattle.device_objects.specs.Consumers.{failures_at, is_last_failure_over}
-use Rattle.device_objects.specs.Profile.{emergency_frame, error_register, sync_identifier, with_error_bits}
+use Rattle.device_objects.specs.Profile.{emergency_frame, error_register, with_error_bits}
+use Rattle.device_objects.specs.declared.reception.Reception.{Reception}
+use Rattle.device_objects.specs.declared.reception.Reception.TheVariants.{Nothing, NmtService, Sync, SdoRequest}
+use Rattle.device_objects.specs.declared.reception.Reception.TheVariants.{ErrorControl, Pdo}
 use Rattle.co_scenario.specs.Commands.{command_of}
 use Rattle.co_scenario.specs.declared.nmt_command.NmtCommand.{NmtCommand}
 use Rattle.co_scenario.specs.declared.nmt_command.NmtCommand.TheVariants.{Start, Stop, EnterPreOperational, ResetNode}
@@ -33,14 +35,15 @@ use Rattle.co_sdo.specs.declared.transfer.Transfer.TheVariants.{Idle}
 use Rattle.cia301.specs.PdoObjects.{is_of_tpdos, is_of_rpdos}
 use Rattle.device_pdos.specs.Rpdos.{mapping_of_rpdo, receipt_of, rpdo_at, with_kept}
 use Rattle.co_device.specs.Device.{Device, after_consumers, after_error_control, after_failures, after_heartbeat}
-use Rattle.co_device.specs.Device.{after_initialisation, after_instant, after_own_write, after_power, after_reset_node}
-use Rattle.co_device.specs.Device.{after_sdo_request, after_server_write, after_set, after_timers, after_tpdos}
-use Rattle.co_device.specs.Device.{after_write, after_write_of_consumer, answer_frames, boot_up_frame}
-use Rattle.co_device.specs.Device.{enter_pre_operational, is_addressed, is_error_control, is_in, is_producer_time}
-use Rattle.co_device.specs.Device.{heartbeat_frame, nmt_service, out_of_operational, reset_communication, sync_seen}
-use Rattle.co_device.specs.Device.{with_emergencies, with_emergency, without_error_if, without_power}
+use Rattle.co_device.specs.Device.{after_initialisation, after_instant, after_own_write, after_power}
+use Rattle.co_device.specs.Device.{after_reset_node, after_sdo_request, after_server_write, after_set, after_timers}
+use Rattle.co_device.specs.Device.{after_tpdos, after_write, after_write_of_consumer, answer_frames, boot_up_frame}
+use Rattle.co_device.specs.Device.{enter_pre_operational, is_in, is_producer_time, heartbeat_frame, nmt_service}
+use Rattle.co_device.specs.Device.{out_of_operational, reset_communication, sync_seen, with_emergencies}
+use Rattle.co_device.specs.Device.{with_emergency, without_error_if, without_power}
 use Rattle.co_device.specs.Receiving.{after_entry, after_frame, after_kept_frame, after_mapping, after_pdo}
 use Rattle.co_device.specs.Receiving.{after_receipt, after_rpdo, after_sync, after_sync_at, rpdo_places}
+use Rattle.co_device.specs.Receiving.{after_reception, reception}
 use Rattle.cia301.specs.declared.nmt_state.NmtState.TheVariants.{Operational, Stopped}
 use Rattle.device_laws.proofs.CaseLemmas.{one_of, picked, walk_keeps}
 use Rattle.files_and_devices.specs.Own.{HasOwnFrames, IsOwnFrame}
@@ -262,21 +265,20 @@ module _ (t : ℕ) where
         (λ e. walk_keeps image HasOwnFrames (after_sync_at t) synced_owns (rpdo_places d)
         (record d { synced = Some (sync_message bytes) }) (same d _ refl refl refl h)) (λ e. h)
 
+    received_owns : (r : Reception) (frame : BaseFrame) (d : Device) → HasOwnFrames d
+        → HasOwnFrames (outcome (after_reception r t frame d) image)
+    unfolding after_reception
+    received_owns Nothing frame d h = h
+    received_owns (NmtService service) frame d h = service_owns image t (command_of service) d h
+    received_owns Sync frame d h = sync_owns frame.bytes d h
+    received_owns SdoRequest frame d h = request_owns frame.bytes d h
+    received_owns (ErrorControl producer) frame d h = control_owns producer d h
+    received_owns Pdo frame d h = pdo_owns frame d h
+
     pub frame_owns : (frame : BaseFrame) (d : Device) → HasOwnFrames d
         → HasOwnFrames (outcome (after_frame t frame d) image)
     unfolding after_frame
-    frame_owns frame d h =
-        picked image HasOwnFrames (not d.has_power) _ _ (λ e. h)
-        (λ on. picked image HasOwnFrames (frame.id == nmt_id) _ _
-        (λ e. picked image HasOwnFrames (is_addressed d.number frame.bytes) _ _
-        (λ e. service_owns image t (command_of (slice_index_or frame.bytes 0 0)) d h) (λ e. h))
-        (λ e. picked image HasOwnFrames (frame.id == sync_identifier d.learnt d.values) _ _
-        (λ e. sync_owns frame.bytes d h)
-        (λ e. picked image HasOwnFrames ((frame.id == sdo_request_id d.number) && (length frame.bytes == 8)) _ _
-        (λ e. request_owns frame.bytes d h)
-        (λ e. picked image HasOwnFrames (is_error_control frame) _ _
-        (λ e. control_owns (frame.id - error_control_id 0) d h)
-        (λ e. pdo_owns frame d h)))))
+    frame_owns frame d h = received_owns (reception frame d) frame d h
 
   -- ---- what a device does of itself
 

@@ -34,7 +34,7 @@ use Rattle.files_and_devices.specs.Own.{HasOwnFrames as DeviceOwns}
 use Rattle.device_laws.proofs.SelfLemmas.{power_switches}
 use Rattle.device_laws.specs.States.{HasBooted}
 use Rattle.files_and_devices.specs.Written.{Written}
-use Rattle.files_and_devices.specs.Marks.{Marks, after_writes, marks_at, no_marks, writes_at, writes_of_delivery}
+use Rattle.files_and_devices.specs.Marks.{MarkedEntries, after_writes, marks_at, no_marks, writes_at, writes_of_delivery}
 use Rattle.files_and_devices.specs.Marks.{writes_of_events}
 use Rattle.files_and_devices.proofs.GoodLemmas.{IsGood, delivery_good, each_is_map, events_good, quiet_good}
 use Rattle.files_and_devices.proofs.GoodLemmas.{after-append}
@@ -49,19 +49,19 @@ map_twice f g [] = refl
 map_twice f g (x ∷ xs) = ap (λ rest. f (g x) ∷ rest) (map_twice f g xs)
 
 module _ (image : Image) (roster : Roster) (is : IsRoster roster) where
-  abbrev GoodBus : Marks → Bus → Type 0
+  abbrev GoodBus : MarkedEntries → Bus → Type 0
   GoodBus marks s = IsGood image roster marks s.devices s.manager s.wire
 
   -- ---- from the delivery on
 
-  module _ (t : ℕ) (r : Bus) (marks : Marks) where
+  module _ (t : ℕ) (r : Bus) (marks : MarkedEntries) where
     abbrev heard_devices : Option Slot → List Device
     heard_devices slot = map (after_instant t) (outcome (after_delivery t slot r.devices) image)
 
     abbrev run_manager : Option Slot → Manager
     run_manager slot = (timers t (outcome (manager_after_slot t slot r.manager) image).0).0
 
-    abbrev later : Option Slot → Marks
+    abbrev later : Option Slot → MarkedEntries
     later slot = after_writes marks (writes_of_delivery image t slot r.devices)
 
     abbrev Nodes : Option Slot → Option Slot → Type 0
@@ -120,7 +120,7 @@ module _ (image : Image) (roster : Roster) (is : IsRoster roster) where
 
   -- ---- an instant
 
-  module _ (t : ℕ) (s : Bus) (marks : Marks) where
+  module _ (t : ℕ) (s : Bus) (marks : MarkedEntries) where
     begun_good : GoodBus marks s → GoodBus marks (begun t s image)
     begun_good g = by (t == s.window) refl
       where
@@ -163,7 +163,7 @@ module _ (image : Image) (roster : Roster) (is : IsRoster roster) where
         → GoodBus (after_writes marks (writes_at image t s)) (outcome (instant t s) image).0
     instant_good g =
         rw (outcome_instant t s image)
-        (subst (λ (now : Marks). GoodBus now (outcome (from_delivery_on t (run_by_events t s image)) image).0) all_writes
+        (subst (λ (now : MarkedEntries). GoodBus now (outcome (from_delivery_on t (run_by_events t s image)) image).0) all_writes
         (delivered_good t (run_by_events t s image) (after_writes marks of_events) (run_good g)))
 
   -- ---- at power-on

@@ -31,7 +31,7 @@ use Rattle.image_parts.specs.Images.{IsNode, IsRoster}
 use Rattle.image_parts.specs.declared.roster.Roster.{Roster}
 use Rattle.files_and_devices.specs.Own.{HasOwnFrames as DeviceOwns, IsOwnFrame}
 use Rattle.files_and_devices.specs.Leaves.{answers_of}
-use Rattle.files_and_devices.specs.Marks.{Marks}
+use Rattle.files_and_devices.specs.Marks.{MarkedEntries}
 use Rattle.files_and_devices.proofs.GoodLemmas.{IsGood}
 use Rattle.files_and_devices.proofs.Others.{sent_owns}
 use Rattle.files_and_devices.proofs.RosterLemmas.{IsAt, device_numbers, stands_at}
@@ -189,10 +189,10 @@ not_found c ds e k d l = none_found (contends_with c) ds e k d l
 -- ---- the bus
 
 module _ (image : Image) (roster : Roster) (is : IsRoster roster) where
-  abbrev Good : Marks → List Device → Manager → Option Slot → Type 0
+  abbrev Good : MarkedEntries → List Device → Manager → Option Slot → Type 0
   Good marks ds m wire = IsGood image roster marks ds m wire
 
-  module _ (marks : Marks) (ds : List Device) (m : Manager) (g : Good marks ds m None) (t bit : ℕ) (c : Contender) where
+  module _ (marks : MarkedEntries) (ds : List Device) (m : Manager) (g : Good marks ds m None) (t bit : ℕ) (c : Contender) where
     -- the frame of a device starts
     module _ (j : ℕ) (found : Some j ≡ sender_place c ds) where
       abbrev d : Device
@@ -338,7 +338,7 @@ module _ (image : Image) (roster : Roster) (is : IsRoster roster) where
         exchanges = manager_sends;
       }
 
-  module _ (t : ℕ) (marks : Marks) (s : Bus) where
+  module _ (t : ℕ) (marks : MarkedEntries) (s : Bus) where
     abbrev GoodBus : Bus → Type 0
     GoodBus b = Good marks b.devices b.manager b.wire
 

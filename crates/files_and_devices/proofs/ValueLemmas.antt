@@ -12,7 +12,7 @@ use Rattle.concise_dcf.specs.declared.write.Write.{Write}
 use Rattle.files_and_devices.specs.Written.{AgreeButRegister, AreOf, AreStored, NoneBySdo, Written, error_register}
 use Rattle.files_and_devices.specs.Written.{with_writes}
 use Rattle.files_and_devices.specs.Exchanges.{GivesBelow, HoldsBelow}
-use Rattle.files_and_devices.specs.Files.{Holds, IsExcepted, IsWrite}
+use Rattle.files_and_devices.specs.Files.{HasData, IsExcepted, IsWrite}
 use Rattle.concise_dcf.specs.Writes.{place_of}
 use Rattle.files_and_devices.proofs.ListLemmas.{below_next, place_or_not}
 use Rattle.files_and_devices.proofs.MarkLemmas.{IsWritten, stays_marked, told, written_is_marked}
@@ -71,7 +71,7 @@ module _ (image : Image) (node : ℕ) where
 
       still : (place : ℕ × ℕ) (bytes : List ℕ)
           → (get left place ≡ get values place) ⊎ IsWritten place writes
-          → IsExcepted marks place ⊎ Holds values place bytes → IsExcepted after place ⊎ Holds left place bytes
+          → IsExcepted marks place ⊎ HasData values place bytes → IsExcepted after place ⊎ HasData left place bytes
       still place bytes c (inl (inl e)) = inl (inl e)
       still place bytes c (inl (inr e)) = inl (inr (marked place e))
       still place bytes (inl same) (inr held) = inr (same ∙ held)
@@ -79,7 +79,7 @@ module _ (image : Image) (node : ℕ) where
           inl (inr (now place ∙ written_is_marked node place writes none own written (marks place)))
 
       by : (place : ℕ × ℕ) (bytes : List ℕ) → GivesBelow image node j place bytes
-          → (place ≡ error_register) ⊎ (place ≢ error_register) → IsExcepted after place ⊎ Holds left place bytes
+          → (place ≡ error_register) ⊎ (place ≢ error_register) → IsExcepted after place ⊎ HasData left place bytes
       by place bytes g (inl e) = inl (inl e)
       by place bytes g (inr apart) =
           still place bytes (changed_by writes values left stored place apart) (h.holds place bytes g)
@@ -93,8 +93,8 @@ module _ (image : Image) (node : ℕ) where
     holds = λ place bytes g. by place bytes (h.holds place bytes g) (place_or_not place error_register);
   }
     where
-      by : (place : ℕ × ℕ) (bytes : List ℕ) → IsExcepted marks place ⊎ Holds values place bytes
-          → (place ≡ error_register) ⊎ (place ≢ error_register) → IsExcepted after place ⊎ Holds left place bytes
+      by : (place : ℕ × ℕ) (bytes : List ℕ) → IsExcepted marks place ⊎ HasData values place bytes
+          → (place ≡ error_register) ⊎ (place ≢ error_register) → IsExcepted after place ⊎ HasData left place bytes
       by place bytes k (inl e) = inl (inl e)
       by place bytes (inl (inl e)) (inr apart) = inl (inl e)
       by place bytes (inl (inr e)) (inr apart) = inl (inr (now place ∙ e))
@@ -117,7 +117,7 @@ module _ (image : Image) (node : ℕ) where
         by (inr apart) = h.there k (below_next k j below apart)
 
     stored_here : (place : ℕ × ℕ) (bytes : List ℕ) → place_of write ≡ place → write.bytes ≡ bytes
-        → place ≢ error_register → Holds left place bytes
+        → place ≢ error_register → HasData left place bytes
     stored_here place bytes e f apart =
         agree place apart
         ∙ subst (λ (p : ℕ × ℕ). get (insert values (place_of write) write.bytes) p ≡ Some bytes) e
@@ -136,10 +136,10 @@ module _ (image : Image) (node : ℕ) where
     }
 
     abbrev Is : ℕ × ℕ → List ℕ → Type 0
-    Is place bytes = IsExcepted after place ⊎ Holds left place bytes
+    Is place bytes = IsExcepted after place ⊎ HasData left place bytes
 
     elsewhere : (place : ℕ × ℕ) (bytes : List ℕ) → place_of write ≢ place → place ≢ error_register
-        → IsExcepted marks place ⊎ Holds values place bytes → Is place bytes
+        → IsExcepted marks place ⊎ HasData values place bytes → Is place bytes
     elsewhere place bytes other apart (inl (inl e)) = inl (inl e)
     elsewhere place bytes other apart (inl (inr e)) = inl (inr (now place other ∙ e))
     elsewhere place bytes other apart (inr held) =

@@ -17,7 +17,7 @@ use Rattle.sdo_client.specs.declared.client_transfer.ClientTransfer.{ClientTrans
 use Rattle.sdo_client.specs.declared.progress.Progress.TheVariants as progress
 use Rattle.concise_dcf.specs.declared.write.Write.{Write}
 use Rattle.files_and_devices.specs.Leaves.{answers_of}
-use Rattle.files_and_devices.specs.Files.{Holds, IsExcepted, IsWrite}
+use Rattle.files_and_devices.specs.Files.{HasData, IsExcepted, IsWrite}
 use Rattle.concise_dcf.specs.Writes.{place_of}
 use Rattle.node_boot.specs.declared.boot_stage.BootStage.{BootStage}
 use Rattle.node_boot.specs.declared.boot_stage.BootStage.TheVariants.{Unseen, Comparing, Writing, Configured, Failed}
@@ -71,7 +71,7 @@ pub record GivesBelow (image : Image) (node j : ℕ) (place : ℕ × ℕ) (bytes
 pub record HoldsBelow (image : Image) (node : ℕ) (marks : ℕ × ℕ → Bool) (values : Values) (j : ℕ) : Type 0 where
   pub there : (k : ℕ) → k < j → write_of (image (Boot node k)) ≢ None
   pub holds : (place : ℕ × ℕ) (bytes : List ℕ) → GivesBelow image node j place bytes
-      → IsExcepted marks place ⊎ Holds values place bytes
+      → IsExcepted marks place ⊎ HasData values place bytes
 
 -- ---- the stages of a boot, each with the frame that is under way
 

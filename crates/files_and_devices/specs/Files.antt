@@ -23,18 +23,18 @@ abbrev pub IsWrite : Image → ℕ → ℕ → Write → Type 0
 IsWrite image node number write = write_of (image (Boot node number)) ≡ Some write
 
 -- none up to this number is absent
-abbrev pub IsReached : Image → ℕ → ℕ → Type 0
-IsReached image node number = (k : ℕ) → k ≤ number → write_of (image (Boot node k)) ≢ None
+abbrev pub HasWritesUpTo : Image → ℕ → ℕ → Type 0
+HasWritesUpTo image node number = (k : ℕ) → k ≤ number → write_of (image (Boot node k)) ≢ None
 
 -- THE FILES GIVE THE ENTRY THIS DATA: it is that of the last of the node's writes that names the entry
 pub record Configures (image : Image) (node : ℕ) (place : ℕ × ℕ) (bytes : List ℕ) : Type 0 where
   pub number : ℕ
   pub write : Write
   pub is_write : IsWrite image node number write
-  pub is_reached : IsReached image node number
+  pub is_reached : HasWritesUpTo image node number
   pub names : place_of write ≡ place
   pub gives : write.bytes ≡ bytes
-  pub is_last : (later : ℕ) (other : Write) → number < later → IsReached image node later
+  pub is_last : (later : ℕ) (other : Write) → number < later → HasWritesUpTo image node later
       → IsWrite image node later other → place_of other ≢ place
 
 -- of a list of writes the last that names the entry has this data
@@ -52,8 +52,8 @@ abbrev pub IsGivenBy : List ℕ → ℕ × ℕ → List ℕ → Type 0
 IsGivenBy text place bytes = (writes : List Write) × (IsTextOf writes text × IsLastIn writes place bytes)
 
 -- the entry has the data
-abbrev pub Holds : Values → ℕ × ℕ → List ℕ → Type 0
-Holds values place bytes = get values place ≡ Some bytes
+abbrev pub HasData : Values → ℕ × ℕ → List ℕ → Type 0
+HasData values place bytes = get values place ≡ Some bytes
 
 -- the exceptions: the error register, and an entry that is marked
 abbrev pub IsExcepted : (ℕ × ℕ → Bool) → ℕ × ℕ → Type 0
@@ -62,7 +62,7 @@ IsExcepted marks place = (place ≡ error_register) ⊎ (marks place ≡ true)
 -- ---- a node on a bus
 
 -- the manager has the node configured
-pub record IsConfigured (s : Bus) (node : ℕ) : Type 0 where
+pub record HasConfigured (s : Bus) (node : ℕ) : Type 0 where
   pub booting : Booting
   pub listed : Contains s.manager.nodes booting
   pub number : booting.number ≡ node

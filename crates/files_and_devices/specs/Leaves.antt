@@ -29,16 +29,16 @@ pub record LeavesServer (writes : List Written) (d e : Device) : Type 0 where
   pub boot_up : waits_for BootUp e.waiting ≡ waits_for BootUp d.waiting
 
 -- what the SDO server of the device does with a request
-abbrev pub served : Image → List ℕ → Device → AfterRequest
-served image request d = server_answer (shape_of (image (Shape d.number))) d.values d.transfer request
+abbrev pub answer_to_request : Image → List ℕ → Device → AfterRequest
+answer_to_request image request d = server_answer (shape_of (image (Shape d.number))) d.values d.transfer request
 
 -- THE SDO SERVER TAKES THE FRAME: it is a request to the device; the write that the server tells is the only one, and
 -- is stored; its values and its transfer stand in the device, and its answer waits behind what waited
 pub record ServesRequest (image : Image) (frame : BaseFrame) (writes : List Written) (d e : Device) : Type 0 where
   pub is_request : frame.id ≡ sdo_request_id d.number
   pub has_power : e.has_power ≡ d.has_power
-  pub written : writes ≡ writes_of_answer d.number (served image frame.bytes d)
+  pub written : writes ≡ writes_of_answer d.number (answer_to_request image frame.bytes d)
   pub stored : AreStored writes d.values e.values
-  pub values : AgreeButRegister (served image frame.bytes d).values e.values
-  pub transfer : e.transfer ≡ (served image frame.bytes d).transfer
-  pub waits : e.waiting ≡ d.waiting ++ answer_frames d.number (served image frame.bytes d).answer
+  pub values : AgreeButRegister (answer_to_request image frame.bytes d).values e.values
+  pub transfer : e.transfer ≡ (answer_to_request image frame.bytes d).transfer
+  pub waits : e.waiting ≡ d.waiting ++ answer_frames d.number (answer_to_request image frame.bytes d).answer

@@ -20,10 +20,10 @@ use Rattle.nmt_boot.specs.Manager.{Manager}
 
 -- ---- a set of pairs of a node and an entry, told by which pairs it has
 
-abbrev pub Marks : Type 0
-Marks = ℕ → ℕ × ℕ → Bool
+abbrev pub MarkedEntries : Type 0
+MarkedEntries = ℕ → ℕ × ℕ → Bool
 
-abbrev pub no_marks : Marks
+abbrev pub no_marks : MarkedEntries
 no_marks = λ node place. false
 
 -- a write by an event or an RPDO marks its entry, a write by SDO takes the mark away
@@ -33,15 +33,15 @@ is_marking Rpdo = true
 is_marking Sdo = false
 
 -- the write is of this entry of this node
-abbrev pub is_of : Written → ℕ → ℕ × ℕ → Bool
-is_of w node place = (w.node == node) && ((w.place.0 == place.0) && (w.place.1 == place.1))
+abbrev pub is_write_of : Written → ℕ → ℕ × ℕ → Bool
+is_write_of w node place = (w.node == node) && ((w.place.0 == place.0) && (w.place.1 == place.1))
 
 -- whether a pair is marked after a write, where it was or wasn't before
 abbrev pub marked_after : Written → ℕ → ℕ × ℕ → Bool → Bool
-marked_after w node place before = if is_of w node place then is_marking w.by else before
+marked_after w node place before = if is_write_of w node place then is_marking w.by else before
 
 -- the marks after writes, one after another
-abbrev pub after_writes : Marks → List Written → Marks
+abbrev pub after_writes : MarkedEntries → List Written → MarkedEntries
 after_writes marks [] = marks
 after_writes marks (w ∷ writes) = after_writes (λ node place. marked_after w node place (marks node place)) writes
 
@@ -71,16 +71,16 @@ writes_of_delivery image t None ds = []
 writes_of_delivery image t (Some slot) ds = flat_map (written_by_frame image t slot) ds
 
 -- the bus once its window has started
-abbrev pub begun : Image → ℕ → Bus → Bus
-begun image t s = outcome (after_window_start t s) image
+abbrev pub at_window_start : Image → ℕ → Bus → Bus
+at_window_start image t s = outcome (after_window_start t s) image
 
 -- THE WRITES OF AN INSTANT: those of its events, and then those of the frame that is delivered
 unfoldable pub writes_at : Image → ℕ → Bus → List Written
 writes_at image t s =
-    writes_of_events image t (steps_due t (begun image t s).steps) ((begun image t s).devices, (begun image t s).manager)
+    writes_of_events image t (steps_due t (at_window_start image t s).steps) ((at_window_start image t s).devices, (at_window_start image t s).manager)
     ++ writes_of_delivery image t (ended_slot t s.wire) (at_delivery image t s).devices
 
 -- THE MARKS OF A RUN just before the moment t: none at power-on, and then those after each instant
-unfoldable pub marks_at : Image → ℕ → Marks
+unfoldable pub marks_at : Image → ℕ → MarkedEntries
 marks_at image zero = no_marks
 marks_at image (suc t) = after_writes (marks_at image t) (writes_at image t (bus_at image t))

@@ -1,14 +1,12 @@
 -- The writes of a device's rules, in their order, as the rules themselves make them under an image.
-use Rattle.std.specs.Prelude.{ℕ, ◌+◌, ◌==◌, ◌&&◌, not, List, [], ◌∷◌, ◌++◌, length, Bool, Option, Some, None}
-use Rattle.std.specs.Prelude.{if◌then◌else◌}
+use Rattle.std.specs.Prelude.{ℕ, ◌+◌, List, [], ◌∷◌, ◌++◌, Bool, Option, Some, None, if◌then◌else◌}
 use Rattle.image_parts.specs.Asking.{Asking, outcome}
 use Rattle.can_frame.specs.Frames.{BaseFrame}
-use Rattle.can_frame.specs.Identifiers.{nmt_id, sdo_request_id}
 use Rattle.co_dict.specs.Mappings.{mapped_length, mapped_place}
 use Rattle.co_dict.specs.Shapes.{Shaped}
 use Rattle.co_dict.specs.Values.{Values, bytes_at}
-use Rattle.co_device.specs.Device.{Device, is_error_control, is_in}
-use Rattle.co_device.specs.Receiving.{after_entry, after_rpdo, after_sync_at, rpdo_places}
+use Rattle.co_device.specs.Device.{Device, is_in}
+use Rattle.co_device.specs.Receiving.{after_entry, after_rpdo, after_sync_at, rpdo_places, reception}
 use Rattle.cia301.specs.declared.nmt_state.NmtState.TheVariants.{Operational, Stopped}
 use Rattle.pdo_rules.specs.Packing.{bits_for, frame_bits, takes, value_of_bits}
 use Rattle.image_parts.specs.Contents.{Content, Image, shape_of}
@@ -18,7 +16,9 @@ use Rattle.pdo_rules.specs.Sync.{sync_message}
 use Rattle.pdo_rules.specs.declared.receipt.Receipt.{Receipt}
 use Rattle.pdo_rules.specs.declared.receipt.Receipt.TheVariants.{AtOnce, Ignored, Kept, Short}
 use Rattle.co_sdo.specs.Server.{AfterRequest, server_answer}
-use Rattle.device_objects.specs.Profile.{sync_identifier}
+use Rattle.device_objects.specs.declared.reception.Reception.{Reception}
+use Rattle.device_objects.specs.declared.reception.Reception.TheVariants.{Nothing, NmtService, Sync, SdoRequest}
+use Rattle.device_objects.specs.declared.reception.Reception.TheVariants.{ErrorControl, Pdo}
 use Rattle.device_pdos.specs.Rpdos.{mapping_of_rpdo, receipt_of, rpdo_at, with_kept}
 use Rattle.files_and_devices.specs.Written.{EntryValue, Event, Rpdo, Sdo, Written, written_by}
 
@@ -105,14 +105,15 @@ writes_of_request image request d =
     if is_in Stopped d then []
     else writes_of_answer d.number (server_answer (shape_of (image (Shape d.number))) d.values d.transfer request)
 
--- ---- THE WRITES OF A FRAME that a device receives
+-- ---- THE WRITES OF A FRAME that a device receives, as what it is to it
+
+unfoldable pub writes_of_reception : Reception → Image → ℕ → BaseFrame → Device → List Written
+writes_of_reception Nothing image t frame d = []
+writes_of_reception (NmtService service) image t frame d = []
+writes_of_reception Sync image t frame d = writes_of_sync image t frame.bytes d
+writes_of_reception SdoRequest image t frame d = writes_of_request image frame.bytes d
+writes_of_reception (ErrorControl producer) image t frame d = []
+writes_of_reception Pdo image t frame d = writes_of_pdo image t frame d
 
 unfoldable pub writes_of_frame : Image → ℕ → BaseFrame → Device → List Written
-writes_of_frame image t frame d =
-    if not d.has_power then []
-    else if frame.id == nmt_id then []
-    else if frame.id == sync_identifier d.learnt d.values then writes_of_sync image t frame.bytes d
-    else if (frame.id == sdo_request_id d.number) && (length frame.bytes == 8)
-    then writes_of_request image frame.bytes d
-    else if is_error_control frame then []
-    else writes_of_pdo image t frame d
+writes_of_frame image t frame d = writes_of_reception (reception frame d) image t frame d

@@ -16,10 +16,10 @@ ghost use Rattle.concise_dcf.specs.Concise.{IsTextOf};
 ghost use Rattle.concise_dcf.specs.declared.write.Write.{Write};
 ghost use Rattle.files_and_devices.specs.Written.{Written};
 ghost use Rattle.files_and_devices.specs.Exchanges.{Exchanges};
-ghost use Rattle.files_and_devices.specs.Files.{Configures, Holds, IsConfigured, IsExcepted, IsGivenBy, IsReached};
+ghost use Rattle.files_and_devices.specs.Files.{Configures, HasData, HasConfigured, IsExcepted, IsGivenBy, HasWritesUpTo};
 ghost use Rattle.files_and_devices.specs.Files.{IsUp, IsWrite};
 ghost use Rattle.concise_dcf.specs.Writes.{place_of};
-ghost use Rattle.files_and_devices.specs.Marks.{Marks, after_writes, is_marking, is_of, marks_at};
+ghost use Rattle.files_and_devices.specs.Marks.{MarkedEntries, after_writes, is_marking, is_write_of, marks_at};
 ghost use Rattle.nmt_boot.specs.Ends.{configured_note};
 
 use image_parts::Part;
@@ -30,9 +30,9 @@ use image_parts::Part;
 /// are marked.
 pub fn files_match_devices()
     ensures { (image : Image) → IsImage image → (t node : ℕ) (d : Device)
-        → IsConfigured (bus_at image (t + 1)) node → IsUp (bus_at image (t + 1)) node d
+        → HasConfigured (bus_at image (t + 1)) node → IsUp (bus_at image (t + 1)) node d
         → (place : ℕ × ℕ) (bytes : List ℕ) → Configures image node place bytes
-        → IsExcepted (marks_at image (t + 1) node) place ⊎ Holds d.values place bytes }
+        → IsExcepted (marks_at image (t + 1) node) place ⊎ HasData d.values place bytes }
 {}
 
 /// What the files give an entry. Each entry that a write of a node names, in an image, has data by the files: that of
@@ -40,7 +40,7 @@ pub fn files_match_devices()
 /// DCF of the list, the data is that of the last write in the text that names the entry.
 pub fn each_entry_that_is_written_has_a_last_write()
     ensures some { (image : Image) → IsImage image → (node number : ℕ) (write : Write)
-        → IsWrite image node number write → IsReached image node number
+        → IsWrite image node number write → HasWritesUpTo image node number
         → (bytes : List ℕ) × Configures image node (place_of write) bytes }
     ensures one { (image : Image) (node : ℕ) (place : ℕ × ℕ) (one other : List ℕ)
         → Configures image node place one → Configures image node place other → one ≡ other }
@@ -53,11 +53,11 @@ pub fn each_entry_that_is_written_has_a_last_write()
 /// The last write of an entry marks it, or takes the mark away: it is marked where an event or an RPDO wrote it, and
 /// isn't where an SDO download did. A write of another entry, or of another node, leaves it as it was.
 pub fn the_last_write_marks_its_entry_or_takes_the_mark_away()
-    ensures last { (marks : Marks) (before later : List Written) (w : Written) (node : ℕ) (place : ℕ × ℕ)
-        → w.node ≡ node → w.place ≡ place → All (λ v. is_of v node place ≡ false) later
+    ensures last { (marks : MarkedEntries) (before later : List Written) (w : Written) (node : ℕ) (place : ℕ × ℕ)
+        → w.node ≡ node → w.place ≡ place → All (λ v. is_write_of v node place ≡ false) later
         → after_writes marks (before ++ w ∷ later) node place ≡ is_marking w.by }
-    ensures others { (marks : Marks) (writes : List Written) (node : ℕ) (place : ℕ × ℕ)
-        → All (λ v. is_of v node place ≡ false) writes → after_writes marks writes node place ≡ marks node place }
+    ensures others { (marks : MarkedEntries) (writes : List Written) (node : ℕ) (place : ℕ × ℕ)
+        → All (λ v. is_write_of v node place ≡ false) writes → after_writes marks writes node place ≡ marks node place }
 {}
 
 /// At every moment of a run, of each node that has power and of which no boot-up message waits: its boot-up message is
@@ -80,10 +80,10 @@ pub fn each_exchange_is_as_its_stage_has_it()
 pub fn a_node_that_is_noted_configured_holds_its_files()
     ensures configured { (image : Image) (t node : ℕ)
         → Contains (outcome (instant t (bus_at image t)) image).1 (line.Note t (configured_note node))
-        → IsConfigured (bus_at image (t + 1)) node }
+        → HasConfigured (bus_at image (t + 1)) node }
     ensures holds { (image : Image) → IsImage image → (t node : ℕ) (d : Device)
         → Contains (outcome (instant t (bus_at image t)) image).1 (line.Note t (configured_note node))
         → IsUp (bus_at image (t + 1)) node d
         → (place : ℕ × ℕ) (bytes : List ℕ) → Configures image node place bytes
-        → IsExcepted (marks_at image (t + 1) node) place ⊎ Holds d.values place bytes }
+        → IsExcepted (marks_at image (t + 1) node) place ⊎ HasData d.values place bytes }
 {}

@@ -1,7 +1,7 @@
 //! Whether what was handed out is the same.
 
 ghost use Rattle.std.specs.Prelude.{◌≡◌, ◌↔◌, IsTrue};
-ghost use Rattle.image_parts.specs.Shared.{shared};
+ghost use Rattle.image_parts.specs.Shared.{value_behind};
 
 use crate::identity::Identity;
 use crate::roster::Roster;
@@ -12,7 +12,7 @@ use std::rc::Rc;
 
 /// Whether the same roster was handed out, or none.
 pub(crate) fn same_roster(roster: &Option<Rc<Roster>>, other: &Option<Rc<Roster>>) -> bool
-    ensures { IsTrue result ↔ (shared roster.now ≡ shared other.now) }
+    ensures { IsTrue result ↔ (value_behind roster.now ≡ value_behind other.now) }
 {
     match (roster, other) {
         (None, None) => true,
@@ -23,7 +23,7 @@ pub(crate) fn same_roster(roster: &Option<Rc<Roster>>, other: &Option<Rc<Roster>
 
 /// Whether the same values were handed out, or none.
 pub(crate) fn same_values(values: &Option<Rc<Dict>>, other: &Option<Rc<Dict>>) -> bool
-    ensures { IsTrue result ↔ (shared values.now ≡ shared other.now) }
+    ensures { IsTrue result ↔ (value_behind values.now ≡ value_behind other.now) }
 {
     match (values, other) {
         (None, None) => true,
@@ -34,7 +34,7 @@ pub(crate) fn same_values(values: &Option<Rc<Dict>>, other: &Option<Rc<Dict>>) -
 
 /// Whether the same shape was handed out, or none.
 pub(crate) fn same_shape(shape: &Option<Rc<Shape>>, other: &Option<Rc<Shape>>) -> bool
-    ensures { IsTrue result ↔ (shared shape.now ≡ shared other.now) }
+    ensures { IsTrue result ↔ (value_behind shape.now ≡ value_behind other.now) }
 {
     match (shape, other) {
         (None, None) => true,
@@ -45,7 +45,7 @@ pub(crate) fn same_shape(shape: &Option<Rc<Shape>>, other: &Option<Rc<Shape>>) -
 
 /// Whether the same identity was handed out, or none.
 pub(crate) fn same_identity(identity: &Option<Rc<Identity>>, other: &Option<Rc<Identity>>) -> bool
-    ensures { IsTrue result ↔ (shared identity.now ≡ shared other.now) }
+    ensures { IsTrue result ↔ (value_behind identity.now ≡ value_behind other.now) }
 {
     match (identity, other) {
         (None, None) => true,
@@ -56,7 +56,7 @@ pub(crate) fn same_identity(identity: &Option<Rc<Identity>>, other: &Option<Rc<I
 
 /// Whether the same write was handed out, or none.
 pub(crate) fn same_write(write: &Option<Rc<Write>>, other: &Option<Rc<Write>>) -> bool
-    ensures { IsTrue result ↔ (shared write.now ≡ shared other.now) }
+    ensures { IsTrue result ↔ (value_behind write.now ≡ value_behind other.now) }
 {
     match (write, other) {
         (None, None) => true,
@@ -67,7 +67,7 @@ pub(crate) fn same_write(write: &Option<Rc<Write>>, other: &Option<Rc<Write>>) -
 
 /// Whether the same events were handed out, or none.
 pub(crate) fn same_window(window: &Option<Rc<Window>>, other: &Option<Rc<Window>>) -> bool
-    ensures { IsTrue result ↔ (shared window.now ≡ shared other.now) }
+    ensures { IsTrue result ↔ (value_behind window.now ≡ value_behind other.now) }
 {
     match (window, other) {
         (None, None) => true,

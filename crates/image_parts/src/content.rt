@@ -3,7 +3,7 @@
 ghost use Rattle.std.specs.Prelude.{◌≡◌, ◌↔◌, IsTrue};
 ghost use Rattle.image_parts.specs.Contents.{RosterIs, DefaultsAre, ShapeIs, ExpectIs, BootIs, EventsAre};
 ghost use Rattle.image_parts.specs.ContentView.{content_of};
-ghost use Rattle.image_parts.specs.Shared.{shared};
+ghost use Rattle.image_parts.specs.Shared.{value_behind};
 
 use crate::comparing::{
     same_identity, same_roster, same_shape, same_values, same_window, same_write,
@@ -70,7 +70,7 @@ impl Model for PartContent {
 impl PartContent {
     /// The roster of a network.
     pub fn of_roster(roster: Option<Rc<Roster>>) -> PartContent
-        ensures { result ≡ RosterIs (shared roster) }
+        ensures { result ≡ RosterIs (value_behind roster) }
     {
         PartContent {
             handed: Handed::Roster(roster),
@@ -79,7 +79,7 @@ impl PartContent {
 
     /// The default values of a node.
     pub fn of_defaults(values: Option<Rc<Dict>>) -> PartContent
-        ensures { result ≡ DefaultsAre (shared values) }
+        ensures { result ≡ DefaultsAre (value_behind values) }
     {
         PartContent {
             handed: Handed::Defaults(values),
@@ -88,7 +88,7 @@ impl PartContent {
 
     /// The shape of a node.
     pub fn of_shape(shape: Option<Rc<Shape>>) -> PartContent
-        ensures { result ≡ ShapeIs (shared shape) }
+        ensures { result ≡ ShapeIs (value_behind shape) }
     {
         PartContent {
             handed: Handed::Shape(shape),
@@ -97,7 +97,7 @@ impl PartContent {
 
     /// What is expected of a node.
     pub fn of_expect(identity: Option<Rc<Identity>>) -> PartContent
-        ensures { result ≡ ExpectIs (shared identity) }
+        ensures { result ≡ ExpectIs (value_behind identity) }
     {
         PartContent {
             handed: Handed::Expect(identity),
@@ -106,7 +106,7 @@ impl PartContent {
 
     /// A write of a node.
     pub fn of_boot(write: Option<Rc<Write>>) -> PartContent
-        ensures { result ≡ BootIs (shared write) }
+        ensures { result ≡ BootIs (value_behind write) }
     {
         PartContent {
             handed: Handed::Boot(write),
@@ -115,7 +115,7 @@ impl PartContent {
 
     /// The events of a window.
     pub fn of_events(window: Option<Rc<Window>>) -> PartContent
-        ensures { result ≡ EventsAre (shared window) }
+        ensures { result ≡ EventsAre (value_behind window) }
     {
         PartContent {
             handed: Handed::Events(window),

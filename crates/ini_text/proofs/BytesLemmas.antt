@@ -10,7 +10,7 @@ use Rattle.std.proofs.lemmas.Bool.Decides.{Decides-eqb, Decides-ltb, same_from_d
 use Rattle.std.proofs.lemmas.List.{reverse-append, reverse-reverse, length-reverse}
 use Rattle.std.proofs.lemmas.List.Folds.{list_any-append}
 use Rattle.std.proofs.lemmas.List.Sums.{prefix_len-le-length}
-use Rattle.ini_text.specs.Text.{is_blank, trim_start, trim_end, trimmed, split_once}
+use Rattle.ini_text.specs.Text.{is_blank, trim_start, trim_end, trim_line, split_once}
 use Rattle.ini_text.specs.Printable.{has_byte}
 use Rattle.ini_text.proofs.KeyedLemmas.{or_false_left, or_false_right}
 
@@ -35,8 +35,8 @@ trim_end_sharp bs h =
     take_all (length bs - suffix_len is_blank bs) bs n
 
 -- what has no blank at its ends is left as it is
-pub trimmed_sharp : (bs : List ℕ) → IsSharp bs → IsSharp (reverse bs) → trimmed bs ≡ bs
-unfolding trimmed
+pub trimmed_sharp : (bs : List ℕ) → IsSharp bs → IsSharp (reverse bs) → trim_line bs ≡ bs
+unfolding trim_line
 trimmed_sharp bs h g = ap (trim_end is_blank) (trim_start_sharp bs h) ∙ trim_end_sharp bs g
 
 sharp_start : (bs : List ℕ) → IsSharp (trim_start is_blank bs)
@@ -117,27 +117,27 @@ end_trim bs =
     }
 
 -- what is left has no blank at its ends
-pub sharp_trimmed : (bs : List ℕ) → IsSharp (trimmed bs)
-unfolding trimmed
+pub sharp_trimmed : (bs : List ℕ) → IsSharp (trim_line bs)
+unfolding trim_line
 sharp_trimmed bs = sharp_take _ (trim_start is_blank bs) (sharp_start bs)
 
-pub sharp_trimmed_end : (bs : List ℕ) → IsSharp (reverse (trimmed bs))
-unfolding trimmed
+pub sharp_trimmed_end : (bs : List ℕ) → IsSharp (reverse (trim_line bs))
+unfolding trim_line
 sharp_trimmed_end bs = (end_trim (trim_start is_blank bs)).sharp
 
-pub trimmed-trimmed : (bs : List ℕ) → trimmed (trimmed bs) ≡ trimmed bs
-trimmed-trimmed bs = trimmed_sharp (trimmed bs) (sharp_trimmed bs) (sharp_trimmed_end bs)
+pub trim_line-trim_line : (bs : List ℕ) → trim_line (trim_line bs) ≡ trim_line bs
+trim_line-trim_line bs = trimmed_sharp (trim_line bs) (sharp_trimmed bs) (sharp_trimmed_end bs)
 
-pub sharp_if_trim : (bs : List ℕ) → trimmed bs ≡ bs → IsSharp bs
+pub sharp_if_trim : (bs : List ℕ) → trim_line bs ≡ bs → IsSharp bs
 sharp_if_trim bs h = subst IsSharp h (sharp_trimmed bs)
 
-pub sharp_end_if_trim : (bs : List ℕ) → trimmed bs ≡ bs → IsSharp (reverse bs)
+pub sharp_end_if_trim : (bs : List ℕ) → trim_line bs ≡ bs → IsSharp (reverse bs)
 sharp_end_if_trim bs h = subst (λ xs. IsSharp (reverse xs)) h (sharp_trimmed_end bs)
 
 -- a blank in front is cut off
-pub trimmed-blank : (b : ℕ) (bs : List ℕ) → is_blank b ≡ true → trimmed (b ∷ bs) ≡ trimmed bs
-unfolding trimmed
-trimmed-blank b bs h =
+pub trim_line-blank : (b : ℕ) (bs : List ℕ) → is_blank b ≡ true → trim_line (b ∷ bs) ≡ trim_line bs
+unfolding trim_line
+trim_line-blank b bs h =
     let one : 1 + prefix_len is_blank bs ≡ suc (prefix_len is_blank bs) = omega arith in
     ap (λ n. trim_end is_blank (drop n (b ∷ bs))) (ap (λ t. cond t (1 + prefix_len is_blank bs) 0) h ∙ one)
 
@@ -145,17 +145,17 @@ trimmed-blank b bs h =
 pub record KeepsFirst (b : ℕ) (bs : List ℕ) : Type 0 where
   pub left : List ℕ
   pub blanks : List ℕ
-  pub is : trimmed (b ∷ bs) ≡ b ∷ left
+  pub is : trim_line (b ∷ bs) ≡ b ∷ left
   pub whole : bs ≡ left ++ blanks
   pub are_blank : AreBlank blanks
 
 pub keeps_first : (b : ℕ) (bs : List ℕ) → is_blank b ≡ false → KeepsFirst b bs
-unfolding trimmed
+unfolding trim_line
 keeps_first b bs h =
     let e = end_trim (b ∷ bs) in
     by (trim_end is_blank (b ∷ bs)) refl e.blanks e.whole e.are_blank
   where
-    same_trim : trimmed (b ∷ bs) ≡ trim_end is_blank (b ∷ bs)
+    same_trim : trim_line (b ∷ bs) ≡ trim_end is_blank (b ∷ bs)
     same_trim = ap (trim_end is_blank) (trim_start_sharp (b ∷ bs) h)
 
     first_blank : (blanks : List ℕ) → b ∷ bs ≡ blanks → AreBlank blanks → ⊥
@@ -190,8 +190,8 @@ module _ (p : ℕ → Bool) where
   none_taken (suc n) (b ∷ bs) h = rw (or_false_left (p b) (list_any p bs) h)
       (none_taken n bs (or_false_right (p b) (list_any p bs) h))
 
-  pub none_trimmed : (bs : List ℕ) → list_any p bs ≡ false → list_any p (trimmed bs) ≡ false
-  unfolding trimmed
+  pub none_trimmed : (bs : List ℕ) → list_any p bs ≡ false → list_any p (trim_line bs) ≡ false
+  unfolding trim_line
   none_trimmed bs h = none_taken _ (trim_start is_blank bs) (none_dropped (prefix_len is_blank bs) bs h)
 
   pub none_append : (fs bs : List ℕ) → list_any p fs ≡ false → list_any p bs ≡ false → list_any p (fs ++ bs) ≡ false

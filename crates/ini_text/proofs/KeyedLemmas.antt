@@ -9,12 +9,12 @@ use Rattle.std.specs.Str.{bytes_eq}
 use Rattle.std.proofs.lemmas.Bool.Decides.{same_from_decides}
 use Rattle.std.proofs.lemmas.Slice.Eq.{bytes_eq-Decides}
 use Rattle.indexmap.specs.IndexMap.{insert_entry}
-use Rattle.ini_text.specs.Content.{folded, same}
+use Rattle.ini_text.specs.Content.{lower_case, same}
 use Rattle.ini_text.specs.Keyed.{AreFolded}
 
 -- a test that says whether two names are equal without case
-pub same_is : (r : Bool) (a b : List ℕ) → (IsTrue r ↔ (folded a ≡ folded b)) → r ≡ same a b
-same_is r a b h = same_from_decides r (same a b) h (bytes_eq-Decides (folded a) (folded b))
+pub same_is : (r : Bool) (a b : List ℕ) → (IsTrue r ↔ (lower_case a ≡ lower_case b)) → r ≡ same a b
+same_is r a b h = same_from_decides r (same a b) h (bytes_eq-Decides (lower_case a) (lower_case b))
 
 pub or_false_left : (a b : Bool) → (a || b) ≡ false → a ≡ false
 or_false_left true b h = h
@@ -28,7 +28,7 @@ or_false_right false b h = h
 abbrev pub vec_eq : Vec ℕ → Vec ℕ → Bool
 vec_eq a b = pointwise eqb a.items b.items
 
-module _ {X : Type 0} (name : X → List ℕ) (q : List ℕ) (k : List ℕ) (is_folded : k ≡ folded q) where
+module _ {X : Type 0} (name : X → List ℕ) (q : List ℕ) (k : List ℕ) (is_folded : k ≡ lower_case q) where
   -- a folded name is a key where it is the name of a value
   pub has_folded : (es : List (Vec ℕ × X)) → AreFolded name es
       → is_some (lookup (λ v. bytes_eq k v.items) es) ≡ list_any (λ x. same q (name x)) (values_of es)
@@ -54,7 +54,7 @@ position_is p xs i h = by (ltb (position_or_len p xs) (length xs)) h
     by true g = cc
     by false g = cc
 
-module _ {X : Type 0} (name : X → List ℕ) (k : Vec ℕ) (x : X) (is_folded : k.items ≡ folded (name x)) where
+module _ {X : Type 0} (name : X → List ℕ) (k : Vec ℕ) (x : X) (is_folded : k.items ≡ lower_case (name x)) where
   -- a value of a new name goes last, and the keys are still the names of their values
   pub inserted : (es : List (Vec ℕ × X)) → AreFolded name es
       → list_any (λ y. same (name x) (name y)) (values_of es) ≡ false

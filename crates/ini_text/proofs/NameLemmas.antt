@@ -6,21 +6,21 @@ use Rattle.std.specs.Str.{bytes_eq}
 use Rattle.std.proofs.lemmas.Bool.{false≢true}
 use Rattle.std.proofs.lemmas.Bool.Decides.{same_from_decides}
 use Rattle.std.proofs.lemmas.Slice.Eq.{bytes_eq-Decides}
-use Rattle.ini_text.specs.Content.{folded, same, firsts}
+use Rattle.ini_text.specs.Content.{lower_case, same, firsts}
 use Rattle.ini_text.specs.Printable.{AreApart}
 
 -- equal names have one folded form
-pub same_folded : (a b : List ℕ) → same a b ≡ true → folded a ≡ folded b
-same_folded a b h = (bytes_eq-Decides (folded a) (folded b)).0 h
+pub same_folded : (a b : List ℕ) → same a b ≡ true → lower_case a ≡ lower_case b
+same_folded a b h = (bytes_eq-Decides (lower_case a) (lower_case b)).0 h
 
 -- and are equal both ways
 pub same_sym : (a b : List ℕ) → same a b ≡ same b a
-same_sym a b = same_from_decides (same a b) (same b a) (bytes_eq-Decides (folded a) (folded b))
-    (λ h. sym ((bytes_eq-Decides (folded b) (folded a)).0 h), λ e. (bytes_eq-Decides (folded b) (folded a)).1 (sym e))
+same_sym a b = same_from_decides (same a b) (same b a) (bytes_eq-Decides (lower_case a) (lower_case b))
+    (λ h. sym ((bytes_eq-Decides (lower_case b) (lower_case a)).0 h), λ e. (bytes_eq-Decides (lower_case b) (lower_case a)).1 (sym e))
 
 -- equal names are equal to the same names
 pub same_as : (a b c : List ℕ) → same a b ≡ true → same a c ≡ same b c
-same_as a b c h = ap (λ f. bytes_eq f (folded c)) (same_folded a b h)
+same_as a b c h = ap (λ f. bytes_eq f (lower_case c)) (same_folded a b h)
 
 pub record IsSameness {X : Type 0} (e : X → X → Bool) : Type 0 where
   pub flips : (a b : X) → e a b ≡ e b a
@@ -118,4 +118,4 @@ pub same_laws : IsSameness same
 same_laws = record { flips = same_sym; joins = same_as }
 
 pub same_refl : (a : List ℕ) → same a a ≡ true
-same_refl a = (bytes_eq-Decides (folded a) (folded a)).1 refl
+same_refl a = (bytes_eq-Decides (lower_case a) (lower_case a)).1 refl

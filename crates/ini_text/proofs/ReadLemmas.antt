@@ -5,7 +5,7 @@ use Rattle.std.specs.List.{onto_first, AllByRecursion}
 use Rattle.std.specs.Option.{option_and_then, option_map, option_map_or}
 use Rattle.std.proofs.lemmas.Bool.{false≢true}
 use Rattle.std.proofs.lemmas.Bool.Decides.{Decides-eqb}
-use Rattle.ini_text.specs.Text.{is_blank, trimmed, split_once, lines_of, without_mark}
+use Rattle.ini_text.specs.Text.{is_blank, trim_line, split_once, lines_of, without_mark}
 use Rattle.ini_text.specs.Line.{Line, nothing, header, pair, other, unless_empty, header_name, key_value, pair_or_other}
 use Rattle.ini_text.specs.Line.{header_or, meaning, line_of}
 use Rattle.ini_text.specs.Content.{Pair, Section, same, same_key, headers, pairs_under, firsts, section_of, sections_of}
@@ -17,7 +17,7 @@ use Rattle.ini_text.specs.Printable.{IsPrintableSection, IsPrintable, UsesNoComp
 use Rattle.ini_text.proofs.KeyedLemmas.{or_false_right}
 use Rattle.ini_text.proofs.NameLemmas.{all_filtered, firsts_apart}
 use Rattle.ini_text.proofs.ContentLemmas.{last_header-append}
-use Rattle.ini_text.proofs.BytesLemmas.{IsSharp, AreBlank, sharp_trimmed, trimmed-trimmed, trimmed-blank, keeps_first}
+use Rattle.ini_text.proofs.BytesLemmas.{IsSharp, AreBlank, sharp_trimmed, trim_line-trim_line, trim_line-blank, keeps_first}
 use Rattle.ini_text.proofs.BytesLemmas.{none_trimmed, none_append, none_left, none_right, split_once-cons, split, at}
 use Rattle.ini_text.proofs.BytesLemmas.{none, onto, parts, Split}
 
@@ -28,45 +28,45 @@ no_name (c ∷ cs) = cond (eqb c 93) true (cond (is_blank c) (no_name cs) (not (
 
 -- the name that a header has after its `[`
 abbrev name_in : List ℕ → Option (List ℕ)
-name_in bs = option_and_then (λ p. unless_empty (trimmed p.0)) (split_once 93 bs)
+name_in bs = option_and_then (λ p. unless_empty (trim_line p.0)) (split_once 93 bs)
 
 name_in-first : (c : ℕ) (cs : List ℕ) → name_in (c ∷ cs)
-    ≡ cond (eqb c 93) None (option_and_then (λ p. unless_empty (trimmed (c ∷ p.0))) (split_once 93 cs))
-unfolding trimmed
-name_in-first c cs = ap (option_and_then (λ p. unless_empty (trimmed p.0))) (split_once-cons 93 c cs)
+    ≡ cond (eqb c 93) None (option_and_then (λ p. unless_empty (trim_line (c ∷ p.0))) (split_once 93 cs))
+unfolding trim_line
+name_in-first c cs = ap (option_and_then (λ p. unless_empty (trim_line p.0))) (split_once-cons 93 c cs)
     ∙ by (eqb c 93) (split_once 93 cs)
   where
     by : (t : Bool) (o : Option (List ℕ × List ℕ))
-        → option_and_then (λ (p : List ℕ × List ℕ). unless_empty (trimmed p.0))
+        → option_and_then (λ (p : List ℕ × List ℕ). unless_empty (trim_line p.0))
         (cond t (Some (parts [] cs)) (option_map (onto c) o))
-        ≡ cond t None (option_and_then (λ p. unless_empty (trimmed (c ∷ p.0))) o)
+        ≡ cond t None (option_and_then (λ p. unless_empty (trim_line (c ∷ p.0))) o)
     by true o = refl
     by false None = refl
     by false (Some p) = refl
 
 name_in-blank : (c : ℕ) (o : Option (List ℕ × List ℕ)) → is_blank c ≡ true
-    → option_and_then (λ (p : List ℕ × List ℕ). unless_empty (trimmed (c ∷ p.0))) o
-    ≡ option_and_then (λ p. unless_empty (trimmed p.0)) o
+    → option_and_then (λ (p : List ℕ × List ℕ). unless_empty (trim_line (c ∷ p.0))) o
+    ≡ option_and_then (λ p. unless_empty (trim_line p.0)) o
 name_in-blank c None h = refl
-name_in-blank c (Some p) h = ap unless_empty (trimmed-blank c p.0 h)
+name_in-blank c (Some p) h = ap unless_empty (trim_line-blank c p.0 h)
 
 no_name_from : (bs : List ℕ) → name_in bs ≡ None → no_name bs ≡ true
 no_name_from [] h = refl
 no_name_from (c ∷ cs) h = by (eqb c 93) (is_blank c) refl (sym (name_in-first c cs) ∙ h) (no_name_from cs)
   where
     rest : is_blank c ≡ false → Split 93 cs
-        → option_and_then (λ (p : List ℕ × List ℕ). unless_empty (trimmed (c ∷ p.0))) (split_once 93 cs) ≡ None
+        → option_and_then (λ (p : List ℕ × List ℕ). unless_empty (trim_line (c ∷ p.0))) (split_once 93 cs) ≡ None
         → not (has_byte 93 cs) ≡ true
     rest b (at xs ys f w n) h =
         let k = keeps_first c xs b in
-        let s : unless_empty (trimmed (c ∷ xs)) ≡ None =
-        ap (option_and_then (λ (p : List ℕ × List ℕ). unless_empty (trimmed (c ∷ p.0)))) (sym f) ∙ h in
+        let s : unless_empty (trim_line (c ∷ xs)) ≡ None =
+        ap (option_and_then (λ (p : List ℕ × List ℕ). unless_empty (trim_line (c ∷ p.0)))) (sym f) ∙ h in
         let some : Some (c ∷ k.left) ≡ None = ap unless_empty (sym k.is) ∙ s in
         cc
     rest b (none f n) h = ap not n
 
     by : (t u : Bool) → is_blank c ≡ u
-        → cond t None (option_and_then (λ (p : List ℕ × List ℕ). unless_empty (trimmed (c ∷ p.0))) (split_once 93 cs))
+        → cond t None (option_and_then (λ (p : List ℕ × List ℕ). unless_empty (trim_line (c ∷ p.0))) (split_once 93 cs))
         ≡ None → (name_in cs ≡ None → no_name cs ≡ true)
         → cond t true (cond u (no_name cs) (not (has_byte 93 cs))) ≡ true
     by true u b h ih = refl
@@ -79,18 +79,18 @@ no_name_to [] h = refl
 no_name_to (c ∷ cs) h = name_in-first c cs ∙ by (eqb c 93) (is_blank c) refl h (no_name_to cs)
   where
     rest : Split 93 cs → not (has_byte 93 cs) ≡ true
-        → option_and_then (λ (p : List ℕ × List ℕ). unless_empty (trimmed (c ∷ p.0))) (split_once 93 cs) ≡ None
+        → option_and_then (λ (p : List ℕ × List ℕ). unless_empty (trim_line (c ∷ p.0))) (split_once 93 cs) ≡ None
     rest (at xs ys f w n) h = absurd (false≢true (sym (ap not (ap (has_byte 93) w ∙ there xs)) ∙ h))
       where
         there : (xs : List ℕ) → has_byte 93 (xs ++ 93 ∷ ys) ≡ true
         there [] = refl
         there (x ∷ xs) = elim (eqb x 93) as (λ t. (t || has_byte 93 (xs ++ 93 ∷ ys))
             ≡ true) [ true ↦ refl | false ↦ there xs ]
-    rest (none f n) h = ap (option_and_then (λ (p : List ℕ × List ℕ). unless_empty (trimmed (c ∷ p.0)))) f
+    rest (none f n) h = ap (option_and_then (λ (p : List ℕ × List ℕ). unless_empty (trim_line (c ∷ p.0)))) f
 
     by : (t u : Bool) → is_blank c ≡ u → cond t true (cond u (no_name cs) (not (has_byte 93 cs))) ≡ true
         → (no_name cs ≡ true → name_in cs ≡ None)
-        → cond t None (option_and_then (λ (p : List ℕ × List ℕ). unless_empty (trimmed (c ∷ p.0))) (split_once 93 cs))
+        → cond t None (option_and_then (λ (p : List ℕ × List ℕ). unless_empty (trim_line (c ∷ p.0))) (split_once 93 cs))
         ≡ None
     by true u b h ih = refl
     by false true b h ih = name_in-blank c (split_once 93 cs) b ∙ ih h
@@ -175,15 +175,15 @@ name_of_header (b ∷ bs) n h e = by (eqb b 91) (split 93 bs) e
     by : (t : Bool) → Split 93 bs → cond t (name_in bs) None ≡ Some n → IsName n
     by false s e = cc
     by true (none f w) e = let g : None ≡ Some n =
-        ap (option_and_then (λ (p : List ℕ × List ℕ). unless_empty (trimmed p.0))) (sym f) ∙ e in cc
+        ap (option_and_then (λ (p : List ℕ × List ℕ). unless_empty (trim_line p.0))) (sym f) ∙ e in cc
     by true (at xs ys f w lacks) e =
-        let k = some_if_kept (trimmed xs) n (ap (option_and_then (λ (p : List ℕ × List ℕ). unless_empty (trimmed p.0)))
+        let k = some_if_kept (trim_line xs) n (ap (option_and_then (λ (p : List ℕ × List ℕ). unless_empty (trim_line p.0)))
         (sym f) ∙ e) in
         let line : has_byte 10 xs ≡ false = none_left p xs (93 ∷ ys)
         (sym (ap (has_byte 10) w) ∙ or_false_right (eqb b 10) (has_byte 10 bs) h) in
         record {
           some = k.1;
-          trim = subst (λ ks. trimmed ks ≡ ks) k.0 (trimmed-trimmed xs);
+          trim = subst (λ ks. trim_line ks ≡ ks) k.0 (trim_line-trim_line xs);
           on_one_line = subst (λ ks. has_byte 10 ks ≡ false) k.0 (none_trimmed p xs line);
           unclosed = subst (λ ks. has_byte 93 ks ≡ false) k.0 (none_trimmed q xs lacks);
         }
@@ -192,7 +192,7 @@ name_of_header (b ∷ bs) n h e = by (eqb b 91) (split 93 bs) e
 pair_of_line : (b : ℕ) (bs k v : List ℕ) → is_blank b ≡ false → eqb b 59 ≡ false → has_byte 10 (b ∷ bs) ≡ false
     → header_name (b ∷ bs) ≡ None → key_value (b ∷ bs) ≡ Some (parts k v)
     → IsPrintablePair (record { key = k; value = v })
-unfolding key_value trimmed
+unfolding key_value trim_line
 pair_of_line b bs k v sharp no_comment h no_header e = by (split 61 (b ∷ bs)) e
   where
     lf : ℕ → Bool
@@ -205,31 +205,31 @@ pair_of_line b bs k v sharp no_comment h no_header e = by (split 61 (b ∷ bs)) 
     close x = eqb x 93
 
     given : (List ℕ × List ℕ) → Option (List ℕ × List ℕ)
-    given p = option_and_then (λ k. Some (parts k (trimmed p.1))) (unless_empty (trimmed p.0))
+    given p = option_and_then (λ k. Some (parts k (trim_line p.1))) (unless_empty (trim_line p.0))
 
     made : (c : ℕ) (xs ys : List ℕ) → b ∷ bs ≡ (c ∷ xs) ++ 61 ∷ ys → has_byte 61 (c ∷ xs) ≡ false
         → given (parts (c ∷ xs) ys) ≡ Some (parts k v) → IsPrintablePair (record { key = k; value = v })
     made c xs ys w lacks e =
         let first : b ≡ c = cc in
         let kf = keeps_first c xs (subst (λ x. is_blank x ≡ false) first sharp) in
-        let e' : Some (parts (c ∷ kf.left) (trimmed ys))
-        ≡ Some (parts k v) = ap (λ ts. option_and_then (λ k. Some (parts k (trimmed ys))) (unless_empty ts))
+        let e' : Some (parts (c ∷ kf.left) (trim_line ys))
+        ≡ Some (parts k v) = ap (λ ts. option_and_then (λ k. Some (parts k (trim_line ys))) (unless_empty ts))
         (sym kf.is) ∙ e in
-        let both : parts (c ∷ kf.left) (trimmed ys) ≡ parts k v = cc in
+        let both : parts (c ∷ kf.left) (trim_line ys) ≡ parts k v = cc in
         let key_is : c ∷ kf.left ≡ k = ap (λ (p : List ℕ × List ℕ). p.0) both in
-        let value_is : trimmed ys ≡ v = ap (λ (p : List ℕ × List ℕ). p.1) both in
-        let trimmed_is : trimmed (c ∷ xs) ≡ k = kf.is ∙ key_is in
+        let value_is : trim_line ys ≡ v = ap (λ (p : List ℕ × List ℕ). p.1) both in
+        let trimmed_is : trim_line (c ∷ xs) ≡ k = kf.is ∙ key_is in
         let line : has_byte 10 ((c ∷ xs) ++ 61 ∷ ys) ≡ false = sym (ap (has_byte 10) w) ∙ h in
         let value_line : has_byte 10 ys ≡ false = or_false_right (eqb 61 10) (has_byte 10 ys)
         (none_right lf (c ∷ xs) (61 ∷ ys) line) in
         let spread : b ∷ bs ≡ c ∷ (kf.left ++ (kf.blanks ++ 61 ∷ ys)) = w ∙ ap (λ zs. c ∷ (zs ++ 61 ∷ ys)) kf.whole
         ∙ ap (λ zs. c ∷ zs) (append_assoc kf.left kf.blanks (61 ∷ ys)) in
-        let tight = tight_no_header c kf.left kf.blanks ys (trimmed ys) kf.are_blank (sym (ap header_name spread)
+        let tight = tight_no_header c kf.left kf.blanks ys (trim_line ys) kf.are_blank (sym (ap header_name spread)
         ∙ no_header) (none_trimmed close ys) in
         record {
           key = record {
             some = subst (λ ks. 0 < length ks) key_is (omega arith);
-            trim = subst (λ ks. trimmed ks ≡ ks) trimmed_is (trimmed-trimmed (c ∷ xs));
+            trim = subst (λ ks. trim_line ks ≡ ks) trimmed_is (trim_line-trim_line (c ∷ xs));
             on_one_line = subst (λ ks. has_byte 10 ks ≡ false) trimmed_is (none_trimmed lf (c ∷ xs)
                 (none_left lf (c ∷ xs) (61 ∷ ys) line));
             unequal = subst (λ ks. has_byte 61 ks ≡ false) trimmed_is (none_trimmed same (c ∷ xs) lacks);
@@ -237,7 +237,7 @@ pair_of_line b bs k v sharp no_comment h no_header e = by (split 61 (b ∷ bs)) 
                 ≡ false) key_is (subst (λ x. eqb x 59 ≡ false) first no_comment);
           };
           value = record {
-            trim = subst (λ vs. trimmed vs ≡ vs) value_is (trimmed-trimmed ys);
+            trim = subst (λ vs. trim_line vs ≡ vs) value_is (trim_line-trim_line ys);
             on_one_line = subst (λ vs. has_byte 10 vs ≡ false) value_is (none_trimmed lf ys value_line);
           };
           no_header = subst (λ (p : List ℕ × List ℕ). header_name (p.0 ++ 61 ∷ p.1) ≡ None) both tight;
@@ -251,7 +251,7 @@ pair_of_line b bs k v sharp no_comment h no_header e = by (split 61 (b ∷ bs)) 
 
 can_print : (line : List ℕ) → has_byte 10 line ≡ false → CanPrint (line_of line)
 unfolding line_of
-can_print line h = by (trimmed line) (sharp_trimmed line) (none_trimmed (λ c. eqb c 10) line h)
+can_print line h = by (trim_line line) (sharp_trimmed line) (none_trimmed (λ c. eqb c 10) line h)
   where
     given : (b : ℕ) (bs : List ℕ) → is_blank b ≡ false → has_byte 10 (b ∷ bs) ≡ false → eqb b 59 ≡ false
         → header_name (b ∷ bs) ≡ None → (o : Option (List ℕ × List ℕ)) → key_value (b ∷ bs) ≡ o

@@ -4,7 +4,7 @@ use Rattle.std.proofs.Common.{sym, subst, append_assoc, arith}
 use Rattle.std.specs.List.{flat_map, onto_first, AllByRecursion}
 use Rattle.std.specs.Option.{option_and_then}
 use Rattle.std.proofs.lemmas.List.{map-append, reverse-append}
-use Rattle.ini_text.specs.Text.{trimmed, lines_of, without_mark}
+use Rattle.ini_text.specs.Text.{trim_line, lines_of, without_mark}
 use Rattle.ini_text.specs.Line.{Line, header, pair, unless_empty, header_name, key_value, pair_or_other, header_or}
 use Rattle.ini_text.specs.Line.{meaning, line_of}
 use Rattle.ini_text.specs.Content.{Pair, Section, line_list}
@@ -89,7 +89,7 @@ line_of-header : (name : List ℕ) → IsName name → line_of (header_line name
 unfolding line_of header_name
 line_of-header name h =
     ap meaning (trimmed_sharp (header_line name) refl (sharp_closed name))
-    ∙ ap (λ o. header_or (option_and_then (λ (p : List ℕ × List ℕ). unless_empty (trimmed p.0)) o)
+    ∙ ap (λ o. header_or (option_and_then (λ (p : List ℕ × List ℕ). unless_empty (trim_line p.0)) o)
     (pair_or_other (key_value (header_line name)))) (split_once_at 93 name [] refl h.unclosed)
     ∙ ap (λ o. header_or o (pair_or_other (key_value (header_line name))))
     (ap unless_empty h.trim ∙ some_stays name h.some)
@@ -113,9 +113,9 @@ key_value-line : (key value : List ℕ) → IsKey key → IsValue value
     → key_value (key ++ 61 ∷ value) ≡ Some (parts key value)
 unfolding key_value
 key_value-line key value k v =
-    ap (option_and_then (λ (p : List ℕ × List ℕ). option_and_then (λ k. Some (parts k (trimmed p.1)))
-    (unless_empty (trimmed p.0)))) (split_once_at 61 key value refl k.unequal)
-    ∙ ap (option_and_then (λ k. Some (parts k (trimmed value)))) (ap unless_empty k.trim ∙ some_stays key k.some)
+    ap (option_and_then (λ (p : List ℕ × List ℕ). option_and_then (λ k. Some (parts k (trim_line p.1)))
+    (unless_empty (trim_line p.0)))) (split_once_at 61 key value refl k.unequal)
+    ∙ ap (option_and_then (λ k. Some (parts k (trim_line value)))) (ap unless_empty k.trim ∙ some_stays key k.some)
     ∙ ap (λ v. Some (parts key v)) v.trim
 
 no_comment_line : (key rest : List ℕ) → 0 < length key → begins_with 59 key ≡ false

@@ -6,7 +6,7 @@ use Rattle.std.specs.Map.{lookup, set_value, values_of}
 use Rattle.std.specs.Option.{option_and_then}
 use Rattle.std.specs.Str.{bytes_eq}
 use Rattle.indexmap.specs.IndexMap.{set_value_at}
-use Rattle.ini_text.specs.Content.{Section, folded, same, value_at, content_at}
+use Rattle.ini_text.specs.Content.{Section, lower_case, same, value_at, content_at}
 use Rattle.ini_text.specs.Keyed.{AreFolded}
 use Rattle.ini_text.specs.Reading.{has_key, with_pair, with_pair_at}
 use Rattle.ini_text.specs.Change.{put_in_section}
@@ -28,7 +28,7 @@ pub folded_at : (es : List (Vec ℕ × Section)) (i : ℕ) (old w : Section) →
     → slice_get (values_of es) i ≡ Some old → w.name ≡ old.name → AreFolded (λ s. s.name) (set_value_at es i w)
 folded_at [] i old w h at n = tt
 folded_at (e ∷ es) zero old w h at n = let x : e.1 ≡ old = cc
-    in (h.0 ∙ ap (λ s. folded s.name) x ∙ ap folded (sym n), h.1)
+    in (h.0 ∙ ap (λ s. lower_case s.name) x ∙ ap lower_case (sym n), h.1)
 folded_at (e ∷ es) (suc i) old w h at n = (h.0, folded_at es i old w h.1 at n)
 
 pub put_at : (es : List (Vec ℕ × Section)) (i : ℕ) (old w : Section) (key value : List ℕ)
@@ -51,7 +51,7 @@ nothing_at [] i key value h = refl
 nothing_at (s ∷ ss) zero key value h = cc
 nothing_at (s ∷ ss) (suc i) key value h = ap (λ xs. s ∷ xs) (nothing_at ss i key value h)
 
-module _ (q k : List ℕ) (is_folded : k ≡ folded q) where
+module _ (q k : List ℕ) (is_folded : k ≡ lower_case q) where
   -- what a table of sections has at a folded name
   pub content_found : (es : List (Vec ℕ × Section)) (key : List ℕ) → AreFolded (λ s. s.name) es
       → content_at (values_of es) q key ≡ option_and_then (λ s. value_at s.pairs key)

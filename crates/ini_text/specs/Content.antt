@@ -5,7 +5,7 @@ use Rattle.std.specs.Prelude.{ℕ, ◌+◌, Bool, true, false, List, [], ◌∷�
 use Rattle.std.specs.Prelude.{not, Option, Some, None}
 use Rattle.std.specs.List.{list_any}
 use Rattle.std.specs.Option.{option_map_or}
-pub use Rattle.ini_text.specs.Name.{folded, same}
+pub use Rattle.ini_text.specs.Name.{lower_case, same}
 pub use Rattle.ini_text.specs.CompactPdo.{is_misused, is_zero}
 use Rattle.ini_text.specs.Line.{Line, nothing, header, pair, other, line_of}
 use Rattle.ini_text.specs.Text.{lines_of, without_mark}

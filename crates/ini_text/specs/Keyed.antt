@@ -6,15 +6,15 @@ use Rattle.std.specs.Global.{Vec}
 use Rattle.std.specs.Str.{byte, bytes_eq}
 use Rattle.std.specs.Cmp.Lexicographic.{bytes_decides}
 use Rattle.std.proofs.Common.{ap}
-use Rattle.ini_text.specs.Content.{folded}
+use Rattle.ini_text.specs.Content.{lower_case}
 
 -- each key is the folded name of its value
 abbrev pub AreFolded : {X : Type 0} → (X → List ℕ) → List (Vec ℕ × X) → Type 0
-AreFolded name es = AllByRecursion (λ e. e.0.items ≡ folded (name e.1)) es
+AreFolded name es = AllByRecursion (λ e. e.0.items ≡ lower_case (name e.1)) es
 
 -- what a hasher is fed for a name
 abbrev pub name_writes : List ℕ → List (List ℕ)
-name_writes name = fed.slice fed.u8 (folded name)
+name_writes name = fed.slice fed.u8 (lower_case name)
 
 -- equal bytes are fed alike
 pub fed_alike : (a b : List ℕ) → bytes_eq a b ≡ true → fed.slice fed.u8 a ≡ fed.slice fed.u8 b

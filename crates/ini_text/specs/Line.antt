@@ -3,7 +3,7 @@
 use Rattle.std.specs.Prelude.{ℕ, List, [], ◌∷◌, ◌==◌, if◌then◌else◌, Option, Some, None}
 use Rattle.std.specs.Option.{option_and_then}
 use Rattle.std.specs.Str.{byte}
-use Rattle.ini_text.specs.Text.{trimmed, split_once}
+use Rattle.ini_text.specs.Text.{trim_line, split_once}
 
 -- nothing; a header with its name; a key and a value; anything else
 pub data Line : Type 0 where
@@ -20,12 +20,12 @@ unless_empty (b ∷ bs) = Some (b ∷ bs)
 -- the name in a trimmed line that begins with `[`, has a `]`, and something but blanks between them
 unfoldable pub header_name : List ℕ → Option (List ℕ)
 header_name [] = None
-header_name (b ∷ bs) = if b == byte "[" then option_and_then (λ p. unless_empty (trimmed p.0))
+header_name (b ∷ bs) = if b == byte "[" then option_and_then (λ p. unless_empty (trim_line p.0))
     (split_once (byte "]") bs) else None
 
 -- the key and the value in a trimmed line that has `=` with a key before the first one
 unfoldable pub key_value : List ℕ → Option (List ℕ × List ℕ)
-key_value line = option_and_then (λ p. option_and_then (λ k. Some (k, trimmed p.1)) (unless_empty (trimmed p.0)))
+key_value line = option_and_then (λ p. option_and_then (λ k. Some (k, trim_line p.1)) (unless_empty (trim_line p.0)))
     (split_once (byte "=") line)
 
 -- a key and a value, or anything else
@@ -46,4 +46,4 @@ meaning (b ∷ bs) = if b == byte ";" then nothing
 
 -- what a line means
 unfoldable pub line_of : List ℕ → Line
-line_of line = meaning (trimmed line)
+line_of line = meaning (trim_line line)

@@ -2,7 +2,7 @@
 use Rattle.std.specs.Prelude.{◌≡◌, ℕ, ◌<◌, Bool, false, List, [], ◌∷◌, ◌++◌, ◌==◌, length, None}
 use Rattle.std.specs.List.{list_any, AllByRecursion}
 use Rattle.std.specs.Str.{byte}
-use Rattle.ini_text.specs.Text.{line_feed, trimmed}
+use Rattle.ini_text.specs.Text.{line_feed, trim_line}
 use Rattle.ini_text.specs.Line.{header_name}
 use Rattle.ini_text.specs.Content.{Pair, Section, same, same_key, is_misused}
 
@@ -18,21 +18,21 @@ begins_with b (c ∷ cs) = c == b
 -- not empty, with no space, tab or CR at its ends, with no LF and no `]`
 pub record IsName (name : List ℕ) : Type 0 where
   pub some : 0 < length name
-  pub trim : trimmed name ≡ name
+  pub trim : trim_line name ≡ name
   pub on_one_line : has_byte line_feed name ≡ false
   pub unclosed : has_byte (byte "]") name ≡ false
 
 -- not empty, with no space, tab or CR at its ends, with no LF and no `=`, and not begun by `;`
 pub record IsKey (key : List ℕ) : Type 0 where
   pub some : 0 < length key
-  pub trim : trimmed key ≡ key
+  pub trim : trim_line key ≡ key
   pub on_one_line : has_byte line_feed key ≡ false
   pub unequal : has_byte (byte "=") key ≡ false
   pub no_comment : begins_with (byte ";") key ≡ false
 
 -- with no space, tab or CR at its ends, and with no LF
 pub record IsValue (value : List ℕ) : Type 0 where
-  pub trim : trimmed value ≡ value
+  pub trim : trim_line value ≡ value
   pub on_one_line : has_byte line_feed value ≡ false
 
 -- the key is one and the value is one, and `key=value` is no header

@@ -4,8 +4,8 @@ use Rattle.ini_text.specs.declared.line.Line.TheVariants.{Nothing, Header, Pair,
 use Rattle.ini_text.specs.Line.{Line, nothing, header, pair, other}
 
 -- the line that it names
-abbrev pub shown : Read → Line
-shown Nothing = nothing
-shown (Header name) = header name.now
-shown (Pair key value) = pair key.now value.now
-shown Other = other
+abbrev pub line_of_read : Read → Line
+line_of_read Nothing = nothing
+line_of_read (Header name) = header name.now
+line_of_read (Pair key value) = pair key.now value.now
+line_of_read Other = other

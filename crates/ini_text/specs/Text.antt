@@ -19,8 +19,8 @@ abbrev pub is_blank : ℕ → Bool
 is_blank b = (b == byte " ") || (b == tab) || (b == carriage_return)
 
 -- without spaces, tabs and CRs at its ends
-unfoldable pub trimmed : List ℕ → List ℕ
-trimmed bs = trim_end is_blank (trim_start is_blank bs)
+unfoldable pub trim_line : List ℕ → List ℕ
+trim_line bs = trim_end is_blank (trim_start is_blank bs)
 
 -- without a byte order mark at its front
 abbrev pub without_mark : List ℕ → List ℕ

@@ -4,7 +4,7 @@ ghost use Rattle.std.specs.Cmp.{on_equiv, on_per, partial_equiv_from_equiv};
 ghost use Rattle.std.specs.Cmp.Lexicographic.{nat_list_eq_equiv};
 ghost use Rattle.std.specs.Hash as fed;
 ghost use Rattle.std.specs.Str.{bytes_eq};
-ghost use Rattle.ini_text.specs.Content.{folded, same};
+ghost use Rattle.ini_text.specs.Content.{lower_case, same};
 ghost use Rattle.ini_text.specs.Keyed.{name_writes, fed_alike};
 
 use crate::pair::Pair;
@@ -13,8 +13,8 @@ use std::alloc::{AllocError, Global};
 use std::hash::{Hash, Hasher};
 
 /// The bytes with `a` to `z` in place of `A` to `Z`.
-pub(crate) fn folded(alloc: Global, bytes: &[u8]) -> Result<Vec<u8>, AllocError>
-    ensures { IfOk result (λ v. v.items ≡ folded bytes.now) }
+pub(crate) fn lower_case(alloc: Global, bytes: &[u8]) -> Result<Vec<u8>, AllocError>
+    ensures { IfOk result (λ v. v.items ≡ lower_case bytes.now) }
 {
     let mut folded = Vec::from_slice(alloc, bytes)?;
     folded.make_ascii_lowercase();
@@ -31,7 +31,7 @@ pub(crate) fn same(a: &[u8], b: &[u8]) -> bool
 
 /// Whether `key` is the folded `name`.
 fn is_folded(name: &[u8], key: &[u8]) -> bool
-    ensures { result ≡ bytes_eq (folded name.now) key.now }
+    ensures { result ≡ bytes_eq (lower_case name.now) key.now }
 {
     let mut name = name;
     let mut key = key;
@@ -65,7 +65,7 @@ pub(crate) struct Name<'a>(pub(crate) &'a [u8]);
 impl PartialEq for Name<'_> {
     ghost eq = { λ a b. same a.0.now b.0.now };
 
-    ghost laws = { on_per (λ a. folded a.0.now) (partial_equiv_from_equiv nat_list_eq_equiv) };
+    ghost laws = { on_per (λ a. lower_case a.0.now) (partial_equiv_from_equiv nat_list_eq_equiv) };
 
     fn eq(&self, other: &Name<'_>) -> bool {
         same(self.0, other.0)
@@ -73,13 +73,13 @@ impl PartialEq for Name<'_> {
 }
 
 impl Eq for Name<'_> {
-    ghost laws = { on_equiv (λ a. folded a.0.now) nat_list_eq_equiv };
+    ghost laws = { on_equiv (λ a. lower_case a.0.now) nat_list_eq_equiv };
 }
 
 impl Hash for Name<'_> {
     ghost hash_input = { λ a. name_writes a.0.now };
 
-    ghost respects_eq = { λ a b. fed_alike (folded a.0.now) (folded b.0.now) };
+    ghost respects_eq = { λ a b. fed_alike (lower_case a.0.now) (lower_case b.0.now) };
 
     fn hash<H: Hasher>(&self, state: &mut H) {
         hash_name(self.0, state)
@@ -90,9 +90,9 @@ impl Hash for Name<'_> {
 impl Equivalent<Pair> for Name<'_> {
     ghost equivalent = { λ a p. same a.0.now p.key };
 
-    ghost respects_hash = { λ a p. fed_alike (folded a.0.now) (folded p.key) };
+    ghost respects_hash = { λ a p. fed_alike (lower_case a.0.now) (lower_case p.key) };
 
-    ghost respects_eq = { λ a p q. nat_list_eq_equiv.congr (folded a.0.now) (folded p.key) (folded q.key) };
+    ghost respects_eq = { λ a p q. nat_list_eq_equiv.congr (lower_case a.0.now) (lower_case p.key) (lower_case q.key) };
 
     fn equivalent(&self, pair: &Pair) -> bool {
         same(self.0, pair.key())
@@ -101,11 +101,11 @@ impl Equivalent<Pair> for Name<'_> {
 
 /// Stands for the folded name.
 impl Equivalent<Vec<u8>> for Name<'_> {
-    ghost equivalent = { λ a k. bytes_eq (folded a.0.now) k.items };
+    ghost equivalent = { λ a k. bytes_eq (lower_case a.0.now) k.items };
 
-    ghost respects_hash = { λ a k. fed_alike (folded a.0.now) k.items };
+    ghost respects_hash = { λ a k. fed_alike (lower_case a.0.now) k.items };
 
-    ghost respects_eq = { λ a k m. nat_list_eq_equiv.congr (folded a.0.now) k.items m.items };
+    ghost respects_eq = { λ a k m. nat_list_eq_equiv.congr (lower_case a.0.now) k.items m.items };
 
     fn equivalent(&self, key: &Vec<u8>) -> bool {
         is_folded(self.0, key.as_slice())

@@ -2,7 +2,7 @@
 ghost use Rattle.std.specs.Prelude.{◌≡◌, ◌++◌, IfOk, OnOk};
 ghost use Rattle.std.specs.Cmp.{on_equiv, on_per, partial_equiv_from_equiv};
 ghost use Rattle.std.specs.Cmp.Lexicographic.{nat_list_eq_equiv};
-ghost use Rattle.ini_text.specs.Content.{folded, same_key};
+ghost use Rattle.ini_text.specs.Content.{lower_case, same_key};
 ghost use Rattle.ini_text.specs.Change.{pair_text};
 ghost use Rattle.ini_text.specs.Keyed.{name_writes, fed_alike};
 
@@ -72,7 +72,7 @@ impl Pair {
 impl PartialEq for Pair {
     ghost eq = { same_key };
 
-    ghost laws = { on_per (λ p. folded p.key) (partial_equiv_from_equiv nat_list_eq_equiv) };
+    ghost laws = { on_per (λ p. lower_case p.key) (partial_equiv_from_equiv nat_list_eq_equiv) };
 
     fn eq(&self, other: &Pair) -> bool {
         same(self.key(), other.key())
@@ -80,13 +80,13 @@ impl PartialEq for Pair {
 }
 
 impl Eq for Pair {
-    ghost laws = { on_equiv (λ p. folded p.key) nat_list_eq_equiv };
+    ghost laws = { on_equiv (λ p. lower_case p.key) nat_list_eq_equiv };
 }
 
 impl Hash for Pair {
     ghost hash_input = { λ p. name_writes p.key };
 
-    ghost respects_eq = { λ p q. fed_alike (folded p.key) (folded q.key) };
+    ghost respects_eq = { λ p q. fed_alike (lower_case p.key) (lower_case q.key) };
 
     fn hash<H: Hasher>(&self, state: &mut H) {
         hash_name(self.key(), state)

@@ -5,7 +5,7 @@ ghost use Rattle.ini_text.specs.Keyed.{AreFolded};
 ghost use Rattle.ini_text.specs.Reading.{position_of, with_name, with_pair_at, has_key_at};
 ghost use Rattle.ini_text.specs.Change.{with_value, text_of};
 
-use crate::name::{Name, folded};
+use crate::name::{Name, lower_case};
 use crate::section::Section;
 use indexmap::IndexMap;
 use std::alloc::{AllocError, Global};
@@ -25,7 +25,7 @@ pub(crate) fn open(
     if let Some(position) = sections.get_index_of(Name(name)) {
         return Ok(position);
     }
-    let folded = folded(alloc, name)?;
+    let folded = lower_case(alloc, name)?;
     let section = Section::new(alloc, name)?;
     let (position, _) = sections.insert_full(folded, section)?;
     Ok(position)
@@ -70,7 +70,7 @@ pub(crate) fn set_in(
     match sections.get_mut(Name(name)) {
         Some(section) => section.set(alloc, key, value),
         None => {
-            let folded = folded(alloc, name)?;
+            let folded = lower_case(alloc, name)?;
             let mut section = Section::new(alloc, name)?;
             section.set(alloc, key, value)?;
             sections.insert(folded, section)?;

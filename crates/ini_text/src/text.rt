@@ -3,7 +3,7 @@ ghost use Rattle.std.specs.Prelude.{◌≡◌, ℕ, ◌==◌, ◌<◌, ◌≤◌
 ghost use Rattle.std.specs.List.{position, list_any};
 ghost use Rattle.std.specs.Bool.{IsFalse};
 ghost use Rattle.std.specs.Option.{option_map};
-ghost use Rattle.ini_text.specs.Text.{is_blank, is_cr, trim_start, trim_end, trimmed, split_once, lines_of};
+ghost use Rattle.ini_text.specs.Text.{is_blank, is_cr, trim_start, trim_end, trim_line, split_once, lines_of};
 ghost use Rattle.ini_text.specs.Text.{without_mark, is_long_line, is_out_of_range, is_bad_byte, has_bad_byte};
 
 use plain_text::{next_line, without_crs};
@@ -39,9 +39,9 @@ fn trim_end(bytes: &[u8]) -> &[u8]
 }
 
 /// Without spaces, tabs and CRs at its ends.
-#[tactic(auto, unfolding(crate::specs::Text::trimmed))]
-pub(crate) fn trimmed(bytes: &[u8]) -> &[u8]
-    ensures { result.now ≡ trimmed bytes.now }
+#[tactic(auto, unfolding(crate::specs::Text::trim_line))]
+pub(crate) fn trim_line(bytes: &[u8]) -> &[u8]
+    ensures { result.now ≡ trim_line bytes.now }
 {
     trim_end(trim_start(bytes))
 }

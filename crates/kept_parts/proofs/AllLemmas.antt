@@ -20,9 +20,9 @@ use Rattle.part_shelves.specs.Slots.{text_kept}
 use Rattle.kept_parts.specs.declared.kept_parts.KeptParts.{KeptParts}
 use Rattle.project_parts.specs.declared.part.Part.{Part}
 use Rattle.project_parts.specs.declared.part.Part.TheVariants as part
-use Rattle.kept_parts.specs.Kept.{held, AreHeld, IsOf}
-use Rattle.project_parts.specs.Given.{given, same_part, OfDevice}
-use Rattle.project_parts.specs.Reached.{for_node, for_nodes, for_plan, of_node, of_nodes, own_device, reached}
+use Rattle.kept_parts.specs.Kept.{kept_inputs, AreHeld, IsOf}
+use Rattle.project_parts.specs.Given.{inputs_of, same_part, OfDevice}
+use Rattle.project_parts.specs.Reached.{for_node, for_nodes, for_plan, of_node, of_nodes, own_device, parts_for}
 use Rattle.project_parts.specs.Reached.{reached_by_trace, windows_below}
 use Rattle.network_image.specs.Devices.{HoldsDevices}
 use Rattle.kept_parts.proofs.CurrentLemmas.{itself}
@@ -55,7 +55,7 @@ any_node f n node (e ∷ es) there h = by (eq_by_cmp nat_cmp n e.0) there (λ la
 
 module _ (p : Project) where
   abbrev pub Brings : List Part → KeptParts → KeptParts → Work → Work → Type 0
-  Brings ps a b m n = AreBrought same_part (given p) ps (held a) (held b) m n
+  Brings ps a b m n = AreBrought same_part (inputs_of p) ps (kept_inputs a) (kept_inputs b) m n
 
   known : (n : ℕ) (node : Node) → node_at p.nodes n ≡ Some node → find nat_cmp n (entries p.nodes) ≡ Some node
   known n node there = sym (get-entries p.nodes n) ∙ there
@@ -84,7 +84,7 @@ module _ (p : Project) where
   -- ---- the devices of the nodes
 
   pub holds_by : (k : KeptParts) → ((n : ℕ) (node : Node) → node_at p.nodes n ≡ Some node
-      → held k (part.Device node.eds) ≡ given p (part.Device node.eds))
+      → kept_inputs k (part.Device node.eds) ≡ inputs_of p (part.Device node.eds))
       → HoldsDevices p k.devices
   holds_by k are n node there =
       option_map_back OfDevice (λ x y e. cc) (text_kept k.devices node.eds) (text_at p.texts node.eds) (are n node there)
@@ -99,7 +99,7 @@ module _ (p : Project) where
       → Brings (of_nodes p) a b m n → HoldsDevices p b.devices
   holds_brought a b m n x =
       holds_by b (λ id node there.
-      brought_now same_part (given p) (of_nodes p) (held a) (held b) m n x
+      brought_now same_part (inputs_of p) (of_nodes p) (kept_inputs a) (kept_inputs b) m n x
       (part.Device node.eds) (device_among id node there))
 
   pub holds_planned : (k : KeptParts) → AreHeld p (for_plan p) k → HoldsDevices p k.devices
@@ -115,40 +115,40 @@ module _ (p : Project) where
 
   pub held_brought : (ps : List Part) (a b : KeptParts) (m n : Work) → Brings ps a b m n → AreHeld p ps b
   unfolding AreHeld
-  held_brought ps a b m n x = brought_now same_part (given p) ps (held a) (held b) m n x
+  held_brought ps a b m n x = brought_now same_part (inputs_of p) ps (kept_inputs a) (kept_inputs b) m n x
 
   pub still_held : (ps qs : List Part) (a b : KeptParts) (m n : Work) → Brings ps a b m n → AreHeld p qs a
       → AreHeld p qs b
   unfolding AreHeld
-  still_held ps qs a b m n x are = still_now same_part (given p) ps qs (held a) (held b) m n x are
+  still_held ps qs a b m n x are = still_now same_part (inputs_of p) ps qs (kept_inputs a) (kept_inputs b) m n x are
 
   own_without : (n : ℕ) (q : Part) (a b : KeptParts) (k m : Work) → AreHeld p (for_plan p) a
       → Brings (own_device p n ++ q ∷ []) a b k m → Brings (q ∷ []) a b k m
   unfolding AreHeld
   own_without n q a b k m are x =
-      brought_without same_part (given p) itself (own_device p n) (q ∷ []) (held a) (held b) k m
+      brought_without same_part (inputs_of p) itself (own_device p n) (q ∷ []) (kept_inputs a) (kept_inputs b) k m
       (λ r there. are r (own_in_plan (same_part r) n there)) x
 
   writes_without : (n : ℕ) (a b : KeptParts) (k m : Work) → AreHeld p (for_plan p) a
-      → Brings (reached p (part.Writes n)) a b k m → Brings (part.Writes n ∷ []) a b k m
+      → Brings (parts_for p (part.Writes n)) a b k m → Brings (part.Writes n ∷ []) a b k m
   unfolding AreHeld
   writes_without n a b k m are x =
       let before : List Part = for_plan p ++ own_device p n in
-      brought_without same_part (given p) itself before (part.Writes n ∷ []) (held a) (held b) k m
+      brought_without same_part (inputs_of p) itself before (part.Writes n ∷ []) (kept_inputs a) (kept_inputs b) k m
       (λ r there. are r (both_in_plan (same_part r) n there)) x
 
   module _ (n : ℕ) (a b c : KeptParts) (k l m : Work) (plan : AreHeld p (for_plan p) a)
-      (one : Brings (reached p (part.Node n)) a b k l)
-      (two : Brings (reached p (part.Writes n)) b c l m) where
+      (one : Brings (parts_for p (part.Node n)) a b k l)
+      (two : Brings (parts_for p (part.Writes n)) b c l m) where
     plan_b : AreHeld p (for_plan p) b
-    plan_b = still_held (reached p (part.Node n)) (for_plan p) a b k l one plan
+    plan_b = still_held (parts_for p (part.Node n)) (for_plan p) a b k l one plan
 
     pub plan_still : AreHeld p (for_plan p) c
-    plan_still = still_held (reached p (part.Writes n)) (for_plan p) b c l m two plan_b
+    plan_still = still_held (parts_for p (part.Writes n)) (for_plan p) b c l m two plan_b
 
     pub node_brought : Brings (for_node n) a c k m
     node_brought =
-        both same_part (given p) (part.Node n ∷ []) (part.Writes n ∷ []) (held a) (held b) (held c) k l m
+        both same_part (inputs_of p) (part.Node n ∷ []) (part.Writes n ∷ []) (kept_inputs a) (kept_inputs b) (kept_inputs c) k l m
         (own_without n (part.Node n) a b k l plan one) (writes_without n b c l m plan_b two)
 
 -- ---- node after node
@@ -169,7 +169,7 @@ pub record NodesSoFar (p : Project) (rest : List (ℕ × Node)) (a b : KeptParts
 pub nodes_start : (p : Project) (rest : List (ℕ × Node)) (a : KeptParts) (k : Work) → rest ≡ entries p.nodes
     → AreHeld p (for_plan p) a → IsOf p a → NodesSoFar p rest a a k k
 nodes_start p rest a k e plan is =
-    record { done = []; all = e; brought = none same_part (given p) (held a) k; plan = plan; is = is }
+    record { done = []; all = e; brought = none same_part (inputs_of p) (kept_inputs a) k; plan = plan; is = is }
 
 pub nodes_more : (p : Project) (e : ℕ × Node) (rest : List (ℕ × Node)) (a b c : KeptParts) (k m n : Work)
     → NodesSoFar p (e ∷ rest) a b k m → Brings p (for_node e.0) b c m n → AreHeld p (for_plan p) c → IsOf p c
@@ -180,7 +180,7 @@ nodes_more p e rest a b c k m n s x plan is =
       all = append_assoc s.done (e ∷ []) rest ∙ s.all;
       brought =
           rw (for_nodes-append s.done (e ∷ []))
-          (both same_part (given p) (for_nodes s.done) (for_node e.0) (held a) (held b) (held c) k m n s.brought x);
+          (both same_part (inputs_of p) (for_nodes s.done) (for_node e.0) (kept_inputs a) (kept_inputs b) (kept_inputs c) k m n s.brought x);
       plan = plan;
       is = is;
     }
@@ -201,7 +201,7 @@ pub windows_start : (p : Project) (a : KeptParts) (k : Work) → HoldsDevices p 
     → WindowsSoFar p 0 a a k k
 unfolding windows_below
 windows_start p a k holds is =
-    record { brought = none same_part (given p) (held a) k; holds = holds; is = is }
+    record { brought = none same_part (inputs_of p) (kept_inputs a) k; holds = holds; is = is }
 
 pub windows_more : (p : Project) (i : ℕ) (a b c : KeptParts) (k m n : Work) → WindowsSoFar p i a b k m
     → Brings p (part.Window i ∷ []) b c m n → c.devices ≡ b.devices → IsOf p c → WindowsSoFar p (i + 1) a c k n
@@ -211,7 +211,7 @@ windows_more p i a b c k m n s x same is =
     record {
       brought =
           subst (λ (j : ℕ). Brings p (windows_below j) a c k n) next
-          (both same_part (given p) (windows_below i) (part.Window i ∷ []) (held a) (held b) (held c)
+          (both same_part (inputs_of p) (windows_below i) (part.Window i ∷ []) (kept_inputs a) (kept_inputs b) (kept_inputs c)
           k m n s.brought x);
       holds = subst (HoldsDevices p) (sym same) s.holds;
       is = is;
@@ -224,9 +224,9 @@ pub all_brought : (p : Project) (a b c d e : KeptParts) (k l m o q : Work) → B
     → Brings p (windows_below 1001) d e o q → Brings p (reached_by_trace p) a e k q
 unfolding reached_by_trace
 all_brought p a b c d e k l m o q plan roster nodes windows =
-    both same_part (given p) ((for_plan p ++ part.Roster ∷ []) ++ for_nodes (entries p.nodes)) (windows_below 1001)
-    (held a) (held d) (held e) k o q
-    (both same_part (given p) (for_plan p ++ part.Roster ∷ []) (for_nodes (entries p.nodes)) (held a) (held c) (held d)
+    both same_part (inputs_of p) ((for_plan p ++ part.Roster ∷ []) ++ for_nodes (entries p.nodes)) (windows_below 1001)
+    (kept_inputs a) (kept_inputs d) (kept_inputs e) k o q
+    (both same_part (inputs_of p) (for_plan p ++ part.Roster ∷ []) (for_nodes (entries p.nodes)) (kept_inputs a) (kept_inputs c) (kept_inputs d)
     k m o
-    (both same_part (given p) (for_plan p) (part.Roster ∷ []) (held a) (held b) (held c) k l m plan roster) nodes)
+    (both same_part (inputs_of p) (for_plan p) (part.Roster ∷ []) (kept_inputs a) (kept_inputs b) (kept_inputs c) k l m plan roster) nodes)
     windows

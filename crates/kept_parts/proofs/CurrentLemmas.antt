@@ -13,9 +13,9 @@ use Rattle.co_project.specs.Project.{Content as Project}
 use Rattle.kept_values.specs.Shelved.{is_fresh}
 use Rattle.kept_values.specs.Stale.{AreBrought}
 use Rattle.kept_values.specs.Work.{Work}
-use Rattle.project_parts.specs.Given.{given, same_part}
-use Rattle.project_parts.specs.Reached.{for_plan, for_writes, of_nodes, own_device, reached}
-use Rattle.kept_parts.specs.Kept.{fresh, held, IsOf}
+use Rattle.project_parts.specs.Given.{inputs_of, same_part}
+use Rattle.project_parts.specs.Reached.{for_plan, for_writes, of_nodes, own_device, parts_for}
+use Rattle.kept_parts.specs.Kept.{is_unmarked, kept_inputs, IsOf}
 use Rattle.part_shelves.specs.Slots.{fresh_at, Slots}
 use Rattle.part_shelves.specs.declared.device_slot.DeviceSlot.{DeviceSlot}
 use Rattle.project_parts.specs.declared.part.Part.{Part}
@@ -49,7 +49,7 @@ module _ (p : Project) where
   last ps q = any_last same_part ps q (itself q)
 
   -- a part is among those that are reached for it
-  pub reaches : (q : Part) → list_any (same_part q) (reached p q) ≡ true
+  pub reaches : (q : Part) → list_any (same_part q) (parts_for p q) ≡ true
   reaches (part.Device name) = last [] (part.Device name)
   reaches part.Plan = last (of_nodes p) part.Plan
   reaches (part.Writes n) = last (for_plan p ++ own_device p n) (part.Writes n)
@@ -62,10 +62,10 @@ module _ (p : Project) where
 
   -- a part that was brought is held as it is to be made now
   pub is_current : (ps : List Part) (a b : KeptParts) (m n : Work)
-      → AreBrought same_part (given p) ps (held a) (held b) m n → (q : Part) → list_any (same_part q) ps ≡ true
-      → held b q ≡ given p q
+      → AreBrought same_part (inputs_of p) ps (kept_inputs a) (kept_inputs b) m n → (q : Part) → list_any (same_part q) ps ≡ true
+      → kept_inputs b q ≡ inputs_of p q
   is_current ps a b m n brought q there =
-      ap (λ f. f q) brought.settled_is ∙ ap (λ t. if t then given p q else held a q) there
+      ap (λ f. f q) brought.settled_is ∙ ap (λ t. if t then inputs_of p q else kept_inputs a q) there
 
 -- where each part has a mark
 module _ (h : KeptParts) (d : h.devices ≡ empty) (pl : h.plan.fresh ≡ false)
@@ -73,7 +73,7 @@ module _ (h : KeptParts) (d : h.devices ≡ empty) (pl : h.plan.fresh ≡ false)
     (f : (q : ℕ) → is_fresh h.dcf q ≡ false) (r : h.roster.fresh ≡ false)
     (n : (q : ℕ) → is_fresh h.nodes q ≡ false) (s : (q : ℕ) → is_fresh h.windows q ≡ false)
     (wrong : h.found.fresh ≡ false) where
-  none_fresh : (q : Part) → fresh h q ≡ false
+  none_fresh : (q : Part) → is_unmarked h q ≡ false
   none_fresh (part.Device e) =
       ap (λ (s : Slots). fresh_at s e) d
       ∙ ap (λ o. option_map_or (λ (s : DeviceSlot). s.fresh) o false) (get-empty name_cmp e)
@@ -89,6 +89,6 @@ module _ (h : KeptParts) (d : h.devices ≡ empty) (pl : h.plan.fresh ≡ false)
   pub all_marked : (p : Project) → IsOf p h
   unfolding IsOf
   all_marked p = (
-    λ q u. let none : fresh h q ≡ false = none_fresh q in cc,
+    λ q u. let none : is_unmarked h q ≡ false = none_fresh q in cc,
     λ u. cc,
   )

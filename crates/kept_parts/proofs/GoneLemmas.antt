@@ -18,7 +18,7 @@ use Rattle.co_project.specs.Tables.{text_at}
 use Rattle.co_scenario.specs.declared.timed_step.TimedStep.{TimedStep}
 use Rattle.part_shelves.specs.Slots.{fresh_at, text_kept, Slots}
 use Rattle.part_shelves.specs.declared.device_slot.DeviceSlot.{DeviceSlot}
-use Rattle.project_parts.specs.Given.{given, same_part, Given, OfConcise, OfDcf, OfDevice, OfDiagnostics, OfNode, OfPlan}
+use Rattle.project_parts.specs.Given.{inputs_of, same_part, Given, OfConcise, OfDcf, OfDevice, OfDiagnostics, OfNode, OfPlan}
 use Rattle.project_parts.specs.Given.{OfRoster, OfWindow, OfWrites}
 use Rattle.project_parts.specs.declared.diagnostics_from.DiagnosticsFrom.{DiagnosticsFrom}
 use Rattle.project_parts.specs.Gone.{drops, is_gone}
@@ -29,7 +29,7 @@ use Rattle.project_parts.specs.declared.part.Part.{Part}
 use Rattle.project_parts.specs.declared.part.Part.TheVariants as part
 use Rattle.project_parts.proofs.DropLemmas.{gone_before}
 use Rattle.project_parts.proofs.GoneLemmas.{given_none}
-use Rattle.kept_parts.specs.Kept.{fresh, held, AreHeld, AreOfNow, HaveNoMark, IsOf}
+use Rattle.kept_parts.specs.Kept.{is_unmarked, kept_inputs, AreHeld, AreOfNow, HaveNoMark, IsOf}
 use Rattle.kept_parts.specs.Left.{left_of, HoldsNoneGone, IsSwept}
 use Rattle.kept_parts.specs.declared.kept_parts.KeptParts.{KeptParts}
 
@@ -66,11 +66,11 @@ module _ (p : Project) where
         ∙ get-retain_keys old.devices (contains_key p.texts) name
         (λ x t. ap (contains_key p.texts) (sym (exact_bytes name x t)))
 
-    device_left : (name : List ℕ) → held new (part.Device name) ≡ without (is_gone p) (held old) (part.Device name)
+    device_left : (name : List ℕ) → kept_inputs new (part.Device name) ≡ without (is_gone p) (kept_inputs old) (part.Device name)
     device_left name = ap (λ o. option_map OfDevice (slot_text o)) (slot_left name) ∙ by (contains_key p.texts name)
       where
         by : (t : Bool) → option_map OfDevice (slot_text (cond t (get old.devices name) None))
-            ≡ (if not t then None else held old (part.Device name))
+            ≡ (if not t then None else kept_inputs old (part.Device name))
         by true = refl
         by false = refl
 
@@ -100,7 +100,7 @@ module _ (p : Project) where
         (roster : new.roster ≡ old.roster) (device_parts : AreLeft flags old.nodes new.nodes)
         (windows : new.windows ≡ old.windows) (found : new.found ≡ old.found) where
       -- what is held is what was, but for what is gone
-      pub left : (q : Part) → held new q ≡ left_of p old q
+      pub left : (q : Part) → kept_inputs new q ≡ left_of p old q
       left (part.Device name) = device_left name
       left part.Plan = ap (λ (s : Single PlanFrom). option_map OfPlan s.kept) plan
       left (part.Writes n) = number_left p flags nodes OfWrites old.writes new.writes writes n
@@ -113,7 +113,7 @@ module _ (p : Project) where
 
       module _ (same_writes : new.writes.fresh ≡ old.writes.fresh) (same_concise : new.concise.fresh ≡ old.concise.fresh)
           (same_dcf : new.dcf.fresh ≡ old.dcf.fresh) (same_nodes : new.nodes.fresh ≡ old.nodes.fresh) where
-        still_marked : (q : Part) → fresh new q ≡ true → fresh old q ≡ true
+        still_marked : (q : Part) → is_unmarked new q ≡ true → is_unmarked old q ≡ true
         still_marked (part.Device name) unmarked = device_marked name unmarked
         still_marked part.Plan unmarked = sym (ap (λ (s : Single PlanFrom). s.fresh) plan) ∙ unmarked
         still_marked (part.Writes n) unmarked = sym (ap (λ (fs : List Bool). is_flagged fs n) same_writes) ∙ unmarked
@@ -132,27 +132,27 @@ module _ (p : Project) where
             all : AreOfNow p new
             all q unmarked = left q ∙ by (is_gone p q) refl
               where
-                by : (t : Bool) → is_gone p q ≡ t → (if t then None else held old q) ≡ given p q
+                by : (t : Bool) → is_gone p q ≡ t → (if t then None else kept_inputs old q) ≡ inputs_of p q
                 by true gone = sym (given_none p q gone)
                 by false there = is.0 q (still_marked q unmarked)
 
-            one : (name : List ℕ) → fresh old (part.Device name) ≡ true → fresh new (part.Device name) ≡ true
+            one : (name : List ℕ) → is_unmarked old (part.Device name) ≡ true → is_unmarked new (part.Device name) ≡ true
             one name unmarked =
                 device_unmarked name unmarked
                 (option_map_back OfDevice (λ x y e. cc) (text_kept old.devices name) (text_at p.texts name)
                 (is.0 (part.Device name) unmarked))
 
             below : (es : List (ℕ × Node)) → HaveNoMark old (map of_node es) → HaveNoMark new (map of_node es)
-            below [] none = All-nil (λ q. fresh new q ≡ true)
+            below [] none = All-nil (λ q. is_unmarked new q ≡ true)
             below (e ∷ es) none =
-                All-cons (λ q. fresh new q ≡ true) (of_node e) (map of_node es)
-                (one e.1.eds (All-head (λ q. fresh old q ≡ true) (of_node e) (map of_node es) none))
-                (below es (All-tail (λ q. fresh old q ≡ true) (of_node e) (map of_node es) none))
+                All-cons (λ q. is_unmarked new q ≡ true) (of_node e) (map of_node es)
+                (one e.1.eds (All-head (λ q. is_unmarked old q ≡ true) (of_node e) (map of_node es) none))
+                (below es (All-tail (λ q. is_unmarked old q ≡ true) (of_node e) (map of_node es) none))
 
 -- ---- what is known of it
 
 -- it says nothing of what is held
-pub held_known : (k : KeptParts) (known : Bool) (q : Part) → held (record k { swept = known }) q ≡ held k q
+pub held_known : (k : KeptParts) (known : Bool) (q : Part) → kept_inputs (record k { swept = known }) q ≡ kept_inputs k q
 held_known k known (part.Device name) = refl
 held_known k known part.Plan = refl
 held_known k known (part.Writes n) = refl
@@ -163,7 +163,7 @@ held_known k known (part.Node n) = refl
 held_known k known (part.Window i) = refl
 held_known k known part.Diagnostics = refl
 
-pub fresh_known : (k : KeptParts) (known : Bool) (q : Part) → fresh (record k { swept = known }) q ≡ fresh k q
+pub fresh_known : (k : KeptParts) (known : Bool) (q : Part) → is_unmarked (record k { swept = known }) q ≡ is_unmarked k q
 fresh_known k known (part.Device name) = refl
 fresh_known k known part.Plan = refl
 fresh_known k known (part.Writes n) = refl
@@ -176,11 +176,11 @@ fresh_known k known part.Diagnostics = refl
 
 module _ (p : Project) where
   -- where nothing is held of what is gone, all is left
-  pub all_left : (k : KeptParts) → k.swept ≡ true → IsSwept p k → (q : Part) → held k q ≡ left_of p k q
+  pub all_left : (k : KeptParts) → k.swept ≡ true → IsSwept p k → (q : Part) → kept_inputs k q ≡ left_of p k q
   unfolding IsSwept
   all_left k known swept q = by (is_gone p q) refl
     where
-      by : (t : Bool) → is_gone p q ≡ t → held k q ≡ (if t then None else held k q)
+      by : (t : Bool) → is_gone p q ≡ t → kept_inputs k q ≡ (if t then None else kept_inputs k q)
       by true gone = swept known q gone
       by false there = refl
 
@@ -192,7 +192,7 @@ module _ (p : Project) where
   )
     where
       below : (es : List (ℕ × Node)) → HaveNoMark k (map of_node es) → HaveNoMark (record k { swept = known }) (map of_node es)
-      below es none = All-weaker (λ q. fresh k q ≡ true) (λ q. fresh (record k { swept = known }) q ≡ true)
+      below es none = All-weaker (λ q. is_unmarked k q ≡ true) (λ q. is_unmarked (record k { swept = known }) q ≡ true)
           (λ q u. fresh_known k known q ∙ u) (map of_node es) none
 
   -- nothing is known
@@ -202,25 +202,25 @@ module _ (p : Project) where
 
   -- where parts are brought up to date once what is gone is let go, nothing is held of it
   pub none_gone : (ps : List Part) (old new : KeptParts) (m n : Work)
-      → AreBrought same_part (given p) ps (left_of p old) (held new) m n → HoldsNoneGone p new
+      → AreBrought same_part (inputs_of p) ps (left_of p old) (kept_inputs new) m n → HoldsNoneGone p new
   none_gone ps old new m n brought q gone =
       ap (λ f. f q) brought.settled_is ∙ by (list_any (same_part q) ps) (is_gone p q) gone
     where
-      by : (s t : Bool) → t ≡ true → (if s then given p q else if t then None else held old q) ≡ None
+      by : (s t : Bool) → t ≡ true → (if s then inputs_of p q else if t then None else kept_inputs old q) ≡ None
       by true t none = given_none p q gone
       by false true none = refl
       by false false none = cc
 
   module _ (ps : List Part) (old middle new : KeptParts) (m n : Work)
-      (gone : (q : Part) → held middle q ≡ left_of p old q)
-      (brought : AreBrought same_part (given p) ps (held middle) (held new) m n) where
+      (gone : (q : Part) → kept_inputs middle q ≡ left_of p old q)
+      (brought : AreBrought same_part (inputs_of p) ps (kept_inputs middle) (kept_inputs new) m n) where
     -- parts that are brought up to date once what is gone is let go
     pub brought_left : (known : Bool)
-        → AreBrought same_part (given p) ps (left_of p old) (held (record new { swept = known })) m n
+        → AreBrought same_part (inputs_of p) ps (left_of p old) (kept_inputs (record new { swept = known })) m n
     brought_left known =
-        subst (λ (h : Part → Option Given). AreBrought same_part (given p) ps h
-        (held (record new { swept = known })) m n) (λ i q. gone q i)
-        (subst (λ (h : Part → Option Given). AreBrought same_part (given p) ps (held middle) h m n)
+        subst (λ (h : Part → Option Given). AreBrought same_part (inputs_of p) ps h
+        (kept_inputs (record new { swept = known })) m n) (λ i q. gone q i)
+        (subst (λ (h : Part → Option Given). AreBrought same_part (inputs_of p) ps (kept_inputs middle) h m n)
         (λ i q. sym (held_known new known q) i) brought)
 
     -- nothing is held of what is gone then
@@ -239,7 +239,7 @@ module _ (p : Project) where
   pub known_held : (ps : List Part) (k : KeptParts) (known : Bool) → AreHeld p ps k
       → AreHeld p ps (record k { swept = known })
   unfolding AreHeld
-  known_held ps k known held q there = held_known k known q ∙ held q there
+  known_held ps k known kept_inputs q there = held_known k known q ∙ kept_inputs q there
 
   -- nothing is known where it failed
   pub swept_if : {X E : Type 0} (r : Result X E) (known : Bool) → known ≡ is_ok r → (k : KeptParts)
@@ -254,7 +254,7 @@ both_true true true h = cc
 both_true true false h = (refl, refl)
 both_true false t h = cc
 
-module _ (p : Project) (e : Edit) (old new : KeptParts) (same : (q : Part) → held new q ≡ held old q)
+module _ (p : Project) (e : Edit) (old new : KeptParts) (same : (q : Part) → kept_inputs new q ≡ kept_inputs old q)
     (known : new.swept ≡ (old.swept && not (drops e))) where
   pub still_swept : IsSwept p old → IsSwept p new
   unfolding IsSwept

@@ -19,10 +19,10 @@ use Rattle.kept_values.specs.Shelved.{is_fresh, kept_at, Shelved, Single}
 use Rattle.kept_values.specs.Stale.{AreBrought}
 use Rattle.kept_values.proofs.Brought.{one, option_map_back, refreshes_kind, refreshes_none, shelf_stands}
 use Rattle.part_shelves.specs.Slots.{fresh_at, fresh_slot, text_kept, Slots}
-use Rattle.kept_parts.specs.Kept.{fresh, held, AreOfNow, HaveNoMark, IsClosed, IsOf}
+use Rattle.kept_parts.specs.Kept.{is_unmarked, kept_inputs, AreOfNow, HaveNoMark, IsClosed, IsOf}
 use Rattle.co_scenario.specs.declared.timed_step.TimedStep.{TimedStep}
 use Rattle.network_image.specs.Image.{window_steps}
-use Rattle.project_parts.specs.Given.{concise_from, dcf_from, device_from, given, plan_from, roster_from, same_part}
+use Rattle.project_parts.specs.Given.{concise_from, dcf_from, device_from, inputs_of, plan_from, roster_from, same_part}
 use Rattle.project_parts.specs.Given.{whole, writes_from, OfConcise, OfDcf, OfDevice, OfDiagnostics, OfNode, OfPlan, OfRoster}
 use Rattle.project_parts.specs.Given.{OfWindow, OfWrites}
 use Rattle.project_parts.specs.declared.diagnostics_from.DiagnosticsFrom.{DiagnosticsFrom}
@@ -56,10 +56,10 @@ window_from p i = Some (window_steps p i)
 module _ (p : Project) where
   -- one part is brought up to date, and no other loses its mark
   abbrev pub Stands : Part → KeptParts → KeptParts → Type 0
-  Stands named old new = (q : Part) → held new q ≡ (if same_part q named then given p q else held old q)
+  Stands named old new = (q : Part) → kept_inputs new q ≡ (if same_part q named then inputs_of p q else kept_inputs old q)
 
   abbrev pub NoOther : Part → KeptParts → KeptParts → Type 0
-  NoOther named old new = (q : Part) → fresh new q ≡ true → (same_part q named ≡ true) ⊎ (fresh old q ≡ true)
+  NoOther named old new = (q : Part) → is_unmarked new q ≡ true → (same_part q named ≡ true) ⊎ (is_unmarked old q ≡ true)
 
   -- what has no mark is of now
   pub of_now : (h : KeptParts) → IsOf p h → AreOfNow p h
@@ -74,12 +74,12 @@ module _ (p : Project) where
   -- devices without a mark, where no device is another
   same_devices : (old new : KeptParts) → new.devices ≡ old.devices → (es : List (ℕ × Node))
       → HaveNoMark old (map of_node es) → HaveNoMark new (map of_node es)
-  same_devices old new same [] all = All-nil (λ q. fresh new q ≡ true)
+  same_devices old new same [] all = All-nil (λ q. is_unmarked new q ≡ true)
   same_devices old new same (e ∷ es) all =
-      All-cons (λ q. fresh new q ≡ true) (of_node e) (map of_node es)
+      All-cons (λ q. is_unmarked new q ≡ true) (of_node e) (map of_node es)
       (ap (λ (s : Slots). fresh_at s e.1.eds) same
-      ∙ All-head (λ q. fresh old q ≡ true) (of_node e) (map of_node es) all)
-      (same_devices old new same es (All-tail (λ q. fresh old q ≡ true) (of_node e) (map of_node es) all))
+      ∙ All-head (λ q. is_unmarked old q ≡ true) (of_node e) (map of_node es) all)
+      (same_devices old new same es (All-tail (λ q. is_unmarked old q ≡ true) (of_node e) (map of_node es) all))
 
   pub is_of_after : (named : Part) (old new : KeptParts) → IsOf p old → Stands named old new → NoOther named old new
       → IsClosed p new → IsOf p new
@@ -89,8 +89,8 @@ module _ (p : Project) where
       all : AreOfNow p new
       all q unmarked = stands q ∙ by (same_part q named) refl (other q unmarked)
         where
-          by : (t : Bool) → same_part q named ≡ t → (same_part q named ≡ true) ⊎ (fresh old q ≡ true)
-              → (if t then given p q else held old q) ≡ given p q
+          by : (t : Bool) → same_part q named ≡ t → (same_part q named ≡ true) ⊎ (is_unmarked old q ≡ true)
+              → (if t then inputs_of p q else kept_inputs old q) ≡ inputs_of p q
           by true same o = refl
           by false apart (inl same) = cc
           by false apart (inr unmarked) = is.0 q unmarked
@@ -188,7 +188,7 @@ module _ (p : Project) where
               kept_slot (get h.devices name) here (text_at p.texts name) (device_now name here)
           by false apart = unmarked
 
-      pub device_stays : (q : Part) → fresh h q ≡ true → fresh with_devices q ≡ true
+      pub device_stays : (q : Part) → is_unmarked h q ≡ true → is_unmarked with_devices q ≡ true
       device_stays (part.Device q) unmarked = device_keeps q unmarked
       device_stays part.Plan unmarked = unmarked
       device_stays (part.Writes n) unmarked = unmarked
@@ -213,16 +213,16 @@ module _ (p : Project) where
 
       device_closed : IsClosed p with_devices
       device_closed unmarked =
-          All-weaker (λ q. fresh h q ≡ true) (λ q. fresh with_devices q ≡ true) device_stays
+          All-weaker (λ q. is_unmarked h q ≡ true) (λ q. is_unmarked with_devices q ≡ true) device_stays
           (of_nodes p) (closed h is unmarked)
 
       pub device_is_of : IsOf p with_devices
       device_is_of = is_of_after (part.Device name) h with_devices is device_stands device_other device_closed
 
       pub device_brought : (m n : Work) → Refreshes (text_kept h.devices name) (text_at p.texts name) m n
-          → AreBrought same_part (given p) (part.Device name ∷ []) (held h) (held with_devices) m n
+          → AreBrought same_part (inputs_of p) (part.Device name ∷ []) (kept_inputs h) (kept_inputs with_devices) m n
       device_brought m n r =
-          one same_part (given p) (part.Device name) (held h) (held with_devices) m n device_stands
+          one same_part (inputs_of p) (part.Device name) (kept_inputs h) (kept_inputs with_devices) m n device_stands
           (refreshes_kind OfDevice (λ x y e. cc) (text_kept h.devices name) (text_at p.texts name) m n r)
 
       pub device_value : text_kept new name ≡ text_at p.texts name
@@ -255,9 +255,9 @@ module _ (p : Project) where
           (λ unmarked. same_devices h with_plan refl (entries p.nodes) none)
 
       pub plan_brought : (m n : Work) → Refreshes h.plan.kept (Some now) m n
-          → AreBrought same_part (given p) (part.Plan ∷ []) (held h) (held with_plan) m n
+          → AreBrought same_part (inputs_of p) (part.Plan ∷ []) (kept_inputs h) (kept_inputs with_plan) m n
       plan_brought m n r =
-          one same_part (given p) part.Plan (held h) (held with_plan) m n plan_stands
+          one same_part (inputs_of p) part.Plan (kept_inputs h) (kept_inputs with_plan) m n plan_stands
           (refreshes_kind OfPlan (λ x y e. cc) h.plan.kept (Some (plan_from p)) m n
           (subst (λ (x : PlanFrom). Refreshes h.plan.kept (Some x) m n) e r))
 
@@ -283,9 +283,9 @@ module _ (p : Project) where
           (λ unmarked. same_devices h with_writes refl (entries p.nodes) (closed h is unmarked))
 
       pub writes_brought : (m n : Work) → Refreshes (kept_at h.writes key) now m n
-          → AreBrought same_part (given p) (part.Writes key ∷ []) (held h) (held with_writes) m n
+          → AreBrought same_part (inputs_of p) (part.Writes key ∷ []) (kept_inputs h) (kept_inputs with_writes) m n
       writes_brought m n r =
-          one same_part (given p) (part.Writes key) (held h) (held with_writes) m n writes_stands
+          one same_part (inputs_of p) (part.Writes key) (kept_inputs h) (kept_inputs with_writes) m n writes_stands
           (refreshes_kind OfWrites (λ x y e. cc) (kept_at h.writes key) (writes_from p key) m n
           (subst (λ (x : Option WritesFrom). Refreshes (kept_at h.writes key) x m n) e r))
 
@@ -311,9 +311,9 @@ module _ (p : Project) where
           (λ unmarked. same_devices h with_concise refl (entries p.nodes) (closed h is unmarked))
 
       pub concise_brought : (m n : Work) → Refreshes (kept_at h.concise key) now m n
-          → AreBrought same_part (given p) (part.Concise key ∷ []) (held h) (held with_concise) m n
+          → AreBrought same_part (inputs_of p) (part.Concise key ∷ []) (kept_inputs h) (kept_inputs with_concise) m n
       concise_brought m n r =
-          one same_part (given p) (part.Concise key) (held h) (held with_concise) m n concise_stands
+          one same_part (inputs_of p) (part.Concise key) (kept_inputs h) (kept_inputs with_concise) m n concise_stands
           (refreshes_kind OfConcise (λ x y e. cc) (kept_at h.concise key) (concise_from p key) m n
           (subst (λ (x : Option ConciseFrom). Refreshes (kept_at h.concise key) x m n) e r))
 
@@ -339,9 +339,9 @@ module _ (p : Project) where
           (λ unmarked. same_devices h with_dcf refl (entries p.nodes) (closed h is unmarked))
 
       pub dcf_brought : (m n : Work) → Refreshes (kept_at h.dcf key) now m n
-          → AreBrought same_part (given p) (part.Dcf key ∷ []) (held h) (held with_dcf) m n
+          → AreBrought same_part (inputs_of p) (part.Dcf key ∷ []) (kept_inputs h) (kept_inputs with_dcf) m n
       dcf_brought m n r =
-          one same_part (given p) (part.Dcf key) (held h) (held with_dcf) m n dcf_stands
+          one same_part (inputs_of p) (part.Dcf key) (kept_inputs h) (kept_inputs with_dcf) m n dcf_stands
           (refreshes_kind OfDcf (λ x y e. cc) (kept_at h.dcf key) (dcf_from p key) m n
           (subst (λ (x : Option DcfFrom). Refreshes (kept_at h.dcf key) x m n) e r))
 
@@ -368,9 +368,9 @@ module _ (p : Project) where
           (λ unmarked. same_devices h with_roster refl (entries p.nodes) (closed h is unmarked))
 
       pub roster_brought : (m n : Work) → Refreshes h.roster.kept (Some (roster_from p)) m n
-          → AreBrought same_part (given p) (part.Roster ∷ []) (held h) (held with_roster) m n
+          → AreBrought same_part (inputs_of p) (part.Roster ∷ []) (kept_inputs h) (kept_inputs with_roster) m n
       roster_brought m n r =
-          one same_part (given p) part.Roster (held h) (held with_roster) m n roster_stands
+          one same_part (inputs_of p) part.Roster (kept_inputs h) (kept_inputs with_roster) m n roster_stands
           (refreshes_kind OfRoster (λ x y e. cc) h.roster.kept (Some (roster_from p)) m n r)
 
     -- ---- what a node has by its device
@@ -400,9 +400,9 @@ module _ (p : Project) where
           (λ unmarked. same_devices h with_nodes refl (entries p.nodes) (closed h is unmarked))
 
       pub node_brought : (m n : Work) → Refreshes (kept_at h.nodes key) now m n
-          → AreBrought same_part (given p) (part.Node key ∷ []) (held h) (held with_nodes) m n
+          → AreBrought same_part (inputs_of p) (part.Node key ∷ []) (kept_inputs h) (kept_inputs with_nodes) m n
       node_brought m n r =
-          one same_part (given p) (part.Node key) (held h) (held with_nodes) m n node_stands
+          one same_part (inputs_of p) (part.Node key) (kept_inputs h) (kept_inputs with_nodes) m n node_stands
           (refreshes_kind OfNode (λ x y e. cc) (kept_at h.nodes key) (device_from p key) m n
           (subst (λ (x : Option DeviceAt). Refreshes (kept_at h.nodes key) x m n) e r))
 
@@ -414,18 +414,18 @@ module _ (p : Project) where
 
     -- a window without a mark needs no look
     pub window_stays : (i : ℕ) → is_fresh h.windows i ≡ true → (m : Work)
-        → AreBrought same_part (given p) (part.Window i ∷ []) (held h) (held h) m m
+        → AreBrought same_part (inputs_of p) (part.Window i ∷ []) (kept_inputs h) (kept_inputs h) m m
     window_stays i unmarked m =
-        one same_part (given p) (part.Window i) (held h) (held h) m m stands (refreshes_none (held h (part.Window i)) (given p (part.Window i)) m current)
+        one same_part (inputs_of p) (part.Window i) (kept_inputs h) (kept_inputs h) m m stands (refreshes_none (kept_inputs h (part.Window i)) (inputs_of p (part.Window i)) m current)
       where
-        current : held h (part.Window i) ≡ given p (part.Window i)
+        current : kept_inputs h (part.Window i) ≡ inputs_of p (part.Window i)
         current = ap (option_map OfWindow) (window_now i unmarked)
 
         by : (j : ℕ) (t : Bool) → (j == i) ≡ t
-            → held h (part.Window j) ≡ (if t then given p (part.Window j) else held h (part.Window j))
+            → kept_inputs h (part.Window j) ≡ (if t then inputs_of p (part.Window j) else kept_inputs h (part.Window j))
         by j true same =
             let one : j ≡ i = eqb-true j i same in
-            ap (λ k. held h (part.Window k)) one ∙ current ∙ sym (ap (λ k. given p (part.Window k)) one)
+            ap (λ k. kept_inputs h (part.Window k)) one ∙ current ∙ sym (ap (λ k. inputs_of p (part.Window k)) one)
         by j false other = refl
 
         stands : Stands (part.Window i) h h
@@ -452,9 +452,9 @@ module _ (p : Project) where
           (λ unmarked. same_devices h with_window refl (entries p.nodes) (closed h is unmarked))
 
       pub window_brought : (m n : Work) → Refreshes (kept_at h.windows key) now m n
-          → AreBrought same_part (given p) (part.Window key ∷ []) (held h) (held with_window) m n
+          → AreBrought same_part (inputs_of p) (part.Window key ∷ []) (kept_inputs h) (kept_inputs with_window) m n
       window_brought m n r =
-          one same_part (given p) (part.Window key) (held h) (held with_window) m n window_stands
+          one same_part (inputs_of p) (part.Window key) (kept_inputs h) (kept_inputs with_window) m n window_stands
           (refreshes_kind OfWindow (λ x y e. cc) (kept_at h.windows key) (window_from p key) m n
           (subst (λ (x : Option (List TimedStep)). Refreshes (kept_at h.windows key) x m n) e r))
 
@@ -481,7 +481,7 @@ module _ (p : Project) where
           (λ unmarked. same_devices h with_found refl (entries p.nodes) (closed h is unmarked))
 
       pub found_brought : (m n : Work) → Refreshes h.found.kept (Some (whole p)) m n
-          → AreBrought same_part (given p) (part.Diagnostics ∷ []) (held h) (held with_found) m n
+          → AreBrought same_part (inputs_of p) (part.Diagnostics ∷ []) (kept_inputs h) (kept_inputs with_found) m n
       found_brought m n r =
-          one same_part (given p) part.Diagnostics (held h) (held with_found) m n found_stands
+          one same_part (inputs_of p) part.Diagnostics (kept_inputs h) (kept_inputs with_found) m n found_stands
           (refreshes_kind OfDiagnostics (λ x y e. cc) h.found.kept (Some (whole p)) m n r)

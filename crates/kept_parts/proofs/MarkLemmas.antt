@@ -14,7 +14,7 @@ use Rattle.project_messages.specs.Messages.{name_cmp}
 use Rattle.co_project.specs.declared.node.Node.{Node}
 use Rattle.co_project.specs.Project.{accept, Content as Project}
 use Rattle.part_shelves.specs.Slots.{fresh_at, text_kept, with_fresh, Slots}
-use Rattle.kept_parts.specs.Kept.{fresh, held, HaveNoMark, IsOf}
+use Rattle.kept_parts.specs.Kept.{is_unmarked, kept_inputs, HaveNoMark, IsOf}
 use Rattle.kept_parts.specs.Marks.{Marks}
 use Rattle.kept_values.specs.At.{at}
 use Rattle.kept_values.specs.Shelved.{is_fresh, Shelved, Single}
@@ -23,7 +23,7 @@ use Rattle.project_parts.specs.declared.device_at.DeviceAt.{DeviceAt}
 use Rattle.project_parts.specs.Given.{OfDevice, OfNode, OfRoster, OfWindow}
 use Rattle.project_parts.specs.declared.roster_from.RosterFrom.{RosterFrom}
 use Rattle.project_parts.specs.Reached.{of_node, of_nodes}
-use Rattle.project_parts.specs.Touched.{is_of_network, is_of_text, is_planned, is_window, touched}
+use Rattle.project_parts.specs.Touched.{is_of_network, is_of_text, is_planned, is_window, is_touched}
 use Rattle.part_shelves.specs.declared.device_slot.DeviceSlot.{DeviceSlot}
 use Rattle.project_parts.specs.declared.part.Part.{Part}
 use Rattle.project_parts.specs.declared.part.Part.TheVariants as part
@@ -110,7 +110,7 @@ module _ (h : KeptParts) (name : List ℕ) where
       after : KeptParts
       after = record middle { nodes = nodes; windows = windows }
 
-      same : (q : Part) → held after q ≡ held h q
+      same : (q : Part) → kept_inputs after q ≡ kept_inputs h q
       same (part.Device e) = m.kept (part.Device e) ∙ ap (option_map OfDevice) (marked_kept h.devices name e)
       same part.Plan = m.kept part.Plan
       same (part.Writes n) = m.kept (part.Writes n)
@@ -123,7 +123,7 @@ module _ (h : KeptParts) (name : List ℕ) where
           ap (λ (es : List (ℕ × List TimedStep)). option_map OfWindow (at es i)) same_windows ∙ m.kept (part.Window i)
       same part.Diagnostics = m.kept part.Diagnostics
 
-      less : (q : Part) → fresh after q ≡ true → (fresh h q ≡ true) × (is_of_text name q ≡ false)
+      less : (q : Part) → is_unmarked after q ≡ true → (is_unmarked h q ≡ true) × (is_of_text name q ≡ false)
       less (part.Device e) u =
           unasked (eq_by_cmp name_cmp e name) (fresh_at h.devices e)
           (sym (fresh_at_mark h.devices name e) ∙ (m.unmarked (part.Device e) u).0)
@@ -136,8 +136,8 @@ module _ (h : KeptParts) (name : List ℕ) where
       less (part.Window i) u = let none : is_fresh windows i ≡ false = no_window i in cc
       less part.Diagnostics u = m.unmarked part.Diagnostics u
 
-      others : (q : Part) → is_of_text name q ≡ false → is_window (λ i. true) q ≡ false → fresh h q ≡ true
-          → fresh after q ≡ true
+      others : (q : Part) → is_of_text name q ≡ false → is_window (λ i. true) q ≡ false → is_unmarked h q ≡ true
+          → is_unmarked after q ≡ true
       others (part.Device e) other window u =
           m.others (part.Device e) refl refl
           (fresh_at_mark h.devices name e ∙ ap (λ t. not t && fresh_at h.devices e) other ∙ u)
@@ -162,7 +162,7 @@ network_marks h id middle roster nodes windows m is_roster same_nodes no_node sa
     after : KeptParts
     after = record middle { roster = roster; nodes = nodes; windows = windows }
 
-    same : (q : Part) → held after q ≡ held h q
+    same : (q : Part) → kept_inputs after q ≡ kept_inputs h q
     same (part.Device e) = m.kept (part.Device e)
     same part.Plan = m.kept part.Plan
     same (part.Writes n) = m.kept (part.Writes n)
@@ -175,7 +175,7 @@ network_marks h id middle roster nodes windows m is_roster same_nodes no_node sa
         ap (λ (es : List (ℕ × List TimedStep)). option_map OfWindow (at es i)) same_windows ∙ m.kept (part.Window i)
     same part.Diagnostics = m.kept part.Diagnostics
 
-    less : (q : Part) → fresh after q ≡ true → (fresh h q ≡ true) × (is_of_network id q ≡ false)
+    less : (q : Part) → is_unmarked after q ≡ true → (is_unmarked h q ≡ true) × (is_of_network id q ≡ false)
     less (part.Device e) u = m.unmarked (part.Device e) u
     less part.Plan u = m.unmarked part.Plan u
     less (part.Writes n) u = m.unmarked (part.Writes n) u
@@ -188,8 +188,8 @@ network_marks h id middle roster nodes windows m is_roster same_nodes no_node sa
     less (part.Window i) u = let none : is_fresh windows i ≡ false = no_window i in cc
     less part.Diagnostics u = m.unmarked part.Diagnostics u
 
-    others : (q : Part) → is_of_network id q ≡ false → is_window (λ i. true) q ≡ false → fresh h q ≡ true
-        → fresh after q ≡ true
+    others : (q : Part) → is_of_network id q ≡ false → is_window (λ i. true) q ≡ false → is_unmarked h q ≡ true
+        → is_unmarked after q ≡ true
     others (part.Device e) other window u = m.others (part.Device e) refl refl u
     others part.Plan other window u = cc
     others (part.Writes n) other window u = cc
@@ -228,8 +228,8 @@ known_marks asked old new known m = record {
 -- ---- what is held after an edit
 
 -- where the plan isn't touched, no device is
-pub plan_below : (p : Project) (e : Edit) (name : List ℕ) → touched p e part.Plan ≡ false
-    → touched p e (part.Device name) ≡ false
+pub plan_below : (p : Project) (e : Edit) (name : List ℕ) → is_touched p e part.Plan ≡ false
+    → is_touched p e (part.Device name) ≡ false
 plan_below p (edit.Version version) name h = refl
 plan_below p (edit.Bitrate rate) name h = refl
 plan_below p (edit.Horizon time) name h = refl
@@ -264,14 +264,14 @@ module _ (old new : KeptParts) where
     where
       below : ((name : List ℕ) → asked (part.Device name) ≡ false) → (es : List (ℕ × Node))
           → HaveNoMark old (map of_node es) → HaveNoMark new (map of_node es)
-      below other [] all = All-nil (λ q. fresh new q ≡ true)
+      below other [] all = All-nil (λ q. is_unmarked new q ≡ true)
       below other (e ∷ es) all =
-          All-cons (λ q. fresh new q ≡ true) (of_node e) (map of_node es)
+          All-cons (λ q. is_unmarked new q ≡ true) (of_node e) (map of_node es)
           (m.others (of_node e) (other e.1.eds) refl
-          (All-head (λ q. fresh old q ≡ true) (of_node e) (map of_node es) all))
-          (below other es (All-tail (λ q. fresh old q ≡ true) (of_node e) (map of_node es) all))
+          (All-head (λ q. is_unmarked old q ≡ true) (of_node e) (map of_node es) all))
+          (below other es (All-tail (λ q. is_unmarked old q ≡ true) (of_node e) (map of_node es) all))
 
-  pub follows : (e : Edit) (p after : Project) → Marks (touched p e) old new → IsOf p old → accept p e ≡ Ok after
+  pub follows : (e : Edit) (p after : Project) → Marks (is_touched p e) old new → IsOf p old → accept p e ≡ Ok after
       → IsOf after new
   unfolding IsOf
   follows e p after m is taken = (
@@ -279,5 +279,5 @@ module _ (old new : KeptParts) where
         m.kept q ∙ is.0 q was.0 ∙ sym (frame p after e q taken was.1),
     λ u. let was = m.unmarked part.Plan u in
         subst (HaveNoMark new) (sym (ap of_nodes (sym (taken_as p after e taken)) ∙ nodes_left p e was.1))
-        ((still_of (touched p e) p (λ name. plan_below p e name) m is).1 u),
+        ((still_of (is_touched p e) p (λ name. plan_below p e name) m is).1 u),
   )

@@ -21,7 +21,7 @@ use Rattle.eds_device.specs.Identity.{identity}
 use Rattle.project_parts.specs.Made.{writes_made}
 use Rattle.project_parts.specs.declared.part.Part.TheVariants as part
 use Rattle.project_parts.proofs.PlanLemmas.{writes_are_of}
-use Rattle.network_image.specs.Held.{held_of, AllHeld, Held}
+use Rattle.network_image.specs.Held.{held_of, AllHeld, PartsOfNode}
 use Rattle.network_image.specs.Image.{window_steps}
 use Rattle.project_plan.specs.Network.{member_at, with_sections, writes_of, Member}
 use Rattle.kept_parts.specs.Kept.{with_parts, AreHeld, IsCurrent}
@@ -108,7 +108,7 @@ module _ (p : Project) (k : KeptParts) where
 -- ---- the table of nodes
 
 module _ (p : Project) where
-  abbrev held_at : ℕ → Option Held
+  abbrev held_at : ℕ → Option PartsOfNode
   held_at q = option_map (held_of p q) (member_at p q)
 
   abbrev is_done : ℕ → List (ℕ × Node) → Bool
@@ -132,20 +132,20 @@ module _ (p : Project) where
       by (held_at e.0) refl (eq_by_cmp nat_cmp q e.0) refl
       ∙ sym (ap (λ t. cond t (held_at q) None) (list_any-append (λ f. eq_by_cmp nat_cmp q f.0) done (e ∷ [])))
     where
-      merge : (s t : Bool) (x y : Option Held) → t ≡ false → cond s x y ≡ cond (s || (t || false)) x y
+      merge : (s t : Bool) (x y : Option PartsOfNode) → t ≡ false → cond s x y ≡ cond (s || (t || false)) x y
       merge true t x y h = refl
       merge false t x y h = ap (λ b. cond (b || false) x y) (sym h)
 
-      none_at : (s t : Bool) (x : Option Held) → x ≡ None → cond s x None ≡ cond (s || (t || false)) x None
+      none_at : (s t : Bool) (x : Option PartsOfNode) → x ≡ None → cond s x None ≡ cond (s || (t || false)) x None
       none_at true t x h = refl
       none_at false true x h = sym h
       none_at false false x h = refl
 
-      all_at : (s : Bool) (x : Option Held) → x ≡ cond (s || true) x None
+      all_at : (s : Bool) (x : Option PartsOfNode) → x ≡ cond (s || true) x None
       all_at true x = refl
       all_at false x = refl
 
-      by : (o : Option Held) → held_at e.0 ≡ o → (t : Bool) → eq_by_cmp nat_cmp q e.0 ≡ t
+      by : (o : Option PartsOfNode) → held_at e.0 ≡ o → (t : Bool) → eq_by_cmp nat_cmp q e.0 ≡ t
           → get (with_parts e.0 o table) q ≡ cond (is_done q done || (eq_by_cmp nat_cmp q e.0 || false))
           (held_at q) None
       by None is true same =

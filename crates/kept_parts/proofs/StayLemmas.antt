@@ -11,8 +11,8 @@ use Rattle.co_project.specs.Project.{Content as Project}
 use Rattle.co_project.specs.Tables.{text_at}
 use Rattle.part_shelves.specs.Slots.{fresh_at, text_kept}
 use Rattle.part_shelves.proofs.SlotLemmas.{fresh_stands}
-use Rattle.kept_parts.specs.Kept.{fresh, held, HaveNoMark, IsOf}
-use Rattle.project_parts.specs.Given.{given, plan_from, same_part}
+use Rattle.kept_parts.specs.Kept.{is_unmarked, kept_inputs, HaveNoMark, IsOf}
+use Rattle.project_parts.specs.Given.{inputs_of, plan_from, same_part}
 use Rattle.project_parts.specs.Reached.{for_plan, of_node}
 use Rattle.project_parts.specs.declared.plan_from.PlanFrom.{PlanFrom}
 use Rattle.project_parts.specs.declared.part.Part.{Part}
@@ -23,7 +23,7 @@ use Rattle.kept_parts.proofs.KindLemmas.{closed, device_brought, device_now, pla
 module _ (p : Project) (h : KeptParts) (is : IsOf p h) (m : Work) where
   -- it is as if they had been brought up to date
   abbrev Stay : List Part → Type 0
-  Stay qs = AreBrought same_part (given p) qs (held h) (held h) m m
+  Stay qs = AreBrought same_part (inputs_of p) qs (kept_inputs h) (kept_inputs h) m m
 
   one_stays : (name : List ℕ) → fresh_at h.devices name ≡ true → Stay (part.Device name ∷ [])
   one_stays name u =
@@ -32,11 +32,11 @@ module _ (p : Project) (h : KeptParts) (is : IsOf p h) (m : Work) where
       (refreshes_none (text_kept h.devices name) (text_at p.texts name) m now)
 
   all_stay : (es : List (ℕ × Node)) → HaveNoMark h (map of_node es) → Stay (map of_node es)
-  all_stay [] all = none same_part (given p) (held h) m
+  all_stay [] all = none same_part (inputs_of p) (kept_inputs h) m
   all_stay (e ∷ es) all =
-      both same_part (given p) (of_node e ∷ []) (map of_node es) (held h) (held h) (held h) m m m
-      (one_stays e.1.eds (All-head (λ q. fresh h q ≡ true) (of_node e) (map of_node es) all))
-      (all_stay es (All-tail (λ q. fresh h q ≡ true) (of_node e) (map of_node es) all))
+      both same_part (inputs_of p) (of_node e ∷ []) (map of_node es) (kept_inputs h) (kept_inputs h) (kept_inputs h) m m m
+      (one_stays e.1.eds (All-head (λ q. is_unmarked h q ≡ true) (of_node e) (map of_node es) all))
+      (all_stay es (All-tail (λ q. is_unmarked h q ≡ true) (of_node e) (map of_node es) all))
 
   single : Option PlanFrom → Bool → Single PlanFrom
   single k f = record { kept = k; fresh = f }
@@ -46,7 +46,7 @@ module _ (p : Project) (h : KeptParts) (is : IsOf p h) (m : Work) where
   unfolding single
   plan_stays u =
       let now = plan_now p h is u in
-      both same_part (given p) (map of_node (entries p.nodes)) (part.Plan ∷ []) (held h) (held h) (held h) m m m
+      both same_part (inputs_of p) (map of_node (entries p.nodes)) (part.Plan ∷ []) (kept_inputs h) (kept_inputs h) (kept_inputs h) m m m
       (all_stay (entries p.nodes) (closed p h is u))
       (plan_brought p h is h.plan (plan_from p)
       (ap (λ k. single k h.plan.fresh) now ∙ ap (single (Some (plan_from p))) u) refl m m

@@ -2,7 +2,7 @@
 use Rattle.std.proofs.Common.{◌≡◌, ℕ, List, [], ◌∷◌, Option, Some, None, refl, sym, ap, ◌∙◌, subst, option_map}
 use Rattle.std.proofs.Common.{IfSome, Bool, true, ◌+◌, ◌-◌, ◌^◌, min}
 use Rattle.std.specs.Option.{option_map_or}
-use Rattle.ini_text.specs.Content.{Content as Device}
+use Rattle.ini_text.specs.Content.{Content as DataSheet}
 use Rattle.project_messages.specs.Messages.{Named}
 use Rattle.co_project.specs.declared.node.Node.{Node}
 use Rattle.co_project.specs.Project.{Content as Project}
@@ -12,11 +12,11 @@ use Rattle.kept_values.specs.Work.{Refreshes, Rises, Work}
 use Rattle.kept_values.specs.Stale.{AreBrought}
 use Rattle.kept_values.proofs.Brought.{refreshes_built}
 use Rattle.part_shelves.specs.Slots.{Slots}
-use Rattle.project_parts.specs.Written.{Written}
+use Rattle.project_parts.specs.Written.{DeviceWithWrites}
 use Rattle.project_parts.specs.Made.{writes_made, written_made}
 use Rattle.project_parts.specs.Offered.{concise_by}
-use Rattle.kept_parts.specs.Kept.{held}
-use Rattle.project_parts.specs.Given.{concise_from, given, plan_from, same_part, writes_from}
+use Rattle.kept_parts.specs.Kept.{kept_inputs}
+use Rattle.project_parts.specs.Given.{concise_from, inputs_of, plan_from, same_part, writes_from}
 use Rattle.project_parts.specs.Reached.{own_device}
 use Rattle.project_parts.specs.declared.plan_from.PlanFrom.{PlanFrom}
 use Rattle.project_parts.specs.declared.concise_from.ConciseFrom.{ConciseFrom}
@@ -27,7 +27,7 @@ use Rattle.kept_parts.specs.declared.kept_parts.KeptParts.{KeptParts}
 
 module _ (p : Project) (a b : KeptParts) (m n : Work) where
   abbrev pub Brings : List Part → Type 0
-  Brings parts = AreBrought same_part (given p) parts (held a) (held b) m n
+  Brings parts = AreBrought same_part (inputs_of p) parts (kept_inputs a) (kept_inputs b) m n
 
   pub named_so : (name eds : List ℕ) → name ≡ eds → Brings (part.Device name ∷ []) → Brings (part.Device eds ∷ [])
   named_so name eds same brings = subst (λ (e : List ℕ). Brings (part.Device e ∷ [])) same brings
@@ -40,13 +40,13 @@ module _ (p : Project) (a b : KeptParts) (m n : Work) where
 
 -- ---- the plan
 
-abbrev pub from_both : List (ℕ × Device) → Named → PlanFrom
+abbrev pub from_both : List (ℕ × DataSheet) → Named → PlanFrom
 from_both devices messages = record { devices = devices; messages = messages }
 
-pub both_are : (p : Project) (devices : List (ℕ × Device)) (messages : Named) → devices ≡ (plan_from p).devices
+pub both_are : (p : Project) (devices : List (ℕ × DataSheet)) (messages : Named) → devices ≡ (plan_from p).devices
     → messages ≡ p.messages → from_both devices messages ≡ plan_from p
 both_are p devices messages d m =
-    ap (λ (ds : List (ℕ × Device)). from_both ds messages) d
+    ap (λ (ds : List (ℕ × DataSheet)). from_both ds messages) d
     ∙ ap (λ (ms : Named). from_both (plan_from p).devices ms) m
 
 -- a plan of other inputs is built
@@ -71,14 +71,14 @@ with_plan k plan = record k { plan = plan }
 -- ---- the writes of a node
 
 -- what is shown of writes that are kept with their device
-pub writes_shown : (from : Option WritesFrom) (written : Option Written) → written ≡ option_map written_made from
-    → option_map (λ (w : Written). w.writes) written ≡ option_map writes_made from
-writes_shown None written is = ap (option_map (λ (w : Written). w.writes)) is
-writes_shown (Some from) written is = ap (option_map (λ (w : Written). w.writes)) is
+pub writes_shown : (from : Option WritesFrom) (written : Option DeviceWithWrites) → written ≡ option_map written_made from
+    → option_map (λ (w : DeviceWithWrites). w.writes) written ≡ option_map writes_made from
+writes_shown None written is = ap (option_map (λ (w : DeviceWithWrites). w.writes)) is
+writes_shown (Some from) written is = ap (option_map (λ (w : DeviceWithWrites). w.writes)) is
 
 -- ---- the files of a node
 
-pub writes_are : (p : Project) (id : ℕ) (now : Option ConciseFrom) (written : Option Written)
+pub writes_are : (p : Project) (id : ℕ) (now : Option ConciseFrom) (written : Option DeviceWithWrites)
     → now ≡ option_map concise_by written → written ≡ option_map written_made (writes_from p id)
     → now ≡ concise_from p id
 writes_are p id now written is are = is ∙ ap (option_map concise_by) are ∙ by (writes_from p id)

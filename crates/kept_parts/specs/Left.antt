@@ -5,16 +5,16 @@ use Rattle.co_project.specs.Project.{Content as Project}
 use Rattle.project_parts.specs.Given.{Given}
 use Rattle.project_parts.specs.Gone.{is_gone}
 use Rattle.project_parts.specs.declared.part.Part.{Part}
-use Rattle.kept_parts.specs.Kept.{held}
+use Rattle.kept_parts.specs.Kept.{kept_inputs}
 use Rattle.kept_parts.specs.declared.kept_parts.KeptParts.{KeptParts}
 
 -- what is held, but of what is gone
 abbrev pub left_of : Project → KeptParts → Part → Option Given
-left_of p k = without (is_gone p) (held k)
+left_of p k = without (is_gone p) (kept_inputs k)
 
 -- NOTHING IS HELD of a name of an EDS or a number of a node that the project doesn't have
 abbrev pub HoldsNoneGone : Project → KeptParts → Type 0
-HoldsNoneGone p k = (q : Part) → is_gone p q ≡ true → held k q ≡ None
+HoldsNoneGone p k = (q : Part) → is_gone p q ≡ true → kept_inputs k q ≡ None
 
 -- so it is where that is known
 unfoldable pub IsSwept : Project → KeptParts → Type 0

@@ -4,9 +4,9 @@ ghost use Rattle.std.specs.FinMap.{entries};
 ghost use Rattle.kept_values.specs.Stale.{AreBrought};
 ghost use Rattle.kept_values.specs.Work.{Rises};
 ghost use Rattle.network_image.specs.Devices.{HoldsDevices};
-ghost use Rattle.project_parts.specs.Given.{given, same_part};
-ghost use Rattle.project_parts.specs.Reached.{for_node, for_nodes, for_plan, reached, reached_by_trace, windows_below, IsPart};
-ghost use Rattle.kept_parts.specs.Kept.{held, AreHeld, IsOf};
+ghost use Rattle.project_parts.specs.Given.{inputs_of, same_part};
+ghost use Rattle.project_parts.specs.Reached.{for_node, for_nodes, for_plan, parts_for, reached_by_trace, windows_below, IsPart};
+ghost use Rattle.kept_parts.specs.Kept.{kept_inputs, AreHeld, IsOf};
 
 use crate::kept_parts::KeptParts;
 use co_project::Project;
@@ -26,8 +26,8 @@ impl KeptParts {
         requires is_of { IsOf project.now self.old }
         requires plan { AreHeld project.now (for_plan project.now) self.old }
         ensures is_of { IsOf project.now self.new }
-        ensures brings { OnOk result (AreBrought same_part (given project.now) (for_node node)
-            (held self.old) (held self.new) meter.old meter.new) }
+        ensures brings { OnOk result (AreBrought same_part (inputs_of project.now) (for_node node)
+            (kept_inputs self.old) (kept_inputs self.new) meter.old meter.new) }
         ensures plan { OnOk result (AreHeld project.now (for_plan project.now) self.new) }
         ensures rises { Rises meter.old meter.new }
     {
@@ -41,8 +41,8 @@ impl KeptParts {
         requires is_of { IsOf project.now self.old }
         requires plan { AreHeld project.now (for_plan project.now) self.old }
         ensures is_of { IsOf project.now self.new }
-        ensures brings { OnOk result (AreBrought same_part (given project.now) (for_nodes (entries project.now.nodes))
-            (held self.old) (held self.new) meter.old meter.new) }
+        ensures brings { OnOk result (AreBrought same_part (inputs_of project.now) (for_nodes (entries project.now.nodes))
+            (kept_inputs self.old) (kept_inputs self.new) meter.old meter.new) }
         ensures devices { OnOk result (HoldsDevices project.now self.new.devices) }
         ensures rises { Rises meter.old meter.new }
     {
@@ -57,8 +57,8 @@ impl KeptParts {
         requires is_of { IsOf project.now self.old }
         requires devices { HoldsDevices project.now self.old.devices }
         ensures is_of { IsOf project.now self.new }
-        ensures brings { OnOk result (AreBrought same_part (given project.now) (windows_below 1001)
-            (held self.old) (held self.new) meter.old meter.new) }
+        ensures brings { OnOk result (AreBrought same_part (inputs_of project.now) (windows_below 1001)
+            (kept_inputs self.old) (kept_inputs self.new) meter.old meter.new) }
         ensures rises { Rises meter.old meter.new }
     {
         let script = project.events();
@@ -80,8 +80,8 @@ impl KeptParts {
     ) -> Result<(), AllocError>
         requires { IsOf project.now self.old }
         ensures is_of { IsOf project.now self.new }
-        ensures brings { OnOk result (AreBrought same_part (given project.now) (reached_by_trace project.now)
-            (held self.old) (held self.new) meter.old meter.new) }
+        ensures brings { OnOk result (AreBrought same_part (inputs_of project.now) (reached_by_trace project.now)
+            (kept_inputs self.old) (kept_inputs self.new) meter.old meter.new) }
         ensures rises { Rises meter.old meter.new }
     {
         self.bring_plan(project, meter)?;
@@ -101,8 +101,8 @@ impl KeptParts {
         requires is_of { IsOf project.now self.old }
         requires part { IsPart part.now }
         ensures is_of { IsOf project.now self.new }
-        ensures brings { OnOk result (AreBrought same_part (given project.now) (reached project.now part.now)
-            (held self.old) (held self.new) meter.old meter.new) }
+        ensures brings { OnOk result (AreBrought same_part (inputs_of project.now) (parts_for project.now part.now)
+            (kept_inputs self.old) (kept_inputs self.new) meter.old meter.new) }
         ensures rises { Rises meter.old meter.new }
     {
         match part {

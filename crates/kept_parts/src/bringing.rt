@@ -5,14 +5,15 @@ ghost use Rattle.std.specs.FinMap as finmap;
 ghost use Rattle.kept_values.specs.Stale.{AreBrought};
 ghost use Rattle.kept_values.specs.Work.{Rises};
 ghost use Rattle.co_project.specs.Tables.{node_at, text_at};
-ghost use Rattle.project_parts.specs.Given.{device_at, given, numbered, plan_from, same_part, writes_from};
+ghost use Rattle.project_parts.specs.Given.{inputs_of, node_with_device, plan_from, same_part, writes_from};
+ghost use Rattle.project_plan.specs.Network.{device_at};
 ghost use Rattle.project_parts.specs.Made.{plan_made, written_made};
-ghost use Rattle.project_parts.specs.Reached.{for_plan, for_writes, of_nodes, own_device, reached};
-ghost use Rattle.kept_parts.specs.Kept.{fresh, held, HaveNoMark, IsOf};
+ghost use Rattle.project_parts.specs.Reached.{for_plan, for_writes, of_nodes, own_device, parts_for};
+ghost use Rattle.kept_parts.specs.Kept.{is_unmarked, kept_inputs, HaveNoMark, IsOf};
 
 use crate::kept_parts::KeptParts;
 use co_project::Project;
-use eds_device::Device;
+use eds_device::DataSheet;
 use kept_values::{Meter, Shared, share_of};
 use pdo_plan::Plan;
 use project_parts::{
@@ -28,15 +29,15 @@ impl KeptParts {
         project: &Project,
         name: &[u8],
         meter: &mut Meter,
-    ) -> Result<Option<Shared<Device>>, AllocError>
+    ) -> Result<Option<Shared<DataSheet>>, AllocError>
         requires { IsOf project.now self.old }
         ensures is_of { IsOf project.now self.new }
-        ensures brings { OnOk result (AreBrought same_part (given project.now) (Part.Device name.now ∷ [])
-            (held self.old) (held self.new) meter.old meter.new) }
+        ensures brings { OnOk result (AreBrought same_part (inputs_of project.now) (Part.Device name.now ∷ [])
+            (kept_inputs self.old) (kept_inputs self.new) meter.old meter.new) }
         ensures value { IfOk result (λ d. d ≡ device_at project.now name.now) }
-        ensures unmarked { OnOk result (fresh self.new (Part.Device name.now)
+        ensures unmarked { OnOk result (is_unmarked self.new (Part.Device name.now)
             ≡ is_some (text_at project.now.texts name.now)) }
-        ensures stays { (q : Part) → fresh self.old q ≡ true → fresh self.new q ≡ true }
+        ensures stays { (q : Part) → is_unmarked self.old q ≡ true → is_unmarked self.new q ≡ true }
         ensures rises { Rises meter.old meter.new }
     {
         self.devices.bring(self.alloc, project, name, meter)?;
@@ -53,10 +54,10 @@ impl KeptParts {
     ) -> Result<NodeDevices, AllocError>
         requires { IsOf project.now self.old }
         ensures is_of { IsOf project.now self.new }
-        ensures brings { OnOk result (AreBrought same_part (given project.now)
+        ensures brings { OnOk result (AreBrought same_part (inputs_of project.now)
             (of_nodes project.now)
-            (held self.old) (held self.new) meter.old meter.new) }
-        ensures value { IfOk result (λ d. d ≡ filter_map (numbered project.now) (finmap.entries project.now.nodes)) }
+            (kept_inputs self.old) (kept_inputs self.new) meter.old meter.new) }
+        ensures value { IfOk result (λ d. d ≡ filter_map (node_with_device project.now) (finmap.entries project.now.nodes)) }
         ensures unmarked { OnOk result (HaveNoMark self.new (of_nodes project.now)) }
         ensures rises { Rises meter.old meter.new }
     {
@@ -75,7 +76,7 @@ impl KeptParts {
         requires is_of { IsOf project.now self.old }
         requires unmarked { HaveNoMark self.old (of_nodes project.now) }
         ensures same { self.new ≡ self.old }
-        ensures value { IfOk result (λ d. d ≡ filter_map (numbered project.now) (finmap.entries project.now.nodes)) }
+        ensures value { IfOk result (λ d. d ≡ filter_map (node_with_device project.now) (finmap.entries project.now.nodes)) }
     {
         let named = Named::by(project.messages());
         let mut devices = NodeDevices::new(self.alloc);
@@ -94,8 +95,8 @@ impl KeptParts {
         requires unmarked { HaveNoMark self.old (of_nodes project.now) }
         requires stale { self.old.plan.kept ≡ Some (plan_from project.now) → ⊥ }
         ensures is_of { IsOf project.now self.new }
-        ensures brings { OnOk result (AreBrought same_part (given project.now) (Part.Plan ∷ [])
-            (held self.old) (held self.new) meter.old meter.new) }
+        ensures brings { OnOk result (AreBrought same_part (inputs_of project.now) (Part.Plan ∷ [])
+            (kept_inputs self.old) (kept_inputs self.new) meter.old meter.new) }
         ensures kept { OnOk result (self.new.plan.kept ≡ Some (plan_from project.now)) }
         ensures rises { Rises meter.old meter.new }
     {
@@ -110,8 +111,8 @@ impl KeptParts {
     fn settle_plan(&mut self, project: &Project, meter: &mut Meter) -> Result<(), AllocError>
         requires { IsOf project.now self.old }
         ensures is_of { IsOf project.now self.new }
-        ensures brings { OnOk result (AreBrought same_part (given project.now) (for_plan project.now)
-            (held self.old) (held self.new) meter.old meter.new) }
+        ensures brings { OnOk result (AreBrought same_part (inputs_of project.now) (for_plan project.now)
+            (kept_inputs self.old) (kept_inputs self.new) meter.old meter.new) }
         ensures kept { OnOk result (self.new.plan.kept ≡ Some (plan_from project.now)) }
         ensures rises { Rises meter.old meter.new }
     {
@@ -136,8 +137,8 @@ impl KeptParts {
     ) -> Result<Shared<Plan>, AllocError>
         requires { IsOf project.now self.old }
         ensures is_of { IsOf project.now self.new }
-        ensures brings { OnOk result (AreBrought same_part (given project.now) (for_plan project.now)
-            (held self.old) (held self.new) meter.old meter.new) }
+        ensures brings { OnOk result (AreBrought same_part (inputs_of project.now) (for_plan project.now)
+            (kept_inputs self.old) (kept_inputs self.new) meter.old meter.new) }
         ensures value { IfOk result (λ p. p ≡ plan_made (plan_from project.now)) }
         ensures rises { Rises meter.old meter.new }
     {
@@ -155,11 +156,11 @@ impl KeptParts {
         project: &Project,
         node: u8,
         meter: &mut Meter,
-    ) -> Result<Option<Shared<Device>>, AllocError>
+    ) -> Result<Option<Shared<DataSheet>>, AllocError>
         requires { IsOf project.now self.old }
         ensures is_of { IsOf project.now self.new }
-        ensures brings { OnOk result (AreBrought same_part (given project.now) (own_device project.now node)
-            (held self.old) (held self.new) meter.old meter.new) }
+        ensures brings { OnOk result (AreBrought same_part (inputs_of project.now) (own_device project.now node)
+            (kept_inputs self.old) (kept_inputs self.new) meter.old meter.new) }
         ensures value { IfOk result (λ d. d
             ≡ option_and_then (λ n. device_at project.now n.eds) (node_at project.now.nodes node)) }
         ensures rises { Rises meter.old meter.new }
@@ -182,8 +183,8 @@ impl KeptParts {
     ) -> Result<Option<DeviceWrites>, AllocError>
         requires { IsOf project.now self.old }
         ensures is_of { IsOf project.now self.new }
-        ensures brings { OnOk result (AreBrought same_part (given project.now) (for_writes project.now node)
-            (held self.old) (held self.new) meter.old meter.new) }
+        ensures brings { OnOk result (AreBrought same_part (inputs_of project.now) (for_writes project.now node)
+            (kept_inputs self.old) (kept_inputs self.new) meter.old meter.new) }
         ensures value { IfOk result (λ w. w ≡ option_map written_made (writes_from project.now node)) }
         ensures rises { Rises meter.old meter.new }
     {
@@ -204,8 +205,8 @@ impl KeptParts {
     ) -> Result<(), AllocError>
         requires { IsOf project.now self.old }
         ensures is_of { IsOf project.now self.new }
-        ensures brings { OnOk result (AreBrought same_part (given project.now) (reached project.now (Part.Concise node))
-            (held self.old) (held self.new) meter.old meter.new) }
+        ensures brings { OnOk result (AreBrought same_part (inputs_of project.now) (parts_for project.now (Part.Concise node))
+            (kept_inputs self.old) (kept_inputs self.new) meter.old meter.new) }
         ensures rises { Rises meter.old meter.new }
     {
         let written = self.bring_writes(project, node, meter)?;
@@ -223,8 +224,8 @@ impl KeptParts {
     ) -> Result<(), AllocError>
         requires { IsOf project.now self.old }
         ensures is_of { IsOf project.now self.new }
-        ensures brings { OnOk result (AreBrought same_part (given project.now) (reached project.now (Part.Dcf node))
-            (held self.old) (held self.new) meter.old meter.new) }
+        ensures brings { OnOk result (AreBrought same_part (inputs_of project.now) (parts_for project.now (Part.Dcf node))
+            (kept_inputs self.old) (kept_inputs self.new) meter.old meter.new) }
         ensures rises { Rises meter.old meter.new }
     {
         let written = self.bring_writes(project, node, meter)?;

@@ -3,10 +3,10 @@ ghost use Rattle.std.specs.Prelude.{◌≡◌, ◌↔◌, IfOk, IsTrue, OnOk, So
 ghost use Rattle.co_diag.specs.Found.{diagnostics_of};
 ghost use Rattle.kept_values.specs.Stale.{AreBrought};
 ghost use Rattle.kept_values.specs.Work.{Rises};
-ghost use Rattle.project_parts.specs.Given.{given, same_part, whole};
-ghost use Rattle.project_parts.specs.Reached.{reached};
+ghost use Rattle.project_parts.specs.Given.{inputs_of, same_part, whole};
+ghost use Rattle.project_parts.specs.Reached.{parts_for};
 ghost use Rattle.project_plan.specs.Network.{plan_of_project};
-ghost use Rattle.kept_parts.specs.Kept.{held, IsOf};
+ghost use Rattle.kept_parts.specs.Kept.{kept_inputs, IsOf};
 
 use crate::kept_parts::KeptParts;
 use co_diag::diagnostics_by;
@@ -79,8 +79,8 @@ impl KeptParts {
     ) -> Result<(), AllocError>
         requires { IsOf project.now self.old }
         ensures is_of { IsOf project.now self.new }
-        ensures brings { OnOk result (AreBrought same_part (given project.now)
-            (reached project.now Part.Diagnostics) (held self.old) (held self.new) meter.old meter.new) }
+        ensures brings { OnOk result (AreBrought same_part (inputs_of project.now)
+            (parts_for project.now Part.Diagnostics) (kept_inputs self.old) (kept_inputs self.new) meter.old meter.new) }
         ensures rises { Rises meter.old meter.new }
     {
         let plan = self.bring_plan(project, meter)?;

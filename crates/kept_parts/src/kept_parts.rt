@@ -5,10 +5,10 @@ ghost use Rattle.kept_values.specs.Shelved.{kept_at};
 ghost use Rattle.kept_values.specs.Stale.{AreBrought};
 ghost use Rattle.kept_values.specs.Work.{Rises};
 ghost use Rattle.co_project.specs.Project.{Content};
-ghost use Rattle.project_parts.specs.Given.{given, same_part};
+ghost use Rattle.project_parts.specs.Given.{inputs_of, same_part};
 ghost use Rattle.project_parts.specs.Made.{concise_made, dcf_made, plan_made};
-ghost use Rattle.project_parts.specs.Reached.{reached, reached_by_trace, IsPart};
-ghost use Rattle.kept_parts.specs.Kept.{held, IsCurrent, IsOf};
+ghost use Rattle.project_parts.specs.Reached.{parts_for, reached_by_trace, IsPart};
+ghost use Rattle.kept_parts.specs.Kept.{kept_inputs, IsCurrent, IsOf};
 ghost use Rattle.kept_parts.specs.Left.{left_of, IsSwept};
 
 use co_project::Project;
@@ -86,9 +86,9 @@ impl KeptParts {
         ensures swept { IsSwept project.now self.new }
 
         // These parts are held as they are to be made now, and exactly those are counted that were to be made.
-        ensures brings { OnOk result (AreBrought same_part (given project.now) (reached project.now part.now)
-            (left_of project.now self.old) (held self.new) meter.old meter.new) }
-        ensures current { OnOk result (held self.new part.now ≡ given project.now part.now) }
+        ensures brings { OnOk result (AreBrought same_part (inputs_of project.now) (parts_for project.now part.now)
+            (left_of project.now self.old) (kept_inputs self.new) meter.old meter.new) }
+        ensures current { OnOk result (kept_inputs self.new part.now ≡ inputs_of project.now part.now) }
         ensures rises { Rises meter.old meter.new }
     {
         self.let_go(project);
@@ -104,8 +104,8 @@ impl KeptParts {
         requires swept { IsSwept project.now self.old }
         ensures is_of { IsOf project.now self.new }
         ensures swept { IsSwept project.now self.new }
-        ensures brings { OnOk result (AreBrought same_part (given project.now) (reached_by_trace project.now)
-            (left_of project.now self.old) (held self.new) meter.old meter.new) }
+        ensures brings { OnOk result (AreBrought same_part (inputs_of project.now) (reached_by_trace project.now)
+            (left_of project.now self.old) (kept_inputs self.new) meter.old meter.new) }
         ensures current { OnOk result (IsCurrent project.now self.new) }
         ensures rises { Rises meter.old meter.new }
     {

@@ -1,7 +1,7 @@
 //! What a project doesn't have any more is let go.
 ghost use Rattle.std.specs.Prelude.{◌≡◌, ◌&&◌, not};
 ghost use Rattle.project_parts.specs.Gone.{drops};
-ghost use Rattle.kept_parts.specs.Kept.{held, IsOf};
+ghost use Rattle.kept_parts.specs.Kept.{kept_inputs, IsOf};
 ghost use Rattle.kept_parts.specs.Left.{left_of, IsSwept};
 
 use crate::kept_parts::KeptParts;
@@ -30,7 +30,7 @@ impl KeptParts {
         requires is_of { IsOf project.now self.old }
         requires swept { IsSwept project.now self.old }
         ensures is_of { IsOf project.now self.new }
-        ensures left { (q : Part) → held self.new q ≡ left_of project.now self.old q }
+        ensures left { (q : Part) → kept_inputs self.new q ≡ left_of project.now self.old q }
     {
         if self.swept {
             return;

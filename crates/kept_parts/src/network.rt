@@ -2,7 +2,7 @@
 ghost use Rattle.std.specs.Prelude.{◌≡◌, ◌≤◌, ◌∷◌, [], ℕ, IfOk, OnOk, option_map};
 ghost use Rattle.std.specs.FinMap as map;
 ghost use Rattle.project_plan.specs.Network.{member_at};
-ghost use Rattle.network_image.specs.Held.{held_of, with_window};
+ghost use Rattle.network_image.specs.Held.{held_of, with_steps};
 ghost use Rattle.network_image.specs.Image.{image_of, roster_of_project, window_steps};
 ghost use Rattle.network_image.specs.Network.{image_held};
 ghost use Rattle.network_image.specs.Steps.{unless_none};
@@ -72,7 +72,7 @@ impl KeptParts {
     ) -> Result<(), AllocError>
         requires number { i ≤ 1000 }
         requires held { AreHeld project.now (Part.Window i ∷ []) self.now }
-        ensures { OnOk result (table.new ≡ with_window i (window_steps project.now i) table.old) }
+        ensures { OnOk result (table.new ≡ with_steps i (window_steps project.now i) table.old) }
     {
         if !self.windows.has_steps(i) {
             return Ok(());

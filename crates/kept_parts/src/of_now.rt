@@ -1,11 +1,11 @@
 //! Devices that are kept, for those who read the devices of a project.
 ghost use Rattle.std.specs.Prelude.{◌≡◌, IfOk, IfSome, Some};
-ghost use Rattle.project_parts.specs.Given.{device_at};
+ghost use Rattle.project_plan.specs.Network.{device_at};
 ghost use Rattle.kept_parts.specs.Kept.{IsOf};
 
 use crate::kept_parts::KeptParts;
 use co_project::Project;
-use eds_device::Device;
+use eds_device::DataSheet;
 use kept_values::{Shared, share_of};
 use std::alloc::AllocError;
 
@@ -16,7 +16,7 @@ impl KeptParts {
         &self,
         project: &Project,
         name: &[u8],
-    ) -> Result<Option<Shared<Device>>, AllocError>
+    ) -> Result<Option<Shared<DataSheet>>, AllocError>
         requires { IsOf project.now self.now }
         ensures { IfOk result (λ found. IfSome found (λ device. device_at project.now name.now ≡ Some device)) }
     {
@@ -34,7 +34,7 @@ impl KeptParts {
         &mut self,
         project: &Project,
         name: &[u8],
-    ) -> Result<Option<Shared<Device>>, AllocError>
+    ) -> Result<Option<Shared<DataSheet>>, AllocError>
         requires { IsOf project.now self.old }
         ensures same { self.new ≡ self.old }
         ensures value { IfOk result (λ found. IfSome found (λ device. device_at project.now name.now ≡ Some device)) }

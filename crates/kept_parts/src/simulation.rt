@@ -4,13 +4,13 @@ ghost use Rattle.kept_values.specs.Stale.{AreBrought};
 ghost use Rattle.kept_values.specs.Work.{Rises};
 ghost use Rattle.co_scenario.specs.Scenario.{events_between};
 ghost use Rattle.network_image.specs.Devices.{HoldsDevices};
-ghost use Rattle.project_parts.specs.Given.{device_from, given, same_part};
-ghost use Rattle.project_parts.specs.Reached.{own_device, reached, IsPart};
-ghost use Rattle.kept_parts.specs.Kept.{held, IsOf};
+ghost use Rattle.project_parts.specs.Given.{device_from, inputs_of, same_part};
+ghost use Rattle.project_parts.specs.Reached.{own_device, parts_for, IsPart};
+ghost use Rattle.kept_parts.specs.Kept.{kept_inputs, IsOf};
 
 use crate::kept_parts::KeptParts;
 use co_project::Project;
-use eds_device::Device;
+use eds_device::DataSheet;
 use image_parts::WINDOW;
 use kept_values::{Meter, Shared};
 use network_image::window_steps;
@@ -18,7 +18,7 @@ use project_parts::{DeviceAt, Part, RosterNow};
 use std::alloc::AllocError;
 
 /// A device with the number of its node.
-fn device_at(device: Option<Shared<Device>>, node: u8) -> Option<DeviceAt>
+fn device_at(device: Option<Shared<DataSheet>>, node: u8) -> Option<DeviceAt>
     ensures { result ≡ option_map (λ d. record { device = d; node = node }) device }
 {
     let device = device?;
@@ -34,8 +34,8 @@ impl KeptParts {
     ) -> Result<(), AllocError>
         requires { IsOf project.now self.old }
         ensures is_of { IsOf project.now self.new }
-        ensures brings { OnOk result (AreBrought same_part (given project.now) (Part.Roster ∷ [])
-            (held self.old) (held self.new) meter.old meter.new) }
+        ensures brings { OnOk result (AreBrought same_part (inputs_of project.now) (Part.Roster ∷ [])
+            (kept_inputs self.old) (kept_inputs self.new) meter.old meter.new) }
         ensures rises { Rises meter.old meter.new }
     {
         self.roster.bring(self.alloc, RosterNow { project }, meter)?;
@@ -51,9 +51,9 @@ impl KeptParts {
     ) -> Result<Option<DeviceAt>, AllocError>
         requires { IsOf project.now self.old }
         ensures is_of { IsOf project.now self.new }
-        ensures brings { OnOk result (AreBrought same_part (given project.now)
+        ensures brings { OnOk result (AreBrought same_part (inputs_of project.now)
             (own_device project.now node)
-            (held self.old) (held self.new) meter.old meter.new) }
+            (kept_inputs self.old) (kept_inputs self.new) meter.old meter.new) }
         ensures value { IfOk result (λ d. d ≡ device_from project.now node) }
         ensures rises { Rises meter.old meter.new }
     {
@@ -90,8 +90,8 @@ impl KeptParts {
     ) -> Result<(), AllocError>
         requires { IsOf project.now self.old }
         ensures is_of { IsOf project.now self.new }
-        ensures brings { OnOk result (AreBrought same_part (given project.now)
-            (reached project.now (Part.Node node)) (held self.old) (held self.new) meter.old meter.new) }
+        ensures brings { OnOk result (AreBrought same_part (inputs_of project.now)
+            (parts_for project.now (Part.Node node)) (kept_inputs self.old) (kept_inputs self.new) meter.old meter.new) }
         ensures rises { Rises meter.old meter.new }
     {
         let now = self.bring_numbered(project, node, meter)?;
@@ -116,8 +116,8 @@ impl KeptParts {
         requires devices { HoldsDevices project.now self.old.devices }
         requires moments { moments.now ≡ events_between (10000 * i) (10000 * i + 9999) project.now.events }
         ensures is_of { IsOf project.now self.new }
-        ensures brings { OnOk result (AreBrought same_part (given project.now) (Part.Window i ∷ [])
-            (held self.old) (held self.new) meter.old meter.new) }
+        ensures brings { OnOk result (AreBrought same_part (inputs_of project.now) (Part.Window i ∷ [])
+            (kept_inputs self.old) (kept_inputs self.new) meter.old meter.new) }
         ensures devices { self.new.devices ≡ self.old.devices }
         ensures rises { Rises meter.old meter.new }
     {
@@ -140,8 +140,8 @@ impl KeptParts {
         requires number { i ≤ 1000 }
         requires devices { HoldsDevices project.now self.old.devices }
         ensures is_of { IsOf project.now self.new }
-        ensures brings { OnOk result (AreBrought same_part (given project.now) (Part.Window i ∷ [])
-            (held self.old) (held self.new) meter.old meter.new) }
+        ensures brings { OnOk result (AreBrought same_part (inputs_of project.now) (Part.Window i ∷ [])
+            (kept_inputs self.old) (kept_inputs self.new) meter.old meter.new) }
         ensures rises { Rises meter.old meter.new }
     {
         if self.windows.is_fresh(i) {
@@ -165,8 +165,8 @@ impl KeptParts {
         requires is_of { IsOf project.now self.old }
         requires number { i ≤ 1000 }
         ensures is_of { IsOf project.now self.new }
-        ensures brings { OnOk result (AreBrought same_part (given project.now)
-            (reached project.now (Part.Window i)) (held self.old) (held self.new) meter.old meter.new) }
+        ensures brings { OnOk result (AreBrought same_part (inputs_of project.now)
+            (parts_for project.now (Part.Window i)) (kept_inputs self.old) (kept_inputs self.new) meter.old meter.new) }
         ensures rises { Rises meter.old meter.new }
     {
         self.bring_devices(project, meter)?;

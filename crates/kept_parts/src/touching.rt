@@ -1,10 +1,10 @@
 //! Marks of what edits may leave with other inputs.
 ghost use Rattle.std.specs.Prelude.{◌≡◌, ◌||◌, Ok};
 ghost use Rattle.co_project.specs.Project.{accept, Content};
-ghost use Rattle.project_parts.specs.Touch.{shown};
+ghost use Rattle.project_parts.specs.Touch.{touch_value};
 ghost use Rattle.project_parts.specs.Touched.{is_of_network, is_of_node, is_of_text, is_planned, is_roster, is_window};
-ghost use Rattle.project_parts.specs.Touched.{goes_into, is_window_at, is_window_of, is_wrong, says_rate, touched};
-ghost use Rattle.kept_parts.specs.Kept.{held, IsOf};
+ghost use Rattle.project_parts.specs.Touched.{goes_into, is_window_at, is_window_of, is_wrong, says_rate, is_touched};
+ghost use Rattle.kept_parts.specs.Kept.{kept_inputs, IsOf};
 ghost use Rattle.kept_parts.specs.Left.{IsSwept};
 ghost use Rattle.kept_parts.specs.Marks.{Marks};
 
@@ -109,7 +109,7 @@ impl KeptParts {
 
     /// Marks what a change goes into, but for the diagnostics.
     fn mark(&mut self, touch: Touch<'_>, events: &Script)
-        ensures { Marks (goes_into events.now (shown touch.entry)) self.old self.new }
+        ensures { Marks (goes_into events.now (touch_value touch.entry)) self.old self.new }
     {
         match touch {
             Touch::Nothing => (),
@@ -128,10 +128,10 @@ impl KeptParts {
     /// for the logarithms of the numbers of EDS and of events. A mark too many does no harm: so it may come
     /// before the edit is taken or refused.
     pub fn touch(&mut self, edit: &Edit, project: &Project)
-        ensures held { (q : Part) → held self.new q ≡ held self.old q }
+        ensures held { (q : Part) → kept_inputs self.new q ≡ kept_inputs self.old q }
 
         // These have a mark afterwards, and those that had one; no other has, but windows may.
-        ensures marks { Marks (touched project.now edit.now) self.old self.new }
+        ensures marks { Marks (is_touched project.now edit.now) self.old self.new }
 
         // What is held of the project is held of it still, and of the project that the edit makes of it.
         ensures same { IsOf project.now self.old → IsOf project.now self.new }

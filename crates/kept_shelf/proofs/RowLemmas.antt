@@ -12,7 +12,7 @@ use Rattle.std.proofs.lemmas.Option.{get_or_from_slice_get, same_Some, slice_get
 use Rattle.lru.specs.LruCache.{promoted}
 use Rattle.lru.proofs.Splits.{Contains-cut}
 use Rattle.kept_shelf.specs.Numbers.{of_number}
-use Rattle.kept_shelf.specs.Rows.{IsEndOf, IsRow, IsShelf, shown}
+use Rattle.kept_shelf.specs.Rows.{IsEndOf, IsRow, IsShelf, shelf_order}
 use Rattle.kept_shelf.specs.Shelves.{AreGiven, Shelved}
 use Rattle.kept_shelf.proofs.EntryLemmas.{given_added, head_in, in_cons, new_keys, none_in, tail_in}
 use Rattle.kept_shelf.proofs.KeyLemmas.{distinct_back, distinct_moved, distinct_take, found_behind, found_before, found_in, found_past, given_back, given_moved, promoted_at, removed_at, second_first}
@@ -100,10 +100,10 @@ module _ {V : Type 0} (number_of : V → ℕ) where
     pub all_used : used ≡ length row
     all_used = omega (arith, within, length-drop used row, ap length settled)
 
-    pub settled_shown : shown row used rest ≡ reverse row ++ rest
+    pub settled_shown : shelf_order row used rest ≡ reverse row ++ rest
     settled_shown = rw (settled, take_all used row (omega (arith, all_used))) refl
 
-    pub later_numbers : (n : ℕ) → first + used ≤ n → of_number number_of n (shown row used rest) ≡ of_number number_of n rest
+    pub later_numbers : (n : ℕ) → first + used ≤ n → of_number number_of n (shelf_order row used rest) ≡ of_number number_of n rest
     later_numbers n later =
         ap (of_number number_of n) settled_shown
         ∙ filter-append (λ (e : ℕ × V). nat_eq (number_of e.1) n) (reverse row) rest
@@ -113,13 +113,13 @@ module _ {V : Type 0} (number_of : V → ℕ) where
     lookup_by key None is later = found_past key (reverse row) rest is
     lookup_by key (Some v) is later = absurd (omega (arith, all_used, later v (found_before key (reverse row) rest v is), row_below first row (key, v) numbers (in_reverse row (key, v) (found_in key (reverse row) v is))))
 
-    pub later_lookup : (key : ℕ) → ((v : V) → lookup (nat_eq key) (shown row used rest) ≡ Some v → first + used ≤ number_of v) → lookup (nat_eq key) (shown row used rest) ≡ lookup (nat_eq key) rest
+    pub later_lookup : (key : ℕ) → ((v : V) → lookup (nat_eq key) (shelf_order row used rest) ≡ Some v → first + used ≤ number_of v) → lookup (nat_eq key) (shelf_order row used rest) ≡ lookup (nat_eq key) rest
     later_lookup key later =
         ap (lookup (nat_eq key)) settled_shown
         ∙ lookup_by key (lookup (nat_eq key) (reverse row)) refl (λ v is. later v (ap (lookup (nat_eq key)) settled_shown ∙ is))
 
     -- a value of the number whose turn it is isn't in the row
-    pub turn_lookup : (key : ℕ) (v : V) → lookup (nat_eq key) (shown row used rest) ≡ Some v → number_of v ≡ first + used → lookup (nat_eq key) rest ≡ Some v
+    pub turn_lookup : (key : ℕ) (v : V) → lookup (nat_eq key) (shelf_order row used rest) ≡ Some v → number_of v ≡ first + used → lookup (nat_eq key) rest ≡ Some v
     turn_lookup key v is turn =
         sym (later_lookup key (λ w found. omega (arith, turn, ap number_of (same_Some w v (sym found ∙ is))))) ∙ is
 
@@ -132,20 +132,20 @@ module _ {V : Type 0} (row : List (ℕ × V)) (used : ℕ) (rest : List (ℕ × 
       ∙ ap (λ l. l ++ rest) (reverse-append (take used row) (drop used row))
       ∙ append_assoc (reverse (drop used row)) (reverse (take used row)) rest
 
-  pub shown_moved : IsPermutation (reverse row ++ rest) (shown row used rest)
+  pub shown_moved : IsPermutation (reverse row ++ rest) (shelf_order row used rest)
   shown_moved = rw ahead_first (second_first (reverse (drop used row)) (reverse (take used row)) rest)
 
-  pub shown_distinct : IsDistinct nat_eq (keys_of (reverse row ++ rest)) → IsDistinct nat_eq (keys_of (shown row used rest))
-  shown_distinct d = distinct_moved (reverse row ++ rest) (shown row used rest) shown_moved d
+  pub shown_distinct : IsDistinct nat_eq (keys_of (reverse row ++ rest)) → IsDistinct nat_eq (keys_of (shelf_order row used rest))
+  shown_distinct d = distinct_moved (reverse row ++ rest) (shelf_order row used rest) shown_moved d
 
-  pub shown_given : (given : ℕ) → AreGiven given (reverse row ++ rest) → AreGiven given (shown row used rest)
-  shown_given given h = given_moved given (reverse row ++ rest) (shown row used rest) shown_moved h
+  pub shown_given : (given : ℕ) → AreGiven given (reverse row ++ rest) → AreGiven given (shelf_order row used rest)
+  shown_given given h = given_moved given (reverse row ++ rest) (shelf_order row used rest) shown_moved h
 
   pub ahead_distinct : IsDistinct nat_eq (keys_of (reverse row ++ rest)) → IsDistinct nat_eq (keys_of (reverse (drop used row) ++ rest))
   ahead_distinct d = distinct_back (reverse (take used row)) (reverse (drop used row) ++ rest) (shown_distinct d)
 
 -- all of a row is used
-pub shown_all : {V : Type 0} (row rest : List (ℕ × V)) → shown row (length row) rest ≡ reverse row ++ rest
+pub shown_all : {V : Type 0} (row rest : List (ℕ × V)) → shelf_order row (length row) rest ≡ reverse row ++ rest
 shown_all row rest = rw (take_all (length row) row (omega arith), drop_all (length row) row (omega arith)) refl
 
 -- what lies ahead next, as it is read
@@ -172,7 +172,7 @@ module _ {V : Type 0} (number_of : V → ℕ) (first used : ℕ) (row rest : Lis
   front : List (ℕ × V)
   front = reverse (take used row) ++ reverse (drop (used + 1) row)
 
-  next_shown : shown row used rest ≡ front ++ e ∷ rest
+  next_shown : shelf_order row used rest ≡ front ++ e ∷ rest
   unfolding front
   next_shown =
       let b = reverse (drop (used + 1) row) in
@@ -184,7 +184,7 @@ module _ {V : Type 0} (number_of : V → ℕ) (first used : ℕ) (row rest : Lis
   next_distinct : IsDistinct nat_eq (keys_of (reverse row ++ rest)) → IsDistinct nat_eq (keys_of (front ++ e ∷ rest))
   next_distinct d = subst (λ l. IsDistinct nat_eq (keys_of l)) next_shown (shown_distinct row used rest d)
 
-  pub used_shown : IsDistinct nat_eq (keys_of (reverse row ++ rest)) → shown row (used + 1) rest ≡ promoted (nat_eq e.0) (shown row used rest)
+  pub used_shown : IsDistinct nat_eq (keys_of (reverse row ++ rest)) → shelf_order row (used + 1) rest ≡ promoted (nat_eq e.0) (shelf_order row used rest)
   unfolding front
   used_shown d =
       ap (λ l. reverse l ++ (reverse (drop (used + 1) row) ++ rest)) behind
@@ -193,10 +193,10 @@ module _ {V : Type 0} (number_of : V → ℕ) (first used : ℕ) (row rest : Lis
       ∙ sym (promoted_at front e rest (next_distinct d))
       ∙ ap (promoted (nat_eq e.0)) (sym next_shown)
 
-  pub next_held : IsDistinct nat_eq (keys_of (reverse row ++ rest)) → lookup (nat_eq e.0) (shown row used rest) ≡ Some e.1
+  pub next_held : IsDistinct nat_eq (keys_of (reverse row ++ rest)) → lookup (nat_eq e.0) (shelf_order row used rest) ≡ Some e.1
   next_held d = ap (lookup (nat_eq e.0)) next_shown ∙ found_behind e.0 front (e ∷ rest) e.1 (next_distinct d) (rw (equal e.0 e.0 refl) refl)
 
-  pub next_first : IsRow number_of first row → slice_get (of_number number_of (first + used) (shown row used rest)) 0 ≡ Some e
+  pub next_first : IsRow number_of first row → slice_get (of_number number_of (first + used) (shelf_order row used rest)) 0 ≡ Some e
   unfolding front
   next_first numbers =
       let n = first + used in
@@ -205,7 +205,7 @@ module _ {V : Type 0} (number_of : V → ℕ) (first used : ℕ) (row rest : Lis
       let before = none_of number_of n (reverse (take used row)) (λ f c is. absurd (omega (arith, is, length-take used row, row_below number_of first (take used row) f (row_take number_of first used row numbers) (in_reverse (take used row) f c)))) in
       let after = none_of number_of n (reverse (drop (used + 1) row)) (λ f c is. absurd (omega (arith, is, row_from number_of (n + 1) (drop (used + 1) row) f (row_tail number_of n e (drop (used + 1) row) from) (in_reverse (drop (used + 1) row) f c)))) in
       let test = λ (f : ℕ × V). nat_eq (number_of f.1) n in
-      let all : of_number number_of n (shown row used rest) ≡ of_number number_of n (e ∷ rest) =
+      let all : of_number number_of n (shelf_order row used rest) ≡ of_number number_of n (e ∷ rest) =
       ap (of_number number_of n) next_shown
       ∙ filter-append test front (e ∷ rest)
       ∙ ap (λ l. l ++ of_number number_of n (e ∷ rest)) (filter-append test (reverse (take used row)) (reverse (drop (used + 1) row)) ∙ ap (λ l. l ++ of_number number_of n (reverse (drop (used + 1) row))) before ∙ after) in
@@ -214,13 +214,13 @@ module _ {V : Type 0} (number_of : V → ℕ) (first used : ℕ) (row rest : Lis
 -- ---- what lies ahead goes before the rest
 
 module _ {V : Type 0} (row : List (ℕ × V)) (used : ℕ) (rest new : List (ℕ × V)) where
-  pub less_shown : IsEndOf (reverse (drop used row) ++ rest) new → (e : ℕ × V) → Contains (reverse (take used row) ++ new) e → Contains (shown row used rest) e
+  pub less_shown : IsEndOf (reverse (drop used row) ++ rest) new → (e : ℕ × V) → Contains (reverse (take used row) ++ new) e → Contains (shelf_order row used rest) e
   less_shown ends e c = elim (Contains-append_cases (reverse (take used row)) new e c) [
     | inl d ↦ Contains-append_left (reverse (take used row)) (reverse (drop used row) ++ rest) e d
     | inr d ↦ Contains-append_right (reverse (take used row)) (reverse (drop used row) ++ rest) e (rw ends.1 (Contains-append_right ends.0 new e d))
   ]
 
-  pub put_fewer : used ≤ length row → IsEndOf (reverse (drop used row) ++ rest) new → (e : ℕ × V) → Contains (shown (take used row) used new) e → Contains (shown row used rest) e
+  pub put_fewer : used ≤ length row → IsEndOf (reverse (drop used row) ++ rest) new → (e : ℕ × V) → Contains (shelf_order (take used row) used new) e → Contains (shelf_order row used rest) e
   put_fewer within ends e c =
       let long = length-take-le used row within in
       less_shown ends e (rw (take_all used (take used row) (omega (arith, long)), drop_all used (take used row) (omega (arith, long))) at c)
@@ -309,7 +309,7 @@ module _ {V : Type 0} (row rest : List (ℕ × V)) (key : ℕ) (v : V) (distinct
       }
 
   pub brought_shown : (number_of : V → ℕ) (first used : ℕ) → IsRow number_of first row → used ≤ length row → drop used row ≡ []
-      → shown (row ++ (key, v) ∷ []) (length (row ++ (key, v) ∷ [])) (remove_entry (nat_eq key) rest) ≡ promoted (nat_eq key) (shown row used rest)
+      → shelf_order (row ++ (key, v) ∷ []) (length (row ++ (key, v) ∷ [])) (remove_entry (nat_eq key) rest) ≡ promoted (nat_eq key) (shelf_order row used rest)
   brought_shown number_of first used numbers within settled =
       shown_all (row ++ (key, v) ∷ []) (remove_entry (nat_eq key) rest)
       ∙ ap (λ l. l ++ remove_entry (nat_eq key) rest) (reversed_push row (key, v))

@@ -10,8 +10,8 @@ IsRow number_of first [] = Unit {0}
 IsRow number_of first (e ∷ es) = (number_of e.1 ≡ first) × IsRow number_of (first + 1) es
 
 -- the first of a row are used, and go before what lies ahead and the others, the last first
-abbrev pub shown : {V : Type 0} → List (ℕ × V) → ℕ → List (ℕ × V) → List (ℕ × V)
-shown row used rest = reverse (take used row) ++ (reverse (drop used row) ++ rest)
+abbrev pub shelf_order : {V : Type 0} → List (ℕ × V) → ℕ → List (ℕ × V) → List (ℕ × V)
+shelf_order row used rest = reverse (take used row) ++ (reverse (drop used row) ++ rest)
 
 -- a list is the end of another
 abbrev pub IsEndOf : {X : Type 0} → List X → List X → Type 0

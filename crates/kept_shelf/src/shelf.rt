@@ -29,7 +29,7 @@ pub struct Shelf<V: Numbered> {
 
 impl<V: Numbered> Model for Shelf<V> {
     ghost use Rattle.std.specs.Prelude.{◌+◌, drop};
-    ghost use Rattle.kept_shelf.specs.Rows.{IsShelf, shown};
+    ghost use Rattle.kept_shelf.specs.Rows.{IsShelf, shelf_order};
     ghost use Rattle.kept_shelf.specs.Shelves.{Shelved, shelved_code};
 
     ghost Value = { Shelved V };
@@ -38,7 +38,7 @@ impl<V: Numbered> Model for Shelf<V> {
 
     ghost view = { λ a. record {
       capacity = a.capacity;
-      entries = shown a.row.items a.used a.rest;
+      entries = shelf_order a.row.items a.used a.rest;
       given = a.given;
       turn = a.first + a.used;
       ahead = drop a.used a.row.items;

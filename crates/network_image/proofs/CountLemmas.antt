@@ -47,7 +47,7 @@ use Rattle.pdo_plan.proofs.JudgedLemmas.{clean_within}
 use Rattle.pdo_stations.specs.declared.mapped.Mapped.{Mapped}
 use Rattle.pdo_stations.specs.Devices.{Devices, devices_of, takes_unsigned}
 use Rattle.cia301.specs.PdoObjects.{mapping_object, rpdo_object, tpdo_object}
-use Rattle.project_plan.specs.Network.{member_at, members_of, plan_of_project, with_sections, writes_of, Member}
+use Rattle.project_plan.specs.Network.{member_at, sections_of_members, plan_of_project, with_sections, writes_of, Member}
 use Rattle.network_image.proofs.StepLemmas.{picked}
 
 -- at most so many, one after another
@@ -157,7 +157,7 @@ module _ (p : Project) (sound : IsSound p) where
   unfolding plan_of_project
   all_within =
       let cs : List Clean = clean (plan_of_project p) in
-      let devices : Devices = devices_of (members_of p) in
+      let devices : Devices = devices_of (sections_of_members p) in
       recursion_from_All IsWithin cs
       (all_clean IsWithin cs (each_within devices (λ before c. IsWithin c)
       (λ before m c kept e. clean_within (had_by before) devices m c kept e) (entries p.messages) all_linked))

@@ -2,7 +2,7 @@
 use Rattle.std.proofs.Common.{◌≡◌, ◌∙◌, ℕ, List, Option, Some, None, option_map, option_and_then, refl, sym, ap}
 use Rattle.std.specs.FinMap.{get}
 use Rattle.std.specs.Result.{result_ok}
-use Rattle.ini_text.specs.Content.{Content as Device, content_of}
+use Rattle.ini_text.specs.Content.{Content as DataSheet, content_of}
 use Rattle.co_dict.specs.Shapes.{Shaped}
 use Rattle.co_dict.specs.declared.entry.Entry.{Entry}
 use Rattle.node_parameters.specs.Judgement.{set_bytes}
@@ -30,8 +30,8 @@ module _ (p : Project) (devices : Slots) (n index sub : ℕ) (text : List ℕ) w
       in_shape (option_map (λ (m : Member). shape_of m.sections n)
       (option_map (λ t. record { node = node; sections = (content_of t).sections }) o))
 
-  abbrev in_device : Option Device → Option (List ℕ)
-  in_device o = option_and_then (λ (d : Device). result_ok (set_bytes (entry_at d.sections n index sub) text n)) o
+  abbrev in_device : Option DataSheet → Option (List ℕ)
+  in_device o = option_and_then (λ (d : DataSheet). result_ok (set_bytes (entry_at d.sections n index sub) text n)) o
 
   -- no node
   pub none_set : None ≡ node_at p.nodes n → None ≡ bytes_set (shape_of_node p) n index sub text
@@ -44,7 +44,7 @@ module _ (p : Project) (devices : Slots) (n index sub : ℕ) (text : List ℕ) w
       ap (λ (e : Option Entry). result_ok (set_bytes e text n)) (sym (shape_at (content_of t).sections n index sub))
 
   -- a node with the device that is held
-  pub device_set : (node : Node) (device : Option Device) → HoldsDevices p devices → Some node ≡ node_at p.nodes n
+  pub device_set : (node : Node) (device : Option DataSheet) → HoldsDevices p devices → Some node ≡ node_at p.nodes n
       → device ≡ option_map content_of (text_kept devices node.eds)
       → in_device device ≡ bytes_set (shape_of_node p) n index sub text
   unfolding shape_of_node member_at

@@ -7,7 +7,7 @@ use Rattle.image_parts.specs.Contents.{BootIs, DefaultsAre, EventsAre, ExpectIs,
 use Rattle.image_parts.specs.declared.part.Part.{Part}
 use Rattle.image_parts.specs.declared.part.Part.TheVariants as part
 use Rattle.image_parts.specs.declared.roster.Roster.{Roster}
-use Rattle.network_image.specs.Held.{held_of, AllHeld, Held, Windows}
+use Rattle.network_image.specs.Held.{held_of, AllHeld, PartsOfNode, Windows}
 use Rattle.project_plan.specs.Events.{shape_of_node}
 use Rattle.network_image.specs.Image.{defaults_of_node, identity_of_node, image_of, roster_of_project}
 use Rattle.network_image.specs.Image.{window_steps, write_of_node}
@@ -38,15 +38,15 @@ same_image p roster held windows is all timed = λ i name. by name i
     by : (name : Part) → image_held network name ≡ image_of p name
     by part.Roster = ap (λ (r : Roster). RosterIs (Some r)) is
     by (part.Defaults id) =
-        ap (λ (o : Option Held). DefaultsAre (option_map (λ (h : Held). h.defaults) o)) (all id)
-        ∙ ap DefaultsAre (mapped_twice (held_of p id) (λ (h : Held). h.defaults) (member_at p id))
+        ap (λ (o : Option PartsOfNode). DefaultsAre (option_map (λ (h : PartsOfNode). h.defaults) o)) (all id)
+        ∙ ap DefaultsAre (mapped_twice (held_of p id) (λ (h : PartsOfNode). h.defaults) (member_at p id))
     by (part.Shape id) =
-        ap (λ (o : Option Held). ShapeIs (option_map (λ (h : Held). h.shape) o)) (all id)
-        ∙ ap ShapeIs (mapped_twice (held_of p id) (λ (h : Held). h.shape) (member_at p id))
+        ap (λ (o : Option PartsOfNode). ShapeIs (option_map (λ (h : PartsOfNode). h.shape) o)) (all id)
+        ∙ ap ShapeIs (mapped_twice (held_of p id) (λ (h : PartsOfNode). h.shape) (member_at p id))
     by (part.Expect id) =
-        ap (λ (o : Option Held). ExpectIs (option_map (λ (h : Held). h.expect) o)) (all id)
-        ∙ ap ExpectIs (mapped_twice (held_of p id) (λ (h : Held). h.expect) (member_at p id))
+        ap (λ (o : Option PartsOfNode). ExpectIs (option_map (λ (h : PartsOfNode). h.expect) o)) (all id)
+        ∙ ap ExpectIs (mapped_twice (held_of p id) (λ (h : PartsOfNode). h.expect) (member_at p id))
     by (part.Boot id place) =
-        ap (λ (o : Option Held). BootIs (option_and_then (λ (h : Held). slice_get h.writes place) o)) (all id)
-        ∙ ap BootIs (mapped_then (held_of p id) (λ (h : Held). slice_get h.writes place) (member_at p id))
+        ap (λ (o : Option PartsOfNode). BootIs (option_and_then (λ (h : PartsOfNode). slice_get h.writes place) o)) (all id)
+        ∙ ap BootIs (mapped_then (held_of p id) (λ (h : PartsOfNode). slice_get h.writes place) (member_at p id))
     by (part.Events window) = ap EventsAre (timed window)

@@ -3,7 +3,7 @@ use Rattle.std.proofs.Common.{◌≡◌, ℕ, zero, suc, ◌<◌, ◌≤◌, len
 use Rattle.std.proofs.Common.{refl, Some, None, IfOk, IfSome, All, sym, subst, slice_get}
 use Rattle.std.proofs.lemmas.List.Elements.{All-head, All-tail}
 use Rattle.std.specs.declared.rc.Rc.{Rc}
-use Rattle.image_parts.specs.Shared.{shared}
+use Rattle.image_parts.specs.Shared.{value_behind}
 
 -- what holds of all holds at a place
 pub all_at : {X : Type 0} (P : X → Type 0) (xs : List X) (k : ℕ) → All P xs → IfSome (slice_get xs k) P
@@ -13,7 +13,7 @@ all_at P (x ∷ xs) (suc k) all = all_at P xs k (All-tail P x xs all)
 
 -- what holds of a value holds behind a copy of its pointer
 pub copied_fits : {X Z E : Type 0} (P : X → Type 0) (result : Result (Option (Rc X Z)) E) (x : X)
-    → IfOk result (λ copy. shared copy ≡ Some x) → P x → IfOk result (λ copy. IfSome (shared copy) P)
+    → IfOk result (λ copy. value_behind copy ≡ Some x) → P x → IfOk result (λ copy. IfSome (value_behind copy) P)
 copied_fits P (Ok copy) x is p = subst (λ o. IfSome o P) (sym is) p
 copied_fits P (Err e) x is p = tt
 

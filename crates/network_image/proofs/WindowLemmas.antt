@@ -11,11 +11,11 @@ use Rattle.std.proofs.lemmas.Map.Lookups.{exact_unsigned}
 use Rattle.std.specs.declared.rc.Rc.{Rc}
 use Rattle.base.specs.Tables.{Each}
 use Rattle.base.proofs.EachLemmas.{each_found}
-use Rattle.image_parts.specs.Shared.{shared}
+use Rattle.image_parts.specs.Shared.{value_behind}
 use Rattle.network_image.proofs.PointerLemmas.{copied_fits}
 use Rattle.base.proofs.TableLemmas.{apart, put_there}
 use Rattle.co_scenario.specs.declared.timed_step.TimedStep.{TimedStep}
-use Rattle.network_image.specs.Held.{with_window, Windows}
+use Rattle.network_image.specs.Held.{with_steps, Windows}
 use Rattle.network_image.specs.Steps.{unless_none}
 
 module _ (steps : ℕ → List TimedStep) where
@@ -33,12 +33,12 @@ module _ (steps : ℕ → List TimedStep) where
       none_under j = grind (arith, nat_tests)
 
   here : (i : ℕ) (windows : Windows) (own : List TimedStep) → get windows i ≡ None
-      → get (with_window i own windows) i ≡ unless_none own
+      → get (with_steps i own windows) i ≡ unless_none own
   here i windows [] none = none
   here i windows (s ∷ own) none = put_there nat_cmp_total exact_unsigned windows i (s ∷ own)
 
   elsewhere : (i j : ℕ) (windows : Windows) (own : List TimedStep) → j ≢ i
-      → get (with_window i own windows) j ≡ get windows j
+      → get (with_steps i own windows) j ≡ get windows j
   elsewhere i j windows [] other = refl
   elsewhere i j windows (s ∷ own) other =
       get-insert nat_cmp_total windows i (s ∷ own) j ∙ ap (λ t. cond t (Some (s ∷ own)) (get windows j))
@@ -54,16 +54,16 @@ module _ (steps : ℕ → List TimedStep) where
   same_below i j other = grind (arith, nat_tests)
 
   -- one more
-  pub next_window : (i : ℕ) (windows after : Windows) → after ≡ with_window i (steps i) windows → AreBelow i windows
+  pub next_window : (i : ℕ) (windows after : Windows) → after ≡ with_steps i (steps i) windows → AreBelow i windows
       → AreBelow (i + 1) after
   unfolding AreBelow
   next_window i windows after is are j = ap (λ (w : Windows). get w j) is ∙ by (j == i) refl
     where
-      by : (t : Bool) → (j == i) ≡ t → get (with_window i (steps i) windows) j ≡ cond (nat_lt j (i + 1))
+      by : (t : Bool) → (j == i) ≡ t → get (with_steps i (steps i) windows) j ≡ cond (nat_lt j (i + 1))
           (unless_none (steps j)) None
       by true same =
           let one : j ≡ i = eqb-true j i same in
-          ap (get (with_window i (steps i) windows)) one
+          ap (get (with_steps i (steps i) windows)) one
           ∙ here i windows (steps i) (are i ∙ ap (λ t. cond t (unless_none (steps i)) None) (not_below i))
           ∙ sym (ap (λ k. cond (nat_lt k (i + 1)) (unless_none (steps k)) None) one
           ∙ ap (λ t. cond t (unless_none (steps i)) None) (now_below i))
@@ -85,7 +85,7 @@ module _ (steps : ℕ → List TimedStep) where
 pub handed_fits : {Z E : Type 0} (P : ℕ → List TimedStep → Type 0) (Q : List TimedStep → Type 0) (windows : Windows)
     (i : ℕ) (steps : List TimedStep)
     → Each P windows → Some steps ≡ get windows i → (P i steps → Q steps)
-    → (result : Result (Option (Rc (List TimedStep) Z)) E) → IfOk result (λ copy. shared copy ≡ Some steps)
-    → IfOk result (λ copy. IfSome (shared copy) Q)
+    → (result : Result (Option (Rc (List TimedStep) Z)) E) → IfOk result (λ copy. value_behind copy ≡ Some steps)
+    → IfOk result (λ copy. IfSome (value_behind copy) Q)
 handed_fits P Q windows i steps each there follows result is =
     copied_fits Q result steps is (follows (each_found P windows i steps each (sym there)))

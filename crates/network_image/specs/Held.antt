@@ -16,15 +16,15 @@ use Rattle.eds_device.specs.Entries.{defaults_of, shape_of}
 use Rattle.eds_device.specs.Identity.{identity}
 
 -- a node's parts
-pub record Held : Type 0 where
+pub record PartsOfNode : Type 0 where
   pub defaults : Values
   pub shape : Shaped
   pub expect : Identity
   pub writes : List Write
 
 -- they are stored one by one
-abbrev pub held_code : Coded Values → Coded Shaped → Coded Identity → Coded Write → Coded Held
-held_code values_code shape_code identity_code write_code =
+abbrev pub parts_code : Coded Values → Coded Shaped → Coded Identity → Coded Write → Coded PartsOfNode
+parts_code values_code shape_code identity_code write_code =
     code_by (Values × (Shaped × (Identity × List Write)))
     (coded× values_code (coded× shape_code (coded× identity_code (coded_list write_code))))
     (λ h. (h.defaults, (h.shape, (h.expect, h.writes))))
@@ -32,7 +32,7 @@ held_code values_code shape_code identity_code write_code =
 
 -- nodes by number
 abbrev pub AllHeld : Type 0
-AllHeld = FinMap nat_cmp Held
+AllHeld = FinMap nat_cmp PartsOfNode
 
 -- the steps of the windows that have any
 abbrev pub Windows : Type 0
@@ -43,12 +43,12 @@ abbrev pub IsWindow : ℕ → List TimedStep → Type 0
 IsWindow i steps = AllByRecursion (IsWithin i) steps × AreInOrder steps
 
 -- a window with its steps, where it has any
-abbrev pub with_window : ℕ → List TimedStep → Windows → Windows
-with_window i [] windows = windows
-with_window i (s ∷ steps) windows = insert windows i (s ∷ steps)
+abbrev pub with_steps : ℕ → List TimedStep → Windows → Windows
+with_steps i [] windows = windows
+with_steps i (s ∷ steps) windows = insert windows i (s ∷ steps)
 
 -- the parts of a node that is made of its EDS
-abbrev pub held_of : Project → ℕ → Member → Held
+abbrev pub held_of : Project → ℕ → Member → PartsOfNode
 held_of project node m = record {
   defaults = defaults_of m.sections node;
   shape = shape_of m.sections node;

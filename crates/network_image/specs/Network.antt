@@ -5,7 +5,7 @@ use Rattle.std.specs.FinMap.{get}
 use Rattle.image_parts.specs.Contents.{Image, RosterIs, DefaultsAre, ShapeIs, ExpectIs, BootIs, EventsAre}
 use Rattle.image_parts.specs.declared.part.Part.TheVariants as part
 use Rattle.image_parts.specs.declared.roster.Roster.{Roster}
-use Rattle.network_image.specs.Held.{AllHeld, Held, Windows}
+use Rattle.network_image.specs.Held.{AllHeld, PartsOfNode, Windows}
 
 -- the roster, the parts of the nodes, and the windows
 pub record Network : Type 0 where
@@ -24,9 +24,9 @@ network_code roster_code nodes_code windows_code =
 -- THE IMAGE of what is held: the parts of a number that isn't held are none
 abbrev pub image_held : Network → Image
 image_held n part.Roster = RosterIs (Some n.roster)
-image_held n (part.Defaults node) = DefaultsAre (option_map (λ (h : Held). h.defaults) (get n.nodes node))
-image_held n (part.Shape node) = ShapeIs (option_map (λ (h : Held). h.shape) (get n.nodes node))
-image_held n (part.Expect node) = ExpectIs (option_map (λ (h : Held). h.expect) (get n.nodes node))
+image_held n (part.Defaults node) = DefaultsAre (option_map (λ (h : PartsOfNode). h.defaults) (get n.nodes node))
+image_held n (part.Shape node) = ShapeIs (option_map (λ (h : PartsOfNode). h.shape) (get n.nodes node))
+image_held n (part.Expect node) = ExpectIs (option_map (λ (h : PartsOfNode). h.expect) (get n.nodes node))
 image_held n (part.Boot node place) =
-    BootIs (option_and_then (λ (h : Held). slice_get h.writes place) (get n.nodes node))
+    BootIs (option_and_then (λ (h : PartsOfNode). slice_get h.writes place) (get n.nodes node))
 image_held n (part.Events window) = EventsAre (get n.windows window)

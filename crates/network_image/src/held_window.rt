@@ -1,6 +1,6 @@
 //! The steps of a window.
 ghost use Rattle.std.specs.Prelude.{◌≡◌, IfOk, Some};
-ghost use Rattle.image_parts.specs.Shared.{shared};
+ghost use Rattle.image_parts.specs.Shared.{value_behind};
 
 use crate::pointer::some_pointer;
 use image_parts::Window;
@@ -33,7 +33,7 @@ impl HeldWindow {
 
     /// A pointer to the window. Takes no memory.
     pub fn pointer(&self) -> Result<Option<Rc<Window>>, AllocError>
-        ensures { IfOk result (λ window. shared window ≡ Some self.now) }
+        ensures { IfOk result (λ window. value_behind window ≡ Some self.now) }
     {
         some_pointer(&self.window)
     }

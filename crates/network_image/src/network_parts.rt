@@ -5,7 +5,7 @@ ghost use Rattle.std.specs.List.{AllByRecursion};
 ghost use Rattle.image_parts.specs.Contents.{BootIs, DefaultsAre, EventsAre, ExpectIs, RosterIs, ShapeIs};
 ghost use Rattle.image_parts.specs.Images.{AreInOrder, greatest_place, IsRoster, IsWithin};
 ghost use Rattle.concise_dcf.specs.Writes.{IsSized};
-ghost use Rattle.image_parts.specs.Shared.{shared};
+ghost use Rattle.image_parts.specs.Shared.{value_behind};
 ghost use Rattle.image_parts.specs.declared.part.Part.TheVariants as part;
 ghost use Rattle.project_plan.specs.Network.{member_at};
 ghost use Rattle.network_image.specs.Image.{image_of, roster_of_project, window_steps};
@@ -76,29 +76,29 @@ impl NetworkParts {
 
     /// Bit rate, manager and nodes: numbers within their limits.
     pub fn roster(&self) -> Result<Option<Rc<Roster>>, AllocError>
-        ensures value { IfOk result (λ r. image_held self.now part.Roster ≡ RosterIs (shared r)) }
-        ensures fits { IfOk result (λ r. IfSome (shared r) IsRoster) }
+        ensures value { IfOk result (λ r. image_held self.now part.Roster ≡ RosterIs (value_behind r)) }
+        ensures fits { IfOk result (λ r. IfSome (value_behind r) IsRoster) }
     {
         some_pointer(&self.roster)
     }
 
     /// The values of a node by its EDS, or none.
     pub fn defaults(&self, node: u8) -> Result<Option<Rc<Dict>>, AllocError>
-        ensures { IfOk result (λ r. image_held self.now (part.Defaults node) ≡ DefaultsAre (shared r)) }
+        ensures { IfOk result (λ r. image_held self.now (part.Defaults node) ≡ DefaultsAre (value_behind r)) }
     {
         self.nodes.defaults(node)
     }
 
     /// The entries of a node, or none.
     pub fn shape(&self, node: u8) -> Result<Option<Rc<Shape>>, AllocError>
-        ensures { IfOk result (λ r. image_held self.now (part.Shape node) ≡ ShapeIs (shared r)) }
+        ensures { IfOk result (λ r. image_held self.now (part.Shape node) ≡ ShapeIs (value_behind r)) }
     {
         self.nodes.shape(node)
     }
 
     /// What is expected of a node, or none.
     pub fn expect(&self, node: u8) -> Result<Option<Rc<Identity>>, AllocError>
-        ensures { IfOk result (λ r. image_held self.now (part.Expect node) ≡ ExpectIs (shared r)) }
+        ensures { IfOk result (λ r. image_held self.now (part.Expect node) ≡ ExpectIs (value_behind r)) }
     {
         self.nodes.expect(node)
     }
@@ -111,9 +111,9 @@ impl NetworkParts {
         node: u8,
         place: u32,
     ) -> Result<Option<Rc<Write>>, AllocError>
-        ensures value { IfOk result (λ r. image_held self.now (part.Boot node place) ≡ BootIs (shared r)) }
-        ensures fits { IfOk result (λ r. IfSome (shared r) IsSized) }
-        ensures last { IfOk result (λ r. IfSome (shared r) (λ write. place < greatest_place)) }
+        ensures value { IfOk result (λ r. image_held self.now (part.Boot node place) ≡ BootIs (value_behind r)) }
+        ensures fits { IfOk result (λ r. IfSome (value_behind r) IsSized) }
+        ensures last { IfOk result (λ r. IfSome (value_behind r) (λ write. place < greatest_place)) }
     {
         self.nodes.write(alloc, node, place)
     }
@@ -121,9 +121,9 @@ impl NetworkParts {
     /// The events of window i, or none, by time and then by number: each has its time there, and sets no
     /// object of a PDO and no value of more than 512 bytes.
     pub fn window(&self, i: u32) -> Result<Option<Rc<Window>>, AllocError>
-        ensures value { IfOk result (λ r. image_held self.now (part.Events i) ≡ EventsAre (shared r)) }
-        ensures fits { IfOk result (λ r. IfSome (shared r) (AllByRecursion (IsWithin i))) }
-        ensures ordered { IfOk result (λ r. IfSome (shared r) AreInOrder) }
+        ensures value { IfOk result (λ r. image_held self.now (part.Events i) ≡ EventsAre (value_behind r)) }
+        ensures fits { IfOk result (λ r. IfSome (value_behind r) (AllByRecursion (IsWithin i))) }
+        ensures ordered { IfOk result (λ r. IfSome (value_behind r) AreInOrder) }
     {
         self.windows.window(i)
     }

@@ -2,7 +2,7 @@
 ghost use Rattle.std.specs.Prelude.{◌≡◌, ◌<◌, IfOk, IfSome, slice_get};
 ghost use Rattle.image_parts.specs.Images.{greatest_place};
 ghost use Rattle.concise_dcf.specs.Writes.{IsSized};
-ghost use Rattle.image_parts.specs.Shared.{shared};
+ghost use Rattle.image_parts.specs.Shared.{value_behind};
 
 use crate::pointer::some_pointer;
 use co_dict::{Dict, Shape};
@@ -38,11 +38,11 @@ impl Model for NodeParts {
     ghost use Rattle.co_dict.specs.contracts.entry.Entry as described;
     ghost use Rattle.co_dict.specs.Shapes.{shaped_code};
     ghost use Rattle.image_parts.specs.contracts.identity.Identity as expected;
-    ghost use Rattle.network_image.specs.Held.{held_code, Held};
+    ghost use Rattle.network_image.specs.Held.{parts_code, PartsOfNode};
 
-    ghost Value = { Held };
+    ghost Value = { PartsOfNode };
 
-    ghost coded = { held_code (map.code (coded× coded_ℕ coded_ℕ) (coded_list coded_ℕ))
+    ghost coded = { parts_code (map.code (coded× coded_ℕ coded_ℕ) (coded_list coded_ℕ))
         (shaped_code described.the_row.coded) expected.the_row.coded written.the_row.coded };
 
     ghost view = { λ node. record {
@@ -77,28 +77,28 @@ impl NodeParts {
     }
 
     pub(crate) fn defaults(&self) -> Result<Option<Rc<Dict>>, AllocError>
-        ensures { IfOk result (λ values. shared values ≡ Some self.now.defaults) }
+        ensures { IfOk result (λ values. value_behind values ≡ Some self.now.defaults) }
     {
         some_pointer(&self.defaults)
     }
 
     pub(crate) fn shape(&self) -> Result<Option<Rc<Shape>>, AllocError>
-        ensures { IfOk result (λ shape. shared shape ≡ Some self.now.shape) }
+        ensures { IfOk result (λ shape. value_behind shape ≡ Some self.now.shape) }
     {
         some_pointer(&self.shape)
     }
 
     pub(crate) fn expect(&self) -> Result<Option<Rc<Identity>>, AllocError>
-        ensures { IfOk result (λ expect. shared expect ≡ Some self.now.expect) }
+        ensures { IfOk result (λ expect. value_behind expect ≡ Some self.now.expect) }
     {
         some_pointer(&self.expect)
     }
 
     /// A copy of the write at a place, counted from 0, if there are so many. Takes memory for the copy.
     pub(crate) fn write(&self, alloc: Global, place: u32) -> Result<Option<Rc<Write>>, AllocError>
-        ensures write { IfOk result (λ write. shared write ≡ slice_get self.now.writes place) }
-        ensures fits { IfOk result (λ write. IfSome (shared write) IsSized) }
-        ensures last { IfOk result (λ write. IfSome (shared write) (λ one. place < greatest_place)) }
+        ensures write { IfOk result (λ write. value_behind write ≡ slice_get self.now.writes place) }
+        ensures fits { IfOk result (λ write. IfSome (value_behind write) IsSized) }
+        ensures last { IfOk result (λ write. IfSome (value_behind write) (λ one. place < greatest_place)) }
     {
         match self.writes.as_slice().get(place as usize) {
             Some(write) => {

@@ -2,10 +2,10 @@
 ghost use Rattle.std.specs.Prelude.{◌≡◌, ◌<◌, IfOk, IfSome, OnOk, option_copied, option_map, option_and_then};
 ghost use Rattle.std.specs.Prelude.{slice_get};
 ghost use Rattle.std.specs.FinMap as map;
-ghost use Rattle.network_image.specs.Held.{Held};
+ghost use Rattle.network_image.specs.Held.{PartsOfNode};
 ghost use Rattle.image_parts.specs.Images.{greatest_place};
 ghost use Rattle.concise_dcf.specs.Writes.{IsSized};
-ghost use Rattle.image_parts.specs.Shared.{shared};
+ghost use Rattle.image_parts.specs.Shared.{value_behind};
 
 use crate::node_parts::NodeParts;
 use co_dict::{Dict, Shape};
@@ -61,7 +61,7 @@ impl NodeTable {
     }
 
     pub(crate) fn defaults(&self, id: u8) -> Result<Option<Rc<Dict>>, AllocError>
-        ensures { IfOk result (λ values. shared values ≡ option_map (λ (h : Held). h.defaults) (map.get self.now id)) }
+        ensures { IfOk result (λ values. value_behind values ≡ option_map (λ (h : PartsOfNode). h.defaults) (map.get self.now id)) }
     {
         match self.get(id) {
             Some(parts) => parts.defaults(),
@@ -70,7 +70,7 @@ impl NodeTable {
     }
 
     pub(crate) fn shape(&self, id: u8) -> Result<Option<Rc<Shape>>, AllocError>
-        ensures { IfOk result (λ shape. shared shape ≡ option_map (λ (h : Held). h.shape) (map.get self.now id)) }
+        ensures { IfOk result (λ shape. value_behind shape ≡ option_map (λ (h : PartsOfNode). h.shape) (map.get self.now id)) }
     {
         match self.get(id) {
             Some(parts) => parts.shape(),
@@ -79,7 +79,7 @@ impl NodeTable {
     }
 
     pub(crate) fn expect(&self, id: u8) -> Result<Option<Rc<Identity>>, AllocError>
-        ensures { IfOk result (λ expect. shared expect ≡ option_map (λ (h : Held). h.expect) (map.get self.now id)) }
+        ensures { IfOk result (λ expect. value_behind expect ≡ option_map (λ (h : PartsOfNode). h.expect) (map.get self.now id)) }
     {
         match self.get(id) {
             Some(parts) => parts.expect(),
@@ -94,10 +94,10 @@ impl NodeTable {
         id: u8,
         place: u32,
     ) -> Result<Option<Rc<Write>>, AllocError>
-        ensures write { IfOk result (λ write. shared write ≡ option_and_then (λ (h : Held). slice_get h.writes place)
+        ensures write { IfOk result (λ write. value_behind write ≡ option_and_then (λ (h : PartsOfNode). slice_get h.writes place)
             (map.get self.now id)) }
-        ensures fits { IfOk result (λ write. IfSome (shared write) IsSized) }
-        ensures last { IfOk result (λ write. IfSome (shared write) (λ one. place < greatest_place)) }
+        ensures fits { IfOk result (λ write. IfSome (value_behind write) IsSized) }
+        ensures last { IfOk result (λ write. IfSome (value_behind write) (λ one. place < greatest_place)) }
     {
         match self.get(id) {
             Some(parts) => parts.write(alloc, place),

@@ -2,9 +2,9 @@
 ghost use Rattle.std.specs.Prelude.{◌≡◌, IfOk, IfSome, OnOk, option_copied};
 ghost use Rattle.std.specs.FinMap as map;
 ghost use Rattle.std.specs.List.{AllByRecursion};
-ghost use Rattle.network_image.specs.Held.{with_window, IsWindow};
+ghost use Rattle.network_image.specs.Held.{with_steps, IsWindow};
 ghost use Rattle.image_parts.specs.Images.{AreInOrder, IsWithin};
-ghost use Rattle.image_parts.specs.Shared.{shared};
+ghost use Rattle.image_parts.specs.Shared.{value_behind};
 
 use crate::held_window::HeldWindow;
 use image_parts::Window;
@@ -59,7 +59,7 @@ impl WindowTable {
     /// Takes time by the logarithm of the number of windows; want of memory is the only error.
     pub fn add_shared(&mut self, i: u32, window: Rc<Window>) -> Result<(), AllocError>
         requires { IsWindow i window.value }
-        ensures { OnOk result (self.new ≡ with_window i window.value self.old) }
+        ensures { OnOk result (self.new ≡ with_steps i window.value self.old) }
     {
         if window.steps().is_empty() {
             return Ok(());
@@ -75,9 +75,9 @@ impl WindowTable {
 
     /// The window of a number, if it has steps.
     pub(crate) fn window(&self, i: u32) -> Result<Option<Rc<Window>>, AllocError>
-        ensures window { IfOk result (λ window. shared window ≡ map.get self.now i) }
-        ensures fits { IfOk result (λ window. IfSome (shared window) (AllByRecursion (IsWithin i))) }
-        ensures ordered { IfOk result (λ window. IfSome (shared window) AreInOrder) }
+        ensures window { IfOk result (λ window. value_behind window ≡ map.get self.now i) }
+        ensures fits { IfOk result (λ window. IfSome (value_behind window) (AllByRecursion (IsWithin i))) }
+        ensures ordered { IfOk result (λ window. IfSome (value_behind window) AreInOrder) }
     {
         let _ = &self.windows;
         match self.get(i) {

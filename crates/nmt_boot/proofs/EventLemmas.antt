@@ -1,8 +1,10 @@
 -- An event of one node, as the rule of that node and what it does to the manager.
 use Rattle.std.proofs.Common.{◌≡◌, ℕ, ◌+◌, List, ◌++◌, refl, ◌∙◌, append_assoc}
 use Rattle.std.proofs.lemmas.List.{append-nil}
-use Rattle.image_parts.specs.Asking.{Asking, Answer, Seen, outcome, reads, after_reads, bind}
-use Rattle.image_parts.proofs.QuestionLemmas.{outcome_bind, reads_bind, followed_last}
+use Rattle.image_parts.specs.Asking.{Asking, Answer, Seen, outcome, reads, bind}
+use Rattle.image_parts.specs.Record.{IsAsked}
+use Rattle.image_parts.proofs.QuestionLemmas.{outcome_bind, reads_bind}
+use Rattle.image_parts.proofs.RecordLemmas.{asked_last}
 use Rattle.image_parts.specs.Contents.{Content, Image}
 use Rattle.image_parts.specs.declared.part.Part.{Part}
 use Rattle.node_boot.specs.Boot.{boot_nmt_slave, sdo_answer}
@@ -38,12 +40,11 @@ module _ (t i : ℕ) (m : Manager) where
   boots_reads image = reads_then (boot_nmt_slave (t + m.timeout) (node_at m.nodes i).number)
       (after_boot_start i m) image
 
-  pub boots_followed : (seen : Seen Part Content)
-      → after_reads (after_boot_at t i m) seen
-      ≡ after_reads (boot_nmt_slave (t + m.timeout) (node_at m.nodes i).number) seen
+  pub boots_asked : (old new : Seen Part Content) (asks_old asks_new : ℕ)
+      → IsAsked (boot_nmt_slave (t + m.timeout) (node_at m.nodes i).number) old new asks_old asks_new
+      → IsAsked (after_boot_at t i m) old new asks_old asks_new
   unfolding after_boot_at
-  boots_followed seen = followed_last (boot_nmt_slave (t + m.timeout) (node_at m.nodes i).number)
-      (after_boot_start i m) seen
+  boots_asked = asked_last (boot_nmt_slave (t + m.timeout) (node_at m.nodes i).number) (after_boot_start i m)
 
 module _ (t : ℕ) (answer : List ℕ) (i : ℕ) (m : Manager) where
   pub answered_outcome : (image : Image) → outcome (after_answer_at t answer i m) image
@@ -59,12 +60,13 @@ module _ (t : ℕ) (answer : List ℕ) (i : ℕ) (m : Manager) where
   answered_reads image = reads_then (sdo_answer (t + m.timeout)
       (node_at m.nodes i).number (node_at m.nodes i).stage answer) (λ step. after_step i step m) image
 
-  pub answered_followed : (seen : Seen Part Content)
-      → after_reads (after_answer_at t answer i m) seen
-      ≡ after_reads (sdo_answer (t + m.timeout) (node_at m.nodes i).number (node_at m.nodes i).stage answer) seen
+  pub answered_asked : (old new : Seen Part Content) (asks_old asks_new : ℕ)
+      → IsAsked (sdo_answer (t + m.timeout) (node_at m.nodes i).number (node_at m.nodes i).stage answer) old new
+      asks_old asks_new
+      → IsAsked (after_answer_at t answer i m) old new asks_old asks_new
   unfolding after_answer_at
-  answered_followed seen = followed_last (sdo_answer (t + m.timeout)
-      (node_at m.nodes i).number (node_at m.nodes i).stage answer) (λ step. after_step i step m) seen
+  answered_asked = asked_last (sdo_answer (t + m.timeout)
+      (node_at m.nodes i).number (node_at m.nodes i).stage answer) (λ step. after_step i step m)
 
 -- what the calls left, put together
 module _ (t i : ℕ) (m : Manager) (image : Image) (sent : Sent) (startup : Startup) (nodes : List Booting)

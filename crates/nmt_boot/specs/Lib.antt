@@ -6,3 +6,4 @@ pub mod Beats
 pub mod Ends
 pub mod Counter
 pub mod Starts
+pub mod GoesBy

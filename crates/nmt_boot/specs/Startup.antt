@@ -1,7 +1,7 @@
 -- When the manager starts nodes (CiA 302, start of NMT slaves).
 use Rattle.std.specs.Prelude.{ℕ, ◌&&◌, ◌||◌, not, Bool, true, false, List, [], ◌∷◌, Option, Some, None, if◌then◌else◌}
 use Rattle.can_frame.specs.Frames.{BaseFrame}
-use Rattle.can_frame.specs.Identifiers.{nmt_id}
+use Rattle.can_frame.specs.NmtMessages.{nmt_message}
 use Rattle.can_frame.specs.WaitingFrames.{waiting}
 use Rattle.can_frame.specs.declared.purpose.Purpose.TheVariants.{Nmt}
 use Rattle.can_frame.specs.declared.waiting.Waiting.{Waiting}
@@ -46,7 +46,7 @@ starts_network startup nodes = not (starts_each startup) && all_configured nodes
 
 -- a command to a node; 0 stands for all nodes
 abbrev pub nmt_frame : NmtCommand → ℕ → BaseFrame
-nmt_frame command node = record { id = nmt_id; bytes = number_of command ∷ node ∷ [] }
+nmt_frame command node = nmt_message (number_of command) node
 
 -- Start remote node
 abbrev pub start_of : ℕ → List Waiting

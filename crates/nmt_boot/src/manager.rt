@@ -2,9 +2,9 @@
 
 ghost use Rattle.std.specs.Prelude.{◌≡◌, ◌<◌, ◌*◌, ◌^◌, ◌++◌, ◌↔◌, Some, length, remove, slice_get, IfOk};
 ghost use Rattle.std.specs.Prelude.{IfSome, OnOk, OnErr, IsErr, IsTrue};
-ghost use Rattle.image_parts.specs.Asking.{outcome};
-ghost use Rattle.image_parts.specs.Record.{BeginsWith, IsAsked, Lasts};
+ghost use Rattle.image_parts.specs.Record.{BeginsWith, Lasts};
 ghost use Rattle.can_frame.specs.Winner.{contenders_of, IsWinner};
+ghost use Rattle.nmt_boot.specs.GoesBy.{GoesBy};
 ghost use Rattle.nmt_boot.specs.Manager as rules;
 
 use crate::startup::Startup;
@@ -262,7 +262,6 @@ impl Manager {
     }
 
     /// The boot of a node of the table begins anew.
-    #[tactic(auto, using(crate::proofs::EventLemmas::boots_outcome, crate::proofs::EventLemmas::boots_reads, crate::proofs::EventLemmas::boots_followed))]
     fn boot_at<P: Boots>(
         &mut self,
         t: u64,
@@ -272,13 +271,9 @@ impl Manager {
     ) -> Result<(), AllocError>
         requires soon { t < END }
         requires within { i < length self.now.nodes }
-        ensures state { OnOk result (self.new ≡ (outcome (rules.after_boot_at t i self.old)
-            (P.seen boots.old).image).0) }
-        ensures notes { OnOk result (notes.new ≡ notes.old
-            ++ (outcome (rules.after_boot_at t i self.old) (P.seen boots.old).image).1) }
+        ensures ran { OnOk result (GoesBy (rules.after_boot_at t i self.old) self.new
+            P.seen P.asks boots.old boots.new notes.old notes.new) }
         ensures notes_before { BeginsWith notes.new notes.old }
-        ensures asked { OnOk result (IsAsked (rules.after_boot_at t i self.old)
-            (P.seen boots.old) (P.seen boots.new) (P.asks boots.old) (P.asks boots.new)) }
         ensures lasts { Lasts (P.seen boots.old) (P.seen boots.new) }
     {
         let deadline = t + self.timeout();
@@ -298,7 +293,6 @@ impl Manager {
     }
 
     /// An SDO answer of a node of the table comes.
-    #[tactic(auto, using(crate::proofs::EventLemmas::answered_outcome, crate::proofs::EventLemmas::answered_reads, crate::proofs::EventLemmas::answered_followed))]
     fn answer_at<P: Boots>(
         &mut self,
         t: u64,
@@ -309,13 +303,9 @@ impl Manager {
     ) -> Result<(), AllocError>
         requires soon { t < END }
         requires within { i < length self.now.nodes }
-        ensures state { OnOk result (self.new ≡ (outcome (rules.after_answer_at t answer.now i self.old)
-            (P.seen boots.old).image).0) }
-        ensures notes { OnOk result (notes.new ≡ notes.old
-            ++ (outcome (rules.after_answer_at t answer.now i self.old) (P.seen boots.old).image).1) }
+        ensures ran { OnOk result (GoesBy (rules.after_answer_at t answer.now i self.old) self.new
+            P.seen P.asks boots.old boots.new notes.old notes.new) }
         ensures notes_before { BeginsWith notes.new notes.old }
-        ensures asked { OnOk result (IsAsked (rules.after_answer_at t answer.now i self.old)
-            (P.seen boots.old) (P.seen boots.new) (P.asks boots.old) (P.asks boots.new)) }
         ensures lasts { Lasts (P.seen boots.old) (P.seen boots.new) }
     {
         let deadline = t + self.timeout();
@@ -345,13 +335,9 @@ impl Manager {
     ) -> Result<(), AllocError>
         requires soon { t < END }
         requires within { IfSome place (λ i. i < length self.now.nodes) }
-        ensures state { OnOk result (self.new ≡ (outcome (rules.after_boot_up t place self.old)
-            (P.seen boots.old).image).0) }
-        ensures notes { OnOk result (notes.new ≡ notes.old
-            ++ (outcome (rules.after_boot_up t place self.old) (P.seen boots.old).image).1) }
+        ensures ran { OnOk result (GoesBy (rules.after_boot_up t place self.old) self.new
+            P.seen P.asks boots.old boots.new notes.old notes.new) }
         ensures notes_before { BeginsWith notes.new notes.old }
-        ensures asked { OnOk result (IsAsked (rules.after_boot_up t place self.old)
-            (P.seen boots.old) (P.seen boots.new) (P.asks boots.old) (P.asks boots.new)) }
         ensures lasts { Lasts (P.seen boots.old) (P.seen boots.new) }
     {
         match place {
@@ -372,13 +358,9 @@ impl Manager {
     ) -> Result<(), AllocError>
         requires soon { t < END }
         requires within { IfSome place (λ i. i < length self.now.nodes) }
-        ensures state { OnOk result (self.new ≡ (outcome (rules.after_sdo_frame t answer.now place self.old)
-            (P.seen boots.old).image).0) }
-        ensures notes { OnOk result (notes.new ≡ notes.old
-            ++ (outcome (rules.after_sdo_frame t answer.now place self.old) (P.seen boots.old).image).1) }
+        ensures ran { OnOk result (GoesBy (rules.after_sdo_frame t answer.now place self.old) self.new
+            P.seen P.asks boots.old boots.new notes.old notes.new) }
         ensures notes_before { BeginsWith notes.new notes.old }
-        ensures asked { OnOk result (IsAsked (rules.after_sdo_frame t answer.now place self.old)
-            (P.seen boots.old) (P.seen boots.new) (P.asks boots.old) (P.asks boots.new)) }
         ensures lasts { Lasts (P.seen boots.old) (P.seen boots.new) }
     {
         match place {
@@ -397,13 +379,9 @@ impl Manager {
         notes: &mut Notes,
     ) -> Result<(), AllocError>
         requires soon { t < END }
-        ensures state { OnOk result (self.new ≡ (outcome (rules.after_frame t frame.now self.old)
-            (P.seen boots.old).image).0) }
-        ensures notes { OnOk result (notes.new ≡ notes.old
-            ++ (outcome (rules.after_frame t frame.now self.old) (P.seen boots.old).image).1) }
+        ensures ran { OnOk result (GoesBy (rules.after_frame t frame.now self.old) self.new
+            P.seen P.asks boots.old boots.new notes.old notes.new) }
         ensures notes_before { BeginsWith notes.new notes.old }
-        ensures asked { OnOk result (IsAsked (rules.after_frame t frame.now self.old)
-            (P.seen boots.old) (P.seen boots.new) (P.asks boots.old) (P.asks boots.new)) }
         ensures lasts { Lasts (P.seen boots.old) (P.seen boots.new) }
     {
         let bytes = frame.bytes();
@@ -484,13 +462,9 @@ impl Manager {
         notes: &mut Notes,
     ) -> Result<(), AllocError>
         requires { t < END }
-        ensures state { OnOk result (self.new ≡ (outcome (rules.after_frame t frame.now self.old)
-            (P.seen boots.old).image).0) }
-        ensures notes { OnOk result (notes.new ≡ notes.old
-            ++ (outcome (rules.after_frame t frame.now self.old) (P.seen boots.old).image).1) }
+        ensures ran { OnOk result (GoesBy (rules.after_frame t frame.now self.old) self.new
+            P.seen P.asks boots.old boots.new notes.old notes.new) }
         ensures notes_before { BeginsWith notes.new notes.old }
-        ensures asked { OnOk result (IsAsked (rules.after_frame t frame.now self.old)
-            (P.seen boots.old) (P.seen boots.new) (P.asks boots.old) (P.asks boots.new)) }
         ensures lasts { Lasts (P.seen boots.old) (P.seen boots.new) }
         ensures refused { IsTrue self.old.spent → IsErr result }
         ensures spent { OnErr result (IsTrue self.new.spent) }

@@ -5,7 +5,7 @@ ghost use Rattle.image_parts.specs.Asking.{outcome};
 ghost use Rattle.image_parts.specs.Record.{IsAsked, Lasts};
 ghost use Rattle.image_parts.specs.Images.{greatest_place};
 ghost use Rattle.concise_dcf.specs.Writes.{IsSized};
-ghost use Rattle.image_parts.specs.Shared.{shared};
+ghost use Rattle.image_parts.specs.Shared.{value_behind};
 ghost use Rattle.node_boot.specs.Boot as rules;
 
 use crate::boot_stage::BootStage;
@@ -25,9 +25,9 @@ fn write(
     place: u32,
     write: &Option<Rc<Write>>,
 ) -> Result<BootStep, AllocError>
-    requires fits { IfSome (shared write.now) IsSized }
-    requires last { IfSome (shared write.now) (λ write. place < greatest_place) }
-    ensures { IfOk result (λ step. step ≡ rules.write_started deadline place (shared write.now)) }
+    requires fits { IfSome (value_behind write.now) IsSized }
+    requires last { IfSome (value_behind write.now) (λ write. place < greatest_place) }
+    ensures { IfOk result (λ step. step ≡ rules.write_started deadline place (value_behind write.now)) }
 {
     match write {
         None => Ok(BootStep::configured()),

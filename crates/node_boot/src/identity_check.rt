@@ -6,7 +6,7 @@ ghost use Rattle.image_parts.specs.Asking.{outcome};
 ghost use Rattle.image_parts.specs.Record.{IsAsked, Lasts};
 ghost use Rattle.byteorder.specs.Endian.{little_number};
 ghost use Rattle.image_parts.specs.Contents.{no_identity};
-ghost use Rattle.image_parts.specs.Shared.{shared};
+ghost use Rattle.image_parts.specs.Shared.{value_behind};
 ghost use Rattle.node_boot.specs.Boot as rules;
 
 use crate::boot_stage::BootStage;
@@ -107,7 +107,7 @@ pub(crate) fn check_identity<P: Boots>(
 
 /// The expected numbers; any will do where none are handed out.
 fn identity_of(identity: &Option<Rc<Identity>>) -> Identity
-    ensures { result ≡ unwrap_or (shared identity.now) no_identity }
+    ensures { result ≡ unwrap_or (value_behind identity.now) no_identity }
 {
     match identity {
         None => Identity { numbers: [0; 5] },

@@ -12,7 +12,7 @@ use Rattle.co_values.specs.declared.form.Width.{Width}
 use Rattle.co_values.specs.declared.form.Width.TheVariants.{Bits8, Bits16, Bits32, Bits64}
 use Rattle.co_values.specs.Number.{formula}
 use Rattle.co_values.specs.Types.{form, octets}
-use Rattle.co_values.specs.Values.{value, value_in, flag_bits, unsigned_bits, signed_text_bits, pair_number, paired}
+use Rattle.co_values.specs.Values.{value, value_in, flag_bits, unsigned_bits, signed_text_bits, pair_number, bytes_of_pairs}
 use Rattle.co_values.specs.Values.{longest_value, if_not_too_long}
 
 abbrev Sized : List ℕ → Type 0
@@ -55,10 +55,10 @@ short read bytes some e = by (nat_le (length read) longest_value) refl e
     by false test e = cc
 
 -- pairs of digits are bytes
-paired_some : (text read : List ℕ) → 1 ≤ length text → paired text ≡ Some read → 1 ≤ length read
+paired_some : (text read : List ℕ) → 1 ≤ length text → bytes_of_pairs text ≡ Some read → 1 ≤ length read
 paired_some [] read some e = absurd (omega arith)
 paired_some (a ∷ []) read some e = cc
-paired_some (a ∷ b ∷ text) read some e = by (is_digit a 16 && is_digit b 16) (paired text) e
+paired_some (a ∷ b ∷ text) read some e = by (is_digit a 16 && is_digit b 16) (bytes_of_pairs text) e
   where
     by : (t : Bool) (o : Option (List ℕ)) → (if t then option_map (λ bytes. pair_number a b ∷ bytes) o else None)
         ≡ Some read → 1 ≤ length read
@@ -67,7 +67,7 @@ paired_some (a ∷ b ∷ text) read some e = by (is_digit a 16 && is_digit b 16)
         (omega arith)
     by false o e = cc
 
-pairs_sized : (text : List ℕ) (o : Option (List ℕ)) (bytes : List ℕ) → 1 ≤ length text → paired text ≡ o
+pairs_sized : (text : List ℕ) (o : Option (List ℕ)) (bytes : List ℕ) → 1 ≤ length text → bytes_of_pairs text ≡ o
     → option_and_then if_not_too_long o ≡ Some bytes → Sized bytes
 pairs_sized text None bytes some is e = cc
 pairs_sized text (Some read) bytes some is e = short read bytes (paired_some text read some is) e
@@ -81,7 +81,7 @@ form_sized (Signed width) text bytes node some e = number_sized width (signed_te
 form_sized (Unsigned width) text bytes node some e =
     number_sized width (option_and_then (unsigned_bits width) (formula text node)) bytes e
 form_sized Characters text bytes node some e = short text bytes some e
-form_sized HexPairs text bytes node some e = pairs_sized text (paired text) bytes some refl e
+form_sized HexPairs text bytes node some e = pairs_sized text (bytes_of_pairs text) bytes some refl e
 form_sized Unmodelled text bytes node some e = cc
 
 pub value_sized : (kind : DataType) (text bytes : List ℕ) (node : ℕ) → 1 ≤ length text

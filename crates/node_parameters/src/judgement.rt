@@ -10,7 +10,7 @@ use crate::parameter_fault::ParameterFault;
 use base::Octets;
 use co_dict::Entry;
 use co_values::{DataType, number_in, value_of};
-use eds_device::Device;
+use eds_device::DataSheet;
 use std::alloc::{AllocError, Global};
 
 /// Whether a number is below the low limit of an entry or above its high one.
@@ -90,7 +90,7 @@ fn judge_at(
 #[tactic(auto, unfolding(crate::specs::Judgement::parameter_bytes))]
 pub fn judge(
     alloc: Global,
-    device: &Device,
+    device: &DataSheet,
     node: u8,
     index: u16,
     sub: u8,
@@ -132,7 +132,7 @@ fn judge_set_at(
 #[tactic(auto, unfolding(crate::specs::Judgement::set_bytes))]
 pub fn judge_set(
     alloc: Global,
-    device: &Device,
+    device: &DataSheet,
     node: u8,
     index: u16,
     sub: u8,

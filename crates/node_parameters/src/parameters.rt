@@ -10,9 +10,9 @@ ghost use Rattle.concise_dcf.specs.Writes.{IsSized};
 
 use crate::judgement::judge;
 use crate::params::Params;
-use co_dict::is_of_pdos;
+use cia301::is_of_pdos;
 use concise_dcf::Write;
-use eds_device::Device;
+use eds_device::DataSheet;
 use std::alloc::{AllocError, Global};
 
 /// The text of the parameter of an entry: the one that the node has for it, else the ParameterValue
@@ -20,7 +20,7 @@ use std::alloc::{AllocError, Global};
 #[tactic(auto, unfolding(crate::specs::Parameters::parameter_text))]
 pub fn parameter_text<'a>(
     params: &'a Params,
-    device: &'a Device,
+    device: &'a DataSheet,
     index: u16,
     sub: u8,
 ) -> Option<&'a [u8]>
@@ -39,7 +39,7 @@ pub fn parameter_text<'a>(
 #[tactic(auto, unfolding(crate::specs::Parameters::parameter_text))]
 fn parameter_text_at<'a>(
     params: &'a Params,
-    device: &'a Device,
+    device: &'a DataSheet,
     position: usize,
     index: u16,
     sub: u8,
@@ -59,7 +59,7 @@ fn parameter_text_at<'a>(
 fn parameter_write(
     alloc: Global,
     params: &Params,
-    device: &Device,
+    device: &DataSheet,
     node: u8,
     position: usize,
     index: u16,
@@ -86,7 +86,7 @@ fn parameter_write(
 pub fn writes(
     alloc: Global,
     params: &Params,
-    device: &Device,
+    device: &DataSheet,
     node: u8,
 ) -> Result<Vec<Write>, AllocError>
     ensures writes { IfOk result (λ writes. writes.items ≡ parameter_writes device.now.sections params.now node) }

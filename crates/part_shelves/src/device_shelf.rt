@@ -13,7 +13,7 @@ ghost use Rattle.part_shelves.specs.Slots.{fresh_at, fresh_slot, text_kept, with
 use crate::eds_text::keep_device;
 use crate::seat::Seat;
 use co_project::Project;
-use eds_device::Device;
+use eds_device::DataSheet;
 use kept_values::{Meter, Shared, share_of};
 use std::alloc::{AllocError, Global};
 use std::collections::BTreeMap;
@@ -103,7 +103,7 @@ impl DeviceShelf {
     }
 
     /// The device of a name that is kept.
-    pub fn value(&self, name: &[u8]) -> Option<&Shared<Device>>
+    pub fn value(&self, name: &[u8]) -> Option<&Shared<DataSheet>>
         ensures { option_copied result ≡ option_map content_of (text_kept self.now name.now) }
     {
         match self.get(name) {
@@ -120,7 +120,7 @@ impl DeviceShelf {
         &mut self,
         alloc: Global,
         name: &[u8],
-    ) -> Result<Option<Shared<Device>>, AllocError>
+    ) -> Result<Option<Shared<DataSheet>>, AllocError>
         ensures same { self.new ≡ self.old }
         ensures device { IfOk result (λ d. d ≡ option_map content_of (text_kept self.old name.now)) }
     {
@@ -138,7 +138,7 @@ impl DeviceShelf {
         alloc: Global,
         name: &[u8],
         many: bool,
-    ) -> Result<Option<Shared<Device>>, AllocError>
+    ) -> Result<Option<Shared<DataSheet>>, AllocError>
         ensures same { self.new ≡ self.old }
         ensures device { IfOk result (λ d. d ≡ option_map content_of (text_kept self.old name.now)) }
     {

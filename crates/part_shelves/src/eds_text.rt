@@ -5,7 +5,7 @@ ghost use Rattle.eds_device.specs.Faults.{device_of};
 ghost use Rattle.ini_text.specs.Content.{content_of};
 
 use base::Octets;
-use eds_device::{Device, DeviceFault};
+use eds_device::{DataSheet, DeviceFault};
 use kept_values::{Kept, Makes, Shared};
 use std::alloc::{AllocError, Global};
 use std::marker::Model;
@@ -57,18 +57,18 @@ impl EdsText {
     }
 }
 
-impl Makes<Shared<Device>> for EdsText {
+impl Makes<Shared<DataSheet>> for EdsText {
     ghost use Rattle.ini_text.specs.Content.{content_of};
 
     ghost made = { content_of };
 }
 
 /// Reads the text of a device.
-fn read_device(alloc: Global, text: &[u8]) -> Result<Device, AllocError>
+fn read_device(alloc: Global, text: &[u8]) -> Result<DataSheet, AllocError>
     requires { device_of text.now ≡ Ok (content_of text.now) }
     ensures { IfOk result (λ device. device ≡ content_of text.now) }
 {
-    match Device::read(alloc, text) {
+    match DataSheet::read(alloc, text) {
         Ok(device) => Ok(device),
         Err(DeviceFault::Memory) => Err(AllocError),
         Err(_fault) => unreachable!(),
@@ -76,7 +76,10 @@ fn read_device(alloc: Global, text: &[u8]) -> Result<Device, AllocError>
 }
 
 /// The device of a text, with the text, which both share where most of it is content.
-pub fn keep_device(alloc: Global, text: &[u8]) -> Result<Kept<EdsText, Shared<Device>>, AllocError>
+pub fn keep_device(
+    alloc: Global,
+    text: &[u8],
+) -> Result<Kept<EdsText, Shared<DataSheet>>, AllocError>
     requires { device_of text.now ≡ Ok (content_of text.now) }
     ensures { IfOk result (λ kept. kept ≡ text.now) }
 {

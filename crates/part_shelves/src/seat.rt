@@ -5,7 +5,7 @@ ghost use Rattle.part_shelves.specs.Slots.{fresh_slot};
 
 use crate::device_slot::DeviceSlot;
 use crate::eds_text::EdsText;
-use eds_device::Device;
+use eds_device::DataSheet;
 use kept_values::{Kept, Shared};
 use std::alloc::{AllocError, Global};
 use std::marker::Model;
@@ -15,7 +15,7 @@ use std::marker::Model;
 #[derive(Drop)]
 pub struct Seat {
     slot: DeviceSlot,
-    common: Option<Shared<Device>>,
+    common: Option<Shared<DataSheet>>,
 }
 
 impl Model for Seat {
@@ -32,7 +32,7 @@ impl Model for Seat {
 
 impl Seat {
     /// A device of now.
-    pub fn new(kept: Kept<EdsText, Shared<Device>>) -> Seat
+    pub fn new(kept: Kept<EdsText, Shared<DataSheet>>) -> Seat
         ensures { result ≡ fresh_slot kept }
     {
         Seat {
@@ -56,7 +56,7 @@ impl Seat {
     }
 
     /// The device.
-    pub fn device(&self) -> &Shared<Device>
+    pub fn device(&self) -> &Shared<DataSheet>
         ensures { result.now ≡ content_of self.now.kept }
     {
         self.slot.kept.value()
@@ -74,7 +74,7 @@ impl Seat {
 
     /// The device with what it has alike at every node, which is found at the first asking. Want of memory is
     /// the only error.
-    pub fn common(&mut self, alloc: Global) -> Result<Shared<Device>, AllocError>
+    pub fn common(&mut self, alloc: Global) -> Result<Shared<DataSheet>, AllocError>
         ensures same { self.new ≡ self.old }
         ensures device { IfOk result (λ d. d ≡ content_of self.old.kept) }
     {

@@ -1,13 +1,4 @@
-//! The communication and mapping parameters of PDOs (CiA 301): where they stand.
-
-/// The communication parameter of the first TPDO; that of each next one is the next object.
-pub(crate) const FIRST_TPDO: u16 = 0x1800;
-
-/// The communication parameter of the first RPDO; that of each next one is the next object.
-pub(crate) const FIRST_RPDO: u16 = 0x1400;
-
-/// How far behind its communication parameter the mapping parameter of a PDO stands.
-pub(crate) const MAPPING_DISTANCE: u16 = 0x200;
+//! The communication and mapping parameters of PDOs (CiA 301): the sub-indices of what they have.
 
 /// COB-ID: the identifier, and whether the PDO is off.
 pub(crate) const COB_ID: u8 = 1;

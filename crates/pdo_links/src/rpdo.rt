@@ -2,7 +2,6 @@
 ghost use Rattle.std.specs.Prelude.{◌≡◌, ◌==◌, ℕ, true, List, ◌++◌, length, filter_map, OnOk, IfOk};
 ghost use Rattle.std.specs.List.{find};
 ghost use Rattle.std.specs.Option.{option_map, option_and_then, option_copied};
-ghost use Rattle.base.specs.Ranges.{is_between};
 ghost use Rattle.ini_text.specs.Content.{Section};
 ghost use Rattle.cia301.specs.PdoObjects.{rpdo_object};
 ghost use Rattle.pdo_plan.specs.Plan.{HasPdo, IsMadeFor, IsNumbered, clean, clean_of};
@@ -11,25 +10,15 @@ ghost use Rattle.pdo_links.specs.Writes.{taken_type, rpdo_writes, rpdo_of, by_nu
 
 use crate::first::put_first;
 use crate::mapping::put_mapping;
-use crate::parameters::{
-    AT_ONCE, COB_ID, FIRST_RPDO, MAPPING_DISTANCE, TRANSMISSION_TYPE, WITH_SYNC,
-};
+use crate::parameters::{AT_ONCE, COB_ID, TRANSMISSION_TYPE, WITH_SYNC};
 use crate::put::{put_u8, put_u32};
 use crate::taken::Taken;
-use cia301::{CobId, TransmissionType};
+use cia301::{CobId, TransmissionType, mapping_object, rpdo_object};
 use concise_dcf::Write;
-use eds_device::Device;
+use eds_device::DataSheet;
 use pdo_plan::{Clean, Consumer, Outcome, Plan, PlannedMessage};
 use std::alloc::{AllocError, Global};
 use std::collections::BTreeMap;
-
-/// The communication parameter of an RPDO.
-fn rpdo_object(number: u16) -> u16
-    requires { is_between 1 512 number ≡ true }
-    ensures { result ≡ rpdo_object number }
-{
-    FIRST_RPDO + (number - 1)
-}
 
 /// The transmission type of the RPDOs of a message: what is sent with the SYNC is taken with it.
 fn taken_type(transmission: u8) -> u8
@@ -61,11 +50,7 @@ fn put_rpdo(writes: &mut Vec<Write>, clean: &Clean, consumer: &Consumer) -> Resu
         TRANSMISSION_TYPE,
         taken_type(clean.message.transmission),
     )?;
-    put_mapping(
-        writes,
-        object + MAPPING_DISTANCE,
-        consumer.mapping.as_slice(),
-    )?;
+    put_mapping(writes, mapping_object(object), consumer.mapping.as_slice())?;
     put_u32(writes, object, COB_ID, identifier)?;
     Ok(())
 }

@@ -1,7 +1,6 @@
 //! The writes of a node's TPDOs.
 ghost use Rattle.std.specs.Prelude.{◌≡◌, ◌<◌, true, false, [], ◌∷◌, ◌++◌, length, filter_map, OnOk, IfOk};
 ghost use Rattle.std.specs.Option.{option_map, option_map_or, option_and_then};
-ghost use Rattle.base.specs.Ranges.{is_between};
 ghost use Rattle.eds_device.specs.Entries.{entry_at};
 ghost use Rattle.pdo_stations.specs.Devices.{takes_unsigned};
 ghost use Rattle.cia301.specs.PdoObjects.{tpdo_object};
@@ -11,21 +10,19 @@ ghost use Rattle.pdo_links.specs.Writes.{write_at, start_write, time_write, tpdo
 
 use crate::first::put_first;
 use crate::mapping::put_mapping;
-use crate::parameters::{
-    COB_ID, EVENT_TIMER, FIRST_TPDO, INHIBIT_TIME, MAPPING_DISTANCE, SYNC_START, TRANSMISSION_TYPE,
-};
+use crate::parameters::{COB_ID, EVENT_TIMER, INHIBIT_TIME, SYNC_START, TRANSMISSION_TYPE};
 use crate::put::{put_u8, put_u16, put_u32};
-use cia301::CobId;
+use cia301::{CobId, mapping_object, tpdo_object};
 use co_values::Width;
 use concise_dcf::Write;
-use eds_device::Device;
+use eds_device::DataSheet;
 use pdo_plan::{Clean, Outcome, Plan, PlannedMessage};
 use pdo_stations::is_unsigned;
 use std::alloc::{AllocError, Global};
 use std::collections::BTreeMap;
 
 /// Whether an entry is there, an UNSIGNEDn of a width and writable.
-fn takes_unsigned(device: &Device, node: u8, width: Width, index: u16, sub: u8) -> bool
+fn takes_unsigned(device: &DataSheet, node: u8, width: Width, index: u16, sub: u8) -> bool
     ensures { result ≡ option_map_or (takes_unsigned width) (entry_at device.now.sections node index sub) false }
 {
     match device.entry(node, index, sub) {
@@ -37,7 +34,7 @@ fn takes_unsigned(device: &Device, node: u8, width: Width, index: u16, sub: u8) 
 /// Adds the write of a time, where its entry is there, UNSIGNED16 and writable.
 fn put_time(
     writes: &mut Vec<Write>,
-    device: &Device,
+    device: &DataSheet,
     node: u8,
     object: u16,
     sub: u8,
@@ -54,7 +51,7 @@ fn put_time(
 /// Adds the write of a SYNC start value, where its entry is there, UNSIGNED8 and writable.
 fn put_start(
     writes: &mut Vec<Write>,
-    device: &Device,
+    device: &DataSheet,
     node: u8,
     object: u16,
     start: u8,
@@ -72,7 +69,7 @@ fn put_start(
 /// SYNC start value.
 fn put_timing(
     writes: &mut Vec<Write>,
-    device: &Device,
+    device: &DataSheet,
     node: u8,
     object: u16,
     clean: &Clean,
@@ -92,20 +89,12 @@ fn put_timing(
     put_start(writes, device, node, object, clean.start)
 }
 
-/// The communication parameter of a TPDO.
-fn tpdo_object(number: u16) -> u16
-    requires { is_between 1 512 number ≡ true }
-    ensures { result ≡ tpdo_object number }
-{
-    FIRST_TPDO + (number - 1)
-}
-
 /// Adds the writes of a TPDO: it is switched off; when it is sent, and what it maps; it is switched
 /// on.
 #[tactic(auto, unfolding(crate::specs::Writes::tpdo_writes))]
 fn put_tpdo(
     writes: &mut Vec<Write>,
-    device: &Device,
+    device: &DataSheet,
     node: u8,
     clean: &Clean,
 ) -> Result<(), AllocError>
@@ -119,7 +108,7 @@ fn put_tpdo(
     let identifier = CobId::NO_RTR_BIT + u32::from(clean.identifier);
     put_u32(writes, object, COB_ID, CobId::OFF_BIT + identifier)?;
     put_timing(writes, device, node, object, clean)?;
-    put_mapping(writes, object + MAPPING_DISTANCE, clean.mapping.as_slice())?;
+    put_mapping(writes, mapping_object(object), clean.mapping.as_slice())?;
     put_u32(writes, object, COB_ID, identifier)?;
     Ok(())
 }
@@ -158,7 +147,7 @@ pub(crate) fn put_tpdos(
     alloc: Global,
     writes: &mut Vec<Write>,
     plan: &Plan,
-    device: &Device,
+    device: &DataSheet,
     node: u8,
 ) -> Result<(), AllocError>
     ensures writes { OnOk result (writes.new.items

@@ -9,7 +9,7 @@ ghost use Rattle.concise_dcf.specs.Writes.{IsSized};
 use crate::rpdo::put_rpdos;
 use crate::tpdo::put_tpdos;
 use concise_dcf::Write;
-use eds_device::Device;
+use eds_device::DataSheet;
 use node_parameters::Params;
 use pdo_plan::Plan;
 use std::alloc::{AllocError, Global};
@@ -24,7 +24,7 @@ pub fn writes(
     alloc: Global,
     plan: &Plan,
     params: &Params,
-    device: &Device,
+    device: &DataSheet,
     node: u8,
 ) -> Result<Vec<Write>, AllocError>
     ensures writes { IfOk result (λ writes. writes.items ≡ node_writes plan.now params.now device.now.sections node) }

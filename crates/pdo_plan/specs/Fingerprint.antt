@@ -11,32 +11,32 @@ use Rattle.pdo_plan.specs.declared.planned_message.PlannedMessage.{PlannedMessag
 use Rattle.pdo_stations.specs.declared.mapped.Mapped.{Mapped}
 
 -- a fingerprint with one more number
-unfoldable pub mixed : ℕ → ℕ → ℕ
-mixed fingerprint number = ((fingerprint * 0x5851F42D4C957F2D) % 2 ^ 64 + number) % 2 ^ 64
+unfoldable pub mix : ℕ → ℕ → ℕ
+mix fingerprint number = ((fingerprint * 0x5851F42D4C957F2D) % 2 ^ 64 + number) % 2 ^ 64
 
 -- with a mapping entry, a consumer, a message
 abbrev pub with_mapped : ℕ → Mapped → ℕ
-with_mapped fingerprint m = mixed (mixed (mixed fingerprint m.index) m.sub) m.bits
+with_mapped fingerprint m = mix (mix (mix fingerprint m.index) m.sub) m.bits
 
 abbrev pub with_consumer : ℕ → Consumer → ℕ
-with_consumer fingerprint k = fold with_mapped (mixed (mixed fingerprint k.node) k.rpdo) k.mapping
+with_consumer fingerprint k = fold with_mapped (mix (mix fingerprint k.node) k.rpdo) k.mapping
 
 abbrev pub with_message : ℕ → Message → ℕ
 with_message fingerprint m =
-    mixed (mixed (mixed (mixed (mixed (mixed fingerprint m.node) m.tpdo) m.transmission) m.inhibit) m.event) m.cob
+    mix (mix (mix (mix (mix (mix fingerprint m.node) m.tpdo) m.transmission) m.inhibit) m.event) m.cob
 
 abbrev pub with_clean : ℕ → Clean → ℕ
 with_clean fingerprint c =
     fold with_consumer
-    (fold with_mapped (mixed (mixed (with_message fingerprint c.message) c.start) c.identifier) c.mapping) c.consumers
+    (fold with_mapped (mix (mix (with_message fingerprint c.message) c.start) c.identifier) c.mapping) c.consumers
 
 -- of faults their number
 abbrev pub with_outcome : ℕ → Outcome → ℕ
 with_outcome fingerprint (Planned c) = with_clean fingerprint c
-with_outcome fingerprint (Faulty fs) = mixed fingerprint (length fs)
+with_outcome fingerprint (Faulty fs) = mix fingerprint (length fs)
 
 abbrev pub with_planned : ℕ → PlannedMessage → ℕ
-with_planned fingerprint p = with_outcome (fold mixed fingerprint p.name) p.outcome
+with_planned fingerprint p = with_outcome (fold mix fingerprint p.name) p.outcome
 
 unfoldable pub fingerprint_of : List PlannedMessage → ℕ
 fingerprint_of plan = fold with_planned 0 plan

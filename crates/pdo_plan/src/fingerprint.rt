@@ -1,7 +1,7 @@
 //! Numbers that tell plans apart.
 ghost use Rattle.std.specs.Prelude.{◌≡◌, ℕ};
 ghost use Rattle.std.specs.List.{fold};
-ghost use Rattle.pdo_plan.specs.Fingerprint.{mixed, with_mapped, with_message, with_consumer, with_clean};
+ghost use Rattle.pdo_plan.specs.Fingerprint.{mix, with_mapped, with_message, with_consumer, with_clean};
 ghost use Rattle.pdo_plan.specs.Fingerprint.{with_outcome, with_planned, fingerprint_of};
 
 use crate::clean::Clean;
@@ -16,9 +16,9 @@ use project_messages::Message;
 const FACTOR: u64 = 0x5851_F42D_4C95_7F2D;
 
 /// A fingerprint with one more number.
-#[tactic(auto, unfolding(crate::specs::Fingerprint::mixed))]
-fn mixed(fingerprint: u64, number: u64) -> u64
-    ensures { result ≡ mixed fingerprint number }
+#[tactic(auto, unfolding(crate::specs::Fingerprint::mix))]
+fn mix(fingerprint: u64, number: u64) -> u64
+    ensures { result ≡ mix fingerprint number }
 {
     fingerprint.wrapping_mul(FACTOR).wrapping_add(number)
 }
@@ -47,10 +47,10 @@ fn with_all<T: Part>(fingerprint: u64, parts: &[T]) -> u64
 }
 
 impl Part for u8 {
-    ghost with_part = { mixed };
+    ghost with_part = { mix };
 
     fn put_behind(&self, fingerprint: u64) -> u64 {
-        mixed(fingerprint, u64::from(*self))
+        mix(fingerprint, u64::from(*self))
     }
 }
 
@@ -58,8 +58,8 @@ impl Part for Mapped {
     ghost with_part = { with_mapped };
 
     fn put_behind(&self, fingerprint: u64) -> u64 {
-        let indexed = mixed(fingerprint, u64::from(self.index));
-        mixed(mixed(indexed, u64::from(self.sub)), u64::from(self.bits))
+        let indexed = mix(fingerprint, u64::from(self.index));
+        mix(mix(indexed, u64::from(self.sub)), u64::from(self.bits))
     }
 }
 
@@ -67,8 +67,8 @@ impl Part for Consumer {
     ghost with_part = { with_consumer };
 
     fn put_behind(&self, fingerprint: u64) -> u64 {
-        let named = mixed(fingerprint, u64::from(self.node));
-        let numbered = mixed(named, u64::from(self.rpdo));
+        let named = mix(fingerprint, u64::from(self.node));
+        let numbered = mix(named, u64::from(self.rpdo));
         with_all(numbered, self.mapping.as_slice())
     }
 }
@@ -77,18 +77,18 @@ impl Part for Consumer {
 fn with_message(fingerprint: u64, message: &Message) -> u64
     ensures { result ≡ with_message fingerprint message.now }
 {
-    let sent = mixed(
-        mixed(fingerprint, u64::from(message.node)),
+    let sent = mix(
+        mix(fingerprint, u64::from(message.node)),
         u64::from(message.tpdo),
     );
-    let timed = mixed(
-        mixed(
-            mixed(sent, u64::from(message.transmission)),
+    let timed = mix(
+        mix(
+            mix(sent, u64::from(message.transmission)),
             u64::from(message.inhibit),
         ),
         u64::from(message.event),
     );
-    mixed(timed, u64::from(message.cob))
+    mix(timed, u64::from(message.cob))
 }
 
 /// A fingerprint with a message that can be sent behind it.
@@ -96,8 +96,8 @@ fn with_clean(fingerprint: u64, clean: &Clean) -> u64
     ensures { result ≡ with_clean fingerprint clean.now }
 {
     let sent = with_message(fingerprint, &clean.message);
-    let started = mixed(sent, u64::from(clean.start));
-    let identified = mixed(started, u64::from(clean.identifier));
+    let started = mix(sent, u64::from(clean.start));
+    let identified = mix(started, u64::from(clean.identifier));
     let mapped = with_all(identified, clean.mapping.as_slice());
     with_all(mapped, clean.consumers.as_slice())
 }
@@ -108,7 +108,7 @@ fn with_outcome(fingerprint: u64, outcome: &Outcome) -> u64
 {
     match outcome {
         Outcome::Planned(clean) => with_clean(fingerprint, clean),
-        Outcome::Faulty(faults) => mixed(fingerprint, faults.as_slice().len() as u64),
+        Outcome::Faulty(faults) => mix(fingerprint, faults.as_slice().len() as u64),
     }
 }
 

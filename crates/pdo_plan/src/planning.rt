@@ -12,7 +12,7 @@ use crate::outcome::Outcome;
 use crate::planned_message::PlannedMessage;
 use crate::taken::Taken;
 use base::Octets;
-use eds_device::Device;
+use eds_device::DataSheet;
 use pdo_stations::Stations;
 use project_messages::Messages;
 use std::alloc::{AllocError, Global};
@@ -34,7 +34,11 @@ fn take_clean(taken: &mut Taken, outcome: &Outcome) -> Result<(), AllocError>
 ///
 /// Takes time by the number of the devices' entries, of the messages' sources and sinks and of their
 /// consumers, and by the logarithms of these.
-pub fn plan(alloc: Global, nodes: &[(u8, &Device)], messages: &Messages) -> Result<Plan, AllocError>
+pub fn plan(
+    alloc: Global,
+    nodes: &[(u8, &DataSheet)],
+    messages: &Messages,
+) -> Result<Plan, AllocError>
     ensures { IfOk result (λ plan. plan ≡ plan_of (devices_of (nodes_of nodes.now)) (map.entries messages.now)) }
 {
     let stations = Stations::new(alloc, nodes)?;

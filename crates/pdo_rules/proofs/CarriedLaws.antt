@@ -33,8 +33,8 @@ use Rattle.co_dict.proofs.CheckLaws.{checked_alike, suits_taken}
 use Rattle.co_dict.proofs.PlaceLemmas.{written_elsewhere, written_there}
 use Rattle.pdo_rules.specs.Bits.{low_bits, number_of}
 use Rattle.pdo_rules.specs.Carried.{AreApart, TakesWhole}
-use Rattle.pdo_rules.specs.Packing.{after_entries, bits_for, bytes_begun, entry_bits, frame_bits, names_entry, packed}
-use Rattle.pdo_rules.specs.Packing.{packed_bits, takes, unpacked, value_of_bits, with_bits}
+use Rattle.pdo_rules.specs.Packing.{after_entries, bits_for, bytes_begun, entry_bits, frame_bits, names_entry, payload_of}
+use Rattle.pdo_rules.specs.Packing.{packed_bits, takes, after_payload, value_of_bits, with_bits}
 use Rattle.pdo_rules.proofs.BitLemmas.{length-low_bits, low_bits-suc, number-low_bits}
 use Rattle.pdo_rules.proofs.PackLemmas.{length-packed_bits}
 use Rattle.pdo_rules.proofs.PositionLaws.{AreBits, packed_are_bits}
@@ -66,8 +66,8 @@ number_small (bit ∷ bits) are =
 
 -- the bits of a packed frame are those of its entries, and zeros behind them
 frame_is : (values : Values) (mapping : List ℕ) → mapping_bits mapping ≤ 64
-    → frame_bits (packed values mapping).0 ≡ packed_bits values mapping ++ low_bits (64 - mapping_bits mapping) 0
-unfolding packed
+    → frame_bits (payload_of values mapping).0 ≡ packed_bits values mapping ++ low_bits (64 - mapping_bits mapping) 0
+unfolding payload_of
 frame_is values mapping few =
     let bits = packed_bits values mapping in
     let more : ℕ = 64 - mapping_bits mapping in
@@ -111,7 +111,7 @@ there values (first ∷ mapping) (suc i) entry behind e =
 -- each mapped entry has its bits at its position
 pub bits_at_position : (values : Values) (mapping : List ℕ) (i entry : ℕ) → mapping_bits mapping ≤ 64
     → slice_get mapping i ≡ Some entry
-    → bits_for entry (mapping_bits (take i mapping)) (frame_bits (packed values mapping).0) ≡ entry_bits values entry
+    → bits_for entry (mapping_bits (take i mapping)) (frame_bits (payload_of values mapping).0) ≡ entry_bits values entry
 unfolding bits_for
 bits_at_position values mapping i entry few e =
     ap (λ bits. take (mapped_length entry) (drop (mapping_bits (take i mapping)) bits)) (frame_is values mapping few)
@@ -335,13 +335,13 @@ pub carried : (shape : Shaped) (from into : Values) (sent taken : List ℕ) (i a
     → mapping_bits sent ≤ 64 → map mapped_length sent ≡ map mapped_length taken → AreApart shape taken
     → slice_get sent i ≡ Some a → slice_get taken i ≡ Some b → get from (mapped_place a) ≡ Some bytes
     → TakesWhole shape b bytes
-    → get (unpacked shape taken (packed from sent).0 into) (mapped_place b) ≡ Some bytes
+    → get (after_payload shape taken (payload_of from sent).0 into) (mapped_place b) ≡ Some bytes
 unfolding bits_for takes
 carried shape from into sent taken i a b bytes few alike apart at_a at_b held whole =
     let same = alike_there sent taken alike i a b at_a at_b in
     let mappable = mappable_of (is_mappable Receive whole.described) (width_bits whole.described.kind)
     (mapped_length b) whole.width in
-    let frame : List ℕ = frame_bits (packed from sent).0 in
+    let frame : List ℕ = frame_bits (payload_of from sent).0 in
     let start : 0 + mapping_bits (take i taken) ≡ mapping_bits (take i sent) = omega (arith, same.1) in
     let bits : bits_for b (0 + mapping_bits (take i taken)) frame ≡ entry_bits from a =
     ap (λ n. bits_for b n frame) start ∙ ap (λ n. take n (drop (mapping_bits (take i sent)) frame)) (sym same.0)
@@ -371,7 +371,7 @@ carried shape from into sent taken i a b bytes few alike apart at_a at_b held wh
 pub from_start : (shape : Shaped) (mapping bytes : List ℕ) (values : Values) (i entry : ℕ) → AreApart shape mapping
     → slice_get mapping i ≡ Some entry
     → is_of_pdos (mapped_place entry).0 ≡ false
-    → get (unpacked shape mapping bytes values) (mapped_place entry)
+    → get (after_payload shape mapping bytes values) (mapped_place entry)
     ≡ get (with_bits shape entry (bits_for entry (mapping_bits (take i mapping)) (frame_bits bytes)) values)
     (mapped_place entry)
 from_start shape mapping bytes values i entry apart e outside =
@@ -381,7 +381,7 @@ from_start shape mapping bytes values i entry apart e outside =
 
 pub others_stay : (shape : Shaped) (mapping bytes : List ℕ) (values : Values) (place : ℕ × ℕ)
     → ((i entry : ℕ) → slice_get mapping i ≡ Some entry → names_entry shape entry ≡ true → place ≢ mapped_place entry)
-    → get (unpacked shape mapping bytes values) place ≡ get values place
+    → get (after_payload shape mapping bytes values) place ≡ get values place
 others_stay shape mapping bytes values place apart =
     unmapped_stays shape (frame_bits bytes) place mapping 0 values apart
 

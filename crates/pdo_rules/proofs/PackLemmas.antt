@@ -10,7 +10,7 @@ use Rattle.byteorder.specs.Endian.{little_bytes}
 use Rattle.co_dict.specs.Mappings.{mapped_length, mapped_place, mapping_bits}
 use Rattle.co_dict.specs.Values.{Values, number_at}
 use Rattle.pdo_rules.specs.Bits.{number_of}
-use Rattle.pdo_rules.specs.Packing.{bytes_begun, entry_bits, packed, packed_bits}
+use Rattle.pdo_rules.specs.Packing.{bytes_begun, entry_bits, payload_of, packed_bits}
 use Rattle.pdo_rules.proofs.BitLemmas.{length-low_bits, number-append, number-low_bits}
 
 -- ---- what is left of a mapping
@@ -39,16 +39,16 @@ module _ (values : Values) where
       ∙ ap (λ (n : ℕ). mapped_length entry + n) (length-packed_bits mapping)
       ∙ sym (sum_by-cons mapped_length entry mapping)
 
-  pub bytes_of_packed : (mapping : List ℕ) → (packed values mapping).1 ≡ bytes_begun (mapping_bits mapping)
-  unfolding packed
+  pub bytes_of_packed : (mapping : List ℕ) → (payload_of values mapping).1 ≡ bytes_begun (mapping_bits mapping)
+  unfolding payload_of
   bytes_of_packed mapping = ap bytes_begun (length-packed_bits mapping)
 
   -- the number of a PDO: its first entry's bits below those of the others
-  number-packed : (entry : ℕ) (mapping : List ℕ)
+  number-payload_of : (entry : ℕ) (mapping : List ℕ)
       → number_of (packed_bits values (entry ∷ mapping))
       ≡ number_at 8 values (mapped_place entry) % 2 ^ mapped_length entry
       + 2 ^ mapped_length entry * number_of (packed_bits values mapping)
-  number-packed entry mapping =
+  number-payload_of entry mapping =
       let first = entry_bits values entry in
       let count = length-low_bits (mapped_length entry) (number_at 8 values (mapped_place entry)) in
       number-append first (packed_bits values mapping)
@@ -69,7 +69,7 @@ module _ (values : Values) where
       let rest : ℕ = number_of (packed_bits values (drop (i + 1) mapping)) in
       let all : number_of (packed_bits values (drop i mapping))
       ≡ low + 2 ^ mapped_length entry * rest = ap (λ m. number_of (packed_bits values m)) (left mapping i d within)
-      ∙ number-packed entry (drop (i + 1) mapping) in
+      ∙ number-payload_of entry (drop (i + 1) mapping) in
       let above : 2 ^ (position + mapped_length entry) * rest ≡ 2 ^ position * (2 ^ mapped_length entry * rest) =
       ap (λ (n : ℕ). n * rest) (pow-add 2 position (mapped_length entry))
       ∙ mul_assoc (2 ^ position) (2 ^ mapped_length entry) rest in
@@ -85,8 +85,8 @@ module _ (values : Values) where
       → bytes ≡ little_bytes 8 frame
       → frame + 2 ^ position * number_of (packed_bits values (drop i mapping)) ≡ number_of (packed_bits values mapping)
       → position + mapping_bits (drop i mapping) ≡ mapping_bits mapping
-      → ◌≡◌ {A = List ℕ × ℕ} (bytes, (position + 7) / 8) (packed values mapping)
-  unfolding packed number_of
+      → ◌≡◌ {A = List ℕ × ℕ} (bytes, (position + 7) / 8) (payload_of values mapping)
+  unfolding payload_of number_of
   packed_all mapping i frame position bytes end are all count =
       let none : drop i mapping ≡ [] = drop_all i mapping end in
       let number : frame ≡ number_of (packed_bits values mapping) =

@@ -12,7 +12,7 @@ use Rattle.byteorder.specs.Endian.{little_from, little_number}
 use Rattle.base.specs.Bytes.{AreBytes}
 use Rattle.co_dict.specs.Values.{Values}
 use Rattle.pdo_rules.specs.Bits.{low_bits, number_of}
-use Rattle.pdo_rules.specs.Packing.{entry_bits, frame_bits, packed, packed_bits}
+use Rattle.pdo_rules.specs.Packing.{entry_bits, frame_bits, payload_of, packed_bits}
 use Rattle.pdo_rules.proofs.BitLemmas.{low_bits-suc, low_bits-zero}
 
 -- ---- bits of the bytes of a number
@@ -141,8 +141,8 @@ from_zero : (n : ℕ) → 0 + n ≡ n
 from_zero n = omega arith
 
 pub into_position : (values : Values) (mapping : List ℕ) (p : ℕ) → p < 64
-    → bit_at (slice_index (packed values mapping).0 (p / 8)) (p % 8) ≡ slice_index (packed_bits values mapping) p
-unfolding packed
+    → bit_at (slice_index (payload_of values mapping).0 (p / 8)) (p % 8) ≡ slice_index (packed_bits values mapping) p
+unfolding payload_of
 into_position values mapping p within =
     let bits = packed_bits values mapping in
     ap (λ n. bit_at n (p % 8)) (index_low 0 8 (number_of bits) (p / 8) (eighth p within)

@@ -27,8 +27,8 @@ abbrev pub packed_bits : Values → List ℕ → List ℕ
 packed_bits values mapping = flat_map (entry_bits values) mapping
 
 -- eight bits to a byte, the lowest first, up to eight bytes; and how many of them the PDO has
-unfoldable pub packed : Values → List ℕ → List ℕ × ℕ
-packed values mapping = (
+unfoldable pub payload_of : Values → List ℕ → List ℕ × ℕ
+payload_of values mapping = (
   little_bytes 8 (number_of (packed_bits values mapping)),
   bytes_begun (length (packed_bits values mapping)),
 )
@@ -68,5 +68,5 @@ after_entries turn position (entry ∷ mapping) bits s =
     after_entries turn (position + mapped_length entry) mapping bits (turn entry (bits_for entry position bits) s)
 
 -- a device takes a frame by a mapping: each entry is judged by what stands in its turn
-abbrev pub unpacked : Shaped → List ℕ → List ℕ → Values → Values
-unpacked shape mapping bytes values = after_entries (with_bits shape) 0 mapping (frame_bits bytes) values
+abbrev pub after_payload : Shaped → List ℕ → List ℕ → Values → Values
+after_payload shape mapping bytes values = after_entries (with_bits shape) 0 mapping (frame_bits bytes) values

@@ -26,4 +26,4 @@ pub use sync::SyncMessage;
 pub use sync_seen::SyncSeen;
 pub use tpdo::Tpdo;
 pub use unpacking::{unpack, unpack_entry};
-pub use working::{is_pdo, rpdo_object, tpdo_object, works};
+pub use working::{is_pdo, works};

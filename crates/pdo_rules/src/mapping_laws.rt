@@ -11,13 +11,13 @@ ghost use Rattle.co_dict.specs.Shapes.{Shaped};
 ghost use Rattle.co_dict.specs.Values.{Values};
 ghost use Rattle.pdo_rules.specs.Carried.{AreApart, TakesWhole};
 ghost use Rattle.pdo_rules.specs.Packing.{bits_for, bytes_begun, entry_bits, frame_bits, names_entry};
-ghost use Rattle.pdo_rules.specs.Packing.{packed, packed_bits, unpacked, with_bits};
+ghost use Rattle.pdo_rules.specs.Packing.{payload_of, packed_bits, after_payload, with_bits};
 
 /// Position p of a PDO is bit p mod 8 of byte p div 8, into a frame and out of it.
 #[tactic(auto, using(crate::proofs::PositionLaws::positions))]
 pub fn position_p_is_bit_p_mod_8_of_byte_p_div_8()
     ensures into { (values : Values) (mapping : List ℕ) (p : ℕ) → p < 64
-        → bit_at (slice_index (packed values mapping).0 (p / 8)) (p % 8) ≡ slice_index (packed_bits values mapping) p }
+        → bit_at (slice_index (payload_of values mapping).0 (p / 8)) (p % 8) ≡ slice_index (packed_bits values mapping) p }
     ensures out { (bytes : List ℕ) (p : ℕ) → AreBytes bytes → p < 64
         → slice_index (frame_bits bytes) p ≡ bit_at (slice_index bytes (p / 8)) (p % 8) }
 {}
@@ -25,7 +25,7 @@ pub fn position_p_is_bit_p_mod_8_of_byte_p_div_8()
 /// A PDO has as many bytes as its mapping begins.
 #[tactic(auto, using(crate::proofs::PackLemmas::bytes_of_packed))]
 pub fn a_pdo_has_the_bytes_that_its_mapping_begins()
-    ensures { (values : Values) (mapping : List ℕ) → (packed values mapping).1 ≡ bytes_begun (mapping_bits mapping) }
+    ensures { (values : Values) (mapping : List ℕ) → (payload_of values mapping).1 ≡ bytes_begun (mapping_bits mapping) }
 {}
 
 /// Each mapped entry has its bits in the frame behind those of the entries before it.
@@ -33,7 +33,7 @@ pub fn a_pdo_has_the_bytes_that_its_mapping_begins()
 pub fn each_entry_has_its_bits_at_its_position()
     ensures { (values : Values) (mapping : List ℕ) (i entry : ℕ) → mapping_bits mapping ≤ 64
         → slice_get mapping i ≡ Some entry
-        → bits_for entry (mapping_bits (take i mapping)) (frame_bits (packed values mapping).0)
+        → bits_for entry (mapping_bits (take i mapping)) (frame_bits (payload_of values mapping).0)
         ≡ entry_bits values entry }
 {}
 
@@ -44,13 +44,13 @@ pub fn each_entry_has_its_bits_at_its_position()
 pub fn each_entry_gets_the_bits_at_its_position()
     ensures mapped { (shape : Shaped) (mapping bytes : List ℕ) (values : Values) (i entry : ℕ)
         → AreApart shape mapping → slice_get mapping i ≡ Some entry → is_of_pdos (mapped_place entry).0 ≡ false
-        → finite.get (unpacked shape mapping bytes values) (mapped_place entry)
+        → finite.get (after_payload shape mapping bytes values) (mapped_place entry)
         ≡ (let bits = bits_for entry (mapping_bits (take i mapping)) (frame_bits bytes) in
         finite.get (with_bits shape entry bits values) (mapped_place entry)) }
     ensures others { (shape : Shaped) (mapping bytes : List ℕ) (values : Values) (place : ℕ × ℕ)
         → ((i entry : ℕ) → slice_get mapping i ≡ Some entry → names_entry shape entry ≡ true
         → place ≢ mapped_place entry)
-        → finite.get (unpacked shape mapping bytes values) place ≡ finite.get values place }
+        → finite.get (after_payload shape mapping bytes values) place ≡ finite.get values place }
 {}
 
 /// What one device packs, another unpacks, by mappings of the same lengths: an entry of the other gets
@@ -62,5 +62,5 @@ pub fn what_is_packed_is_unpacked()
         → AreApart shape taken
         → slice_get sent i ≡ Some a → slice_get taken i ≡ Some b
         → finite.get from (mapped_place a) ≡ Some bytes → TakesWhole shape b bytes
-        → finite.get (unpacked shape taken (packed from sent).0 into) (mapped_place b) ≡ Some bytes }
+        → finite.get (after_payload shape taken (payload_of from sent).0 into) (mapped_place b) ≡ Some bytes }
 {}

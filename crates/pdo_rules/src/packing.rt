@@ -3,7 +3,7 @@
 ghost use Rattle.std.specs.Prelude.{◌≡◌, ◌≤◌, ◌+◌, ◌*◌, ◌%◌, ◌^◌};
 ghost use Rattle.co_dict.specs.Mappings.{mapped_length as length_mapped, mapped_place as place_mapped, mapping_bits};
 ghost use Rattle.co_dict.specs.Values.{number_at};
-ghost use Rattle.pdo_rules.specs.Packing.{packed};
+ghost use Rattle.pdo_rules.specs.Packing.{payload_of};
 
 use crate::bits::moved_up;
 use co_dict::{Dict, mapped_length, mapped_place};
@@ -31,7 +31,7 @@ fn placed(dict: &Dict, entry: u32, position: u32) -> u64
 /// entries.
 pub fn pack(dict: &Dict, mapping: &[u32]) -> ([u8; 8], usize)
     requires { mapping_bits mapping.now ≤ 64 }
-    ensures { result ≡ packed dict.now mapping.now }
+    ensures { result ≡ payload_of dict.now mapping.now }
 {
     let mut frame = 0;
     let mut position = 0;

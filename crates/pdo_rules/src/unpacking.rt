@@ -4,7 +4,7 @@ ghost use Rattle.std.specs.Prelude.{◌≡◌, ◌≤◌, ◌+◌, OnOk, OnErr, 
 ghost use Rattle.std.specs.FinMap as map;
 ghost use Rattle.co_dict.specs.Mappings.{mapped_length as length_mapped, mapped_place as place_mapped, mapping_bits};
 ghost use Rattle.pdo_rules.specs.Packing.{bits_for, bytes_begun, frame_bits, names_entry as names_one, takes};
-ghost use Rattle.pdo_rules.specs.Packing.{unpacked, value_of_bits, with_bits};
+ghost use Rattle.pdo_rules.specs.Packing.{after_payload, value_of_bits, with_bits};
 
 use crate::bits::moved_down;
 use co_dict::{Dict, Direction, Entry, Shape, check_write_of, mapped_length, mapped_place};
@@ -76,7 +76,7 @@ fn unpack_all(
     bytes: &[u8],
 ) -> Result<(), AllocError>
     requires { mapping_bits mapping.now ≤ 64 }
-    ensures { OnOk result (dict.new ≡ unpacked shape.now mapping.now bytes.now dict.old) }
+    ensures { OnOk result (dict.new ≡ after_payload shape.now mapping.now bytes.now dict.old) }
 {
     let mut position = 0;
     for entry in mapping {
@@ -99,7 +99,7 @@ pub fn unpack(
     bytes: &[u8],
 ) -> Result<(), AllocError>
     requires { mapping_bits mapping.now ≤ 64 }
-    ensures ok { OnOk result (dict.new ≡ unpacked shape.now mapping.now bytes.now dict.old) }
+    ensures ok { OnOk result (dict.new ≡ after_payload shape.now mapping.now bytes.now dict.old) }
     ensures err { OnErr result (dict.new ≡ dict.old) }
 {
     let mut copy = dict.copy()?;

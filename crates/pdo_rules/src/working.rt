@@ -2,35 +2,11 @@
 
 ghost use Rattle.std.specs.Prelude.{◌≡◌, ◌≤◌};
 ghost use Rattle.pdo_rules.specs.Working.{cob_id_of, has_frames, has_mapping, identifier_of, is_pdo as is_object_of_pdo};
-ghost use Rattle.cia301.specs.PdoObjects.{mapping_object, rpdo_object as object_of_rpdo, tpdo_object as object_of_tpdo};
+ghost use Rattle.cia301.specs.PdoObjects.{mapping_object};
 ghost use Rattle.pdo_rules.specs.Working.{works as works_now};
 
-use cia301::{CobId, Identifier};
+use cia301::{CobId, Identifier, mapping_object};
 use co_dict::{Dict, Shape, check_mapping};
-
-/// The communication object of a TPDO, 1 to 512: 17FFh and its number.
-pub fn tpdo_object(number: u16) -> u16
-    requires { number ≤ 512 }
-    ensures { result ≡ object_of_tpdo number }
-{
-    0x17FF + number
-}
-
-/// The communication object of an RPDO, 1 to 512: 13FFh and its number.
-pub fn rpdo_object(number: u16) -> u16
-    requires { number ≤ 512 }
-    ensures { result ≡ object_of_rpdo number }
-{
-    0x13FF + number
-}
-
-/// The mapping object of the PDO with a communication object.
-fn mapping_object(object: u16) -> u16
-    requires { object ≤ 0xFDFF }
-    ensures { result ≡ mapping_object object }
-{
-    object + 0x200
-}
 
 /// Whether a communication object, at most FDFFh, is that of a PDO: its sub-index 1 is an UNSIGNED32,
 /// and sub-index 0 of the mapping object, 200h above, is an UNSIGNED8.

@@ -8,7 +8,7 @@ use Rattle.std.proofs.lemmas.Bool.{false≢true}
 use Rattle.std.proofs.lemmas.Bool.Decides.{nat_tests}
 use Rattle.std.proofs.lemmas.List.{get_or-set_same, get_or-set_other}
 use Rattle.co_dict.specs.Shapes.{Shaped}
-use Rattle.pdo_stations.specs.Stations.{shape_at, numbered}
+use Rattle.pdo_stations.specs.Stations.{shape_at, seats_by_number}
 
 not_at : (node number : ℕ) → node < number → is_at (nat_cmp node) number ≡ false
 not_at node number below = grind (arith, nat_tests)
@@ -20,44 +20,44 @@ here : (node number : ℕ) → node ≡ number → is_at (nat_cmp node) number �
 here node number same = grind (arith, nat_tests)
 
 -- none sits before the first number
-seat_before : (seats : List (Option Shaped)) (first node : ℕ) → node < first → shape_at (numbered first seats) node ≡ None
+seat_before : (seats : List (Option Shaped)) (first node : ℕ) → node < first → shape_at (seats_by_number first seats) node ≡ None
 seat_before [] first node below = refl
 seat_before (None ∷ seats) first node below = seat_before seats (first + 1) node (omega arith)
 seat_before (Some shape ∷ seats) first node below =
-    ap (λ b. cond b (Some shape) (shape_at (numbered (first + 1) seats) node)) (not_at node first below)
+    ap (λ b. cond b (Some shape) (shape_at (seats_by_number (first + 1) seats) node)) (not_at node first below)
     ∙ seat_before seats (first + 1) node (omega arith)
 
-seat_from : (seats : List (Option Shaped)) (first k : ℕ) → shape_at (numbered first seats) (first + k) ≡ get_or seats k None
+seat_from : (seats : List (Option Shaped)) (first k : ℕ) → shape_at (seats_by_number first seats) (first + k) ≡ get_or seats k None
 seat_from [] first k = refl
 seat_from (None ∷ seats) first zero = seat_before seats (first + 1) (first + 0) (omega arith)
 seat_from (None ∷ seats) first (suc k) =
     let next : first + suc k ≡ first + 1 + k = omega arith in
-    ap (shape_at (numbered (first + 1) seats)) next ∙ seat_from seats (first + 1) k
+    ap (shape_at (seats_by_number (first + 1) seats)) next ∙ seat_from seats (first + 1) k
 seat_from (Some shape ∷ seats) first zero =
-    ap (λ b. cond b (Some shape) (shape_at (numbered (first + 1) seats) (first + 0)))
+    ap (λ b. cond b (Some shape) (shape_at (seats_by_number (first + 1) seats) (first + 0)))
     (here (first + 0) first (omega arith))
 seat_from (Some shape ∷ seats) first (suc k) =
     let next : first + suc k ≡ first + 1 + k = omega arith in
-    ap (λ b. cond b (Some shape) (shape_at (numbered (first + 1) seats) (first + suc k)))
+    ap (λ b. cond b (Some shape) (shape_at (seats_by_number (first + 1) seats) (first + suc k)))
     (past (first + suc k) first (omega arith))
-    ∙ ap (shape_at (numbered (first + 1) seats)) next ∙ seat_from seats (first + 1) k
+    ∙ ap (shape_at (seats_by_number (first + 1) seats)) next ∙ seat_from seats (first + 1) k
 
 -- who sits at a number
-pub seat_at : (seats : List (Option Shaped)) (node : ℕ) → shape_at (numbered 0 seats) node ≡ get_or seats node None
+pub seat_at : (seats : List (Option Shaped)) (node : ℕ) → shape_at (seats_by_number 0 seats) node ≡ get_or seats node None
 seat_at seats node =
     let same : node ≡ 0 + node = omega arith in
-    ap (shape_at (numbered 0 seats)) same ∙ seat_from seats 0 node
+    ap (shape_at (seats_by_number 0 seats)) same ∙ seat_from seats 0 node
 
 -- one more seat that is empty
-pub empty_more : (seats : List (Option Shaped)) (first : ℕ) → numbered first (seats ++ None ∷ []) ≡ numbered first seats
+pub empty_more : (seats : List (Option Shaped)) (first : ℕ) → seats_by_number first (seats ++ None ∷ []) ≡ seats_by_number first seats
 empty_more [] first = refl
 empty_more (None ∷ seats) first = empty_more seats (first + 1)
 empty_more (Some shape ∷ seats) first = ap (λ rest. (first, shape) ∷ rest) (empty_more seats (first + 1))
 
 -- a seat is taken
 pub seat_taken : (seats : List (Option Shaped)) (number : ℕ) (shape : Shaped) → number < length seats → (node : ℕ)
-    → shape_at (numbered 0 (set seats number (Some shape))) node
-    ≡ (if number == node then Some shape else shape_at (numbered 0 seats) node)
+    → shape_at (seats_by_number 0 (set seats number (Some shape))) node
+    ≡ (if number == node then Some shape else shape_at (seats_by_number 0 seats) node)
 seat_taken seats number shape below node = seat_at (set seats number (Some shape)) node ∙ by (number == node) refl
   where
     same : (number == node) ≡ true → node ≡ number
@@ -70,7 +70,7 @@ seat_taken seats number shape below node = seat_at (set seats number (Some shape
     other e = λ s. absurd (false≢true (sym e ∙ alike s))
 
     by : (b : Bool) → (number == node) ≡ b → get_or (set seats number (Some shape)) node None
-        ≡ (if b then Some shape else shape_at (numbered 0 seats) node)
+        ≡ (if b then Some shape else shape_at (seats_by_number 0 seats) node)
     by true e = ap (λ n. get_or (set seats number (Some shape)) n None) (same e)
         ∙ get_or-set_same seats number (Some shape) None below
     by false e = get_or-set_other seats number node (Some shape) None (other e) ∙ sym (seat_at seats node)

@@ -9,10 +9,10 @@ use Rattle.co_dict.specs.Shapes.{Shaped, is_dummy_allowed}
 use Rattle.pdo_stations.specs.Devices.{Devices}
 
 -- what sits at numbers from a first one on, each with its number
-abbrev pub numbered : ℕ → List (Option Shaped) → List (ℕ × Shaped)
-numbered first [] = []
-numbered first (None ∷ seats) = numbered (first + 1) seats
-numbered first (Some shape ∷ seats) = (first, shape) ∷ numbered (first + 1) seats
+abbrev pub seats_by_number : ℕ → List (Option Shaped) → List (ℕ × Shaped)
+seats_by_number first [] = []
+seats_by_number first (None ∷ seats) = seats_by_number (first + 1) seats
+seats_by_number first (Some shape ∷ seats) = (first, shape) ∷ seats_by_number (first + 1) seats
 
 -- the entries of a node, and its dummies
 abbrev pub shape_at : List (ℕ × Shaped) → ℕ → Option Shaped

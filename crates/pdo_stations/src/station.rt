@@ -9,6 +9,7 @@ ghost use Rattle.cia301.specs.PdoObjects.{rpdo_object, tpdo_object};
 ghost use Rattle.pdo_stations.specs.Rooms.{device_with, has_room, AreRoomsOf};
 
 use crate::room::{has_unsigned, room};
+use cia301::{rpdo_object, tpdo_object};
 use co_dict::{Entry, Shape};
 use co_values::Width;
 use std::alloc::{AllocError, Global};
@@ -42,7 +43,7 @@ fn rooms(alloc: Global, shape: &Shape) -> Result<Vec<Option<u8>>, AllocError>
 {
     let mut rooms = Vec::new(alloc);
     for number in 1..513 {
-        rooms.push(room(shape, 0x13FF + number))?;
+        rooms.push(room(shape, rpdo_object(number)))?;
     }
     Ok(rooms)
 }
@@ -124,7 +125,7 @@ impl Station {
         requires few { count ≤ 64 }
         ensures { result ≡ has_pdo (device_with self.now) 0 (tpdo_object number) count }
     {
-        has_room(room(&self.shape, 0x17FF + number), count)
+        has_room(room(&self.shape, tpdo_object(number)), count)
     }
 
     /// Whether a TPDO, up to 512, has an UNSIGNED16 for its inhibit time and for its event timer, each
@@ -133,7 +134,7 @@ impl Station {
         requires { number ≤ 512 }
         ensures { result ≡ has_times (device_with self.now) 0 (tpdo_object number) inhibit event }
     {
-        let object = 0x17FF + number;
+        let object = tpdo_object(number);
         has_time(&self.shape, object, 3, inhibit) && has_time(&self.shape, object, 5, event)
     }
 
@@ -142,6 +143,6 @@ impl Station {
         requires { number ≤ 512 }
         ensures { result ≡ has_start (device_with self.now) 0 (tpdo_object number) start }
     {
-        start == 0 || has_unsigned(&self.shape, Width::Bits8, 0x17FF + number, 6)
+        start == 0 || has_unsigned(&self.shape, Width::Bits8, tpdo_object(number), 6)
     }
 }

@@ -7,7 +7,7 @@ ghost use Rattle.pdo_stations.specs.Devices.{devices_of, can_map, has_pdo, has_s
 ghost use Rattle.cia301.specs.PdoObjects.{tpdo_object};
 ghost use Rattle.pdo_stations.specs.Dummies.{dummy_for};
 ghost use Rattle.pdo_stations.specs.Shown.{nodes_of};
-ghost use Rattle.pdo_stations.specs.Stations.{shape_at, devices_in, numbered};
+ghost use Rattle.pdo_stations.specs.Stations.{shape_at, devices_in, seats_by_number};
 
 use crate::dummy::dummy_type;
 use crate::mappable::Mappable;
@@ -15,7 +15,7 @@ use crate::mapped::Mapped;
 use crate::station::Station;
 use co_dict::{Direction, Entry, Shape};
 use co_values::width_bits;
-use eds_device::Device;
+use eds_device::DataSheet;
 use std::alloc::{AllocError, Global};
 use std::marker::Model;
 
@@ -37,19 +37,19 @@ impl Model for Stations {
     ghost use Rattle.std.specs.Coded.{coded_ℕ, coded_list, coded×};
     ghost use Rattle.co_dict.specs.contracts.entry.Entry as described;
     ghost use Rattle.co_dict.specs.Shapes.{Shaped, shaped_code};
-    ghost use Rattle.pdo_stations.specs.Stations.{numbered};
+    ghost use Rattle.pdo_stations.specs.Stations.{seats_by_number};
 
     ghost Value = { List (ℕ × Shaped) };
 
     ghost coded = { coded_list (coded× coded_ℕ (shaped_code described.the_row.coded)) };
 
-    ghost view = { λ stations. numbered 0 stations.seats.items };
+    ghost view = { λ stations. seats_by_number 0 stations.seats.items };
 }
 
 /// A seat for each number, each without a station.
 fn empty_seats(alloc: Global) -> Result<Vec<Option<Station>>, AllocError>
     ensures count { IfOk result (λ seats. length seats.items ≡ 256) }
-    ensures empty { IfOk result (λ seats. numbered 0 seats.items ≡ []) }
+    ensures empty { IfOk result (λ seats. seats_by_number 0 seats.items ≡ []) }
 {
     let mut seats = Vec::with_capacity(alloc, NUMBERS)?;
     for _number in 0..NUMBERS {
@@ -88,13 +88,13 @@ fn add_station(
     seats: &mut [Option<Station>],
     other: u8,
     number: u8,
-    device: &Device,
+    device: &DataSheet,
 ) -> Result<(), AllocError>
     requires { length seats.now ≡ 256 }
     ensures count { OnOk result (length seats.new ≡ 256) }
-    ensures station { OnOk result ((node : ℕ) → shape_at (numbered 0 seats.new) node
+    ensures station { OnOk result ((node : ℕ) → shape_at (seats_by_number 0 seats.new) node
         ≡ (if number == node then Some (shape_of device.now.sections number)
-        else shape_at (numbered 0 seats.old) node)) }
+        else shape_at (seats_by_number 0 seats.old) node)) }
 {
     let shape = device.shared_shape(number)?;
     let station = station_of(alloc, seats, other, shape)?;
@@ -103,8 +103,8 @@ fn add_station(
 }
 
 /// Looks the devices of the nodes up. Of two nodes with one number the first counts.
-fn look_up(alloc: Global, nodes: &[(u8, &Device)]) -> Result<Vec<Option<Station>>, AllocError>
-    ensures { IfOk result (λ seats. devices_in (numbered 0 seats.items) ≡ devices_of (nodes_of nodes.now)) }
+fn look_up(alloc: Global, nodes: &[(u8, &DataSheet)]) -> Result<Vec<Option<Station>>, AllocError>
+    ensures { IfOk result (λ seats. devices_in (seats_by_number 0 seats.items) ≡ devices_of (nodes_of nodes.now)) }
 {
     let mut seats = empty_seats(alloc)?;
     let mut last = 0;
@@ -129,7 +129,7 @@ fn entry_width(entry: &Entry) -> Option<u8>
 impl Stations {
     /// Looks the devices of nodes up. Of two nodes with one number the first counts. Takes time by
     /// the number of the devices' entries and its logarithm.
-    pub fn new(alloc: Global, nodes: &[(u8, &Device)]) -> Result<Stations, AllocError>
+    pub fn new(alloc: Global, nodes: &[(u8, &DataSheet)]) -> Result<Stations, AllocError>
         ensures { IfOk result (λ stations. devices_in stations ≡ devices_of (nodes_of nodes.now)) }
     {
         let seats = look_up(alloc, nodes)?;

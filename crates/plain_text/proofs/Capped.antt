@@ -9,7 +9,7 @@ use Rattle.std.proofs.lemmas.Bool.{and_parts, cases_lt, lt-ltb, ltb-true}
 use Rattle.std.proofs.lemmas.Int.Digits.{digits_value-lt}
 use Rattle.std.proofs.lemmas.List.{at_drop_more}
 use Rattle.std.proofs.Math.Nat.{mul-le-mul_left, pow-le-pow_left, pow-le-pow_right, pow-suc}
-use Rattle.plain_text.specs.Digits.{digits_number, capped}
+use Rattle.plain_text.specs.Digits.{digits_number, within_cap}
 
 -- the number that digits write behind those of n
 abbrev pub digits_behind : ℕ → ℕ → List ℕ → Option ℕ
@@ -32,10 +32,10 @@ values_alike base m n (c ∷ cs) h e = values_alike base (m * base + digit_value
     (n * base + digit_value c) cs h (grows base m n (digit_value c) h e)
 
 capped_alike : (base m n : ℕ) (cs : List ℕ) → 1 ≤ base → min m (2 ^ 64) ≡ min n (2 ^ 64)
-    → capped (digits_behind base m cs) ≡ capped (digits_behind base n cs)
+    → within_cap (digits_behind base m cs) ≡ within_cap (digits_behind base n cs)
 capped_alike base m n cs h e =
-    elim (list_all (λ d. is_digit d base) cs) as (λ b. capped (if b then Some (digits_value_after base m cs) else None)
-    ≡ capped (if b then Some (digits_value_after base n cs) else None)) [
+    elim (list_all (λ d. is_digit d base) cs) as (λ b. within_cap (if b then Some (digits_value_after base m cs) else None)
+    ≡ within_cap (if b then Some (digits_value_after base n cs) else None)) [
       | true ↦ ap Some (values_alike base m n cs h e)
       | false ↦ refl
     ]
@@ -49,23 +49,23 @@ front base n c cs h = ap (λ (b : Bool). if b && list_all (λ d. is_digit d base
 -- one more digit d, after which the number so far is m
 pub digit_more : (base n i m d : ℕ) (cs : List ℕ) (total : Option ℕ) → 1 ≤ base → i < length cs
     → digit_value (get_or cs i 0) ≡ d → d < base → m ≡ min (n * base + d) (2 ^ 64)
-    → capped (digits_behind base n (drop i cs)) ≡ total → capped (digits_behind base m (drop (i + 1) cs)) ≡ total
+    → within_cap (digits_behind base n (drop i cs)) ≡ total → within_cap (digits_behind base m (drop (i + 1) cs)) ≡ total
 digit_more base n i m d cs total h lt is low now so_far =
-    let more = at_drop_more (λ (xs : List ℕ). capped (digits_behind base n xs)) cs i 0 lt in
+    let more = at_drop_more (λ (xs : List ℕ). within_cap (digits_behind base n xs)) cs i 0 lt in
     let test : is_digit (get_or cs i 0) base ≡ true = lt-ltb (digit_value (get_or cs i 0)) base (omega arith) in
-    let step = ap capped (front base n (get_or cs i 0) (drop (i + 1) cs) test) in
+    let step = ap within_cap (front base n (get_or cs i 0) (drop (i + 1) cs) test) in
     let alike : min m (2 ^ 64) ≡ min (n * base + digit_value (get_or cs i 0)) (2 ^ 64) = rw is (omega arith) in
     capped_alike base m (n * base + digit_value (get_or cs i 0)) (drop (i + 1) cs) h alike ∙ sym step ∙ sym more
     ∙ so_far
 
 no_digit_left : (base n : ℕ) (rest : List ℕ) (total : Option ℕ) → length rest ≡ 0 → n ≤ 2 ^ 64
-    → capped (digits_behind base n rest) ≡ total → Some n ≡ total
+    → within_cap (digits_behind base n rest) ≡ total → Some n ≡ total
 no_digit_left base n [] total none low so_far = let same : n ≡ min n (2 ^ 64) = omega arith in ap Some same ∙ so_far
 no_digit_left base n (c ∷ rest) total none low so_far = absurd (omega arith)
 
 -- behind the last digit the number is the whole
 pub digits_all : (base n i : ℕ) (cs : List ℕ) (total : Option ℕ) → length cs ≤ i → n ≤ 2 ^ 64
-    → capped (digits_behind base n (drop i cs)) ≡ total → Some n ≡ total
+    → within_cap (digits_behind base n (drop i cs)) ≡ total → Some n ≡ total
 digits_all base n i cs total end low so_far =
     no_digit_left base n (drop i cs) total (omega (arith, length-drop i cs)) low so_far
 
@@ -105,14 +105,14 @@ digits_number-lt base n [] e = cc
 digits_number-lt base n (c ∷ cs) e = below base n (c ∷ cs) (list_all (λ d. is_digit d base) (c ∷ cs)) refl e
 
 -- a number below the limit is not cut
-uncut : (o : Option ℕ) → ((n : ℕ) → o ≡ Some n → n < 2 ^ 64) → capped o ≡ o
+uncut : (o : Option ℕ) → ((n : ℕ) → o ≡ Some n → n < 2 ^ 64) → within_cap o ≡ o
 uncut None h = refl
 uncut (Some n) h = let low = h n refl in ap Some (omega arith)
 
 -- fifteen digits write a number below the limit
-pub capped-short : (base : ℕ) (text : List ℕ) → 2 ≤ base → base ≤ 16 → length text ≤ 15
-    → capped (digits_number base text) ≡ digits_number base text
-capped-short base text low high few = uncut (digits_number base text) small
+pub within_cap-short : (base : ℕ) (text : List ℕ) → 2 ≤ base → base ≤ 16 → length text ≤ 15
+    → within_cap (digits_number base text) ≡ digits_number base text
+within_cap-short base text low high few = uncut (digits_number base text) small
   where
     small : (n : ℕ) → digits_number base text ≡ Some n → n < 2 ^ 64
     small n e =
@@ -122,11 +122,11 @@ capped-short base text low high few = uncut (digits_number base text) small
         omega (arith, bound, longer, larger)
 
 -- what is read is no more than what the digits write
-pub capped-lt : (base : ℕ) (text : List ℕ) (o : Option ℕ) → o ≡ capped (digits_number base text)
+pub within_cap-lt : (base : ℕ) (text : List ℕ) (o : Option ℕ) → o ≡ within_cap (digits_number base text)
     → IfSome o (λ n. n < base ^ length text)
-capped-lt base text o e = by (digits_number base text) (λ n. digits_number-lt base n text) o e
+within_cap-lt base text o e = by (digits_number base text) (λ n. digits_number-lt base n text) o e
   where
-    by : (whole : Option ℕ) → ((n : ℕ) → whole ≡ Some n → n < base ^ length text) → (o : Option ℕ) → o ≡ capped whole
+    by : (whole : Option ℕ) → ((n : ℕ) → whole ≡ Some n → n < base ^ length text) → (o : Option ℕ) → o ≡ within_cap whole
         → IfSome o (λ n. n < base ^ length text)
     by None h None e = tt
     by None h (Some m) e = cc

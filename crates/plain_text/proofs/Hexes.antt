@@ -11,7 +11,7 @@ use Rattle.std.specs.Fmt.{digit_glyph}
 use Rattle.std.specs.List.{flat_map}
 use Rattle.plain_text.specs.Lines.{line_feed, line_count}
 use Rattle.plain_text.specs.Digits.{byte_digits}
-use Rattle.plain_text.specs.Hex.{hex_line, rows, row_count, hex_text, spaced}
+use Rattle.plain_text.specs.Hex.{hex_line, rows, row_count, hex_text, digits_and_space}
 
 one_more : (n k : ℕ) → 0 < n → k ≡ n - 16 → (n + 15) / 16 ≡ suc ((k + 15) / 16)
 one_more n k some e = omega arith
@@ -46,7 +46,7 @@ hex_step out new row rest after all e r a some inv =
 
 -- what is added for them
 abbrev four : ℕ → ℕ → ℕ → ℕ → ℕ → List ℕ
-four a b c d end = spaced a (spaced b (spaced c (byte_digits d ++ end ∷ [])))
+four a b c d end = digits_and_space a (digits_and_space b (digits_and_space c (byte_digits d ++ end ∷ [])))
 
 four_is : (a b c d end : ℕ) (after : List ℕ) → end ≡ cond (length after == 0) line_feed (byte " ")
     → four a b c d end ++ hex_line after ≡ hex_line (a ∷ b ∷ c ∷ d ∷ after)

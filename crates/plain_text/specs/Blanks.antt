@@ -32,5 +32,5 @@ abbrev pub without_last_blanks : List ℕ → List ℕ
 without_last_blanks text = trim_end is_blank text
 
 -- without the blanks at both ends
-abbrev pub trimmed : List ℕ → List ℕ
-trimmed text = without_last_blanks (without_first_blanks text)
+abbrev pub trim : List ℕ → List ℕ
+trim text = without_last_blanks (without_first_blanks text)

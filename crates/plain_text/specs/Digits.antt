@@ -12,8 +12,8 @@ digits_number base (c ∷ cs) = if list_all (λ d. is_digit d base) (c ∷ cs) t
     else None
 
 -- a number cut at 2^64, so that any digits can be read
-abbrev pub capped : Option ℕ → Option ℕ
-capped o = option_map (λ n. min n (2 ^ 64)) o
+abbrev pub within_cap : Option ℕ → Option ℕ
+within_cap o = option_map (λ n. min n (2 ^ 64)) o
 
 -- a byte as two upper-case hexadecimal digits
 abbrev pub byte_digits : ℕ → List ℕ

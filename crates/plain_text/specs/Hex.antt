@@ -12,8 +12,8 @@ hex_line (b ∷ []) = byte_digits b ++ line_feed ∷ []
 hex_line (b ∷ c ∷ cs) = byte_digits b ++ byte " " ∷ hex_line (c ∷ cs)
 
 -- a byte's digits with a space behind them, and what follows
-abbrev pub spaced : ℕ → List ℕ → List ℕ
-spaced b more = byte_digits b ++ byte " " ∷ more
+abbrev pub digits_and_space : ℕ → List ℕ → List ℕ
+digits_and_space b more = byte_digits b ++ byte " " ∷ more
 
 -- the first rows of 16 bytes, the last of which may be shorter
 abbrev pub rows : ℕ → List ℕ → List (List ℕ)

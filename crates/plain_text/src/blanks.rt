@@ -1,7 +1,7 @@
 //! Blanks, which are spaces and tabs, at the ends of a text.
 ghost use Rattle.std.specs.Prelude.{◌≡◌, ◌≤◌, length};
 ghost use Rattle.std.specs.List.{prefix_len, suffix_len};
-ghost use Rattle.plain_text.specs.Blanks.{is_blank, is_blank_line, without_first_blanks, without_last_blanks, trimmed};
+ghost use Rattle.plain_text.specs.Blanks.{is_blank, is_blank_line, without_first_blanks, without_last_blanks, trim};
 
 /// Whether a byte is a space or a tab.
 pub fn is_blank(byte: u8) -> bool
@@ -51,8 +51,8 @@ pub fn without_last_blanks(text: &[u8]) -> &[u8]
 }
 
 /// A text without the blanks at both ends.
-pub fn trimmed(text: &[u8]) -> &[u8]
-    ensures { result.now ≡ trimmed text.now }
+pub fn trim(text: &[u8]) -> &[u8]
+    ensures { result.now ≡ trim text.now }
 {
     without_last_blanks(without_first_blanks(text))
 }

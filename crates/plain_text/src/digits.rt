@@ -2,7 +2,7 @@
 ghost use Rattle.std.specs.Prelude.{◌≡◌, ◌<◌, ◌≤◌, ◌^◌, true, length, IfSome};
 ghost use Rattle.std.specs.Char.{digit_value};
 ghost use Rattle.std.specs.Fmt.{digit_glyph};
-ghost use Rattle.plain_text.specs.Digits.{digits_number, capped, byte_digits, index_digits, identifier_digits};
+ghost use Rattle.plain_text.specs.Digits.{digits_number, within_cap, byte_digits, index_digits, identifier_digits};
 
 /// The value of each byte as a digit, letters in any case, and 36 where it is neither digit nor letter.
 const DIGIT_VALUES: [u8; 256] = [
@@ -35,7 +35,7 @@ fn read_short(base: u32, text: &[u8]) -> Option<u64>
     requires high { base ≤ 16 }
     requires some { 0 < length text.now }
     requires few { length text.now ≤ 15 }
-    ensures { result ≡ capped (digits_number base text.now) }
+    ensures { result ≡ within_cap (digits_number base text.now) }
 {
     let mut number: u64 = 0;
     for byte in text {
@@ -56,7 +56,7 @@ fn read_long(base: u32, text: &[u8]) -> Option<u128>
     requires low { 2 ≤ base }
     requires high { base ≤ 16 }
     requires some { 0 < length text.now }
-    ensures { result ≡ capped (digits_number base text.now) }
+    ensures { result ≡ within_cap (digits_number base text.now) }
 {
     let mut number: u128 = 0;
     for byte in text {
@@ -74,7 +74,7 @@ fn read_long(base: u32, text: &[u8]) -> Option<u128>
 pub fn read_digits(base: u32, text: &[u8]) -> Option<u128>
     requires low { 2 ≤ base }
     requires high { base ≤ 16 }
-    ensures number { result ≡ capped (digits_number base text.now) }
+    ensures number { result ≡ within_cap (digits_number base text.now) }
     ensures exact { length text.now ≤ 15 → result ≡ digits_number base text.now }
     ensures bound { IfSome result (λ n. n < base ^ length text.now) }
 {

@@ -3,7 +3,7 @@ ghost use Rattle.std.specs.Prelude.{◌≡◌, ◌==◌, ◌++◌, ◌∷◌, []
 ghost use Rattle.std.specs.Str.{byte};
 ghost use Rattle.plain_text.specs.Digits.{byte_digits};
 ghost use Rattle.plain_text.specs.Lines.{line_feed};
-ghost use Rattle.plain_text.specs.Hex.{hex_line, hex_text, spaced};
+ghost use Rattle.plain_text.specs.Hex.{hex_line, hex_text, digits_and_space};
 
 use crate::digits::byte_digits;
 use std::alloc::{AllocError, Global};
@@ -52,7 +52,7 @@ fn end_before(after: &[u8]) -> u8
 
 /// Adds four bytes at once.
 fn push_four(out: &mut Vec<u8>, a: u8, b: u8, c: u8, d: u8, end: u8) -> Result<(), AllocError>
-    ensures { OnOk result (out.new.items ≡ out.old.items ++ (spaced a (spaced b (spaced c (byte_digits d ++ end ∷ []))))) }
+    ensures { OnOk result (out.new.items ≡ out.old.items ++ (digits_and_space a (digits_and_space b (digits_and_space c (byte_digits d ++ end ∷ []))))) }
 {
     let a = byte_digits(a);
     let b = byte_digits(b);

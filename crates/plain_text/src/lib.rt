@@ -13,7 +13,7 @@ mod reply_head;
 pub mod reply_laws;
 mod words;
 
-pub use blanks::{is_blank, is_blank_line, trimmed, without_first_blanks, without_last_blanks};
+pub use blanks::{is_blank, is_blank_line, trim, without_first_blanks, without_last_blanks};
 pub use digits::{byte_digits, identifier_digits, index_digits, read_digits, upper_digit};
 pub use hex::hex_text;
 pub use lines::{line_count, next_line, split_once, without_crs};

@@ -3,7 +3,7 @@ use Rattle.std.specs.Prelude.{ℕ, Bool, ◌||◌, ◌&&◌, not, List, length, 
 use Rattle.std.specs.Prelude.{Err}
 use Rattle.std.specs.List.{list_any, list_all}
 use Rattle.std.specs.Str.{byte, bytes_eq}
-use Rattle.plain_text.specs.Blanks.{tab, trimmed}
+use Rattle.plain_text.specs.Blanks.{tab, trim}
 use Rattle.base.specs.Ranges.{is_between}
 use Rattle.cia301.specs.PdoObjects.{is_of_pdos}
 use Rattle.project_edits.specs.declared.fault.EditFault.{EditFault}
@@ -35,13 +35,13 @@ is_plain text = is_between 1 4000 (length text) && not (list_any is_control text
 
 -- a text that an edit keeps: a plain one without blanks at its ends
 abbrev pub is_text : List ℕ → Bool
-is_text text = is_plain text && bytes_eq (trimmed text) text
+is_text text = is_plain text && bytes_eq (trim text) text
 
 -- ---- numbers
 
 -- a number that passes a test
-abbrev pub limited : (ℕ → Bool) → ℕ → Result ℕ EditFault
-limited fits n = if fits n then Ok n else Err Range
+abbrev pub number_within : (ℕ → Bool) → ℕ → Result ℕ EditFault
+number_within fits n = if fits n then Ok n else Err Range
 
 -- the number of a node, or 0 for all nodes (CiA 301)
 abbrev pub is_node_or_all : ℕ → Bool

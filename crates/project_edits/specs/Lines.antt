@@ -11,10 +11,10 @@ use Rattle.project_edits.specs.declared.edit.Edit.TheVariants as edit
 use Rattle.project_edits.specs.Versions.{number_of as version_number}
 
 -- words with one space between two of them
-abbrev pub spaced : List (List ℕ) → List ℕ
-spaced [] = []
-spaced (word ∷ []) = word
-spaced (word ∷ next ∷ words) = word ++ byte " " ∷ spaced (next ∷ words)
+abbrev pub line_of_words : List (List ℕ) → List ℕ
+line_of_words [] = []
+line_of_words (word ∷ []) = word
+line_of_words (word ∷ next ∷ words) = word ++ byte " " ∷ line_of_words (next ∷ words)
 
 -- what happens to a node
 unfoldable pub event_words : Event → List (List ℕ)
@@ -58,7 +58,7 @@ words_of (edit.DropEvent number) = codes "drop-event" ∷ decimal number ∷ []
 
 -- the line of an edit, without its LF
 unfoldable pub line_of : Edit → List ℕ
-line_of edit = spaced (words_of edit)
+line_of edit = line_of_words (words_of edit)
 
 -- the lines that follow it: those of an EDS
 abbrev pub block_of : Edit → List ℕ

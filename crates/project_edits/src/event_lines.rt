@@ -5,7 +5,7 @@
 ghost use Rattle.std.specs.Prelude.{◌≡◌, ◌++◌, ◌∷◌, OnOk, OnErr, codes, decimal};
 ghost use Rattle.std.specs.Io.{StartsWith};
 ghost use Rattle.co_scenario.specs.declared.event.Event.TheVariants as event;
-ghost use Rattle.project_edits.specs.Lines.{event_words, spaced, text_of};
+ghost use Rattle.project_edits.specs.Lines.{event_words, line_of_words, text_of};
 ghost use Rattle.project_edits.specs.declared.edit.Edit.TheVariants as edit;
 ghost use Rattle.std.specs.Str.{byte};
 
@@ -22,7 +22,7 @@ fn write_set(
     text: &[u8],
 ) -> Result<(), AllocError>
     ensures written { OnOk result (out.new.items
-        ≡ out.old.items ++ byte " " ∷ spaced (event_words (event.Set node index sub text.now))) }
+        ≡ out.old.items ++ byte " " ∷ line_of_words (event_words (event.Set node index sub text.now))) }
     ensures kept { OnErr result (StartsWith out.new.items out.old.items) }
 {
     write_word(out, b"set")?;
@@ -34,7 +34,7 @@ fn write_set(
 /// Writes ` power ID on` or ` power ID off`.
 fn write_power(out: &mut Vec<u8>, node: u8, on: bool) -> Result<(), AllocError>
     ensures written { OnOk result (out.new.items
-        ≡ out.old.items ++ byte " " ∷ spaced (event_words (event.Power node on))) }
+        ≡ out.old.items ++ byte " " ∷ line_of_words (event_words (event.Power node on))) }
     ensures kept { OnErr result (StartsWith out.new.items out.old.items) }
 {
     write_word(out, b"power")?;
@@ -46,7 +46,7 @@ fn write_power(out: &mut Vec<u8>, node: u8, on: bool) -> Result<(), AllocError>
 /// Writes ` nmt CMD ID`.
 fn write_command(out: &mut Vec<u8>, node: u8, command: NmtCommand) -> Result<(), AllocError>
     ensures written { OnOk result (out.new.items
-        ≡ out.old.items ++ byte " " ∷ spaced (event_words (event.Nmt node command))) }
+        ≡ out.old.items ++ byte " " ∷ line_of_words (event_words (event.Nmt node command))) }
     ensures kept { OnErr result (StartsWith out.new.items out.old.items) }
 {
     write_word(out, b"nmt")?;
@@ -57,7 +57,7 @@ fn write_command(out: &mut Vec<u8>, node: u8, command: NmtCommand) -> Result<(),
 
 /// Writes a space and what happens to a node.
 fn write_words(out: &mut Vec<u8>, event: &Event) -> Result<(), AllocError>
-    ensures written { OnOk result (out.new.items ≡ out.old.items ++ byte " " ∷ spaced (event_words event.now)) }
+    ensures written { OnOk result (out.new.items ≡ out.old.items ++ byte " " ∷ line_of_words (event_words event.now)) }
     ensures kept { OnErr result (StartsWith out.new.items out.old.items) }
 {
     match event {

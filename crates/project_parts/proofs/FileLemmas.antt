@@ -7,7 +7,7 @@ use Rattle.std.proofs.lemmas.Bool.{eq-eqb}
 use Rattle.std.proofs.lemmas.Cmp.{nat_cmp_total, nat_list_cmp_total}
 use Rattle.std.proofs.lemmas.Map.Lookups.{exact_unsigned}
 use Rattle.base.proofs.TableLemmas.{alike}
-use Rattle.ini_text.specs.Content.{Content as Device}
+use Rattle.ini_text.specs.Content.{Content as DataSheet}
 use Rattle.project_edits.specs.declared.edit.Edit.{Edit}
 use Rattle.project_edits.specs.declared.edit.Edit.TheVariants as edit
 use Rattle.project_messages.specs.Messages.{name_cmp, Named}
@@ -16,10 +16,11 @@ use Rattle.co_project.specs.declared.node.Node.{Node}
 use Rattle.co_project.specs.Project.{first, Content as Project}
 use Rattle.co_project.specs.Tables.{node_at, text_at, with_need, Nodes, Texts}
 use Rattle.project_parts.specs.Made.{plan_made, writes_made}
-use Rattle.project_parts.specs.Given.{dcf_of_node, device_at, given, plan_from, writes_from, writes_of_node}
+use Rattle.project_parts.specs.Given.{dcf_of_node, inputs_of, plan_from, writes_from, writes_of_node}
+use Rattle.project_plan.specs.Network.{device_at}
 use Rattle.project_parts.specs.Reached.{of_node, of_nodes}
 use Rattle.project_parts.specs.Given.{OfConcise, OfDcf, OfDevice, OfPlan, OfWrites}
-use Rattle.project_parts.specs.Touched.{goes_into, is_of_network, is_of_node, is_of_text, is_planned, says_rate, touched}
+use Rattle.project_parts.specs.Touched.{goes_into, is_of_network, is_of_node, is_of_text, is_planned, says_rate, is_touched}
 use Rattle.project_parts.specs.Touch.{touch_of}
 use Rattle.project_parts.specs.declared.dcf_from.DcfFrom.{DcfFrom}
 use Rattle.project_parts.specs.declared.plan_from.PlanFrom.{PlanFrom}
@@ -43,7 +44,7 @@ is_filed others = true
 abbrev core : ℕ → Texts → Nodes → Named → Project
 core rate t n m = record first { bitrate = rate; texts = t; nodes = n; messages = m }
 
-in_core : (p : Project) (q : Part) → is_filed q ≡ true → given p q ≡ given (core p.bitrate p.texts p.nodes p.messages) q
+in_core : (p : Project) (q : Part) → is_filed q ≡ true → inputs_of p q ≡ inputs_of (core p.bitrate p.texts p.nodes p.messages) q
 in_core p (part.Device e) file = refl
 in_core p part.Plan file = refl
 in_core p (part.Writes n) file = refl
@@ -53,7 +54,7 @@ in_core p others file = cc
 
 -- what no bit rate changes
 any_rate : (rate other : ℕ) (t : Texts) (n : Nodes) (m : Named) (q : Part) → says_rate q ≡ false
-    → is_filed q ≡ true → given (core rate t n m) q ≡ given (core other t n m) q
+    → is_filed q ≡ true → inputs_of (core rate t n m) q ≡ inputs_of (core other t n m) q
 any_rate rate other t n m (part.Device e) h file = refl
 any_rate rate other t n m part.Plan h file = refl
 any_rate rate other t n m (part.Writes k) h file = refl
@@ -63,29 +64,29 @@ any_rate rate other t n m others h file = cc
 
 module _ (p new : Project) where
   same_core : new.texts ≡ p.texts → new.nodes ≡ p.nodes → new.messages ≡ p.messages → (q : Part)
-      → given (core new.bitrate new.texts new.nodes new.messages) q
-      ≡ given (core new.bitrate p.texts p.nodes p.messages) q
+      → inputs_of (core new.bitrate new.texts new.nodes new.messages) q
+      ≡ inputs_of (core new.bitrate p.texts p.nodes p.messages) q
   same_core t n m q =
-      ap (λ (x : Texts). given (core new.bitrate x new.nodes new.messages) q) t
-      ∙ ap (λ (x : Nodes). given (core new.bitrate p.texts x new.messages) q) n
-      ∙ ap (λ (x : Named). given (core new.bitrate p.texts p.nodes x) q) m
+      ap (λ (x : Texts). inputs_of (core new.bitrate x new.nodes new.messages) q) t
+      ∙ ap (λ (x : Nodes). inputs_of (core new.bitrate p.texts x new.messages) q) n
+      ∙ ap (λ (x : Named). inputs_of (core new.bitrate p.texts p.nodes x) q) m
 
   pub settings_left : new.bitrate ≡ p.bitrate → new.texts ≡ p.texts → new.nodes ≡ p.nodes
-      → new.messages ≡ p.messages → (q : Part) → is_filed q ≡ true → given new q ≡ given p q
+      → new.messages ≡ p.messages → (q : Part) → is_filed q ≡ true → inputs_of new q ≡ inputs_of p q
   settings_left r t n m q file =
-      in_core new q file ∙ same_core t n m q ∙ ap (λ (x : ℕ). given (core x p.texts p.nodes p.messages) q) r
+      in_core new q file ∙ same_core t n m q ∙ ap (λ (x : ℕ). inputs_of (core x p.texts p.nodes p.messages) q) r
       ∙ sym (in_core p q file)
 
   -- what doesn't say the bit rate, where that is another
   pub rate_left : new.texts ≡ p.texts → new.nodes ≡ p.nodes → new.messages ≡ p.messages → (q : Part)
-      → says_rate q ≡ false → is_filed q ≡ true → given new q ≡ given p q
+      → says_rate q ≡ false → is_filed q ≡ true → inputs_of new q ≡ inputs_of p q
   rate_left t n m q h file =
       in_core new q file ∙ same_core t n m q ∙ any_rate new.bitrate p.bitrate p.texts p.nodes p.messages q h file
       ∙ sym (in_core p q file)
 
   -- devices, where the texts are the same
   pub devices_left : new.texts ≡ p.texts → (q : Part) → is_planned q ≡ false → is_filed q ≡ true
-      → given new q ≡ given p q
+      → inputs_of new q ≡ inputs_of p q
   devices_left t (part.Device e) h file = ap (λ (x : Texts). option_map OfDevice (text_at x e)) t
   devices_left t part.Plan h file = cc
   devices_left t (part.Writes n) h file = cc
@@ -96,7 +97,7 @@ module _ (p new : Project) where
   -- other devices, where a text is another
   pub texts_left : (name : List ℕ) (o : Option (List ℕ))
       → ((e : List ℕ) → text_at new.texts e ≡ cond (eq_by_cmp name_cmp e name) o (text_at p.texts e))
-      → (q : Part) → is_of_text name q ≡ false → is_filed q ≡ true → given new q ≡ given p q
+      → (q : Part) → is_of_text name q ≡ false → is_filed q ≡ true → inputs_of new q ≡ inputs_of p q
   texts_left name o t (part.Device e) h file =
       ap (option_map OfDevice) (t e ∙ ap (λ b. cond b o (text_at p.texts e)) h)
   texts_left name o t part.Plan h file = cc
@@ -111,10 +112,10 @@ module _ (p : Project) (id : ℕ) (node other : Node) (there : get p.nodes id �
   abbrev changed : Project
   changed = record p { nodes = insert p.nodes id other }
 
-  abbrev by_eds : ℕ × List ℕ → Option (ℕ × Device)
+  abbrev by_eds : ℕ × List ℕ → Option (ℕ × DataSheet)
   by_eds e = option_map (λ d. (e.0, d)) (device_at p e.1)
 
-  abbrev plan_with : List (ℕ × Device) → PlanFrom
+  abbrev plan_with : List (ℕ × DataSheet) → PlanFrom
   plan_with ds = record { devices = ds; messages = p.messages }
 
   same_plan : plan_from changed ≡ plan_from p
@@ -169,7 +170,7 @@ module _ (p : Project) (id : ℕ) (node other : Node) (there : get p.nodes id �
         node = n;
       }) (writes_with n f node)) (node_at p.nodes n)
 
-  pub params_left : (q : Part) → is_of_node id q ≡ false → is_filed q ≡ true → given changed q ≡ given p q
+  pub params_left : (q : Part) → is_of_node id q ≡ false → is_filed q ≡ true → inputs_of changed q ≡ inputs_of p q
   params_left (part.Device e) h file = refl
   params_left part.Plan h file = ap (λ f. Some (OfPlan f)) same_plan
   params_left (part.Writes n) h file = ap (option_map OfWrites) (same_writes n h)
@@ -197,7 +198,7 @@ module _ (p : Project) (id : ℕ) (node : Node) (mandatory : Bool) (there : get 
       made_alike p id node needed_node there refl (writes_of_node needed n) refl n
       ∙ ap (writes_by p id node needed_node there refl n) needed_plan
 
-  pub need_left : (q : Part) → is_filed q ≡ true → given needed q ≡ given p q
+  pub need_left : (q : Part) → is_filed q ≡ true → inputs_of needed q ≡ inputs_of p q
   need_left (part.Device e) file = refl
   need_left part.Plan file = ap (λ f. Some (OfPlan f)) needed_plan
   need_left (part.Writes n) file = ap (option_map OfWrites) (needed_writes n)
@@ -221,23 +222,23 @@ not_planned id others file h = cc
 
 module _ (p : Project) (q : Part) (file : is_filed q ≡ true) where
   params_as : (id : ℕ) (change : Params → Params) (o : Option Node) → get p.nodes id ≡ o → is_of_node id q ≡ false
-      → given (record p { nodes = with_params p.nodes id change o }) q ≡ given p q
+      → inputs_of (record p { nodes = with_params p.nodes id change o }) q ≡ inputs_of p q
   params_as id change None none apart = refl
   params_as id change (Some node) there apart =
       params_left p id node (other_params change node) there refl q apart file
 
   need_as : (id : ℕ) (mandatory : Bool) (o : Option Node) → get p.nodes id ≡ o
-      → given (record p { nodes = with_node p.nodes id (with_need mandatory) o }) q ≡ given p q
+      → inputs_of (record p { nodes = with_node p.nodes id (with_need mandatory) o }) q ≡ inputs_of p q
   need_as id mandatory None none = refl
   need_as id mandatory (Some node) there = need_left p id node mandatory there q file
 
   -- neither bit rate, texts, nodes nor messages
   nothing_left : (new : Project) → new.bitrate ≡ p.bitrate → new.texts ≡ p.texts → new.nodes ≡ p.nodes
-      → new.messages ≡ p.messages → given new q ≡ given p q
+      → new.messages ≡ p.messages → inputs_of new q ≡ inputs_of p q
   nothing_left new r t n m = settings_left p new r t n m q file
 
   -- an edit leaves what it doesn't touch as it was
-  pub file_left : (e : Edit) → goes_into p.events (touch_of e) q ≡ false → given (made p e) q ≡ given p q
+  pub file_left : (e : Edit) → goes_into p.events (touch_of e) q ≡ false → inputs_of (made p e) q ≡ inputs_of p q
   file_left (edit.Version version) h = nothing_left (made p (edit.Version version)) refl refl refl refl
   file_left (edit.Bitrate rate) h = rate_left p (made p (edit.Bitrate rate)) refl refl refl q h file
   file_left (edit.Horizon time) h = nothing_left (made p (edit.Horizon time)) refl refl refl refl
@@ -296,7 +297,7 @@ module _ (p : Project) where
   same_eds id change same (Some node) there = changed_same id node (change node) there (same node)
 
   -- an edit that doesn't touch the plan leaves the nodes with their EDS
-  pub nodes_left : (e : Edit) → touched p e part.Plan ≡ false → SameNodes (made p e)
+  pub nodes_left : (e : Edit) → is_touched p e part.Plan ≡ false → SameNodes (made p e)
   nodes_left (edit.Version version) h = refl
   nodes_left (edit.Bitrate rate) h = refl
   nodes_left (edit.Horizon time) h = refl

@@ -23,10 +23,11 @@ use Rattle.project_parts.proofs.EntriesAlike.{entries_alike, shown}
 use Rattle.network_image.specs.Image.{mandatory_of, roster_of_project, start_mode_of, window_steps}
 use Rattle.network_image.specs.Steps.{steps_in}
 use Rattle.project_plan.specs.Events.{shape_of_node, Shapes}
-use Rattle.project_parts.specs.Given.{device_at, device_from, device_of_node, given, roster_from}
+use Rattle.project_parts.specs.Given.{device_from, device_of_node, inputs_of, roster_from}
+use Rattle.project_plan.specs.Network.{device_at}
 use Rattle.project_parts.specs.Given.{OfNode, OfRoster, OfWindow}
 use Rattle.project_parts.specs.Made.{device_parts}
-use Rattle.project_parts.specs.Touched.{is_window_at, is_window_of, touched}
+use Rattle.project_parts.specs.Touched.{is_window_at, is_window_of, is_touched}
 use Rattle.project_parts.specs.declared.device_at.DeviceAt.{DeviceAt}
 use Rattle.project_parts.specs.declared.roster_from.RosterFrom.{RosterFrom}
 use Rattle.project_parts.specs.declared.part.Part.{Part}
@@ -109,7 +110,7 @@ module _ (p : Project) where
       (same_mandatory p.nodes id change (get p.nodes id) refl)
       ∙ ap (roster_with (mandatory_of p.nodes)) (same_numbers p.nodes id change (get p.nodes id) refl)
 
-  pub roster_left : (e : Edit) → touched p e part.Roster ≡ false → roster_from (made p e) ≡ roster_from p
+  pub roster_left : (e : Edit) → is_touched p e part.Roster ≡ false → roster_from (made p e) ≡ roster_from p
   unfolding roster_of_project
   roster_left (edit.Version version) h = cc
   roster_left (edit.Bitrate rate) h = cc
@@ -160,7 +161,7 @@ module _ (p : Project) where
       → device_by n (get (with_params p.nodes id change (get p.nodes id)) n) ≡ device_by n (get p.nodes n)
   params_left id change n = node_left id (other_params change) (λ node. refl) n (get p.nodes id) refl
 
-  pub device_left : (e : Edit) (n : ℕ) → touched p e (part.Node n) ≡ false → device_from (made p e) n ≡ device_from p n
+  pub device_left : (e : Edit) (n : ℕ) → is_touched p e (part.Node n) ≡ false → device_from (made p e) n ≡ device_from p n
   device_left (edit.Version version) n h = refl
   device_left (edit.Bitrate rate) n h = refl
   device_left (edit.Horizon time) n h = refl
@@ -190,14 +191,14 @@ module _ (p : Project) where
 
   -- ---- the windows
 
-  shapes_left : (e : Edit) → ((n : ℕ) → touched p e (part.Node n) ≡ false) → shape_of_node (made p e) ≡ shape_of_node p
+  shapes_left : (e : Edit) → ((n : ℕ) → is_touched p e (part.Node n) ≡ false) → shape_of_node (made p e) ≡ shape_of_node p
   shapes_left e h = λ i n. by n i
     where
       by : (n : ℕ) → shape_of_node (made p e) n ≡ shape_of_node p n
       by n = shapes_are (made p e) n ∙ ap (option_map (λ d. (device_parts d).shape)) (device_left e n (h n)) ∙ sym (shapes_are p n)
 
   module _ (i : ℕ) where
-    steps_by : (e : Edit) → ((n : ℕ) → touched p e (part.Node n) ≡ false)
+    steps_by : (e : Edit) → ((n : ℕ) → is_touched p e (part.Node n) ≡ false)
         → steps_in (shape_of_node p) (made p e).events i ≡ steps_in (shape_of_node p) p.events i
         → window_steps (made p e) i ≡ window_steps p i
     unfolding window_steps
@@ -206,7 +207,7 @@ module _ (p : Project) where
     abbrev lies : Option TimedEvent → Bool
     lies o = option_map_or (λ (e : TimedEvent). is_window_of i e.time) o false
 
-    pub window_left : (e : Edit) → touched p e (part.Window i) ≡ false → window_steps (made p e) i ≡ window_steps p i
+    pub window_left : (e : Edit) → is_touched p e (part.Window i) ≡ false → window_steps (made p e) i ≡ window_steps p i
     window_left (edit.Version version) h = steps_by (edit.Version version) (λ n. refl) refl
     window_left (edit.Bitrate rate) h = steps_by (edit.Bitrate rate) (λ n. refl) refl
     window_left (edit.Horizon time) h = steps_by (edit.Horizon time) (λ n. refl) refl
@@ -247,7 +248,7 @@ module _ (p : Project) where
 
 -- ---- all parts
 
-left : (p : Project) (e : Edit) (q : Part) → touched p e q ≡ false → given (made p e) q ≡ given p q
+left : (p : Project) (e : Edit) (q : Part) → is_touched p e q ≡ false → inputs_of (made p e) q ≡ inputs_of p q
 left p e (part.Device name) apart = file_left p (part.Device name) refl e apart
 left p e part.Plan apart = file_left p part.Plan refl e apart
 left p e (part.Writes n) apart = file_left p (part.Writes n) refl e apart
@@ -259,6 +260,6 @@ left p e part.Diagnostics apart = cc
 left p e (part.Window i) apart = ap (λ (steps : List TimedStep). Some (OfWindow steps)) (window_left p i e apart)
 
 -- an edit that is taken leaves what it doesn't touch as it was
-pub frame : (p new : Project) (e : Edit) (q : Part) → accept p e ≡ Ok new → touched p e q ≡ false
-    → given new q ≡ given p q
-frame p new e q taken apart = ap (λ (r : Project). given r q) (sym (taken_as p new e taken)) ∙ left p e q apart
+pub frame : (p new : Project) (e : Edit) (q : Part) → accept p e ≡ Ok new → is_touched p e q ≡ false
+    → inputs_of new q ≡ inputs_of p q
+frame p new e q taken apart = ap (λ (r : Project). inputs_of r q) (sym (taken_as p new e taken)) ∙ left p e q apart

@@ -3,7 +3,7 @@ use Rattle.std.proofs.Common.{◌≡◌, ℕ, List, Option, Some, None, is_some,
 use Rattle.co_project.specs.declared.node.Node.{Node}
 use Rattle.co_project.specs.Project.{Content as Project}
 use Rattle.co_project.specs.Tables.{node_at, text_at}
-use Rattle.project_parts.specs.Given.{dcf_of_node, device_of_node, given, writes_of_node}
+use Rattle.project_parts.specs.Given.{dcf_of_node, device_of_node, inputs_of, writes_of_node}
 use Rattle.project_parts.specs.Given.{OfConcise, OfDcf, OfDevice, OfNode, OfWrites}
 use Rattle.project_parts.specs.Gone.{is_gone}
 use Rattle.project_parts.specs.Made.{writes_made}
@@ -22,7 +22,7 @@ no_node make None gone = refl
 no_node make (Some node) gone = cc
 
 module _ (p : Project) where
-  pub given_none : (q : Part) → is_gone p q ≡ true → given p q ≡ None
+  pub given_none : (q : Part) → is_gone p q ≡ true → inputs_of p q ≡ None
   given_none (part.Device name) gone = by (text_at p.texts name) gone
     where
       by : (o : Option (List ℕ)) → not (is_some o) ≡ true → option_map OfDevice o ≡ None

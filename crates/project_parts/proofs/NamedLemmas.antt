@@ -5,7 +5,7 @@ use Rattle.std.specs.FinMap.{entries}
 use Rattle.std.specs.List.{cons_option}
 use Rattle.std.specs.Map.{lookup}
 use Rattle.std.proofs.lemmas.Bool.{eqb-true}
-use Rattle.ini_text.specs.Content.{Content as Device, Section}
+use Rattle.ini_text.specs.Content.{Content as DataSheet, Section}
 use Rattle.project_messages.specs.Messages.{is_of_messages, Named}
 use Rattle.pdo_plan.specs.Plan.{plan_of}
 use Rattle.pdo_plan.proofs.NamedLemmas.{named_alike}
@@ -14,7 +14,7 @@ use Rattle.project_plan.specs.Named.{is_flagged}
 use Rattle.project_parts.specs.Made.{plan_made, sections_if}
 
 module _ (flags : List Bool) where
-  abbrev sections_of : ℕ × Device → ℕ × List Section
+  abbrev sections_of : ℕ × DataSheet → ℕ × List Section
   sections_of d = (d.0, d.1.sections)
 
   module _ (node : ℕ) (named : is_flagged flags node ≡ true) where
@@ -22,12 +22,12 @@ module _ (flags : List Bool) where
     at_node nodes = lookup (λ n. n == node) nodes
 
     -- one that isn't named
-    other : (d : ℕ × Device) → is_flagged flags d.0 ≡ false → (t : Bool) → (d.0 == node) ≡ t → t ≡ false
+    other : (d : ℕ × DataSheet) → is_flagged flags d.0 ≡ false → (t : Bool) → (d.0 == node) ≡ t → t ≡ false
     other d none true same = sym named ∙ ap (is_flagged flags) (sym (eqb-true d.0 node same)) ∙ none
     other d none false apart = refl
 
     -- what is found of a named node
-    found : (ds : List (ℕ × Device)) → at_node (filter_map (sections_if flags) ds) ≡ at_node (map sections_of ds)
+    found : (ds : List (ℕ × DataSheet)) → at_node (filter_map (sections_if flags) ds) ≡ at_node (map sections_of ds)
     found [] = refl
     found (d ∷ ds) = by (is_flagged flags d.0) refl (found ds)
       where
@@ -46,7 +46,7 @@ module _ (flags : List Bool) where
             (other d none (d.0 == node) refl))
 
 -- the plan of the messages
-pub named_planned : (devices : List (ℕ × Device)) (messages : Named) (flags : List Bool)
+pub named_planned : (devices : List (ℕ × DataSheet)) (messages : Named) (flags : List Bool)
     (nodes : List (ℕ × List Section)) → ((node : ℕ) → is_flagged flags node ≡ is_of_messages node messages)
     → nodes ≡ filter_map (sections_if flags) devices
     → plan_of (devices_of nodes) (entries messages)

@@ -6,7 +6,7 @@ use Rattle.std.specs.List.{cons_option}
 use Rattle.concise_dcf.specs.declared.write.Write.{Write}
 use Rattle.concise_dcf.specs.Concise.{text_of as concise_text}
 use Rattle.ini_text.specs.Change.{text_of}
-use Rattle.ini_text.specs.Content.{Content as Device, Section, content_of}
+use Rattle.ini_text.specs.Content.{Content as DataSheet, Section, content_of}
 use Rattle.eds_dcf.specs.Dcf.{dcf_sections}
 use Rattle.pdo_stations.specs.Devices.{devices_of}
 use Rattle.pdo_plan.specs.Plan.{plan_of, IsMadeFor}
@@ -15,11 +15,11 @@ use Rattle.pdo_links.specs.Writes.{node_writes}
 use Rattle.co_project.specs.declared.node.Node.{Node}
 use Rattle.co_project.specs.Project.{Content as Project}
 use Rattle.co_project.specs.Tables.{node_at, text_at}
-use Rattle.project_plan.specs.Network.{member_at, member_of, members_of, plan_of_project, with_sections, writes_of}
-use Rattle.project_plan.specs.Network.{Member}
-use Rattle.project_plan.proofs.NetworkLemmas.{made_for_member}
+use Rattle.project_plan.specs.Network.{Member, member_at, plan_of_project, with_sections, writes_of}
+use Rattle.project_plan.proofs.NetworkLemmas.{made_for_member, sections_are, sections_at}
 use Rattle.project_parts.specs.Made.{concise_made, dcf_made, plan_made, writes_made}
-use Rattle.project_parts.specs.Given.{concise_from, dcf_from, dcf_of_node, device_at, numbered, plan_from, writes_from}
+use Rattle.project_parts.specs.Given.{concise_from, dcf_from, dcf_of_node, node_with_device, plan_from, writes_from}
+use Rattle.project_plan.specs.Network.{device_at}
 use Rattle.project_parts.specs.Given.{writes_of_node}
 use Rattle.project_parts.specs.Written.{AreValuesOf}
 use Rattle.project_parts.specs.declared.writes_from.WritesFrom.{WritesFrom}
@@ -28,43 +28,43 @@ use Rattle.project_parts.specs.declared.writes_from.WritesFrom.{WritesFrom}
 abbrev member : Node → List ℕ → Member
 member node text = record { node = node; sections = (content_of text).sections }
 
-given_same : (x y : Device) → Some x ≡ Some y → x ≡ y
+given_same : (x y : DataSheet) → Some x ≡ Some y → x ≡ y
 given_same x y e = cc
 
 -- a plan that is made for a node with its device, told of the same plan and device
-pub made_so : (old plan : List PlannedMessage) (own device : Device) (n : ℕ) → plan ≡ old → device ≡ own
+pub made_so : (old plan : List PlannedMessage) (own device : DataSheet) (n : ℕ) → plan ≡ old → device ≡ own
     → IsMadeFor old own.sections n → IsMadeFor plan device.sections n
 made_so old plan own device n same alike made =
-    subst (λ (d : Device). IsMadeFor plan d.sections n) (sym alike)
+    subst (λ (d : DataSheet). IsMadeFor plan d.sections n) (sym alike)
     (subst (λ (ps : List PlannedMessage). IsMadeFor ps own.sections n) (sym same) made)
 
 -- writes that are values of the entries of one device are such of the same device
-pub values_of : (d e : Device) (ws vs : List Write) → d ≡ e → ws ≡ vs → AreValuesOf d ws → AreValuesOf e vs
+pub values_of : (d e : DataSheet) (ws vs : List Write) → d ≡ e → ws ≡ vs → AreValuesOf d ws → AreValuesOf e vs
 values_of d e ws vs same alike are =
-    subst (λ (ws : List Write). AreValuesOf e ws) alike (subst (λ (d : Device). AreValuesOf d ws) same are)
+    subst (λ (ws : List Write). AreValuesOf e ws) alike (subst (λ (d : DataSheet). AreValuesOf d ws) same are)
 
 module _ (p : Project) where
-  abbrev sections_of : ℕ × Device → ℕ × List Section
+  abbrev sections_of : ℕ × DataSheet → ℕ × List Section
   sections_of d = (d.0, d.1.sections)
 
-  numbered_is : (e : ℕ × Node) (o : Option (List ℕ)) (xs : List (ℕ × Device))
+  numbered_is : (e : ℕ × Node) (o : Option (List ℕ)) (xs : List (ℕ × DataSheet))
       → map sections_of (cons_option (option_map (λ d. (e.0, d)) (option_map content_of o)) xs)
       ≡ cons_option (option_map (λ text. (e.0, (content_of text).sections)) o) (map sections_of xs)
   numbered_is e None xs = refl
   numbered_is e (Some text) xs = refl
 
-  all_numbered : (es : List (ℕ × Node)) → map sections_of (filter_map (numbered p) es) ≡ filter_map (member_of p) es
+  all_numbered : (es : List (ℕ × Node)) → map sections_of (filter_map (node_with_device p) es) ≡ filter_map (sections_at p) es
   all_numbered [] = refl
   all_numbered (e ∷ es) =
-      numbered_is e (text_at p.texts e.1.eds) (filter_map (numbered p) es)
-      ∙ ap (cons_option (member_of p e)) (all_numbered es)
+      numbered_is e (text_at p.texts e.1.eds) (filter_map (node_with_device p) es)
+      ∙ ap (cons_option (sections_at p e)) (all_numbered es)
 
   -- the plan
   pub plan_is : plan_made (plan_from p) ≡ plan_of_project p
-  unfolding plan_made plan_of_project members_of
+  unfolding plan_made plan_of_project
   plan_is =
       ap (λ (ns : List (ℕ × List Section)). plan_of (devices_of ns) (entries p.messages))
-      (all_numbered (entries p.nodes))
+      (all_numbered (entries p.nodes) ∙ sym (sections_are p))
 
   module _ (n : ℕ) where
     abbrev written : Member → List Write
@@ -74,7 +74,7 @@ module _ (p : Project) where
     dcf_text m = text_of (dcf_sections m.sections n m.node.name p.bitrate (written m))
 
     -- its writes, over the plan that is kept
-    same_writes : (node : Node) (d : Device)
+    same_writes : (node : Node) (d : DataSheet)
         → node_writes (plan_made (plan_from p)) node.params d.sections n
         ≡ node_writes (plan_of_project p) node.params d.sections n
     same_writes node d = ap (λ (plan : List PlannedMessage). node_writes plan node.params d.sections n) plan_is
@@ -158,7 +158,7 @@ module _ (p : Project) where
       ap (option_and_then (with_sections p)) (sym known) ∙ ap (option_map (member node)) is
 
   -- the plan that is kept is made for each node with its device
-  pub made_for : (n : ℕ) (node : Node) (device : Device) → Some node ≡ node_at p.nodes n
+  pub made_for : (n : ℕ) (node : Node) (device : DataSheet) → Some node ≡ node_at p.nodes n
       → Some device ≡ device_at p node.eds → IsMadeFor (plan_made (plan_from p)) device.sections n
   made_for n node device known there = by (text_at p.texts node.eds) refl
     where
@@ -168,6 +168,6 @@ module _ (p : Project) where
       by (Some text) is =
           let same : device ≡ content_of text =
           given_same device (content_of text) (there ∙ ap (option_map content_of) is) in
-          subst (λ (d : Device). IsMadeFor (plan_made (plan_from p)) d.sections n) (sym same)
+          subst (λ (d : DataSheet). IsMadeFor (plan_made (plan_from p)) d.sections n) (sym same)
           (subst (λ (plan : List PlannedMessage). IsMadeFor plan (content_of text).sections n) (sym plan_is)
           (made_for_member p n (member node text) (member_there n node text known is)))

@@ -2,12 +2,13 @@
 use Rattle.std.specs.Prelude.{ℕ, Bool, true, false, List, Option, Some, ◌==◌, option_map, option_and_then, filter_map}
 use Rattle.std.specs.FinMap.{entries}
 use Rattle.std.specs.Ordering.{eq_by_cmp}
-use Rattle.ini_text.specs.Content.{Content as Device, content_of}
+use Rattle.ini_text.specs.Content.{Content as DataSheet}
 use Rattle.project_messages.specs.Messages.{name_cmp}
 use Rattle.co_project.specs.declared.node.Node.{Node}
 use Rattle.co_project.specs.Project.{Content as Project}
 use Rattle.co_project.specs.Tables.{node_at, text_at}
 use Rattle.co_scenario.specs.declared.timed_step.TimedStep.{TimedStep}
+use Rattle.project_plan.specs.Network.{device_at}
 use Rattle.network_image.specs.Image.{roster_of_project, window_steps}
 use Rattle.project_parts.specs.declared.plan_from.PlanFrom.{PlanFrom}
 use Rattle.project_parts.specs.declared.writes_from.WritesFrom.{WritesFrom}
@@ -46,16 +47,12 @@ pub data Given : Type 0 where
 
 -- ---- what the files are made of
 
--- the device of an EDS
-abbrev pub device_at : Project → List ℕ → Option Device
-device_at p name = option_map content_of (text_at p.texts name)
-
 -- a node with its device
-abbrev pub numbered : Project → ℕ × Node → Option (ℕ × Device)
-numbered p e = option_map (λ d. (e.0, d)) (device_at p e.1.eds)
+abbrev pub node_with_device : Project → ℕ × Node → Option (ℕ × DataSheet)
+node_with_device p e = option_map (λ d. (e.0, d)) (device_at p e.1.eds)
 
 abbrev pub plan_from : Project → PlanFrom
-plan_from p = record { devices = filter_map (numbered p) (entries p.nodes); messages = p.messages }
+plan_from p = record { devices = filter_map (node_with_device p) (entries p.nodes); messages = p.messages }
 
 abbrev pub writes_of_node : Project → ℕ → Node → Option WritesFrom
 writes_of_node p n node =
@@ -101,13 +98,13 @@ abbrev pub whole : Project → DiagnosticsFrom
 whole p = record { project = p }
 
 -- WHAT A PART IS TO BE MADE FROM NOW, or none where its subject is gone
-abbrev pub given : Project → Part → Option Given
-given p (part.Device name) = option_map OfDevice (text_at p.texts name)
-given p part.Plan = Some (OfPlan (plan_from p))
-given p (part.Writes n) = option_map OfWrites (writes_from p n)
-given p (part.Concise n) = option_map OfConcise (concise_from p n)
-given p (part.Dcf n) = option_map OfDcf (dcf_from p n)
-given p part.Roster = Some (OfRoster (roster_from p))
-given p (part.Node n) = option_map OfNode (device_from p n)
-given p (part.Window i) = Some (OfWindow (window_steps p i))
-given p part.Diagnostics = Some (OfDiagnostics (whole p))
+abbrev pub inputs_of : Project → Part → Option Given
+inputs_of p (part.Device name) = option_map OfDevice (text_at p.texts name)
+inputs_of p part.Plan = Some (OfPlan (plan_from p))
+inputs_of p (part.Writes n) = option_map OfWrites (writes_from p n)
+inputs_of p (part.Concise n) = option_map OfConcise (concise_from p n)
+inputs_of p (part.Dcf n) = option_map OfDcf (dcf_from p n)
+inputs_of p part.Roster = Some (OfRoster (roster_from p))
+inputs_of p (part.Node n) = option_map OfNode (device_from p n)
+inputs_of p (part.Window i) = Some (OfWindow (window_steps p i))
+inputs_of p part.Diagnostics = Some (OfDiagnostics (whole p))

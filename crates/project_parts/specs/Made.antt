@@ -2,7 +2,7 @@
 use Rattle.std.specs.Prelude.{ℕ, Bool, List, map, Option, Some, None, if◌then◌else◌}
 use Rattle.std.specs.FinMap.{entries}
 use Rattle.ini_text.specs.Change.{text_of}
-use Rattle.ini_text.specs.Content.{Content as Device, Section}
+use Rattle.ini_text.specs.Content.{Content as DataSheet, Section}
 use Rattle.concise_dcf.specs.declared.write.Write.{Write}
 use Rattle.concise_dcf.specs.Concise.{text_of as concise_text}
 use Rattle.eds_dcf.specs.Dcf.{dcf_sections}
@@ -21,14 +21,14 @@ use Rattle.project_parts.specs.declared.roster_from.RosterFrom.{RosterFrom}
 use Rattle.project_parts.specs.declared.writes_from.WritesFrom.{WritesFrom}
 use Rattle.project_parts.specs.declared.concise_from.ConciseFrom.{ConciseFrom}
 use Rattle.project_parts.specs.declared.dcf_from.DcfFrom.{DcfFrom}
-use Rattle.project_parts.specs.Written.{Written}
+use Rattle.project_parts.specs.Written.{DeviceWithWrites}
 
 -- the plan of the messages over the devices of the nodes
 unfoldable pub plan_made : PlanFrom → List PlannedMessage
 plan_made f = plan_of (devices_of (map (λ d. (d.0, d.1.sections)) f.devices)) (entries f.messages)
 
 -- a node that messages name, with the sections of its device
-abbrev pub sections_if : List Bool → ℕ × Device → Option (ℕ × List Section)
+abbrev pub sections_if : List Bool → ℕ × DataSheet → Option (ℕ × List Section)
 sections_if flags d = if is_flagged flags d.0 then Some (d.0, d.1.sections) else None
 
 -- the writes of a node
@@ -36,7 +36,7 @@ unfoldable pub writes_made : WritesFrom → List Write
 writes_made f = node_writes f.plan f.params f.device.sections f.node
 
 -- and its device with them
-abbrev pub written_made : WritesFrom → Written
+abbrev pub written_made : WritesFrom → DeviceWithWrites
 written_made f = record { device = f.device; writes = writes_made f }
 
 -- the concise DCF (CiA 302) of a node

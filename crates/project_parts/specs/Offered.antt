@@ -5,7 +5,7 @@ use Rattle.project_parts.specs.declared.dcf_from.DcfFrom.{DcfFrom}
 use Rattle.project_parts.specs.declared.dcf_now.DcfNow.{DcfNow}
 use Rattle.project_parts.specs.declared.writes_from.WritesFrom.{WritesFrom}
 use Rattle.project_parts.specs.declared.writes_now.WritesNow.{WritesNow}
-use Rattle.project_parts.specs.Written.{Written}
+use Rattle.project_parts.specs.Written.{DeviceWithWrites}
 
 abbrev pub offered_writes : WritesNow → WritesFrom
 offered_writes o = record { plan = o.plan; params = o.params.now; device = o.device; node = o.node }
@@ -23,5 +23,5 @@ offered_dcf o = record {
 }
 
 -- what the concise DCF is built from, where a node is written this
-abbrev pub concise_by : Written → ConciseFrom
+abbrev pub concise_by : DeviceWithWrites → ConciseFrom
 concise_by w = record { writes = w.writes }

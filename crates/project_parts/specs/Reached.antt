@@ -31,16 +31,16 @@ for_plan p = of_nodes p ++ part.Plan ∷ []
 abbrev pub for_writes : Project → ℕ → List Part
 for_writes p n = for_plan p ++ own_device p n ++ part.Writes n ∷ []
 
-abbrev pub reached : Project → Part → List Part
-reached p (part.Device name) = part.Device name ∷ []
-reached p part.Plan = for_plan p
-reached p (part.Writes n) = for_writes p n
-reached p (part.Concise n) = for_writes p n ++ part.Concise n ∷ []
-reached p (part.Dcf n) = for_writes p n ++ part.Dcf n ∷ []
-reached p part.Roster = part.Roster ∷ []
-reached p (part.Node n) = own_device p n ++ part.Node n ∷ []
-reached p (part.Window i) = of_nodes p ++ part.Window i ∷ []
-reached p part.Diagnostics = for_plan p ++ part.Diagnostics ∷ []
+abbrev pub parts_for : Project → Part → List Part
+parts_for p (part.Device name) = part.Device name ∷ []
+parts_for p part.Plan = for_plan p
+parts_for p (part.Writes n) = for_writes p n
+parts_for p (part.Concise n) = for_writes p n ++ part.Concise n ∷ []
+parts_for p (part.Dcf n) = for_writes p n ++ part.Dcf n ∷ []
+parts_for p part.Roster = part.Roster ∷ []
+parts_for p (part.Node n) = own_device p n ++ part.Node n ∷ []
+parts_for p (part.Window i) = of_nodes p ++ part.Window i ∷ []
+parts_for p part.Diagnostics = for_plan p ++ part.Diagnostics ∷ []
 
 -- ---- what a simulation reads
 

@@ -43,13 +43,13 @@ touch_of (edit.Event number e) = Event number e.time
 touch_of (edit.DropEvent number) = NoEvent number
 
 -- what the program's own value says
-abbrev pub shown : TheTouch → Touch
-shown touch.Nothing = Nothing
-shown touch.Rate = Rate
-shown touch.Roster = Roster
-shown (touch.Sheet name) = Sheet name.now
-shown (touch.Node id) = Node id
-shown (touch.Parameters id) = Parameters id
-shown touch.Messages = Messages
-shown (touch.Event number time) = Event number time
-shown (touch.NoEvent number) = NoEvent number
+abbrev pub touch_value : TheTouch → Touch
+touch_value touch.Nothing = Nothing
+touch_value touch.Rate = Rate
+touch_value touch.Roster = Roster
+touch_value (touch.Sheet name) = Sheet name.now
+touch_value (touch.Node id) = Node id
+touch_value (touch.Parameters id) = Parameters id
+touch_value touch.Messages = Messages
+touch_value (touch.Event number time) = Event number time
+touch_value (touch.NoEvent number) = NoEvent number

@@ -84,5 +84,5 @@ is_wrong part.Diagnostics = true
 is_wrong others = false
 
 -- WHAT IS MADE FROM INPUTS that an edit may change: the diagnostics, whatever it changes, and what the change goes into
-abbrev pub touched : Project → Edit → Part → Bool
-touched p e q = is_wrong q || goes_into p.events (touch_of e) q
+abbrev pub is_touched : Project → Edit → Part → Bool
+is_touched p e q = is_wrong q || goes_into p.events (touch_of e) q

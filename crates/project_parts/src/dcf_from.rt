@@ -1,7 +1,7 @@
 //! What the DCF of a node is built from.
 
 use base::Octets;
-use eds_device::Device;
+use eds_device::DataSheet;
 use kept_values::{Makes, Shared};
 use plain_text::ListedText;
 use project_plan::NodeWrites;
@@ -10,7 +10,7 @@ use project_plan::NodeWrites;
 #[derive(Drop)]
 pub struct DcfFrom {
     /// The device of the node.
-    pub device: Shared<Device>,
+    pub device: Shared<DataSheet>,
     /// Its name.
     pub name: Octets,
     /// The bit rate in kbit/s.

@@ -2,7 +2,7 @@
 ghost use Rattle.std.specs.Prelude.{◌≡◌, ◌↔◌, IfOk, IsTrue};
 
 use crate::device_parts::DeviceParts;
-use eds_device::Device;
+use eds_device::DataSheet;
 use image_parts::Identity;
 use kept_values::{Makes, Offers, Shared};
 use std::alloc::{AllocError, Global};
@@ -11,7 +11,7 @@ use std::alloc::{AllocError, Global};
 #[derive(Drop)]
 pub struct DeviceAt {
     /// The device of the node.
-    pub device: Shared<Device>,
+    pub device: Shared<DataSheet>,
     /// Its number.
     pub node: u8,
 }

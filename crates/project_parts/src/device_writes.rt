@@ -4,7 +4,7 @@ ghost use Rattle.ini_text.specs.Change.{text_of};
 ghost use Rattle.eds_dcf.specs.Dcf.{dcf_sections};
 ghost use Rattle.project_parts.specs.Written.{AreValuesOf};
 
-use eds_device::Device;
+use eds_device::DataSheet;
 use kept_values::Shared;
 use project_plan::NodeWrites;
 use std::alloc::{AllocError, Global};
@@ -13,14 +13,14 @@ use std::marker::Model;
 /// The writes of a node, with its device: each write is a value of its entry.
 #[derive(Drop)]
 pub struct DeviceWrites {
-    device: Shared<Device>,
+    device: Shared<DataSheet>,
     writes: Shared<NodeWrites>,
 }
 
 impl Model for DeviceWrites {
-    ghost use Rattle.project_parts.specs.Written.{AreValuesOf, Written};
+    ghost use Rattle.project_parts.specs.Written.{AreValuesOf, DeviceWithWrites};
 
-    ghost Value = { Written };
+    ghost Value = { DeviceWithWrites };
 
     ghost view = { λ d. record { device = d.device; writes = d.writes } };
 
@@ -29,7 +29,7 @@ impl Model for DeviceWrites {
 
 impl DeviceWrites {
     /// These writes, with the device.
-    pub fn new(device: Shared<Device>, writes: Shared<NodeWrites>) -> DeviceWrites
+    pub fn new(device: Shared<DataSheet>, writes: Shared<NodeWrites>) -> DeviceWrites
         requires { AreValuesOf device writes }
         ensures { result ≡ record { device = device; writes = writes } }
     {
@@ -37,7 +37,7 @@ impl DeviceWrites {
     }
 
     /// The device.
-    pub fn device(&self) -> &Shared<Device>
+    pub fn device(&self) -> &Shared<DataSheet>
         ensures { result.now ≡ self.now.device }
     {
         &self.device

@@ -11,8 +11,8 @@ ghost use Rattle.network_image.specs.Image.{image_of, window_steps};
 ghost use Rattle.network_image.specs.Steps.{unless_none};
 ghost use Rattle.project_plan.specs.Network.{member_at, plan_of_project, writes_of, Member};
 ghost use Rattle.project_parts.specs.Made.{concise_made, dcf_made, device_parts, plan_made, roster_made, writes_made};
-ghost use Rattle.project_parts.specs.Given.{concise_from, dcf_from, device_from, given, plan_from, roster_from, writes_from};
-ghost use Rattle.project_parts.specs.Touched.{touched};
+ghost use Rattle.project_parts.specs.Given.{concise_from, dcf_from, device_from, inputs_of, plan_from, roster_from, writes_from};
+ghost use Rattle.project_parts.specs.Touched.{is_touched};
 
 use crate::part::Part;
 
@@ -46,6 +46,6 @@ pub fn the_image_is_made_of_what_is_given()
 /// An edit that is taken leaves what each part is to be made from, but for the parts that it touches.
 #[tactic(auto, using(crate::proofs::FrameLemmas::frame))]
 pub fn what_an_edit_does_not_touch_is_made_as_before()
-    ensures { (p q : Content) (edit : Edit) (part : Part) → accept p edit ≡ Ok q → touched p edit part ≡ false
-        → given q part ≡ given p part }
+    ensures { (p q : Content) (edit : Edit) (part : Part) → accept p edit ≡ Ok q → is_touched p edit part ≡ false
+        → inputs_of q part ≡ inputs_of p part }
 {}

@@ -4,7 +4,7 @@ ghost use Rattle.std.specs.Option.{option_to_list};
 ghost use Rattle.pdo_stations.specs.Shown.{nodes_of};
 ghost use Rattle.project_parts.specs.Made.{sections_if};
 
-use eds_device::Device;
+use eds_device::DataSheet;
 use kept_values::Shared;
 use project_plan::Named;
 use std::alloc::{AllocError, Global};
@@ -13,26 +13,26 @@ use std::marker::Model;
 /// Nodes with their devices, by number.
 #[derive(Drop)]
 pub struct NodeDevices {
-    items: Vec<(u8, Shared<Device>)>,
+    items: Vec<(u8, Shared<DataSheet>)>,
 }
 
 impl Model for NodeDevices {
     ghost use Rattle.std.specs.Prelude.{ℕ, List};
-    ghost use Rattle.ini_text.specs.Content.{Content as Device};
+    ghost use Rattle.ini_text.specs.Content.{Content as DataSheet};
 
-    ghost Value = { List (ℕ × Device) };
+    ghost Value = { List (ℕ × DataSheet) };
 
     ghost view = { λ d. d.items.items };
 }
 
 /// Whether both are the same node with the same device.
-fn same_entry(a: &(u8, Shared<Device>), b: &(u8, Shared<Device>)) -> bool
+fn same_entry(a: &(u8, Shared<DataSheet>), b: &(u8, Shared<DataSheet>)) -> bool
     ensures { IsTrue result ↔ (a.now ≡ b.now) }
 {
     a.0 == b.0 && a.1.get().same(b.1.get())
 }
 
-fn same_items(a: &[(u8, Shared<Device>)], b: &[(u8, Shared<Device>)]) -> bool
+fn same_items(a: &[(u8, Shared<DataSheet>)], b: &[(u8, Shared<DataSheet>)]) -> bool
     ensures { IsTrue result ↔ (a.now ≡ b.now) }
 {
     if a.len() != b.len() {
@@ -49,8 +49,8 @@ fn same_items(a: &[(u8, Shared<Device>)], b: &[(u8, Shared<Device>)]) -> bool
 /// A list of the same devices, each shared.
 fn copies(
     alloc: Global,
-    items: &[(u8, Shared<Device>)],
-) -> Result<Vec<(u8, Shared<Device>)>, AllocError>
+    items: &[(u8, Shared<DataSheet>)],
+) -> Result<Vec<(u8, Shared<DataSheet>)>, AllocError>
     ensures { IfOk result (λ copy. copy.items ≡ items.now) }
 {
     let mut copy = Vec::new(alloc);
@@ -64,9 +64,9 @@ fn copies(
 /// Those of the nodes that are named, with references to their devices.
 fn references<'a>(
     alloc: Global,
-    items: &'a [(u8, Shared<Device>)],
+    items: &'a [(u8, Shared<DataSheet>)],
     named: &Named,
-) -> Result<Vec<(u8, &'a Device)>, AllocError>
+) -> Result<Vec<(u8, &'a DataSheet)>, AllocError>
     ensures { IfOk result (λ nodes. nodes_of nodes.items ≡ filter_map (sections_if named.now) items.now) }
 {
     let mut nodes = Vec::new(alloc);
@@ -91,7 +91,7 @@ impl NodeDevices {
     }
 
     /// Adds a node with its device, if it has one. Want of memory is the only error.
-    pub fn push(&mut self, number: u8, device: Option<Shared<Device>>) -> Result<(), AllocError>
+    pub fn push(&mut self, number: u8, device: Option<Shared<DataSheet>>) -> Result<(), AllocError>
         ensures { OnOk result (self.new ≡ self.old ++ option_to_list (option_map (λ d. (number, d)) device)) }
     {
         if let Some(device) = device {
@@ -119,7 +119,11 @@ impl NodeDevices {
 
     /// The nodes that are named, with references to their devices. Takes time by the number of nodes, and
     /// memory by that of the named ones; want of memory is the only error.
-    pub fn references(&self, alloc: Global, named: &Named) -> Result<Vec<(u8, &Device)>, AllocError>
+    pub fn references(
+        &self,
+        alloc: Global,
+        named: &Named,
+    ) -> Result<Vec<(u8, &DataSheet)>, AllocError>
         ensures { IfOk result (λ nodes. nodes_of nodes.items ≡ filter_map (sections_if named.now) self.now) }
     {
         references(alloc, &self.items, named)

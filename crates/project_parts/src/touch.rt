@@ -1,6 +1,6 @@
 //! What an edit changes of the inputs of parts.
 ghost use Rattle.std.specs.Prelude.{◌≡◌};
-ghost use Rattle.project_parts.specs.Touch.{shown, touch_of};
+ghost use Rattle.project_parts.specs.Touch.{touch_value, touch_of};
 
 use project_edits::Edit;
 
@@ -30,7 +30,7 @@ pub enum Touch<'a> {
 /// What an edit changes of the inputs of a project's parts: the one table from which all marks follow. Takes
 /// constant time.
 pub fn touch_of(edit: &Edit) -> Touch<'_>
-    ensures { shown result ≡ touch_of edit.now }
+    ensures { touch_value result ≡ touch_of edit.now }
 {
     match edit {
         Edit::Version(_) => Touch::Roster,

@@ -1,7 +1,7 @@
 //! What the writes of a node are built from.
 
 use crate::device_writes::DeviceWrites;
-use eds_device::Device;
+use eds_device::DataSheet;
 use kept_values::{Makes, Shared};
 use node_parameters::Params;
 use pdo_plan::Plan;
@@ -14,7 +14,7 @@ pub struct WritesFrom {
     /// The parameters of the node.
     pub params: Params,
     /// Its device.
-    pub device: Shared<Device>,
+    pub device: Shared<DataSheet>,
     /// Its number.
     pub node: u8,
 }

@@ -4,7 +4,7 @@ ghost use Rattle.pdo_plan.specs.Plan.{IsMadeFor};
 use crate::device_writes::DeviceWrites;
 use crate::writes_from::WritesFrom;
 use co_project::Project;
-use eds_device::Device;
+use eds_device::DataSheet;
 use kept_values::{Offers, Shared};
 use node_parameters::Params;
 use pdo_plan::Plan;
@@ -17,7 +17,7 @@ use std::alloc::{AllocError, Global};
 pub struct WritesNow<'a> {
     pub plan: Shared<Plan>,
     pub params: &'a Params,
-    pub device: Shared<Device>,
+    pub device: Shared<DataSheet>,
     pub node: u8,
     ghost made_for: { IsMadeFor plan device.sections node },
 }
@@ -25,7 +25,8 @@ pub struct WritesNow<'a> {
 impl<'a> WritesNow<'a> {
     ghost use Rattle.std.specs.Prelude.{◌≡◌, option_map, option_and_then};
     ghost use Rattle.co_project.specs.Tables.{node_at};
-    ghost use Rattle.project_parts.specs.Given.{device_at, plan_from, writes_from};
+    ghost use Rattle.project_parts.specs.Given.{plan_from, writes_from};
+    ghost use Rattle.project_plan.specs.Network.{device_at};
     ghost use Rattle.project_parts.specs.Made.{plan_made};
     ghost use Rattle.project_parts.specs.Offered.{offered_writes};
 
@@ -34,7 +35,7 @@ impl<'a> WritesNow<'a> {
         project: &'a Project,
         node: u8,
         plan: Shared<Plan>,
-        device: Option<Shared<Device>>,
+        device: Option<Shared<DataSheet>>,
     ) -> Option<WritesNow<'a>>
         requires plan { plan ≡ plan_made (plan_from project.now) }
         requires device { device

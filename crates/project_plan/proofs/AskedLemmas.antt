@@ -26,7 +26,7 @@ use Rattle.pdo_plan.proofs.FreeLemmas.{faultless}
 use Rattle.pdo_plan.proofs.JudgedLemmas.{judged_clean}
 use Rattle.pdo_links.specs.Writes.{cob_write, mapping_writes, start_write, time_write, tpdo_writes, write_at}
 use Rattle.pdo_links.proofs.Values.{first_of, second_of}
-use Rattle.project_plan.specs.Network.{member_at, members_of, plan_of_project, writes_of, Member}
+use Rattle.project_plan.specs.Network.{member_at, sections_of_members, plan_of_project, writes_of, Member}
 use Rattle.project_plan.proofs.NetworkLemmas.{described_at}
 use Rattle.project_plan.specs.Nodes.{IsSoundNode, Sends}
 use Rattle.project_plan.proofs.WritesLemmas.{sent_is_there}
@@ -56,10 +56,10 @@ clean_asked d before m c e =
       start = subst (λ (x : Message). Takes d x.node x.tpdo Bits8 6 c.start) is.message start;
     }
 
-all_asked : (p : Content) (c : Clean) → Contains (clean (plan_of_project p)) c → IsAsked (devices_of (members_of p)) c
+all_asked : (p : Content) (c : Clean) → Contains (clean (plan_of_project p)) c → IsAsked (devices_of (sections_of_members p)) c
 unfolding plan_of_project
 all_asked p c has =
-    let d : Devices = devices_of (members_of p) in
+    let d : Devices = devices_of (sections_of_members p) in
     All-contains (IsAsked d) (clean (plan_of_project p)) c
     (all_clean (IsAsked d) (clean (plan_of_project p))
     (each_clean d (λ before c. IsAsked d c) (clean_asked d) (entries p.messages))) has
@@ -74,12 +74,12 @@ besides_none n b test other = by (n == 0) refl test
 module _ (p : Content) (id : ℕ) (m : Member) (there : member_at p id ≡ Some m) where
   -- the entry of the node's own EDS takes it
   entry_takes : (tpdo node : ℕ) (width : Width) (sub value : ℕ) → node ≡ id
-      → Takes (devices_of (members_of p)) node tpdo width sub value → (value ≡ 0 → ⊥)
+      → Takes (devices_of (sections_of_members p)) node tpdo width sub value → (value ≡ 0 → ⊥)
       → option_map_or (takes_unsigned width) (entry_at m.sections id (tpdo_object tpdo) sub) false ≡ true
   entry_takes tpdo node width sub value is takes other =
-      let test : has_unsigned (devices_of (members_of p)) id width (tpdo_object tpdo, sub) ≡ true =
-      besides_none value (has_unsigned (devices_of (members_of p)) id width (tpdo_object tpdo, sub))
-      (subst (λ (n : ℕ). Takes (devices_of (members_of p)) n tpdo width sub value) is takes) other in
+      let test : has_unsigned (devices_of (sections_of_members p)) id width (tpdo_object tpdo, sub) ≡ true =
+      besides_none value (has_unsigned (devices_of (sections_of_members p)) id width (tpdo_object tpdo, sub))
+      (subst (λ (n : ℕ). Takes (devices_of (sections_of_members p)) n tpdo width sub value) is takes) other in
       subst (λ (o : Option (List Section)). option_map_or (takes_unsigned width)
       (option_and_then (λ ss. entry_at ss id (tpdo_object tpdo) sub) o) false ≡ true)
       (described_at p id m there) test
@@ -120,7 +120,7 @@ module _ (ss : List Section) (node : ℕ) where
         (Contains-append_left (timing ++ mapping) on w (Contains-append_left timing mapping w has))
 
 module _ (p : Content) (id : ℕ) (m : Member) (c : Clean) (node : IsSoundNode p id m) (sends : Sends p id c) where
-  asked : IsAsked (devices_of (members_of p)) c
+  asked : IsAsked (devices_of (sections_of_members p)) c
   asked = all_asked p c sends.planned
 
   pub inhibit_written : (c.message.inhibit ≡ 0 → ⊥)

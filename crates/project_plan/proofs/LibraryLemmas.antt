@@ -7,7 +7,7 @@ use Rattle.std.specs.Option.{option_map_or}
 use Rattle.std.specs.Ordering.{eq_by_cmp}
 use Rattle.std.proofs.lemmas.Cmp.{nat_list_cmp_total}
 use Rattle.std.proofs.lemmas.Map.Lookups.{exact_bytes}
-use Rattle.ini_text.specs.Content.{Content as Device, content_of}
+use Rattle.ini_text.specs.Content.{Content as DataSheet, content_of}
 use Rattle.base.proofs.EachLemmas.{each_empty, each_found, each_put}
 use Rattle.base.proofs.TableLemmas.{alike, put_again, put_there}
 use Rattle.project_messages.specs.Messages.{name_cmp}
@@ -15,10 +15,11 @@ use Rattle.project_messages.proofs.NameLemmas.{key_cmp, made, value_found, value
 use Rattle.co_project.specs.Project.{Content}
 use Rattle.co_project.specs.Tables.{text_at}
 use Rattle.project_plan.specs.Library.{with_device, AreRead, Devices, IsRead, Read}
+use Rattle.project_plan.specs.Network.{device_at}
 
 -- what the project's text of a name describes
-abbrev pub IsDescribed : Content → List ℕ → Device → Type 0
-IsDescribed project name device = option_map content_of (text_at project.texts name) ≡ Some device
+abbrev pub IsDescribed : Content → List ℕ → DataSheet → Type 0
+IsDescribed project name device = device_at project name ≡ Some device
 
 -- what was found behind a reference was found
 pub is_there : {X : Type 0} (result : Option (Bor X)) (found : Option X) → option_copied result ≡ found
@@ -26,7 +27,7 @@ pub is_there : {X : Type 0} (result : Option (Bor X)) (found : Option X) → opt
 is_there None found is there = cc
 is_there (Some x) found is there = sym (ap is_some is)
 
-described : (device : Device) (text : List ℕ) → Some (content_of text) ≡ Some device → device ≡ content_of text
+described : (device : DataSheet) (text : List ℕ) → Some (content_of text) ≡ Some device → device ≡ content_of text
 described device text is = cc
 
 -- ---- a library with one more
@@ -41,7 +42,7 @@ module _ (read : Read) (name : List ℕ) where
   unfolding with_text
   read_there are = by (text_at read.project.texts name) refl
     where
-      none : (o : Option Device) → get read.devices name ≡ o → text_at read.project.texts name ≡ None → o ≡ None
+      none : (o : Option DataSheet) → get read.devices name ≡ o → text_at read.project.texts name ≡ None → o ≡ None
       none None found absent = refl
       none (Some device) found absent = cc (
         each_found (IsDescribed read.project) read.devices name device are found,
@@ -85,14 +86,14 @@ read_before read name are there = by (get read.devices name) refl there
     with : Option (List ℕ) → Read
     with o = record read { devices = option_map_or (λ text. insert read.devices name (content_of text)) o read.devices }
 
-    known : (device : Device) (o : Option (List ℕ)) → get read.devices name ≡ Some device
+    known : (device : DataSheet) (o : Option (List ℕ)) → get read.devices name ≡ Some device
         → option_map content_of o ≡ Some device → read ≡ with o
     known device None found is = cc
     known device (Some text) found is =
         ap (λ (devices : Devices). record read { devices = devices })
         (sym (put_again nat_list_cmp_total exact_bytes read.devices name (content_of text) (found ∙ sym is)))
 
-    by : (o : Option Device) → get read.devices name ≡ o → is_some o ≡ true → read ≡ with_device read name
+    by : (o : Option DataSheet) → get read.devices name ≡ o → is_some o ≡ true → read ≡ with_device read name
     by None none there = cc
     by (Some device) found there =
         known device (text_at read.project.texts name) found
@@ -100,10 +101,10 @@ read_before read name are there = by (get read.devices name) refl there
 
 module _ {A : Type 0} (project : Content) where
   -- what a tree of devices shows
-  abbrev pub shows : List (Vec ℕ A × Device) → Read
+  abbrev pub shows : List (Vec ℕ A × DataSheet) → Read
   shows es = record { project = project; devices = made es }
 
-  module _ (es : List (Vec ℕ A × Device)) (read : Read) (name : List ℕ) (is : shows es ≡ read) where
+  module _ (es : List (Vec ℕ A × DataSheet)) (read : Read) (name : List ℕ) (is : shows es ≡ read) where
     -- the device of a name
     pub device_found : value_in es name ≡ get read.devices name
     device_found = sym (value_found es name) ∙ ap (λ (r : Read). get r.devices name) is
@@ -120,7 +121,7 @@ module _ {A : Type 0} (project : Content) where
               option_map_or (λ text. insert read.devices name (content_of text)) o read.devices;
         }) (sym none ∙ text_there)
 
-  module _ (tree after : BTreeMap (Vec ℕ A) Device) (name : List ℕ) (key : Vec ℕ A) (device : Device) (text : List ℕ)
+  module _ (tree after : BTreeMap (Vec ℕ A) DataSheet) (name : List ℕ) (key : Vec ℕ A) (device : DataSheet) (text : List ℕ)
       (same : key.items ≡ name) (is : device ≡ content_of text) (there : text_at project.texts name ≡ Some text)
       (updates : Updates key_cmp tree after key (Some device)) where
     -- a device that is put
@@ -147,7 +148,7 @@ module _ {A : Type 0} (project : Content) where
         (each_put nat_list_cmp_total exact_bytes (IsDescribed project)
         (made tree.entries) name (content_of text) are (ap (option_map content_of) there))
 
-  module _ (tree after : BTreeMap (Vec ℕ A) Device) (name : List ℕ) (key : Vec ℕ A) (device : Device)
+  module _ (tree after : BTreeMap (Vec ℕ A) DataSheet) (name : List ℕ) (key : Vec ℕ A) (device : DataSheet)
       (same : key.items ≡ name) (updates : Updates key_cmp tree after key (Some device)) where
     -- a device that is put, where the text of its name describes it
     pub put_by_text : (o : Option (List ℕ)) → text_at project.texts name ≡ o → option_map content_of o ≡ Some device

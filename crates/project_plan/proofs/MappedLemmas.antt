@@ -35,7 +35,7 @@ use Rattle.pdo_links.specs.Tables.{AreMapped}
 use Rattle.pdo_links.proofs.Values.{two_bytes}
 use Rattle.co_project.specs.Project.{Content}
 use Rattle.co_project.specs.Sound.{IsSound}
-use Rattle.project_plan.specs.Network.{members_of, plan_of_project}
+use Rattle.project_plan.specs.Network.{sections_of_members, plan_of_project}
 use Rattle.project_plan.proofs.AloneLemmas.{all_linked}
 
 -- ---- bytes
@@ -197,6 +197,6 @@ writable devices before m c kept e =
 pub all_writable : (p : Content) → IsSound p → All IsWritable (clean (plan_of_project p))
 unfolding plan_of_project
 all_writable p sound =
-    let devices : Devices = devices_of (members_of p) in
+    let devices : Devices = devices_of (sections_of_members p) in
     all_clean IsWritable _ (each_within devices (λ before c. IsWritable c) (writable devices) (entries p.messages)
     (all_linked p sound))

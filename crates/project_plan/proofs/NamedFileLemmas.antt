@@ -25,7 +25,7 @@ use Rattle.pdo_plan.specs.Plan.{planned_consumers, plan_after, plan_of, planned_
 use Rattle.pdo_plan.proofs.JudgedLemmas.{consumer_is, judged_clean}
 use Rattle.pdo_plan.proofs.OrderLemmas.{all_inserted}
 use Rattle.pdo_links.specs.Order.{IsNamedByNone}
-use Rattle.project_plan.specs.Network.{members_of, plan_of_project}
+use Rattle.project_plan.specs.Network.{sections_of_members, plan_of_project}
 
 module _ (node : ℕ) where
   abbrev IsOther : ℕ → Type 0
@@ -98,7 +98,7 @@ module _ (node : ℕ) where
       → IsNamedByNone (clean (plan_of_project p)) node
   unfolding plan_of_project
   named_by_none p none c has =
-      All-contains (Unnamed (devices_of (members_of p)))
-      (clean (plan_of (devices_of (members_of p)) (entries p.messages))) c
-      (All-from_recursion (Unnamed (devices_of (members_of p))) _ (unnamed_all (devices_of (members_of p))
+      All-contains (Unnamed (devices_of (sections_of_members p)))
+      (clean (plan_of (devices_of (sections_of_members p)) (entries p.messages))) c
+      (All-from_recursion (Unnamed (devices_of (sections_of_members p))) _ (unnamed_all (devices_of (sections_of_members p))
       (entries p.messages) none)) has

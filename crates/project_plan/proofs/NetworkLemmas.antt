@@ -1,6 +1,6 @@
 -- Whom the plan of a project is made for.
-use Rattle.std.proofs.Common.{◌≡◌, ◌∙◌, ℕ, ◌==◌, Bool, true, false, cond, List, [], ◌∷◌, filter_map, Option, Some, None}
-use Rattle.std.proofs.Common.{option_map, option_and_then, refl, sym, ap}
+use Rattle.std.proofs.Common.{◌≡◌, ◌∙◌, ℕ, ◌==◌, Bool, true, false, cond, List, [], ◌∷◌, map, filter_map, Option, Some}
+use Rattle.std.proofs.Common.{None, option_map, option_and_then, refl, sym, ap}
 use Rattle.std.specs.FinMap.{entries, find, get, get-entries}
 use Rattle.std.specs.Cmp.{tied_itself}
 use Rattle.std.specs.List.{cons_option}
@@ -16,11 +16,39 @@ use Rattle.co_project.specs.Project.{Content}
 use Rattle.co_project.specs.Tables.{node_at, text_at}
 use Rattle.pdo_plan.proofs.MadeLemmas.{made_for}
 use Rattle.pdo_plan.specs.Plan.{IsMadeFor}
-use Rattle.project_plan.specs.Network.{members_of, member_at, member_of, plan_of_project, with_sections, Member}
+use Rattle.project_plan.specs.Network.{Member, member_at, member_by, members, plan_of_project, sections_of_members}
+use Rattle.project_plan.specs.Network.{with_sections}
 use Rattle.project_plan.proofs.NamedLemmas.{in_text}
 
 pub eq_by_cmp_same : (a b : ℕ) → a ≡ b → eq_by_cmp nat_cmp b a ≡ true
 eq_by_cmp_same a b same = ap (λ n. eq_by_cmp nat_cmp b n) same ∙ ap is_eq (tied_itself nat_cmp_total b)
+
+module _ (project : Content) where
+  -- a number with the sections of the EDS of its node
+  abbrev pub sections_at : ℕ × Node → Option (ℕ × List Section)
+  sections_at e = option_map (in_text e.0) (text_at project.texts e.1.eds)
+
+  abbrev sections_by : ℕ × Member → ℕ × List Section
+  sections_by e = (e.0, e.1.sections)
+
+  sections_among : (es : List (ℕ × Node)) → map sections_by (filter_map (member_by project) es)
+      ≡ filter_map sections_at es
+  sections_among [] = refl
+  sections_among (e ∷ es) =
+      by (text_at project.texts e.1.eds) (filter_map (member_by project) es)
+      ∙ ap (cons_option (sections_at e)) (sections_among es)
+    where
+      by : (o : Option (List ℕ)) (rest : List (ℕ × Member))
+          → map sections_by (cons_option (option_map (λ m. (e.0, m))
+          (option_map (λ text. record { node = e.1; sections = (content_of text).sections }) o)) rest)
+          ≡ cons_option (option_map (in_text e.0) o) (map sections_by rest)
+      by None rest = refl
+      by (Some text) rest = refl
+
+  -- the sections of the members one after the other
+  pub sections_are : sections_of_members project ≡ filter_map sections_at (entries project.nodes)
+  unfolding sections_of_members members
+  sections_are = sections_among (entries project.nodes)
 
 module _ (project : Content) (id : ℕ) where
   abbrev pub at_id : List (ℕ × List Section) → Option (List Section)
@@ -35,7 +63,7 @@ module _ (project : Content) (id : ℕ) where
   -- a node of this one
   taken : (e : ℕ × Node) (nodes : List (ℕ × List Section)) (text : List ℕ) → (e.0 == id) ≡ true
       → text_at project.texts e.1.eds ≡ Some text
-      → at_id (cons_option (member_of project e) nodes) ≡ Some (content_of text).sections
+      → at_id (cons_option (sections_at project e) nodes) ≡ Some (content_of text).sections
   taken e nodes text same there =
       ap (λ o. at_id (cons_option (option_map (in_text e.0) o) nodes)) there
       ∙ ap (λ t. cond t (Some (content_of text).sections) (at_id nodes)) same
@@ -43,7 +71,7 @@ module _ (project : Content) (id : ℕ) where
   -- the sections of a node that is listed
   listed : (node : Node) (text : List ℕ) → text_at project.texts node.eds ≡ Some text → (nodes : List (ℕ × Node))
       → find nat_cmp id nodes ≡ Some node
-      → at_id (filter_map (member_of project) nodes) ≡ Some (content_of text).sections
+      → at_id (filter_map (sections_at project) nodes) ≡ Some (content_of text).sections
   listed node text there [] found = cc
   listed node text there (e ∷ nodes) found = by (eq_by_cmp nat_cmp id e.0) refl found (listed node text there nodes)
     where
@@ -52,38 +80,39 @@ module _ (project : Content) (id : ℕ) where
       another other false apart = refl
 
       by : (t : Bool) → eq_by_cmp nat_cmp id e.0 ≡ t → cond t (Some e.1) (find nat_cmp id nodes) ≡ Some node
-          → (find nat_cmp id nodes ≡ Some node → at_id (filter_map (member_of project) nodes)
+          → (find nat_cmp id nodes ≡ Some node → at_id (filter_map (sections_at project) nodes)
           ≡ Some (content_of text).sections)
-          → at_id (filter_map (member_of project) (e ∷ nodes)) ≡ Some (content_of text).sections
+          → at_id (filter_map (sections_at project) (e ∷ nodes)) ≡ Some (content_of text).sections
       by true same is rest =
           let itself : e.1 ≡ node = cc in
-          taken e (filter_map (member_of project) nodes) text
+          taken e (filter_map (sections_at project) nodes) text
           (eq-eqb e.0 id (sym (alike nat_cmp_total exact_unsigned id e.0 same)))
           (ap (λ (n : Node). text_at project.texts n.eds) itself ∙ there)
-      by false other is rest = skipped e (filter_map (member_of project) nodes) (another other (e.0 == id) refl)
+      by false other is rest = skipped e (filter_map (sections_at project) nodes) (another other (e.0 == id) refl)
           (text_at project.texts e.1.eds) ∙ rest is
 
   -- the sections of a member
-  pub described_at : (m : Member) → member_at project id ≡ Some m → at_id (members_of project) ≡ Some m.sections
-  unfolding members_of member_at
-  described_at m found = by (node_at project.nodes id) refl found
+  pub described_at : (m : Member) → member_at project id ≡ Some m → at_id (sections_of_members project) ≡ Some m.sections
+  unfolding member_at
+  described_at m found =
+      ap (λ (ns : List (ℕ × List Section)). at_id ns) (sections_are project) ∙ by (node_at project.nodes id) refl found
     where
       with : (node : Node) → get project.nodes id ≡ Some node → (o : Option (List ℕ))
           → text_at project.texts node.eds ≡ o
           → option_map (λ text. record { node = node; sections = (content_of text).sections }) o ≡ Some m
-          → at_id (filter_map (member_of project) (entries project.nodes)) ≡ Some m.sections
+          → at_id (filter_map (sections_at project) (entries project.nodes)) ≡ Some m.sections
       with node known None none is = cc
       with node known (Some text) there is =
           let sections : (content_of text).sections ≡ m.sections = cc in
           listed node text there (entries project.nodes) (sym (get-entries project.nodes id) ∙ known) ∙ ap Some sections
 
       by : (o : Option Node) → get project.nodes id ≡ o → option_and_then (with_sections project) o ≡ Some m
-          → at_id (filter_map (member_of project) (entries project.nodes)) ≡ Some m.sections
+          → at_id (filter_map (sections_at project) (entries project.nodes)) ≡ Some m.sections
       by None none is = cc
       by (Some node) known is = with node known (text_at project.texts node.eds) refl is
 
   -- the plan is made for it
   pub made_for_member : (m : Member) → member_at project id ≡ Some m → IsMadeFor (plan_of_project project) m.sections id
   unfolding plan_of_project
-  made_for_member m found = made_for (members_of project) id m.sections (described_at m found)
+  made_for_member m found = made_for (sections_of_members project) id m.sections (described_at m found)
       (entries project.messages)

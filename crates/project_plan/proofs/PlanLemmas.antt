@@ -16,14 +16,14 @@ use Rattle.co_project.specs.Tables.{node_at, text_at}
 use Rattle.pdo_stations.specs.Devices.{devices_of}
 use Rattle.pdo_plan.specs.Plan.{plan_of}
 use Rattle.pdo_plan.proofs.NamedLemmas.{named_alike}
-use Rattle.project_plan.specs.Network.{members_of, member_at, member_of, plan_of_project, with_sections, Member}
+use Rattle.project_plan.specs.Network.{Member, member_at, plan_of_project, sections_of_members, with_sections}
 use Rattle.project_plan.proofs.NamedLemmas.{in_text}
-use Rattle.project_plan.proofs.NetworkLemmas.{described_at, eq_by_cmp_same}
+use Rattle.project_plan.proofs.NetworkLemmas.{described_at, eq_by_cmp_same, sections_are, sections_at}
 
 module _ (p : Content) (id : ℕ) where
   -- a number without a node has no sections
   unlisted : (nodes : List (ℕ × Node)) → find nat_cmp id nodes ≡ None
-      → lookup (λ n. n == id) (filter_map (member_of p) nodes) ≡ None
+      → lookup (λ n. n == id) (filter_map (sections_at p) nodes) ≡ None
   unlisted [] none = refl
   unlisted (e ∷ nodes) none = by (eq_by_cmp nat_cmp id e.0) refl none (unlisted nodes)
     where
@@ -32,21 +32,22 @@ module _ (p : Content) (id : ℕ) where
       another other false apart = refl
 
       skipped : (o : Option (List ℕ)) → (e.0 == id) ≡ false
-          → lookup (λ n. n == id) (filter_map (member_of p) nodes) ≡ None
-          → lookup (λ n. n == id) (cons_option (option_map (in_text e.0) o) (filter_map (member_of p) nodes)) ≡ None
+          → lookup (λ n. n == id) (filter_map (sections_at p) nodes) ≡ None
+          → lookup (λ n. n == id) (cons_option (option_map (in_text e.0) o) (filter_map (sections_at p) nodes)) ≡ None
       skipped None apart rest = rest
       skipped (Some text) apart rest = ap (λ t. cond t (Some (content_of text).sections)
-          (lookup (λ n. n == id) (filter_map (member_of p) nodes))) apart ∙ rest
+          (lookup (λ n. n == id) (filter_map (sections_at p) nodes))) apart ∙ rest
 
       by : (t : Bool) → eq_by_cmp nat_cmp id e.0 ≡ t → cond t (Some e.1) (find nat_cmp id nodes) ≡ None
-          → (find nat_cmp id nodes ≡ None → lookup (λ n. n == id) (filter_map (member_of p) nodes) ≡ None)
-          → lookup (λ n. n == id) (filter_map (member_of p) (e ∷ nodes)) ≡ None
+          → (find nat_cmp id nodes ≡ None → lookup (λ n. n == id) (filter_map (sections_at p) nodes) ≡ None)
+          → lookup (λ n. n == id) (filter_map (sections_at p) (e ∷ nodes)) ≡ None
       by true same is rest = cc
       by false other is rest = skipped (text_at p.texts e.1.eds) (another other (e.0 == id) refl) (rest is)
 
-  unlisted_all : node_at p.nodes id ≡ None → lookup (λ n. n == id) (members_of p) ≡ None
-  unfolding members_of
-  unlisted_all none = unlisted (entries p.nodes) (sym (get-entries p.nodes id) ∙ none)
+  unlisted_all : node_at p.nodes id ≡ None → lookup (λ n. n == id) (sections_of_members p) ≡ None
+  unlisted_all none =
+      ap (λ (ns : List (ℕ × List Section)). lookup (λ n. n == id) ns) (sections_are p)
+      ∙ unlisted (entries p.nodes) (sym (get-entries p.nodes id) ∙ none)
 
   -- the EDS of a node is there
   eds_there : IsSound p → (node : Node) → node_at p.nodes id ≡ Some node → is_some (text_at p.texts node.eds) ≡ true
@@ -54,14 +55,14 @@ module _ (p : Content) (id : ℕ) where
   eds_there sound node known = (each_found (IsNodeOf p) p.nodes id node sound.nodes known).5
 
   -- each number has the sections of its member
-  looked_up : IsSound p → lookup (λ n. n == id) (members_of p) ≡ option_map (λ (m : Member). m.sections)
+  looked_up : IsSound p → lookup (λ n. n == id) (sections_of_members p) ≡ option_map (λ (m : Member). m.sections)
       (member_at p id)
   unfolding member_at
   looked_up sound = by (node_at p.nodes id) refl
     where
       with : (node : Node) → node_at p.nodes id ≡ Some node → (o : Option (List ℕ)) → text_at p.texts node.eds ≡ o
           → is_some o ≡ true
-          → lookup (λ n. n == id) (members_of p) ≡ option_map (λ (m : Member). m.sections) (with_sections p node)
+          → lookup (λ n. n == id) (sections_of_members p) ≡ option_map (λ (m : Member). m.sections) (with_sections p node)
       with node known None none some = cc
       with node known (Some text) there some =
           let m : Member = record { node = node; sections = (content_of text).sections } in
@@ -72,7 +73,7 @@ module _ (p : Content) (id : ℕ) where
           ∙ ap (option_map (λ (m : Member). m.sections)) (sym made)
 
       by : (o : Option Node) → node_at p.nodes id ≡ o
-          → lookup (λ n. n == id) (members_of p) ≡ option_map (λ (m : Member). m.sections)
+          → lookup (λ n. n == id) (sections_of_members p) ≡ option_map (λ (m : Member). m.sections)
           (option_and_then (with_sections p) o)
       by None none = unlisted_all none
       by (Some node) known = with node known (text_at p.texts node.eds) refl (eds_there sound node known)
@@ -83,4 +84,4 @@ pub planned_over_members : (p : Content) (nodes : List (ℕ × List Section)) �
     → plan_of (devices_of nodes) (entries p.messages) ≡ plan_of_project p
 unfolding plan_of_project
 planned_over_members p nodes sound are =
-    named_alike nodes (members_of p) p.messages (λ id named. are id named ∙ sym (looked_up p id sound))
+    named_alike nodes (sections_of_members p) p.messages (λ id named. are id named ∙ sym (looked_up p id sound))

@@ -4,7 +4,7 @@ use Rattle.std.proofs.Common.{Some, None, option_and_then, length, refl, sym, ap
 use Rattle.std.specs.List.{AllByRecursion, filter, list_any, onto_first, starts_with}
 use Rattle.std.specs.Bool.{nat_eq}
 use Rattle.std.proofs.lemmas.Bool.{or_parts}
-use Rattle.ini_text.specs.Text.{byte_order_mark, has_bad_byte, is_bad_byte, lines_of, split_once, trimmed, without_mark}
+use Rattle.ini_text.specs.Text.{byte_order_mark, has_bad_byte, is_bad_byte, lines_of, split_once, trim_line, without_mark}
 use Rattle.ini_text.specs.Line.{Line, nothing, header, pair, other, unless_empty, header_name, key_value, pair_or_other}
 use Rattle.ini_text.specs.Line.{header_or, meaning, line_of}
 use Rattle.ini_text.specs.Content.{same, same_key, headers, pairs_under, firsts, section_of, sections_of}
@@ -61,9 +61,9 @@ name_good (b ∷ bs) h =
     by (eqb b 91) (split_once 93 bs) (parted_good 93 bs (or_parts (is_bad_byte b) (has_bad_byte bs) h).1)
   where
     by : (t : Bool) (o : Option (List ℕ × List ℕ)) → IfSome o AreGood
-        → IfSome (cond t (option_and_then (λ (p : List ℕ × List ℕ). unless_empty (trimmed p.0)) o) None) IsGood
+        → IfSome (cond t (option_and_then (λ (p : List ℕ × List ℕ). unless_empty (trim_line p.0)) o) None) IsGood
     by true None g = tt
-    by true (Some p) g = some_good (trimmed p.0) (none_trimmed is_bad_byte p.0 g.0)
+    by true (Some p) g = some_good (trim_line p.0) (none_trimmed is_bad_byte p.0 g.0)
     by false o g = tt
 
 pair_good : (line : List ℕ) → IsGood line → IfSome (key_value line) AreGood
@@ -71,7 +71,7 @@ unfolding key_value
 pair_good line h = by (split_once 61 line) (parted_good 61 line h)
   where
     given : List ℕ × List ℕ → List ℕ → Option (List ℕ × List ℕ)
-    given p k = Some (k, trimmed p.1)
+    given p k = Some (k, trim_line p.1)
 
     with_key : (p : List ℕ × List ℕ) → AreGood p → (o : Option (List ℕ)) → IfSome o IsGood
         → IfSome (option_and_then (given p) o) AreGood
@@ -79,10 +79,10 @@ pair_good line h = by (split_once 61 line) (parted_good 61 line h)
     with_key p g (Some key) k = (k, none_trimmed is_bad_byte p.1 g.1)
 
     by : (o : Option (List ℕ × List ℕ)) → IfSome o AreGood
-        → IfSome (option_and_then (λ p. option_and_then (given p) (unless_empty (trimmed p.0))) o) AreGood
+        → IfSome (option_and_then (λ p. option_and_then (given p) (unless_empty (trim_line p.0))) o) AreGood
     by None g = tt
     by (Some p) g =
-        with_key p g (unless_empty (trimmed p.0)) (some_good (trimmed p.0) (none_trimmed is_bad_byte p.0 g.0))
+        with_key p g (unless_empty (trim_line p.0)) (some_good (trim_line p.0) (none_trimmed is_bad_byte p.0 g.0))
 
 -- ---- what a line means
 
@@ -107,7 +107,7 @@ meaning_good (b ∷ bs) h =
 all_mean_good : (ls : List (List ℕ)) → AllByRecursion IsGood ls → AllByRecursion MeansGood (map line_of ls)
 unfolding line_of
 all_mean_good [] h = tt
-all_mean_good (l ∷ ls) h = (meaning_good (trimmed l) (none_trimmed is_bad_byte l h.0), all_mean_good ls h.1)
+all_mean_good (l ∷ ls) h = (meaning_good (trim_line l) (none_trimmed is_bad_byte l h.0), all_mean_good ls h.1)
 
 -- ---- sections
 

@@ -11,7 +11,7 @@ use Rattle.std.proofs.lemmas.List.{length-take-le, reverse-append}
 use Rattle.std.proofs.lemmas.List.Sums.{suffix_len-le-length}
 use Rattle.plain_text.specs.Blanks.{trim_end, trim_start}
 use Rattle.plain_text.specs.Lines.{is_cr}
-use Rattle.ini_text.specs.Text.{byte_order_mark, is_blank, is_long_line, lines_of, split_once, trimmed, without_mark}
+use Rattle.ini_text.specs.Text.{byte_order_mark, is_blank, is_long_line, lines_of, split_once, trim_line, without_mark}
 use Rattle.ini_text.specs.Line.{Line, nothing, header, pair, other, unless_empty, header_name, key_value, pair_or_other}
 use Rattle.ini_text.specs.Line.{header_or, meaning, line_of}
 use Rattle.ini_text.specs.Content.{same, same_key, headers, pairs_under, firsts, section_of, sections_of}
@@ -79,15 +79,15 @@ end_of_fewer bs =
     let fewer : suffix_len is_cr bs ≤ suffix_len is_blank bs = prefix_weaker is_cr is_blank cr_is_blank (reverse bs) in
     omega (arith, all, crs, fewer)
 
-trimmed_ends : (bs : List ℕ) → length (trimmed bs) ≤ length (trim_end is_cr bs)
-unfolding trimmed
+trimmed_ends : (bs : List ℕ) → length (trim_line bs) ≤ length (trim_end is_cr bs)
+unfolding trim_line
 trimmed_ends bs =
     let start : List ℕ = trim_start is_blank bs in
     let fewer = end_of_fewer start in
     let rest = end_of_rest is_cr (prefix_len is_blank bs) bs in
     omega (arith, fewer, rest)
 
-trimmed_short : (bs : List ℕ) → length (trimmed bs) ≤ length bs
+trimmed_short : (bs : List ℕ) → length (trim_line bs) ≤ length bs
 trimmed_short bs =
     let ends = trimmed_ends bs in
     let crs = end_length is_cr bs in
@@ -154,27 +154,27 @@ unfolding header_name
 name_short [] h = tt
 name_short (b ∷ bs) h = by (eqb b 91) (split 93 bs)
   where
-    named : (xs ys : List ℕ) → bs ≡ xs ++ 93 ∷ ys → (o : Option (List ℕ)) → unless_empty (trimmed xs) ≡ o
+    named : (xs ys : List ℕ) → bs ≡ xs ++ 93 ∷ ys → (o : Option (List ℕ)) → unless_empty (trim_line xs) ≡ o
         → IfSome o IsShortName
     named xs ys whole None e = tt
     named xs ys whole (Some name) e =
-        let is : length (trimmed xs) ≡ length name = ap length (some_is (trimmed xs) name e) in
+        let is : length (trim_line xs) ≡ length name = ap length (some_is (trim_line xs) name e) in
         let parts : length bs ≡ length (xs ++ 93 ∷ ys) = ap length whole in
         let sum = length-append xs (93 ∷ ys) in
         let short = trimmed_short xs in
         omega (arith, is, parts, sum, short, h)
 
     by : (t : Bool) → Split 93 bs
-        → IfSome (cond t (option_and_then (λ (p : List ℕ × List ℕ). unless_empty (trimmed p.0)) (split_once 93 bs)) None)
+        → IfSome (cond t (option_and_then (λ (p : List ℕ × List ℕ). unless_empty (trim_line p.0)) (split_once 93 bs)) None)
         IsShortName
     by false s = tt
     by true (none f lacks) =
         subst (λ (o : Option (List ℕ × List ℕ)).
-        IfSome (option_and_then (λ p. unless_empty (trimmed p.0)) o) IsShortName) (sym f) tt
+        IfSome (option_and_then (λ p. unless_empty (trim_line p.0)) o) IsShortName) (sym f) tt
     by true (at xs ys f whole lacks) =
         subst (λ (o : Option (List ℕ × List ℕ)).
-        IfSome (option_and_then (λ p. unless_empty (trimmed p.0)) o) IsShortName) (sym f)
-        (named xs ys whole (unless_empty (trimmed xs)) refl)
+        IfSome (option_and_then (λ p. unless_empty (trim_line p.0)) o) IsShortName) (sym f)
+        (named xs ys whole (unless_empty (trim_line xs)) refl)
 
 abbrev ArePairShort : List ℕ × List ℕ → Type 0
 ArePairShort q = AreShort q.0 q.1
@@ -184,16 +184,16 @@ unfolding key_value
 pair_short line h = by (split 61 line)
   where
     given : List ℕ × List ℕ → List ℕ → Option (List ℕ × List ℕ)
-    given p k = Some (k, trimmed p.1)
+    given p k = Some (k, trim_line p.1)
 
     both : Option (List ℕ × List ℕ) → Option (List ℕ × List ℕ)
-    both o = option_and_then (λ p. option_and_then (given p) (unless_empty (trimmed p.0))) o
+    both o = option_and_then (λ p. option_and_then (given p) (unless_empty (trim_line p.0))) o
 
-    keyed : (xs ys : List ℕ) → line ≡ xs ++ 61 ∷ ys → (o : Option (List ℕ)) → unless_empty (trimmed xs) ≡ o
+    keyed : (xs ys : List ℕ) → line ≡ xs ++ 61 ∷ ys → (o : Option (List ℕ)) → unless_empty (trim_line xs) ≡ o
         → IfSome (option_and_then (given (xs, ys)) o) ArePairShort
     keyed xs ys whole None e = tt
     keyed xs ys whole (Some key) e =
-        let is : length (trimmed xs) ≡ length key = ap length (some_is (trimmed xs) key e) in
+        let is : length (trim_line xs) ≡ length key = ap length (some_is (trim_line xs) key e) in
         let parts : length line ≡ length (xs ++ 61 ∷ ys) = ap length whole in
         let sum = length-append xs (61 ∷ ys) in
         let before = trimmed_short xs in
@@ -204,7 +204,7 @@ pair_short line h = by (split 61 line)
     by (none f lacks) = subst (λ (o : Option (List ℕ × List ℕ)). IfSome (both o) ArePairShort) (sym f) tt
     by (at xs ys f whole lacks) =
         subst (λ (o : Option (List ℕ × List ℕ)). IfSome (both o) ArePairShort) (sym f)
-        (keyed xs ys whole (unless_empty (trimmed xs)) refl)
+        (keyed xs ys whole (unless_empty (trim_line xs)) refl)
 
 abbrev MeansShort : Line → Type 0
 MeansShort nothing = Unit {0}
@@ -230,7 +230,7 @@ all_mean_short [] h = tt
 all_mean_short (l ∷ ls) h =
     let ends = short_ends l h.0 in
     let short = trimmed_ends l in
-    (meaning_short (trimmed l) (omega (arith, ends, short)), all_mean_short ls h.1)
+    (meaning_short (trim_line l) (omega (arith, ends, short)), all_mean_short ls h.1)
 
 -- ---- sections
 

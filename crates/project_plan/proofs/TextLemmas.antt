@@ -10,7 +10,7 @@ use Rattle.std.proofs.lemmas.List.{length-take, reverse-append}
 use Rattle.std.proofs.lemmas.List.Sums.{prefix_len-le-length, suffix_len-le-length}
 use Rattle.std.proofs.lemmas.Slice.Eq.{bytes_eq-Decides}
 use Rattle.base.specs.Ranges.{is_between}
-use Rattle.plain_text.specs.Blanks.{is_blank, trim_end, trimmed}
+use Rattle.plain_text.specs.Blanks.{is_blank, trim_end, trim}
 use Rattle.plain_text.specs.Lines.{is_cr, lines_of}
 use Rattle.project_edits.specs.Eds.{text_of as kept_text}
 use Rattle.project_edits.specs.Forms.{is_control, is_name, is_name_byte, is_plain, is_text}
@@ -99,7 +99,7 @@ plain_reverse (b ∷ bs) h = subst (AllByRecursion (λ b. is_control b ≡ false
     (plain_push (reverse bs) b (plain_reverse bs h.1) h.0)
 
 -- a text that is trimmed has no blank in front and none behind
-unblank : (bs : List ℕ) → trimmed bs ≡ bs → (prefix_len is_blank bs ≡ 0) × (prefix_len is_blank (reverse bs) ≡ 0)
+unblank : (bs : List ℕ) → trim bs ≡ bs → (prefix_len is_blank bs ≡ 0) × (prefix_len is_blank (reverse bs) ≡ 0)
 unblank bs same =
     let n : ℕ = prefix_len is_blank bs in
     let s : List ℕ = drop n bs in
@@ -119,9 +119,9 @@ turned false e = refl
 
 pub text_value : (text : List ℕ) → is_text text ≡ true → IsValue text
 text_value text e =
-    let plain : is_plain text ≡ true = and_left (is_plain text) (bytes_eq (trimmed text) text) e in
-    let same : trimmed text ≡ text = (bytes_eq-Decides (trimmed text) text).0 (and_right (is_plain text)
-    (bytes_eq (trimmed text) text) e) in
+    let plain : is_plain text ≡ true = and_left (is_plain text) (bytes_eq (trim text) text) e in
+    let same : trim text ≡ text = (bytes_eq-Decides (trim text) text).0 (and_right (is_plain text)
+    (bytes_eq (trim text) text) e) in
     let none : list_any is_control text ≡ false = turned (list_any is_control text)
     (and_right (is_between 1 4000 (length text)) (not (list_any is_control text)) plain) in
     let each = each_plain text none in
@@ -144,7 +144,7 @@ none_bad (b ∷ bs) none =
 
 pub text_good : (text : List ℕ) → is_text text ≡ true → IsGood text
 text_good text e =
-    let plain : is_plain text ≡ true = and_left (is_plain text) (bytes_eq (trimmed text) text) e in
+    let plain : is_plain text ≡ true = and_left (is_plain text) (bytes_eq (trim text) text) e in
     none_bad text (turned (list_any is_control text)
     (and_right (is_between 1 4000 (length text)) (not (list_any is_control text)) plain))
 

@@ -33,7 +33,7 @@ use Rattle.eds_device.proofs.MapLemmas.{alike, get_given}
 use Rattle.eds_device.proofs.PlaceLemmas.{has_place}
 use Rattle.pdo_stations.specs.declared.mapped.Mapped.{Mapped}
 use Rattle.pdo_stations.specs.Devices.{is_unsigned}
-use Rattle.cia301.specs.PdoObjects.{mapping_object, rpdo_object, tpdo_object}
+use Rattle.cia301.specs.PdoObjects.{is_communication_object, is_of_tpdos, mapping_object, rpdo_object, tpdo_object}
 use Rattle.pdo_plan.specs.declared.clean.Clean.{Clean}
 use Rattle.pdo_plan.specs.declared.consumer.Consumer.{Consumer}
 use Rattle.pdo_plan.specs.declared.planned_message.PlannedMessage.{PlannedMessage}
@@ -532,9 +532,12 @@ module _ (plan : List PlannedMessage) (params : Texts) (ss : List Section) (node
       ∙ sym (without_rpdos q (inr (omega arith)) ∙ sent_set ss node (clean plan) (set_up params ss node) n low high)
 
   wanted_is : (index sub : ℕ) → is_wanted (index, sub) ≡ true → get wanted (index, sub) ≡ get whole (index, sub)
-  wanted_is index sub is = by (is_between 0x1800 0x19FF index) refl (sub == 1) refl
+  wanted_is index sub is = by of_object refl (sub == 1) refl
     where
-      number : (a : ℕ) → is_between 0x1800 0x19FF a ≡ true
+      of_object : Bool
+      of_object = is_of_tpdos index && is_communication_object index
+
+      number : (a : ℕ) → (is_of_tpdos a && is_communication_object a) ≡ true
           → (1 ≤ a - 0x17FF) × ((a - 0x17FF ≤ 512) × (tpdo_object (a - 0x17FF) ≡ a))
       number a test = let low : 0x1800 ≤ a = grind arith in let high : a ≤ 0x19FF = grind arith
           in (omega arith, (omega arith, omega arith))
@@ -545,11 +548,11 @@ module _ (plan : List PlannedMessage) (params : Texts) (ss : List Section) (node
       low_one a true false none is = grind arith
       low_one a false t none is = grind arith
 
-      low_by : (b t : Bool) → is_between 0x1800 0x19FF index ≡ b → (sub == 1) ≡ t → b && t ≡ false → index < 0x1100
-      low_by b t at of_sub none = low_one index (is_between 0x1800 0x19FF index) (sub == 1)
+      low_by : (b t : Bool) → of_object ≡ b → (sub == 1) ≡ t → b && t ≡ false → index < 0x1100
+      low_by b t at of_sub none = low_one index of_object (sub == 1)
           (ap (λ (x : Bool). x && (sub == 1)) at ∙ ap (λ (x : Bool). b && x) of_sub ∙ none) is
 
-      by : (b : Bool) → is_between 0x1800 0x19FF index ≡ b → (t : Bool) → (sub == 1) ≡ t
+      by : (b : Bool) → of_object ≡ b → (t : Bool) → (sub == 1) ≡ t
           → get wanted (index, sub) ≡ get whole (index, sub)
       by true at true of_sub =
           let n : (1 ≤ index - 0x17FF) × ((index - 0x17FF ≤ 512) × (tpdo_object (index - 0x17FF) ≡ index)) =
@@ -563,7 +566,7 @@ module _ (plan : List PlannedMessage) (params : Texts) (ss : List Section) (node
 
   -- a number is among what is wanted as it is among all
   pub number_wanted : (width : Width) (place : ℕ × ℕ) → is_wanted place ≡ true
-      → number_among width ss wanted place ≡ number_among width ss whole place
+      → number_among ss wanted width place ≡ number_among ss whole width place
   number_wanted width place is =
       ap (λ (o : Option (List ℕ)). if is_unsigned (kind_at ss place) width
       then option_map (little_number (octets width)) o else None)

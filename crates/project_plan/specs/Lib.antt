@@ -4,6 +4,8 @@ pub mod Network
 pub mod Events
 pub mod Values
 pub mod Doubtful
+pub mod GivenParameters
+pub mod Sheets
 pub mod Wanted
 pub mod Files
 pub mod Nodes

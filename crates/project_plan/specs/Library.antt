@@ -1,17 +1,18 @@
 -- What was read of a project: devices by the names of their EDS.
-use Rattle.std.specs.Prelude.{◌≡◌, ℕ, List, Some, option_map, refl}
+use Rattle.std.specs.Prelude.{◌≡◌, ℕ, List, Some, refl}
 use Rattle.std.specs.Coded.{Coded, code_by, coded×, coded_ℕ, coded_list}
 use Rattle.std.specs.FinMap.{FinMap, code, get, insert}
 use Rattle.std.specs.Option.{option_map_or}
 use Rattle.base.specs.Tables.{Each}
-use Rattle.ini_text.specs.Content.{Content as Device, content_of}
+use Rattle.ini_text.specs.Content.{Content as DataSheet, content_of}
 use Rattle.project_messages.specs.Messages.{name_cmp}
 use Rattle.co_project.specs.Project.{Content}
 use Rattle.co_project.specs.Tables.{text_at}
+use Rattle.project_plan.specs.Network.{device_at}
 
 -- devices by the names of their EDS
 abbrev pub Devices : Type 0
-Devices = FinMap name_cmp Device
+Devices = FinMap name_cmp DataSheet
 
 -- a project, and those of its devices that were read
 pub record Read : Type 0 where
@@ -19,7 +20,7 @@ pub record Read : Type 0 where
   pub devices : Devices
 
 -- it is stored as the two
-abbrev pub read_code : Coded Content → Coded Device → Coded Read
+abbrev pub read_code : Coded Content → Coded DataSheet → Coded Read
 read_code project_code device_code =
     code_by (Content × Devices) (coded× project_code (code (coded_list coded_ℕ) device_code))
     (λ r. (r.project, r.devices)) (λ t. record { project = t.0; devices = t.1 }) (λ _. refl)
@@ -33,8 +34,8 @@ with_device read name = record read {
 
 -- each is what the project's text of its name describes
 abbrev pub AreRead : Content → Devices → Type 0
-AreRead project devices = Each (λ name device. option_map content_of (text_at project.texts name) ≡ Some device) devices
+AreRead project devices = Each (λ name device. device_at project name ≡ Some device) devices
 
 -- the device of a name is among them, if the project has its text
 abbrev pub IsRead : Read → List ℕ → Type 0
-IsRead read name = get read.devices name ≡ option_map content_of (text_at read.project.texts name)
+IsRead read name = get read.devices name ≡ device_at read.project name

@@ -14,7 +14,7 @@ use Rattle.node_parameters.specs.Parameters.{parameter_text}
 use Rattle.node_parameters.specs.Params.{Texts}
 use Rattle.eds_device.specs.Entries.{default_at, entry_at, given_at}
 use Rattle.eds_device.specs.Places.{pairs_of}
-use Rattle.cia301.specs.PdoObjects.{tpdo_object}
+use Rattle.cia301.specs.PdoObjects.{is_communication_object, is_of_tpdos, tpdo_object}
 use Rattle.pdo_plan.specs.declared.clean.Clean.{Clean}
 use Rattle.pdo_plan.specs.declared.planned_message.PlannedMessage.{PlannedMessage}
 use Rattle.pdo_plan.specs.Plan.{clean_of}
@@ -22,11 +22,14 @@ use Rattle.pdo_links.specs.Writes.{tpdo_of}
 use Rattle.project_plan.specs.Network.{Member}
 use Rattle.cia301.specs.Limits.{is_pdo_number}
 
--- whether the value of an entry is wanted: the COB-ID of a TPDO (1800h to 19FFh, sub 1), a heartbeat consumer (1016h),
--- the heartbeat time (1017h) and the synchronous counter overflow value (1019h)
+-- the COB-ID of a TPDO: sub-index 1 of its communication object (1800h to 19FFh)
+abbrev pub is_tpdo_cob_id : ℕ × ℕ → Bool
+is_tpdo_cob_id place = (is_of_tpdos place.0 && is_communication_object place.0) && place.1 == 1
+
+-- whether the value of an entry is wanted: the COB-ID of a TPDO, a heartbeat consumer (1016h), the heartbeat time
+-- (1017h) and the synchronous counter overflow value (1019h)
 abbrev pub is_wanted : ℕ × ℕ → Bool
-is_wanted place =
-    (is_between 0x1800 0x19FF place.0 && place.1 == 1) || (is_between 0x1016 0x1017 place.0 || place.0 == 0x1019)
+is_wanted place = is_tpdo_cob_id place || (is_between 0x1016 0x1017 place.0 || place.0 == 0x1019)
 
 -- what the parameter of an entry gives it, where it has a text and no fault
 abbrev pub parameter_value : List Section → Texts → ℕ → ℕ × ℕ → Option (List ℕ)

@@ -4,7 +4,7 @@ ghost use Rattle.eds_device.specs.Places.{pairs_of};
 ghost use Rattle.project_plan.specs.Doubtful.{doubtful_places, is_doubtful, spells_none};
 
 use co_values::{DataType, read_number, value_of};
-use eds_device::Device;
+use eds_device::DataSheet;
 use std::alloc::{AllocError, Global};
 
 /// Whether a type is modelled and a text spells none of its values at a node.
@@ -22,7 +22,7 @@ pub fn spells_none(alloc: Global, id: u8, text: &[u8], kind: DataType) -> Result
 
 /// Whether the default of an entry may spell no value at some node. One that spells a number and a value at
 /// one node spells the same at each.
-fn is_doubtful(alloc: Global, device: &Device, index: u16, sub: u8) -> Result<bool, AllocError>
+fn is_doubtful(alloc: Global, device: &DataSheet, index: u16, sub: u8) -> Result<bool, AllocError>
     ensures { IfOk result (λ doubtful. doubtful ≡ is_doubtful device.now.sections (index, sub)) }
 {
     let Some(text) = device.default_text(index, sub) else {
@@ -37,7 +37,10 @@ fn is_doubtful(alloc: Global, device: &Device, index: u16, sub: u8) -> Result<bo
 
 /// The entries of a device whose default may spell no value at some node, by index and sub-index: each other
 /// default is the same at each node. Takes time by the number of entries, at most 4,096, and the logarithm of it.
-pub fn doubtful_places(alloc: Global, device: &Device) -> Result<Vec<(u16, u8)>, AllocError>
+pub(crate) fn doubtful_places(
+    alloc: Global,
+    device: &DataSheet,
+) -> Result<Vec<(u16, u8)>, AllocError>
     ensures { IfOk result (λ places. places.items ≡ doubtful_places device.now.sections) }
 {
     let mut places = Vec::new(alloc);

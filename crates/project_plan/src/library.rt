@@ -1,13 +1,13 @@
 //! The devices of a project that were read.
-ghost use Rattle.std.specs.Prelude.{◌≡◌, IfOk, IfSome, OnOk, OnErr, Ok, Some, option_copied, option_map};
+ghost use Rattle.std.specs.Prelude.{◌≡◌, IfOk, IfSome, OnOk, OnErr, Ok, Some, option_copied};
 ghost use Rattle.std.specs.FinMap as map;
 ghost use Rattle.eds_device.specs.Faults.{device_of};
 ghost use Rattle.ini_text.specs.Content.{content_of};
-ghost use Rattle.co_project.specs.Tables.{text_at};
 ghost use Rattle.project_plan.specs.Library.{with_device, IsRead};
+ghost use Rattle.project_plan.specs.Network.{device_at};
 
 use co_project::Project;
-use eds_device::{Device, DeviceFault};
+use eds_device::{DataSheet, DeviceFault};
 use kept_values::Shared;
 use std::alloc::{AllocError, Global};
 use std::collections::BTreeMap;
@@ -19,13 +19,13 @@ use std::marker::Model;
 pub struct Library<'a> {
     alloc: Global,
     project: &'a Project,
-    devices: BTreeMap<Vec<u8>, Shared<Device>>,
+    devices: BTreeMap<Vec<u8>, Shared<DataSheet>>,
 }
 
 impl<'a> Model for Library<'a> {
     ghost use Rattle.project_messages.specs.Messages.{by_name};
     ghost use Rattle.co_project.specs.contracts.project.Project as held;
-    ghost use Rattle.eds_device.specs.contracts.device.Device as device;
+    ghost use Rattle.eds_device.specs.contracts.data_sheet.DataSheet as device;
     ghost use Rattle.std.specs.FinMap as map;
     ghost use Rattle.project_plan.specs.Library.{Read, read_code, AreRead};
 
@@ -39,11 +39,11 @@ impl<'a> Model for Library<'a> {
 }
 
 /// Reads the text of a device.
-fn read_device(alloc: Global, text: &[u8]) -> Result<Shared<Device>, AllocError>
+fn read_device(alloc: Global, text: &[u8]) -> Result<Shared<DataSheet>, AllocError>
     requires { device_of text.now ≡ Ok (content_of text.now) }
     ensures { IfOk result (λ device. device ≡ content_of text.now) }
 {
-    match Device::read(alloc, text) {
+    match DataSheet::read(alloc, text) {
         Ok(device) => Shared::new(alloc, device),
         Err(DeviceFault::Memory) => Err(AllocError),
         Err(_fault) => unreachable!(),
@@ -99,8 +99,8 @@ impl<'a> Library<'a> {
     /// Want of memory changes nothing.
     ///
     /// Takes time by the logarithm of the number of texts.
-    pub fn put(&mut self, name: &[u8], device: Shared<Device>) -> Result<(), AllocError>
-        requires { option_map content_of (text_at self.old.project.texts name.now) ≡ Some device }
+    pub fn put(&mut self, name: &[u8], device: Shared<DataSheet>) -> Result<(), AllocError>
+        requires { device_at self.old.project name.now ≡ Some device }
         ensures ok { OnOk result (self.new ≡ with_device self.old name.now) }
         ensures err { OnErr result (self.new ≡ self.old) }
     {
@@ -109,21 +109,19 @@ impl<'a> Library<'a> {
         Ok(())
     }
 
-    fn shared(&self, name: &[u8]) -> Option<&Shared<Device>>
+    fn shared(&self, name: &[u8]) -> Option<&Shared<DataSheet>>
         ensures device { option_copied result ≡ map.get self.now.devices name.now }
-        ensures described { IfSome result (λ device. option_map content_of (text_at self.now.project.texts name.now)
-            ≡ Some device.now) }
+        ensures described { IfSome result (λ device. device_at self.now.project name.now ≡ Some device.now) }
     {
         self.devices.get(name)
     }
 
     /// The device of an EDS, if it was read.
-    pub fn device(&self, name: &[u8]) -> Option<&Device>
+    pub fn device(&self, name: &[u8]) -> Option<&DataSheet>
         ensures device { option_copied result ≡ map.get self.now.devices name.now }
 
         // It is what the text of that name describes.
-        ensures described { IfSome result (λ device. option_map content_of (text_at self.now.project.texts name.now)
-            ≡ Some device.now) }
+        ensures described { IfSome result (λ device. device_at self.now.project name.now ≡ Some device.now) }
     {
         match self.shared(name) {
             Some(device) => Some(device.get()),

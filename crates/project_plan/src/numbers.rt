@@ -5,12 +5,12 @@ ghost use Rattle.project_plan.specs.Values.{number_among};
 
 use co_dict::Dict;
 use co_values::{Width, number_8, number_16, number_32};
-use eds_device::Device;
+use eds_device::DataSheet;
 use pdo_stations::is_unsigned;
 
 /// The number that an entry has among values, where it is there and UNSIGNED8.
-pub fn unsigned_8(device: &Device, values: &Dict, index: u16, sub: u8) -> Option<u8>
-    ensures { result ≡ number_among Bits8 device.now.sections values.now (index, sub) }
+pub fn unsigned_8(device: &DataSheet, values: &Dict, index: u16, sub: u8) -> Option<u8>
+    ensures { result ≡ number_among device.now.sections values.now Bits8 (index, sub) }
 {
     if !is_unsigned(device.kind(index, sub), Width::Bits8) {
         return None;
@@ -20,8 +20,8 @@ pub fn unsigned_8(device: &Device, values: &Dict, index: u16, sub: u8) -> Option
 }
 
 /// The number that an entry has among values, where it is there and UNSIGNED16.
-pub fn unsigned_16(device: &Device, values: &Dict, index: u16, sub: u8) -> Option<u16>
-    ensures { result ≡ number_among Bits16 device.now.sections values.now (index, sub) }
+pub fn unsigned_16(device: &DataSheet, values: &Dict, index: u16, sub: u8) -> Option<u16>
+    ensures { result ≡ number_among device.now.sections values.now Bits16 (index, sub) }
 {
     if !is_unsigned(device.kind(index, sub), Width::Bits16) {
         return None;
@@ -31,8 +31,8 @@ pub fn unsigned_16(device: &Device, values: &Dict, index: u16, sub: u8) -> Optio
 }
 
 /// The number that an entry has among values, where it is there and UNSIGNED32.
-pub fn unsigned_32(device: &Device, values: &Dict, index: u16, sub: u8) -> Option<u32>
-    ensures { result ≡ number_among Bits32 device.now.sections values.now (index, sub) }
+pub fn unsigned_32(device: &DataSheet, values: &Dict, index: u16, sub: u8) -> Option<u32>
+    ensures { result ≡ number_among device.now.sections values.now Bits32 (index, sub) }
 {
     if !is_unsigned(device.kind(index, sub), Width::Bits32) {
         return None;

@@ -6,36 +6,36 @@ ghost use Rattle.cia301.specs.CobIds.{no_rtr_bit};
 ghost use Rattle.co_values.specs.Values.{longest_value};
 ghost use Rattle.pdo_links.specs.Writes.{tpdo_of};
 ghost use Rattle.pdo_plan.specs.Plan.{clean_of};
-ghost use Rattle.project_plan.specs.Values.{member_of};
-ghost use Rattle.project_plan.specs.Wanted.{is_wanted, parameter_value, value_given, wanted_value, values_given};
-ghost use Rattle.project_plan.specs.Wanted.{with_tpdo, with_tpdos, wanted_by};
+ghost use Rattle.project_plan.specs.Network.{member_of};
+ghost use Rattle.project_plan.specs.Wanted.{is_tpdo_cob_id, is_wanted, parameter_value, value_given, wanted_value};
+ghost use Rattle.project_plan.specs.Wanted.{values_given, with_tpdo, with_tpdos, wanted_by};
 
 use base::Octets;
 use byteorder::{ByteOrder, LittleEndian};
-use cia301::CobId;
+use cia301::{CobId, is_communication_object, is_of_tpdos, tpdo_object};
 use co_dict::Dict;
 use co_project::Node;
-use eds_device::Device;
+use eds_device::DataSheet;
 use node_parameters::{Params, judge, parameter_text};
 use pdo_plan::{Clean, Outcome, Plan, PlannedMessage};
 use std::alloc::{AllocError, Global};
 
-/// The object before the communication parameter of the first TPDO.
-const BEFORE_TPDOS: u16 = 0x17FF;
-
 /// The sub-index of a COB-ID.
 const COB_ID: u8 = 1;
+
+/// Whether an entry is the COB-ID of a TPDO (CiA 301): sub-index 1 of 1800h to 19FFh.
+pub fn is_tpdo_cob_id(index: u16, sub: u8) -> bool
+    ensures { result ≡ is_tpdo_cob_id (index, sub) }
+{
+    is_of_tpdos(index) && is_communication_object(index) && sub == COB_ID
+}
 
 /// Whether the value of an entry is wanted: the COB-ID of a TPDO, a heartbeat consumer, the heartbeat time and
 /// the synchronous counter overflow value.
 fn is_wanted(index: u16, sub: u8) -> bool
     ensures { result ≡ is_wanted (index, sub) }
 {
-    match index {
-        0x1800..=0x19FF => sub == COB_ID,
-        0x1016..=0x1017 | 0x1019 => true,
-        _ => false,
-    }
+    is_tpdo_cob_id(index, sub) || matches!(index, 0x1016..=0x1017 | 0x1019)
 }
 
 /// What the parameter of an entry gives it, where it has a text and no fault.
@@ -43,7 +43,7 @@ fn parameter_value(
     alloc: Global,
     id: u8,
     params: &Params,
-    device: &Device,
+    device: &DataSheet,
     index: u16,
     sub: u8,
 ) -> Result<Option<Octets>, AllocError>
@@ -65,7 +65,7 @@ fn add_given(
     alloc: Global,
     id: u8,
     params: &Params,
-    device: &Device,
+    device: &DataSheet,
     index: u16,
     sub: u8,
 ) -> Result<(), AllocError>
@@ -84,7 +84,7 @@ fn add_wanted(
     alloc: Global,
     id: u8,
     params: &Params,
-    device: &Device,
+    device: &DataSheet,
     index: u16,
     sub: u8,
 ) -> Result<(), AllocError>
@@ -99,7 +99,12 @@ fn add_wanted(
 }
 
 /// What is given to all entries whose value is wanted.
-fn values_given(alloc: Global, id: u8, params: &Params, device: &Device) -> Result<Dict, AllocError>
+fn values_given(
+    alloc: Global,
+    id: u8,
+    params: &Params,
+    device: &DataSheet,
+) -> Result<Dict, AllocError>
     ensures { IfOk result (λ values. values ≡ values_given device.now.sections params.now id) }
 {
     let mut values = Dict::new(alloc);
@@ -126,7 +131,7 @@ fn write_cob_id(values: &mut Dict, clean: &Clean) -> Result<(), AllocError>
     }
     let mut bytes = [0u8; 4];
     LittleEndian::write_u32(&mut bytes, switched_on(clean.identifier));
-    values.write(BEFORE_TPDOS + number, COB_ID, &bytes)
+    values.write(tpdo_object(number), COB_ID, &bytes)
 }
 
 /// Writes it of a message that a node sends.
@@ -162,7 +167,7 @@ pub fn wanted_values(
     plan: &Plan,
     id: u8,
     node: &Node,
-    device: &Device,
+    device: &DataSheet,
 ) -> Result<Dict, AllocError>
     ensures { IfOk result (λ values. values ≡ wanted_by plan.now (member_of id node.now device.now)) }
 {

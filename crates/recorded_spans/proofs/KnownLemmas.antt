@@ -11,7 +11,7 @@ use Rattle.image_parts.specs.Contents.{Content, Image}
 use Rattle.image_parts.specs.declared.part.Part.{Part}
 use Rattle.image_parts.specs.declared.part.Part.TheVariants.{Roster, Defaults, Shape, Expect, Boot, Events}
 use Rattle.recorded_spans.specs.Numbers.{KeepsMeaning, with_meaning}
-use Rattle.recorded_spans.specs.Reads.{AreKnown, AreMarked, Extends, IsKnown, IsMarked, Known, Recorded, known_at, part_cmp}
+use Rattle.recorded_spans.specs.Reads.{AreNumbered, AreMarked, LearnsMore, IsKnown, IsMarked, Known, Recorded, known_at, part_cmp}
 use Rattle.recorded_spans.proofs.NumberLemmas.{given_keeps, given_stands, keeps_all, keeps_in_turn, same_number}
 use Rattle.recorded_spans.proofs.NumberLemmas.{stands_later}
 
@@ -77,25 +77,25 @@ module _ (image : Image) where
   -- one more part is known
   pub known_put : (contents : ℕ → Content) (given : ℕ) (part : Part) (k : Known) (old new : List (Part × Known))
       → ((q : Part) → known_at new q ≡ cond (is_at (part_cmp part) q) (Some k) (known_at old q))
-      → IsKnown image contents given part k → AreKnown image contents given old → AreKnown image contents given new
+      → IsKnown image contents given part k → AreNumbered image contents given old → AreNumbered image contents given new
   known_put contents given part k old new put h others q m e =
       put_by contents given part q k m (known_at old q) (is_at (part_cmp part) q) refl (sym (put q) ∙ e) h (others q m)
 
   pub all_known_later : (old new : ℕ → Content) (given later : ℕ) (es : List (Part × Known))
-      → KeepsMeaning given old new → given ≤ later → AreKnown image old given es → AreKnown image new later es
+      → KeepsMeaning given old new → given ≤ later → AreNumbered image old given es → AreNumbered image new later es
   all_known_later old new given later es keeps more h part k e =
       known_later old new given later part k keeps more (h part k e)
 
   -- ---- more and more is known
 
-  abbrev pub extends_itself : (contents : ℕ → Content) (given : ℕ) (es : List (Part × Known)) → AreKnown image contents given es
-      → Extends image contents given given es
+  abbrev pub extends_itself : (contents : ℕ → Content) (given : ℕ) (es : List (Part × Known)) → AreNumbered image contents given es
+      → LearnsMore image contents given given es
   extends_itself contents given es h =
       record { meaning = contents; more = omega arith; keeps = keeps_all contents given; known = h }
 
   abbrev pub extends_in_turn : (contents : ℕ → Content) (given later last : ℕ) (es fs : List (Part × Known))
-      (e : Extends image contents given later es) → Extends image e.meaning later last fs
-      → Extends image contents given last fs
+      (e : LearnsMore image contents given later es) → LearnsMore image e.meaning later last fs
+      → LearnsMore image contents given last fs
   extends_in_turn contents given later last es fs e f = record {
     meaning = f.meaning;
     more = omega (arith, e.more, f.more);
@@ -104,23 +104,23 @@ module _ (image : Image) where
   }
 
   pub one_still_marked : (contents : ℕ → Content) (given : ℕ) (es : List (Part × Known)) (r : Recorded)
-      → AreKnown image contents given es → IsMarked contents given r
-      → (e : Extends image contents given given es) × IsMarked e.meaning given r
+      → AreNumbered image contents given es → IsMarked contents given r
+      → (e : LearnsMore image contents given given es) × IsMarked e.meaning given r
   one_still_marked contents given es r h m = (extends_itself contents given es h, m)
 
   pub still_marked : (contents : ℕ → Content) (given : ℕ) (es : List (Part × Known)) (rs : List Recorded)
-      → AreKnown image contents given es → AreMarked contents given rs
-      → (e : Extends image contents given given es) × AreMarked e.meaning given rs
+      → AreNumbered image contents given es → AreMarked contents given rs
+      → (e : LearnsMore image contents given given es) × AreMarked e.meaning given rs
   still_marked contents given es rs h m = (extends_itself contents given es h, m)
 
   pub none_marked : (contents : ℕ → Content) (given : ℕ) (es : List (Part × Known)) (rs : List Recorded) → rs ≡ []
-      → AreKnown image contents given es → (e : Extends image contents given given es) × AreMarked e.meaning given rs
+      → AreNumbered image contents given es → (e : LearnsMore image contents given given es) × AreMarked e.meaning given rs
   none_marked contents given es rs none h =
       rw none (extends_itself contents given es h, All-nil (IsMarked contents given))
 
   pub marked_in_turn : (contents : ℕ → Content) (given later last : ℕ) (es fs : List (Part × Known)) (rs : List Recorded)
-      (e : Extends image contents given later es) (f : Extends image e.meaning later last fs)
-      → AreMarked f.meaning last rs → (g : Extends image contents given last fs) × AreMarked g.meaning last rs
+      (e : LearnsMore image contents given later es) (f : LearnsMore image e.meaning later last fs)
+      → AreMarked f.meaning last rs → (g : LearnsMore image contents given last fs) × AreMarked g.meaning last rs
   marked_in_turn contents given later last es fs rs e f m = (extends_in_turn contents given later last es fs e f, m)
 
   -- ---- one comparison
@@ -166,12 +166,12 @@ module _ (image : Image) where
   none_some n e = cc
 
   module _ (contents : ℕ → Content) (given : ℕ) (old new : List (Part × Known)) (part : Part)
-      (known : AreKnown image contents given old) where
+      (known : AreNumbered image contents given old) where
     -- it has the number of a read
     pub met_known : (r : Recorded)
         → ((q : Part) → known_at new q
         ≡ cond (is_at (part_cmp part) q) (Some (record { read = r; other = None })) (known_at old q))
-        → r.name ≡ part → image part ≡ r.content → IsMarked contents given r → Extends image contents given given new
+        → r.name ≡ part → image part ≡ r.content → IsMarked contents given r → LearnsMore image contents given given new
     met_known r put name is m = record {
       meaning = contents;
       more = omega arith;
@@ -194,7 +194,7 @@ module _ (image : Image) where
       -- it has a new number
       pub given_known : ((q : Part) → known_at new q ≡ cond (is_at (part_cmp part) q) (Some new_known) (known_at old q))
           → ((n : ℕ) → other ≡ Some n → (n < given) × (contents n ≡ content → ⊥))
-          → (e : Extends image contents given (given + 1) new) × IsMarked e.meaning (given + 1) new_known.read
+          → (e : LearnsMore image contents given (given + 1) new) × IsMarked e.meaning (given + 1) new_known.read
       given_known put differs =
           let keeps = given_keeps contents given content in
           let stands = given_stands contents given content in (

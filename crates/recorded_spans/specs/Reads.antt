@@ -60,13 +60,13 @@ pub record IsKnown (image : Image) (contents : ℕ → Content) (given : ℕ) (p
   pub other : (n : ℕ) → k.other ≡ Some n → (n < given) × (contents n ≡ k.read.content → ⊥)
 
 -- NO NUMBER STANDS FOR TWO CONTENTS: of what is known of the image
-abbrev pub AreKnown : Image → (ℕ → Content) → ℕ → List (Part × Known) → Type 0
-AreKnown image contents given entries = (part : Part) (k : Known) → known_at entries part ≡ Some k
+abbrev pub AreNumbered : Image → (ℕ → Content) → ℕ → List (Part × Known) → Type 0
+AreNumbered image contents given entries = (part : Part) (k : Known) → known_at entries part ≡ Some k
     → IsKnown image contents given part k
 
 -- more is known, and more numbers are given: the old ones stand for what they stood for
-pub record Extends (image : Image) (contents : ℕ → Content) (given later : ℕ) (entries : List (Part × Known)) : Type 0 where
+pub record LearnsMore (image : Image) (contents : ℕ → Content) (given later : ℕ) (entries : List (Part × Known)) : Type 0 where
   pub meaning : ℕ → Content
   pub more : given ≤ later
   pub keeps : KeepsMeaning given contents meaning
-  pub known : AreKnown image meaning later entries
+  pub known : AreNumbered image meaning later entries

@@ -4,7 +4,7 @@ ghost use Rattle.std.specs.Prelude.{◌≡◌, ◌≤◌, ◌+◌, ◌↔◌, �
 ghost use Rattle.image_parts.specs.Asking.{Agrees};
 ghost use Rattle.image_parts.specs.Contents.{Content};
 ghost use Rattle.image_parts.specs.declared.part.Part.TheVariants.{Events};
-ghost use Rattle.recorded_spans.specs.Reads.{AreKnown, AreMarked, Extends, IsMarked, plain};
+ghost use Rattle.recorded_spans.specs.Reads.{AreNumbered, AreMarked, LearnsMore, IsMarked, plain};
 
 use crate::handing::ask;
 use crate::kept_read::KeptRead;
@@ -26,8 +26,8 @@ fn has_events<P: Parts>(
     requires { read.now.name ≡ Events window }
     ensures answer { IfOk result (λ b. IsTrue b ↔ ((P.seen parts.old).image read.now.name ≡ read.now.content)) }
     ensures known { OnOk result ((contents : ℕ → Content)
-        → AreKnown (P.seen parts.old).image contents given.old now.old.reads → IsMarked contents given.old read.now
-        → Extends (P.seen parts.old).image contents given.old given.new now.new.reads) }
+        → AreNumbered (P.seen parts.old).image contents given.old now.old.reads → IsMarked contents given.old read.now
+        → LearnsMore (P.seen parts.old).image contents given.old given.new now.new.reads) }
     ensures more { given.old ≤ given.new }
     ensures counted { OnOk result (P.asks parts.new ≤ P.asks parts.old + 1) }
     ensures kept { (P.seen parts.new).image ≡ (P.seen parts.old).image }
@@ -51,12 +51,12 @@ fn has<P: Parts>(
     parts: &mut P,
     read: &KeptRead,
 ) -> Result<bool, AllocError>
-    requires { (contents : ℕ → Content) × (AreKnown (P.seen parts.now).image contents given.now now.now.reads
+    requires { (contents : ℕ → Content) × (AreNumbered (P.seen parts.now).image contents given.now now.now.reads
         × IsMarked contents given.now read.now) }
     ensures answer { IfOk result (λ b. IsTrue b ↔ ((P.seen parts.old).image read.now.name ≡ read.now.content)) }
     ensures known { OnOk result ((contents : ℕ → Content)
-        → AreKnown (P.seen parts.old).image contents given.old now.old.reads → IsMarked contents given.old read.now
-        → Extends (P.seen parts.old).image contents given.old given.new now.new.reads) }
+        → AreNumbered (P.seen parts.old).image contents given.old now.old.reads → IsMarked contents given.old read.now
+        → LearnsMore (P.seen parts.old).image contents given.old given.new now.new.reads) }
     ensures more { given.old ≤ given.new }
     ensures counted { OnOk result (P.asks parts.new ≤ P.asks parts.old + 1) }
     ensures kept { (P.seen parts.new).image ≡ (P.seen parts.old).image }
@@ -85,12 +85,12 @@ pub fn matches<P: Parts>(
     parts: &mut P,
     reads: &[KeptRead],
 ) -> Result<bool, AllocError>
-    requires { (contents : ℕ → Content) × (AreKnown (P.seen parts.now).image contents given.now now.now.reads
+    requires { (contents : ℕ → Content) × (AreNumbered (P.seen parts.now).image contents given.now now.now.reads
         × AreMarked contents given.now reads.now) }
     ensures answer { IfOk result (λ b. IsTrue b ↔ Agrees (P.seen parts.old).image (plain reads.now)) }
     ensures known { OnOk result ((contents : ℕ → Content)
-        → AreKnown (P.seen parts.old).image contents given.old now.old.reads → AreMarked contents given.old reads.now
-        → Extends (P.seen parts.old).image contents given.old given.new now.new.reads) }
+        → AreNumbered (P.seen parts.old).image contents given.old now.old.reads → AreMarked contents given.old reads.now
+        → LearnsMore (P.seen parts.old).image contents given.old given.new now.new.reads) }
     ensures more { given.old ≤ given.new }
     ensures counted { OnOk result (P.asks parts.new ≤ P.asks parts.old + length reads.now) }
     ensures kept { (P.seen parts.new).image ≡ (P.seen parts.old).image }

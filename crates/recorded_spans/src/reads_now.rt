@@ -5,7 +5,7 @@ ghost use Rattle.std.specs.Prelude.{◌≡◌, ◌≤◌, ◌↔◌, ℕ, [], If
 ghost use Rattle.std.specs.BTreeMap.{is_at};
 ghost use Rattle.image_parts.specs.Contents.{Content, Image};
 ghost use Rattle.image_parts.specs.declared.part.Part.{Part as Name};
-ghost use Rattle.recorded_spans.specs.Reads.{AreKnown, Extends, IsMarked, known_at, part_cmp, plain_read};
+ghost use Rattle.recorded_spans.specs.Reads.{AreNumbered, LearnsMore, IsMarked, known_at, part_cmp, plain_read};
 
 use crate::kept_read::KeptRead;
 use crate::known_read::KnownRead;
@@ -67,14 +67,14 @@ impl ReadsNow {
     /// Whether the image has what was read, where the part is known: by the numbers, where these tell.
     pub fn compare(&mut self, read: &KeptRead) -> Result<Option<bool>, AllocError>
         requires { (image : Image) × ((contents : ℕ → Content) × ((given : ℕ) × (
-            AreKnown image contents given self.old × IsMarked contents given read.now))) }
+            AreNumbered image contents given self.old × IsMarked contents given read.now))) }
         ensures answer { IfOk result (λ answer. (image : Image) (contents : ℕ → Content) (given : ℕ)
-            → AreKnown image contents given self.old
+            → AreNumbered image contents given self.old
             → IfSome answer (λ b. IsTrue b ↔ (image read.now.name ≡ read.now.content))) }
         ensures unknown { IfOk result (λ answer. IsNone answer ↔ (known_at self.old read.now.name ≡ None)) }
         ensures known { OnOk result ((image : Image) (contents : ℕ → Content) (given : ℕ)
-            → AreKnown image contents given self.old → IsMarked contents given read.now
-            → AreKnown image contents given self.new) }
+            → AreNumbered image contents given self.old → IsMarked contents given read.now
+            → AreNumbered image contents given self.new) }
     {
         let (same, learnt) = match self.known.get(&read.part()) {
             None => return Ok(None),
@@ -92,8 +92,8 @@ impl ReadsNow {
     /// Notes that a part is what was read, with the number of the read.
     fn take_over(&mut self, read: &KeptRead) -> Result<(), AllocError>
         ensures { OnOk result ((image : Image) (contents : ℕ → Content) (given : ℕ)
-            → image read.now.name ≡ read.now.content → AreKnown image contents given self.old
-            → IsMarked contents given read.now → Extends image contents given given self.new) }
+            → image read.now.name ≡ read.now.content → AreNumbered image contents given self.old
+            → IsMarked contents given read.now → LearnsMore image contents given given self.new) }
     {
         let known = KnownRead::new(read.share()?, None);
         learn(&mut self.known, read.part(), known)?;
@@ -111,9 +111,9 @@ impl ReadsNow {
     ) -> Result<bool, AllocError>
         ensures answer { IfOk result (λ b. IsTrue b ↔ (content ≡ read.now.content)) }
         ensures known { OnOk result ((image : Image) (contents : ℕ → Content)
-            → image read.now.name ≡ content → AreKnown image contents given.old self.old
+            → image read.now.name ≡ content → AreNumbered image contents given.old self.old
             → IsMarked contents given.old read.now
-            → Extends image contents given.old given.new self.new) }
+            → LearnsMore image contents given.old given.new self.new) }
         ensures more { given.old ≤ given.new }
     {
         let recorded = read.content();
@@ -137,8 +137,8 @@ impl ReadsNow {
     ) -> Result<KeptRead, AllocError>
         ensures is { IfOk result (λ kept. plain_read kept ≡ read) }
         ensures known { IfOk result (λ kept. (image : Image) (contents : ℕ → Content)
-            → AreKnown image contents given.old self.old → image read.0 ≡ read.1
-            → (e : Extends image contents given.old given.new self.new) × IsMarked e.meaning given.new kept) }
+            → AreNumbered image contents given.old self.old → image read.0 ≡ read.1
+            → (e : LearnsMore image contents given.old given.new self.new) × IsMarked e.meaning given.new kept) }
         ensures more { given.old ≤ given.new }
     {
         let part = read.part();
@@ -157,10 +157,10 @@ impl ReadsNow {
         read: Read,
     ) -> Result<KeptRead, AllocError>
         ensures is { IfOk result (λ kept. (image : Image) (contents : ℕ → Content)
-            → AreKnown image contents given.old self.old → image read.0 ≡ read.1 → plain_read kept ≡ read) }
+            → AreNumbered image contents given.old self.old → image read.0 ≡ read.1 → plain_read kept ≡ read) }
         ensures known { IfOk result (λ kept. (image : Image) (contents : ℕ → Content)
-            → AreKnown image contents given.old self.old → image read.0 ≡ read.1
-            → (e : Extends image contents given.old given.new self.new) × IsMarked e.meaning given.new kept) }
+            → AreNumbered image contents given.old self.old → image read.0 ≡ read.1
+            → (e : LearnsMore image contents given.old given.new self.new) × IsMarked e.meaning given.new kept) }
         ensures more { given.old ≤ given.new }
     {
         match self.known.get(&read.part()) {

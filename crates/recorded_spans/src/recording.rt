@@ -4,7 +4,7 @@
 ghost use Rattle.std.specs.Prelude.{◌≡◌, ◌≤◌, ◌<◌, ◌↔◌, ℕ, length, slice_index_or, IfOk, OnOk, MatchOption};
 ghost use Rattle.image_parts.specs.Asking.{Agrees};
 ghost use Rattle.image_parts.specs.Contents.{Content, Image};
-ghost use Rattle.recorded_spans.specs.Reads.{AreKnown, AreMarked, Extends, plain};
+ghost use Rattle.recorded_spans.specs.Reads.{AreNumbered, AreMarked, LearnsMore, plain};
 ghost use Rattle.recorded_spans.specs.Records.{IsNewAmong, IsOnce, IsRecordOf};
 
 use crate::kept_read::KeptRead;
@@ -36,16 +36,16 @@ fn add(
     kept: &mut Vec<KeptRead>,
     read: Read,
 ) -> Result<(), AllocError>
-    requires consistent { (image : Image) × ((contents : ℕ → Content) × (AreKnown image contents given.old now.old
+    requires consistent { (image : Image) × ((contents : ℕ → Content) × (AreNumbered image contents given.old now.old
         × (Agrees image (plain kept.now.items) × (image read.0 ≡ read.1)))) }
     requires once { IsOnce (plain kept.now.items) }
     ensures once { OnOk result (IsOnce (plain kept.new.items)) }
     ensures same { OnOk result ((image : Image) → Agrees image (plain kept.new.items)
         ↔ (Agrees image (plain kept.old.items) × (image read.0 ≡ read.1))) }
     ensures known { OnOk result ((image : Image) (contents : ℕ → Content)
-        → AreKnown image contents given.old now.old → image read.0 ≡ read.1
+        → AreNumbered image contents given.old now.old → image read.0 ≡ read.1
         → AreMarked contents given.old kept.old.items
-        → (e : Extends image contents given.old given.new now.new)
+        → (e : LearnsMore image contents given.old given.new now.new)
         × AreMarked e.meaning given.new kept.new.items) }
     ensures more { given.old ≤ given.new }
 {
@@ -69,12 +69,12 @@ pub fn recorded(
     given: &mut u64,
     all: Vec<Read>,
 ) -> Result<Vec<KeptRead>, AllocError>
-    requires { (image : Image) × ((contents : ℕ → Content) × (AreKnown image contents given.old now.old
+    requires { (image : Image) × ((contents : ℕ → Content) × (AreNumbered image contents given.old now.old
         × Agrees image all.items)) }
     ensures recorded { IfOk result (λ kept. IsRecordOf all.items (plain kept.items)) }
     ensures known { IfOk result (λ kept. (image : Image) (contents : ℕ → Content)
-        → AreKnown image contents given.old now.old → Agrees image all.items
-        → (e : Extends image contents given.old given.new now.new)
+        → AreNumbered image contents given.old now.old → Agrees image all.items
+        → (e : LearnsMore image contents given.old given.new now.new)
         × AreMarked e.meaning given.new kept.items) }
     ensures more { given.old ≤ given.new }
 {

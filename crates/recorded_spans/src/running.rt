@@ -5,7 +5,7 @@ ghost use Rattle.image_parts.specs.Asking.{outcome, reads};
 ghost use Rattle.bus_laws.specs.Spans.{span};
 ghost use Rattle.image_parts.specs.Contents.{Content};
 ghost use Rattle.image_parts.specs.Images.{IsImage};
-ghost use Rattle.recorded_spans.specs.Reads.{AreKnown, AreMarked, Extends, plain};
+ghost use Rattle.recorded_spans.specs.Reads.{AreNumbered, AreMarked, LearnsMore, plain};
 ghost use Rattle.recorded_spans.specs.Records.{IsRecordOf};
 ghost use Rattle.recorded_spans.specs.Spans.{IsReady};
 
@@ -40,14 +40,14 @@ pub fn run<P: Parts>(
     requires within { number ≤ 1000 }
     requires image { IsImage (P.seen parts.now).image }
     requires ready { IsReady number start.now }
-    requires known { (contents : ℕ → Content) × AreKnown (P.seen parts.now).image contents given.now now.now.reads }
+    requires known { (contents : ℕ → Content) × AreNumbered (P.seen parts.now).image contents given.now now.now.reads }
     ensures recorded { IfOk result (λ ran. IsRecordOf
         (reads (span number start.now) (P.seen parts.old).image) (plain ran.reads.items)) }
     ensures gives { IfOk result (λ ran. outcome (span number start.now) (P.seen parts.old).image
         ≡ (ran.end, ran.told)) }
     ensures known { IfOk result (λ ran. (contents : ℕ → Content)
-        → AreKnown (P.seen parts.old).image contents given.old now.old.reads
-        → (e : Extends (P.seen parts.old).image contents given.old given.new now.new.reads)
+        → AreNumbered (P.seen parts.old).image contents given.old now.old.reads
+        → (e : LearnsMore (P.seen parts.old).image contents given.old given.new now.new.reads)
         × AreMarked e.meaning given.new ran.reads.items) }
     ensures more { given.old ≤ given.new }
     ensures counted { OnOk result (P.asks parts.new ≤ P.asks parts.old

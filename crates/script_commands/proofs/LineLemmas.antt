@@ -7,7 +7,7 @@ use Rattle.std.specs.Str.{bytes_eq}
 use Rattle.std.proofs.lemmas.Bool.{and_parts, not-true, le-ltb, leb-true, ltb-true}
 use Rattle.std.proofs.lemmas.List.Folds.{list_any-append}
 use Rattle.std.proofs.lemmas.Slice.Eq.{bytes_eq-Decides}
-use Rattle.plain_text.specs.Blanks.{is_blank, trim_end, trimmed}
+use Rattle.plain_text.specs.Blanks.{is_blank, trim_end, trim}
 use Rattle.plain_text.specs.Words.{word, after}
 use Rattle.script_commands.specs.declared.request.Request.{Request}
 use Rattle.base.specs.Ranges.{is_between}
@@ -62,10 +62,10 @@ more {m = m} {w = w} {line = line} is rest = record {
 -- a text at the end
 pub kept : (t : List ℕ) → is_text t ≡ true → Spells (Keeps t) 4000 t []
 kept t h =
-    let all = and_parts (is_plain t) (bytes_eq (trimmed t) t) h in
+    let all = and_parts (is_plain t) (bytes_eq (trim t) t) h in
     let plain = and_parts (is_between 1 4000 (length t)) (not (list_any is_control t)) all.0 in
     let sizes = and_parts (nat_le 1 (length t)) (nat_le (length t) 4000) plain.0 in
-    let same : trimmed (32 ∷ t) ≡ t = ap (trim_end is_blank) (trim-space t) ∙ (bytes_eq-Decides (trimmed t) t).0 all.1
+    let same : trim (32 ∷ t) ≡ t = ap (trim_end is_blank) (trim-space t) ∙ (bytes_eq-Decides (trim t) t).0 all.1
     in
     record {
       few = leb-true (length t) 4000 sizes.1;

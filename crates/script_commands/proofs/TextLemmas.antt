@@ -5,7 +5,7 @@ use Rattle.std.specs.List.{prefix_len, suffix_len}
 use Rattle.std.proofs.Math.Seq.{take-append_seam}
 use Rattle.std.proofs.lemmas.List.{reverse-append, reverse-reverse, length-reverse}
 use Rattle.std.proofs.lemmas.Slice.Eq.{bytes_eq-Decides}
-use Rattle.plain_text.specs.Blanks.{is_blank, trim_start, trim_end, trimmed}
+use Rattle.plain_text.specs.Blanks.{is_blank, trim_start, trim_end, trim}
 use Rattle.project_edits.specs.Forms.{is_plain, is_text}
 
 module _ (p : ℕ → Bool) where
@@ -66,6 +66,6 @@ module _ (p : ℕ → Bool) where
       ap (λ n. trim_end p (drop n kept)) sharp ∙ trim_end_again (trim_start p bs)
 
 -- what is cut from the rest of a line is a text, where its length and its bytes are those of one
-pub trimmed_is_text : (rest : List ℕ) → is_plain (trimmed rest) ≡ true → is_text (trimmed rest) ≡ true
+pub trimmed_is_text : (rest : List ℕ) → is_plain (trim rest) ≡ true → is_text (trim rest) ≡ true
 trimmed_is_text rest plain =
-    rw plain ((bytes_eq-Decides (trimmed (trimmed rest)) (trimmed rest)).1 (trimmed_again is_blank rest))
+    rw plain ((bytes_eq-Decides (trim (trim rest)) (trim rest)).1 (trimmed_again is_blank rest))

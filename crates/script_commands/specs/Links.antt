@@ -7,7 +7,7 @@ use Rattle.project_messages.specs.Messages.{is_position, is_start}
 use Rattle.project_edits.specs.declared.fault.EditFault.{EditFault}
 use Rattle.project_edits.specs.declared.edit.Edit.{Edit}
 use Rattle.project_edits.specs.declared.edit.Edit.TheVariants as edit
-use Rattle.project_edits.specs.Forms.{limited, is_identifier}
+use Rattle.project_edits.specs.Forms.{number_within, is_identifier}
 use Rattle.cia301.specs.Limits.{is_pdo_number, is_node_number}
 use Rattle.script_commands.specs.declared.stated.Stated.{Stated}
 use Rattle.base.specs.Steps.{◌>>=◌}
@@ -28,12 +28,12 @@ stated_numbers rest = do
 -- and these, where each is within its limits
 unfoldable pub message_within : Stated → Result Message EditFault
 message_within stated = do
-  node ← limited is_node_number stated.node
-  tpdo ← limited is_pdo_number stated.tpdo
-  transmission ← limited (is_between 0 0xFF) stated.transmission
-  inhibit ← limited (is_between 0 0xFFFF) stated.inhibit
-  event ← limited (is_between 0 0xFFFF) stated.event
-  cob ← limited is_identifier stated.cob
+  node ← number_within is_node_number stated.node
+  tpdo ← number_within is_pdo_number stated.tpdo
+  transmission ← number_within (is_between 0 0xFF) stated.transmission
+  inhibit ← number_within (is_between 0 0xFFFF) stated.inhibit
+  event ← number_within (is_between 0 0xFFFF) stated.event
+  cob ← number_within is_identifier stated.cob
   Ok (record { node = node; tpdo = tpdo; transmission = transmission; inhibit = inhibit; event = event; cob = cob })
 
 -- `NAME ID TPDO TYPE INHIBIT EVENT COB`
@@ -50,7 +50,7 @@ start_of rest = do
   last ← last_word (after rest)
   message ← name (word rest)
   number ← decimal last
-  start ← limited is_start number
+  start ← number_within is_start number
   Ok (edit.Start message start)
 
 -- `NAME`
@@ -68,7 +68,7 @@ source_of rest = do
   place ← decimal (word (after rest))
   index ← hexadecimal 4 (word (after (after rest)))
   sub ← hexadecimal 2 last
-  position ← limited is_position place
+  position ← number_within is_position place
   Ok (edit.Source message position index sub)
 
 -- `MESSAGE POS`
@@ -77,7 +77,7 @@ unsource_of rest = do
   last ← last_word (after rest)
   message ← name (word rest)
   place ← decimal last
-  position ← limited is_position place
+  position ← number_within is_position place
   Ok (edit.Unsource message position)
 
 -- `MESSAGE POS ID INDEX SUB`
@@ -89,8 +89,8 @@ sink_of rest = do
   number ← decimal (word (after (after rest)))
   index ← hexadecimal 4 (word (after (after (after rest))))
   sub ← hexadecimal 2 last
-  position ← limited is_position place
-  node ← limited is_node_number number
+  position ← number_within is_position place
+  node ← number_within is_node_number number
   Ok (edit.Sink message position node index sub)
 
 -- `MESSAGE POS ID`
@@ -100,6 +100,6 @@ unsink_of rest = do
   message ← name (word rest)
   place ← decimal (word (after rest))
   number ← decimal last
-  position ← limited is_position place
-  node ← limited is_node_number number
+  position ← number_within is_position place
+  node ← number_within is_node_number number
   Ok (edit.Unsink message position node)

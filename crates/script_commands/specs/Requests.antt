@@ -18,7 +18,7 @@ use Rattle.plain_text.specs.Blanks.{is_blank_line}
 use Rattle.plain_text.specs.Words.{word, after}
 use Rattle.project_edits.specs.Eds.{most_lines}
 use Rattle.base.specs.Ranges.{is_between}
-use Rattle.project_edits.specs.Forms.{is_name, limited, is_node_or_all, is_own_index, is_bit_rate, is_time}
+use Rattle.project_edits.specs.Forms.{is_name, number_within, is_node_or_all, is_own_index, is_bit_rate, is_time}
 use Rattle.cia301.specs.Limits.{is_node_number}
 use Rattle.project_edits.specs.Forms.{is_sync_counter, is_sync_period, is_event_number}
 use Rattle.project_edits.specs.Versions.{version_of as version_by_number}
@@ -62,7 +62,7 @@ unfoldable pub id_of : List ℕ → Result ℕ EditFault
 id_of rest = do
   last ← last_word rest
   id ← decimal last
-  limited is_node_number id
+  number_within is_node_number id
 
 -- the only word that follows, a name
 abbrev name_of : List ℕ → Result (List ℕ) EditFault
@@ -83,7 +83,7 @@ unfoldable pub bitrate_of : List ℕ → Result Edit EditFault
 bitrate_of rest = do
   last ← last_word rest
   number ← decimal last
-  rate ← limited is_bit_rate number
+  rate ← number_within is_bit_rate number
   Ok (edit.Bitrate rate)
 
 -- `US`
@@ -91,7 +91,7 @@ unfoldable pub horizon_of : List ℕ → Result Edit EditFault
 horizon_of rest = do
   last ← last_word rest
   number ← decimal last
-  time ← limited is_time number
+  time ← number_within is_time number
   Ok (edit.Horizon time)
 
 -- `ID SYNC_US HB_MS TIMEOUT_MS`
@@ -102,10 +102,10 @@ manager_of rest = do
   period ← decimal (word (after rest))
   heartbeat ← decimal (word (after (after rest)))
   timeout ← decimal last
-  id ← limited is_node_number number
-  sync ← limited is_sync_period period
-  producer ← limited (is_between 0 65535) heartbeat
-  wait ← limited (is_between 1 65535) timeout
+  id ← number_within is_node_number number
+  sync ← number_within is_sync_period period
+  producer ← number_within (is_between 0 65535) heartbeat
+  wait ← number_within (is_between 1 65535) timeout
   Ok (edit.Manager (record { id = id; sync_us = sync; heartbeat_ms = producer; timeout_ms = wait }))
 
 -- `N`
@@ -113,7 +113,7 @@ unfoldable pub sync_counter_of : List ℕ → Result Edit EditFault
 sync_counter_of rest = do
   last ← last_word rest
   number ← decimal last
-  counter ← limited is_sync_counter number
+  counter ← number_within is_sync_counter number
   Ok (edit.SyncCounter counter)
 
 -- `NAME`
@@ -129,7 +129,7 @@ node_of rest = do
   number ← decimal (word rest)
   called ← name (word (after rest))
   eds ← name last
-  id ← limited is_node_number number
+  id ← number_within is_node_number number
   Ok (edit.Node id called eds)
 
 -- `mandatory` or `optional`
@@ -145,7 +145,7 @@ need_of rest = do
   last ← last_word (after rest)
   number ← decimal (word rest)
   mandatory ← is_mandatory last
-  id ← limited is_node_number number
+  id ← number_within is_node_number number
   Ok (edit.Need id mandatory)
 
 -- `ID`
@@ -161,8 +161,8 @@ param_of rest = do
   entry ← hexadecimal 4 (word (after rest))
   sub ← hexadecimal 2 (word (after (after rest)))
   kept ← text (after (after (after rest)))
-  id ← limited is_node_number number
-  index ← limited is_own_index entry
+  id ← number_within is_node_number number
+  index ← number_within is_own_index entry
   Ok (edit.Param id index sub kept)
 
 -- `ID INDEX SUB`
@@ -172,7 +172,7 @@ unparam_of rest = do
   number ← decimal (word rest)
   index ← hexadecimal 4 (word (after rest))
   sub ← hexadecimal 2 last
-  id ← limited is_node_number number
+  id ← number_within is_node_number number
   Ok (edit.Unparam id index sub)
 
 -- an event at its time, by its number
@@ -186,10 +186,10 @@ set_of key moment rest = do
   entry ← hexadecimal 4 (word (after rest))
   sub ← hexadecimal 2 (word (after (after rest)))
   kept ← text (after (after (after rest)))
-  number ← limited is_event_number key
-  time ← limited is_time moment
-  id ← limited is_node_number node
-  index ← limited is_own_index entry
+  number ← number_within is_event_number key
+  time ← number_within is_time moment
+  id ← number_within is_node_number node
+  index ← number_within is_own_index entry
   Ok (event_at_time number time (event.Set id index sub kept))
 
 -- `on` or `off`
@@ -205,9 +205,9 @@ power_of key moment rest = do
   last ← last_word (after rest)
   node ← decimal (word rest)
   on ← switch last
-  number ← limited is_event_number key
-  time ← limited is_time moment
-  id ← limited is_node_number node
+  number ← number_within is_event_number key
+  time ← number_within is_time moment
+  id ← number_within is_node_number node
   Ok (event_at_time number time (event.Power id on))
 
 -- a command of the network management (CiA 301) by its number
@@ -220,10 +220,10 @@ nmt_of key moment rest = do
   last ← last_word (after rest)
   asked ← decimal (word rest)
   node ← decimal last
-  number ← limited is_event_number key
-  time ← limited is_time moment
+  number ← number_within is_event_number key
+  time ← number_within is_time moment
   command ← nmt asked
-  id ← limited is_node_or_all node
+  id ← number_within is_node_or_all node
   Ok (event_at_time number time (event.Nmt id command))
 
 -- what a kind of event and the rest of its line ask
@@ -246,7 +246,7 @@ unfoldable pub drop_event_of : List ℕ → Result Edit EditFault
 drop_event_of rest = do
   last ← last_word rest
   key ← decimal last
-  number ← limited is_event_number key
+  number ← number_within is_event_number key
   Ok (edit.DropEvent number)
 
 -- what a query asks

@@ -1,7 +1,7 @@
 -- The words of a command, each read as what it has to be (this profile's own).
 use Rattle.std.specs.Prelude.{ℕ, Bool, ◌||◌, List, length, nat_lt, if◌then◌else◌, Result, Ok, Err, ok_or}
 use Rattle.std.specs.List.{list_any}
-use Rattle.plain_text.specs.Blanks.{is_blank_line, trimmed}
+use Rattle.plain_text.specs.Blanks.{is_blank_line, trim}
 use Rattle.plain_text.specs.Words.{word, after}
 use Rattle.plain_text.specs.Digits.{digits_number}
 use Rattle.project_edits.specs.declared.fault.EditFault.{EditFault}
@@ -34,4 +34,4 @@ hexadecimal most word = number 16 most word
 
 -- the rest of a line without blanks at its ends, where that is a text
 abbrev pub text : List ℕ → Result (List ℕ) EditFault
-text rest = if is_plain (trimmed rest) then Ok (trimmed rest) else Err Syntax
+text rest = if is_plain (trim rest) then Ok (trim rest) else Err Syntax

@@ -7,7 +7,7 @@ ghost use Rattle.project_edits.specs.Faults.{is_memory, device_verdict};
 ghost use Rattle.project_edits.specs.Eds.{block_lines, text_of, is_bad_in_line, has_bad_line, has_long_line};
 
 use base::Octets;
-use eds_device::Device;
+use eds_device::DataSheet;
 use ini_text::{is_bad_byte, is_long_line};
 use kept_values::Shared;
 use plain_text::without_crs;
@@ -74,6 +74,6 @@ pub(crate) fn has_bad_line(lines: &[Vec<u8>]) -> bool
 pub(crate) fn check(alloc: Global, text: &[u8]) -> Result<(), EditFault>
     ensures { Gives is_memory (λ u. u) result (device_verdict (device_of text.now)) }
 {
-    Device::check(alloc, text)?;
+    DataSheet::check(alloc, text)?;
     Ok(())
 }

@@ -12,7 +12,7 @@ use crate::words::{last_word, name, text};
 use base::Octets;
 use plain_text::next_word;
 use project_edits::limits::{
-    bit_rate, limited, node_number, own_index, script_version, sync_counter as last_count,
+    bit_rate, node_number, number_within, own_index, script_version, sync_counter as last_count,
     sync_period, time,
 };
 use project_edits::{Edit, EditFault, ManagerSettings};
@@ -73,8 +73,8 @@ pub(crate) fn manager(rest: &[u8]) -> Result<Command, EditFault>
     let timeout = decimal(timeout)?;
     let id = node_number(id)?;
     let sync = sync_period(sync)?;
-    let heartbeat = limited(heartbeat, 0, 65_535)?;
-    let timeout = limited(timeout, 1, 65_535)?;
+    let heartbeat = number_within(heartbeat, 0, 65_535)?;
+    let timeout = number_within(timeout, 1, 65_535)?;
     Ok(Command::new(Edit::Manager(ManagerSettings {
         id,
         sync_us: sync,

@@ -5,7 +5,7 @@ ghost use Rattle.project_edits.specs.Faults.{is_memory};
 ghost use Rattle.project_edits.specs.Forms.{is_name, is_text};
 ghost use Rattle.script_commands.specs.Words.{last_word, is_bad_line, name, text};
 
-use plain_text::{is_blank_line, next_word, trimmed};
+use plain_text::{is_blank_line, next_word, trim};
 use project_edits::{EditFault, has_control, is_name, is_plain};
 
 const MAX_LINE: usize = 4096;
@@ -46,7 +46,7 @@ pub(crate) fn text(rest: &[u8]) -> Result<&[u8], EditFault>
     ensures value { Gives is_memory (λ t. t.now) result (text rest.now) }
     ensures form { IfOk result (λ t. is_text t.now ≡ true) }
 {
-    let text = trimmed(rest);
+    let text = trim(rest);
     if !is_plain(text) {
         return Err(EditFault::Syntax);
     }

@@ -12,7 +12,7 @@ use Rattle.can_bus.specs.Runs.{is_shown}
 use Rattle.can_bus.specs.declared.line.Line.{Line}
 use Rattle.plain_text.specs.Lines.{line_count}
 use Rattle.plain_text.proofs.Counts.{line_count-append}
-use Rattle.trace_text.specs.Passages.{joined, latest}
+use Rattle.trace_text.specs.Passages.{lines_of_passages, latest}
 
 -- ---- what is shown
 
@@ -62,10 +62,10 @@ latest_is_shown horizon lines = (
 
 -- of each passage what is shown is what is shown of all
 pub shown_of_each : (horizon : ℕ) (passages : List (List Line))
-    → joined (map (filter (is_shown horizon)) passages) ≡ filter (is_shown horizon) (joined passages)
+    → lines_of_passages (map (filter (is_shown horizon)) passages) ≡ filter (is_shown horizon) (lines_of_passages passages)
 shown_of_each horizon [] = refl
 shown_of_each horizon (p ∷ ps) = ap (λ t. filter (is_shown horizon) p ++ t) (shown_of_each horizon ps)
-    ∙ sym (filter-append (is_shown horizon) p (joined ps))
+    ∙ sym (filter-append (is_shown horizon) p (lines_of_passages ps))
 
 -- one passage more is cut
 pub cut_more : (f : List Line → List Line) (i : ℕ) (old now : List (List Line)) (d y : List Line) → i < length old
@@ -87,10 +87,10 @@ cut_more f i old now d y h e cut =
 -- all are cut
 pub cut_whole : (horizon n : ℕ) (old now : List (List Line)) → length old ≤ n
     → now ≡ map (filter (is_shown horizon)) (take n old) ++ drop n old
-    → joined now ≡ filter (is_shown horizon) (joined old)
+    → lines_of_passages now ≡ filter (is_shown horizon) (lines_of_passages old)
 cut_whole horizon n old now le e =
     let f = filter (is_shown horizon) in
-    ap joined (e ∙ ap (λ t. map f t ++ drop n old) (take_all n old le)
+    ap lines_of_passages (e ∙ ap (λ t. map f t ++ drop n old) (take_all n old le)
     ∙ ap (λ t. map f old ++ t) (drop_all n old le) ∙ append-nil (map f old)) ∙ shown_of_each horizon old
 
 -- ---- one passage more
@@ -100,22 +100,22 @@ unfolding lines_text
 text_of_both xs ys = flat_map-append _ xs ys
 
 joined_more : (passages : List (List Line)) (i : ℕ) (d : List Line) → i < length passages
-    → joined (take (i + 1) passages) ≡ joined (take i passages) ++ get_or passages i d
+    → lines_of_passages (take (i + 1) passages) ≡ lines_of_passages (take i passages) ++ get_or passages i d
 joined_more passages i d h = grind (arith, common_steps)
 
 pub text_more : (passages : List (List Line)) (i : ℕ) (d : List Line) → i < length passages
-    → lines_text (joined (take (i + 1) passages)) ≡ lines_text (joined (take i passages)) ++ lines_text (get_or passages i d)
+    → lines_text (lines_of_passages (take (i + 1) passages)) ≡ lines_text (lines_of_passages (take i passages)) ++ lines_text (get_or passages i d)
 text_more passages i d h =
-    ap lines_text (joined_more passages i d h) ∙ text_of_both (joined (take i passages)) (get_or passages i d)
+    ap lines_text (joined_more passages i d h) ∙ text_of_both (lines_of_passages (take i passages)) (get_or passages i d)
 
 pub count_more : (passages : List (List Line)) (i : ℕ) (d : List Line) → i < length passages
-    → line_count (lines_text (joined (take (i + 1) passages)))
-    ≡ line_count (lines_text (joined (take i passages))) + line_count (lines_text (get_or passages i d))
+    → line_count (lines_text (lines_of_passages (take (i + 1) passages)))
+    ≡ line_count (lines_text (lines_of_passages (take i passages))) + line_count (lines_text (get_or passages i d))
 count_more passages i d h = ap (λ t. line_count t) (text_more passages i d h)
-    ∙ line_count-append (lines_text (joined (take i passages))) (lines_text (get_or passages i d))
+    ∙ line_count-append (lines_text (lines_of_passages (take i passages))) (lines_text (get_or passages i d))
 
 pub length_more : (passages : List (List Line)) (i : ℕ) (d : List Line) → i < length passages
-    → length (lines_text (joined (take (i + 1) passages)))
-    ≡ length (lines_text (joined (take i passages))) + length (lines_text (get_or passages i d))
+    → length (lines_text (lines_of_passages (take (i + 1) passages)))
+    ≡ length (lines_text (lines_of_passages (take i passages))) + length (lines_text (get_or passages i d))
 length_more passages i d h = ap length (text_more passages i d h)
-    ∙ length-append (lines_text (joined (take i passages))) (lines_text (get_or passages i d))
+    ∙ length-append (lines_text (lines_of_passages (take i passages))) (lines_text (get_or passages i d))

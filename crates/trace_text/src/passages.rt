@@ -3,7 +3,7 @@
 ghost use Rattle.std.specs.Prelude.{◌≡◌, ◌++◌, IfOk, OnOk, filter};
 ghost use Rattle.can_bus.specs.Lines.{lines_text};
 ghost use Rattle.can_bus.specs.Runs.{is_shown};
-ghost use Rattle.trace_text.specs.Passages.{joined};
+ghost use Rattle.trace_text.specs.Passages.{lines_of_passages};
 
 use crate::passage::Passage;
 use can_bus::Line;
@@ -12,7 +12,7 @@ use std::alloc::{AllocError, Global};
 
 /// A copy of the lines of passages. Takes time and memory by their number.
 pub(crate) fn lines_of(alloc: Global, passages: &[Shared<Passage>]) -> Result<Vec<Line>, AllocError>
-    ensures { IfOk result (λ lines. lines.items ≡ joined passages.now) }
+    ensures { IfOk result (λ lines. lines.items ≡ lines_of_passages passages.now) }
 {
     let mut lines = Vec::new(alloc);
     for passage in passages {
@@ -25,7 +25,7 @@ pub(crate) fn lines_of(alloc: Global, passages: &[Shared<Passage>]) -> Result<Ve
 /// there is room.
 #[tactic(auto, using(crate::proofs::PassageLemmas::text_more), unfolding(can_bus::specs::Lines::lines_text))]
 pub(crate) fn write_all(passages: &[Shared<Passage>], out: &mut Vec<u8>) -> Result<(), AllocError>
-    ensures { OnOk result (out.new.items ≡ out.old.items ++ lines_text (joined passages.now)) }
+    ensures { OnOk result (out.new.items ≡ out.old.items ++ lines_text (lines_of_passages passages.now)) }
 {
     for passage in passages {
         out.extend_from_slice(passage.get().text())?;
@@ -53,7 +53,7 @@ pub(crate) fn cut_all(
     passages: &mut [Shared<Passage>],
     horizon: u32,
 ) -> Result<(), AllocError>
-    ensures { OnOk result (joined passages.new ≡ filter (is_shown horizon) (joined passages.old)) }
+    ensures { OnOk result (lines_of_passages passages.new ≡ filter (is_shown horizon) (lines_of_passages passages.old)) }
 {
     for place in 0..passages.len() {
         cut(alloc, &mut passages[place], horizon)?;

@@ -3,7 +3,7 @@
 ghost use Rattle.std.specs.Prelude.{◌≡◌, IfSome, length};
 ghost use Rattle.can_bus.specs.Lines.{lines_text};
 ghost use Rattle.plain_text.specs.Lines.{line_count};
-ghost use Rattle.trace_text.specs.Passages.{joined};
+ghost use Rattle.trace_text.specs.Passages.{lines_of_passages};
 
 use crate::passage::Passage;
 use kept_values::Shared;
@@ -19,8 +19,8 @@ pub(crate) struct TextSize {
 /// The size of the text of passages, if memory can hold so much. Takes time by the number of passages.
 #[tactic(auto, using(crate::proofs::PassageLemmas::count_more, crate::proofs::PassageLemmas::length_more), unfolding(can_bus::specs::Lines::lines_text))]
 pub(crate) fn size_of_text(passages: &[Shared<Passage>]) -> Option<TextSize>
-    ensures lines { IfSome result (λ size. size.lines ≡ line_count (lines_text (joined passages.now))) }
-    ensures bytes { IfSome result (λ size. size.bytes ≡ length (lines_text (joined passages.now))) }
+    ensures lines { IfSome result (λ size. size.lines ≡ line_count (lines_text (lines_of_passages passages.now))) }
+    ensures bytes { IfSome result (λ size. size.bytes ≡ length (lines_text (lines_of_passages passages.now))) }
 {
     let mut lines: usize = 0;
     let mut bytes: usize = 0;

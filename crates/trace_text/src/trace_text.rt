@@ -26,13 +26,13 @@ impl Model for TraceText {
     ghost use Rattle.std.specs.Prelude.{List};
     ghost use Rattle.can_bus.specs.contracts.line.Line as told;
     ghost use Rattle.can_bus.specs.declared.line.Line.{Line};
-    ghost use Rattle.trace_text.specs.Passages.{joined};
+    ghost use Rattle.trace_text.specs.Passages.{lines_of_passages};
 
     ghost Value = { List Line };
 
     ghost coded = { coded_list told.the_row.coded };
 
-    ghost view = { λ t. joined t.passages.items };
+    ghost view = { λ t. lines_of_passages t.passages.items };
 }
 
 impl TraceText {

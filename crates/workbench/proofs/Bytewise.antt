@@ -5,8 +5,8 @@ use Rattle.std.proofs.lemmas.Bool.{ne_eqb}
 use Rattle.std.specs.List.{onto_first}
 use Rattle.plain_text.specs.Lines.{lines_of}
 use Rattle.workbench.specs.Replies.{State, After, start, after_line, after_lines, cut_off, replies, complete_replies}
-use Rattle.workbench.specs.Replies.{lengthened, ended_lines}
-use Rattle.workbench.specs.Machine.{Cursor, first_cursor, after, at_break, joined, at_end}
+use Rattle.workbench.specs.Replies.{before_first, ended_lines}
+use Rattle.workbench.specs.Machine.{Cursor, first_cursor, after, at_break, with_earlier, at_end}
 use Rattle.workbench.proofs.Runs.{unended}
 
 -- ---- a front of the first line came before
@@ -73,7 +73,7 @@ bytewise state line (b ∷ bs) =
     let q = after_line state line in
     elim (eqb b 10) as (λ t.
     let first : After Cursor = cond t (at_break q) (unended state (line ++ b ∷ [])) in
-    rest_of (joined first.replies (after first.state bs))
+    rest_of (with_earlier first.replies (after first.state bs))
     ≡ all_of (after_lines state (onto line (cond t ([] ∷ lines_of bs) (onto_first b (lines_of bs)))))) [
       | true ↦
           let r = after (record { state = q.state; line = [] }) bs in
@@ -100,22 +100,22 @@ replies_bytewise input = sym (bytewise start [] input ∙ ap (λ (ls : List (Lis
 
 before : List ℕ → List (List ℕ) → List (List ℕ)
 before [] ls = ls
-before (b ∷ bs) ls = lengthened b (before bs ls)
+before (b ∷ bs) ls = before_first b (before bs ls)
 
 before-none : (line : List ℕ) → before line [] ≡ []
 unfolding before
 before-none [] = refl
-before-none (b ∷ bs) = ap (lengthened b) (before-none bs)
+before-none (b ∷ bs) = ap (before_first b) (before-none bs)
 
 before-line : (line l : List ℕ) (ls : List (List ℕ)) → before line (l ∷ ls) ≡ (line ++ l) ∷ ls
 unfolding before
 before-line [] l ls = refl
-before-line (b ∷ bs) l ls = ap (lengthened b) (before-line bs l ls)
+before-line (b ∷ bs) l ls = ap (before_first b) (before-line bs l ls)
 
-before-byte : (line : List ℕ) (b : ℕ) (ls : List (List ℕ)) → before line (lengthened b ls) ≡ before (line ++ b ∷ []) ls
+before-byte : (line : List ℕ) (b : ℕ) (ls : List (List ℕ)) → before line (before_first b ls) ≡ before (line ++ b ∷ []) ls
 unfolding before
 before-byte [] b ls = refl
-before-byte (c ∷ cs) b ls = ap (lengthened c) (before-byte cs b ls)
+before-byte (c ∷ cs) b ls = ap (before_first c) (before-byte cs b ls)
 
 before-nothing : (ls : List (List ℕ)) → before [] ls ≡ ls
 unfolding before
@@ -132,8 +132,8 @@ ended state line (b ∷ bs) =
     let q = after_line state line in
     elim (eqb b 10) as (λ t.
     let first : After Cursor = cond t (at_break q) (unended state (line ++ b ∷ [])) in
-    (joined first.replies (after first.state bs)).replies
-    ≡ given state (before line (cond t ([] ∷ ended_lines bs) (lengthened b (ended_lines bs))))) [
+    (with_earlier first.replies (after first.state bs)).replies
+    ≡ given state (before line (cond t ([] ∷ ended_lines bs) (before_first b (ended_lines bs))))) [
       | true ↦
           ap (λ (rs : List (List ℕ)). q.replies ++ rs)
           (ended q.state [] bs ∙ ap (given q.state) (before-nothing (ended_lines bs)))

@@ -12,8 +12,8 @@ use Rattle.project_plan.specs.Network.{member_at, plan_of_project, with_sections
 use Rattle.ini_text.specs.Change.{text_of}
 use Rattle.concise_dcf.specs.Concise.{text_of as concise_text}
 use Rattle.eds_dcf.specs.Dcf.{dcf_sections}
-use Rattle.kept_parts.specs.Kept.{held}
-use Rattle.project_parts.specs.Given.{concise_from, dcf_from, given, plan_from, whole, OfConcise, OfDcf}
+use Rattle.kept_parts.specs.Kept.{kept_inputs}
+use Rattle.project_parts.specs.Given.{concise_from, dcf_from, inputs_of, plan_from, whole, OfConcise, OfDcf}
 use Rattle.project_parts.specs.Given.{OfDiagnostics, OfPlan}
 use Rattle.project_parts.specs.declared.diagnostics_from.DiagnosticsFrom.{DiagnosticsFrom}
 use Rattle.co_diag.specs.Found.{diagnostics_of}
@@ -25,13 +25,13 @@ use Rattle.workbench.specs.Queries.{concise_of, dcf_of}
 
 module _ (p : Content) (k : KeptParts) where
   -- the plan is the project's
-  pub plan_now : held k part.Plan ≡ given p part.Plan → option_map plan_made k.plan.kept ≡ Some (plan_of_project p)
+  pub plan_now : kept_inputs k part.Plan ≡ inputs_of p part.Plan → option_map plan_made k.plan.kept ≡ Some (plan_of_project p)
   plan_now now =
       ap (option_map plan_made) (option_map_back OfPlan (λ x y e. cc) k.plan.kept (Some (plan_from p)) now)
       ∙ ap Some (plan_is p)
 
   -- the diagnostics are the project's
-  pub found_now : held k part.Diagnostics ≡ given p part.Diagnostics
+  pub found_now : kept_inputs k part.Diagnostics ≡ inputs_of p part.Diagnostics
       → option_map (λ (f : DiagnosticsFrom). diagnostics_of f.project) k.found.kept ≡ Some (diagnostics_of p)
   found_now now =
       ap (option_map (λ (f : DiagnosticsFrom). diagnostics_of f.project))
@@ -39,7 +39,7 @@ module _ (p : Content) (k : KeptParts) where
 
   module _ (id : ℕ) where
     -- the concise DCF is that of the node
-    pub concise_now : held k (part.Concise id) ≡ given p (part.Concise id)
+    pub concise_now : kept_inputs k (part.Concise id) ≡ inputs_of p (part.Concise id)
         → option_map concise_made (kept_at k.concise id) ≡ concise_of p id
     unfolding concise_of
     concise_now now =
@@ -48,7 +48,7 @@ module _ (p : Content) (k : KeptParts) where
         ∙ concise_is_of p id
 
     -- and so is the DCF
-    pub dcf_now : held k (part.Dcf id) ≡ given p (part.Dcf id)
+    pub dcf_now : kept_inputs k (part.Dcf id) ≡ inputs_of p (part.Dcf id)
         → option_map dcf_made (kept_at k.dcf id) ≡ dcf_of p id
     unfolding dcf_of
     dcf_now now =

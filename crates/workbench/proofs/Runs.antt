@@ -7,20 +7,20 @@ use Rattle.std.proofs.KnownBytes.{Appends-trans}
 use Rattle.std.specs.List.{concat, position_or_len}
 use Rattle.plain_text.specs.Lines.{split_once}
 use Rattle.workbench.specs.Replies.{After, State, after_line}
-use Rattle.workbench.specs.Machine.{Cursor, after, after_byte, at_break, joined}
+use Rattle.workbench.specs.Machine.{Cursor, after, after_byte, at_break, with_earlier}
 use Rattle.streams.specs.Written.{Took, Posts}
 use Rattle.streams.proofs.Posted.{posts_then, posts_front, took_more}
 use Rattle.workbench.specs.Written.{WroteAll}
 
 pub after-append : (s : Cursor) (xs ys : List ℕ)
-    → after s (xs ++ ys) ≡ joined (after s xs).replies (after (after s xs).state ys)
+    → after s (xs ++ ys) ≡ with_earlier (after s xs).replies (after (after s xs).state ys)
 unfolding after
 after-append s [] ys = refl
 after-append s (x ∷ xs) ys =
     let first = after_byte s x in
     let others = after first.state xs in
     let assoc = append_assoc first.replies others.replies (after others.state ys).replies in
-    ap (joined first.replies) (after-append first.state xs ys)
+    ap (with_earlier first.replies) (after-append first.state xs ys)
     ∙ ap (λ (rs : List (List ℕ)). record { state = (after others.state ys).state; replies = rs }) (sym assoc)
 
 pub concat-append : (xs ys : List (List ℕ)) → concat (xs ++ ys) ≡ concat xs ++ concat ys
@@ -68,7 +68,7 @@ line_missing xs h =
 
 -- a whole line, and what follows it
 abbrev pub after_break : State → List ℕ → List ℕ → After Cursor
-after_break state line rest = let r = at_break (after_line state line) in joined r.replies (after r.state rest)
+after_break state line rest = let r = at_break (after_line state line) in with_earlier r.replies (after r.state rest)
 
 abbrev pub unended : State → List ℕ → After Cursor
 unended state line = record { state = record { state = state; line = line }; replies = [] }
@@ -91,7 +91,7 @@ line_taken state line (b ∷ bs) h =
     elim (eqb b 10) as (λ t.
     let first : After Cursor = cond t (at_break (after_line state line)) (unended state (line ++ b ∷ [])) in
     cond (not t) (1 + n) 0 < length (b ∷ bs)
-    → joined first.replies (after first.state bs) ≡ after_break state (line ++ take (cond (not t) (1 + n) 0) (b ∷ bs))
+    → with_earlier first.replies (after first.state bs) ≡ after_break state (line ++ take (cond (not t) (1 + n) 0) (b ∷ bs))
     (drop (cond (not t) (1 + n) 0 + 1) (b ∷ bs))) [
       | true ↦ λ _. ap (λ l. after_break state l bs) (sym (append-nil line))
       | false ↦ λ lt.
@@ -108,7 +108,7 @@ line_unended state line (b ∷ bs) h =
     elim (eqb b 10) as (λ t.
     let first : After Cursor = cond t (at_break (after_line state line)) (unended state (line ++ b ∷ [])) in
     length (b ∷ bs) ≤ cond (not t) (1 + break_at bs) 0
-    → joined first.replies (after first.state bs) ≡ unended state (line ++ b ∷ bs)) [
+    → with_earlier first.replies (after first.state bs) ≡ unended state (line ++ b ∷ bs)) [
       | true ↦ λ le. absurd (omega arith)
       | false ↦ λ le.
           line_unended state (line ++ b ∷ []) bs (omega arith)
@@ -119,7 +119,7 @@ line_unended state line (b ∷ bs) h =
 
 -- the run over all of the piece gives these replies, and then goes on from s over the rest
 abbrev pub Goes : Cursor → List ℕ → Cursor → List ℕ → List (List ℕ) → Type 0
-Goes s0 piece s rest done = after s0 piece ≡ joined done (after s rest)
+Goes s0 piece s rest done = after s0 piece ≡ with_earlier done (after s rest)
 
 pub goes_on : (s0 : Cursor) (piece : List ℕ) (state : State) (line rest : List ℕ) (done : List (List ℕ))
     → Goes s0 piece (record { state = state; line = line }) rest done
@@ -131,10 +131,10 @@ goes_on s0 piece state line rest done all l a found new longer r e =
     let others = after r.state a in
     let taken : after (record { state = state; line = line }) rest
     ≡ after_break state (line ++ l) a = rw (parts.0, parts.1) (line_taken state line rest parts.2) in
-    let whole : after (record { state = state; line = line }) rest ≡ joined r.replies others = taken
+    let whole : after (record { state = state; line = line }) rest ≡ with_earlier r.replies others = taken
     ∙ ap (λ (t : List ℕ). after_break state t a) (sym longer)
-    ∙ ap (λ (q : After Cursor). joined q.replies (after q.state a)) (sym e) in
-    all ∙ ap (joined done) whole
+    ∙ ap (λ (q : After Cursor). with_earlier q.replies (after q.state a)) (sym e) in
+    all ∙ ap (with_earlier done) whole
     ∙ ap (λ (rs : List (List ℕ)). record { state = others.state; replies = rs })
     (sym (append_assoc done r.replies others.replies))
 
@@ -143,7 +143,7 @@ pub goes_to_end : (s0 : Cursor) (piece : List ℕ) (state : State) (line rest : 
     → None ≡ split_once 10 rest → (new : List ℕ) → new ≡ line ++ rest
     → after s0 piece ≡ record { state = record { state = state; line = new }; replies = done }
 goes_to_end s0 piece state line rest done all none new longer =
-    all ∙ ap (joined done) (line_unended state line rest (line_missing rest none))
+    all ∙ ap (with_earlier done) (line_unended state line rest (line_missing rest none))
     ∙ ap (λ (rs : List (List ℕ)). record { state = record { state = state; line = line ++ rest }; replies = rs })
     (append-nil done)
     ∙ ap (λ (t : List ℕ). record { state = record { state = state; line = t }; replies = done }) (sym longer)

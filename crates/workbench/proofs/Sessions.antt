@@ -11,7 +11,7 @@ use Rattle.streams.specs.Streams.{CountsOne, OneFailed}
 use Rattle.workbench.specs.declared.serving.TheConstants.{LIMIT}
 use Rattle.workbench.specs.Replies.{replies, complete_replies}
 use Rattle.workbench.specs.Machine.{Cursor, first_cursor, after, at_end}
-use Rattle.workbench.specs.Session.{Serves}
+use Rattle.workbench.specs.Session.{ServesSession}
 use Rattle.workbench.specs.Written.{Puts, WroteAll, WroteFirst, WroteFront}
 use Rattle.workbench.proofs.Ends.{known-all, all_at_end, first_at_end, front_at_end, first_in_piece, front_in_piece}
 use Rattle.workbench.proofs.Ends.{read_too_much, read-failed, due_then, due_none}
@@ -25,7 +25,7 @@ none_written None c = tt
 none_written (Some input) c = ([], replies input, refl, Appends-nil c)
 
 pub serves_nothing : {R W X : Type 0} (intake : Intake R) (outlet : Outlet W) (r : R) (u : W)
-    (e : Result X SessionFault) → e ≡ Err Memory → Serves intake outlet r r u u e
+    (e : Result X SessionFault) → e ≡ Err Memory → ServesSession intake outlet r r u u e
 serves_nothing intake outlet r u e is = record {
   replies = no_value e Memory _ is;
   ended = no_value e Memory _ is;
@@ -68,7 +68,7 @@ module _ {R W : Type 0} (intake : Intake R) (outlet : Outlet W) (r q x : R) (u v
   -- reading failed
   pub serves_read : {X : Type 0} (e : Result X SessionFault) → e ≡ Err Read
       → Keeps (intake.remaining q) (intake.remaining x) → OneFailed (intake.failures q) (intake.failures x)
-      → Serves intake outlet r x u v e
+      → ServesSession intake outlet r x u v e
   serves_read e is kept failed = record {
     replies = no_value e Read _ is;
     ended = no_value e Read _ is;
@@ -89,7 +89,7 @@ module _ {R W : Type 0} (intake : Intake R) (outlet : Outlet W) (r q x : R) (u v
   module _ (quiet : intake.failures x ≡ intake.failures q) (w : W) where
     -- the input has ended
     pub serves_all : {X Y : Type 0} (k : X) (t : Y) → Consumes (intake.remaining r) (intake.remaining x) served.bytes
-        → IsAtEnd (intake.remaining x) → Puts outlet v [] w [] (at_end s) (Ok t) → Serves intake outlet r x u w (Ok k)
+        → IsAtEnd (intake.remaining x) → Puts outlet v [] w [] (at_end s) (Ok t) → ServesSession intake outlet r x u w (Ok k)
     serves_all k t came end put = record {
       replies = all_at_end (intake.remaining r) (intake.remaining x) (outlet.contents u) (outlet.contents v)
           served.bytes s came served.cursor_is served.wrote (outlet.contents w) end
@@ -116,7 +116,7 @@ module _ {R W : Type 0} (intake : Intake R) (outlet : Outlet W) (r q x : R) (u v
         → IfSome (intake.remaining r) (λ input. WroteFirst (outlet.contents u) (outlet.contents w) (replies input)))
         → (WroteFront (outlet.contents v) (outlet.contents w) rs
         → IfSome (intake.remaining r) (λ input. WroteFront (outlet.contents u) (outlet.contents w) (replies input)))
-        → Serves intake outlet r x u w e
+        → ServesSession intake outlet r x u w e
     serves_turn last rs e f is more short put first front =
         let some : e ≡ Err Memory → WroteFirst (outlet.contents v) (outlet.contents w) rs = λ h.
         wrote_first (outlet.contents v) (outlet.contents w) rs (put.memory h) in record {
@@ -139,7 +139,7 @@ module _ {R W : Type 0} (intake : Intake R) (outlet : Outlet W) (r q x : R) (u v
     pub serves_last_turn : {X : Type 0} (last : List ℕ) (e : Result X SessionFault) (f : SessionFault) → e ≡ Err f
         → Consumes (intake.remaining r) (intake.remaining x) served.bytes → IsAtEnd (intake.remaining x)
         → Consumes (intake.remaining q) (intake.remaining x) last → length last ≤ 4096
-        → Puts outlet v [] w [] (at_end s) e → Serves intake outlet r x u w e
+        → Puts outlet v [] w [] (at_end s) e → ServesSession intake outlet r x u w e
     serves_last_turn last e f is came end more short put =
         let p = intake.remaining r in
         let o = intake.remaining x in
@@ -155,7 +155,7 @@ module _ {R W : Type 0} (intake : Intake R) (outlet : Outlet W) (r q x : R) (u v
         (more : Consumes (intake.remaining q) (intake.remaining x) whole) where
       -- a turn over it failed
       pub serves_piece : {X : Type 0} (e : Result X SessionFault) (f : SessionFault) → e ≡ Err f
-          → length whole ≤ 4096 → Puts outlet v [] w [] (after s piece).replies e → Serves intake outlet r x u w e
+          → length whole ≤ 4096 → Puts outlet v [] w [] (after s piece).replies e → ServesSession intake outlet r x u w e
       serves_piece e f is short put =
           let p = intake.remaining r in
           let m = intake.remaining q in
@@ -170,7 +170,7 @@ module _ {R W : Type 0} (intake : Intake R) (outlet : Outlet W) (r q x : R) (u v
       -- more came than the limit lets in
       pub serves_limit : {X Y : Type 0} (t : Y) (e : Result X SessionFault) → e ≡ Err Read
           → length (served.bytes ++ piece) ≡ LIMIT → 0 < length tail
-          → Puts outlet v [] w [] (after s piece).replies (Ok t) → Serves intake outlet r x u w e
+          → Puts outlet v [] w [] (after s piece).replies (Ok t) → ServesSession intake outlet r x u w e
       serves_limit t e is full some put = record {
         replies = no_value e Read _ is;
         ended = no_value e Read _ is;

@@ -20,12 +20,12 @@ after_byte c b =
     if b == line_feed then at_break (after_line c.state c.line)
     else record { state = record c { line = c.line ++ b ∷ [] }; replies = [] }
 
-abbrev pub joined : List (List ℕ) → After Cursor → After Cursor
-joined replies r = record { state = r.state; replies = replies ++ r.replies }
+abbrev pub with_earlier : List (List ℕ) → After Cursor → After Cursor
+with_earlier replies r = record { state = r.state; replies = replies ++ r.replies }
 
 unfoldable pub after : Cursor → List ℕ → After Cursor
 after c [] = record { state = c; replies = [] }
-after c (b ∷ bs) = let first = after_byte c b in joined first.replies (after first.state bs)
+after c (b ∷ bs) = let first = after_byte c b in with_earlier first.replies (after first.state bs)
 
 -- the end of the input ends a line that isn't empty
 abbrev pub last_line : Cursor → After Cursor
@@ -35,6 +35,6 @@ unfoldable pub at_end : Cursor → List (List ℕ)
 at_end c = let last = last_line c in last.replies ++ cut_off last.state.state.block
 
 -- the replies to a piece of the input, or to its end
-abbrev pub given : Cursor → Option (List ℕ) → List (List ℕ)
-given c (Some piece) = (after c piece).replies
-given c None = at_end c
+abbrev pub replies_to_piece : Cursor → Option (List ℕ) → List (List ℕ)
+replies_to_piece c (Some piece) = (after c piece).replies
+replies_to_piece c None = at_end c

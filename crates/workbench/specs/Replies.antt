@@ -112,14 +112,14 @@ unfoldable pub replies : List ℕ → List (List ℕ)
 replies input = replies_to_lines (lines_of input)
 
 -- b put before the first of the lines, if there is one
-abbrev pub lengthened : ℕ → List (List ℕ) → List (List ℕ)
-lengthened b [] = []
-lengthened b (line ∷ lines) = (b ∷ line) ∷ lines
+abbrev pub before_first : ℕ → List (List ℕ) → List (List ℕ)
+before_first b [] = []
+before_first b (line ∷ lines) = (b ∷ line) ∷ lines
 
 -- the lines of these bytes that an LF ends, each without it
 unfoldable pub ended_lines : List ℕ → List (List ℕ)
 ended_lines [] = []
-ended_lines (b ∷ bs) = if b == line_feed then [] ∷ ended_lines bs else lengthened b (ended_lines bs)
+ended_lines (b ∷ bs) = if b == line_feed then [] ∷ ended_lines bs else before_first b (ended_lines bs)
 
 -- THE REPLIES to the commands that are complete in these bytes, whatever follows
 unfoldable pub complete_replies : List ℕ → List (List ℕ)

@@ -12,7 +12,7 @@ use Rattle.workbench.specs.Replies.{replies as replies_to, complete_replies}
 use Rattle.workbench.specs.Written.{WroteAll, WroteFirst, WroteFront, WroteAtLeast}
 
 -- A SESSION from a reader to a writer, each as it was and as it is when the session ends with this result
-pub record Serves {R W X : Type 0} (intake : Intake R) (outlet : Outlet W) (reader_old reader_new : R)
+pub record ServesSession {R W X : Type 0} (intake : Intake R) (outlet : Outlet W) (reader_old reader_new : R)
     (writer_old writer_new : W) (result : Result X SessionFault) : Type 0 where
   -- the replies to all of the input were written, and nothing else
   pub replies : OnOk result (IfSome (intake.remaining reader_old) (λ input.

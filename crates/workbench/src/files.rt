@@ -2,10 +2,10 @@
 ghost use Rattle.std.specs.Prelude.{◌≡◌, IfOk, IsTrue, OnOk, Some, is_some};
 ghost use Rattle.kept_values.specs.Stale.{AreBrought};
 ghost use Rattle.project_plan.specs.Network.{member_at};
-ghost use Rattle.kept_parts.specs.Kept.{held, IsOf};
+ghost use Rattle.kept_parts.specs.Kept.{kept_inputs, IsOf};
 ghost use Rattle.kept_parts.specs.Left.{left_of, IsSwept};
-ghost use Rattle.project_parts.specs.Given.{given, same_part};
-ghost use Rattle.project_parts.specs.Reached.{reached};
+ghost use Rattle.project_parts.specs.Given.{inputs_of, same_part};
+ghost use Rattle.project_parts.specs.Reached.{parts_for};
 ghost use Rattle.workbench.specs.Queries.{concise_of, dcf_of};
 ghost use Rattle.kept_values.specs.Work.{Rises};
 
@@ -28,9 +28,9 @@ pub(crate) fn dcf(
     requires swept { IsSwept project.now parts.old }
     requires node { IsTrue (is_some (member_at project.now node)) }
     ensures file { IfOk result (λ text. dcf_of project.now node ≡ Some text) }
-    ensures brings { OnOk result (AreBrought same_part (given project.now)
-        (reached project.now (Part.Dcf node))
-        (left_of project.now parts.old) (held parts.new) meter.old meter.new) }
+    ensures brings { OnOk result (AreBrought same_part (inputs_of project.now)
+        (parts_for project.now (Part.Dcf node))
+        (left_of project.now parts.old) (kept_inputs parts.new) meter.old meter.new) }
     ensures is_of { IsOf project.now parts.new }
     ensures swept { IsSwept project.now parts.new }
     ensures rises { Rises meter.old meter.new }
@@ -55,9 +55,9 @@ pub(crate) fn concise(
     requires swept { IsSwept project.now parts.old }
     requires node { IsTrue (is_some (member_at project.now node)) }
     ensures file { IfOk result (λ bytes. concise_of project.now node ≡ Some bytes) }
-    ensures brings { OnOk result (AreBrought same_part (given project.now)
-        (reached project.now (Part.Concise node))
-        (left_of project.now parts.old) (held parts.new) meter.old meter.new) }
+    ensures brings { OnOk result (AreBrought same_part (inputs_of project.now)
+        (parts_for project.now (Part.Concise node))
+        (left_of project.now parts.old) (kept_inputs parts.new) meter.old meter.new) }
     ensures is_of { IsOf project.now parts.new }
     ensures swept { IsSwept project.now parts.new }
     ensures rises { Rises meter.old meter.new }

@@ -9,7 +9,7 @@ ghost use Rattle.project_plan.specs.Nodes.{IsSoundNode};
 ghost use Rattle.project_plan.specs.Network.{Member};
 ghost use Rattle.kept_parts.specs.Left.{HoldsNoneGone};
 ghost use Rattle.project_parts.specs.declared.part.Part.{Part};
-ghost use Rattle.workbench.specs.Bench.{Bench, Brings, Traces};
+ghost use Rattle.workbench.specs.Bench.{Bench, Brings, BenchTraces};
 ghost use Rattle.workbench.specs.Queries.{dcf_of};
 ghost use Rattle.workbench.specs.Lines.{AreLines, has_break, with_breaks, if_some};
 ghost use Rattle.workbench.specs.Replies.{State, start, ok_reply, after_line, after_lines, replies, replies_to_lines};
@@ -31,7 +31,7 @@ pub fn dcf_prints_the_text_of_its_node()
 /// that the project doesn't have.
 pub fn nothing_is_held_of_what_is_gone()
     ensures parts { (named : List Part) (old new : Bench) → Brings named old new → HoldsNoneGone old.project new.parts }
-    ensures trace { (old new : Bench) → Traces old new → HoldsNoneGone old.project new.parts }
+    ensures trace { (old new : Bench) → BenchTraces old new → HoldsNoneGone old.project new.parts }
 {}
 
 /// An input that is made of lines, each ended by LF, and of a last one that its end ends, has the

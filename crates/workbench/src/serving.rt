@@ -2,8 +2,8 @@
 ghost use Rattle.std.specs.Prelude.{◌≡◌, [], OnOk, IfOk, IfSome, IsErrOf};
 ghost use Rattle.std.specs.Option.{option_map};
 ghost use Rattle.streams.specs.Written.{Posts};
-ghost use Rattle.workbench.specs.Machine.{after, at_end, first_cursor, given};
-ghost use Rattle.workbench.specs.Session.{Serves};
+ghost use Rattle.workbench.specs.Machine.{after, at_end, first_cursor, replies_to_piece};
+ghost use Rattle.workbench.specs.Session.{ServesSession};
 ghost use Rattle.workbench.specs.Views.{cursor_of, replies_of};
 ghost use Rattle.workbench.specs.Written.{Puts};
 
@@ -78,7 +78,7 @@ fn put_turn<W: Outlet>(
     ensures cursor { OnOk result (IfSome piece.entry (λ p. cursor_of cursor.new
         ≡ (after (cursor_of cursor.old) p.now).state)) }
     ensures puts { Puts W.Outlet writer.old outbox.old writer.new outbox.new
-        (given (cursor_of cursor.old) (option_map (λ p. p.now) piece.entry)) result }
+        (replies_to_piece (cursor_of cursor.old) (option_map (λ p. p.now) piece.entry)) result }
 {
     match piece {
         Some(piece) => put_lines(cursor, outbox, writer, piece),
@@ -100,7 +100,7 @@ fn take_turn<W: Outlet>(
 
     // None of them waits then.
     ensures puts { Puts W.Outlet writer.old [] writer.new []
-        (given (cursor_of cursor.old) (option_map (λ p. p.now) piece.entry)) result }
+        (replies_to_piece (cursor_of cursor.old) (option_map (λ p. p.now) piece.entry)) result }
 {
     match put_turn(cursor, outbox, writer, piece) {
         Ok(()) => outbox.send(writer),
@@ -121,7 +121,7 @@ fn converse<R: Intake, W: Outlet>(
     writer: &mut W,
 ) -> Result<Work, SessionFault>
     requires { cursor_of cursor.old ≡ first_cursor }
-    ensures serves { Serves R.Intake W.Outlet reader.old reader.new writer.old writer.new result }
+    ensures serves { ServesSession R.Intake W.Outlet reader.old reader.new writer.old writer.new result }
     ensures segments { IfOk result (λ work. work.segments ≡ cursor.new.workbench.work.segments) }
     ensures parts { IfOk result (λ work. work.parts ≡ cursor.new.workbench.work.parts) }
 {
@@ -168,7 +168,7 @@ pub fn session<R: Intake, W: Outlet>(
     reader: &mut R,
     writer: &mut W,
 ) -> Result<Work, SessionFault>
-    ensures serves { Serves R.Intake W.Outlet reader.old reader.new writer.old writer.new result }
+    ensures serves { ServesSession R.Intake W.Outlet reader.old reader.new writer.old writer.new result }
 {
     let mut cursor = Cursor::new(alloc)?;
     converse(alloc, &mut cursor, reader, writer)
@@ -181,7 +181,7 @@ pub fn session_of_process<R: Intake, W: Outlet>(
     reader: &mut R,
     writer: &mut W,
 ) -> Result<Work, SessionFault>
-    ensures serves { Serves R.Intake W.Outlet reader.old reader.new writer.old writer.new result }
+    ensures serves { ServesSession R.Intake W.Outlet reader.old reader.new writer.old writer.new result }
 {
     let cursor = Cursor::new(alloc)?;
     let mut cursor = ManuallyDrop::new(cursor);

@@ -10,9 +10,9 @@ ghost use Rattle.co_project.specs.Sound.{IsSound};
 ghost use Rattle.co_project.specs.Tables.{node_at};
 ghost use Rattle.can_bus.specs.Lines.{lines_text};
 ghost use Rattle.kept_values.specs.Work.{idle, Rises};
-ghost use Rattle.kept_parts.specs.Kept.{held};
-ghost use Rattle.project_parts.specs.Reached.{reached};
-ghost use Rattle.workbench.specs.Bench.{no_segments, Brings, Traces};
+ghost use Rattle.kept_parts.specs.Kept.{kept_inputs};
+ghost use Rattle.project_parts.specs.Reached.{parts_for};
+ghost use Rattle.workbench.specs.Bench.{no_segments, Brings, BenchTraces};
 ghost use Rattle.workbench.specs.Queries.{or_unknown, dcf_of, concise_of, trace_of};
 
 use crate::files::{concise, dcf};
@@ -97,7 +97,7 @@ impl Workbench {
         ensures accepts { Accepts self.old.project self.new.project result (accept self.old.project command) }
 
         // Nothing that is kept changes, and nothing is counted.
-        ensures held { (q : Part) → held self.new.parts q ≡ held self.old.parts q }
+        ensures held { (q : Part) → kept_inputs self.new.parts q ≡ kept_inputs self.old.parts q }
         ensures store { self.new.store ≡ self.old.store }
         ensures work { self.new.work ≡ self.old.work }
 
@@ -131,7 +131,7 @@ impl Workbench {
     #[tactic(auto, unfolding(crate::specs::Queries::dcf_of, project_plan::specs::Network::member_at))]
     pub fn listed_dcf(&mut self, node: u8) -> Result<Shared<ListedText>, EditFault>
         ensures file { Gives is_memory (λ text. text) result (or_unknown (dcf_of self.old.project node)) }
-        ensures brings { OnOk result (Brings (reached self.old.project (Part.Dcf node))
+        ensures brings { OnOk result (Brings (parts_for self.old.project (Part.Dcf node))
             self.old self.new) }
         ensures unknown { IsErrOf result EditFault.Unknown ↔ (node_at self.old.project.nodes node ≡ None) }
 
@@ -152,7 +152,7 @@ impl Workbench {
     /// Unknown: the number isn't a node's. Memory can come in place of the file.
     pub fn dcf(&mut self, node: u8) -> Result<Vec<u8>, EditFault>
         ensures file { Gives is_memory (λ v. v.items) result (or_unknown (dcf_of self.old.project node)) }
-        ensures brings { OnOk result (Brings (reached self.old.project (Part.Dcf node))
+        ensures brings { OnOk result (Brings (parts_for self.old.project (Part.Dcf node))
             self.old self.new) }
         ensures unknown { IsErrOf result EditFault.Unknown ↔ (node_at self.old.project.nodes node ≡ None) }
 
@@ -174,7 +174,7 @@ impl Workbench {
     #[tactic(auto, unfolding(crate::specs::Queries::concise_of, project_plan::specs::Network::member_at))]
     pub fn listed_concise(&mut self, node: u8) -> Result<Shared<ListedBytes>, EditFault>
         ensures file { Gives is_memory (λ bytes. bytes) result (or_unknown (concise_of self.old.project node)) }
-        ensures brings { OnOk result (Brings (reached self.old.project (Part.Concise node))
+        ensures brings { OnOk result (Brings (parts_for self.old.project (Part.Concise node))
             self.old self.new) }
         ensures unknown { IsErrOf result EditFault.Unknown ↔ (node_at self.old.project.nodes node ≡ None) }
 
@@ -196,7 +196,7 @@ impl Workbench {
     /// Unknown: the number isn't a node's. Memory can come in place of the file.
     pub fn concise(&mut self, node: u8) -> Result<Vec<u8>, EditFault>
         ensures file { Gives is_memory (λ v. v.items) result (or_unknown (concise_of self.old.project node)) }
-        ensures brings { OnOk result (Brings (reached self.old.project (Part.Concise node))
+        ensures brings { OnOk result (Brings (parts_for self.old.project (Part.Concise node))
             self.old self.new) }
         ensures unknown { IsErrOf result EditFault.Unknown ↔ (node_at self.old.project.nodes node ≡ None) }
 
@@ -218,7 +218,7 @@ impl Workbench {
     /// text that no node is made from is read again then.
     pub fn diagnostics(&mut self) -> Result<Shared<Diagnostics>, AllocError>
         ensures list { IfOk result (λ list. list ≡ diagnostics_of self.old.project) }
-        ensures brings { OnOk result (Brings (reached self.old.project Part.Diagnostics) self.old self.new) }
+        ensures brings { OnOk result (Brings (parts_for self.old.project Part.Diagnostics) self.old self.new) }
         ensures same { self.new.project ≡ self.old.project }
         ensures rises { Rises self.old.work self.new.work }
     {
@@ -230,7 +230,7 @@ impl Workbench {
     /// but for the copy of the lines.
     fn told(&mut self) -> Result<TraceText, AllocError>
         ensures lines { IfOk result (λ told. told ≡ trace_of self.old.project) }
-        ensures traces { OnOk result (Traces self.old self.new) }
+        ensures traces { OnOk result (BenchTraces self.old self.new) }
         ensures same { self.new.project ≡ self.old.project }
         ensures rises { Rises self.old.work self.new.work }
     {
@@ -258,7 +258,7 @@ impl Workbench {
     /// by its lines and their text, what it read and what changed in it.
     pub fn trace(&mut self) -> Result<Vec<Line>, AllocError>
         ensures lines { IfOk result (λ lines. lines.items ≡ trace_of self.old.project) }
-        ensures traces { OnOk result (Traces self.old self.new) }
+        ensures traces { OnOk result (BenchTraces self.old self.new) }
         ensures same { self.new.project ≡ self.old.project }
         ensures rises { Rises self.old.work self.new.work }
     {
@@ -271,7 +271,7 @@ impl Workbench {
     /// text of each window is kept with it, and copied once.
     pub(crate) fn trace_text(&mut self) -> Result<ListedText, AllocError>
         ensures text { IfOk result (λ text. text ≡ lines_text (trace_of self.old.project)) }
-        ensures traces { OnOk result (Traces self.old self.new) }
+        ensures traces { OnOk result (BenchTraces self.old self.new) }
         ensures same { self.new.project ≡ self.old.project }
         ensures rises { Rises self.old.work self.new.work }
     {

@@ -3,10 +3,10 @@ ghost use Rattle.std.specs.Prelude.{◌≡◌, IfOk, OnOk};
 ghost use Rattle.co_diag.specs.Found.{diagnostics_of};
 ghost use Rattle.kept_values.specs.Stale.{AreBrought};
 ghost use Rattle.kept_values.specs.Work.{Rises};
-ghost use Rattle.kept_parts.specs.Kept.{held, IsOf};
+ghost use Rattle.kept_parts.specs.Kept.{kept_inputs, IsOf};
 ghost use Rattle.kept_parts.specs.Left.{left_of, IsSwept};
-ghost use Rattle.project_parts.specs.Given.{given, same_part};
-ghost use Rattle.project_parts.specs.Reached.{reached};
+ghost use Rattle.project_parts.specs.Given.{inputs_of, same_part};
+ghost use Rattle.project_parts.specs.Reached.{parts_for};
 
 use co_project::Project;
 use kept_parts::KeptParts;
@@ -24,8 +24,8 @@ pub(crate) fn diagnostics(
     requires is_of { IsOf project.now parts.old }
     requires swept { IsSwept project.now parts.old }
     ensures list { IfOk result (λ list. list ≡ diagnostics_of project.now) }
-    ensures brings { OnOk result (AreBrought same_part (given project.now)
-        (reached project.now Part.Diagnostics) (left_of project.now parts.old) (held parts.new) meter.old meter.new) }
+    ensures brings { OnOk result (AreBrought same_part (inputs_of project.now)
+        (parts_for project.now Part.Diagnostics) (left_of project.now parts.old) (kept_inputs parts.new) meter.old meter.new) }
     ensures is_of { IsOf project.now parts.new }
     ensures swept { IsSwept project.now parts.new }
     ensures rises { Rises meter.old meter.new }

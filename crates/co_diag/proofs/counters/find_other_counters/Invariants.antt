@@ -1,5 +1,5 @@
 use Rattle.std.proofs.Common.{◌≡◌, ◌++◌, filter_map, take}
-use Rattle.co_diag.specs.Kept.{counter_diagnostic}
+use Rattle.co_diag.specs.Found.{counter_diagnostic}
 use Rattle.co_diag.proofs.counters.find_other_counters.Given as goal
 
 abbrev pub invariant-loop-counter : goal.invariant-loop-counter

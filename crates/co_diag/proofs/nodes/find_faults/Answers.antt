@@ -1,5 +1,5 @@
 use Rattle.std.proofs.Common.{refl}
-use Rattle.project_plan.specs.Values.{member_of}
+use Rattle.project_plan.specs.Network.{member_of}
 use Rattle.co_diag.proofs.SheetLemmas.{faults_by}
 use Rattle.co_diag.proofs.nodes.find_faults.Goals as goal
 

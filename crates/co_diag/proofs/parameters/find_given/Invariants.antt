@@ -1,5 +1,5 @@
 use Rattle.std.proofs.Common.{◌≡◌, ◌++◌, filter_map, take}
-use Rattle.project_plan.specs.Values.{member_of}
+use Rattle.project_plan.specs.Network.{member_of}
 use Rattle.co_diag.specs.Found.{parameter_diagnostic}
 use Rattle.co_diag.proofs.parameters.find_given.Given as goal
 

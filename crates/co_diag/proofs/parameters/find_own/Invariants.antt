@@ -1,6 +1,6 @@
 use Rattle.std.proofs.Common.{◌≡◌, ◌++◌, filter_map}
 use Rattle.std.specs.FinMap.{entries}
-use Rattle.project_plan.specs.Values.{member_of}
+use Rattle.project_plan.specs.Network.{member_of}
 use Rattle.co_diag.specs.Found.{parameter_diagnostic}
 use Rattle.co_diag.proofs.parameters.find_own.Given as goal
 

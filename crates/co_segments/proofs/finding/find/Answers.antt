@@ -2,7 +2,7 @@ use Rattle.std.proofs.Common.{◌+◌, drop, length, refl, sym, ap, ◌∙◌, a
 use Rattle.std.proofs.lemmas.Bool.{false≢true}
 use Rattle.std.proofs.lemmas.List.{drop_all}
 use Rattle.co_segments.specs.declared.stock.Stock.{Stock}
-use Rattle.co_segments.specs.Placed.{numbered}
+use Rattle.co_segments.specs.Placed.{entries_of_number}
 use Rattle.co_segments.proofs.NumberedLemmas.{none_there, rest_at}
 use Rattle.co_segments.proofs.PlacedLemmas.{in_lookup, none_stale, one_stale}
 use Rattle.co_segments.proofs.StockLemmas.{segments_from_told, segments_later, stands_known}
@@ -74,7 +74,7 @@ returns-then-branch-clause-segments g c =
 pub returns-then-branch-clause-counted : goal.returns-then-branch-clause-counted
 returns-then-branch-clause-counted g c =
     let old = c.loop-place.invariant in
-    let xs = numbered c.args.number c.args.stock.now.shelf.entries in
+    let xs = entries_of_number c.args.number c.args.stock.now.shelf.entries in
     let is = rw old.shelf at c.in-Some.ensures.is in
     let cut = rest_at xs c.loop-place.place (c.in-Some.key, c.in-Some.segment.now) (sym is) in
     let counted = rw cut at old.counted in
@@ -85,7 +85,7 @@ loop-place-preserved g c =
     let image = (g.P.Asked.seen c.args.parts.now).image in
     let old = c.loop-place.invariant in
     let h = old.stands.told in
-    let xs = numbered c.args.number c.args.stock.now.shelf.entries in
+    let xs = entries_of_number c.args.number c.args.stock.now.shelf.entries in
     elim c.match-at.branch [
       | in-Some+in_ok-serves+else-branch w ↦ (
           let s = w.in-Some.segment.now in
@@ -119,7 +119,7 @@ loop-place-preserved g c =
 pub returns-clause-found : goal.returns-clause-found
 returns-clause-found g c =
     let image = (g.P.Asked.seen c.args.parts.now).image in
-    let xs = numbered c.args.number c.args.stock.now.shelf.entries in
+    let xs = entries_of_number c.args.number c.args.stock.now.shelf.entries in
     let all =
     drop_all c.loop-place.place xs (omega (arith, c.loop-place-test.false, c.count-place-end.ensures)) in
     let rest = drop c.loop-place.place xs in

@@ -1,7 +1,7 @@
 use Rattle.std.proofs.Common.{drop, length, sym, ap, arith}
 use Rattle.std.proofs.lemmas.List.{drop_all}
 use Rattle.co_segments.proofs.NumberedLemmas.{all_stale, none_there, one_passed}
-use Rattle.co_segments.specs.Placed.{numbered}
+use Rattle.co_segments.specs.Placed.{entries_of_number}
 use Rattle.co_segments.proofs.PlacedLemmas.{in_lookup, none_stale}
 use Rattle.co_segments.proofs.rejoining.held_start.Goals.{in-Some+else-differs_there+in_ok-found+in_default-2}
 use Rattle.co_segments.proofs.rejoining.held_start.Goals.{in_default}
@@ -31,13 +31,13 @@ loop-place-preserved c image =
           one_passed image c.args.number c.args.bus.now es c.loop-place.place w.in-Some._key w.in-Some.segment.now
           (sym w.in-Some.ensures.is) ((rw w.in_default-2.is at w.in_ok-found.ensures) image)
           (c.loop-place.invariant image)
-      | in_default w ↦ absurd (none_there (numbered c.args.number es) c.loop-place.place
+      | in_default w ↦ absurd (none_there (entries_of_number c.args.number es) c.loop-place.place
           (omega (arith, c.loop-place-test.true, c.count-count.ensures)) (sym w.in_default.ensures.is))
     ]
 
 pub returns : goal.returns
 returns c image =
-    let xs = numbered c.args.number c.args.shelf.now.entries in
+    let xs = entries_of_number c.args.number c.args.shelf.now.entries in
     let all = drop_all c.loop-place.place xs (omega (arith, c.loop-place-test.false, c.count-count.ensures)) in
     c.loop-place.invariant image
     (none_stale image c.args.number c.args.bus.now (drop c.loop-place.place xs) (ap length all))

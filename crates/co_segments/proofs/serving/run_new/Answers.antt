@@ -4,7 +4,7 @@ use Rattle.can_bus.specs.declared.line.Line.{Line}
 use Rattle.recorded_spans.specs.Reads.{Recorded}
 use Rattle.kept_shelf.specs.Shelves.{Shelved}
 use Rattle.co_segments.specs.declared.stock.Stock.{Stock}
-use Rattle.co_segments.specs.Placed.{IsReached, Numbered, Placed, placed_of}
+use Rattle.co_segments.specs.Placed.{IsEndNumber, Numbered, Placed, placed_of}
 use Rattle.co_segments.proofs.PlacedLemmas.{new_added, reached_bus}
 use Rattle.co_segments.proofs.StockLemmas.{told_reached}
 use Rattle.co_segments.proofs.ValidLemmas.{sound_from_run}
@@ -60,8 +60,8 @@ returns-clause-stands g c =
     c.in_ok-copy.copy lines c.in_ok-copy.ensures in
     let first = rw placed at c.in_ok-add-2.ensures.ok in
     let bus : end.bus ≡ ran.end = reached_bus _ _ _ ran.end end c.in_ok-end.ensures.reached in
-    let reached : IsReached old.shelf.entries old.given.buses c.reach.new.given end.bus end =
-    subst (λ (b : Bus). IsReached old.shelf.entries old.given.buses c.reach.new.given b end) (sym bus)
+    let reached : IsEndNumber old.shelf.entries old.given.buses c.reach.new.given end.bus end =
+    subst (λ (b : Bus). IsEndNumber old.shelf.entries old.given.buses c.reach.new.given b end) (sym bus)
     c.in_ok-end.ensures.reached in
     let kept = (placed_of number start ran.reads.items ran.told end).kept in
     let sound = sound_from_run image number start.bus kept refl refl

@@ -1,10 +1,10 @@
 use Rattle.std.proofs.Common.{◌≡◌, [], length}
-use Rattle.pdo_stations.specs.Stations.{numbered}
+use Rattle.pdo_stations.specs.Stations.{seats_by_number}
 use Rattle.pdo_stations.proofs.stations.empty_seats.Given as goal
 
 -- the seats so far are empty
 abbrev pub invariant-loop-number : goal.invariant-loop-number
 invariant-loop-number l = record {
   count : length l.seats.items ≡ l._number;
-  empty : numbered 0 l.seats.items ≡ [];
+  empty : seats_by_number 0 l.seats.items ≡ [];
 }

@@ -1,7 +1,7 @@
 use Rattle.std.proofs.Common.{◌≡◌, ℕ, ◌-◌, ◌+◌, ◌∷◌, ◌++◌, length, get_or, take, drop, sym, subst, ◌∙◌, ap, arith}
 use Rattle.std.proofs.Math.Seq.{take-append_seam}
 use Rattle.pdo_stations.specs.Shown.{nodes_of}
-use Rattle.pdo_stations.specs.Stations.{shape_at, numbered}
+use Rattle.pdo_stations.specs.Stations.{shape_at, seats_by_number}
 use Rattle.pdo_stations.proofs.StationLemmas.{shaped, stations_more, devices_alike, node_before}
 use Rattle.pdo_stations.proofs.stations.look_up.Goals as goal
 
@@ -15,11 +15,11 @@ nodes-preserved c =
     let left : nodes_of (drop i nodes) ≡ (number.0, device.1.now.sections) ∷ nodes_of (drop c.nodes.count nodes) =
     node_before nodes i c.index-nodes-count.result c.index-nodes-count-in-nodes.result (omega arith)
     ∙ ap (λ n. (number.0, device.1.now.sections) ∷ nodes_of (drop n nodes)) next in
-    let so_far : (node : ℕ) → shape_at (numbered 0 c.as_mut_slice.result.now) node
+    let so_far : (node : ℕ) → shape_at (seats_by_number 0 c.as_mut_slice.result.now) node
     ≡ shaped node (nodes_of (drop c.nodes.count nodes)) =
-    subst (λ seats. (node : ℕ) → shape_at (numbered 0 seats) node ≡ shaped node (nodes_of (drop c.nodes.count nodes)))
+    subst (λ seats. (node : ℕ) → shape_at (seats_by_number 0 seats) node ≡ shaped node (nodes_of (drop c.nodes.count nodes)))
     (sym c.as_mut_slice.ensures.value) c.nodes.invariant.stations in
-    let more = stations_more (numbered 0 c.as_mut_slice.result.now) (numbered 0 c.add_station.new.seats) number.0
+    let more = stations_more (seats_by_number 0 c.as_mut_slice.result.now) (seats_by_number 0 c.add_station.new.seats) number.0
     device.1.now.sections (nodes_of (drop c.nodes.count nodes)) c.in_ok-add_station.ensures.station so_far in
     let after = c.add_station.new.seats in
     let count : length after ≡ 256 = c.in_ok-add_station.ensures.count in
@@ -30,12 +30,12 @@ nodes-preserved c =
     record {
       within = omega arith;
       count = ap length back ∙ count;
-      stations = λ node. ap (λ seats. shape_at (numbered 0 seats) node) back ∙ more node ∙ ap (shaped node) (sym left);
+      stations = λ node. ap (λ seats. shape_at (seats_by_number 0 seats) node) back ∙ more node ∙ ap (shaped node) (sym left);
     }
 
 pub returns : goal.returns
 returns c =
     let none : c.nodes.count ≡ 0 = omega arith in
-    devices_alike (numbered 0 c.nodes.seats.items) (nodes_of c.args.nodes.now)
-    (subst (λ n. (node : ℕ) → shape_at (numbered 0 c.nodes.seats.items) node
+    devices_alike (seats_by_number 0 c.nodes.seats.items) (nodes_of c.args.nodes.now)
+    (subst (λ n. (node : ℕ) → shape_at (seats_by_number 0 c.nodes.seats.items) node
     ≡ shaped node (nodes_of (drop n c.args.nodes.now))) none c.nodes.invariant.stations)

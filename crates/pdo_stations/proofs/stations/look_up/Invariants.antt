@@ -1,6 +1,6 @@
 use Rattle.std.proofs.Common.{◌≡◌, ◌≤◌, ℕ, length, drop}
 use Rattle.pdo_stations.specs.Shown.{nodes_of}
-use Rattle.pdo_stations.specs.Stations.{shape_at, numbered}
+use Rattle.pdo_stations.specs.Stations.{shape_at, seats_by_number}
 use Rattle.pdo_stations.proofs.StationLemmas.{shaped}
 use Rattle.pdo_stations.proofs.stations.look_up.Given as goal
 
@@ -9,7 +9,7 @@ abbrev pub invariant-nodes : goal.invariant-nodes
 invariant-nodes l = record {
   within : l.count ≤ length l.nodes;
   count : length l.seats.items ≡ 256;
-  stations : (node : ℕ) → shape_at (numbered 0 l.seats.items) node ≡ shaped node (nodes_of (drop l.count l.nodes));
+  stations : (node : ℕ) → shape_at (seats_by_number 0 l.seats.items) node ≡ shaped node (nodes_of (drop l.count l.nodes));
 }
 
 abbrev pub decreases-nodes : goal.decreases-nodes

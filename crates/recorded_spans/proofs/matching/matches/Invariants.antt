@@ -1,6 +1,6 @@
 use Rattle.std.proofs.Common.{◌≡◌, ◌≤◌, ◌+◌, ◌<◌, ℕ, get_or}
 use Rattle.image_parts.specs.Contents.{Content}
-use Rattle.recorded_spans.specs.Reads.{AreKnown, AreMarked, Extends, Recorded}
+use Rattle.recorded_spans.specs.Reads.{AreNumbered, AreMarked, LearnsMore, Recorded}
 use Rattle.recorded_spans.proofs.matching.matches.Given as goal
 
 -- the image has all so far
@@ -9,8 +9,8 @@ invariant-loop-place g l =
     let image = (g.P.Asked.seen l.fn.parts).image in
     record {
       so_far : (k : ℕ) (d : Recorded) → k < l.place → image (get_or l.reads k d).name ≡ (get_or l.reads k d).content;
-      known : (contents : ℕ → Content) → AreKnown image contents l.fn.given l.fn.now.reads
-          → AreMarked contents l.fn.given l.reads → Extends image contents l.fn.given l.given l.now.reads;
+      known : (contents : ℕ → Content) → AreNumbered image contents l.fn.given l.fn.now.reads
+          → AreMarked contents l.fn.given l.reads → LearnsMore image contents l.fn.given l.given l.now.reads;
       more : l.fn.given ≤ l.given;
       counted : g.P.Asked.asks l.parts ≤ g.P.Asked.asks l.fn.parts + l.place;
       kept : (g.P.Asked.seen l.parts).image ≡ image;

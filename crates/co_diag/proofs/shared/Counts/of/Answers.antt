@@ -2,7 +2,7 @@ use Rattle.std.proofs.Common.{◌≡◌, ◌∙◌, ◌+◌, ◌==◌, ℕ, List
 use Rattle.std.proofs.Common.{arith}
 use Rattle.std.specs.Prelude.{slice_index_or}
 use Rattle.std.proofs.lemmas.List.{take_more}
-use Rattle.co_diag.specs.Counts.{capped}
+use Rattle.co_diag.specs.Counts.{count_to_two}
 use Rattle.co_diag.proofs.CountLemmas.{counted}
 use Rattle.co_diag.proofs.shared.Counts.of.Goals as goal
 
@@ -19,5 +19,5 @@ loop-identifier-preserved c =
 pub returns : goal.returns
 returns c q =
     c.loop-identifier.invariant q
-    ∙ ap (λ (ids : List ℕ). capped (length (filter (λ n. n == q) ids)))
+    ∙ ap (λ (ids : List ℕ). count_to_two (length (filter (λ n. n == q) ids)))
     (take_all c.loop-identifier.identifier-index c.args.identifiers.now (omega arith))

@@ -1,7 +1,7 @@
 use Rattle.std.proofs.Common.{[], ◌∷◌, option_map, sym, ◌∙◌}
 use Rattle.kept_values.proofs.Brought.{both}
-use Rattle.kept_parts.specs.Kept.{held}
-use Rattle.project_parts.specs.Given.{given, same_part}
+use Rattle.kept_parts.specs.Kept.{kept_inputs}
+use Rattle.project_parts.specs.Given.{inputs_of, same_part}
 use Rattle.project_parts.specs.Reached.{for_writes}
 use Rattle.project_parts.specs.Offered.{offered_concise}
 use Rattle.project_parts.specs.declared.part.Part.TheVariants as part
@@ -28,7 +28,7 @@ returns-clause-brings c =
     let p = c.args.project.now in
     let key = c.args.node in
     let first = c.bring_writes.new in
-    both same_part (given p) (for_writes p key) (part.Concise key ∷ []) (held c.args.self.now) (held first.self) _
+    both same_part (inputs_of p) (for_writes p key) (part.Concise key ∷ []) (kept_inputs c.args.self.now) (kept_inputs first.self) _
     c.args.meter.now first.meter c.bring.new.meter c.in_ok-written.ensures.brings
     (concise_brought p first.self c.in_ok-written.ensures.is_of key c.bring.new.self
     (option_map offered_concise c.of-now.result)

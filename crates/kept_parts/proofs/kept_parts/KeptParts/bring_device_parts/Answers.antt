@@ -2,8 +2,8 @@ use Rattle.std.proofs.Common.{[], ◌∷◌, option_map, sym, ap, subst, ◌∙�
 use Rattle.kept_values.specs.Shelved.{kept_at, Shelved}
 use Rattle.kept_values.specs.Stale.{AreBrought}
 use Rattle.kept_values.proofs.Brought.{both, refreshes_none}
-use Rattle.kept_parts.specs.Kept.{held, IsOf}
-use Rattle.project_parts.specs.Given.{given, same_part}
+use Rattle.kept_parts.specs.Kept.{kept_inputs, IsOf}
+use Rattle.project_parts.specs.Given.{inputs_of, same_part}
 use Rattle.project_parts.specs.Reached.{own_device}
 use Rattle.project_parts.specs.declared.device_at.DeviceAt.{DeviceAt}
 use Rattle.project_parts.specs.declared.part.Part.TheVariants as part
@@ -36,8 +36,8 @@ returns-then-settle-clause-brings c =
     let first = c.bring_numbered.new in
     let now = option_map (λ d. d) c.in_ok-now.now in
     let current = c.settle.ensures.same.0 c.if-settle.true in
-    both same_part (given p) (own_device p key) (part.Node key ∷ []) (held c.args.self.now)
-    (held first.self) _ c.args.meter.now first.meter first.meter c.in_ok-now.ensures.brings
+    both same_part (inputs_of p) (own_device p key) (part.Node key ∷ []) (kept_inputs c.args.self.now)
+    (kept_inputs first.self) _ c.args.meter.now first.meter first.meter c.in_ok-now.ensures.brings
     (node_brought p first.self c.in_ok-now.ensures.is_of key c.settle.new.self now
     (offered_is c.in_ok-now.now _ c.in_ok-now.ensures.value)
     (settled_kept key now first.self.nodes c.settle.new.self c.settle.ensures.kept current)
@@ -82,10 +82,10 @@ returns-clause-brings c =
     let old = offered_is c.in_ok-now.now _ c.in_ok-now.ensures.value in
     let stale = other_kept (kept_at first.self.nodes key) (kept_at last.nodes key) _ _ c.settle.result old
     c.settle.ensures.same.1 c.if-settle.false (ap (λ (k : KeptParts). kept_at k.nodes key) same) in
-    both same_part (given p) (own_device p key) (part.Node key ∷ []) (held c.args.self.now)
-    (held first.self) _ c.args.meter.now first.meter n c.in_ok-now.ensures.brings
-    (subst (λ (k : KeptParts). AreBrought same_part (given p) (part.Node key ∷ []) (held k)
-    (held (with_nodes last c.build.new.self)) first.meter n)
+    both same_part (inputs_of p) (own_device p key) (part.Node key ∷ []) (kept_inputs c.args.self.now)
+    (kept_inputs first.self) _ c.args.meter.now first.meter n c.in_ok-now.ensures.brings
+    (subst (λ (k : KeptParts). AreBrought same_part (inputs_of p) (part.Node key ∷ []) (kept_inputs k)
+    (kept_inputs (with_nodes last c.build.new.self)) first.meter n)
     same
     (node_brought p last (subst (IsOf p) (sym same) c.in_ok-now.ensures.is_of) key c.build.new.self now is
     c.in_ok-build.ensures.ok c.in_ok-build.ensures.fresh first.meter n

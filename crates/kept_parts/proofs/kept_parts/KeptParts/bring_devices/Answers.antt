@@ -3,7 +3,7 @@ use Rattle.std.proofs.lemmas.Grind.{common_steps}
 use Rattle.co_project.specs.declared.node.Node.{Node}
 use Rattle.co_project.specs.Project.{Content as Project}
 use Rattle.co_project.specs.Tables.{text_at}
-use Rattle.kept_parts.specs.Kept.{fresh}
+use Rattle.kept_parts.specs.Kept.{is_unmarked}
 use Rattle.kept_parts.specs.declared.kept_parts.KeptParts.{KeptParts}
 use Rattle.project_parts.specs.declared.part.Part.TheVariants as part
 use Rattle.kept_parts.proofs.NodeLemmas.{SoFar, eds_there, so_far_start, so_far_more, so_far_brought, so_far_unmarked}
@@ -13,10 +13,10 @@ use Rattle.kept_parts.proofs.kept_parts.KeptParts.bring_devices.Goals as goal
 
 -- the device of an EDS whose text is there has no mark
 there_so : (p : Project) (k : KeptParts) (name eds : List ℕ) → name ≡ eds
-    → fresh k (part.Device name) ≡ is_some (text_at p.texts name) → is_some (text_at p.texts eds) ≡ true
-    → fresh k (part.Device eds) ≡ true
+    → is_unmarked k (part.Device name) ≡ is_some (text_at p.texts name) → is_some (text_at p.texts eds) ≡ true
+    → is_unmarked k (part.Device eds) ≡ true
 there_so p k name eds same is there =
-    subst (λ (e : List ℕ). fresh k (part.Device e) ≡ is_some (text_at p.texts e)) same is ∙ there
+    subst (λ (e : List ℕ). is_unmarked k (part.Device e) ≡ is_some (text_at p.texts e)) same is ∙ there
 
 pub loop-number-init : goal.loop-number-init
 loop-number-init c =

@@ -1,12 +1,12 @@
 use Rattle.std.proofs.Common.{◌≡◌, [], ◌∷◌, ◌∙◌, Bool, true, Option, Some, ap, refl}
 use Rattle.kept_values.proofs.Brought.{both, refreshes_built, refreshes_none}
 use Rattle.kept_values.specs.Shelved.{Single}
-use Rattle.project_parts.specs.Given.{given, same_part, whole}
+use Rattle.project_parts.specs.Given.{inputs_of, same_part, whole}
 use Rattle.project_parts.specs.Reached.{for_plan}
 use Rattle.project_parts.specs.declared.diagnostics_from.DiagnosticsFrom.{DiagnosticsFrom}
 use Rattle.project_parts.specs.declared.part.Part.TheVariants as part
 use Rattle.project_parts.proofs.PlanLemmas.{plan_is}
-use Rattle.kept_parts.specs.Kept.{held}
+use Rattle.kept_parts.specs.Kept.{kept_inputs}
 use Rattle.kept_parts.proofs.KindLemmas.{found_brought, found_is_of}
 use Rattle.kept_parts.proofs.kept_parts.KeptParts.bring_diagnostics.Goals as goal
 
@@ -36,7 +36,7 @@ returns-then-has_diagnostics-clause-brings c =
     let p = c.args.project.now in
     let first = c.bring_plan.new in
     let current = c.has_diagnostics.ensures.0 c.if-has_diagnostics.true in
-    both same_part (given p) (for_plan p) (part.Diagnostics ∷ []) (held c.args.self.now) (held first.self) _
+    both same_part (inputs_of p) (for_plan p) (part.Diagnostics ∷ []) (kept_inputs c.args.self.now) (kept_inputs first.self) _
     c.args.meter.now first.meter first.meter c.in_ok-plan.ensures.brings
     (found_brought p first.self c.in_ok-plan.ensures.is_of c.unmark.new.self
     (unmarked first.self.found c.unmark.new.self (whole p) current c.unmark.ensures) first.meter first.meter
@@ -53,7 +53,7 @@ pub returns-clause-brings : goal.returns-clause-brings
 returns-clause-brings c =
     let p = c.args.project.now in
     let first = c.bring_plan.new in
-    both same_part (given p) (for_plan p) (part.Diagnostics ∷ []) (held c.args.self.now) (held first.self) _
+    both same_part (inputs_of p) (for_plan p) (part.Diagnostics ∷ []) (kept_inputs c.args.self.now) (kept_inputs first.self) _
     c.args.meter.now first.meter c.build.new.meter c.in_ok-plan.ensures.brings
     (found_brought p first.self c.in_ok-plan.ensures.is_of c.build.new.self c.in_ok-build.ensures.ok first.meter
     c.build.new.meter

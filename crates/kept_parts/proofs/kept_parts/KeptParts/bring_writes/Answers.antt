@@ -1,7 +1,7 @@
 use Rattle.std.proofs.Common.{[], ◌∷◌, ◌++◌, option_map, sym, ◌∙◌}
 use Rattle.kept_values.proofs.Brought.{both}
-use Rattle.kept_parts.specs.Kept.{held}
-use Rattle.project_parts.specs.Given.{given, same_part}
+use Rattle.kept_parts.specs.Kept.{kept_inputs}
+use Rattle.project_parts.specs.Given.{inputs_of, same_part}
 use Rattle.project_parts.specs.Reached.{for_plan, own_device}
 use Rattle.project_parts.specs.Offered.{offered_writes}
 use Rattle.project_parts.specs.declared.part.Part.TheVariants as part
@@ -31,9 +31,9 @@ returns-clause-brings c =
     let key = c.args.node in
     let first = c.bring_plan.new in
     let own = c.bring_own_device.new in
-    both same_part (given p) (for_plan p ++ own_device p key) (part.Writes key ∷ []) (held c.args.self.now)
-    (held own.self) _ c.args.meter.now own.meter c.bring.new.meter
-    (both same_part (given p) (for_plan p) (own_device p key) (held c.args.self.now) (held first.self) (held own.self)
+    both same_part (inputs_of p) (for_plan p ++ own_device p key) (part.Writes key ∷ []) (kept_inputs c.args.self.now)
+    (kept_inputs own.self) _ c.args.meter.now own.meter c.bring.new.meter
+    (both same_part (inputs_of p) (for_plan p) (own_device p key) (kept_inputs c.args.self.now) (kept_inputs first.self) (kept_inputs own.self)
     c.args.meter.now first.meter own.meter c.in_ok-plan.ensures.brings c.in_ok-device.ensures.brings)
     (writes_brought p own.self c.in_ok-device.ensures.is_of key c.bring.new.self
     (option_map offered_writes c.of-now.result) c.of-now.ensures c.in_ok-bring.ensures.ok c.in_ok-bring.ensures.fresh

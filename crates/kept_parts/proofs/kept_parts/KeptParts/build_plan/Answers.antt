@@ -1,8 +1,8 @@
 use Rattle.std.proofs.Common.{◌≡◌, [], ◌∷◌, Some, ap, sym, subst, ◌∙◌}
 use Rattle.kept_values.specs.Shelved.{Single}
 use Rattle.kept_values.specs.Stale.{AreBrought}
-use Rattle.kept_parts.specs.Kept.{held, HaveNoMark, IsOf}
-use Rattle.project_parts.specs.Given.{given, plan_from, same_part}
+use Rattle.kept_parts.specs.Kept.{kept_inputs, HaveNoMark, IsOf}
+use Rattle.project_parts.specs.Given.{inputs_of, plan_from, same_part}
 use Rattle.project_parts.specs.Reached.{of_nodes}
 use Rattle.project_parts.specs.declared.part.Part.TheVariants as part
 use Rattle.kept_parts.specs.declared.kept_parts.KeptParts.{KeptParts}
@@ -41,8 +41,8 @@ returns-clause-brings c =
     let last = c.devices_for_plan.new.self in
     let same = sym c.devices_for_plan.ensures.same in
     let stale = subst (λ (k : KeptParts). k.plan.kept ≡ Some (plan_from p) → ⊥) same c.requires.stale in
-    subst (λ (k : KeptParts). AreBrought same_part (given p) (part.Plan ∷ []) (held k)
-    (held (with_plan last c.build.new.self)) m n)
+    subst (λ (k : KeptParts). AreBrought same_part (inputs_of p) (part.Plan ∷ []) (kept_inputs k)
+    (kept_inputs (with_plan last c.build.new.self)) m n)
     c.devices_for_plan.ensures.same
     (plan_brought p last (subst (IsOf p) same c.requires.is_of) c.build.new.self now c.in_ok-build.ensures.ok is m n
     (plan_built p last.plan.kept now m n is stale c.in_ok-build.ensures.counted

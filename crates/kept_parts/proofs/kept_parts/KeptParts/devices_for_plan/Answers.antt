@@ -1,10 +1,10 @@
 use Rattle.std.proofs.Common.{arith, refl, ap, option_map, ◌≡◌, ◌∙◌, ◌∷◌, ◌++◌, ℕ, List, Option, subst}
 use Rattle.std.proofs.lemmas.Grind.{common_steps}
 use Rattle.std.specs.Option.{option_to_list}
-use Rattle.ini_text.specs.Content.{Content as Device, content_of}
+use Rattle.ini_text.specs.Content.{Content as DataSheet, content_of}
 use Rattle.co_project.specs.declared.node.Node.{Node}
 use Rattle.part_shelves.specs.Slots.{text_kept}
-use Rattle.project_parts.specs.Given.{device_at}
+use Rattle.project_plan.specs.Network.{device_at}
 use Rattle.kept_parts.specs.declared.kept_parts.KeptParts.{KeptParts}
 use Rattle.kept_parts.proofs.KindLemmas.{device_now}
 use Rattle.kept_parts.proofs.NodeLemmas.{Gathered, gathered_all, gathered_more, gathered_next, gathered_none}
@@ -43,7 +43,7 @@ loop-number-preserved c =
       ap (with_devices c.loop-number.self) c.shared.ensures.same ∙ c.loop-number.invariant.0,
       gathered_more p e c.next.new.self c.loop-number.devices c.push.new.self before
           (c.in_ok-push.ensures
-          ∙ ap (λ (d : Option Device). c.loop-number.devices ++ option_to_list (option_map (λ d. (e.0, d)) d)) value),
+          ∙ ap (λ (d : Option DataSheet). c.loop-number.devices ++ option_to_list (option_map (λ d. (e.0, d)) d)) value),
     )
 
 pub returns-clause-same : goal.returns-clause-same

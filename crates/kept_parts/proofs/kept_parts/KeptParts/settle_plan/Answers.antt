@@ -2,8 +2,8 @@ use Rattle.std.proofs.Common.{[], ◌∷◌, Some, ap, sym, subst, ◌∙◌}
 use Rattle.kept_values.specs.Shelved.{Single}
 use Rattle.kept_values.specs.Stale.{AreBrought}
 use Rattle.kept_values.proofs.Brought.{both, refreshes_none}
-use Rattle.kept_parts.specs.Kept.{held, HaveNoMark, IsOf}
-use Rattle.project_parts.specs.Given.{given, same_part}
+use Rattle.kept_parts.specs.Kept.{kept_inputs, HaveNoMark, IsOf}
+use Rattle.project_parts.specs.Given.{inputs_of, same_part}
 use Rattle.project_parts.specs.Reached.{of_nodes}
 use Rattle.project_parts.specs.declared.part.Part.TheVariants as part
 use Rattle.project_parts.specs.declared.plan_from.PlanFrom.{PlanFrom}
@@ -53,7 +53,7 @@ returns-then-settle-clause-brings c =
     let first = c.bring_devices.new in
     let now = from_both c.in_ok-devices.devices c.messages-messages.result.now in
     let current = c.settle.ensures.same.0 c.if-settle.true in
-    both same_part (given p) (of_nodes p) (part.Plan ∷ []) (held c.args.self.now) (held first.self) _
+    both same_part (inputs_of p) (of_nodes p) (part.Plan ∷ []) (kept_inputs c.args.self.now) (kept_inputs first.self) _
     c.args.meter.now first.meter first.meter c.in_ok-devices.ensures.brings
     (plan_brought p first.self c.in_ok-devices.ensures.is_of c.settle.new.self now
     (plan_settled first.self.plan c.settle.new.self now current (c.settle.ensures.settled c.if-settle.true))
@@ -87,8 +87,8 @@ pub returns-clause-brings : goal.returns-clause-brings
 returns-clause-brings c =
     let p = c.args.project.now in
     let first = c.bring_devices.new in
-    both same_part (given p) (of_nodes p) (part.Plan ∷ []) (held c.args.self.now) (held first.self) _
+    both same_part (inputs_of p) (of_nodes p) (part.Plan ∷ []) (kept_inputs c.args.self.now) (kept_inputs first.self) _
     c.args.meter.now first.meter c.build_plan.new.meter c.in_ok-devices.ensures.brings
-    (subst (λ (plan : Single PlanFrom). AreBrought same_part (given p) (part.Plan ∷ []) (held (with_plan first.self plan))
-    (held c.build_plan.new.self) first.meter c.build_plan.new.meter)
+    (subst (λ (plan : Single PlanFrom). AreBrought same_part (inputs_of p) (part.Plan ∷ []) (kept_inputs (with_plan first.self plan))
+    (kept_inputs c.build_plan.new.self) first.meter c.build_plan.new.meter)
     (c.settle.ensures.stale c.if-settle.false) c.in_ok-build_plan.ensures.brings)

@@ -1,7 +1,7 @@
 use Rattle.std.proofs.Common.{subst}
 use Rattle.co_scenario.specs.Scenario.{Events}
 use Rattle.project_parts.specs.Touch.{touch_of, Touch}
-use Rattle.project_parts.specs.Touched.{goes_into, is_wrong, touched}
+use Rattle.project_parts.specs.Touched.{goes_into, is_wrong, is_touched}
 use Rattle.kept_parts.specs.Marks.{Marks}
 use Rattle.kept_parts.proofs.GoneLemmas.{still_swept, swept_after}
 use Rattle.kept_parts.proofs.MarkLemmas.{both_marks, follows, known_marks, plan_below, still_of}
@@ -14,7 +14,7 @@ returns-clause-marks c =
     let old = c.args.self.now in
     let first = c.touch_found.new.self in
     let last = c.mark.new.self in
-    known_marks (touched p e) old last c.stays_swept-swept.result
+    known_marks (is_touched p e) old last c.stays_swept-swept.result
     (both_marks is_wrong (goes_into p.events (touch_of e)) old first last c.touch_found.ensures
     (subst (λ (events : Events). Marks (goes_into events (touch_of e)) first last) c.events.ensures
     (subst (λ (t : Touch). Marks (goes_into c.events.result.now t) first last) c.touch_of.ensures c.mark.ensures)))
@@ -24,7 +24,7 @@ returns-clause-held c = (returns-clause-marks c).kept
 
 pub returns-clause-same : goal.returns-clause-same
 returns-clause-same c = λ is.
-    still_of c.args.self.now _ (touched c.args.project.now c.args.edit.now) c.args.project.now
+    still_of c.args.self.now _ (is_touched c.args.project.now c.args.edit.now) c.args.project.now
     (λ name. plan_below c.args.project.now c.args.edit.now name) (returns-clause-marks c) is
 
 pub returns-clause-follows : goal.returns-clause-follows

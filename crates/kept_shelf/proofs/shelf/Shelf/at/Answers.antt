@@ -1,6 +1,6 @@
 use Rattle.std.proofs.Common.{◌≡◌, Some, nat_eq, slice_get, reverse, ap, sym, ◌∙◌}
 use Rattle.std.specs.Map.{lookup}
-use Rattle.kept_shelf.specs.Rows.{shown}
+use Rattle.kept_shelf.specs.Rows.{shelf_order}
 use Rattle.kept_shelf.proofs.KeyLemmas.{found_behind, if_some}
 use Rattle.kept_shelf.proofs.RowLemmas.{later_numbers, settled_shown}
 use Rattle.kept_shelf.proofs.shelf.Shelf.at.Goals as goal
@@ -17,5 +17,5 @@ returns-clause-held g c =
     let in' = c.self.inside in
     let settled = rw (← c.self.view_is) at c.requires.settled in
     let is = settled_shown g.V.Numbered.number_of in'.first in'.used in'.row.items in'.rest c.self.invariant.numbers c.self.invariant.within settled in
-    rw (← c.self.view_is) (if_some (λ found. lookup (nat_eq found.0) in'.rest ≡ Some found.1.now) (λ found. lookup (nat_eq found.0) (shown in'.row.items in'.used in'.rest) ≡ Some found.1.now) c.at.result
+    rw (← c.self.view_is) (if_some (λ found. lookup (nat_eq found.0) in'.rest ≡ Some found.1.now) (λ found. lookup (nat_eq found.0) (shelf_order in'.row.items in'.used in'.rest) ≡ Some found.1.now) c.at.result
     (λ found h. ap (lookup (nat_eq found.0)) is ∙ found_behind found.0 (reverse in'.row.items) in'.rest found.1.now c.self.invariant.distinct h) c.at.ensures.held)

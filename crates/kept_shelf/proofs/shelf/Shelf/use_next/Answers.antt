@@ -1,7 +1,7 @@
 use Rattle.std.proofs.Common.{◌+◌, drop, nat_eq, sym, arith}
 use Rattle.std.proofs.lemmas.List.{drop-drop}
 use Rattle.lru.specs.LruCache.{promoted}
-use Rattle.kept_shelf.specs.Rows.{shown}
+use Rattle.kept_shelf.specs.Rows.{shelf_order}
 use Rattle.kept_shelf.proofs.RowLemmas.{same_shelved, used_shown}
 use Rattle.kept_shelf.proofs.shelf.Shelf.use_next.Goals as goal
 
@@ -10,5 +10,5 @@ returns g c = λ e h.
     let in' = c.self.inside in
     let next = rw (← c.self.view_is) at h in
     let row = in'.row.items in
-    rw (← c.self.view_is) (same_shelved in'.capacity in'.given (in'.first + (in'.used + 1)) (in'.first + in'.used + 1) (shown row (in'.used + 1) in'.rest) (promoted (nat_eq e.0) (shown row in'.used in'.rest)) (drop (in'.used + 1) row) (drop 1 (drop in'.used row))
+    rw (← c.self.view_is) (same_shelved in'.capacity in'.given (in'.first + (in'.used + 1)) (in'.first + in'.used + 1) (shelf_order row (in'.used + 1) in'.rest) (promoted (nat_eq e.0) (shelf_order row in'.used in'.rest)) (drop (in'.used + 1) row) (drop 1 (drop in'.used row))
     (used_shown g.V.Numbered.number_of in'.first in'.used row in'.rest e next c.self.invariant.distinct) (omega arith) (sym (drop-drop 1 in'.used row)))

@@ -1,6 +1,6 @@
 use Rattle.std.proofs.Common.{◌≡◌, Some, option_and_then, refl, sym, ap, ◌∙◌}
 use Rattle.co_project.specs.declared.node.Node.{Node}
-use Rattle.project_parts.specs.Given.{device_at}
+use Rattle.project_plan.specs.Network.{device_at}
 use Rattle.project_parts.proofs.PlanLemmas.{made_for, made_so}
 use Rattle.project_parts.proofs.writes_now.WritesNow.of.Goals as goal
 

@@ -1,0 +1,33 @@
+use Rattle.std.proofs.Common.{◌<◌, ◌∙◌, ap, length, arith}
+use Rattle.image_parts.proofs.RecordLemmas.{lasts_in_turn}
+use Rattle.co_device.specs.Device.{Device}
+use Rattle.co_device.specs.Receiving.{after_rpdo}
+use Rattle.co_device.proofs.RpdoLemmas.{received_many}
+use Rattle.co_device.proofs.WalkLemmas.{walked_state, walked_noted, walked_counted}
+use Rattle.co_device.proofs.device.Device.take_pdo.Goals as goal
+
+pub loop-i-preserved : goal.loop-i-preserved
+loop-i-preserved g c =
+    let old = c.loop-i.invariant in
+    let kept = old.lasts.kept in
+    let image = (g.P.Asked.seen c.args.shapes.now).image in
+    let step = after_rpdo c.args.t c.args.frame.now in
+    let i = c.loop-i.i in
+    let n = length c.args.self.now.rpdos in
+    let s = c.loop-i.self in
+    let s' = c.take_by_rpdo.new.self in
+    let within : i < length c.args.self.now.rpdos = rw (← c.self.view_is) (omega (arith, c.loop-i-test.true)) in
+    let e = c.in_ok-take_by_rpdo.ensures in
+    record {
+      state = walked_state step i n s s' within image (rw kept at e.state) ∙ old.state;
+      noted = walked_noted step i n s s' within _ _ e.state e.asked.noted ∙ old.noted;
+      counted = omega (
+        arith,
+        walked_counted step i n s s' within image (rw kept at e.state)
+            (g.P.Asked.asks c.loop-i.shapes) (g.P.Asked.asks c.take_by_rpdo.new.shapes) (rw kept at e.asked.counted),
+        old.counted,
+      );
+      lasts = lasts_in_turn old.lasts e.lasts;
+      many = ap (λ (x : Device). length x.rpdos) (rw kept at e.state)
+          ∙ received_many image c.args.t c.loop-i.self c.args.frame.now i ∙ old.many;
+    }
