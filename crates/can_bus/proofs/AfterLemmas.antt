@@ -30,8 +30,7 @@ use Rattle.device_laws.specs.Rest.{Rests}
 use Rattle.device_laws.proofs.AheadLemmas.{frame_ahead, power_ahead, set_ahead}
 use Rattle.device_laws.proofs.CaseLemmas.{one_of}
 use Rattle.device_laws.proofs.RestLemmas.{ran_after, ran_rests}
-use Rattle.nmt_boot.proofs.AheadLemmas.{frame_ahead as manager_frame_ahead}
-use Rattle.nmt_boot.proofs.MomentLemmas.{command_ahead, due_later as timers_later}
+use Rattle.nmt_boot.proofs.MomentLemmas.{command_ahead, due_later as timers_later, frame_ahead as manager_frame_ahead}
 use Rattle.nmt_boot.specs.Ahead.{IsAhead as IsManagerAhead}
 use Rattle.nmt_boot.specs.Manager as manager
 use Rattle.nmt_boot.specs.Manager.{Manager}

@@ -1,22 +1,36 @@
 -- When the manager is due.
-use Rattle.std.proofs.Common.{◌≡◌, ℕ, ◌+◌, ◌≤◌, Bool, true, false, List, [], ◌∷◌, ◌++◌, map, Option, Some, None, IfSome}
-use Rattle.std.proofs.Common.{refl, ap, ◌∙◌, arith}
-use Rattle.std.specs.Prelude.{All, if◌then◌else◌, ◌==◌}
+use Rattle.std.proofs.Common.{◌≡◌, ℕ, ◌+◌, ◌≤◌, Bool, true, false, List, [], ◌∷◌, ◌++◌, map, Option, Some, None}
+use Rattle.std.proofs.Common.{IfSome, refl, ap, ◌∙◌, arith, zero, suc}
+use Rattle.std.specs.Prelude.{All, if◌then◌else◌, ◌==◌, slice_set}
 use Rattle.std.proofs.lemmas.Bool.Decides.{nat_tests}
 use Rattle.std.proofs.lemmas.List.Elements.{All-append, All-cons, All-head, All-nil, All-tail}
 use Rattle.can_frame.specs.WaitingFrames.{with_latest}
 use Rattle.can_frame.specs.declared.purpose.Purpose.TheVariants.{Heartbeat, Sync}
 use Rattle.co_scenario.specs.declared.nmt_command.NmtCommand.{NmtCommand}
-use Rattle.base.specs.Moments.{is_due, moment_after, moments_of}
+use Rattle.base.specs.Moments.{is_due, moment_after, moments_of, earlier, earliest}
 use Rattle.manager_nodes.proofs.QuietLemmas.{AreFrom, quiet_list, quiet_nodes}
 use Rattle.nmt_boot.specs.Ahead.{IsAhead}
 use Rattle.node_boot.specs.Boot.{deadline_of, is_at, is_timed_out, sdo_time_out}
-use Rattle.nmt_boot.specs.Manager.{Manager, with_command, heartbeat_frame, heartbeats, moments}
-use Rattle.manager_nodes.specs.Table.{deadlines, node_after}
-use Rattle.nmt_boot.specs.Manager.{sync_frame, syncs, time_outs, timers}
+use Rattle.nmt_boot.specs.Manager.{Manager, with_command, heartbeat_frame, heartbeats, moments, sync_frame, syncs}
+use Rattle.nmt_boot.specs.Manager.{time_outs, timers, next_due, after_frame}
+use Rattle.manager_nodes.specs.Table.{deadlines, node_after, node_at}
 use Rattle.node_boot.specs.declared.boot_stage.BootStage.{BootStage}
 use Rattle.manager_nodes.specs.declared.booting.Booting.{Booting}
 use Rattle.node_boot.specs.declared.note.Note.{Note}
+use Rattle.manager_nodes.proofs.EarliestLemmas.{first_then}
+use Rattle.image_parts.specs.Asking.{outcome}
+use Rattle.can_frame.specs.Frames.{BaseFrame}
+use Rattle.image_parts.specs.Contents.{Image}
+use Rattle.node_boot.proofs.DeadlineLemmas.{IsOpenFrom, boot_from, answer_from}
+use Rattle.nmt_boot.proofs.FrameLemmas.{received_holds}
+
+-- ---- the first moment
+
+pub next_due_is : (m : Manager) → next_due m ≡ earlier m.heartbeat (earlier m.sync (earliest (deadlines m.nodes)))
+unfolding next_due moments
+next_due_is m =
+    first_then m.heartbeat (moments_of m.sync ++ deadlines m.nodes)
+    ∙ ap (earlier m.heartbeat) (first_then m.sync (deadlines m.nodes))
 
 -- no moment of the manager lies before t
 pub record IsFrom (t : ℕ) (m : Manager) : Type 0 where
@@ -189,3 +203,36 @@ pub command_ahead : (t : ℕ) (command : NmtCommand) (node : ℕ) (m : Manager) 
     → IsAhead t (with_command command node m)
 unfolding moments
 command_ahead t command node m h = h
+
+-- ---- a frame, which sets no due moment before it
+
+set_from : (t i : ℕ) (ns : List Booting) (n : Booting) → AreFrom t ns → IsOpenFrom t n.stage
+    → AreFrom t (slice_set ns i n)
+set_from t i [] n h k = h
+set_from t zero (x ∷ xs) n h k = (k, h.1)
+set_from t (suc i) (x ∷ xs) n h k = (h.0, set_from t i xs n h.1 k)
+
+at_from : (t i : ℕ) (ns : List Booting) → AreFrom t ns → IsOpenFrom t (node_at ns i).stage
+at_from t i [] h = tt
+at_from t zero (x ∷ xs) h = h.0
+at_from t (suc i) (x ∷ xs) h = at_from t i xs h.1
+
+pub frame_ahead : (image : Image) (t : ℕ) (frame : BaseFrame) (m : Manager) → IsAhead t m
+    → IsAhead t (outcome (after_frame t frame m) image).0
+frame_ahead image t frame m h =
+    let from = from_ahead t m h in
+    ahead_from t (outcome (after_frame t frame m) image).0
+    (received_holds image t frame m (λ r read. IsFrom t r.0) from
+    (λ i e. record {
+      heartbeat = from.heartbeat;
+      sync = from.sync;
+      nodes = set_from t i m.nodes _ from.nodes (boot_from image t (t + m.timeout)
+          (node_at m.nodes i).number (omega arith));
+    })
+    (λ i e. record {
+      heartbeat = from.heartbeat;
+      sync = from.sync;
+      nodes = set_from t i m.nodes _ from.nodes (answer_from image t (t + m.timeout)
+          (node_at m.nodes i).number (omega arith)
+          (node_at m.nodes i).stage frame.bytes (at_from t i m.nodes from.nodes));
+    }))

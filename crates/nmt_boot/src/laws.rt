@@ -34,7 +34,7 @@ pub fn due_after()
 {}
 
 /// A frame that comes at a moment sets no moment before it, and nor does a command.
-#[tactic(auto, using(crate::proofs::AheadLemmas::frame_ahead, crate::proofs::MomentLemmas::command_ahead))]
+#[tactic(auto, using(crate::proofs::MomentLemmas::frame_ahead, crate::proofs::MomentLemmas::command_ahead))]
 pub fn a_frame_sets_no_earlier_moment()
     ensures frames { (image : Image) (t : ℕ) (frame : BaseFrame) (m : State) → IsAhead t m
         → IsAhead t (outcome (after_frame t frame m) image).0 }

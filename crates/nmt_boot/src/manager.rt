@@ -198,7 +198,7 @@ impl Manager {
 
     /// The first moment at which a request times out, or a heartbeat or SYNC is due. Takes constant time; by
     /// the number of nodes where the manager is spent.
-    #[tactic(auto, using(crate::proofs::DueLemmas::next_due_is))]
+    #[tactic(auto, using(crate::proofs::MomentLemmas::next_due_is))]
     pub fn next_due(&self) -> Option<u64>
         ensures { result ≡ rules.next_due self.now }
     {
